@@ -1,0 +1,7 @@
+-- The text of a `Token`.
+use Rattle.std.specs.Prelude.{ℕ, List, take}
+use Rattle.s2id_core.specs.declared.token.Token.{Token}
+
+-- the bytes that `as_bytes()` gives
+abbrev pub text_of : Token → List ℕ
+text_of t = take t.len t.bytes

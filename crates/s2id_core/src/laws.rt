@@ -1,0 +1,43 @@
+//! What holds of cell numbers and tokens, whatever code runs.
+
+ghost use Rattle.std.specs.Prelude.{◌≡◌, ◌↔◌, ℕ, ◌+◌, ◌-◌, ◌*◌, ◌^◌, ◌<◌, ◌≤◌, List, length, All};
+ghost use Rattle.s2id_core.specs.Path.{Path, IsPath, number_of, path_at, digits_from};
+ghost use Rattle.s2id_core.specs.Cell.{IsCellNumber};
+ghost use Rattle.s2id_core.specs.Token.{Spells, canonical_token, IsCanonicalText};
+
+/// A number is a cell's exactly where it is the number of some path.
+pub fn cells_are_paths()
+    ensures { (n : ℕ) → IsCellNumber n ↔ ((p : Path) × IsPath p × (number_of p ≡ n)) }
+{}
+
+/// A path's number is `face * 2^61 + d1 * 2^59 + d2 * 2^57 + .. + dn * 2^(61 - 2 * n) + 4^(30 - n)`, over its
+/// digits `d1 .. dn`; `digits_from 59` is their part of the sum.
+pub fn number_is_sum()
+    ensures { (p : Path)
+        → number_of p
+        ≡ p.face * 2 ^ 61 + digits_from 59 p.digits + 4 ^ (30 - length p.digits) }
+{}
+
+/// Two paths of one number are one path, which is read from the number.
+pub fn number_tells_path()
+    ensures { (p : Path) → IsPath p → path_at (number_of p) ≡ p }
+{}
+
+/// The token that is printed for a cell spells it: reading a token back gives the cell.
+pub fn token_reads_back()
+    ensures { (n : ℕ) → IsCellNumber n → Spells (canonical_token n) n }
+{}
+
+/// A text spells at most one number.
+pub fn text_spells_one_number()
+    ensures { (text : List ℕ) (m n : ℕ) → Spells text m → Spells text n → m ≡ n }
+{}
+
+/// Of the texts that spell a cell, the printed token alone has digits and lower-case letters only and no zero at
+/// its end.
+pub fn one_canonical_text()
+    ensures { (text : List ℕ) (n : ℕ)
+        → IsCellNumber n
+        → Spells text n
+        → (IsCanonicalText text ↔ (text ≡ canonical_token n)) }
+{}

@@ -1,0 +1,202 @@
+ghost use Rattle.std.specs.Prelude.{◌≡◌, ℕ, ◌↔◌, ◌<◌, ◌≤◌, min, length, IfOk, IfErr, IsErrOf};
+ghost use Rattle.std.specs.Char.{digit_char, digit_value};
+ghost use Rattle.std.specs.Result.{result_ok};
+ghost use Rattle.s2id_core.specs.Token.{Spells, IsFirstNotHex, canonical_token};
+
+use crate::cell_id::CellId;
+use thiserror::Error;
+
+/// Why a text is no token. This project's own; the faults are tested in this order.
+#[derive(Clone, Copy, Debug, PartialEq, Eq, Error)]
+pub enum TokenError {
+    /// The text has no bytes.
+    #[error("empty token")]
+    Empty,
+    /// The text has more than 16 bytes.
+    #[error("token of more than 16 bytes")]
+    TooLong,
+    /// The byte at this place, counted from 0, is the first that is no hexadecimal digit.
+    #[error("byte {0} of the token is no hexadecimal digit")]
+    NotHex(usize),
+    /// The text is a number that no cell has.
+    #[error("token of no cell")]
+    NotACell,
+}
+
+/// A cell's canonical token: its number in 16 lower-case hexadecimal digits without the zeros at the end
+/// (S2's `ToToken`). It takes no memory of its own.
+#[derive(Clone, Copy, Debug)]
+pub struct Token {
+    bytes: [u8; 16],
+    len: usize,
+    ghost within: { len ≤ 16 },
+}
+
+impl Token {
+    ghost use Rattle.s2id_core.specs.TokenText.{text_of};
+
+    /// The token's text, ASCII digits and lower-case letters.
+    pub fn as_bytes(&self) -> &[u8]
+        ensures { result.now ≡ text_of self.now }
+    {
+        &self.bytes[..self.len]
+    }
+}
+
+// The sixteen hexadecimal digits.
+const DIGITS: [u8; 16] = *b"0123456789abcdef";
+
+// What each byte is worth as a hexadecimal digit of either case; 16 where it is none.
+const DIGIT_VALUES: [u8; 256] = [
+    16, 16, 16, 16, 16, 16, 16, 16, 16, 16, 16, 16, 16, 16, 16, 16, 16, 16, 16, 16, 16, 16, 16, 16,
+    16, 16, 16, 16, 16, 16, 16, 16, 16, 16, 16, 16, 16, 16, 16, 16, 16, 16, 16, 16, 16, 16, 16, 16,
+    0, 1, 2, 3, 4, 5, 6, 7, 8, 9, 16, 16, 16, 16, 16, 16, 16, 10, 11, 12, 13, 14, 15, 16, 16, 16,
+    16, 16, 16, 16, 16, 16, 16, 16, 16, 16, 16, 16, 16, 16, 16, 16, 16, 16, 16, 16, 16, 16, 16, 10,
+    11, 12, 13, 14, 15, 16, 16, 16, 16, 16, 16, 16, 16, 16, 16, 16, 16, 16, 16, 16, 16, 16, 16, 16,
+    16, 16, 16, 16, 16, 16, 16, 16, 16, 16, 16, 16, 16, 16, 16, 16, 16, 16, 16, 16, 16, 16, 16, 16,
+    16, 16, 16, 16, 16, 16, 16, 16, 16, 16, 16, 16, 16, 16, 16, 16, 16, 16, 16, 16, 16, 16, 16, 16,
+    16, 16, 16, 16, 16, 16, 16, 16, 16, 16, 16, 16, 16, 16, 16, 16, 16, 16, 16, 16, 16, 16, 16, 16,
+    16, 16, 16, 16, 16, 16, 16, 16, 16, 16, 16, 16, 16, 16, 16, 16, 16, 16, 16, 16, 16, 16, 16, 16,
+    16, 16, 16, 16, 16, 16, 16, 16, 16, 16, 16, 16, 16, 16, 16, 16, 16, 16, 16, 16, 16, 16, 16, 16,
+    16, 16, 16, 16, 16, 16, 16, 16, 16, 16, 16, 16, 16, 16,
+];
+
+impl CellId {
+    ghost use Rattle.s2id_core.specs.declared.cell_id.CellId.{CellId};
+    ghost use Rattle.s2id_core.specs.Cell.{IsCellNumber};
+    ghost use Rattle.s2id_core.specs.CellId.{raw_of};
+    ghost use Rattle.s2id_core.specs.Spelled.{cell_spelled};
+    ghost use Rattle.s2id_core.specs.TokenText.{text_of};
+
+    /// The cell that a text spells: 1 to 16 hexadecimal digits of either case, where digits missing on the right
+    /// are zeros (S2's `FromToken`). Faults are named in the order of `TokenError`.
+    pub fn from_token(text: &[u8]) -> Result<CellId, TokenError>
+        ensures spelled { IfOk result (λ cell. Spells text.now (raw_of cell)) }
+        ensures accepted { (cell : CellId) → Spells text.now (raw_of cell) → result ≡ Ok cell }
+        ensures cell { result_ok result ≡ cell_spelled text.now }
+        ensures empty { IsErrOf result TokenError.Empty ↔ (length text.now ≡ 0) }
+        ensures too_long { IsErrOf result TokenError.TooLong ↔ (16 < length text.now) }
+        ensures not_hex { (place : ℕ)
+            → IsErrOf result (TokenError.NotHex place)
+            ↔ ((length text.now ≤ 16) × IsFirstNotHex text.now place) }
+        ensures not_a_cell { IsErrOf result TokenError.NotACell
+            ↔ ((n : ℕ) × Spells text.now n × ¬ IsCellNumber n) }
+    {
+        if text.is_empty() {
+            return Err(TokenError::Empty);
+        }
+        if text.len() > 16 {
+            return Err(TokenError::TooLong);
+        }
+        match spelled_number(text) {
+            Ok(number) => CellId::from_raw(number).ok_or(TokenError::NotACell),
+            Err(place) => Err(TokenError::NotHex(place)),
+        }
+    }
+
+    /// The cell's canonical token (S2's `ToToken`).
+    pub fn token(self) -> Token
+        ensures { text_of result ≡ canonical_token (raw_of self) }
+    {
+        let raw = self.raw();
+        let mut bytes = [0u8; 16];
+        for place in 0..16 {
+            bytes[place] = lower_digit((raw >> (60 - 4 * place) & 15) as u8);
+        }
+        Token {
+            bytes,
+            len: 16 - raw.trailing_zeros() as usize / 4,
+        }
+    }
+}
+
+// The number that 1 to 16 hexadecimal digits spell, or the place of the first byte that is none.
+fn spelled_number(text: &[u8]) -> Result<u64, usize>
+    requires some { 0 < length text.now }
+    requires at_most { length text.now ≤ 16 }
+    ensures spelled { IfOk result (Spells text.now) }
+    ensures fault { IfErr result (IsFirstNotHex text.now) }
+{
+    let mut number = 0u64;
+    for (place, byte) in text.iter().enumerate() {
+        let digit = worth(*byte);
+        if digit > 15 {
+            return Err(place);
+        }
+        number = number * 16 + digit as u64;
+    }
+    Ok(number << (64 - 4 * text.len()))
+}
+
+// What a byte is worth as a hexadecimal digit of either case; 16 where it is none.
+#[inline]
+fn worth(byte: u8) -> u8
+    ensures { result ≡ min 16 (digit_value byte) }
+{
+    DIGIT_VALUES[byte as usize]
+}
+
+// The byte that writes a hexadecimal digit.
+#[inline]
+fn lower_digit(digit: u8) -> u8
+    requires { digit < 16 }
+    ensures { result ≡ digit_char digit }
+{
+    DIGITS[digit as usize]
+}
+
+#[cfg(test)]
+mod tests {
+    use super::*;
+    use std::test::Fail;
+
+    #[test]
+    fn token_is_canonical(rt: HostRuntime) -> Result<(), Fail> {
+        for (raw, text) in [
+            (0x1000000000000000, b"1".as_slice()),
+            (0x0400000000000000, b"04".as_slice()),
+            (0x1d00000000000000, b"1d".as_slice()),
+            (0xbc00000000000000, b"bc".as_slice()),
+            (0x0000000000000001, b"0000000000000001".as_slice()),
+            (0xbfffffffffffffff, b"bfffffffffffffff".as_slice()),
+        ] {
+            let cell = CellId::from_raw(raw).ok_or("a cell")?;
+            assert_eq!(rt; cell.token().as_bytes(), text);
+            assert_eq!(rt; CellId::from_token(text)?, cell);
+        }
+        Ok(())
+    }
+
+    #[test]
+    fn from_token_reads_either_case(rt: HostRuntime) -> Result<(), Fail> {
+        assert_eq!(rt; CellId::from_token(b"BC")?, CellId::from_token(b"bc")?);
+        assert_eq!(rt; CellId::from_token(b"Bc000")?.raw(), 0xbc00000000000000);
+        Ok(())
+    }
+
+    #[test]
+    fn from_token_names_each_fault(rt: HostRuntime) {
+        assert_eq!(rt; CellId::from_token(b""), Err(TokenError::Empty));
+        assert_eq!(rt;
+            CellId::from_token(b"zzzzzzzzzzzzzzzzz"),
+            Err(TokenError::TooLong)
+        );
+        assert_eq!(rt; CellId::from_token(b"0g"), Err(TokenError::NotHex(1)));
+        assert_eq!(rt;
+            CellId::from_token(b"0000000000000000"),
+            Err(TokenError::NotACell)
+        );
+        assert_eq!(rt; CellId::from_token(b"2"), Err(TokenError::NotACell));
+        assert_eq!(rt; CellId::from_token(b"c1"), Err(TokenError::NotACell));
+    }
+
+    #[test]
+    fn faults_have_texts(rt: HostRuntime) -> Result<(), Fail> {
+        let text = format!(in rt.alloc(); "{}", TokenError::NotHex(1))?;
+        assert_eq!(rt;
+            text.as_str(),
+            "byte 1 of the token is no hexadecimal digit"
+        );
+        Ok(())
+    }
+}

@@ -1,0 +1,120 @@
+-- Fronts of texts, and what went out of a text that is put part by part.
+use Rattle.std.proofs.Common.{◌≡◌, ℕ, ◌≤◌, ◌+◌, ◌<◌, List, [], ◌++◌, length, take, drop, get_or, Option, Result, Ok, Err, refl, sym, ap, ◌∙◌, append_assoc, append-nil, take-append-drop, length-append, arith}
+use Rattle.std.specs.Prelude.{IsOk, IsErr, flat_map}
+use Rattle.std.specs.Io.KnownBytes.{Keeps, Appends}
+use Rattle.std.proofs.lemmas.Bool.{false≢true}
+use Rattle.std.proofs.lemmas.List.{drop_more}
+use Rattle.std.proofs.lemmas.List.Concat.{flat_map-append}
+use Rattle.std.proofs.KnownBytes.{Appends-nil, Appends-trans, Appends-kept}
+use Rattle.s2ix_text.specs.Puts.{IsFront, AppendsFront, Puts}
+
+-- ---- fronts
+
+-- nothing is a front of each text
+pub IsFront-nil : (whole : List ℕ) → IsFront [] whole
+IsFront-nil whole = record { rest = whole; whole_is = refl }
+
+-- a text is a front of itself
+pub IsFront-refl : (whole : List ℕ) → IsFront whole whole
+IsFront-refl whole = record { rest = []; whole_is = sym (append-nil whole) }
+
+-- a text is a front of it and more
+pub IsFront-append : (front more : List ℕ) → IsFront front (front ++ more)
+IsFront-append front more = record { rest = more; whole_is = refl }
+
+-- a front of a front is a front
+pub IsFront-trans : (inner front whole : List ℕ) → IsFront inner front → IsFront front whole → IsFront inner whole
+IsFront-trans inner front whole p q =
+    record { rest = p.rest ++ q.rest; whole_is = q.whole_is ∙ ap (λ l. l ++ q.rest) p.whole_is ∙ append_assoc inner p.rest q.rest }
+
+-- a front of a text is a front of that text and more
+pub IsFront-more : (front text more : List ℕ) → IsFront front text → IsFront front (text ++ more)
+IsFront-more front text more p = IsFront-trans front text (text ++ more) p (IsFront-append text more)
+
+-- a whole text, and then a front of the next
+pub IsFront-after : (text front next : List ℕ) → IsFront front next → IsFront (text ++ front) (text ++ next)
+IsFront-after text front next p =
+    record { rest = p.rest; whole_is = ap (λ l. text ++ l) p.whole_is ∙ sym (append_assoc text front p.rest) }
+
+-- the first n bytes of a text are a front of it
+pub IsFront-take : (n : ℕ) (whole : List ℕ) → IsFront (take n whole) whole
+IsFront-take n whole = record { rest = drop n whole; whole_is = sym (take-append-drop n whole) }
+
+-- a front is no longer than the text
+pub length-IsFront : (front whole : List ℕ) → IsFront front whole → length front ≤ length whole
+length-IsFront front whole p = omega (arith, ap length p.whole_is, length-append front p.rest)
+
+-- ---- what went out
+
+-- nothing went out
+pub AppendsFront-nothing : (old new : Option (List ℕ)) (text : List ℕ) → Keeps old new → AppendsFront old new text
+AppendsFront-nothing old new text p =
+    record { front = []; is_front = IsFront-nil text; appends = Appends-kept old old new [] (Appends-nil old) p }
+
+-- the whole text went out
+pub AppendsFront-all : (old new : Option (List ℕ)) (text : List ℕ) → Appends old new text → AppendsFront old new text
+AppendsFront-all old new text p = record { front = text; is_front = IsFront-refl text; appends = p }
+
+-- a front of a front went out
+pub AppendsFront-of_front : (old new : Option (List ℕ)) (front whole : List ℕ) → AppendsFront old new front → IsFront front whole → AppendsFront old new whole
+AppendsFront-of_front old new front whole p q =
+    record { front = p.front; is_front = IsFront-trans p.front front whole p.is_front q; appends = p.appends }
+
+-- a front of a text is a front of that text and more
+pub AppendsFront-more : (old new : Option (List ℕ)) (text more : List ℕ) → AppendsFront old new text → AppendsFront old new (text ++ more)
+AppendsFront-more old new text more p = AppendsFront-of_front old new text (text ++ more) p (IsFront-append text more)
+
+-- a whole text went out, and then a front of the next
+pub AppendsFront-after : (old mid new : Option (List ℕ)) (text next : List ℕ) → Appends old mid text → AppendsFront mid new next → AppendsFront old new (text ++ next)
+AppendsFront-after old mid new text next p q =
+    record {
+      front = text ++ q.front;
+      is_front = IsFront-after text q.front next q.is_front;
+      appends = Appends-trans old mid new text q.front p q.appends;
+    }
+
+-- nothing went out after a whole text
+pub AppendsFront-kept : (old mid new : Option (List ℕ)) (text : List ℕ) → AppendsFront old mid text → Keeps mid new → AppendsFront old new text
+AppendsFront-kept old mid new text p q =
+    record { front = p.front; is_front = p.is_front; appends = Appends-kept old mid new p.front p.appends q }
+
+-- ---- results
+
+-- a whole text went out, and then what a call put of the next
+pub Puts-after : {A E : Type 0} (old mid new : Option (List ℕ)) (r : Result A E) (text next : List ℕ) → Appends old mid text → Puts mid new r next → Puts old new r (text ++ next)
+Puts-after old mid new (Ok x) text next p q = Appends-trans old mid new text next p q
+Puts-after old mid new (Err e) text next p q = AppendsFront-after old mid new text next p q
+
+-- whatever a call answers, what it put is a front of its text
+pub AppendsFront-of_puts : {A E : Type 0} (old new : Option (List ℕ)) (r : Result A E) (text : List ℕ) → Puts old new r text → AppendsFront old new text
+AppendsFront-of_puts old new (Ok x) text p = AppendsFront-all old new text p
+AppendsFront-of_puts old new (Err e) text p = p
+
+-- at an error, a front of the text went out
+pub Puts-of_err : {A E : Type 0} (old new : Option (List ℕ)) (r : Result A E) (text : List ℕ) → IsErr r → AppendsFront old new text → Puts old new r text
+Puts-of_err old new (Ok x) text p q = absurd (false≢true p)
+Puts-of_err old new (Err e) text p q = q
+
+-- at `Ok`, the whole text went out
+pub Puts-of_ok : {A E : Type 0} (old new : Option (List ℕ)) (r : Result A E) (text : List ℕ) → IsOk r → Appends old new text → Puts old new r text
+Puts-of_ok old new (Ok x) text p q = q
+Puts-of_ok old new (Err e) text p q = absurd (false≢true p)
+
+-- ---- texts of several parts
+
+-- the text of the items before one, that of this item, and that of the items behind it
+pub flat_map-split : {X : Type 0} (f : X → List ℕ) (xs : List X) (i : ℕ) (d : X) → i < length xs → flat_map f xs ≡ flat_map f (take i xs) ++ (f (get_or xs i d) ++ flat_map f (drop (i + 1) xs))
+flat_map-split f xs i d h =
+    ap (flat_map f) (sym (take-append-drop i xs)) ∙ flat_map-append f (take i xs) (drop i xs) ∙ ap (λ l. flat_map f (take i xs) ++ flat_map f l) (drop_more xs i d h)
+
+-- a text within a whole: what stands before it went out, and then a front of it
+pub AppendsFront-within : (old mid new : Option (List ℕ)) (before text behind whole : List ℕ) → Appends old mid before → AppendsFront mid new text → whole ≡ before ++ (text ++ behind) → AppendsFront old new whole
+AppendsFront-within old mid new before text behind whole p q e =
+    AppendsFront-of_front old new (before ++ text) whole (AppendsFront-after old mid new before text p q)
+    (record { rest = behind; whole_is = e ∙ sym (append_assoc before text behind) })
+
+-- the texts of the items before one went out, and then a front of the text of this one
+pub AppendsFront-flat_map : {X : Type 0} (f : X → List ℕ) (old mid new : Option (List ℕ)) (xs : List X) (i : ℕ) (d : X) → i < length xs
+    → Appends old mid (flat_map f (take i xs)) → AppendsFront mid new (f (get_or xs i d)) → AppendsFront old new (flat_map f xs)
+AppendsFront-flat_map f old mid new xs i d h p q =
+    AppendsFront-within old mid new (flat_map f (take i xs)) (f (get_or xs i d)) (flat_map f (drop (i + 1) xs)) (flat_map f xs) p q (flat_map-split f xs i d h)

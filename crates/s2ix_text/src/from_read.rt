@@ -1,0 +1,42 @@
+ghost use Rattle.std.specs.Prelude.{◌≡◌};
+ghost use Rattle.s2ix_text.specs.Adapters.{reader_of, reader_faults};
+
+use super::{ReadFault, Source};
+use std::io::Read;
+
+/// A source over a reader of std's. What the reader gives is the source's, and each error of the reader's is a fault.
+#[derive(Drop)]
+pub struct FromRead<R> {
+    inner: R,
+    faults: u64,
+}
+
+impl<R: Read> FromRead<R> {
+    /// A source of the bytes that `inner` has left, with no fault so far.
+    pub fn new(inner: R) -> FromRead<R>
+        ensures reader { reader_of result ≡ inner }
+        ensures faults { reader_faults result ≡ 0 }
+    {
+        FromRead { inner, faults: 0 }
+    }
+}
+
+impl<R: Read> Source for FromRead<R> {
+    ghost left = { λ s. R.remaining (reader_of s) };
+
+    ghost fault_count = { reader_faults };
+
+    fn piece(&mut self, buf: &mut [u8]) -> Result<usize, ReadFault> {
+        match self.inner.read(buf) {
+            Ok(count) => Ok(count),
+            Err(_) => {
+                self.faults += 1;
+                Err(ReadFault)
+            }
+        }
+    }
+
+    fn faults(&self) -> u64 {
+        self.faults
+    }
+}

@@ -1,0 +1,42 @@
+ghost use Rattle.std.specs.Prelude.{◌≡◌, ℕ, ◌+◌, ◌-◌, ◌^◌, ◌<◌, ◌≤◌, List, length, take, IfOk, MatchResult};
+ghost use Rattle.std.specs.declared.option.Option.{Option};
+ghost use Rattle.std.specs.Io.KnownBytes.{Keeps, Appends};
+ghost use Rattle.s2ix_text.specs.Faults.{write_faults};
+
+use thiserror::Error;
+
+/// A sink failed to take bytes. It holds nothing more: the sink's own counter says how often it failed.
+#[derive(Clone, Copy, Debug, PartialEq, Eq, Hash, Error)]
+#[error("write fault")]
+pub struct WriteFault;
+
+/// Where a run's bytes go. A sink may take less than it is given, and may fail at any call.
+pub trait Sink {
+    // The bytes that the sink took so far, where they are known.
+    ghost taken: { Self → Option (List ℕ) };
+
+    // How many calls of `put` and `flush` have failed so far.
+    ghost fault_count: { Self → ℕ };
+
+    /// Offers `bytes`, and answers how many of them the sink took, from their front: at least one. A call that fails took none, and
+    /// counts as one fault.
+    fn put(&mut self, bytes: &[u8]) -> Result<usize, WriteFault>
+        requires room { 0 < length bytes.now }
+        requires counts { fault_count self.old < 2 ^ 64 - 1 }
+        ensures bound { IfOk result (λ n. n ≤ length bytes.now) }
+        ensures progress { IfOk result (λ n. 0 < n) }
+        ensures bytes { MatchResult result
+            (λ n. Appends (taken self.old) (taken self.new) (take n bytes.now))
+            (λ _. Keeps (taken self.old) (taken self.new)) }
+        ensures faults { fault_count self.new ≡ fault_count self.old + write_faults result };
+
+    /// Passes on what the sink took and still holds back. A call that fails counts as one fault.
+    fn flush(&mut self) -> Result<(), WriteFault>
+        requires { fault_count self.old < 2 ^ 64 - 1 }
+        ensures bytes { Keeps (taken self.old) (taken self.new) }
+        ensures faults { fault_count self.new ≡ fault_count self.old + write_faults result };
+
+    /// How many calls of `put` and `flush` have failed so far.
+    fn faults(&self) -> u64
+        ensures { result ≡ fault_count self.now };
+}
