@@ -1,10 +1,11 @@
 -- Fronts of texts, and what went out of a text that is put part by part.
-use Rattle.std.proofs.Common.{◌≡◌, ℕ, ◌≤◌, ◌+◌, ◌<◌, List, [], ◌++◌, length, take, drop, get_or, Option, Result, Ok, Err, refl, sym, ap, ◌∙◌, append_assoc, append-nil, take-append-drop, length-append, arith}
-use Rattle.std.specs.Prelude.{IsOk, IsErr, flat_map}
+use Rattle.std.proofs.Common.{◌≡◌, ℕ, ◌≤◌, ◌+◌, ◌<◌, List, [], ◌∷◌, ◌++◌, length, take, drop, get_or, Option, Some, Result, Ok, Err, refl, sym, ap, subst, ◌∙◌, append_assoc, append-nil, take-append-drop, length-append, arith}
+use Rattle.std.specs.Prelude.{IsOk, IsErr, flat_map, slice_get}
 use Rattle.std.specs.Io.KnownBytes.{Keeps, Appends}
 use Rattle.std.proofs.lemmas.Bool.{false≢true}
-use Rattle.std.proofs.lemmas.List.{drop_more}
+use Rattle.std.proofs.lemmas.List.{drop_more, take_more}
 use Rattle.std.proofs.lemmas.List.Concat.{flat_map-append}
+use Rattle.std.proofs.lemmas.Option.{slice_get_within, get_or_from_slice_get}
 use Rattle.std.proofs.KnownBytes.{Appends-nil, Appends-trans, Appends-kept}
 use Rattle.s2ix_text.specs.Puts.{IsFront, AppendsFront, Puts}
 
@@ -118,3 +119,22 @@ pub AppendsFront-flat_map : {X : Type 0} (f : X → List ℕ) (old mid new : Opt
     → Appends old mid (flat_map f (take i xs)) → AppendsFront mid new (f (get_or xs i d)) → AppendsFront old new (flat_map f xs)
 AppendsFront-flat_map f old mid new xs i d h p q =
     AppendsFront-within old mid new (flat_map f (take i xs)) (f (get_or xs i d)) (flat_map f (drop (i + 1) xs)) (flat_map f xs) p q (flat_map-split f xs i d h)
+
+-- the text of the items up to and with one is that of the items before it, and then its own
+pub flat_map-take_more : {X : Type 0} (f : X → List ℕ) (xs : List X) (i : ℕ) (x : X) → slice_get xs i ≡ Some x → flat_map f (take (i + 1) xs) ≡ flat_map f (take i xs) ++ f x
+flat_map-take_more f xs i x h =
+    ap (flat_map f) (take_more xs i x (slice_get_within xs i x h)) ∙ flat_map-append f (take i xs) (get_or xs i x ∷ []) ∙
+    ap (λ l. flat_map f (take i xs) ++ l) (append-nil (f (get_or xs i x)) ∙ ap f (get_or_from_slice_get xs i x x h))
+
+-- the texts of the items before one went out, and then that of this one
+pub Appends-flat_map : {X : Type 0} (f : X → List ℕ) (old mid new : Option (List ℕ)) (xs : List X) (i : ℕ) (x : X) → slice_get xs i ≡ Some x
+    → Appends old mid (flat_map f (take i xs)) → Appends mid new (f x) → Appends old new (flat_map f (take (i + 1) xs))
+Appends-flat_map f old mid new xs i x h p q =
+    subst (λ (l : List ℕ). Appends old new l) (sym (flat_map-take_more f xs i x h)) (Appends-trans old mid new (flat_map f (take i xs)) (f x) p q)
+
+-- the texts of the items before one went out, and then a front of the text of this one
+pub AppendsFront-flat_map_at : {X : Type 0} (f : X → List ℕ) (old mid new : Option (List ℕ)) (xs : List X) (i : ℕ) (x : X) → slice_get xs i ≡ Some x
+    → Appends old mid (flat_map f (take i xs)) → AppendsFront mid new (f x) → AppendsFront old new (flat_map f xs)
+AppendsFront-flat_map_at f old mid new xs i x h p q =
+    AppendsFront-flat_map f old mid new xs i x (slice_get_within xs i x h) p
+    (subst (λ y. AppendsFront mid new (f y)) (sym (get_or_from_slice_get xs i x x h)) q)

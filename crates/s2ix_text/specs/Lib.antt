@@ -1,3 +1,4 @@
 pub mod Adapters
+pub mod Dump
 pub mod Faults
 pub mod Puts

@@ -1,0 +1,51 @@
+//! The program `s2ix`: carries out the script on standard input over an empty store, and writes its answers to
+//! standard output.
+#![tactic(auto)]
+
+use s2ix_bag::Limits;
+use s2ix_cli::{RunEnd, RunFault, RunOptions};
+use s2ix_edit::Store;
+use s2ix_text::{FromRead, Sink, ToWrite};
+use std::io::BufWriter;
+use std::process::ExitCode;
+
+/// How many pieces of input the program reads at most.
+const TURNS: u64 = 4_294_967_296;
+
+/// The exit status of a run: 0 where each line was accepted, 1 where one was refused, 3 after a fault of a device,
+/// and 4 for want of memory.
+fn status(ended: &Result<RunEnd, RunFault>) -> u8 {
+    match ended {
+        Ok(end) if end.refused == 0 => 0,
+        Ok(_) => 1,
+        Err(RunFault::OutOfMemory) => 4,
+        Err(RunFault::Read | RunFault::Write | RunFault::ReaderTooLong) => 3,
+    }
+}
+
+fn run(rt: &HostRuntime) -> Result<RunEnd, RunFault> {
+    let Some(limits) = Limits::new(1_000_000, 65_535, 100_000) else {
+        unreachable!()
+    };
+    let Ok(writer) = BufWriter::new(rt.alloc(), rt.stdout()) else {
+        return Err(RunFault::OutOfMemory);
+    };
+    let Ok(mut store) = Store::new(rt.alloc(), limits) else {
+        return Err(RunFault::OutOfMemory);
+    };
+    let mut source = FromRead::new(rt.stdin());
+    let mut sink = ToWrite::new(writer);
+    let options = RunOptions {
+        stop: false,
+        turns: TURNS,
+    };
+    s2ix_cli::run(rt.alloc(), &mut source, &mut sink, &mut store, options)
+}
+
+fn main(rt: HostRuntime) -> ExitCode {
+    let ended = run(&rt);
+    if let Err(fault) = &ended {
+        let _ = eprintln!(rt; "s2ix: {fault}");
+    }
+    ExitCode::from(status(&ended))
+}

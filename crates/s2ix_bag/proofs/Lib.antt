@@ -1,0 +1,14 @@
+pub mod Pairs
+pub mod Counts
+pub mod Collections
+pub mod Changes
+pub mod Differences
+pub mod Inverse
+pub mod Applied
+pub mod Lengths
+pub mod Refusals
+pub mod Parts
+pub mod Walks
+pub mod Comparing
+
+mod Labels

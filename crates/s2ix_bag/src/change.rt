@@ -1,0 +1,62 @@
+ghost use Rattle.std.specs.Prelude.{◌≡◌, IfOk, length, ◌≤◌};
+ghost use Rattle.s2ix_bag.specs.Change.{IsChangeList, change_between, inverse_of};
+
+use crate::bag::Bag;
+use crate::compare::{differences, exchanged_entries};
+use crate::pair::Entry;
+use s2id_core::OutOfMemory;
+use std::alloc::Global;
+use std::marker::Model;
+
+/// What differs between two bags: entries in strictly rising order of their pairs, each with two different
+/// counts. Contracts see a change as the list of its entries. This project's own.
+#[derive(Debug, Drop)]
+pub struct Change {
+    entries: Vec<Entry>,
+}
+
+impl Model for Change {
+    ghost use Rattle.std.specs.Prelude.{List};
+    ghost use Rattle.s2ix_bag.specs.declared.pair.Entry.{Entry};
+    ghost use Rattle.s2ix_bag.specs.Change.{IsChangeList};
+
+    ghost Value = { List Entry };
+
+    ghost view = { λ c. c.entries.items };
+
+    ghost invariant = { λ c. IsChangeList c.entries.items };
+}
+
+impl Change {
+    /// The change with these entries. It takes no memory.
+    pub fn from_vec(entries: Vec<Entry>) -> Change
+        requires { IsChangeList entries.items }
+        ensures { result ≡ entries.items }
+    {
+        Change { entries }
+    }
+
+    /// The change that leads from `old` to `new`: exactly the pairs whose counts differ. O(n + m).
+    pub fn between(alloc: Global, old: &Bag, new: &Bag) -> Result<Change, OutOfMemory>
+        ensures { IfOk result (λ change. change ≡ change_between old.now.held new.now.held) }
+    {
+        let entries = differences(alloc, old.pairs(), new.pairs())?;
+        Ok(Change { entries })
+    }
+
+    /// The entries, in strictly rising order of their pairs.
+    pub fn entries(&self) -> &[Entry]
+        ensures list { result.now ≡ self.now }
+        ensures rises { IsChangeList self.now }
+    {
+        self.entries.as_slice()
+    }
+
+    /// The change that takes this one back: the same pairs with their two counts exchanged. O(n).
+    pub fn inverse(&self, alloc: Global) -> Result<Change, OutOfMemory>
+        ensures { IfOk result (λ change. change ≡ inverse_of self.now) }
+    {
+        let entries = exchanged_entries(alloc, self.entries.as_slice())?;
+        Ok(Change { entries })
+    }
+}

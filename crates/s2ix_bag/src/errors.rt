@@ -1,0 +1,30 @@
+ghost use Rattle.std.specs.Prelude.{◌≡◌};
+ghost use Rattle.s2ix_bag.specs.declared.errors.ApplyError.TheVariants.{OutOfMemory};
+
+use std::alloc::AllocError;
+use thiserror::Error;
+
+/// Why [`Bag::applied`](crate::Bag::applied) refused a change, in the order of the tests.
+#[derive(Clone, Copy, Debug, PartialEq, Eq, Error)]
+pub enum ApplyError {
+    /// The entry at this place, counted from 0, is the first whose count before is not the bag's.
+    #[error("entry {0} has another count before than the bag")]
+    Mismatch(usize),
+    /// A count after is above the limit.
+    #[error("a count is above the limit")]
+    TooManyCopies,
+    /// The result has more distinct pairs than the limit.
+    #[error("more distinct pairs than the limit")]
+    TooManyPairs,
+    /// A growth was refused.
+    #[error("out of memory")]
+    OutOfMemory,
+}
+
+impl From<AllocError> for ApplyError {
+    ghost from_gives = { λ _ error. error ≡ OutOfMemory };
+
+    fn from(_: AllocError) -> Self {
+        ApplyError::OutOfMemory
+    }
+}

@@ -1,0 +1,53 @@
+//! What the definitions that the contracts cite say, in other words. Each function is a law: it does nothing, and
+//! its contract is the fact.
+ghost use Rattle.s2ix_bag.specs.Laws.{RanksOrderPairs, RanksTellPairsApart, HeldAreCounted, CountedAreHeld, CountsTellCollectionsApart, ChangeSetsCounts, ChangeListsDifferences, OnlyChangeListsDifferences, ChangeLeadsThereAndBack, InverseTakesBack};
+
+/// The order by ranks is that by cell, then by label.
+pub fn ranks_order_pairs()
+    ensures { RanksOrderPairs }
+{}
+
+/// No two pairs have the same rank.
+pub fn ranks_tell_pairs_apart()
+    ensures { RanksTellPairsApart }
+{}
+
+/// What a collection holds has its count.
+pub fn held_are_counted()
+    ensures { HeldAreCounted }
+{}
+
+/// A pair with a count above 0 is held with it.
+pub fn counted_are_held()
+    ensures { CountedAreHeld }
+{}
+
+/// Two collections with the same count of every pair are one.
+pub fn counts_tell_collections_apart()
+    ensures { CountsTellCollectionsApart }
+{}
+
+/// A change sets the count after of each of its pairs, and no other count.
+pub fn change_sets_counts()
+    ensures { ChangeSetsCounts }
+{}
+
+/// The change between two collections lists exactly the pairs whose counts differ, with both counts.
+pub fn change_lists_differences()
+    ensures { ChangeListsDifferences }
+{}
+
+/// No other change lists exactly the pairs whose counts differ.
+pub fn only_change_lists_differences()
+    ensures { OnlyChangeListsDifferences }
+{}
+
+/// The change between two collections makes the second of the first, and its inverse the first of the second.
+pub fn change_leads_there_and_back()
+    ensures { ChangeLeadsThereAndBack }
+{}
+
+/// A change that a bag takes can be taken back: the inverse isn't refused, and gives the first bag.
+pub fn inverse_takes_back()
+    ensures { InverseTakesBack }
+{}

@@ -1,0 +1,4 @@
+mod Reached
+mod Steps
+pub mod ScriptLines
+pub mod ScriptNumbers

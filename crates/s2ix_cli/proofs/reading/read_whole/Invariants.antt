@@ -1,0 +1,8 @@
+-- What was read so far is the text, each piece gave a byte at least, and no call has failed.
+use Rattle.std.proofs.Common.{◌≡◌, ◌≤◌, length}
+use Rattle.std.specs.Io.KnownBytes.{Consumes}
+use Rattle.s2ix_cli.proofs.reading.read_whole.Given as goal
+
+abbrev pub invariant-pieces : goal.invariant-pieces
+invariant-pieces g l =
+    Consumes (g.S.Source.left l.fn.source) (g.S.Source.left l.source) l.text.items × (l._turn ≤ length l.text.items) × (g.S.Source.fault_count l.source ≡ g.S.Source.fault_count l.fn.source)

@@ -1,0 +1,21 @@
+-- A fault while the input was read stops the run before its first line; one while the sink was flushed behind its last.
+use Rattle.std.proofs.Common.{sym, subst}
+use Rattle.std.specs.Io.KnownBytes.{Consumes}
+use Rattle.std.proofs.lemmas.Result.{err_from_is_err_and}
+use Rattle.s2ix_cli.proofs.Reached.{StopsAfter-nothing, StopsAfter-finished}
+use Rattle.s2ix_cli.proofs.script.run.Goals as goal
+
+pub returns-in_err-input-clause-stopped : goal.returns-in_err-input-clause-stopped
+returns-in_err-input-clause-stopped g c =
+    let read = c.in_err-input.ensures.stopped in
+    let p = err_from_is_err_and c.from_residual.result c.from_residual.ensures.1 in
+    rw (p.1, p.2) (read.0, read.1, read.2, StopsAfter-nothing _ _ _ _ _)
+
+pub returns-in_err-flush-clause-stopped : goal.returns-in_err-flush-clause-stopped
+returns-in_err-flush-clause-stopped g c =
+    let exit = c.from_residual-in_err-flush in
+    let whole = c.in_ok-input.ensures.whole in
+    let told = c.in_ok-told.ensures.finished in
+    let p = err_from_is_err_and exit.result exit.ensures.1 in
+    rw (p.1, p.2)
+    (c.deref.result.now, subst (λ l. Consumes (g.S.Source.left c.args.source.now) (g.S.Source.left c.read_whole.new.source) l) (sym c.deref.ensures.value) whole.0, tt, StopsAfter-finished _ _ _ _ _ _ _ _ _ whole.1 told c.in_err-flush.ensures.bytes)

@@ -1,0 +1,51 @@
+-- What carrying lines out comes to.
+use Rattle.std.specs.Prelude.{◌≡◌, ℕ, ◌≤◌, Bool, true, false, Option, Result, Ok, Err, List, length, take}
+use Rattle.std.specs.Io.KnownBytes.{Appends, Keeps}
+use Rattle.s2ix_edit.specs.History.{State}
+use Rattle.s2ix_text.specs.Puts.{AppendsFront}
+use Rattle.s2ix_cli.specs.declared.outcome.LineOutcome.{LineOutcome}
+use Rattle.s2ix_cli.specs.declared.outcome.LineOutcome.TheVariants.{PassedOver, Accepted, Refused}
+use Rattle.s2ix_cli.specs.declared.outcome.RunFault.{RunFault}
+use Rattle.s2ix_cli.specs.declared.outcome.RunFault.TheVariants.{Read, Write, OutOfMemory, ReaderTooLong}
+use Rattle.s2ix_cli.specs.Script.{after, output_of, carried}
+use Rattle.s2ix_cli.specs.Step.{Step}
+
+-- whether a line counts
+abbrev pub is_counted : LineOutcome → Bool
+is_counted PassedOver = false
+is_counted Accepted = true
+is_counted Refused = true
+
+-- whether a line is refused
+abbrev pub is_refused : LineOutcome → Bool
+is_refused PassedOver = false
+is_refused Accepted = false
+is_refused Refused = true
+
+-- a step was taken: the store stands after it, its whole answer went out, and the outcome says how it counts
+pub record Takes (step : Step) (new : State) (before behind : Option (List ℕ)) (outcome : LineOutcome) : Type 0 where
+  pub store : new ≡ step.after
+  pub output : Appends before behind step.answer
+  pub counted : is_counted outcome ≡ step.is_counted
+  pub refused : is_refused outcome ≡ step.is_refused
+
+-- a fault ended a step: for want of memory nothing changed and nothing went out; after a fault of the sink the
+-- step was taken, and a front of its answer went out
+abbrev pub StopsAt : Step → State → State → Option (List ℕ) → Option (List ℕ) → RunFault → Type 0
+StopsAt step old new before behind OutOfMemory = (new ≡ old) × Keeps before behind
+StopsAt step old new before behind Write = (new ≡ step.after) × AppendsFront before behind step.answer
+StopsAt step old new before behind Read = ⊥
+StopsAt step old new before behind ReaderTooLong = ⊥
+
+-- what a call that carries a step out answers
+abbrev pub Carries : Step → State → State → Option (List ℕ) → Option (List ℕ) → Result LineOutcome RunFault → Type 0
+Carries step old new before behind (Ok outcome) = Takes step new before behind outcome
+Carries step old new before behind (Err fault) = StopsAt step old new before behind fault
+
+-- lines that a fault cut short: for one number m the store stands after the first m of those to be carried out,
+-- and a front of their output went out
+pub record StopsAmong (stop : Bool) (lines : List (List ℕ)) (old new : State) (before behind : Option (List ℕ)) : Type 0 where
+  pub m : ℕ
+  pub within : m ≤ length (carried stop old lines)
+  pub store : new ≡ after old (take m (carried stop old lines))
+  pub output : AppendsFront before behind (output_of old (take m (carried stop old lines)))

@@ -1,0 +1,27 @@
+-- What the answer of a run tells of its devices.
+use Rattle.std.specs.Prelude.{ℕ, ◌≤◌, Result, Ok, Err}
+use Rattle.s2ix_cli.specs.declared.outcome.RunFault.{RunFault}
+use Rattle.s2ix_cli.specs.declared.outcome.RunFault.TheVariants.{Read, Write, OutOfMemory, ReaderTooLong}
+
+-- 1 where the answer is a fault of the source, else 0
+abbrev pub source_faults : {A : Type 0} → Result A RunFault → ℕ
+source_faults (Ok _) = 0
+source_faults (Err Read) = 1
+source_faults (Err Write) = 0
+source_faults (Err OutOfMemory) = 0
+source_faults (Err ReaderTooLong) = 0
+
+-- 1 where the answer is a fault of the sink, else 0
+abbrev pub sink_faults : {A : Type 0} → Result A RunFault → ℕ
+sink_faults (Ok _) = 0
+sink_faults (Err Read) = 0
+sink_faults (Err Write) = 1
+sink_faults (Err OutOfMemory) = 0
+sink_faults (Err ReaderTooLong) = 0
+
+-- the reader is called too long only where each of `turns` pieces gave a byte at least
+abbrev pub IsPatient : RunFault → ℕ → ℕ → Type 0
+IsPatient ReaderTooLong turns read = turns ≤ read
+IsPatient Read turns read = Unit {0}
+IsPatient Write turns read = Unit {0}
+IsPatient OutOfMemory turns read = Unit {0}

@@ -1,0 +1,31 @@
+-- The fields of a line, and what they write.
+use Rattle.std.specs.Prelude.{ℕ, ◌&&◌, nat_lt, nat_le, if◌then◌else◌, Option, Some, None, List, length}
+use Rattle.std.specs.Char.{is_whitespace, is_ascii_digit}
+use Rattle.std.specs.List.{list_all}
+use Rattle.std.specs.Option.{option_and_then}
+use Rattle.std.specs.Str.Parse.{digits_value}
+use Rattle.bstr.specs.Fields.{fields_acc}
+use Rattle.bstr.specs.Utf8.{pieces, spans_from}
+use Rattle.s2ix_bag.specs.declared.label.Label.{Label}
+use Rattle.s2ix_bag.specs.Label.{label_numbered}
+
+-- the fields of a line: what stands between runs of white space; bytes that are no UTF-8 separate nothing
+unfoldable pub fields_of : List ℕ → List (List ℕ)
+fields_of line = fields_acc is_whitespace line None (spans_from 0 (pieces line))
+
+-- the number that 1 to 10 decimal digits write; leading zeros are accepted
+unfoldable pub script_number : List ℕ → Option ℕ
+script_number text =
+    if nat_lt 0 (length text) && nat_le (length text) 10 && list_all is_ascii_digit text then Some (digits_value 10 text) else None
+
+-- the label that a field names
+abbrev pub label_spelled : List ℕ → Option Label
+label_spelled text = option_and_then label_numbered (script_number text)
+
+-- a number of copies: from 1 to 65535
+abbrev pub copies_from : ℕ → Option ℕ
+copies_from n = if nat_le 1 n && nat_le n 65535 then Some n else None
+
+-- the number of copies that a field names
+abbrev pub copies_spelled : List ℕ → Option ℕ
+copies_spelled text = option_and_then copies_from (script_number text)

@@ -1,0 +1,57 @@
+-- What a script comes to: its lines one after the other.
+use Rattle.std.specs.Prelude.{◌≡◌, ℕ, ◌+◌, ◌-◌, ◌^◌, ◌≤◌, ◌⊎◌, ◌==◌, ◌&&◌, min, if◌then◌else◌, Bool, Option, List, [], ◌∷◌, ◌++◌, take, length, count_by}
+use Rattle.std.specs.Io.KnownBytes.{Appends, IsAtEnd}
+use Rattle.s2ix_edit.specs.History.{State}
+use Rattle.s2ix_text.specs.Puts.{AppendsFront}
+use Rattle.s2ix_cli.specs.declared.outcome.RunEnd.{RunEnd}
+use Rattle.s2ix_cli.specs.Lines.{lines_of}
+use Rattle.s2ix_cli.specs.Step.{step_of}
+
+-- the store after lines
+abbrev pub after : State → List (List ℕ) → State
+after s [] = s
+after s (line ∷ lines) = after (step_of s line).after lines
+
+-- what lines print
+abbrev pub output_of : State → List (List ℕ) → List ℕ
+output_of s [] = []
+output_of s (line ∷ lines) = (step_of s line).answer ++ output_of (step_of s line).after lines
+
+-- how many lines count
+abbrev pub counted_in : State → List (List ℕ) → ℕ
+counted_in s [] = 0
+counted_in s (line ∷ lines) = (if (step_of s line).is_counted then 1 else 0) + counted_in (step_of s line).after lines
+
+-- how many lines are refused
+abbrev pub refused_in : State → List (List ℕ) → ℕ
+refused_in s [] = 0
+refused_in s (line ∷ lines) = (if (step_of s line).is_refused then 1 else 0) + refused_in (step_of s line).after lines
+
+-- the lines that are carried out: all, or with `stop` up to and with the first that is refused
+abbrev pub carried : Bool → State → List (List ℕ) → List (List ℕ)
+carried stop s [] = []
+carried stop s (line ∷ lines) = line ∷ (if stop && (step_of s line).is_refused then [] else carried stop (step_of s line).after lines)
+
+-- the greatest count that a run tells
+abbrev pub MOST : ℕ
+MOST = 2 ^ 64 - 1
+
+-- how many line feeds a text has: so many of its lines are ended by one
+abbrev pub feeds_in : List ℕ → ℕ
+feeds_in text = count_by (λ byte. byte == 10) text
+
+-- a run that read `input` to its end, carried its lines out and wrote exactly their output
+pub record Finishes (stop : Bool) (input : List ℕ) (old new : State) (before behind : Option (List ℕ)) (told : RunEnd) : Type 0 where
+  pub store : new ≡ after old (carried stop old (lines_of input))
+  pub output : Appends before behind (output_of old (carried stop old (lines_of input)))
+  pub lines : told.lines ≡ min (counted_in old (carried stop old (lines_of input))) MOST
+  pub refused : told.refused ≡ min (refused_in old (carried stop old (lines_of input))) MOST
+
+-- a run that a fault ended: for one number m the store stands after the first m of the lines to be carried out,
+-- whose ends were read, and a front of their output went out
+pub record StopsAfter (stop : Bool) (input : List ℕ) (left : Option (List ℕ)) (old new : State) (before behind : Option (List ℕ)) : Type 0 where
+  pub m : ℕ
+  pub within : m ≤ length (carried stop old (lines_of input))
+  pub ended : (m ≤ feeds_in input) ⊎ IsAtEnd left
+  pub store : new ≡ after old (take m (carried stop old (lines_of input)))
+  pub output : AppendsFront before behind (output_of old (take m (carried stop old (lines_of input))))

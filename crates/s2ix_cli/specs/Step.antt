@@ -1,0 +1,79 @@
+-- What one line of a script comes to.
+use Rattle.std.specs.Prelude.{ℕ, codes, decimal, Bool, true, false, Option, Some, None, Result, Ok, Err, List, [], ◌∷◌, length}
+use Rattle.std.specs.List.{concat}
+use Rattle.s2ix_bag.specs.declared.pair.Entry.{Entry}
+use Rattle.s2ix_edit.specs.declared.edit.Edit.{Edit}
+use Rattle.s2ix_edit.specs.declared.errors.EditError.{EditError}
+use Rattle.s2ix_edit.specs.History.{State, after_edit, after_undo, change_of, last_done, undo_size}
+use Rattle.s2ix_edit.specs.Refusals.{edit_refusal}
+use Rattle.s2ix_text.specs.Dump.{dump_text}
+use Rattle.s2ix_cli.specs.declared.command.Command.{Command}
+use Rattle.s2ix_cli.specs.declared.command.Command.TheVariants as command
+use Rattle.s2ix_cli.specs.declared.command.LineFault.{LineFault}
+use Rattle.s2ix_cli.specs.Meaning.{meaning_of}
+use Rattle.s2ix_cli.specs.Names.{fault_name, edit_error_name}
+
+-- the store after a line, what the line prints, and whether it counts as a line and as a refused one
+pub record Step : Type 0 where
+  pub after : State
+  pub answer : List ℕ
+  pub is_counted : Bool
+  pub is_refused : Bool
+
+-- a blank line or a comment
+abbrev pub passed_over : State → Step
+passed_over s = record { after = s; answer = []; is_counted = false; is_refused = false }
+
+-- what a refused line prints
+abbrev pub no_line : List ℕ → List ℕ
+no_line name = concat (codes "no " ∷ name ∷ codes "\n" ∷ [])
+
+-- what an accepted line prints, where it changes the counts of n pairs
+abbrev pub ok_line : ℕ → List ℕ
+ok_line n = concat (codes "ok " ∷ decimal n ∷ codes "\n" ∷ [])
+
+-- a line that changes nothing and prints why
+abbrev pub refused : State → List ℕ → Step
+refused s name = record { after = s; answer = no_line name; is_counted = true; is_refused = true }
+
+-- a line that changes the counts of n pairs
+abbrev pub accepted : State → ℕ → Step
+accepted s n = record { after = s; answer = ok_line n; is_counted = true; is_refused = false }
+
+-- a line that prints a text
+abbrev pub shown : State → List ℕ → Step
+shown s text = record { after = s; answer = text; is_counted = true; is_refused = false }
+
+-- what an edit comes to, where it is refused so or not at all
+abbrev pub edit_step_at : State → Edit → Option EditError → Step
+edit_step_at s edit None = accepted (after_edit s edit) (length (change_of s edit))
+edit_step_at s edit (Some error) = refused s (edit_error_name error)
+
+-- what an edit comes to
+unfoldable pub edit_step : State → Edit → Step
+edit_step s edit = edit_step_at s edit (edit_refusal s edit)
+
+-- what `undo` comes to, where this change was the last or none was done
+abbrev pub undo_step_at : State → Option (List Entry) → Step
+undo_step_at s None = refused s (codes "NothingToUndo")
+undo_step_at s (Some change) = accepted (after_undo s) (undo_size s)
+
+-- what `undo` comes to
+unfoldable pub undo_step : State → Step
+undo_step s = undo_step_at s (last_done s)
+
+-- what a command comes to
+abbrev pub command_step : State → Command → Step
+command_step s (command.Edit edit) = edit_step s edit
+command_step s command.Undo = undo_step s
+command_step s command.Dump = shown s (dump_text s.bag.held)
+
+-- what a line of this meaning comes to
+abbrev pub step_at : State → Result (Option Command) LineFault → Step
+step_at s (Ok None) = passed_over s
+step_at s (Ok (Some c)) = command_step s c
+step_at s (Err fault) = refused s (fault_name fault)
+
+-- what a line comes to
+unfoldable pub step_of : State → List ℕ → Step
+step_of s line = step_at s (meaning_of line)

@@ -1,0 +1,23 @@
+//! Scripts: lines of commands carried out over a store.
+#![tactic(auto)]
+
+mod answer;
+mod carry;
+mod command;
+#[cfg(test)]
+mod devices;
+mod lines;
+mod names;
+mod numbers;
+mod outcome;
+mod parse;
+mod reading;
+mod script;
+
+pub use command::{Command, LineFault};
+pub use lines::Lines;
+pub use names::edit_error_name;
+pub use outcome::{RunEnd, RunFault, RunOptions};
+pub use parse::{LONGEST_LINE, meaning};
+pub use reading::read_whole;
+pub use script::run;

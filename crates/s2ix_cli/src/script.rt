@@ -1,0 +1,71 @@
+//! A run: the lines of a script, one after the other.
+ghost use Rattle.std.specs.Prelude.{◌≡◌, ◌≢◌, ℕ, ◌+◌, ◌-◌, ◌^◌, ◌<◌, List, length, Err, IfOk, IfErr, OnErr};
+ghost use Rattle.std.specs.Io.KnownBytes.{Consumes, IsAtEnd};
+ghost use Rattle.s2ix_cli.specs.Carry.{StopsAmong};
+ghost use Rattle.s2ix_cli.specs.Faults.{source_faults, sink_faults, IsPatient};
+ghost use Rattle.s2ix_cli.specs.Lines.{lines_of};
+ghost use Rattle.s2ix_cli.specs.Script.{Finishes, StopsAfter};
+
+use crate::carry::carry_out;
+use crate::lines::Lines;
+use crate::outcome::{RunEnd, RunFault, RunOptions};
+use crate::reading::read_whole;
+use s2ix_edit::Store;
+use s2ix_text::{Sink, Source};
+use std::alloc::Global;
+
+/// Carries out the lines of a script over a store, and writes their answers: all of them, or with `stop` up to and with the first that
+/// is refused. The input is read whole first, by at most `turns` pieces. A line that is refused prints `no` with the refusal's name and
+/// changes nothing. At the end the sink is flushed. It ends over every source. This project's own.
+///
+/// The first fault ends the run: `Read` and `Write` at the first fault of the source and the sink (a failed flush is `Write`),
+/// `OutOfMemory` where a growth was refused, `ReaderTooLong` where `turns` pieces were read and none was the end. A line that memory
+/// was refused for has changed nothing and printed nothing. After a fault the store keeps what the lines before it did.
+pub fn run<S: Source, K: Sink>(
+    alloc: Global,
+    source: &mut S,
+    sink: &mut K,
+    store: &mut Store,
+    options: RunOptions,
+) -> Result<RunEnd, RunFault>
+    requires source_counts { S.fault_count source.old < 2 ^ 64 - 1 }
+    requires sink_counts { K.fault_count sink.old < 2 ^ 64 - 1 }
+    ensures finished { IfOk result (λ told. (input : List ℕ) × Consumes (S.left source.old) (S.left source.new) input
+        × IsAtEnd (S.left source.new)
+        × Finishes options.stop input store.old store.new (K.taken sink.old) (K.taken sink.new) told) }
+    ensures stopped { IfErr result (λ fault. (input : List ℕ) × Consumes (S.left source.old) (S.left source.new) input
+        × IsPatient fault options.turns (length input)
+        × StopsAfter options.stop input (S.left source.new) store.old store.new (K.taken sink.old) (K.taken sink.new)) }
+    ensures source_faults { S.fault_count source.new ≡ S.fault_count source.old + source_faults result }
+    ensures sink_faults { K.fault_count sink.new ≡ K.fault_count sink.old + sink_faults result }
+{
+    let input = read_whole(alloc, source, options.turns)?;
+    let told = carry_lines(store, sink, &input, options.stop)?;
+    sink.flush()?;
+    Ok(told)
+}
+
+// Carries the lines of a text out, with `stop` up to and with the first refused one, and prints their answers.
+fn carry_lines<K: Sink>(
+    store: &mut Store,
+    sink: &mut K,
+    text: &[u8],
+    stop: bool,
+) -> Result<RunEnd, RunFault>
+    requires { K.fault_count sink.old < 2 ^ 64 - 1 }
+    ensures finished { IfOk result (λ told. Finishes stop text.now store.old store.new (K.taken sink.old) (K.taken sink.new) told) }
+    ensures stopped { OnErr result (StopsAmong stop (lines_of text.now) store.old store.new (K.taken sink.old) (K.taken sink.new)) }
+    ensures no_read { result ≢ Err RunFault.Read }
+    ensures no_turns { result ≢ Err RunFault.ReaderTooLong }
+    ensures faults { K.fault_count sink.new ≡ K.fault_count sink.old + sink_faults result }
+{
+    let mut told = RunEnd::NONE;
+    'lines: for line in Lines::new(text) {
+        let outcome = carry_out(store, sink, line)?;
+        told = told.with(outcome);
+        if stop && outcome.is_refused() {
+            return Ok(told);
+        }
+    }
+    Ok(told)
+}

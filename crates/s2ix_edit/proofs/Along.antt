@@ -1,0 +1,91 @@
+-- The collections of a store's history.
+use Rattle.std.proofs.Common.{◌≡◌, List, [], ◌∷◌, ◌++◌, All, get_or, length, reverse, Some, None, refl, sym, ap, ap₂, ◌∙◌, arith}
+use Rattle.std.specs.List.{slice_get}
+use Rattle.std.proofs.lemmas.List.{append_assoc, length-append, length-reverse, reverse-append, reverse-reverse}
+use Rattle.std.proofs.Math.Seq.{get_or-append_seam}
+use Rattle.std.proofs.lemmas.List.Elements.{All-nil, All-cons, All-append}
+use Rattle.std.proofs.lemmas.Option.{slice_get_read}
+use Rattle.s2ix_bag.specs.declared.pair.Entry.{Entry}
+use Rattle.s2ix_bag.specs.Apply.{apply_refusal}
+use Rattle.s2ix_bag.specs.Change.{change_between, changed, inverse_of, IsChangeList}
+use Rattle.s2ix_bag.specs.Collection.{Collection, Contents, IsBag}
+use Rattle.s2ix_bag.proofs.Inverse.{inverse_keeps}
+use Rattle.s2ix_bag.proofs.Refusals.{made_is_bag, taken_from_none}
+use Rattle.s2ix_edit.specs.History.{State, IsStore, CanGoBack, CanGoOn, changes_along, changes_from, earlier, history_of, holding, later}
+use Rattle.s2ix_edit.proofs.Places.{forth_again, length-earlier, taken_again}
+use Rattle.s2ix_edit.proofs.Taken.{between_changed, not_mismatched}
+
+-- ---- the changes between neighbours
+
+-- on from the store's collection they are the changes that can be done
+changes_on : (bag : Contents) (ess : List (List Entry)) → IsBag bag → CanGoOn bag ess → changes_from bag.held (later bag.held ess) ≡ ess
+changes_on bag [] b on = refl
+changes_on bag (es ∷ rest) b on =
+    let next = made_is_bag bag es b on.0 (taken_from_none bag es on.1) in
+    ap₂ (λ (x : List Entry) (xs : List (List Entry)). x ∷ xs)
+    (between_changed bag es b.rises on.0 (not_mismatched bag es on.1))
+    (changes_on (holding bag (changed bag.held es)) rest next on.2)
+
+reverse_cons : (es : List Entry) (older : List (List Entry)) → reverse (es ∷ older) ≡ reverse older ++ es ∷ []
+reverse_cons es older = reverse-append (es ∷ []) older
+
+-- the change from the collection before
+change_back : (bag : Contents) (es : List Entry) → IsBag bag → IsChangeList es → apply_refusal bag (inverse_of es) ≡ None → change_between (changed bag.held (inverse_of es)) bag.held ≡ es
+change_back bag es b rises taken =
+    let prev = holding bag (changed bag.held (inverse_of es)) in
+    let prev_is = made_is_bag bag (inverse_of es) b (inverse_keeps es rises) (taken_from_none bag (inverse_of es) taken) in
+    ap (λ hs. change_between prev.held hs) (sym (forth_again bag es b.rises rises (not_mismatched bag (inverse_of es) taken)))
+    ∙ between_changed prev es prev_is.rises rises (not_mismatched prev es (taken_again bag es b rises taken))
+
+-- and up to it they are the changes that can be taken back
+changes_back : (bag : Contents) (ess : List (List Entry)) (rest : List Collection) → IsBag bag → CanGoBack bag ess → changes_along (earlier bag.held ess ++ bag.held ∷ rest) ≡ reverse ess ++ changes_from bag.held rest
+changes_back bag [] rest b back = refl
+changes_back bag (es ∷ older) rest b back =
+    let prev = holding bag (changed bag.held (inverse_of es)) in
+    let prev_is = made_is_bag bag (inverse_of es) b (inverse_keeps es back.0) (taken_from_none bag (inverse_of es) back.1) in
+    ap changes_along (append_assoc (earlier prev.held older) (prev.held ∷ []) (bag.held ∷ rest))
+    ∙ changes_back prev older (bag.held ∷ rest) prev_is back.2
+    ∙ ap (λ x. reverse older ++ x ∷ changes_from bag.held rest) (change_back bag es b back.0 back.1)
+    ∙ sym (append_assoc (reverse older) (es ∷ []) (changes_from bag.held rest))
+    ∙ ap (λ xs. xs ++ changes_from bag.held rest) (sym (reverse_cons es older))
+
+pub changes_of_history : (s : State) → IsStore s → changes_along (history_of s).collections ≡ s.done ++ reverse s.undone
+changes_of_history s st =
+    changes_back s.bag (reverse s.done) (later s.bag.held (reverse s.undone)) st.bag st.back
+    ∙ ap₂ (λ (xs ys : List (List Entry)). xs ++ ys) (reverse-reverse s.done) (changes_on s.bag (reverse s.undone) st.bag st.on)
+
+-- ---- each collection is within the limits
+
+within_on : (bag : Contents) (ess : List (List Entry)) → IsBag bag → CanGoOn bag ess → All (λ hs. IsBag (holding bag hs)) (later bag.held ess)
+within_on bag [] b on = All-nil (λ (hs : Collection). IsBag (holding bag hs))
+within_on bag (es ∷ rest) b on =
+    let next = made_is_bag bag es b on.0 (taken_from_none bag es on.1) in
+    All-cons (λ (hs : Collection). IsBag (holding bag hs)) (changed bag.held es) (later (changed bag.held es) rest) next
+    (within_on (holding bag (changed bag.held es)) rest next on.2)
+
+within_back : (bag : Contents) (ess : List (List Entry)) → IsBag bag → CanGoBack bag ess → All (λ hs. IsBag (holding bag hs)) (earlier bag.held ess)
+within_back bag [] b back = All-nil (λ (hs : Collection). IsBag (holding bag hs))
+within_back bag (es ∷ older) b back =
+    let Fits : Collection → Type 0 = λ hs. IsBag (holding bag hs) in
+    let prev_is = made_is_bag bag (inverse_of es) b (inverse_keeps es back.0) (taken_from_none bag (inverse_of es) back.1) in
+    All-append Fits (earlier (changed bag.held (inverse_of es)) older) (changed bag.held (inverse_of es) ∷ [])
+    (within_back (holding bag (changed bag.held (inverse_of es))) older prev_is back.2)
+    (All-cons Fits (changed bag.held (inverse_of es)) [] prev_is (All-nil Fits))
+
+pub history_within : (s : State) → IsStore s → All (λ hs. IsBag (holding s.bag hs)) (history_of s).collections
+history_within s st =
+    let Fits : Collection → Type 0 = λ hs. IsBag (holding s.bag hs) in
+    All-append Fits (earlier s.bag.held (reverse s.done)) (s.bag.held ∷ later s.bag.held (reverse s.undone))
+    (within_back s.bag (reverse s.done) st.bag st.back)
+    (All-cons Fits s.bag.held (later s.bag.held (reverse s.undone)) st.bag (within_on s.bag (reverse s.undone) st.bag st.on))
+
+-- ---- the cursor
+
+pub bag_at_cursor : (s : State) → slice_get (history_of s).collections (history_of s).cursor ≡ Some s.bag.held
+bag_at_cursor s =
+    let before = earlier s.bag.held (reverse s.done) in
+    let after = later s.bag.held (reverse s.undone) in
+    let place = length-earlier s.bag.held (reverse s.done) ∙ length-reverse s.done in
+    slice_get_read (before ++ s.bag.held ∷ after) (length (before ++ s.bag.held ∷ after)) (length s.done) s.bag.held refl
+    (omega (arith, place, length-append before (s.bag.held ∷ after)))
+    (sym (get_or-append_seam before s.bag.held after s.bag.held) ∙ ap (λ k. get_or (before ++ s.bag.held ∷ after) k s.bag.held) place)

@@ -1,0 +1,6 @@
+mod Taken
+mod Plans
+mod Refused
+mod Along
+mod Places
+mod Undone

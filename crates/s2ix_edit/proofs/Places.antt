@@ -1,0 +1,141 @@
+-- Where a store stands in its history.
+use Rattle.std.proofs.Common.{◌≡◌, ℕ, ◌+◌, ◌-◌, ◌<◌, List, [], ◌∷◌, ◌++◌, length, take, reverse, Option, Some, None, refl, sym, ap, ap₂, ◌∙◌, subst, arith}
+use Rattle.std.proofs.lemmas.List.{append_assoc, length-append, length-reverse, reverse-append}
+use Rattle.std.proofs.Math.Seq.{take-append-add}
+use Rattle.s2ix_bag.specs.declared.pair.Entry.{Entry}
+use Rattle.s2ix_bag.specs.Apply.{apply_refusal, first_mismatch}
+use Rattle.s2ix_bag.specs.Change.{changed, inverse_of, IsChangeList}
+use Rattle.s2ix_bag.specs.Collection.{Collection, Contents, IsBag, IsCollection}
+use Rattle.s2ix_bag.specs.Limits.{changes_limit}
+use Rattle.s2ix_edit.specs.History.{State, History, IsStore, CanGoBack, CanGoOn, earlier, later, history_of, holding, one_back, with_next}
+use Rattle.s2ix_edit.specs.Plan.{recorded}
+use Rattle.s2ix_bag.proofs.Inverse.{inverse-inverse, inverse_keeps}
+use Rattle.s2ix_edit.proofs.Taken.{changed_back, not_mismatched, takes_back}
+use Rattle.std.specs.List.{slice_get}
+use Rattle.std.proofs.lemmas.Option.{slice_get_read}
+use Rattle.std.proofs.lemmas.List.{get_or_push}
+
+-- ---- lists
+
+reverse_push : (done : List (List Entry)) (es : List Entry) → reverse (done ++ es ∷ []) ≡ es ∷ reverse done
+reverse_push done es = reverse-append done (es ∷ [])
+
+pub length-earlier : (hs : Collection) (done : List (List Entry)) → length (earlier hs done) ≡ length done
+length-earlier hs [] = refl
+length-earlier hs (es ∷ older) =
+    let e = length-earlier (changed hs (inverse_of es)) older in
+    omega (arith, e, length-append (earlier (changed hs (inverse_of es)) older) (changed hs (inverse_of es) ∷ []))
+
+take_through : (xs ys : List Collection) (x : Collection) (n : ℕ) → length xs ≡ n → take (n + 1) (xs ++ x ∷ ys) ≡ xs ++ x ∷ []
+take_through xs ys x n e = ap (λ k. take (k + 1) (xs ++ x ∷ ys)) (sym e) ∙ take-append-add xs (x ∷ ys) 1
+
+-- ---- planned entries recorded
+
+-- the history goes on to the changed collection
+collections_recorded : (hs new : Collection) (es : List Entry) (done : List (List Entry)) (rest : List Collection) → changed new (inverse_of es) ≡ hs → earlier new (reverse (done ++ es ∷ [])) ++ new ∷ [] ≡ take (length done + 1) (earlier hs (reverse done) ++ hs ∷ rest) ++ new ∷ []
+collections_recorded hs new es done rest back =
+    ap (λ xs. earlier new xs ++ new ∷ []) (reverse_push done es)
+    ∙ ap (λ k. (earlier k (reverse done) ++ k ∷ []) ++ new ∷ []) back
+    ∙ ap (λ xs. xs ++ new ∷ []) (sym (take_through (earlier hs (reverse done)) rest hs (length done) (length-earlier hs (reverse done) ∙ length-reverse done)))
+
+pub history_recorded : (s : State) (es : List Entry) → IsCollection s.bag.held → IsChangeList es → first_mismatch s.bag es ≡ None → history_of (recorded s es) ≡ with_next (history_of s) (changed s.bag.held es)
+history_recorded s es c rises matches =
+    ap₂ (λ (collections : List Collection) (cursor : ℕ). let h : History = record { collections = collections; cursor = cursor } in h)
+    (collections_recorded s.bag.held (changed s.bag.held es) es s.done (later s.bag.held (reverse s.undone)) (changed_back s.bag es c rises matches))
+    (length-append s.done (es ∷ []))
+
+-- the store stands at the changed bag, with one more change behind it
+pub stands_recorded : (s after : State) (es : List Entry) → after ≡ recorded s es → IsStore s → length s.done < changes_limit s.bag.limits → IsChangeList es → apply_refusal s.bag es ≡ None → first_mismatch s.bag es ≡ None → IsBag after.bag → IsStore after
+stands_recorded s after es is st room rises taken matches b =
+    let Back : List (List Entry) → Type 0 = λ xs. CanGoBack (holding s.bag (changed s.bag.held es)) xs in
+    let Older : Collection → Type 0 = λ hs. CanGoBack (holding s.bag hs) (reverse s.done) in
+    let Stands : State → Type 0 = λ t. IsStore t in
+    let Bag : Contents → Type 0 = λ bag. IsBag bag in
+    subst Stands (sym is) (record {
+      bag = subst Bag (ap (λ (t : State). t.bag) is) b;
+      back = subst Back (sym (reverse_push s.done es))
+          (rises, takes_back s.bag es st.bag rises taken, subst Older (sym (changed_back s.bag es st.bag.rises rises matches)) st.back);
+      on = tt;
+      room = omega (arith, length-append s.done (es ∷ []));
+    })
+
+-- ---- an undo
+
+-- the history stays, and the place goes back by one
+collections_undone : (hs prev : Collection) (es : List Entry) (front undone : List (List Entry)) → prev ≡ changed hs (inverse_of es) → changed prev es ≡ hs → earlier prev (reverse front) ++ prev ∷ later prev (reverse (undone ++ es ∷ [])) ≡ earlier hs (reverse (front ++ es ∷ [])) ++ hs ∷ later hs (reverse undone)
+collections_undone hs prev es front undone is forth =
+    ap (λ xs. earlier prev (reverse front) ++ prev ∷ later prev xs) (reverse_push undone es)
+    ∙ ap (λ k. earlier prev (reverse front) ++ prev ∷ (k ∷ later k (reverse undone))) forth
+    ∙ sym (append_assoc (earlier prev (reverse front)) (prev ∷ []) (hs ∷ later hs (reverse undone)))
+    ∙ ap (λ k. (earlier k (reverse front) ++ k ∷ []) ++ hs ∷ later hs (reverse undone)) is
+    ∙ ap (λ xs. earlier hs xs ++ hs ∷ later hs (reverse undone)) (sym (reverse_push front es))
+
+-- the last change of the first store is taken back in the second
+pub record Undoes (s after : State) (es : List Entry) : Type 0 where
+  pub bag : after.bag ≡ holding s.bag (changed s.bag.held (inverse_of es))
+  pub done : s.done ≡ after.done ++ es ∷ []
+  pub undone : after.undone ≡ s.undone ++ es ∷ []
+
+-- a store can go back over its last change
+pub goes_back : (s : State) (front : List (List Entry)) (es : List Entry) → IsStore s → s.done ≡ front ++ es ∷ [] → CanGoBack s.bag (es ∷ reverse front)
+goes_back s front es st is =
+    let Back : List (List Entry) → Type 0 = λ xs. CanGoBack s.bag xs in
+    subst Back (ap reverse is ∙ reverse_push front es) st.back
+
+-- and forth again: the change taken back twice is the change
+pub forth_again : (bag : Contents) (es : List Entry) → IsCollection bag.held → IsChangeList es → first_mismatch bag (inverse_of es) ≡ None → changed (changed bag.held (inverse_of es)) es ≡ bag.held
+forth_again bag es c rises matches =
+    ap (λ xs. changed (changed bag.held (inverse_of es)) xs) (sym (inverse-inverse es))
+    ∙ changed_back bag (inverse_of es) c (inverse_keeps es rises) matches
+
+pub taken_again : (bag : Contents) (es : List Entry) → IsBag bag → IsChangeList es → apply_refusal bag (inverse_of es) ≡ None → apply_refusal (holding bag (changed bag.held (inverse_of es))) es ≡ None
+taken_again bag es b rises taken =
+    ap (λ xs. apply_refusal (holding bag (changed bag.held (inverse_of es))) xs) (sym (inverse-inverse es))
+    ∙ takes_back bag (inverse_of es) b (inverse_keeps es rises) taken
+
+-- the store stands at the bag before its last change, which can be done again
+pub stands_undone : (s after : State) (es : List Entry) → IsStore s → Undoes s after es → IsBag after.bag → IsStore after
+stands_undone s after es st u b =
+    let back = goes_back s after.done es st u.done in
+    let matches = not_mismatched s.bag (inverse_of es) back.1 in
+    let Back : Contents → Type 0 = λ bag. CanGoBack bag (reverse after.done) in
+    let On : Contents → Type 0 = λ bag. CanGoOn bag (es ∷ reverse s.undone) in
+    let OnList : List (List Entry) → Type 0 = λ xs. CanGoOn after.bag xs in
+    let Later : Collection → Type 0 = λ hs. CanGoOn (holding s.bag hs) (reverse s.undone) in
+    record {
+      bag = b;
+      back = subst Back (sym u.bag) back.2;
+      on = subst OnList (sym (ap reverse u.undone ∙ reverse_push s.undone es))
+          (subst On (sym u.bag)
+          (back.0, taken_again s.bag es st.bag back.0 back.1, subst Later (sym (forth_again s.bag es st.bag.rises back.0 matches)) st.on));
+      room =
+          let few = st.room in
+          let limits = ap (λ (bag : Contents). changes_limit bag.limits) u.bag in
+          omega (arith, few, limits, ap length u.done, ap length u.undone, length-append after.done (es ∷ []), length-append s.undone (es ∷ []));
+    }
+
+pub history_undone : (s after : State) (es : List Entry) → IsStore s → Undoes s after es → history_of after ≡ one_back (history_of s)
+history_undone s after es st u =
+    let back = goes_back s after.done es st u.done in
+    let matches = not_mismatched s.bag (inverse_of es) back.1 in
+    let prev = changed s.bag.held (inverse_of es) in
+    let held_is : after.bag.held ≡ prev = ap (λ (bag : Contents). bag.held) u.bag in
+    ap₂ (λ (collections : List Collection) (cursor : ℕ). let h : History = record { collections = collections; cursor = cursor } in h)
+    (ap (λ k. earlier k (reverse after.done) ++ k ∷ later k (reverse after.undone)) held_is
+    ∙ ap (λ xs. earlier prev (reverse after.done) ++ prev ∷ later prev (reverse xs)) u.undone
+    ∙ collections_undone s.bag.held prev es after.done s.undone refl (forth_again s.bag es st.bag.rises back.0 matches)
+    ∙ ap (λ xs. earlier s.bag.held (reverse xs) ++ s.bag.held ∷ later s.bag.held (reverse s.undone)) (sym u.done))
+    (let grown = ap length u.done in omega (arith, grown, length-append after.done (es ∷ [])))
+
+-- ---- the last of a list
+
+pub slice_get_last : (front : List (List Entry)) (y : List Entry) → slice_get (front ++ y ∷ []) (length (front ++ y ∷ []) - 1) ≡ Some y
+slice_get_last front y =
+    slice_get_read (front ++ y ∷ []) (length (front ++ y ∷ [])) (length (front ++ y ∷ []) - 1) y refl
+    (omega (arith, length-append front (y ∷ [])))
+    (sym (get_or_push front y y (length (front ++ y ∷ []) - 1) (omega (arith, length-append front (y ∷ [])))))
+
+pub same_last : (xs front : List (List Entry)) (x y : List Entry) → xs ≡ front ++ y ∷ [] → Some x ≡ slice_get xs (length xs - 1) → x ≡ y
+same_last xs front x y is found =
+    let e : ◌≡◌ {A = Option (List Entry)} (Some x) (Some y) = found ∙ ap (λ l. slice_get l (length l - 1)) is ∙ slice_get_last front y in
+    cc

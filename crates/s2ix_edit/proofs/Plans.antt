@@ -1,0 +1,76 @@
+-- Entries that carry an edit out.
+use Rattle.std.proofs.Common.{◌≡◌, ◌≢◌, ℕ, ◌+◌, ◌-◌, ◌≤◌, Bool, false, cond, ltb, not, List, [], ◌∷◌, Some, None, refl, sym, ap, ◌∙◌, subst, ⊎_elim, arith, eq-eqb, ne_eqb, le-ltb}
+use Rattle.std.proofs.Common.{◌==◌}
+use Rattle.std.proofs.lemmas.Bool.{cond-true, cond-false, cases_eq}
+use Rattle.std.specs.List.{position}
+use Rattle.s2ix_bag.specs.declared.pair.Pair.{Pair}
+use Rattle.s2ix_bag.specs.declared.pair.Entry.{Entry}
+use Rattle.s2ix_bag.specs.Apply.{first_mismatch}
+use Rattle.s2ix_bag.specs.Change.{changed, IsChangeList}
+use Rattle.s2ix_bag.specs.Collection.{Collection, Contents, IsBag, count_in, set_count}
+use Rattle.s2ix_edit.specs.declared.edit.Edit.{Edit}
+use Rattle.s2ix_edit.specs.declared.edit.Edit.TheVariants.{Add, Remove}
+use Rattle.s2ix_edit.specs.Edit.{edited}
+use Rattle.s2ix_edit.specs.Plan.{Plans, one_entry}
+use Rattle.s2ix_edit.specs.Refusals.{takes_too_many}
+use Rattle.s2ix_bag.proofs.Collections.{set_count_in}
+
+-- ---- the entries of one pair
+
+pub no_entry : (p : Pair) (m n : ℕ) → m ≡ n → one_entry p m n ≡ []
+no_entry p m n e = cond-true _ _ _ (eq-eqb _ _ e)
+
+pub an_entry : (p : Pair) (m n : ℕ) → m ≢ n → one_entry p m n ≡ record { pair = p; before = m; after = n } ∷ []
+an_entry p m n ne = cond-false _ _ _ (ne_eqb _ _ ne)
+
+one_rises : (p : Pair) (m n : ℕ) → IsChangeList (one_entry p m n)
+one_rises p m n =
+    let Rises : List Entry → Type 0 = λ es. IsChangeList es in
+    ⊎_elim
+    (λ e. subst Rises (sym (no_entry p m n e)) tt)
+    (λ ne. subst Rises (sym (an_entry p m n ne)) (omega arith, ne, tt))
+    (cases_eq m n)
+
+position_of_one : {X : Type 0} (test : X → Bool) (x : X) → test x ≡ false → position test (x ∷ []) ≡ None
+position_of_one test x e =
+    ap (λ b. cond (ltb (cond (not b) (1 + 0) 0) 1) (Some (cond (not b) (1 + 0) 0)) None) e
+
+one_matches : (bag : Contents) (p : Pair) (n : ℕ) → first_mismatch bag (one_entry p (count_in bag.held p) n) ≡ None
+one_matches bag p n =
+    let Matches : List Entry → Type 0 = λ es. first_mismatch bag es ≡ None in
+    ⊎_elim
+    (λ e. subst Matches (sym (no_entry p (count_in bag.held p) n e)) refl)
+    (λ ne. subst Matches (sym (an_entry p (count_in bag.held p) n ne))
+    (position_of_one (λ (e : Entry). not (e.before == count_in bag.held e.pair)) (record { pair = p; before = count_in bag.held p; after = n })
+    (ap not (eq-eqb (count_in bag.held p) (count_in bag.held p) refl))))
+    (cases_eq (count_in bag.held p) n)
+
+one_changes : (hs : Collection) (p : Pair) (m n : ℕ) → set_count p m hs ≡ hs → changed hs (one_entry p m n) ≡ set_count p n hs
+one_changes hs p m n same =
+    ⊎_elim
+    (λ e. ap (λ es. changed hs es) (no_entry p m n e) ∙ sym same ∙ ap (λ k. set_count p k hs) e)
+    (λ ne. ap (λ es. changed hs es) (an_entry p m n ne))
+    (cases_eq m n)
+
+-- an edit that sets one count is carried out by the entry of that pair
+pub one_plans : (bag : Contents) (edit : Edit) (p : Pair) (n : ℕ) → IsBag bag → takes_too_many edit bag.held ≡ false → edited edit bag.held ≡ set_count p n bag.held → Plans bag edit (one_entry p (count_in bag.held p) n)
+one_plans bag edit p n b allowed makes = record {
+  allowed = allowed;
+  rises = one_rises p (count_in bag.held p) n;
+  matches = one_matches bag p n;
+  result = one_changes bag.held p (count_in bag.held p) n (set_count_in p bag.held b.rises) ∙ sym makes;
+}
+
+-- the entry of an addition carries it out
+pub add_plans : (bag : Contents) (p : Pair) (copies before after : ℕ) (es : List Entry) → IsBag bag → before ≡ count_in bag.held p → before + copies ≡ after → es ≡ one_entry p before after → Plans bag (Add p copies) es
+add_plans bag p copies before after es b is_before is_after is =
+    let Carries : List Entry → Type 0 = λ xs. Plans bag (Add p copies) xs in
+    let own = one_plans bag (Add p copies) p (count_in bag.held p + copies) b refl refl in
+    subst Carries (sym (is ∙ ap (λ m. one_entry p m after) is_before ∙ ap (λ n. one_entry p (count_in bag.held p) n) (omega arith))) own
+
+-- the entry of a removal carries it out
+pub remove_plans : (bag : Contents) (p : Pair) (copies before after : ℕ) (es : List Entry) → IsBag bag → before ≡ count_in bag.held p → copies ≤ before → before - copies ≡ after → es ≡ one_entry p before after → Plans bag (Remove p copies) es
+remove_plans bag p copies before after es b is_before le is_after is =
+    let Carries : List Entry → Type 0 = λ xs. Plans bag (Remove p copies) xs in
+    let own = one_plans bag (Remove p copies) p (count_in bag.held p - copies) b (le-ltb _ _ (omega arith)) refl in
+    subst Carries (sym (is ∙ ap (λ m. one_entry p m after) is_before ∙ ap (λ n. one_entry p (count_in bag.held p) n) (omega arith))) own

@@ -1,0 +1,93 @@
+-- Changes that a bag takes.
+use Rattle.std.proofs.Common.{◌≡◌, ℕ, ◌+◌, ◌≤◌, ◌||◌, ltb, Bool, false, List, [], ◌∷◌, Some, None, All, refl, sym, ap, ◌∙◌, ⊎_elim, arith, le-ltb, ltb-false}
+use Rattle.std.specs.List.{list_any}
+use Rattle.std.proofs.lemmas.Bool.{cases_Bool, cases_eq, or_parts}
+use Rattle.std.proofs.lemmas.List.Elements.{All-head, All-tail}
+use Rattle.s2ix_bag.specs.declared.pair.Held.{Held}
+use Rattle.s2ix_bag.specs.declared.pair.Entry.{Entry}
+use Rattle.s2ix_bag.specs.Apply.{apply_refusal, first_mismatch}
+use Rattle.s2ix_bag.specs.Change.{change_between, changed, counts_at, count_after, inverse_of, IsChangeList, IsChangeListFrom}
+use Rattle.s2ix_bag.specs.Collection.{Collection, Contents, IsBag, IsCollection, count_at}
+use Rattle.s2ix_bag.specs.Pair.{rank_of}
+use Rattle.s2ix_bag.proofs.Applied.{change_between-changed, changed_inverse}
+use Rattle.s2ix_bag.proofs.Changes.{count_changed, counts_head, counts_tail, counts_below}
+use Rattle.s2ix_bag.proofs.Counts.{count_head, count_tail}
+use Rattle.s2ix_bag.proofs.Lengths.{AreAfterWithin, small_changed}
+use Rattle.s2ix_bag.proofs.Refusals.{before_from_no_mismatch, inverse_taken, no_mismatch, none_from_within, refusal_of_taken, taken_from_none, within_from_none}
+
+-- the change to a changed collection is the change itself
+pub between_changed : (bag : Contents) (es : List Entry) → IsCollection bag.held → IsChangeList es → first_mismatch bag es ≡ None → change_between bag.held (changed bag.held es) ≡ es
+between_changed bag es c rises matches =
+    change_between-changed bag.held es c rises (before_from_no_mismatch bag.held es matches)
+
+-- a change and then its inverse gives the first collection
+pub changed_back : (bag : Contents) (es : List Entry) → IsCollection bag.held → IsChangeList es → first_mismatch bag es ≡ None → changed (changed bag.held es) (inverse_of es) ≡ bag.held
+changed_back bag es c rises matches =
+    changed_inverse bag.held es c rises (before_from_no_mismatch bag.held es matches)
+
+-- the inverse of a change that a bag takes is taken by the bag that it makes
+pub takes_back : (bag : Contents) (es : List Entry) → IsBag bag → IsChangeList es → apply_refusal bag es ≡ None → apply_refusal (record { limits = bag.limits; held = changed bag.held es }) (inverse_of es) ≡ None
+takes_back bag es b rises taken =
+    refusal_of_taken (record { limits = bag.limits; held = changed bag.held es }) (inverse_of es)
+    (inverse_taken bag es b rises (taken_from_none bag es taken))
+
+-- a change that is taken has the counts before that are held
+pub not_mismatched : (bag : Contents) (es : List Entry) → apply_refusal bag es ≡ None → first_mismatch bag es ≡ None
+not_mismatched bag es taken = no_mismatch bag.held es (taken_from_none bag es taken).before
+
+-- ---- a count above a limit
+
+-- if no count that a change has for a pair passes the limit, none after does
+within_from_counts : (c n : ℕ) (es : List Entry) → IsChangeListFrom n es → ((k before after : ℕ) → counts_at es k ≡ Some (before, after) → after ≤ c) → AreAfterWithin c es
+within_from_counts c n [] rises found = tt
+within_from_counts c n (e ∷ es) rises found = (
+  found (rank_of e.pair) e.before e.after (counts_head e es (rank_of e.pair) refl),
+  within_from_counts c (rank_of e.pair + 1) es rises.2
+      (λ k before after is.
+      ⊎_elim
+      (λ here. let clash = sym (counts_below (rank_of e.pair + 1) es k rises.2 (omega (arith, here))) ∙ is in cc)
+      (λ other. found k before after (counts_tail e es k other ∙ is))
+      (cases_eq (rank_of e.pair) k)),
+)
+
+-- whether a count passes the limit
+any_above : ℕ → Collection → Bool
+any_above c hs = list_any (λ h. ltb c h.count) hs
+
+count_within : (c : ℕ) (hs : Collection) (k : ℕ) → any_above c hs ≡ false → count_at hs k ≤ c
+unfolding any_above
+count_within c [] k none = omega arith
+count_within c (h ∷ hs) k none =
+    let parts = or_parts (ltb c h.count) (any_above c hs) none in
+    ⊎_elim
+    (λ here. let own = ltb-false c h.count parts.0 in omega (arith, own, count_head h hs k here))
+    (λ other. let rest = count_within c hs k parts.1 in omega (arith, rest, count_tail h hs k other))
+    (cases_eq (rank_of h.pair) k)
+
+none_above : (c : ℕ) (hs : Collection) → All (λ (h : Held). h.count ≤ c) hs → any_above c hs ≡ false
+unfolding any_above
+none_above c [] small = refl
+none_above c (h ∷ hs) small =
+    ap (λ t. t || any_above c hs) (le-ltb c h.count (All-head (λ (x : Held). x.count ≤ c) h hs small))
+    ∙ none_above c hs (All-tail (λ (x : Held). x.count ≤ c) h hs small)
+
+-- if no count of a changed collection passes the limit, no count after does
+within_from_changed : (c : ℕ) (hs : Collection) (es : List Entry) → IsCollection hs → IsChangeList es → any_above c (changed hs es) ≡ false → AreAfterWithin c es
+within_from_changed c hs es is rises none =
+    within_from_counts c 0 es rises
+    (λ k before after found.
+    let small = count_within c (changed hs es) k none in
+    let counted = count_changed 0 hs es k is rises ∙ ap (λ o. count_after o (count_at hs k)) found in
+    omega (arith, small, counted))
+
+-- where the counts were within a limit, one passes it where a count after does
+pub any_above_changed : (limit : ℕ) (hs : Collection) (es : List Entry) → IsCollection hs → IsChangeList es → All (λ h. h.count ≤ limit) hs → list_any (λ h. ltb limit h.count) (changed hs es) ≡ list_any (λ e. ltb limit e.after) es
+unfolding any_above
+any_above_changed limit hs es is rises small =
+    ⊎_elim
+    (λ above. ⊎_elim
+    (λ has. has ∙ sym above)
+    (λ none. let clash = sym above ∙ none_from_within limit es (within_from_changed limit hs es is rises none) in cc)
+    (cases_Bool (any_above limit (changed hs es))))
+    (λ within. none_above limit (changed hs es) (small_changed limit hs es (within_from_none limit es within) small) ∙ sym within)
+    (cases_Bool (list_any (λ e. ltb limit e.after) es))

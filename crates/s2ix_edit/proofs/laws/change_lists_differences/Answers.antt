@@ -1,0 +1,12 @@
+use Rattle.s2ix_bag.proofs.Differences.{between_is_change, counts_between}
+use Rattle.s2ix_edit.specs.Edit.{edited}
+use Rattle.s2ix_edit.proofs.Undone.{edited_is_collection}
+use Rattle.s2ix_edit.proofs.laws.change_lists_differences.Goals as goal
+
+pub returns-clause-rises : goal.returns-clause-rises
+returns-clause-rises c = λ s edit st. between_is_change s.bag.held (edited edit s.bag.held) st.bag.rises
+
+pub returns-clause-counts : goal.returns-clause-counts
+returns-clause-counts c =
+    λ s edit pair st.
+    counts_between s.bag.held (edited edit s.bag.held) pair st.bag.rises (edited_is_collection edit s.bag.held st.bag.rises)

@@ -1,0 +1,11 @@
+use Rattle.s2ix_edit.proofs.Along.{bag_at_cursor, changes_of_history, history_within}
+use Rattle.s2ix_edit.proofs.laws.store_stands_in_history.Goals as goal
+
+pub returns-clause-place : goal.returns-clause-place
+returns-clause-place c = bag_at_cursor
+
+pub returns-clause-within : goal.returns-clause-within
+returns-clause-within c = history_within
+
+pub returns-clause-changes : goal.returns-clause-changes
+returns-clause-changes c = changes_of_history

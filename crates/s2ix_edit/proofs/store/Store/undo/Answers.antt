@@ -1,0 +1,31 @@
+use Rattle.std.proofs.Common.{◌-◌, List, length, ◌++◌, ◌∷◌, [], ap, ◌∙◌}
+use Rattle.s2ix_bag.specs.declared.pair.Entry.{Entry}
+use Rattle.std.specs.List.{slice_get}
+use Rattle.s2ix_bag.specs.Change.{changed, inverse_of}
+use Rattle.s2ix_edit.specs.History.{State, history_of, holding, one_back}
+use Rattle.s2ix_edit.proofs.Places.{Undoes, history_undone, same_last, stands_undone}
+use Rattle.s2ix_edit.proofs.store.Store.undo.Goals.{After-move_last-number}
+use Rattle.s2ix_edit.proofs.store.Store.undo.Goals as goal
+
+last_taken_back : (c : After-move_last-number) → Undoes
+    (record { bag = c.self.inside.bag; done = c.self.inside.done.items; undone = c.self.inside.undone.items })
+    (record { bag = c.in_ok-bag.bag; done = c.move_last-number.new.from.items; undone = c.move_last-number.new.to.items })
+    c.move_last-number.ensures.moved.last
+last_taken_back c =
+    let moved = c.move_last-number.ensures.moved in
+    let held = c.self.inside.bag in
+    let found = c.in-Some.ensures.value ∙ ap (λ (xs : List (List Entry)). slice_get xs (length xs - 1)) c.deref.ensures.value in
+    let last_is = same_last c.self.inside.done.items c.move_last-number.new.from.items c.in-Some.last.now moved.last moved.taken found in
+    record {
+      bag = c.in_ok-bag.ensures.made ∙ ap (λ (es : List Entry). holding held (changed held.held es)) (c.in_ok-inverse.ensures ∙ ap inverse_of last_is);
+      done = moved.taken;
+      undone = moved.put ∙ ap (λ (xs : List (List Entry)). xs ++ moved.last ∷ []) c.reserve.ensures.items;
+    }
+
+pub invariant_of-self-2 : goal.invariant_of-self-2
+invariant_of-self-2 c =
+    stands_undone _ _ _ c.self.invariant (last_taken_back (goal.at.invariant_of-self-2 c).After-move_last-number) c.in_ok-bag.ensures.within
+
+pub returns-clause-history : goal.returns-clause-history
+returns-clause-history c =
+    history_undone _ _ _ c.self.invariant (last_taken_back (goal.at.returns-clause-history c).After-move_last-number) ∙ ap (λ (s : State). one_back (history_of s)) c.self.view_is

@@ -1,0 +1,55 @@
+-- Carrying an edit out: the entries that it plans, and what a store makes of planned entries.
+use Rattle.std.specs.Prelude.{◌≡◌, ℕ, ◌==◌, nat_lt, if◌then◌else◌, false, Option, Some, None, List, [], ◌∷◌, ◌++◌, length}
+use Rattle.std.specs.List.{list_any}
+use Rattle.s2ix_bag.specs.declared.pair.Entry.{Entry}
+use Rattle.s2ix_bag.specs.declared.pair.Pair.{Pair}
+use Rattle.s2ix_bag.specs.Apply.{first_mismatch}
+use Rattle.s2ix_bag.specs.Change.{changed, IsChangeList}
+use Rattle.s2ix_bag.specs.Collection.{Contents}
+use Rattle.s2ix_bag.specs.Limits.{pairs_limit, count_limit}
+use Rattle.s2ix_edit.specs.declared.edit.Edit.{Edit}
+use Rattle.s2ix_edit.specs.declared.errors.EditError.{EditError}
+use Rattle.s2ix_edit.specs.declared.errors.EditError.TheVariants.{NoChange, TooManyCopies, TooManyPairs}
+use Rattle.s2ix_edit.specs.Edit.{edited}
+use Rattle.s2ix_edit.specs.History.{State, holding}
+use Rattle.s2ix_edit.specs.Refusals.{takes_too_many}
+
+-- a store that stands at a bag and has no history
+abbrev pub starting_at : Contents → State
+starting_at bag = record { bag = bag; done = []; undone = [] }
+
+-- the entries that change the count of one pair: none where it stays
+abbrev pub one_entry : Pair → ℕ → ℕ → List Entry
+one_entry pair before after =
+    if before == after then [] else record { pair = pair; before = before; after = after } ∷ []
+
+-- the entries carry the edit out: it takes no more than is held, the counts before are the bag's, and the
+-- counts after make the edited collection
+pub record Plans (bag : Contents) (edit : Edit) (es : List Entry) : Type 0 where
+  pub allowed : takes_too_many edit bag.held ≡ false
+  pub rises : IsChangeList es
+  pub matches : first_mismatch bag es ≡ None
+  pub result : changed bag.held es ≡ edited edit bag.held
+
+-- why a store refuses planned entries, memory aside: none of them, else a count after above the limit, else more
+-- distinct pairs than the limit; `None` where it takes them
+abbrev pub entries_refusal : Contents → List Entry → Option EditError
+entries_refusal bag es =
+    if length es == 0 then Some NoChange
+    else (if list_any (λ e. nat_lt (count_limit bag.limits) e.after) es then Some TooManyCopies
+    else (if nat_lt (pairs_limit bag.limits) (length (changed bag.held es)) then Some TooManyPairs else None))
+
+-- the store after planned entries: its bag has the counts after, and they are the last change that was done
+abbrev pub recorded : State → List Entry → State
+recorded s es = record {
+  bag = holding s.bag (changed s.bag.held es);
+  done = s.done ++ es ∷ [];
+  undone = [];
+}
+
+-- the last change of one list has moved to the end of the other, and has this many entries
+pub record IsMoved (from to from_after to_after : List (List Entry)) (number : ℕ) : Type 0 where
+  pub last : List Entry
+  pub taken : from ≡ from_after ++ last ∷ []
+  pub put : to_after ≡ to ++ last ∷ []
+  pub size : number ≡ length last

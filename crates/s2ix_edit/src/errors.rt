@@ -1,0 +1,71 @@
+use s2id_core::OutOfMemory;
+use std::alloc::AllocError;
+use thiserror::Error;
+
+/// Why an edit was refused. Where several refusals stand, the first of this list is answered; `OutOfMemory`
+/// may come in place of `NoChange`, `TooManyCopies` or `TooManyPairs`, and of none before them.
+#[derive(Clone, Copy, Debug, PartialEq, Eq, Error)]
+pub enum EditError {
+    /// As many changes as the limit can be undone.
+    #[error("the journal is full")]
+    JournalFull,
+    /// Fewer copies are held than the edit takes.
+    #[error("fewer copies are held")]
+    NotHeld,
+    /// The collection would stay as it is.
+    #[error("nothing would change")]
+    NoChange,
+    /// A count would pass the limit.
+    #[error("a count would pass the limit")]
+    TooManyCopies,
+    /// The number of distinct pairs would pass the limit.
+    #[error("the number of pairs would pass the limit")]
+    TooManyPairs,
+    /// A growth was refused.
+    #[error("out of memory")]
+    OutOfMemory,
+}
+
+impl From<OutOfMemory> for EditError {
+    ghost use Rattle.std.specs.Prelude.{◌≡◌};
+    ghost use Rattle.s2ix_edit.specs.declared.errors.EditError.TheVariants.{OutOfMemory};
+
+    ghost from_gives = { λ _ error. error ≡ OutOfMemory };
+
+    fn from(_: OutOfMemory) -> Self {
+        EditError::OutOfMemory
+    }
+}
+
+/// Why [`Store::undo`](crate::Store::undo) was refused.
+#[derive(Clone, Copy, Debug, PartialEq, Eq, Error)]
+pub enum UndoError {
+    /// No change can be undone.
+    #[error("nothing to undo")]
+    NothingToUndo,
+    /// A growth was refused.
+    #[error("out of memory")]
+    OutOfMemory,
+}
+
+impl From<OutOfMemory> for UndoError {
+    ghost use Rattle.std.specs.Prelude.{◌≡◌};
+    ghost use Rattle.s2ix_edit.specs.declared.errors.UndoError.TheVariants.{OutOfMemory};
+
+    ghost from_gives = { λ _ error. error ≡ OutOfMemory };
+
+    fn from(_: OutOfMemory) -> Self {
+        UndoError::OutOfMemory
+    }
+}
+
+impl From<AllocError> for UndoError {
+    ghost use Rattle.std.specs.Prelude.{◌≡◌};
+    ghost use Rattle.s2ix_edit.specs.declared.errors.UndoError.TheVariants.{OutOfMemory};
+
+    ghost from_gives = { λ _ error. error ≡ OutOfMemory };
+
+    fn from(_: AllocError) -> Self {
+        UndoError::OutOfMemory
+    }
+}

@@ -1,0 +1,138 @@
+ghost use Rattle.std.specs.Prelude.{◌≡◌, ℕ, ◌↔◌, ◌<◌, [], length, None, IfOk, IfErr, OnOk, OnErr};
+ghost use Rattle.s2ix_bag.specs.Apply.{first_mismatch};
+ghost use Rattle.s2ix_bag.specs.Change.{changed};
+ghost use Rattle.s2ix_bag.specs.Limits.{changes_limit};
+ghost use Rattle.s2ix_edit.specs.Edit.{edited};
+ghost use Rattle.s2ix_edit.specs.History.{State, IsStore, after_edit, after_undo, change_of, history_of, one_back, undo_size, with_next};
+ghost use Rattle.s2ix_edit.specs.Plan.{entries_refusal, recorded};
+ghost use Rattle.s2ix_edit.specs.Refusals.{edit_refusal, IsEditRefusal};
+
+use crate::edit::Edit;
+use crate::errors::{EditError, UndoError};
+use crate::plan::planned;
+use crate::steps::{bag_after, bag_moved, move_last};
+use s2id_core::OutOfMemory;
+use s2ix_bag::{Bag, Change, Limits};
+use std::alloc::Global;
+use std::marker::Model;
+
+/// A collection with its history. Contracts see a store as its bag with the changes that were done and undone.
+/// This project's own.
+#[derive(Debug, Drop)]
+pub struct Store {
+    alloc: Global,
+    bag: Bag,
+    done: Vec<Change>,
+    undone: Vec<Change>,
+}
+
+impl Model for Store {
+    ghost use Rattle.s2ix_edit.specs.History.{State, IsStore};
+
+    ghost Value = { State };
+
+    ghost view = { λ s. record { bag = s.bag; done = s.done.items; undone = s.undone.items } };
+
+    ghost invariant = { λ s.
+        IsStore (record { bag = s.bag; done = s.done.items; undone = s.undone.items }) };
+}
+
+impl Store {
+    /// A store of the empty collection, with nothing to undo. It takes no memory yet; the error is for a store
+    /// that would.
+    pub fn new(alloc: Global, limits: Limits) -> Result<Store, OutOfMemory>
+        ensures { IfOk result (λ store. store
+            ≡ record { bag = record { limits = limits; held = [] }; done = []; undone = [] }) }
+    {
+        Ok(Store {
+            alloc,
+            bag: Bag::empty(alloc, limits),
+            done: Vec::new(alloc),
+            undone: Vec::new(alloc),
+        })
+    }
+
+    /// Carries an edit out, and answers how many pairs changed their counts. An accepted edit records the change
+    /// at the end of `done` and empties `undone`; a refused one changes nothing. [`EditError`] says when each
+    /// refusal stands. O(n + m) for n pairs held and m in the change, and what it takes to let the undone go.
+    pub fn edit(&mut self, edit: &Edit) -> Result<usize, EditError>
+        ensures state { OnOk result (self.new ≡ after_edit self.old edit.now) }
+        ensures history { OnOk result (history_of self.new
+            ≡ with_next (history_of self.old) (edited edit.now self.old.bag.held)) }
+        ensures number { IfOk result (λ n. n ≡ length (change_of self.old edit.now)) }
+        ensures accepted { OnOk result (edit_refusal self.old edit.now ≡ None) }
+        ensures refused { IfErr result (λ error.
+            IsEditRefusal error (edit_refusal self.old edit.now)) }
+        ensures unchanged { OnErr result (self.new ≡ self.old) }
+    {
+        if self.done.len() >= self.bag.limits().changes() as usize {
+            return Err(EditError::JournalFull);
+        }
+        let change = planned(self.alloc, &self.bag, edit)?;
+        self.record_change(change)
+    }
+
+    /// Carries planned entries out, whatever edit they come from.
+    fn record_change(&mut self, change: Change) -> Result<usize, EditError>
+        requires room { length self.old.done < changes_limit self.old.bag.limits }
+        requires matches { first_mismatch self.old.bag change ≡ None }
+        ensures state { OnOk result (self.new ≡ recorded self.old change) }
+        ensures history { OnOk result (history_of self.new
+            ≡ with_next (history_of self.old) (changed self.old.bag.held change)) }
+        ensures number { IfOk result (λ n. n ≡ length change) }
+        ensures accepted { OnOk result (entries_refusal self.old.bag change ≡ None) }
+        ensures refused { IfErr result (λ error.
+            IsEditRefusal error (entries_refusal self.old.bag change)) }
+        ensures unchanged { OnErr result (self.new ≡ self.old) }
+    {
+        let number = change.entries().len();
+        let bag = bag_after(self.alloc, &self.bag, &change)?;
+        self.done.push(change).map_err(|_| EditError::OutOfMemory)?;
+        self.undone.clear();
+        self.bag = bag;
+        Ok(number)
+    }
+
+    /// Takes the last change back, and answers how many pairs it had. The change moves to the end of `undone`.
+    /// `NothingToUndo` is tested first; after it only memory can be wanting. O(n + m) for n pairs held and m in
+    /// the change.
+    pub fn undo(&mut self) -> Result<usize, UndoError>
+        ensures state { OnOk result (self.new ≡ after_undo self.old) }
+        ensures history { OnOk result (history_of self.new ≡ one_back (history_of self.old)) }
+        ensures number { IfOk result (λ n. n ≡ undo_size self.old) }
+        ensures nothing { (result ≡ Err UndoError.NothingToUndo) ↔ (self.old.done ≡ []) }
+        ensures unchanged { OnErr result (self.new ≡ self.old) }
+    {
+        let Some(last) = self.done.last() else {
+            return Err(UndoError::NothingToUndo);
+        };
+        let inverse = last.inverse(self.alloc)?;
+        let bag = bag_moved(self.alloc, &self.bag, &inverse)?;
+        self.undone.reserve(1)?;
+        let number = move_last(&mut self.done, &mut self.undone);
+        self.bag = bag;
+        Ok(number)
+    }
+
+    /// The collection that the store stands at.
+    pub fn bag(&self) -> &Bag
+        ensures bag { result.now ≡ self.now.bag }
+        ensures within { IsStore self.now }
+    {
+        &self.bag
+    }
+
+    /// The changes that can be undone, the oldest first.
+    pub fn done(&self) -> &[Change]
+        ensures { result.now ≡ self.now.done }
+    {
+        self.done.as_slice()
+    }
+
+    /// The changes that were undone since the last edit, the last undone at the end.
+    pub fn undone(&self) -> &[Change]
+        ensures { result.now ≡ self.now.undone }
+    {
+        self.undone.as_slice()
+    }
+}

@@ -1,0 +1,77 @@
+ghost use Rattle.std.specs.Prelude.{◌≡◌, ◌+◌, ◌-◌, ◌^◌, ◌<◌, flat_map};
+ghost use Rattle.s2ix_text.specs.Dump.{dump_text, end_line, pair_line};
+ghost use Rattle.s2ix_text.specs.Faults.{write_faults};
+ghost use Rattle.s2ix_text.specs.Puts.{Puts};
+
+use super::{Sink, WriteFault, put_all, put_parts};
+use itoa::Buffer;
+use s2ix_bag::{Bag, Held};
+
+// Writes the line of a held pair.
+#[tactic(auto, unfolding(crate::specs::Dump::pair_line))]
+fn write_pair<K: Sink>(held: Held, sink: &mut K) -> Result<(), WriteFault>
+    requires { K.fault_count sink.old < 2 ^ 64 - 1 }
+    ensures puts { Puts (K.taken sink.old) (K.taken sink.new) result (pair_line held) }
+    ensures faults { K.fault_count sink.new ≡ K.fault_count sink.old + write_faults result }
+{
+    let token = held.pair.cell.token();
+    let mut label = Buffer::new();
+    let mut count = Buffer::new();
+    put_parts(
+        sink,
+        &[
+            token.as_bytes(),
+            b" ",
+            label.format(held.pair.label.get()).as_bytes(),
+            b" ",
+            count.format(held.count).as_bytes(),
+            b"\n",
+        ],
+    )
+}
+
+// Writes the lines of all held pairs, in rising order.
+fn write_pairs<K: Sink>(bag: &Bag, sink: &mut K) -> Result<(), WriteFault>
+    requires { K.fault_count sink.old < 2 ^ 64 - 1 }
+    ensures puts { Puts (K.taken sink.old) (K.taken sink.new) result (flat_map pair_line bag.now.held) }
+    ensures faults { K.fault_count sink.new ≡ K.fault_count sink.old + write_faults result }
+{
+    for place in 0..bag.len() {
+        write_pair(bag.held(place), sink)?;
+    }
+    Ok(())
+}
+
+// Writes the last line.
+#[tactic(auto, unfolding(crate::specs::Dump::end_line))]
+fn write_end<K: Sink>(bag: &Bag, sink: &mut K) -> Result<(), WriteFault>
+    requires { K.fault_count sink.old < 2 ^ 64 - 1 }
+    ensures puts { Puts (K.taken sink.old) (K.taken sink.new) result (end_line bag.now.held) }
+    ensures faults { K.fault_count sink.new ≡ K.fault_count sink.old + write_faults result }
+{
+    let mut pairs = Buffer::new();
+    let mut copies = Buffer::new();
+    put_parts(
+        sink,
+        &[
+            b"end ".as_slice(),
+            pairs.format(bag.len()).as_bytes(),
+            b" ",
+            copies.format(bag.copies()).as_bytes(),
+            b"\n",
+        ],
+    )
+}
+
+/// Writes the dump of a bag: one line for each held pair in rising order, between a header and the two sums.
+///
+/// It takes no memory and does not flush. At the first fault of the sink it ends, when a front of the dump went out. O(n) for n pairs.
+pub fn write_dump<K: Sink>(bag: &Bag, sink: &mut K) -> Result<(), WriteFault>
+    requires { K.fault_count sink.old < 2 ^ 64 - 1 }
+    ensures puts { Puts (K.taken sink.old) (K.taken sink.new) result (dump_text bag.now.held) }
+    ensures faults { K.fault_count sink.new ≡ K.fault_count sink.old + write_faults result }
+{
+    put_all(sink, b"s2ix 1\n")?;
+    write_pairs(bag, sink)?;
+    write_end(bag, sink)
+}
