@@ -5,7 +5,7 @@
 use s2ix_bag::Limits;
 use s2ix_cli::{RunEnd, RunFault, RunOptions};
 use s2ix_edit::Store;
-use s2ix_text::{FromRead, Sink, ToWrite};
+use s2ix_text::{FromRead, ToWrite};
 use std::io::BufWriter;
 use std::process::ExitCode;
 
@@ -23,16 +23,10 @@ fn status(ended: &Result<RunEnd, RunFault>) -> u8 {
     }
 }
 
+/// Runs the script on standard input.
 fn run(rt: &HostRuntime) -> Result<RunEnd, RunFault> {
-    let Some(limits) = Limits::new(1_000_000, 65_535, 100_000) else {
-        unreachable!()
-    };
-    let Ok(writer) = BufWriter::new(rt.alloc(), rt.stdout()) else {
-        return Err(RunFault::OutOfMemory);
-    };
-    let Ok(mut store) = Store::new(rt.alloc(), limits) else {
-        return Err(RunFault::OutOfMemory);
-    };
+    let writer = BufWriter::new(rt.alloc(), rt.stdout()).map_err(|_| RunFault::OutOfMemory)?;
+    let mut store = Store::new(rt.alloc(), Limits::default()).map_err(|_| RunFault::OutOfMemory)?;
     let mut source = FromRead::new(rt.stdin());
     let mut sink = ToWrite::new(writer);
     let options = RunOptions {

@@ -13,7 +13,8 @@ use Rattle.s2ix_bag.proofs.Counts.{count_head, count_tail, from_lower, count_bel
 pub held_counted : (n : ℕ) (h : Held) (hs : Collection) → IsCollectionFrom n (h ∷ hs) → 0 < count_at (h ∷ hs) (rank_of h.pair)
 held_counted n h hs c = omega (arith, count_head h hs (rank_of h.pair) refl, c.1)
 
-rank_of_get : (n : ℕ) (hs : Collection) (k : ℕ) (d : Held) → IsCollectionFrom n hs → k < length hs → n ≤ rank_of (get_or hs k d).pair
+-- ranks from n on, at each place
+pub rank_of_get : (n : ℕ) (hs : Collection) (k : ℕ) (d : Held) → IsCollectionFrom n hs → k < length hs → n ≤ rank_of (get_or hs k d).pair
 rank_of_get n [] k d hs_is within = absurd (omega arith)
 rank_of_get n (h ∷ hs) zero d hs_is within = hs_is.0
 rank_of_get n (h ∷ hs) (suc k) d hs_is within = omega (arith, rank_of_get (rank_of h.pair + 1) hs k d hs_is.2 (omega arith), hs_is.0)

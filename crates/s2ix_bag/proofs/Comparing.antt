@@ -78,9 +78,6 @@ pub record Comparing (old new : Collection) (out : List Entry) (rest : Collectio
   pub rises : IsCollection rest
   pub made : out ++ change_between rest (drop i new) ≡ change_between old new
 
-pub comparing_start : (old new : Collection) → IsCollection old → Comparing old new [] old 0
-comparing_start old new old_is = record { rises = old_is; made = refl }
-
 pub comparing_step : (old new : Collection) (out : List Entry) (rest : Collection) (i n : ℕ) (k : Held) → i < length new → k ≡ get_or new i k → IsCollection new → Comparing old new out rest i → AreBelow (rank_of k.pair) (take n rest) → IsCollectionFrom (rank_of k.pair) (drop n rest) → Comparing old new ((out ++ map gone (take n rest)) ++ entry_with k.pair (count_in (drop n rest) k.pair) k.count []) (past (drop n rest) (rank_of k.pair)) (i + 1)
 comparing_step old new out rest i n k within is new_is was below from_pair =
     let split : drop i new ≡ k ∷ drop (i + 1) new = drop_more new i k within ∙ ap (λ x. x ∷ drop (i + 1) new) (sym is) in

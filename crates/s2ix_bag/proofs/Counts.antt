@@ -28,10 +28,6 @@ count_below n (h ∷ hs) k c lt =
 
 -- ---- a pair held with a count, before a collection
 
-pub held_as : (p : Pair) (n : ℕ) (hs : Collection) → 0 < n → held_with p n hs ≡ record { pair = p; count = n } ∷ hs
-held_as p zero hs pos = absurd (omega arith)
-held_as p (suc n) hs pos = refl
-
 pub count_held_same : (p : Pair) (n : ℕ) (hs : Collection) → IsCollectionFrom (rank_of p + 1) hs → count_at (held_with p n hs) (rank_of p) ≡ n
 count_held_same p zero hs c = count_below (rank_of p + 1) hs (rank_of p) c (omega arith)
 count_held_same p (suc n) hs c = count_head (record { pair = p; count = suc n }) hs (rank_of p) refl

@@ -10,5 +10,4 @@ pub mod Refusals
 pub mod Parts
 pub mod Walks
 pub mod Comparing
-
 mod Labels

@@ -10,6 +10,7 @@ use Rattle.s2ix_bag.specs.declared.pair.Pair.{Pair}
 use Rattle.s2ix_bag.specs.declared.pair.Held.{Held}
 use Rattle.s2ix_bag.specs.declared.pair.Entry.{Entry}
 use Rattle.s2ix_bag.proofs.Counts.{count_tail, count_below, from_lower}
+use Rattle.s2ix_bag.proofs.Collections.{rank_of_get}
 use Rattle.s2ix_bag.proofs.Changes.{changed_at, changed_absent}
 
 -- a part of a collection is a collection
@@ -23,16 +24,11 @@ collection_take zero m hs hs_is = tt
 collection_take (suc n) m [] hs_is = tt
 collection_take (suc n) m (h ∷ hs) hs_is = (hs_is.0, hs_is.1, collection_take n (rank_of h.pair + 1) hs hs_is.2)
 
-rank_from : (n : ℕ) (hs : Collection) (k : ℕ) (d : Held) → IsCollectionFrom n hs → k < length hs → n ≤ rank_of (get_or hs k d).pair
-rank_from n [] k d hs_is within = absurd (omega arith)
-rank_from n (h ∷ hs) zero d hs_is within = hs_is.0
-rank_from n (h ∷ hs) (suc k) d hs_is within = omega (arith, rank_from (rank_of h.pair + 1) hs k d hs_is.2 (omega arith), hs_is.0)
-
 -- ranks rise with places
 pub ranks_rise : (m : ℕ) (hs : Collection) (i j : ℕ) (d : Held) → IsCollectionFrom m hs → i < j → j < length hs → rank_of (get_or hs i d).pair < rank_of (get_or hs j d).pair
 ranks_rise m [] i j d hs_is lt short = absurd (omega arith)
 ranks_rise m (h ∷ hs) i zero d hs_is lt short = absurd (omega arith)
-ranks_rise m (h ∷ hs) zero (suc j) d hs_is lt short = omega (arith, rank_from (rank_of h.pair + 1) hs j d hs_is.2 (omega arith))
+ranks_rise m (h ∷ hs) zero (suc j) d hs_is lt short = omega (arith, rank_of_get (rank_of h.pair + 1) hs j d hs_is.2 (omega arith))
 ranks_rise m (h ∷ hs) (suc i) (suc j) d hs_is lt short = ranks_rise (rank_of h.pair + 1) hs i j d hs_is.2 (omega arith) (omega arith)
 
 -- so they fall nowhere

@@ -1,8 +1,8 @@
 -- Walks along a collection and a change side by side.
-use Rattle.std.proofs.Common.{◌≡◌, ℕ, zero, suc, ◌+◌, ◌<◌, ◌≤◌, not, List, [], ◌∷◌, ◌++◌, take, drop, get_or, length, Some, None, position, refl, sym, ap, ◌∙◌, subst, arith, eq-eqb, ne_eqb}
+use Rattle.std.proofs.Common.{◌≡◌, ℕ, zero, suc, ◌+◌, ◌<◌, ◌≤◌, not, List, [], ◌∷◌, ◌++◌, take, drop, get_or, length, Some, position, refl, sym, ap, ◌∙◌, subst, arith, eq-eqb, ne_eqb}
 use Rattle.std.specs.List.{position_or_len}
 use Rattle.std.proofs.lemmas.Bool.{cond-true, cond-false}
-use Rattle.std.proofs.lemmas.List.{drop_more, drop_all, append_assoc, take-append-drop}
+use Rattle.std.proofs.lemmas.List.{drop_more, append_assoc, take-append-drop}
 use Rattle.s2ix_bag.specs.Collection.{Collection, IsCollection, IsCollectionFrom, AreBelow, count_in, held_with, past}
 use Rattle.s2ix_bag.specs.Change.{IsChangeList, IsChangeListFrom, changed}
 use Rattle.s2ix_bag.specs.Pair.{rank_of}
@@ -10,7 +10,7 @@ use Rattle.s2ix_bag.specs.declared.pair.Entry.{Entry}
 use Rattle.s2ix_bag.proofs.Counts.{from_lower}
 use Rattle.s2ix_bag.proofs.Changes.{change_lower, changed-append}
 use Rattle.s2ix_bag.proofs.Parts.{collection_drop, count_past_below, past_rises, changed_first, held_with_append}
-use Rattle.s2ix_bag.proofs.Refusals.{is_mismatch, position_is, position_none}
+use Rattle.s2ix_bag.proofs.Refusals.{is_mismatch, position_is}
 
 pub change_drop : (m i : ℕ) (es : List Entry) → IsChangeListFrom m es → IsChangeList (drop i es)
 change_drop m zero es es_is = change_lower 0 m es (omega arith) es_is
@@ -73,19 +73,12 @@ compared_found hs es rest i n e within is es_is was below ne =
     let here : position_or_len (is_mismatch hs) es ≡ i = omega (arith, was.none, next) in
     position_is hs es (omega (arith, here, within)) ∙ ap (λ k. Some k) here
 
-pub compared_none : (hs : Collection) (es : List Entry) (rest : Collection) (i : ℕ) → i ≡ length es → Compared hs es rest i → position (is_mismatch hs) es ≡ None
-compared_none hs es rest i all was =
-    position_none hs es (omega (arith, was.none, all))
-
 -- ---- a merge
 
 -- what came out so far, and what the entries that are left make of the rest
 pub record Merging (hs : Collection) (es : List Entry) (out rest : Collection) (i : ℕ) : Type 0 where
   pub rises : IsCollection rest
   pub made : out ++ changed rest (drop i es) ≡ changed hs es
-
-pub merging_start : (hs : Collection) (es : List Entry) → IsCollection hs → Merging hs es [] hs 0
-merging_start hs es hs_is = record { rises = hs_is; made = refl }
 
 pub merging_step : (hs : Collection) (es : List Entry) (out rest : Collection) (i n : ℕ) (e : Entry) → i < length es → e ≡ get_or es i e → IsChangeList es → Merging hs es out rest i → AreBelow (rank_of e.pair) (take n rest) → IsCollectionFrom (rank_of e.pair) (drop n rest) → Merging hs es ((out ++ take n rest) ++ held_with e.pair e.after []) (past (drop n rest) (rank_of e.pair)) (i + 1)
 merging_step hs es out rest i n e within is es_is was below from_pair =
@@ -105,8 +98,3 @@ merging_step hs es out rest i n e within is es_is was below from_pair =
       made = append_assoc (out ++ front) put (changed tail left) ∙ append_assoc out front (put ++ changed tail left)
           ∙ ap (λ x. out ++ x) (sym this) ∙ ap (λ xs. out ++ changed rest xs) (sym split) ∙ was.made;
     }
-
-pub merging_end : (hs : Collection) (es : List Entry) (out rest : Collection) (i : ℕ) → i ≡ length es → Merging hs es out rest i → out ++ rest ≡ changed hs es
-merging_end hs es out rest i all was =
-    let none : drop i es ≡ [] = drop_all i es (omega (arith, all)) in
-    ap (λ xs. out ++ changed rest xs) (sym none) ∙ was.made

@@ -15,6 +15,6 @@ in_range-from_test n h = grind (arith, nat_tests)
 abbrev pub label_numbered : ℕ → Option Label
 label_numbered n =
     elim (nat_le n 2147483647) as (λ b. nat_le n 2147483647 ≡ b → Option Label) [
-      true ↦ λ h. Some (record { value = n; in_range = in_range-from_test n h })
-    | false ↦ λ _. None
+      | true ↦ λ h. Some (record { value = n; in_range = in_range-from_test n h })
+      | false ↦ λ _. None
     ] refl

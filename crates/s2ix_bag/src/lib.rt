@@ -14,6 +14,8 @@ mod label;
 pub mod laws;
 mod limits;
 mod pair;
+#[cfg(test)]
+mod samples;
 mod search;
 
 pub use bag::Bag;

@@ -28,8 +28,8 @@ pub fn first_from(held: &[Held], pair: Pair) -> usize
     held.partition_point(|h| is_before(h.pair, pair))
 }
 
-/// How many of the held pairs come before `pair`, searched from the front in growing steps: O(log k) where it
-/// is k.
+/// How many of the held pairs come before `pair`, searched from the front in growing steps: O(log k) for the
+/// answer k.
 pub fn next_from(held: &[Held], pair: Pair) -> usize
     requires { IsCollection held.now }
     ensures within { result ≤ length held.now }

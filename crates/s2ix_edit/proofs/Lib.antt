@@ -1,6 +1,6 @@
-mod Taken
+pub mod Along
+pub mod Places
 mod Plans
 mod Refused
-mod Along
-mod Places
-mod Undone
+pub mod Taken
+pub mod Undone

@@ -1,6 +1,6 @@
 -- Which refusal of an edit stands first.
-use Rattle.std.proofs.Common.{◌≡◌, ◌≢◌, ℕ, ◌+◌, ◌<◌, ◌≤◌, ◌==◌, Bool, true, false, cond, ltb, List, [], ◌∷◌, length, Option, Some, None, refl, ◌||◌, sym, ap, ap₂, ◌++◌, ◌∙◌, subst, arith, lt-ltb, le-leb}
-use Rattle.std.proofs.lemmas.Bool.{cond-true, cond-false}
+use Rattle.std.proofs.Common.{◌≡◌, ◌≢◌, ℕ, ◌+◌, ◌<◌, ◌≤◌, ◌==◌, Bool, false, cond, ltb, List, [], ◌∷◌, length, Option, Some, None, refl, ◌||◌, sym, ap, ap₂, ◌++◌, ◌∙◌, arith, lt-ltb}
+use Rattle.std.proofs.lemmas.Bool.{cond-false}
 use borrow.Author.Tests.{lt-leb}
 use Rattle.std.specs.List.{list_any}
 use Rattle.s2ix_bag.specs.declared.pair.Pair.{Pair}
@@ -12,17 +12,13 @@ use Rattle.s2ix_bag.specs.Limits.{pairs_limit, count_limit, changes_limit}
 use Rattle.s2ix_edit.specs.declared.edit.Edit.{Edit}
 use Rattle.s2ix_edit.specs.declared.edit.Edit.TheVariants.{Add}
 use Rattle.s2ix_edit.specs.declared.errors.EditError.{EditError}
-use Rattle.s2ix_edit.specs.declared.errors.EditError.TheVariants.{JournalFull, NotHeld, NoChange, TooManyCopies, TooManyPairs, OutOfMemory}
+use Rattle.s2ix_edit.specs.declared.errors.EditError.TheVariants.{NoChange, TooManyCopies, TooManyPairs}
 use Rattle.s2ix_edit.specs.Edit.{edited}
 use Rattle.s2ix_edit.specs.History.{State, IsStore, after_edit, holding}
 use Rattle.s2ix_edit.specs.Plan.{Plans, entries_refusal, one_entry, recorded, starting_at}
-use Rattle.s2ix_edit.specs.Refusals.{edit_refusal, takes_too_many, IsEditRefusal, MayWantMemory}
+use Rattle.s2ix_edit.specs.Refusals.{edit_refusal, takes_too_many}
 use Rattle.s2ix_edit.proofs.Taken.{any_above_changed, between_changed}
 use Rattle.s2ix_edit.proofs.Plans.{add_plans, an_entry}
-
--- a full journal is refused before all else
-pub journal_full : (s : State) (edit : Edit) → changes_limit s.bag.limits ≤ length s.done → edit_refusal s edit ≡ Some JournalFull
-journal_full s edit full = cond-true _ _ _ (le-leb _ _ full)
 
 -- with room in the journal the refusal is that of a store with no history
 pub with_room : (s : State) (edit : Edit) → length s.done < changes_limit s.bag.limits → edit_refusal s edit ≡ edit_refusal (starting_at s.bag) edit
@@ -33,11 +29,6 @@ with_room s edit room =
 -- a store with no history has room in its journal
 starts_with_room : (bag : Contents) → length (starting_at bag).done < changes_limit bag.limits
 starts_with_room bag = let range = bag.limits.in_range in omega (arith, range)
-
--- an edit that takes more than is held is refused as such
-pub not_held : (bag : Contents) (edit : Edit) → takes_too_many edit bag.held ≡ true → edit_refusal (starting_at bag) edit ≡ Some NotHeld
-not_held bag edit taken =
-    cond-false _ _ _ (lt-leb _ _ (starts_with_room bag)) ∙ cond-true _ _ _ taken
 
 -- ---- the three refusals that are found while the change is made
 
@@ -52,19 +43,6 @@ later_refusal : (bag : Contents) (edit : Edit) → takes_too_many edit bag.held 
 unfolding first_of_three is_high
 later_refusal bag edit allowed =
     cond-false _ _ _ (lt-leb _ _ (starts_with_room bag)) ∙ cond-false _ _ _ allowed
-
-may_want_memory : (same high many : Bool) → MayWantMemory (first_of_three same high many)
-unfolding first_of_three
-may_want_memory true high many = tt
-may_want_memory false true many = tt
-may_want_memory false false true = tt
-may_want_memory false false false = tt
-
--- want of memory may come in place of these three
-pub memory_wanted : (bag : Contents) (edit : Edit) → takes_too_many edit bag.held ≡ false → IsEditRefusal OutOfMemory (edit_refusal (starting_at bag) edit)
-memory_wanted bag edit allowed =
-    let Wants : Option EditError → Type 0 = λ refusal. MayWantMemory refusal in
-    subst Wants (sym (later_refusal bag edit allowed)) (may_want_memory _ _ _)
 
 -- ---- the refusals of planned entries
 

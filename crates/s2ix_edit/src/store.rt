@@ -136,3 +136,123 @@ impl Store {
         self.undone.as_slice()
     }
 }
+
+#[cfg(test)]
+mod tests {
+    use super::*;
+    use s2id_core::CellId;
+    use s2ix_bag::{Label, Pair};
+    use std::process::Abort;
+    use std::test::Fail;
+
+    fn pair_of(rt: &impl Abort, cell: u64, label: u32) -> Pair {
+        Pair {
+            cell: CellId::from_raw(cell).expect(rt, "a cell"),
+            label: Label::new(label).expect(rt, "a label"),
+        }
+    }
+
+    #[test]
+    fn takes_no_more_than_is_held(rt: HostRuntime) -> Result<(), Fail> {
+        let limits = Limits::new(1_000_000, 65_535, 100_000).expect(&rt, "the widest limits");
+        let mut store = Store::new(rt.alloc(), limits)?;
+        let pair = pair_of(&rt, 0x0400000000000000, 9);
+        assert_eq!(rt;
+            store.edit(&Edit::Add { pair, copies: 0 }),
+            Err(EditError::NoChange)
+        );
+        assert_eq!(rt; store.edit(&Edit::Add { pair, copies: 1 }), Ok(1));
+        assert_eq!(rt;
+            store.edit(&Edit::Remove { pair, copies: 2 }),
+            Err(EditError::NotHeld)
+        );
+        assert_eq!(rt; store.bag().count(pair), 1);
+        assert_eq!(rt; store.edit(&Edit::Remove { pair, copies: 1 }), Ok(1));
+        assert_eq!(rt; store.bag().count(pair), 0);
+        assert_eq!(rt; store.undo(), Ok(1));
+        assert_eq!(rt; store.bag().count(pair), 1);
+        Ok(())
+    }
+
+    #[test]
+    fn edit_lets_the_undone_go(rt: HostRuntime) -> Result<(), Fail> {
+        let limits = Limits::new(1_000_000, 65_535, 100_000).expect(&rt, "the widest limits");
+        let mut store = Store::new(rt.alloc(), limits)?;
+        let first = pair_of(&rt, 0x1000000000000000, 1);
+        let second = pair_of(&rt, 0x3000000000000000, 1);
+        assert_eq!(rt; store.undo(), Err(UndoError::NothingToUndo));
+        assert_eq!(rt;
+            store.edit(&Edit::Add {
+                pair: first,
+                copies: 1
+            }),
+            Ok(1)
+        );
+        assert_eq!(rt; store.undo(), Ok(1));
+        assert_eq!(rt; store.done().len(), 0);
+        assert_eq!(rt; store.undone().len(), 1);
+        assert_eq!(rt;
+            store.edit(&Edit::Add {
+                pair: second,
+                copies: 1
+            }),
+            Ok(1)
+        );
+        assert_eq!(rt; store.done().len(), 1);
+        assert_eq!(rt; store.undone().len(), 0);
+        assert_eq!(rt; store.undo(), Ok(1));
+        assert_eq!(rt; store.undo(), Err(UndoError::NothingToUndo));
+        Ok(())
+    }
+
+    #[test]
+    fn limits_of_one_refuse_a_second(rt: HostRuntime) -> Result<(), Fail> {
+        let first = pair_of(&rt, 0x1000000000000000, 1);
+        let second = pair_of(&rt, 0x3000000000000000, 1);
+        let one_change = Limits::new(1_000_000, 65_535, 1).expect(&rt, "one change");
+        let mut store = Store::new(rt.alloc(), one_change)?;
+        assert_eq!(rt;
+            store.edit(&Edit::Add {
+                pair: first,
+                copies: 65_535
+            }),
+            Ok(1)
+        );
+        assert_eq!(rt;
+            store.edit(&Edit::Add {
+                pair: first,
+                copies: 1
+            }),
+            Err(EditError::JournalFull)
+        );
+        let one_pair = Limits::new(1, 65_535, 100_000).expect(&rt, "one pair");
+        let mut store = Store::new(rt.alloc(), one_pair)?;
+        assert_eq!(rt;
+            store.edit(&Edit::Add {
+                pair: first,
+                copies: 65_535
+            }),
+            Ok(1)
+        );
+        assert_eq!(rt;
+            store.edit(&Edit::Add {
+                pair: second,
+                copies: 1
+            }),
+            Err(EditError::TooManyPairs)
+        );
+        assert_eq!(rt;
+            store.edit(&Edit::Add {
+                pair: first,
+                copies: 1
+            }),
+            Err(EditError::TooManyCopies)
+        );
+        let greatest = Edit::Add {
+            pair: first,
+            copies: u32::MAX,
+        };
+        assert_eq!(rt; store.edit(&greatest), Err(EditError::TooManyCopies));
+        Ok(())
+    }
+}

@@ -7,20 +7,16 @@ use Rattle.s2ix_bag.specs.declared.pair.Held.{Held}
 use Rattle.s2ix_bag.proofs.Parts.{ranks_non_decreasing, below_from_places, from_place}
 use Rattle.s2ix_bag.proofs.search.first_from.Goals as goal
 
-pub returns-clause-below : goal.returns-clause-below
-returns-clause-below c =
+pub returns : goal.returns
+returns c =
     let hs = c.args.held.now in
     let rank = rank_of c.args.pair in
-    let points : IsPartitionPoint (λ (h : Held). ltb (rank_of h.pair) rank ≡ true) (λ (h : Held). ltb (rank_of h.pair) rank ≡ false) hs c.partition_point.result =
-    IsPartitionPoint-from_clause (λ (h : Held). ltb (rank_of h.pair) rank) hs c.partition_point.result c.partition_point.ensures.partitioned
+    let place = c.partition_point.result in
+    let points : IsPartitionPoint (λ (h : Held). ltb (rank_of h.pair) rank ≡ true) (λ (h : Held). ltb (rank_of h.pair) rank ≡ false) hs place =
+    IsPartitionPoint-from_clause (λ (h : Held). ltb (rank_of h.pair) rank) hs place c.partition_point.ensures.partitioned
     (IsPartitionedBy-ltb (λ (h : Held). rank_of h.pair) hs rank (ranks_non_decreasing hs c.requires)) (λ a r q k. search rules) in
-    below_from_places rank c.partition_point.result hs (λ k d lt within. ltb-true _ _ (points.0 k d (omega arith) lt))
-
-pub returns-clause-rest : goal.returns-clause-rest
-returns-clause-rest c =
-    let hs = c.args.held.now in
-    let rank = rank_of c.args.pair in
-    let points : IsPartitionPoint (λ (h : Held). ltb (rank_of h.pair) rank ≡ true) (λ (h : Held). ltb (rank_of h.pair) rank ≡ false) hs c.partition_point.result =
-    IsPartitionPoint-from_clause (λ (h : Held). ltb (rank_of h.pair) rank) hs c.partition_point.result c.partition_point.ensures.partitioned
-    (IsPartitionedBy-ltb (λ (h : Held). rank_of h.pair) hs rank (ranks_non_decreasing hs c.requires)) (λ a r q k. search rules) in
-    from_place rank c.partition_point.result 0 hs c.requires (λ d within. ltb-false _ _ (points.1 c.partition_point.result d (omega arith) within))
+    record {
+      within = c.partition_point.ensures.bound;
+      below = below_from_places rank place hs (λ k d lt within. ltb-true _ _ (points.0 k d (omega arith) lt));
+      rest = from_place rank place 0 hs c.requires (λ d within. ltb-false _ _ (points.1 place d (omega arith) within));
+    }

@@ -1,0 +1,245 @@
+// Worked scripts, from bytes to bytes. Their outputs are worked out by hand from the formats.
+use crate::devices::{KeepingSink, SliceSource};
+use s2ix_bag::Limits;
+use s2ix_cli::{RunOptions, run};
+use s2ix_edit::Store;
+use std::alloc::Global;
+use std::process::Abort;
+use std::test::Fail;
+
+// A script, with what a run of it over an empty store comes to.
+#[derive(Clone, Copy)]
+struct Case<'a> {
+    name: &'static str,
+    // the greatest number of pairs, count of a pair, and number of changes
+    limits: [u32; 3],
+    stop: bool,
+    input: &'a [u8],
+    output: &'static [u8],
+    is_refused: bool,
+}
+
+// The widest limits.
+const WIDE: [u32; 3] = [1_000_000, 65_535, 100_000];
+
+// More bytes than any script has: a device of this length moves all that there is in one call.
+const ALL: usize = 1_000_000;
+
+// A script under the widest limits, that goes on after a refusal.
+fn script<'a>(
+    name: &'static str,
+    input: &'a [u8],
+    output: &'static [u8],
+    is_refused: bool,
+) -> Case<'a> {
+    Case {
+        name,
+        limits: WIDE,
+        stop: false,
+        input,
+        output,
+        is_refused,
+    }
+}
+
+// Runs a script with a source that gives at most `piece_len` bytes a call, and a sink that takes at most `put_len`.
+fn check(
+    rt: &impl Abort,
+    alloc: Global,
+    case: &Case,
+    piece_len: usize,
+    put_len: usize,
+) -> Result<(), Fail> {
+    let name = case.name;
+    let [pairs, count, changes] = case.limits;
+    let limits = Limits::new(pairs, count, changes).ok_or("a limit is out of its range")?;
+    let mut store = Store::new(alloc, limits)?;
+    let mut source = SliceSource::new(case.input, piece_len, 0);
+    let mut sink = KeepingSink::new(alloc, put_len, 0, false);
+    let options = RunOptions {
+        stop: case.stop,
+        turns: u64::MAX,
+    };
+    let end = run(alloc, &mut source, &mut sink, &mut store, options)?;
+    assert_eq!(rt;
+        sink.kept(),
+        case.output,
+        "{name}: {piece_len} in, {put_len} out"
+    );
+    assert_eq!(rt;
+        end.refused > 0,
+        case.is_refused,
+        "{name}: {piece_len} in, {put_len} out"
+    );
+    Ok(())
+}
+
+// Runs each script in small and large pieces: what it comes to does not depend on how its bytes come and go.
+fn check_all(rt: &impl Abort, alloc: Global, cases: &[Case]) -> Result<(), Fail> {
+    for case in cases {
+        check(rt, alloc, case, 1, ALL)?;
+        check(rt, alloc, case, 7, ALL)?;
+        check(rt, alloc, case, ALL, ALL)?;
+        check(rt, alloc, case, ALL, 1)?;
+    }
+    Ok(())
+}
+
+#[test]
+fn edits_undo_and_dump(rt: HostRuntime) -> Result<(), Fail> {
+    let cases = [
+        script("an empty script writes nothing", b"", b"", false),
+        script(
+            "more copies than are held are not removed",
+            b"add 04 9\nremove 04 9 2\ndump\n",
+            b"ok 1\nno NotHeld\ns2ix 1\n04 9 1\nend 1 1\n",
+            true,
+        ),
+        script(
+            "an undo brings a removed pair back",
+            b"add 04 9\nremove 04 9\nundo\ndump\n",
+            b"ok 1\nok 1\nok 1\ns2ix 1\n04 9 1\nend 1 1\n",
+            false,
+        ),
+    ];
+    check_all(&rt, rt.alloc(), &cases)
+}
+
+#[test]
+fn fields(rt: HostRuntime) -> Result<(), Fail> {
+    let cases = [
+        script(
+            "the greatest label and the greatest count are accepted, and none above them",
+            b"add 04 2147483647\nadd 04 2147483648\nadd 04 9 65535\nadd 04 9\nadd 04 9 65536\n",
+            b"ok 1\nno BadLabel\nok 1\nno TooManyCopies\nno BadCount\n",
+            true,
+        ),
+        script(
+            "no copies are no count",
+            b"add 04 9 0\n",
+            b"no BadCount\n",
+            true,
+        ),
+        script(
+            "a number may have ten digits",
+            b"add 04 0000000009\n",
+            b"ok 1\n",
+            false,
+        ),
+        script(
+            "a number has no more than ten digits",
+            b"add 04 00000000009\n",
+            b"no BadLabel\n",
+            true,
+        ),
+        script(
+            "a carriage return is white space",
+            b"add 04 9\r\n",
+            b"ok 1\n",
+            false,
+        ),
+        script(
+            "a no-break space is white space",
+            b"add\xc2\xa004\xc2\xa09\n",
+            b"ok 1\n",
+            false,
+        ),
+        script(
+            "a byte that is no UTF-8 belongs to its field",
+            b"add 04 9\xff\n",
+            b"no BadLabel\n",
+            true,
+        ),
+        script(
+            "a command is in lower case",
+            b"ADD 04 9\n",
+            b"no BadCommand\n",
+            true,
+        ),
+        script(
+            "another word is no command",
+            b"revert 1\n",
+            b"no BadCommand\n",
+            true,
+        ),
+    ];
+    check_all(&rt, rt.alloc(), &cases)
+}
+
+#[test]
+fn spellings_of_cells(rt: HostRuntime) -> Result<(), Fail> {
+    let cases = [
+        script(
+            "letters of either case spell a cell, and a number that is no cell is none",
+            b"add 2 5\nadd X 5\nadd c1 5\nadd BC 5\ndump\n",
+            b"no BadToken\nno BadToken\nno BadToken\nok 1\ns2ix 1\nbc 5 1\nend 1 1\n",
+            true,
+        ),
+        script(
+            "a token has no more than sixteen characters",
+            b"add zzzzzzzzzzzzzzzzz 5\n",
+            b"no BadToken\n",
+            true,
+        ),
+        script(
+            "a token has hexadecimal digits alone",
+            b"add 0g 5\n",
+            b"no BadToken\n",
+            true,
+        ),
+        script(
+            "zeros are no cell",
+            b"add 0000000000000000 5\n",
+            b"no BadToken\n",
+            true,
+        ),
+    ];
+    check_all(&rt, rt.alloc(), &cases)
+}
+
+#[test]
+fn limits_and_stop(rt: HostRuntime) -> Result<(), Fail> {
+    let cases = [
+        Case {
+            name: "a history of one change is full after it",
+            limits: [1_000_000, 65_535, 1],
+            stop: false,
+            input: b"add 1 1\nadd 3 1\n",
+            output: b"ok 1\nno JournalFull\n",
+            is_refused: true,
+        },
+        Case {
+            name: "a bag of one pair is full with it",
+            limits: [1, 65_535, 100_000],
+            stop: false,
+            input: b"add 1 1\nadd 3 1\n",
+            output: b"ok 1\nno TooManyPairs\n",
+            is_refused: true,
+        },
+        Case {
+            name: "the first refusal stops a run that is to stop",
+            limits: WIDE,
+            stop: true,
+            input: b"undo\nadd 1 1\n",
+            output: b"no NothingToUndo\n",
+            is_refused: true,
+        },
+    ];
+    check_all(&rt, rt.alloc(), &cases)
+}
+
+#[test]
+fn long_lines(rt: HostRuntime) -> Result<(), Fail> {
+    let comment = Vec::from_elem(rt.alloc(), b'#', 65_536)?;
+    let mut input = comment.clone()?;
+    input.extend_from_slice(b"\n#")?;
+    input.extend_from_slice(&comment)?;
+    input.extend_from_slice(b"\ndump\n")?;
+    let cases = [script(
+        "a comment may have 65,536 bytes, and with one more it is too long",
+        &input,
+        b"no LineTooLong\ns2ix 1\nend 0 0\n",
+        true,
+    )];
+    check_all(&rt, rt.alloc(), &cases)
+}
