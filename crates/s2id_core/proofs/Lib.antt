@@ -1,10 +1,18 @@
-mod Powers
-mod Zeros
-mod Places
+pub mod Powers
+pub mod Zeros
+pub mod Places
 pub mod Numbers
+pub mod Levels
+pub mod Bits
+pub mod Spans
+pub mod Nested
+pub mod Children
+mod Ancestry
+mod PathTexts
 mod Digits
 pub mod Printing
 pub mod Cells
 mod Reading
 pub mod Canonical
+
 pub mod Spelled

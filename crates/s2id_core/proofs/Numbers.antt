@@ -103,7 +103,7 @@ pub number_above : (p : Path) → 0 < number_of p
 unfolding number_of
 number_above p = let pos = four_pos (30 - length p.digits) in omega arith
 
-path_of_place-place_of : (p : Path) → IsPath p → path_of_place (length p.digits) (place_of p) ≡ p
+pub path_of_place-place_of : (p : Path) → IsPath p → path_of_place (length p.digits) (place_of p) ≡ p
 unfolding place_of
 path_of_place-place_of p h =
     let b = 4 ^ length p.digits in

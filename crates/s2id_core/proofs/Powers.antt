@@ -1,7 +1,8 @@
 -- Powers of 2 and 4, and the digits of a number.
-use Rattle.std.proofs.Common.{◌≡◌, ℕ, zero, suc, ◌+◌, ◌-◌, ◌*◌, ◌/◌, ◌%◌, ◌^◌, ◌<◌, ◌≤◌, sym, ◌∙◌, ap, refl, arith}
-use Rattle.std.proofs.Math.Nat.{pow-suc, mul-le-mul_left}
-use Rattle.std.proofs.lemmas.Nat.{pow_pos, pow-add, mod-mul-add, div-add-mod'}
+use Rattle.std.proofs.Common.{◌≡◌, ℕ, zero, suc, ◌+◌, ◌-◌, ◌*◌, ◌/◌, ◌%◌, ◌^◌, ◌<◌, ◌≤◌, inl, inr, sym, ◌∙◌, ap, refl, arith}
+use Rattle.std.proofs.Math.Nat.{pow-suc, mul-le-mul_left, mul-le-mul_right}
+use Rattle.std.proofs.lemmas.Bool.{cases_lt}
+use Rattle.std.proofs.lemmas.Nat.{pow_pos, pow_below, pow-add, mod-mul-add, div-add-mod'}
 
 pub two_step : (k : ℕ) → 2 ^ suc k ≡ 2 * 2 ^ k
 two_step k = let e = pow-suc 2 k in omega arith
@@ -60,4 +61,52 @@ pub odd_below : (q a b : ℕ) → q < 6 * a → 0 < b → (2 * q + 1) * b < 12 *
 odd_below q a b h pos =
     let le : 2 * q + 2 ≤ 12 * a = omega arith in
     let wide : b * (2 * q + 2) ≤ b * (12 * a) = mul-le-mul_left b le in
+    omega arith
+
+-- ---- products with one factor in common
+
+pub lt_of_mul : (a b w : ℕ) → a * w < b * w → a < b
+lt_of_mul a b w h = elim (cases_lt a b) [ inl lt ↦ lt | inr le ↦ absurd (let wide : b * w ≤ a * w = mul-le-mul_right w le in omega arith) ]
+
+pub four_below : (i j : ℕ) → i < j → 4 ^ i < 4 ^ j
+four_below i j h =
+    let two = pow_below (2 * i) (2 * j) (omega arith) in
+    let at_i = four_pow i in
+    let at_j = four_pow j in
+    omega arith
+
+-- a level is the finer where its width is the smaller
+pub level_from_width : (j k : ℕ) → j ≤ 30 → k ≤ 30 → 4 ^ (30 - k) ≤ 4 ^ (30 - j) → j ≤ k
+level_from_width j k hj hk h = elim (cases_lt k j) [ inl lt ↦ absurd (let less = four_below (30 - j) (30 - k) (omega arith) in omega arith) | inr le ↦ le ]
+
+-- the width of a level by that of a finer one
+pub width_split : (j k : ℕ) → j ≤ k → k ≤ 30 → 4 ^ (30 - j) ≡ 4 ^ (k - j) * 4 ^ (30 - k)
+width_split j k hj hk = ap (λ x. 4 ^ x) (let e : 30 - j ≡ k - j + (30 - k) = omega arith in e) ∙ four_add (k - j) (30 - k)
+
+-- place q has d places of width w in it, and place p is one of them
+pub run_inside : (q p d w v : ℕ) → v ≡ d * w → q * d ≤ p → p < q * d + d → (q * v ≤ p * w) × (p * w + w ≤ q * v + v)
+run_inside q p d w v e from to =
+    let low : q * d * w ≤ p * w = mul-le-mul_right w from in
+    let high : (p + 1) * w ≤ (q * d + d) * w = mul-le-mul_right w (omega arith) in
+    let qv : q * v ≡ q * d * w = ap (λ x. q * x) e ∙ turn q d w in
+    (omega arith, omega arith)
+  where
+    turn : (a b c : ℕ) → a * (b * c) ≡ a * b * c
+    turn a b c = omega arith
+
+pub inside_from_crossing : (q p d w v : ℕ) → v ≡ d * w → p * w < q * v + v → q * v < p * w + w → (q * d ≤ p) × (p < q * d + d)
+inside_from_crossing q p d w v e low high =
+    let qv : q * v ≡ q * d * w = ap (λ x. q * x) e ∙ turn q d w in
+    let from = lt_of_mul (q * d) (p + 1) w (omega arith) in
+    let to = lt_of_mul p (q * d + d) w (omega arith) in
+    (omega arith, to)
+  where
+    turn : (a b c : ℕ) → a * (b * c) ≡ a * b * c
+    turn a b c = omega arith
+
+-- no whole number of widths lies strictly within one of them
+pub none_inside : (a x w : ℕ) → a * w < x * w → x * w < a * w + w → ⊥
+none_inside a x w low high =
+    let from = lt_of_mul a x w low in
+    let to = lt_of_mul x (a + 1) w (omega arith) in
     omega arith

@@ -1,6 +1,9 @@
 pub mod Path
+pub mod Leaves
+pub mod Span
 pub mod Cell
 pub mod CellId
 pub mod Token
 pub mod TokenText
+pub mod PathTextWords
 pub mod Spelled

@@ -1,5 +1,5 @@
 -- Cells as paths on the S2 curve: a face of the cube, and a child position for each level.
-use Rattle.std.specs.Prelude.{ℕ, zero, suc, ◌+◌, ◌-◌, ◌*◌, ◌/◌, ◌%◌, ◌^◌, ◌<◌, ◌≤◌, List, [], ◌∷◌, length, All}
+use Rattle.std.specs.Prelude.{ℕ, zero, suc, ◌+◌, ◌-◌, ◌*◌, ◌/◌, ◌%◌, ◌^◌, ◌<◌, ◌≤◌, List, [], ◌∷◌, ◌++◌, length, map, take, replicate, All}
 use Rattle.std.specs.Int.{w64, trailing_zeros}
 
 -- a face, and the child positions from level 1 down
@@ -45,3 +45,24 @@ level_at n = 30 - trailing_zeros w64 n / 2
 -- the path that is read from a number: three bits of face, then two bits for each level
 unfoldable pub path_at : ℕ → Path
 path_at n = record { face = n / 2 ^ 61; digits = last_digits (level_at n) (n / 2 ^ (61 - 2 * level_at n)) }
+
+-- ---- cells above and below
+
+-- the cell of level k that a cell of level k or finer lies in
+unfoldable pub ancestor : ℕ → Path → Path
+ancestor k p = record { face = p.face; digits = take k p.digits }
+
+-- the child at position d
+unfoldable pub child : ℕ → Path → Path
+child d p = record { face = p.face; digits = p.digits ++ d ∷ [] }
+
+-- the first and the last leaf of a cell along the curve
+unfoldable pub first_leaf : Path → Path
+first_leaf p = record { face = p.face; digits = p.digits ++ replicate (30 - length p.digits) 0 }
+
+unfoldable pub last_leaf : Path → Path
+last_leaf p = record { face = p.face; digits = p.digits ++ replicate (30 - length p.digits) 3 }
+
+-- the face, a slash (47), and the child positions from level 1 down, in digits (`0` is 48)
+unfoldable pub readable_path : Path → List ℕ
+readable_path p = (48 + p.face) ∷ 47 ∷ map (λ d. 48 + d) p.digits

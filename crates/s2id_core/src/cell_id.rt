@@ -1,4 +1,4 @@
-ghost use Rattle.std.specs.Prelude.{◌≡◌, ℕ, ◌↔◌, IsSome, IfSome};
+ghost use Rattle.std.specs.Prelude.{◌≡◌, ℕ, ◌↔◌, ◌-◌, ◌*◌, ◌^◌, ◌<◌, ◌≤◌, IsTrue, IsSome, IfSome};
 ghost use Rattle.s2id_core.specs.Cell.{IsCellNumber};
 
 /// The number after that of the last leaf: an end for runs of leaves, and no cell's number.
@@ -14,7 +14,8 @@ pub struct CellId {
 }
 
 impl CellId {
-    ghost use Rattle.s2id_core.specs.CellId.{raw_of};
+    ghost use Rattle.s2id_core.specs.Path.{place_of, ancestor};
+    ghost use Rattle.s2id_core.specs.CellId.{raw_of, path_of, face_of, level_of};
 
     /// The cell of a number, or `None` where no cell has it (S2's constructor and `is_valid`).
     pub fn from_raw(raw: u64) -> Option<CellId>
@@ -35,11 +36,63 @@ impl CellId {
     {
         self.raw
     }
+
+    /// The face, 0 to 5 (S2's `face()`).
+    pub fn face(self) -> u8
+        ensures { result ≡ face_of self }
+    {
+        (self.raw >> 61) as u8
+    }
+
+    /// The level, 0 for a whole face to 30 for a leaf (S2's `level()`).
+    pub fn level(self) -> u8
+        ensures level { result ≡ level_of self }
+        ensures at_most { result ≤ 30 }
+    {
+        30 - (self.raw.trailing_zeros() / 2) as u8
+    }
+
+    /// The lowest 1 of the number, by itself: how many leaves the cell has (S2's `lsb()`).
+    pub fn lsb(self) -> u64
+        ensures { result ≡ 4 ^ (30 - level_of self) }
+    {
+        1 << self.raw.trailing_zeros()
+    }
+
+    /// Whether the cell is of level 30 (S2's `is_leaf()`).
+    pub fn is_leaf(self) -> bool
+        ensures { IsTrue result ↔ (level_of self ≡ 30) }
+    {
+        self.raw % 2 == 1
+    }
+
+    // Which cell of a level, counted along the whole curve, this cell lies in.
+    pub(crate) fn place_at(self, level: u8) -> u64
+        requires { level ≤ level_of self }
+        ensures place { result ≡ place_of (ancestor level (path_of self)) }
+        ensures bound { result < 6 * 4 ^ level }
+        ensures fits { result < 6 * 2 ^ 60 }
+    {
+        self.raw >> (61 - 2 * level)
+    }
+
+    // The cell at a place of a level, counted along the whole curve.
+    pub(crate) fn at_place(level: u8, place: u64) -> CellId
+        requires fine { level ≤ 30 }
+        requires within { place < 6 * 4 ^ level }
+        ensures level { level_of result ≡ level }
+        ensures place { place_of (path_of result) ≡ place }
+    {
+        CellId {
+            raw: (2 * place + 1) << (60 - 2 * level),
+        }
+    }
 }
 
 #[cfg(test)]
 mod tests {
     use super::*;
+    use std::test::Fail;
 
     #[test]
     fn from_raw_takes_cells_alone(rt: HostRuntime) {
@@ -48,5 +101,20 @@ mod tests {
         assert!(rt; CellId::from_raw(0).is_none());
         assert!(rt; CellId::from_raw(0x2000000000000000).is_none());
         assert!(rt; CellId::from_raw(LEAF_END).is_none());
+    }
+
+    #[test]
+    fn face_level_and_lowest_bit(rt: HostRuntime) -> Result<(), Fail> {
+        let cell = CellId::from_token(b"1d")?;
+        assert_eq!(rt; cell.face(), 0);
+        assert_eq!(rt; cell.level(), 2);
+        assert_eq!(rt; cell.lsb(), 0x0100000000000000);
+        assert!(rt; !cell.is_leaf());
+        let leaf = CellId::from_token(b"bfffffffffffffff")?;
+        assert_eq!(rt; leaf.face(), 5);
+        assert_eq!(rt; leaf.level(), 30);
+        assert_eq!(rt; leaf.lsb(), 1);
+        assert!(rt; leaf.is_leaf());
+        Ok(())
     }
 }

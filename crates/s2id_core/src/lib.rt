@@ -1,11 +1,15 @@
-//! Cells of the S2 curve: their 64-bit numbers and their tokens.
+//! Cells of the S2 curve: their 64-bit numbers, their tokens and their paths.
 #![tactic(auto)]
 
 mod cell_id;
 pub mod laws;
 mod memory;
+mod path;
+mod range;
+mod relatives;
 mod token;
 
 pub use cell_id::{CellId, LEAF_END};
 pub use memory::OutOfMemory;
+pub use path::PathText;
 pub use token::{Token, TokenError};

@@ -2,7 +2,7 @@
 use Rattle.std.proofs.Common.{◌≡◌, ℕ, ◌+◌, ◌*◌, ◌<◌, ◌≤◌, ◌↔◌, ◌⊎◌, inl, inr, ⊎_elim, ap, ap₂, subst, arith}
 use Rattle.std.proofs.lemmas.Bool.{cases_lt}
 use denote.Struct.Props.{props}
-use Rattle.s2id_core.specs.Cell.{IsCellNumber}
+use Rattle.s2id_core.proofs.Cells.{same_cell}
 use Rattle.s2id_core.specs.CellId.{raw_of}
 use Rattle.s2id_core.specs.declared.cell_id.CellId.{CellId}
 use Rattle.s2ix_bag.specs.Label.{value_of}
@@ -12,18 +12,8 @@ use Rattle.s2ix_bag.specs.declared.label.Label.{Label}
 use Rattle.s2ix_bag.specs.declared.pair.Pair.{Pair}
 use Rattle.s2ix_bag.specs.declared.pair.Held.{Held}
 
-IsCellNumber-prop : (n : ℕ) → IsProp (IsCellNumber n)
-IsCellNumber-prop n = hlevel props
-
 in_range-prop : (n : ℕ) → IsProp (n ≤ 2147483647)
 in_range-prop n = hlevel props
-
--- cells with equal numbers are equal
-pub same_cell : (c d : CellId) → raw_of c ≡ raw_of d → c ≡ d
-same_cell c d e =
-    let Same : ℕ → Type 0 = λ n. (v : IsCellNumber n) → c ≡ record { raw = n; valid = v } in
-    let at_own : Same (raw_of c) = λ v. ap (λ (w : IsCellNumber (raw_of c)). let made : CellId = record { raw = raw_of c; valid = w } in made) (IsCellNumber-prop (raw_of c) c.valid v) in
-    subst Same e at_own d.valid
 
 -- labels with equal numbers are equal
 pub same_label : (l m : Label) → value_of l ≡ value_of m → l ≡ m

@@ -43,14 +43,29 @@ edit_of edit (Err fault) = Err fault
 abbrev pub edit_asked : (Pair → ℕ → Edit) → List (List ℕ) → Result Command LineFault
 edit_asked edit fields = edit_of edit (pair_asked fields)
 
+-- the cell that the one field TOKEN names
+abbrev pub cell_with : Option CellId → Result CellId LineFault
+cell_with None = Err BadToken
+cell_with (Some cell) = Ok cell
+
+abbrev pub cell_asked : List (List ℕ) → Result CellId LineFault
+cell_asked (token ∷ []) = cell_with (cell_spelled token)
+cell_asked fields = Err BadArguments
+
+-- a command on the cell that the fields name
+abbrev pub of_cell : (CellId → Command) → Result CellId LineFault → Result Command LineFault
+of_cell asked (Ok cell) = Ok (asked cell)
+of_cell asked (Err fault) = Err fault
+
 -- the command that a word and the fields behind it ask for
 abbrev pub command_asked : List ℕ → List (List ℕ) → Result Command LineFault
 command_asked word fields =
     if bytes_eq word (codes "add") then edit_asked Add fields
     else (if bytes_eq word (codes "remove") then edit_asked Remove fields
     else (if bytes_eq word (codes "undo") then bare command.Undo fields
+    else (if bytes_eq word (codes "path") then of_cell command.Path (cell_asked fields)
     else (if bytes_eq word (codes "dump") then bare command.Dump fields
-    else Err BadCommand)))
+    else Err BadCommand))))
 
 -- an answer in place of nothing
 abbrev pub asked : Result Command LineFault → Result (Option Command) LineFault

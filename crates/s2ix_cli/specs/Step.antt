@@ -2,6 +2,9 @@
 use Rattle.std.specs.Prelude.{ℕ, codes, decimal, Bool, true, false, Option, Some, None, Result, Ok, Err, List, [], ◌∷◌, length}
 use Rattle.std.specs.List.{concat}
 use Rattle.s2ix_bag.specs.declared.pair.Entry.{Entry}
+use Rattle.s2id_core.specs.declared.cell_id.CellId.{CellId}
+use Rattle.s2id_core.specs.CellId.{path_of}
+use Rattle.s2id_core.specs.Path.{readable_path}
 use Rattle.s2ix_edit.specs.declared.edit.Edit.{Edit}
 use Rattle.s2ix_edit.specs.declared.errors.EditError.{EditError}
 use Rattle.s2ix_edit.specs.History.{State, after_edit, after_undo, change_of, last_done, undo_size}
@@ -31,6 +34,10 @@ no_line name = concat (codes "no " ∷ name ∷ codes "\n" ∷ [])
 -- what an accepted line prints, where it changes the counts of n pairs
 abbrev pub ok_line : ℕ → List ℕ
 ok_line n = concat (codes "ok " ∷ decimal n ∷ codes "\n" ∷ [])
+
+-- the line of a cell's path
+abbrev pub path_line : CellId → List ℕ
+path_line cell = concat (readable_path (path_of cell) ∷ codes "\n" ∷ [])
 
 -- a line that changes nothing and prints why
 abbrev pub refused : State → List ℕ → Step
@@ -66,6 +73,7 @@ undo_step s = undo_step_at s (last_done s)
 abbrev pub command_step : State → Command → Step
 command_step s (command.Edit edit) = edit_step s edit
 command_step s command.Undo = undo_step s
+command_step s (command.Path cell) = shown s (path_line cell)
 command_step s command.Dump = shown s (dump_text s.bag.held)
 
 -- what a line of this meaning comes to

@@ -2,9 +2,10 @@
 ghost use Rattle.std.specs.Prelude.{◌≡◌, ◌+◌, ◌-◌, ◌^◌, ◌<◌};
 ghost use Rattle.s2ix_text.specs.Faults.{write_faults};
 ghost use Rattle.s2ix_text.specs.Puts.{Puts};
-ghost use Rattle.s2ix_cli.specs.Step.{no_line, ok_line};
+ghost use Rattle.s2ix_cli.specs.Step.{no_line, ok_line, path_line};
 
 use itoa::Buffer;
+use s2id_core::CellId;
 use s2ix_text::{Sink, WriteFault, put_parts};
 
 // Prints that a line is refused, and why.
@@ -25,4 +26,14 @@ pub(crate) fn put_ok<K: Sink>(sink: &mut K, pairs: usize) -> Result<(), WriteFau
     let mut buffer = Buffer::new();
     let number = buffer.format(pairs);
     put_parts(sink, &[b"ok ", number.as_bytes(), b"\n"])
+}
+
+// Prints a cell's path.
+pub(crate) fn put_path<K: Sink>(sink: &mut K, cell: CellId) -> Result<(), WriteFault>
+    requires { K.fault_count sink.old < 2 ^ 64 - 1 }
+    ensures puts { Puts (K.taken sink.old) (K.taken sink.new) result (path_line cell) }
+    ensures faults { K.fault_count sink.new ≡ K.fault_count sink.old + write_faults result }
+{
+    let path = cell.path();
+    put_parts(sink, &[path.as_bytes(), b"\n"])
 }

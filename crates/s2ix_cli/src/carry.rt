@@ -4,7 +4,7 @@ ghost use Rattle.s2ix_cli.specs.Carry.{Carries};
 ghost use Rattle.s2ix_cli.specs.Faults.{sink_faults};
 ghost use Rattle.s2ix_cli.specs.Step.{command_step, edit_step, step_of, undo_step};
 
-use crate::answer::{put_no, put_ok};
+use crate::answer::{put_no, put_ok, put_path};
 use crate::command::Command;
 use crate::names::edit_error_name;
 use crate::outcome::{LineOutcome, RunFault};
@@ -48,6 +48,10 @@ fn carry_command<K: Sink>(
     match command {
         Command::Edit(edit) => carry_edit(store, sink, edit),
         Command::Undo => carry_undo(store, sink),
+        Command::Path(cell) => {
+            put_path(sink, cell)?;
+            Ok(LineOutcome::Accepted)
+        }
         Command::Dump => {
             write_dump(store.bag(), sink)?;
             Ok(LineOutcome::Accepted)

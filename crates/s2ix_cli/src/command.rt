@@ -1,3 +1,4 @@
+use s2id_core::CellId;
 use s2ix_edit::Edit;
 
 /// What a line of a script asks for.
@@ -7,6 +8,8 @@ pub enum Command {
     Edit(Edit),
     /// `undo`.
     Undo,
+    /// `path`.
+    Path(CellId),
     /// `dump`.
     Dump,
 }

@@ -1,6 +1,6 @@
 //! What a line of a script asks for.
 ghost use Rattle.std.specs.Prelude.{◌≡◌, ℕ, List};
-ghost use Rattle.s2ix_cli.specs.Meaning.{bare as bare_of, command_asked as command_of, meaning_of, meaning_of_fields as meaning_by_fields, pair_asked as pair_of};
+ghost use Rattle.s2ix_cli.specs.Meaning.{bare as bare_of, cell_asked as cell_of, command_asked as command_of, meaning_of, meaning_of_fields as meaning_by_fields, pair_asked as pair_of};
 
 use crate::command::{Command, LineFault};
 use crate::numbers::{copies_spelled, label_spelled};
@@ -50,6 +50,8 @@ fn command_asked(word: &[u8], fields: Fields<'_>) -> Result<Command, LineFault>
         Ok(Command::Edit(Edit::Remove { pair, copies }))
     } else if word == b"undo".as_slice() {
         bare(Command::Undo, fields)
+    } else if word == b"path".as_slice() {
+        Ok(Command::Path(cell_asked(fields)?))
     } else if word == b"dump".as_slice() {
         bare(Command::Dump, fields)
     } else {
@@ -65,6 +67,19 @@ fn bare(asked: Command, mut fields: Fields<'_>) -> Result<Command, LineFault>
         None => Ok(asked),
         Some(_) => Err(LineFault::BadArguments),
     }
+}
+
+// The cell that the one field TOKEN names.
+fn cell_asked(mut fields: Fields<'_>) -> Result<CellId, LineFault>
+    ensures { result ≡ cell_of fields.entry }
+{
+    let Some(token) = fields.next() else {
+        return Err(LineFault::BadArguments);
+    };
+    if fields.next().is_some() {
+        return Err(LineFault::BadArguments);
+    }
+    CellId::from_token(token).map_err(|_| LineFault::BadToken)
 }
 
 // The pair and the copies that the fields TOKEN LABEL or TOKEN LABEL COPIES name.

@@ -10,3 +10,5 @@ mod fault_tests;
 mod script_tests;
 #[cfg(test)]
 mod store_tests;
+#[cfg(test)]
+mod union_tests;

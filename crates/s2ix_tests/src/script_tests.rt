@@ -230,16 +230,54 @@ fn limits_and_stop(rt: HostRuntime) -> Result<(), Fail> {
 
 #[test]
 fn long_lines(rt: HostRuntime) -> Result<(), Fail> {
-    let comment = Vec::from_elem(rt.alloc(), b'#', 65_536)?;
-    let mut input = comment.clone()?;
-    input.extend_from_slice(b"\n#")?;
-    input.extend_from_slice(&comment)?;
-    input.extend_from_slice(b"\ndump\n")?;
-    let cases = [script(
-        "a comment may have 65,536 bytes, and with one more it is too long",
-        &input,
-        b"no LineTooLong\ns2ix 1\nend 0 0\n",
-        true,
-    )];
+    let mut longest = Vec::from_elem(rt.alloc(), b'#', 65_536)?;
+    longest.extend_from_slice(b"\ndump\n")?;
+    let mut too_long = Vec::from_elem(rt.alloc(), b'#', 65_537)?;
+    too_long.extend_from_slice(b"\ndump\n")?;
+    let cases = [
+        script(
+            "a comment may have 65,536 bytes",
+            &longest,
+            b"s2ix 1\nend 0 0\n",
+            false,
+        ),
+        script(
+            "a line with one byte more is too long, though it is a comment",
+            &too_long,
+            b"no LineTooLong\ns2ix 1\nend 0 0\n",
+            true,
+        ),
+    ];
+    check_all(&rt, rt.alloc(), &cases)
+}
+
+#[test]
+fn paths(rt: HostRuntime) -> Result<(), Fail> {
+    let cases = [
+        script(
+            "a path is the face and the child positions",
+            b"path 1\npath 3\npath 04\npath 1d\npath bc\npath 94\n",
+            b"0/\n1/\n0/0\n0/32\n5/3\n4/2\n",
+            false,
+        ),
+        script(
+            "a leaf has thirty positions",
+            b"path 0000000000000001\npath 9555555555555555\n",
+            b"0/000000000000000000000000000000\n4/222222222222222222222222222222\n",
+            false,
+        ),
+        script(
+            "any spelling of a cell has its path",
+            b"path BC\npath bc00\n",
+            b"5/3\n5/3\n",
+            false,
+        ),
+        script(
+            "a path is of one cell",
+            b"path X\npath\npath 1 3\n",
+            b"no BadToken\nno BadArguments\nno BadArguments\n",
+            true,
+        ),
+    ];
     check_all(&rt, rt.alloc(), &cases)
 }

@@ -1,0 +1,147 @@
+// Ancestors, children and neighbours along the curve.
+
+ghost use Rattle.std.specs.Prelude.{◌≡◌, ◌↔◌, ◌+◌, ◌-◌, ◌*◌, ◌%◌, ◌^◌, ◌<◌, ◌≤◌, IsSome, IfSome, slice_get, slice_index};
+
+use crate::cell_id::CellId;
+
+impl CellId {
+    ghost use Rattle.s2id_core.specs.Path.{place_of, ancestor, child};
+    ghost use Rattle.s2id_core.specs.Leaves.{IsCommonLevel};
+    ghost use Rattle.s2id_core.specs.CellId.{path_of, face_of, level_of};
+
+    /// The cell of a level that this cell lies in, itself at its own level; `None` for a finer level (S2's `parent()`).
+    pub fn parent(self, level: u8) -> Option<CellId>
+        ensures found { IsSome result ↔ (level ≤ level_of self) }
+        ensures path { IfSome result (λ cell. path_of cell ≡ ancestor level (path_of self)) }
+    {
+        if level > self.level() {
+            None
+        } else {
+            Some(CellId::at_place(level, self.place_at(level)))
+        }
+    }
+
+    /// The child at a position, 0 to 3 along the curve; `None` for a leaf and for another position (S2's `child()`).
+    pub fn child(self, position: u8) -> Option<CellId>
+        ensures found { IsSome result ↔ ((level_of self < 30) × (position < 4)) }
+        ensures path { IfSome result (λ cell. path_of cell ≡ child position (path_of self)) }
+    {
+        let level = self.level();
+        if level == 30 || position > 3 {
+            None
+        } else {
+            Some(CellId::at_place(level + 1, 4 * self.place_at(level) + position as u64))
+        }
+    }
+
+    /// The position, among its siblings, of the cell of a level that this cell lies in; `None` for level 0 and for a
+    /// finer level (S2's `child_position()`).
+    pub fn child_position(self, level: u8) -> Option<u8>
+        ensures found { IsSome result ↔ ((0 < level) × (level ≤ level_of self)) }
+        ensures digit { IfSome result (λ position.
+            slice_get (path_of self).digits (level - 1) ≡ Some position) }
+    {
+        if level == 0 || level > self.level() {
+            None
+        } else {
+            Some(self.digit(level))
+        }
+    }
+
+    /// The next cell of its level along the curve, where the first of face 0 comes after the last of face 5
+    /// (S2's `next_wrap()`).
+    pub fn next_wrap(self) -> CellId
+        ensures level { level_of result ≡ level_of self }
+        ensures place { place_of (path_of result)
+            ≡ (place_of (path_of self) + 1) % (6 * 4 ^ level_of self) }
+    {
+        let level = self.level();
+        let next = self.place_at(level) + 1;
+        CellId::at_place(level, if next == 6 << (2 * level) { 0 } else { next })
+    }
+
+    /// The level of the smallest cell that contains both; `None` for cells of two faces
+    /// (S2's `GetCommonAncestorLevel()`).
+    pub fn common_level(self, other: CellId) -> Option<u8>
+        ensures found { IsSome result ↔ (face_of self ≡ face_of other) }
+        ensures value { IfSome result (IsCommonLevel (path_of self) (path_of other)) }
+    {
+        if self.face() != other.face() {
+            return None;
+        }
+        let level = self.level().min(other.level());
+        let apart = self.place_at(level) ^ other.place_at(level);
+        Some(level - ((65 - apart.leading_zeros()) / 2) as u8)
+    }
+
+    // The digit of a level: the position of the cell of that level among its siblings.
+    pub(crate) fn digit(self, level: u8) -> u8
+        requires below_face { 0 < level }
+        requires fine { level ≤ level_of self }
+        ensures value { result ≡ slice_index (path_of self).digits (level - 1) }
+        ensures bound { result < 4 }
+    {
+        (self.place_at(level) & 3) as u8
+    }
+}
+
+#[cfg(test)]
+mod tests {
+    use super::*;
+    use std::test::Fail;
+
+    #[test]
+    fn parents(rt: HostRuntime) -> Result<(), Fail> {
+        let cell = CellId::from_token(b"1d")?;
+        assert_eq!(rt; cell.parent(1), Some(CellId::from_token(b"1c")?));
+        assert_eq!(rt; cell.parent(2), Some(cell));
+        assert_eq!(rt; cell.parent(3), None);
+        Ok(())
+    }
+
+    #[test]
+    fn children(rt: HostRuntime) -> Result<(), Fail> {
+        let face = CellId::from_token(b"1")?;
+        assert_eq!(rt; face.child(3), Some(CellId::from_token(b"1c")?));
+        assert_eq!(rt; face.child(4), None);
+        assert_eq!(rt; CellId::from_token(b"0000000000000001")?.child(0), None);
+        Ok(())
+    }
+
+    #[test]
+    fn child_positions(rt: HostRuntime) -> Result<(), Fail> {
+        let cell = CellId::from_token(b"1d")?;
+        assert_eq!(rt; cell.child_position(0), None);
+        assert_eq!(rt; cell.child_position(1), Some(3));
+        assert_eq!(rt; cell.child_position(2), Some(2));
+        assert_eq!(rt; cell.child_position(3), None);
+        Ok(())
+    }
+
+    #[test]
+    fn next_cells(rt: HostRuntime) -> Result<(), Fail> {
+        assert_eq!(rt;
+            CellId::from_token(b"1")?.next_wrap(),
+            CellId::from_token(b"3")?
+        );
+        assert_eq!(rt;
+            CellId::from_token(b"b")?.next_wrap(),
+            CellId::from_token(b"1")?
+        );
+        let last = CellId::from_token(b"bfffffffffffffff")?;
+        assert_eq!(rt; last.next_wrap(), CellId::from_token(b"0000000000000001")?);
+        Ok(())
+    }
+
+    #[test]
+    fn common_levels(rt: HostRuntime) -> Result<(), Fail> {
+        let cell = CellId::from_token(b"1d")?;
+        assert_eq!(rt; CellId::from_token(b"04")?.common_level(cell), Some(0));
+        assert_eq!(rt; cell.common_level(CellId::from_token(b"1c")?), Some(1));
+        assert_eq!(rt;
+            CellId::from_token(b"1")?.common_level(CellId::from_token(b"3")?),
+            None
+        );
+        Ok(())
+    }
+}

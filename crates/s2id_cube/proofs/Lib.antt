@@ -1,0 +1,9 @@
+mod Cases
+mod Quadrants
+pub mod Squares
+mod CellPlaces
+pub mod Grid
+mod Beside
+pub mod Sides
+pub mod Shared
+mod Loop

@@ -1,0 +1,38 @@
+use Rattle.std.proofs.Common.{◌≡◌, ◌-◌, ◌*◌, ◌/◌, ◌%◌, ◌^◌, ◌∙◌, ap, arith}
+use Rattle.s2id_core.specs.CellId.{path_of}
+use Rattle.s2id_core.proofs.Numbers.{path_of_cell}
+use Rattle.s2id_cube.specs.Square.{quarter}
+use Rattle.s2id_cube.proofs.Squares.{first_is, last_is, cell_fits, square_fits, square_step}
+use Rattle.s2id_cube.proofs.face_ij.to_face_ij.Goals as goal
+
+pub loop-step-init : goal.loop-step-init
+loop-step-init c =
+    first_is (path_of c.args.cell) (path_of_cell c.args.cell.raw c.args.cell.valid) _ c.face.result _ _ c.face_square-square.ensures c.face.ensures c.level-level.ensures.level c.place_in_level-place.ensures
+
+pub child_square-square-requires-clause-i : goal.child_square-square-requires-clause-i
+child_square-square-requires-clause-i c =
+    let f = cell_fits (path_of c.args.cell) (path_of_cell c.args.cell.raw c.args.cell.valid) c.level-level.result c.place_in_level-place.result c.level-level.ensures.level c.place_in_level-place.ensures in
+    (square_fits c.place_in_level-place.result c.level-level.result c.loop-step.step f.0 (omega arith) f.1 c.loop-step.square c.loop-step.invariant).0
+
+pub child_square-square-requires-clause-j : goal.child_square-square-requires-clause-j
+child_square-square-requires-clause-j c =
+    let f = cell_fits (path_of c.args.cell) (path_of_cell c.args.cell.raw c.args.cell.valid) c.level-level.result c.place_in_level-place.result c.level-level.ensures.level c.place_in_level-place.ensures in
+    (square_fits c.place_in_level-place.result c.level-level.result c.loop-step.step f.0 (omega arith) f.1 c.loop-step.square c.loop-step.invariant).1
+
+pub child_square-square-requires-clause-level : goal.child_square-square-requires-clause-level
+child_square-square-requires-clause-level c =
+    let f = cell_fits (path_of c.args.cell) (path_of_cell c.args.cell.raw c.args.cell.valid) c.level-level.result c.place_in_level-place.result c.level-level.ensures.level c.place_in_level-place.ensures in
+    (square_fits c.place_in_level-place.result c.level-level.result c.loop-step.step f.0 (omega arith) f.1 c.loop-step.square c.loop-step.invariant).2
+
+pub child_square-square-requires-clause-orientation : goal.child_square-square-requires-clause-orientation
+child_square-square-requires-clause-orientation c =
+    let f = cell_fits (path_of c.args.cell) (path_of_cell c.args.cell.raw c.args.cell.valid) c.level-level.result c.place_in_level-place.result c.level-level.ensures.level c.place_in_level-place.ensures in
+    (square_fits c.place_in_level-place.result c.level-level.result c.loop-step.step f.0 (omega arith) f.1 c.loop-step.square c.loop-step.invariant).3
+
+pub loop-step-preserved : goal.loop-step-preserved
+loop-step-preserved c =
+    c.child_square-square.ensures ∙ ap (λ s. quarter (c.place_in_level-place.result / 2 ^ (2 * (c.level-level.result - 1 - c.loop-step.step)) % 4) s) c.loop-step.invariant ∙ square_step c.place_in_level-place.result c.level-level.result c.loop-step.step (omega arith)
+
+pub returns : goal.returns
+returns c =
+    last_is (path_of c.args.cell) (path_of_cell c.args.cell.raw c.args.cell.valid) c.loop-step.square c.loop-step.step c.level-level.result c.place_in_level-place.result c.loop-step.invariant (omega arith) c.level-level.ensures.level c.place_in_level-place.ensures

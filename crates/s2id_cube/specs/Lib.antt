@@ -1,0 +1,4 @@
+pub mod Square
+pub mod Point
+pub mod Edge
+pub mod Grid

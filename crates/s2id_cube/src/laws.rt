@@ -1,0 +1,15 @@
+//! What holds of squares and shared edges, whatever code runs.
+
+ghost use Rattle.std.specs.Prelude.{◌≡◌, ℕ, ◌+◌, ◌*◌, ◌%◌, ◌^◌, length};
+ghost use Rattle.s2id_core.specs.Path.{Path, IsPath, place_of};
+ghost use Rattle.s2id_cube.specs.Edge.{ShareEdge};
+
+/// The curve is one closed loop: a cell and the next cell of its level along the curve share an edge, at every level.
+pub fn next_cell_shares_edge()
+    ensures { (p q : Path)
+        → IsPath p
+        → IsPath q
+        → length p.digits ≡ length q.digits
+        → place_of q ≡ (place_of p + 1) % (6 * 4 ^ length p.digits)
+        → ShareEdge p q }
+{}

@@ -1,0 +1,204 @@
+ghost use Rattle.std.specs.Prelude.{◌≡◌, ℕ, ◌+◌, ◌^◌, ◌<◌, ◌≤◌, slice_index_or};
+ghost use Rattle.s2id_core.specs.Path.{Path, IsPath};
+ghost use Rattle.s2id_core.specs.CellId.{path_of};
+ghost use Rattle.s2id_cube.specs.Square.{square_of};
+ghost use Rattle.s2id_cube.specs.Edge.{SharesSide, ShareEdge};
+ghost use Rattle.s2id_cube.specs.Grid.{IsBeside, column_on, row_on};
+
+use crate::face_ij::{FaceIj, from_face_ij, to_face_ij};
+use s2id_core::CellId;
+
+/// The face over each side of a face, in the order down, right, up, left, four for each face.
+const FACES_OVER: [u8; 24] = [
+    5, 1, 2, 4, 5, 3, 2, 0, 1, 3, 4, 0, 1, 5, 4, 2, 3, 5, 0, 2, 3, 1, 0, 4,
+];
+
+/// The side of that face, and 1 where the places along the two sides run against each other.
+const SIDES_OVER: [u8; 24] = [
+    2, 3, 3, 2, 1, 0, 0, 1, 2, 3, 3, 2, 1, 0, 0, 1, 2, 3, 3, 2, 1, 0, 0, 1,
+];
+
+const REVERSALS: [u8; 24] = [
+    0, 0, 1, 1, 1, 1, 0, 0, 0, 0, 1, 1, 1, 1, 0, 0, 0, 0, 1, 1, 1, 1, 0, 0,
+];
+
+/// The cells of the cell's level that share an edge with it: down (`j` less), right (`i` more), up (`j` more) and
+/// left (`i` less), over the edges of the cube too (S2's `GetEdgeNeighbors`). One step for each level and cell.
+pub fn edge_neighbors(cell: CellId) -> [CellId; 4]
+    ensures sides { (side : ℕ)
+        → side < 4
+        → SharesSide side (path_of cell) (path_of (slice_index_or result side cell)) }
+    ensures only { (other : Path)
+        → IsPath other
+        → ShareEdge (path_of cell) other
+        → (side : ℕ) × (side < 4) × (path_of (slice_index_or result side cell) ≡ other) }
+{
+    let square = to_face_ij(cell);
+    [
+        neighbor(square, 0),
+        neighbor(square, 1),
+        neighbor(square, 2),
+        neighbor(square, 3),
+    ]
+}
+
+fn neighbor(square: FaceIj, side: u8) -> CellId
+    requires face { square.face < 6 }
+    requires level { square.level ≤ 30 }
+    requires column { square.i < 2 ^ square.level }
+    requires row { square.j < 2 ^ square.level }
+    requires side { side < 4 }
+    ensures level { (square_of (path_of result)).level ≡ square.level }
+    ensures beside { let other = square_of (path_of result)
+        in IsBeside (2 ^ square.level) side square.face square.i square.j other.face other.i other.j }
+{
+    let last = (1 << square.level) - 1;
+    let (face, i, j) = beside(square.face, square.i, square.j, last, side);
+    from_face_ij(face, i, j, square.level).unwrap()
+}
+
+fn beside(face: u8, i: u32, j: u32, last: u32, side: u8) -> (u8, u32, u32)
+    requires face { face < 6 }
+    requires column { i ≤ last }
+    requires row { j ≤ last }
+    requires last { last < 2 ^ 30 }
+    requires side { side < 4 }
+    ensures { IsBeside (last + 1) side face i j result.0 result.1 result.2 }
+{
+    if side == 0 {
+        if j > 0 {
+            (face, i, j - 1)
+        } else {
+            over_edge(face, 0, i, last)
+        }
+    } else if side == 1 {
+        if i < last {
+            (face, i + 1, j)
+        } else {
+            over_edge(face, 1, j, last)
+        }
+    } else if side == 2 {
+        if j < last {
+            (face, i, j + 1)
+        } else {
+            over_edge(face, 2, i, last)
+        }
+    } else {
+        if i > 0 {
+            (face, i - 1, j)
+        } else {
+            over_edge(face, 3, j, last)
+        }
+    }
+}
+
+fn over_edge(face: u8, side: u8, along: u32, last: u32) -> (u8, u32, u32)
+    requires face { face < 6 }
+    requires side { side < 4 }
+    requires along { along ≤ last }
+    ensures { IsBeside (last + 1) side face (column_on side along last) (row_on side along last) result.0 result.1 result.2 }
+{
+    let edge = (4 * face + side) as usize;
+    let place = if REVERSALS[edge] == 0 {
+        along
+    } else {
+        last - along
+    };
+    let (i, j) = on_side(SIDES_OVER[edge], place, last);
+    (FACES_OVER[edge], i, j)
+}
+
+fn on_side(side: u8, along: u32, last: u32) -> (u32, u32)
+    requires side { side < 4 }
+    ensures column { result.0 ≡ column_on side along last }
+    ensures row { result.1 ≡ row_on side along last }
+{
+    match side {
+        0 => (along, 0),
+        1 => (last, along),
+        2 => (along, last),
+        _ => (0, along),
+    }
+}
+
+#[cfg(test)]
+mod tests {
+    use super::*;
+    use std::test::Fail;
+
+    #[test]
+    fn neighbors_lie_down_right_up_left(rt: HostRuntime) -> Result<(), Fail> {
+        for (token, down, right, up, left) in [
+            (
+                b"1".as_slice(),
+                b"b".as_slice(),
+                b"3".as_slice(),
+                b"5".as_slice(),
+                b"9".as_slice(),
+            ),
+            (
+                b"3".as_slice(),
+                b"b".as_slice(),
+                b"7".as_slice(),
+                b"5".as_slice(),
+                b"1".as_slice(),
+            ),
+            (
+                b"5".as_slice(),
+                b"3".as_slice(),
+                b"7".as_slice(),
+                b"9".as_slice(),
+                b"1".as_slice(),
+            ),
+            (
+                b"7".as_slice(),
+                b"3".as_slice(),
+                b"b".as_slice(),
+                b"9".as_slice(),
+                b"5".as_slice(),
+            ),
+            (
+                b"9".as_slice(),
+                b"7".as_slice(),
+                b"b".as_slice(),
+                b"1".as_slice(),
+                b"5".as_slice(),
+            ),
+            (
+                b"b".as_slice(),
+                b"7".as_slice(),
+                b"3".as_slice(),
+                b"1".as_slice(),
+                b"9".as_slice(),
+            ),
+            (
+                b"04".as_slice(),
+                b"bc".as_slice(),
+                b"1c".as_slice(),
+                b"0c".as_slice(),
+                b"94".as_slice(),
+            ),
+            (
+                b"1d".as_slice(),
+                b"b7".as_slice(),
+                b"1f".as_slice(),
+                b"1b".as_slice(),
+                b"03".as_slice(),
+            ),
+            (
+                b"0000000000000001".as_slice(),
+                b"bfffffffffffffff".as_slice(),
+                b"0000000000000003".as_slice(),
+                b"0000000000000007".as_slice(),
+                b"9555555555555555".as_slice(),
+            ),
+        ] {
+            let neighbors = edge_neighbors(CellId::from_token(token)?);
+            assert_eq!(rt; neighbors[0], CellId::from_token(down)?);
+            assert_eq!(rt; neighbors[1], CellId::from_token(right)?);
+            assert_eq!(rt; neighbors[2], CellId::from_token(up)?);
+            assert_eq!(rt; neighbors[3], CellId::from_token(left)?);
+        }
+        Ok(())
+    }
+}

@@ -1,0 +1,143 @@
+-- A list that grows by the greatest cells of a run of leaves.
+use Rattle.std.proofs.Common.{◌≡◌, ◌↔◌, ℕ, suc, ◌+◌, ◌%◌, ◌<◌, ◌≤◌, ◌⊎◌, inl, inr, List, [], ◌∷◌, ◌++◌, length, get_or, sym, ap, arith, subst, AllPairs, Contains}
+use Rattle.std.proofs.lemmas.Bool.{cases_lt}
+use Rattle.std.proofs.lemmas.List.Elements.{Contains-get_or, Contains-push_cases}
+use Rattle.std.proofs.lemmas.List.Quantifiers.{all_pairs_push}
+use Rattle.s2id_core.specs.declared.cell_id.CellId.{CellId}
+use Rattle.s2id_core.specs.CellId.{raw_of, first_of, end_of}
+use Rattle.s2id_core.specs.Cell.{IsCellNumber}
+use Rattle.s2id_core.specs.Span.{first_at, end_at, IsNested}
+use Rattle.s2id_core.proofs.Nested.{span, nested_from_crossing_spans, same_span}
+use Rattle.s2id_union.specs.Covers.{Covers, InRun, IsChain, IsMaximal, IsGrown, IsGrowing, IsGreatest, IsAdded}
+use Rattle.s2id_union.proofs.Lists.{none_in_nil}
+use Rattle.s2id_union.proofs.Covering.{covers_push_left, covers_push_right, covers_push_cases}
+
+pub grown_nil : (free : ℕ) → IsGrown [] free
+grown_nil free = record {
+  chain = λ i j d lt l. absurd (omega arith);
+  below = λ c h. absurd (none_in_nil c h);
+  maximal = λ c h. absurd (none_in_nil c h);
+}
+
+pub grown_later : (cells : List CellId) (free more : ℕ) → IsGrown cells free → free ≤ more → IsGrown cells more
+grown_later cells free more h le = record {
+  chain = h.chain;
+  below = λ c held. let b = h.below c held in omega arith;
+  maximal = λ c held b cell nest all. h.maximal c held b cell nest (λ q f t low. all q f t (omega arith));
+}
+
+pub growing_start : (old : List CellId) (free start limit : ℕ) → IsGrown old free → free ≤ start → start ≤ limit → IsGrowing old old start limit start
+growing_start old free start limit h le run = record {
+  chain = h.chain;
+  below = λ c held. let b = h.below c held in omega arith;
+  maximal = λ c held b cell nest all. h.maximal c held b cell nest (λ q f t low. elim (all q f t (omega arith)) [ inl v ↦ v | inr r ↦ absurd (let a = r.from in omega arith) ]);
+  covers = λ q. (inl, λ v. elim v [ inl c ↦ c | inr r ↦ absurd (let a = r.from in let b = r.to in omega arith) ]);
+}
+
+-- it is maximal
+step_maximal : (old cells : List CellId) (start limit at : ℕ) → IsGrowing old cells start limit at → start ≤ at → at < limit → (c : ℕ) → IsCellNumber c → IsGreatest c at limit → IsMaximal (λ q. Covers old q ⊎ InRun start limit q) (limit + 1) c
+step_maximal old cells start limit at h from to c cell_c g b cell_b nest all =
+    let sc = span c cell_c in
+    let sb = span b cell_b in
+    let c1 = sc.from in
+    let c2 = sc.to in
+    let b1 = sb.from in
+    let b2 = sb.to in
+    let n1 = nest.from in
+    let n2 = nest.to in
+    let g1 = g.begins in
+    let g2 = g.ends in
+    elim (cases_lt (first_at b) at) [
+      | inl early ↦
+          (let here = all (first_at b) (omega arith) (omega arith) (omega arith) in
+          let v : Covers cells (first_at b) = elim here [
+            | inl o ↦ (h.covers (first_at b)).1 (inl o)
+            | inr r ↦ (h.covers (first_at b)).1 (inr (record { from = r.from; to = early }))
+          ] in
+          let ends = h.below v.cell v.held in
+          let v1 = v.from in
+          let v2 = v.to in
+          elim (nested_from_crossing_spans (raw_of v.cell) b v.cell.valid cell_b (omega arith) (omega arith)) [
+            | inl inside ↦
+                absurd (let e = ap end_at (h.maximal v.cell v.held b cell_b inside all) in omega arith)
+            | inr outside ↦ absurd (let o = outside.to in omega arith)
+          ])
+      | inr late ↦
+          elim (cases_lt limit (end_at b)) [
+            | inl beyond ↦
+                elim (all limit (omega arith) beyond (omega arith)) [
+                  | inl o ↦
+                      (let v = (h.covers limit).1 (inl o) in
+                      absurd (let ends = h.below v.cell v.held in let v2 = v.to in omega arith))
+                  | inr r ↦ absurd (let t = r.to in omega arith)
+                ]
+            | inr inside ↦
+                (let most = g.greatest b cell_b (omega arith) inside in
+                same_span b c cell_b cell_c (omega arith) (omega arith))
+          ]
+    ]
+
+pub growing_step : (old cells : List CellId) (start limit at : ℕ) → IsGrowing old cells start limit at → start ≤ at → at < limit → (c : CellId) → IsGreatest (raw_of c) at limit → IsGrowing old (cells ++ c ∷ []) start limit (end_of c)
+growing_step old cells start limit at h from to c g =
+    let s = span (raw_of c) c.valid in
+    let s1 = s.from in
+    let s2 = s.to in
+    let g1 = g.begins in
+    record {
+      chain = all_pairs_push (λ a b. end_of a ≤ first_of b) cells c h.chain (λ k d l. let e = h.below (get_or cells k d) (Contains-get_or cells k d l) in omega arith);
+      below = λ x held. elim (Contains-push_cases cells c x held) [
+        | inl old_one ↦ let e = h.below x old_one in omega arith
+        | inr e ↦ let f = ap (λ (y : CellId). end_of y) e in omega arith
+      ];
+      maximal = λ x held. elim (Contains-push_cases cells c x held) [
+        | inl old_one ↦ h.maximal x old_one
+        | inr e ↦ subst (λ (y : CellId). IsMaximal (λ q. Covers old q ⊎ InRun start limit q) (limit + 1) (raw_of y)) e (step_maximal old cells start limit at h from to (raw_of c) c.valid g)
+      ];
+      covers = λ q. (
+        λ v. elim (covers_push_cases cells c q v) [
+          | inl w ↦
+              elim ((h.covers q).0 w) [
+                | inl o ↦ inl o
+                | inr r ↦ (let a = r.from in let b = r.to in inr (record { from = a; to = omega arith }))
+              ]
+          | inr r ↦ (let a = r.from in let b = r.to in inr (record { from = omega arith; to = b }))
+        ],
+        λ v. elim v [
+          | inl o ↦ covers_push_left cells c q ((h.covers q).1 (inl o))
+          | inr r ↦
+              (let a = r.from in let b = r.to in
+              elim (cases_lt q at) [
+                | inl before ↦ covers_push_left cells c q ((h.covers q).1 (inr (record { from = a; to = before })))
+                | inr behind ↦ covers_push_right cells c q (omega arith) b
+              ])
+        ],
+      );
+    }
+
+pub growing_end : (old cells : List CellId) (start limit at : ℕ) → IsGrowing old cells start limit at → at ≡ limit → IsAdded old cells start limit
+growing_end old cells start limit at h e =
+    let covers : (q : ℕ) → Covers cells q ↔ (Covers old q ⊎ InRun start limit q) = subst (λ x. (q : ℕ) → Covers cells q ↔ (Covers old q ⊎ InRun start x q)) e h.covers in
+    record {
+      grown = record {
+        chain = h.chain;
+        below = λ c held. let b = h.below c held in omega arith;
+        maximal = λ c held b cell nest all. h.maximal c held b cell nest (λ q f t low. (covers q).0 (all q f t low));
+      };
+      covers = covers;
+    }
+
+-- what the loop does with one cell
+pub growing_next : (old cells next : List CellId) (start limit at behind : ℕ) → IsGrowing old cells start limit at → start ≤ at → at < limit → (c : CellId) → IsGreatest (raw_of c) at limit → next ≡ cells ++ c ∷ [] → behind ≡ end_of c → IsGrowing old next start limit behind × (start ≤ behind) × (behind ≤ limit) × (behind % 2 ≡ 1)
+growing_next old cells next start limit at behind h from to c g list place =
+    let s = span (raw_of c) c.valid in
+    let s1 = s.from in
+    let s2 = s.to in
+    let odd = s.odd_end in
+    let g1 = g.begins in
+    let g2 = g.ends in
+    let step = growing_step old cells start limit at h from to c g in (
+      subst (λ x. IsGrowing old next start limit x) (sym place) (subst (λ xs. IsGrowing old xs start limit (end_of c)) (sym list) step),
+      omega arith,
+      omega arith,
+      omega arith,
+    )

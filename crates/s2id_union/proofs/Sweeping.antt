@@ -1,0 +1,219 @@
+-- One sweep over two chains of cells.
+use Rattle.std.proofs.Common.{◌≡◌, ◌↔◌, ℕ, suc, ◌+◌, ◌-◌, ◌%◌, ◌<◌, ◌≤◌, ◌⊎◌, inl, inr, Bool, true, false, IsTrue, List, [], ◌∷◌, ◌++◌, length, get_or, sym, ◌∙◌, ap, refl, arith, subst, Contains}
+use Rattle.std.proofs.lemmas.Bool.{cases_lt, false≢true}
+use Rattle.std.proofs.lemmas.List.{get_or_default}
+use Rattle.std.proofs.lemmas.List.Elements.{Contains-get_or}
+use Rattle.s2id_core.specs.declared.cell_id.CellId.{CellId}
+use Rattle.s2id_core.specs.CellId.{raw_of, first_of, end_of}
+use Rattle.s2id_core.proofs.Nested.{span}
+use Rattle.s2id_union.specs.declared.sweep.Operation.{Operation}
+use Rattle.s2id_union.specs.declared.sweep.Operation.TheVariants.{Union, Intersection, Difference}
+use Rattle.s2id_union.specs.Operation.{Keeps, IsSwept}
+use Rattle.s2id_union.specs.Region.{IsNormal}
+use Rattle.s2id_union.specs.Covers.{Covers, InRun, IsChain, IsGrown, IsAdded, IsAhead, IsReached, IsConstant}
+use Rattle.s2id_union.proofs.Covering.{covers_nil, covers_bounds}
+use Rattle.s2id_union.proofs.Growing.{grown_nil, grown_later}
+use Rattle.s2id_union.proofs.Normal.{normal_from_grown}
+use Rattle.s2id_union.proofs.Searching.{ends_rise, ahead_start}
+
+-- a covering cell, by its index
+record CoversAt (cells : List CellId) (q : ℕ) : Type 0 where
+  at : ℕ
+  cell : CellId
+  within : at < length cells
+  from : first_of (get_or cells at cell) ≤ q
+  to : q < end_of (get_or cells at cell)
+
+by_index : (cells : List CellId) (q : ℕ) → Covers cells q → CoversAt cells q
+by_index cells q h =
+    let e = sym h.held.2 in
+    record {
+      at = h.held.0;
+      cell = h.cell;
+      within = h.held.1;
+      from = subst (λ (x : CellId). first_of x ≤ q) e h.from;
+      to = subst (λ (x : CellId). q < end_of x) e h.to;
+    }
+
+not_true : IsTrue false → ⊥
+not_true h = false≢true h
+
+pub none_ahead : (cells : List CellId) (k at : ℕ) → IsAhead cells k at → length cells ≤ k → (end : ℕ) → IsReached cells k end × IsConstant cells at end false
+none_ahead cells k at h past end = (
+  λ j d le l. absurd (omega arith),
+  λ q from to. (
+    λ v.
+        let w = by_index cells q v in
+        let l = w.within in
+        let p = h.passed w.at w.cell (omega arith) l in
+        let t = w.to in
+        absurd (omega arith),
+    λ no. absurd (not_true no),
+  ),
+)
+
+pub before_first : (cells : List CellId) → IsChain cells → (k at : ℕ) → IsAhead cells k at → (x : CellId) → k < length cells → x ≡ get_or cells k x → at < first_of x → IsReached cells k (first_of x) × IsConstant cells at (first_of x) false
+before_first cells chain k at h x l is lt =
+    let s = span (raw_of x) x.valid in
+    let s1 = s.from in
+    let s2 = s.to in (
+      λ j d le within.
+          let e = ap (λ (c : CellId). end_of c) (is ∙ get_or_default cells k x d l) in
+          let r = ends_rise cells chain k j d le within in
+          omega arith,
+      λ q from to. (
+        λ v.
+            let w = by_index cells q v in
+            let l2 = w.within in
+            let f = w.from in
+            let t = w.to in
+            let e = ap (λ (c : CellId). end_of c) (is ∙ get_or_default cells k x w.cell l) in
+            let g = ap (λ (c : CellId). first_of c) (is ∙ get_or_default cells k x w.cell l) in
+            elim (cases_lt w.at k) [
+              | inl before ↦ absurd (let p = h.passed w.at w.cell before l2 in omega arith)
+              | inr ge ↦
+                  elim (cases_lt k w.at) [
+                    | inl behind ↦ absurd (let c = chain k w.at w.cell behind l2 in omega arith)
+                    | inr le ↦
+                        absurd (let m = ap (λ i. first_of (get_or cells i w.cell)) (let n : w.at ≡ k = omega arith in n) in omega arith)
+                  ]
+            ],
+        λ no. absurd (not_true no),
+      ),
+    )
+
+pub within_cell : (cells : List CellId) → IsChain cells → (k at : ℕ) → (x : CellId) → k < length cells → x ≡ get_or cells k x → first_of x ≤ at → IsReached cells k (end_of x) × IsConstant cells at (end_of x) true
+within_cell cells chain k at x l is le = (
+  λ j d ge within.
+      let e = ap (λ (c : CellId). end_of c) (is ∙ get_or_default cells k x d l) in
+      let r = ends_rise cells chain k j d ge within in
+      omega arith,
+  λ q from to. (λ _. refl, λ _. record { cell = x; held = (k, l, sym is); from = omega arith; to = to }),
+)
+
+-- ---- on to the end of a stretch
+
+pub ahead_passed : (cells : List CellId) → IsChain cells → (k at end : ℕ) → IsAhead cells k at → at ≤ end → (x : CellId) → k < length cells → x ≡ get_or cells k x → end_of x ≤ end → IsReached cells k end → IsAhead cells (k + 1) end
+ahead_passed cells chain k at end h le x l is done reached = record {
+  passed = λ j d lt within.
+      elim (cases_lt j k) [
+        | inl before ↦ let p = h.passed j d before within in omega arith
+        | inr ge ↦
+            (let e = ap (λ (c : CellId). end_of c) (is ∙ get_or_default cells k x d l) in
+            let f = ap (λ i. end_of (get_or cells i d)) (let n : j ≡ k = omega arith in n) in
+            omega arith)
+      ];
+  ahead = λ j d ge within.
+      let c = chain k j d (omega arith) within in
+      let r = reached k d (omega arith) l in
+      let s = span (raw_of (get_or cells j d)) (get_or cells j d).valid in
+      let a = s.from in
+      let b = s.to in
+      omega arith;
+}
+
+pub ahead_stays : (cells : List CellId) → IsChain cells → (k at end : ℕ) → IsAhead cells k at → at ≤ end → ((d : CellId) → k < length cells → end < end_of (get_or cells k d)) → IsAhead cells k end
+ahead_stays cells chain k at end h le more = record {
+  passed = λ j d lt within. let p = h.passed j d lt within in omega arith;
+  ahead = λ j d ge within. let m = more d (omega arith) in let r = ends_rise cells chain k j d ge within in omega arith;
+}
+
+-- ---- the sweep
+
+pub keeps_same : (o : Operation) {A B C D : Type 0} → A ↔ C → B ↔ D → Keeps o A B → Keeps o C D
+keeps_same Union a b (inl x) = inl (a.0 x)
+keeps_same Union a b (inr y) = inr (b.0 y)
+keeps_same Intersection a b (x, y) = (a.0 x, b.0 y)
+keeps_same Difference a b (x, y) = (a.0 x, λ z. y (b.1 z))
+
+keeps_bounds : (o : Operation) (xs ys : List CellId) (q : ℕ) → Keeps o (Covers xs q) (Covers ys q) → (1 ≤ q) × (q < 13835058055282163713)
+keeps_bounds Union xs ys q (inl x) = covers_bounds xs q x
+keeps_bounds Union xs ys q (inr y) = covers_bounds ys q y
+keeps_bounds Intersection xs ys q (x, y) = covers_bounds xs q x
+keeps_bounds Difference xs ys q (x, y) = covers_bounds xs q x
+
+pub swept_start : (o : Operation) (xs ys : List CellId) → IsSwept o xs ys [] 1 1
+swept_start o xs ys = record {
+  grown = grown_nil 1;
+  covers = λ q. (
+    λ v. elim v [ inl c ↦ absurd (covers_nil q c) | inr r ↦ absurd (let a = r.from in let b = r.to in omega arith) ],
+    λ v. absurd (let b = keeps_bounds o xs ys q v.1 in let lo = b.0 in let hi = v.0 in omega arith),
+  );
+}
+
+flip : {A B : Type 0} → A ↔ B → B ↔ A
+flip h = (h.1, h.0)
+
+pub swept_on : (o : Operation) (xs ys cells : List CellId) (run at end : ℕ) (x y : Bool) → IsSwept o xs ys cells run at → run ≤ at → at < end → IsConstant xs at end x → IsConstant ys at end y → Keeps o (IsTrue x) (IsTrue y) → IsSwept o xs ys cells run end
+swept_on o xs ys cells run at end x y h rises more cx cy keep = record {
+  grown = h.grown;
+  covers = λ q. (
+    λ v. elim v [
+      | inl c ↦ (let w = (h.covers q).0 (inl c) in let lt = w.0 in (omega arith, w.1))
+      | inr r ↦
+          (let a = r.from in let b = r.to in
+          elim (cases_lt q at) [
+            | inl before ↦ (b, ((h.covers q).0 (inr (record { from = a; to = before }))).1)
+            | inr here ↦ (b, keeps_same o (flip (cx q here b)) (flip (cy q here b)) keep)
+          ])
+    ],
+    λ v.
+        let hi = v.0 in
+        elim (cases_lt q at) [
+          | inl before ↦
+              elim ((h.covers q).1 (before, v.1)) [ inl c ↦ inl c | inr r ↦ (let a = r.from in inr (record { from = a; to = hi })) ]
+          | inr here ↦ inr (record { from = omega arith; to = hi })
+        ],
+  );
+}
+
+pub swept_off : (o : Operation) (xs ys old cells : List CellId) (run at end : ℕ) (x y : Bool) → IsSwept o xs ys old run at → IsAdded old cells run at → at < end → IsConstant xs at end x → IsConstant ys at end y → (Keeps o (IsTrue x) (IsTrue y) → ⊥) → IsSwept o xs ys cells end end
+swept_off o xs ys old cells run at end x y h added more cx cy drop = record {
+  grown = grown_later cells (at + 1) end added.grown (omega arith);
+  covers = λ q. (
+    λ v. elim v [
+      | inl c ↦ (let w = (h.covers q).0 ((added.covers q).0 c) in let lt = w.0 in (omega arith, w.1))
+      | inr r ↦ absurd (let a = r.from in let b = r.to in omega arith)
+    ],
+    λ v.
+        elim (cases_lt q at) [
+          | inl before ↦ inl ((added.covers q).1 ((h.covers q).1 (before, v.1)))
+          | inr here ↦ absurd (drop (keeps_same o (cx q here v.0) (cy q here v.0) v.1))
+        ],
+  );
+}
+
+pub record IsWhole (o : Operation) (xs ys cells : List CellId) : Type 0 where
+  pub normal : IsNormal cells
+  pub covers : (q : ℕ) → Covers cells q ↔ Keeps o (Covers xs q) (Covers ys q)
+
+pub swept_end : (o : Operation) (xs ys old cells : List CellId) (run at : ℕ) → IsSwept o xs ys old run at → 13835058055282163713 ≤ at → IsAdded old cells run at → IsWhole o xs ys cells
+swept_end o xs ys old cells run at h done added = record {
+  normal = normal_from_grown cells (at + 1) added.grown;
+  covers = λ q. (
+    λ v. ((h.covers q).0 ((added.covers q).0 v)).1,
+    λ k. (added.covers q).1 ((h.covers q).1 ((let b = keeps_bounds o xs ys q k in let hi = b.1 in omega arith), k)),
+  );
+}
+
+-- ---- the loop's invariant as a whole
+
+pub swept_init : (o : Operation) (xs ys cells : List CellId) → cells ≡ [] → IsSwept o xs ys cells 1 1 × IsAhead xs 0 1 × IsAhead ys 0 1 × (1 ≤ 1) × (1 ≤ 13835058055282163713) × (1 % 2 ≡ 1) × (1 % 2 ≡ 1)
+swept_init o xs ys cells e =
+    let ends : (zs : List CellId) (j : ℕ) (d : CellId) → 0 ≤ j → j < length zs → 1 < end_of (get_or zs j d) = λ zs j d le l. let s = span (raw_of (get_or zs j d)) (get_or zs j d).valid in let a = s.begins in let b = s.from in let c = s.to in omega arith in (
+      subst (λ zs. IsSwept o xs ys zs 1 1) (sym e) (swept_start o xs ys),
+      ahead_start xs 1 (ends xs),
+      ahead_start ys 1 (ends ys),
+      omega arith,
+      omega arith,
+      refl,
+      refl,
+    )
+
+pub swept_next_on : (o : Operation) (xs ys cells : List CellId) (run at end ex ey i j : ℕ) (x y : Bool) → IsSwept o xs ys cells run at → run ≤ at → run % 2 ≡ 1 → at < end → end ≤ ex → end ≤ ey → ex ≤ 13835058055282163713 → end % 2 ≡ 1 → IsConstant xs at ex x → IsConstant ys at ey y → Keeps o (IsTrue x) (IsTrue y) → IsAhead xs i end → IsAhead ys j end → IsSwept o xs ys cells run end × IsAhead xs i end × IsAhead ys j end × (run ≤ end) × (end ≤ 13835058055282163713) × (end % 2 ≡ 1) × (run % 2 ≡ 1)
+swept_next_on o xs ys cells run at end ex ey i j x y h rises odd_run lt lx ly most odd cx cy keep ax ay =
+    (swept_on o xs ys cells run at end x y h rises lt (λ q a b. cx q a (omega arith)) (λ q a b. cy q a (omega arith)) keep, ax, ay, omega arith, omega arith, odd, odd_run)
+
+pub swept_next_off : (o : Operation) (xs ys old cells : List CellId) (run at end ex ey i j : ℕ) (x y : Bool) → IsSwept o xs ys old run at → IsAdded old cells run at → at < end → end ≤ ex → end ≤ ey → ex ≤ 13835058055282163713 → end % 2 ≡ 1 → IsConstant xs at ex x → IsConstant ys at ey y → (Keeps o (IsTrue x) (IsTrue y) → ⊥) → IsAhead xs i end → IsAhead ys j end → IsSwept o xs ys cells end end × IsAhead xs i end × IsAhead ys j end × (end ≤ end) × (end ≤ 13835058055282163713) × (end % 2 ≡ 1) × (end % 2 ≡ 1)
+swept_next_off o xs ys old cells run at end ex ey i j x y h added lt lx ly most odd cx cy drop ax ay =
+    (swept_off o xs ys old cells run at end x y h added lt (λ q a b. cx q a (omega arith)) (λ q a b. cy q a (omega arith)) drop, ax, ay, omega arith, omega arith, odd, odd)

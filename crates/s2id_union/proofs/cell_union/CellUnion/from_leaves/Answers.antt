@@ -1,0 +1,11 @@
+use Rattle.s2id_union.proofs.Made.{normal_from_added, run_leaves}
+use Rattle.s2id_union.proofs.cell_union.CellUnion.from_leaves.Goals as goal
+
+pub invariant_of-result : goal.invariant_of-result
+invariant_of-result c = normal_from_added _ _ _ _ c.in_ok-add_run.ensures
+
+pub returns-clause-leaves : goal.returns-clause-leaves
+returns-clause-leaves c = run_leaves _ _ _ _ c.new-cells.ensures.items c.in_ok-add_run.ensures
+
+pub returns-clause-normal : goal.returns-clause-normal
+returns-clause-normal c = normal_from_added _ _ _ _ c.in_ok-add_run.ensures

@@ -1,0 +1,10 @@
+use Rattle.std.proofs.Common.{◌≡◌, ℕ, ◌-◌, ◌%◌, ◌≤◌}
+use Rattle.s2id_union.specs.Covers.{IsGrowing}
+use Rattle.s2id_union.proofs.run.add_run.Given as goal
+
+abbrev pub invariant-loop-at : goal.invariant-loop-at
+invariant-loop-at l =
+    (IsGrowing l.fn.cells.items l.cells.items l.start l.limit l.at) × (l.start ≤ l.at) × (l.at ≤ l.limit) × (l.at % 2 ≡ 1)
+
+abbrev pub decreases-loop-at : goal.decreases-loop-at
+decreases-loop-at l = l.limit - l.at

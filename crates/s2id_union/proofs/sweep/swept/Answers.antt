@@ -1,0 +1,44 @@
+use Rattle.std.proofs.Common.{◌≡◌, ℕ, ◌+◌, ◌%◌, ◌<◌, ◌≤◌, IsTrue, true, false, arith}
+use Rattle.s2id_union.proofs.Searching.{chain_from_normal}
+use Rattle.s2id_union.proofs.Sweeping.{swept_init, swept_next_on, swept_next_off, swept_end}
+use Rattle.s2id_union.proofs.sweep.swept.Goals as goal
+
+pub loop-at-init : goal.loop-at-init
+loop-at-init c = swept_init c.args.operation c.args.first.now c.args.second.now _ c.new-cells.ensures.items
+
+pub stretch_at-of_first-requires-clause-chain : goal.stretch_at-of_first-requires-clause-chain
+stretch_at-of_first-requires-clause-chain c = chain_from_normal c.args.first.now c.requires.first_normal
+
+pub stretch_at-of_second-requires-clause-chain : goal.stretch_at-of_second-requires-clause-chain
+stretch_at-of_second-requires-clause-chain c = chain_from_normal c.args.second.now c.requires.second_normal
+
+pub advanced-i-requires-clause-chain : goal.advanced-i-requires-clause-chain
+advanced-i-requires-clause-chain c = chain_from_normal c.args.first.now c.requires.first_normal
+
+pub advanced-j-requires-clause-chain : goal.advanced-j-requires-clause-chain
+advanced-j-requires-clause-chain c = chain_from_normal c.args.second.now c.requires.second_normal
+
+pub loop-at-preserved-in_ok-add_run : goal.loop-at-preserved-in_ok-add_run
+loop-at-preserved-in_ok-add_run c =
+    let f = c.stretch_at-of_first in
+    let s = c.stretch_at-of_second in
+    let e = c.lower-end in
+    let odd = e.ensures.odd f.ensures.odd s.ensures.odd in
+    swept_next_off c.args.operation c.args.first.now c.args.second.now c.loop-at.cells.items c.add_run.new.cells.items c.loop-at.run c.loop-at.at e.result f.result.end s.result.end c.advanced-i.result c.advanced-j.result f.result.inside s.result.inside c.loop-at.invariant.0 c.in_ok-add_run.ensures (e.ensures.above c.loop-at.at f.ensures.rises s.ensures.rises) e.ensures.first e.ensures.second f.ensures.on_curve odd f.ensures.constant s.ensures.constant (λ k. let t = c.keeps-kept.ensures.1 k in (cc)) c.advanced-i.ensures c.advanced-j.ensures
+
+pub loop-at-preserved : goal.loop-at-preserved
+loop-at-preserved c =
+    let f = c.stretch_at-of_first in
+    let s = c.stretch_at-of_second in
+    let e = c.lower-end in
+    let odd = e.ensures.odd f.ensures.odd s.ensures.odd in
+    let t : IsTrue c.keeps-kept.result = cc in
+    swept_next_on c.args.operation c.args.first.now c.args.second.now c.loop-at.cells.items c.loop-at.run c.loop-at.at e.result f.result.end s.result.end c.advanced-i.result c.advanced-j.result f.result.inside s.result.inside c.loop-at.invariant.0 c.loop-at.invariant.3 c.loop-at.invariant.6 (e.ensures.above c.loop-at.at f.ensures.rises s.ensures.rises) e.ensures.first e.ensures.second f.ensures.on_curve odd f.ensures.constant s.ensures.constant (c.keeps-kept.ensures.0 t) c.advanced-i.ensures c.advanced-j.ensures
+
+pub returns-clause-normal : goal.returns-clause-normal
+returns-clause-normal c =
+    (swept_end c.args.operation c.args.first.now c.args.second.now _ _ _ c.loop-at.at c.loop-at.invariant.0 (omega arith) c.in_ok-add_run-2.ensures).normal
+
+pub returns-clause-covers : goal.returns-clause-covers
+returns-clause-covers c =
+    (swept_end c.args.operation c.args.first.now c.args.second.now _ _ _ c.loop-at.at c.loop-at.invariant.0 (omega arith) c.in_ok-add_run-2.ensures).covers

@@ -1,0 +1,4 @@
+pub mod Region
+pub mod Covers
+pub mod Range
+pub mod Operation

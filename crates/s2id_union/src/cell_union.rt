@@ -1,0 +1,133 @@
+ghost use Rattle.std.specs.Prelude.{◌≡◌, ◌↔◌, ◌<◌, ◌≤◌, ◌⊎◌, IsTrue, IfOk, IfErr, OnOk, List, length};
+ghost use Rattle.s2id_core.specs.CellId.{path_of};
+ghost use Rattle.s2id_core.specs.Path.{Path, number_of};
+ghost use Rattle.s2id_core.specs.Leaves.{IsLeafPath};
+ghost use Rattle.s2id_union.specs.Region.{InRegion, IsNormal, HaveSameRegion, HasAllOf, Meets, IsLeafList};
+ghost use Rattle.s2id_union.specs.Range.{IsLeafRange, IsRangeRefusal};
+
+use crate::count::counted;
+use crate::error::RangeError;
+use crate::join::normal_list;
+use crate::run::add_run;
+use crate::search::{has_all, meets};
+use crate::sweep::{Operation, swept};
+use s2id_core::{CellId, LEAF_END, OutOfMemory};
+use std::alloc::Global;
+use std::marker::Model;
+
+/// A set of leaves, kept as its one normal list of cells: in rising order, no cell within another, and no four
+/// cells that are all the children of one (S2's `S2CellUnion`). Contracts see a union as that list.
+#[derive(Debug, Drop)]
+pub struct CellUnion {
+    cells: Vec<CellId>,
+}
+
+impl Model for CellUnion {
+    ghost use Rattle.std.specs.Prelude.{List};
+    ghost use Rattle.s2id_core.specs.declared.cell_id.CellId.{CellId};
+    ghost use Rattle.s2id_union.specs.Region.{IsNormal};
+
+    ghost Value = { List CellId };
+
+    ghost view = { λ u. u.cells.items };
+
+    ghost invariant = { λ u. IsNormal u.cells.items };
+}
+
+impl CellUnion {
+    /// The leaves from the number `start` up to and without `limit` (S2's `FromBeginEnd()`). Leaf numbers are odd;
+    /// equal bounds give the empty union. `BadRange` where a bound is even, or not
+    /// `1 <= start <= limit <= LEAF_END`. O(cells made), at most about 360.
+    pub fn from_leaves(alloc: Global, start: u64, limit: u64) -> Result<CellUnion, RangeError>
+        ensures leaves { IfOk result (λ union. (leaf : Path) → IsLeafPath leaf → InRegion union leaf
+            ↔ ((start ≤ number_of leaf) × (number_of leaf < limit))) }
+        ensures normal { IfOk result IsNormal }
+        ensures accepted { OnOk result (IsLeafRange start limit) }
+        ensures refused { IfErr result (λ error. IsRangeRefusal error start limit) }
+    {
+        if start % 2 == 0 || limit % 2 == 0 || start > limit || limit > LEAF_END {
+            return Err(RangeError::BadRange);
+        }
+        let mut cells = Vec::new(alloc);
+        add_run(&mut cells, start, limit)?;
+        Ok(CellUnion { cells })
+    }
+
+    /// The cells in rising order (S2's `cell_ids()`).
+    pub fn cells(&self) -> &[CellId]
+        ensures list { result.now ≡ self.now }
+        ensures normal { IsNormal self.now }
+    {
+        self.cells.as_slice()
+    }
+
+    /// Whether each leaf of a cell is in the union (S2's `Contains()`). O(log n).
+    pub fn contains(&self, cell: CellId) -> bool
+        ensures { IsTrue result ↔ HasAllOf self.now (path_of cell) }
+    {
+        has_all(self.cells.as_slice(), cell)
+    }
+
+    /// Whether some leaf of a cell is in the union (S2's `Intersects()`). O(log n).
+    pub fn intersects(&self, cell: CellId) -> bool
+        ensures { IsTrue result ↔ Meets self.now (path_of cell) }
+    {
+        meets(self.cells.as_slice(), cell)
+    }
+
+    /// The union of the leaves of any cells, in any order and repeated or not (S2's constructor from ids).
+    /// O(n log n), and the cells made. `OutOfMemory` where a growth is refused.
+    pub fn normalise(alloc: Global, cells: &[CellId]) -> Result<CellUnion, OutOfMemory>
+        ensures region { IfOk result (λ union. HaveSameRegion union cells.now) }
+        ensures normal { IfOk result IsNormal }
+    {
+        let cells = normal_list(alloc, cells)?;
+        Ok(CellUnion { cells })
+    }
+
+    /// The leaves that are in this union, in the other, or in both (S2's `Union()`). O(n + m), and the cells made.
+    /// `OutOfMemory` where a growth is refused.
+    pub fn union(&self, alloc: Global, other: &CellUnion) -> Result<CellUnion, OutOfMemory>
+        ensures leaves { IfOk result (λ union. (leaf : Path) → IsLeafPath leaf → InRegion union leaf
+            ↔ (InRegion self.now leaf ⊎ InRegion other.now leaf)) }
+        ensures normal { IfOk result IsNormal }
+    {
+        let first = self.cells();
+        let second = other.cells();
+        let cells = swept(alloc, Operation::Union, first, second)?;
+        Ok(CellUnion { cells })
+    }
+
+    /// The leaves that are in both unions (S2's `Intersection()`). O(n + m), and the cells made.
+    /// `OutOfMemory` where a growth is refused.
+    pub fn intersection(&self, alloc: Global, other: &CellUnion) -> Result<CellUnion, OutOfMemory>
+        ensures leaves { IfOk result (λ union. (leaf : Path) → IsLeafPath leaf → InRegion union leaf
+            ↔ (InRegion self.now leaf × InRegion other.now leaf)) }
+        ensures normal { IfOk result IsNormal }
+    {
+        let first = self.cells();
+        let second = other.cells();
+        let cells = swept(alloc, Operation::Intersection, first, second)?;
+        Ok(CellUnion { cells })
+    }
+
+    /// The leaves that are in this union and not in the other (S2's `Difference()`). O(n + m), and the cells made.
+    /// `OutOfMemory` where a growth is refused.
+    pub fn difference(&self, alloc: Global, other: &CellUnion) -> Result<CellUnion, OutOfMemory>
+        ensures leaves { IfOk result (λ union. (leaf : Path) → IsLeafPath leaf → InRegion union leaf
+            ↔ (InRegion self.now leaf × (InRegion other.now leaf → ⊥))) }
+        ensures normal { IfOk result IsNormal }
+    {
+        let first = self.cells();
+        let second = other.cells();
+        let cells = swept(alloc, Operation::Difference, first, second)?;
+        Ok(CellUnion { cells })
+    }
+
+    /// The number of leaves in the union (S2's `LeafCellsCovered()`). O(n).
+    pub fn leaf_count(&self) -> u64
+        ensures { (leaves : List Path) × IsLeafList self.now leaves × (length leaves ≡ result) }
+    {
+        counted(self.cells())
+    }
+}

@@ -1,0 +1,63 @@
+// The normal form of any list of cells.
+
+ghost use Rattle.std.specs.Prelude.{◌↔◌, ℕ, IfOk};
+ghost use Rattle.std.specs.List.Sorted.{IsNonDecreasingBy, IsPermutation};
+ghost use Rattle.s2id_core.specs.CellId.{first_of};
+ghost use Rattle.s2id_union.specs.Covers.{Covers};
+ghost use Rattle.s2id_union.specs.Region.{IsNormal};
+
+use crate::run::add_run;
+use s2id_core::{CellId, OutOfMemory};
+use std::alloc::Global;
+
+// Orders cells by their first leaves. O(n log n).
+fn sort_by_first(cells: &mut [CellId])
+    ensures permutation { IsPermutation cells.old cells.new }
+    ensures sorted { IsNonDecreasingBy (λ c. first_of c) cells.new }
+{
+    cells.sort_unstable_by_key(|cell| cell.range_min().raw());
+}
+
+// The normal list with the region of cells in the order of their first leaves. O(n) steps, and the cells emitted.
+fn joined(alloc: Global, sorted: &[CellId]) -> Result<Vec<CellId>, OutOfMemory>
+    requires { IsNonDecreasingBy (λ c. first_of c) sorted.now }
+    ensures normal { IfOk result (λ cells. IsNormal cells.items) }
+    ensures covers { IfOk result (λ cells. (q : ℕ) → Covers cells.items q ↔ Covers sorted.now q) }
+{
+    let mut cells = Vec::new(alloc);
+    let mut run = 1;
+    let mut at = 1;
+    for cell in sorted {
+        let first = cell.range_min().raw();
+        let end = cell.range_max().raw() + 2;
+        if at < first {
+            add_run(&mut cells, run, at)?;
+            run = first;
+            at = end;
+        } else if at < end {
+            at = end;
+        }
+    }
+    add_run(&mut cells, run, at)?;
+    Ok(cells)
+}
+
+// The same of cells in any order, which it puts in that order. O(n log n), and the cells emitted.
+fn joined_sorted(alloc: Global, cells: &mut [CellId]) -> Result<Vec<CellId>, OutOfMemory>
+    ensures normal { IfOk result (λ list. IsNormal list.items) }
+    ensures covers { IfOk result (λ list. (q : ℕ) → Covers list.items q ↔ Covers cells.old q) }
+{
+    sort_by_first(cells);
+    let list = joined(alloc, cells)?;
+    Ok(list)
+}
+
+// The normal list with the region of some cells. O(n log n), and the cells emitted.
+pub(crate) fn normal_list(alloc: Global, cells: &[CellId]) -> Result<Vec<CellId>, OutOfMemory>
+    ensures normal { IfOk result (λ list. IsNormal list.items) }
+    ensures covers { IfOk result (λ list. (q : ℕ) → Covers list.items q ↔ Covers cells.now q) }
+{
+    let mut sorted = Vec::from_slice(alloc, cells)?;
+    let list = joined_sorted(alloc, sorted.as_mut_slice())?;
+    Ok(list)
+}

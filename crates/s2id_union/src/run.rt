@@ -1,0 +1,52 @@
+// Runs of leaves as the fewest cells.
+
+ghost use Rattle.std.specs.Prelude.{◌≡◌, ◌%◌, ◌<◌, ◌≤◌, IfOk};
+ghost use Rattle.s2id_core.specs.CellId.{raw_of};
+ghost use Rattle.s2id_union.specs.Covers.{IsGreatest, IsGrown, IsAdded, IsLeast};
+
+use s2id_core::{CellId, OutOfMemory};
+
+// The least of three numbers.
+fn least(a: u32, b: u32, c: u32) -> u32
+    ensures { IsLeast result a b c }
+{
+    let below = if a < b { a } else { b };
+    if below < c { below } else { c }
+}
+
+// The greatest cell that begins at a leaf and ends by the limit: its size is bounded by the zeros at the end of the
+// leaf's place and by the width of the run.
+fn greatest_at(at: u64, limit: u64) -> CellId
+    requires odd { at % 2 ≡ 1 }
+    requires odd_limit { limit % 2 ≡ 1 }
+    requires some { at < limit }
+    requires on_curve { limit ≤ 13835058055282163713 }
+    ensures { IsGreatest (raw_of result) at limit }
+{
+    let zeros = (at - 1).trailing_zeros();
+    let wide = (limit - at).ilog2();
+    let fit = least(zeros, wide, 61);
+    let height = (fit - 1) / 2;
+    match CellId::from_raw(at - 1 + (1 << (2 * height))) {
+        Some(cell) => cell,
+        None => unreachable!(),
+    }
+}
+
+// Adds the run of leaves from `start` up to and without `limit`, as the fewest cells. O(cells added).
+pub(crate) fn add_run(cells: &mut Vec<CellId>, start: u64, limit: u64) -> Result<(), OutOfMemory>
+    requires grown { IsGrown cells.old.items start }
+    requires odd { start % 2 ≡ 1 }
+    requires odd_limit { limit % 2 ≡ 1 }
+    requires rises { start ≤ limit }
+    requires on_curve { limit ≤ 13835058055282163713 }
+    ensures { IfOk result (λ _. IsAdded cells.old.items cells.new.items start limit) }
+{
+    let mut at = start;
+    while at < limit {
+        let cell = greatest_at(at, limit);
+        cells.push(cell)?;
+        at = cell.range_max().raw() + 2;
+    }
+    Ok(())
+}

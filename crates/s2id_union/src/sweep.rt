@@ -1,0 +1,129 @@
+// The set operations, as one sweep over the stretches on which both unions are constant.
+
+ghost use Rattle.std.specs.Prelude.{◌≡◌, ◌+◌, ◌%◌, ◌<◌, ◌≤◌, ◌↔◌, ℕ, IsTrue, IfOk, length, slice_index_or};
+ghost use Rattle.s2id_core.specs.declared.cell_id.CellId.{CellId};
+ghost use Rattle.s2id_core.specs.CellId.{end_of};
+ghost use Rattle.s2id_union.specs.Covers.{Covers, IsChain, IsAhead, IsReached, IsConstant};
+ghost use Rattle.s2id_union.specs.Region.{IsNormal};
+ghost use Rattle.s2id_union.specs.Operation.{Keeps};
+
+use crate::run::add_run;
+use s2id_core::{CellId, LEAF_END, OutOfMemory};
+use std::alloc::Global;
+
+// A set operation.
+#[derive(Clone, Copy)]
+pub(crate) enum Operation {
+    Union,
+    Intersection,
+    Difference,
+}
+
+// Whether a set operation keeps what is inside or outside its two sets.
+fn keeps(operation: Operation, first: bool, second: bool) -> bool
+    ensures { IsTrue result ↔ Keeps operation (IsTrue first) (IsTrue second) }
+{
+    match operation {
+        Operation::Union => first || second,
+        Operation::Intersection => first && second,
+        Operation::Difference => first && !second,
+    }
+}
+
+// A stretch of the curve, up to its end, that lies in a union or outside it.
+#[derive(Clone, Copy)]
+struct Stretch {
+    inside: bool,
+    end: u64,
+}
+
+// The stretch from a place on, where the first k cells are passed.
+fn stretch_at(cells: &[CellId], k: usize, at: u64) -> Stretch
+    requires chain { IsChain cells.now }
+    requires ahead { IsAhead cells.now k at }
+    requires on_curve { at < 13835058055282163713 }
+    ensures rises { at < result.end }
+    ensures on_curve { result.end ≤ 13835058055282163713 }
+    ensures odd { result.end % 2 ≡ 1 }
+    ensures reached { IsReached cells.now k result.end }
+    ensures constant { IsConstant cells.now at result.end result.inside }
+{
+    if k >= cells.len() {
+        return Stretch {
+            inside: false,
+            end: LEAF_END,
+        };
+    }
+    let first = cells[k].range_min().raw();
+    if at < first {
+        Stretch {
+            inside: false,
+            end: first,
+        }
+    } else {
+        Stretch {
+            inside: true,
+            end: cells[k].range_max().raw() + 2,
+        }
+    }
+}
+
+// How many cells are passed at the end of a stretch.
+fn advanced(cells: &[CellId], k: usize, at: u64, end: u64) -> usize
+    requires chain { IsChain cells.now }
+    requires ahead { IsAhead cells.now k at }
+    requires rises { at ≤ end }
+    requires reached { IsReached cells.now k end }
+    ensures { IsAhead cells.now result end }
+{
+    if k < cells.len() && cells[k].range_max().raw() + 2 <= end {
+        k + 1
+    } else {
+        k
+    }
+}
+
+// The lower of two ends.
+fn lower(a: u64, b: u64) -> u64
+    ensures first { result ≤ a }
+    ensures second { result ≤ b }
+    ensures above { (x : ℕ) → x < a → x < b → x < result }
+    ensures odd { a % 2 ≡ 1 → b % 2 ≡ 1 → result % 2 ≡ 1 }
+{
+    if a < b { a } else { b }
+}
+
+// The normal list of what a set operation keeps. O(n + m) steps, and the cells emitted.
+pub(crate) fn swept(
+    alloc: Global,
+    operation: Operation,
+    first: &[CellId],
+    second: &[CellId],
+) -> Result<Vec<CellId>, OutOfMemory>
+    requires first_normal { IsNormal first.now }
+    requires second_normal { IsNormal second.now }
+    ensures normal { IfOk result (λ cells. IsNormal cells.items) }
+    ensures covers { IfOk result (λ cells. (q : ℕ) → Covers cells.items q
+        ↔ Keeps operation (Covers first.now q) (Covers second.now q)) }
+{
+    let mut cells = Vec::new(alloc);
+    let mut run = 1;
+    let mut at = 1;
+    let mut i = 0;
+    let mut j = 0;
+    while at < LEAF_END {
+        let of_first = stretch_at(first, i, at);
+        let of_second = stretch_at(second, j, at);
+        let end = lower(of_first.end, of_second.end);
+        i = advanced(first, i, at, end);
+        j = advanced(second, j, at, end);
+        let kept = keeps(operation, of_first.inside, of_second.inside);
+        if !kept {
+            add_run(&mut cells, run, at)?;
+            run = end;
+        }
+        at = end;
+    }
+    add_run(&mut cells, run, at)?;
+    Ok(cells)
+}
