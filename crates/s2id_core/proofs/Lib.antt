@@ -14,5 +14,4 @@ pub mod Printing
 pub mod Cells
 mod Reading
 pub mod Canonical
-
 pub mod Spelled
