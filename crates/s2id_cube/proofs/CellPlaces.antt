@@ -3,6 +3,7 @@ use Rattle.std.proofs.Common.{◌≡◌, ℕ, ◌+◌, ◌-◌, ◌*◌, ◌/◌
 use Rattle.std.proofs.Math.Nat.{pow-le-pow_right}
 use Rattle.s2id_core.specs.Path.{Path, IsPath, number_of, place_of, path_at}
 use Rattle.s2id_core.specs.Cell.{IsCellNumber}
+use Rattle.s2id_cube.specs.Neighbor.{number_at}
 use Rattle.s2id_core.proofs.Powers.{four_pow, four_pos, four_split, odd_below}
 use Rattle.s2id_core.proofs.Places.{number_by_place, length-last_digits}
 use Rattle.s2id_core.proofs.Numbers.{path_of_place, path_by_place, place_by_place, place_of-path_of_place, number-path_at, path_of_cell}
@@ -14,9 +15,6 @@ place_from_bits n k cell e =
     let at_most = (path_of_cell n cell).at_most in
     let h = 30 - length p.digits in
     ap (λ x. n / 2 ^ x) (let e' : 61 - 2 * k ≡ 2 * h + 1 = omega arith in e') ∙ place_by_place (place_of p) h n (sym cell.2 ∙ number_by_place p at_most)
-
-abbrev pub number_at : ℕ → ℕ → ℕ
-number_at k m = (2 * m + 1) * 4 ^ (30 - k)
 
 pub below_at : (k m : ℕ) → k ≤ 30 → m < 6 * 4 ^ k → number_at k m < 6 * 2 ^ 61
 below_at k m h hm =

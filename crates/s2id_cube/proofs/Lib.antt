@@ -6,4 +6,5 @@ pub mod Grid
 mod Beside
 pub mod Sides
 pub mod Shared
+pub mod OverSides
 mod Loop

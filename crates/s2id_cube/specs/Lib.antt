@@ -2,3 +2,4 @@ pub mod Square
 pub mod Point
 pub mod Edge
 pub mod Grid
+pub mod Neighbor

@@ -1,8 +1,9 @@
 ghost use Rattle.std.specs.Prelude.{◌≡◌, ℕ, ◌+◌, ◌^◌, ◌<◌, ◌≤◌, slice_index_or};
 ghost use Rattle.s2id_core.specs.Path.{Path, IsPath};
-ghost use Rattle.s2id_core.specs.CellId.{path_of};
+ghost use Rattle.s2id_core.specs.CellId.{path_of, raw_of};
 ghost use Rattle.s2id_cube.specs.Square.{square_of};
 ghost use Rattle.s2id_cube.specs.Edge.{SharesSide, ShareEdge};
+ghost use Rattle.s2id_cube.specs.Neighbor.{neighbor_number};
 ghost use Rattle.s2id_cube.specs.Grid.{IsBeside, column_on, row_on};
 
 use crate::face_ij::{FaceIj, from_face_ij, to_face_ij};
@@ -32,6 +33,9 @@ pub fn edge_neighbors(cell: CellId) -> [CellId; 4]
         → IsPath other
         → ShareEdge (path_of cell) other
         → (side : ℕ) × (side < 4) × (path_of (slice_index_or result side cell) ≡ other) }
+    ensures numbers { (side : ℕ)
+        → side < 4
+        → raw_of (slice_index_or result side cell) ≡ neighbor_number side (path_of cell) }
 {
     let square = to_face_ij(cell);
     [

@@ -1,5 +1,6 @@
 -- What the answer of a run tells of its devices.
-use Rattle.std.specs.Prelude.{ℕ, ◌≤◌, Result, Ok, Err}
+use Rattle.std.specs.Prelude.{ℕ, Result, Ok, Err}
+use Rattle.s2ix_text.specs.Pieces.{ReadsOn}
 use Rattle.s2ix_cli.specs.declared.outcome.RunFault.{RunFault}
 use Rattle.s2ix_cli.specs.declared.outcome.RunFault.TheVariants.{Read, Write, OutOfMemory, ReaderTooLong}
 
@@ -19,9 +20,9 @@ sink_faults (Err Write) = 1
 sink_faults (Err OutOfMemory) = 0
 sink_faults (Err ReaderTooLong) = 0
 
--- the reader is called too long only where each of `turns` pieces gave a byte at least
-abbrev pub IsPatient : RunFault → ℕ → ℕ → Type 0
-IsPatient ReaderTooLong turns read = turns ≤ read
-IsPatient Read turns read = Unit {0}
-IsPatient Write turns read = Unit {0}
-IsPatient OutOfMemory turns read = Unit {0}
+-- the reader is called too long only where exactly `turns` pieces were read and none was the end
+abbrev pub IsPatient : {S : Type 0} → (S → ℕ → S → Type 0) → RunFault → ℕ → S → S → Type 0
+IsPatient gives ReaderTooLong turns old new = ReadsOn gives turns old new
+IsPatient gives Read turns old new = Unit {0}
+IsPatient gives Write turns old new = Unit {0}
+IsPatient gives OutOfMemory turns old new = Unit {0}

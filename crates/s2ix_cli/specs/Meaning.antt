@@ -64,8 +64,10 @@ command_asked word fields =
     else (if bytes_eq word (codes "remove") then edit_asked Remove fields
     else (if bytes_eq word (codes "undo") then bare command.Undo fields
     else (if bytes_eq word (codes "path") then of_cell command.Path (cell_asked fields)
+    else (if bytes_eq word (codes "neighbors") then of_cell command.Neighbors (cell_asked fields)
+    else (if bytes_eq word (codes "face") then of_cell command.Face (cell_asked fields)
     else (if bytes_eq word (codes "dump") then bare command.Dump fields
-    else Err BadCommand))))
+    else Err BadCommand))))))
 
 -- an answer in place of nothing
 abbrev pub asked : Result Command LineFault → Result (Option Command) LineFault

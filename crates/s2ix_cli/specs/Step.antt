@@ -5,6 +5,10 @@ use Rattle.s2ix_bag.specs.declared.pair.Entry.{Entry}
 use Rattle.s2id_core.specs.declared.cell_id.CellId.{CellId}
 use Rattle.s2id_core.specs.CellId.{path_of}
 use Rattle.s2id_core.specs.Path.{readable_path}
+use Rattle.s2id_core.specs.Token.{canonical_token}
+use Rattle.s2id_cube.specs.declared.face_ij.FaceIj.{FaceIj}
+use Rattle.s2id_cube.specs.Neighbor.{neighbor_number}
+use Rattle.s2id_cube.specs.Square.{square_of}
 use Rattle.s2ix_edit.specs.declared.edit.Edit.{Edit}
 use Rattle.s2ix_edit.specs.declared.errors.EditError.{EditError}
 use Rattle.s2ix_edit.specs.History.{State, after_edit, after_undo, change_of, last_done, undo_size}
@@ -38,6 +42,18 @@ ok_line n = concat (codes "ok " ∷ decimal n ∷ codes "\n" ∷ [])
 -- the line of a cell's path
 abbrev pub path_line : CellId → List ℕ
 path_line cell = concat (readable_path (path_of cell) ∷ codes "\n" ∷ [])
+
+-- the token of the cell over a side
+abbrev pub token_over : ℕ → CellId → List ℕ
+token_over side cell = canonical_token (neighbor_number side (path_of cell))
+
+-- the line of the cells over a cell's sides: down, right, up and left
+abbrev pub neighbors_line : CellId → List ℕ
+neighbors_line cell = concat (token_over 0 cell ∷ codes " " ∷ token_over 1 cell ∷ codes " " ∷ token_over 2 cell ∷ codes " " ∷ token_over 3 cell ∷ codes "\n" ∷ [])
+
+-- the line of a square: FACE I J LEVEL ORIENTATION
+abbrev pub square_line : FaceIj → List ℕ
+square_line s = concat (decimal s.face ∷ codes " " ∷ decimal s.i ∷ codes " " ∷ decimal s.j ∷ codes " " ∷ decimal s.level ∷ codes " " ∷ decimal s.orientation ∷ codes "\n" ∷ [])
 
 -- a line that changes nothing and prints why
 abbrev pub refused : State → List ℕ → Step
@@ -74,6 +90,8 @@ abbrev pub command_step : State → Command → Step
 command_step s (command.Edit edit) = edit_step s edit
 command_step s command.Undo = undo_step s
 command_step s (command.Path cell) = shown s (path_line cell)
+command_step s (command.Neighbors cell) = shown s (neighbors_line cell)
+command_step s (command.Face cell) = shown s (square_line (square_of (path_of cell)))
 command_step s command.Dump = shown s (dump_text s.bag.held)
 
 -- what a line of this meaning comes to

@@ -2,10 +2,11 @@
 ghost use Rattle.std.specs.Prelude.{◌≡◌, ◌+◌, ◌-◌, ◌^◌, ◌<◌};
 ghost use Rattle.s2ix_text.specs.Faults.{write_faults};
 ghost use Rattle.s2ix_text.specs.Puts.{Puts};
-ghost use Rattle.s2ix_cli.specs.Step.{no_line, ok_line, path_line};
+ghost use Rattle.s2ix_cli.specs.Step.{neighbors_line, no_line, ok_line, path_line, square_line};
 
 use itoa::Buffer;
 use s2id_core::CellId;
+use s2id_cube::{FaceIj, edge_neighbors};
 use s2ix_text::{Sink, WriteFault, put_parts};
 
 // Prints that a line is refused, and why.
@@ -36,4 +37,55 @@ pub(crate) fn put_path<K: Sink>(sink: &mut K, cell: CellId) -> Result<(), WriteF
 {
     let path = cell.path();
     put_parts(sink, &[path.as_bytes(), b"\n"])
+}
+
+// Prints the cells over a cell's sides.
+pub(crate) fn put_neighbors<K: Sink>(sink: &mut K, cell: CellId) -> Result<(), WriteFault>
+    requires { K.fault_count sink.old < 2 ^ 64 - 1 }
+    ensures puts { Puts (K.taken sink.old) (K.taken sink.new) result (neighbors_line cell) }
+    ensures faults { K.fault_count sink.new ≡ K.fault_count sink.old + write_faults result }
+{
+    let neighbors = edge_neighbors(cell);
+    let down = neighbors[0].token();
+    let right = neighbors[1].token();
+    let up = neighbors[2].token();
+    let left = neighbors[3].token();
+    put_parts(
+        sink,
+        &[
+            down.as_bytes(),
+            b" ",
+            right.as_bytes(),
+            b" ",
+            up.as_bytes(),
+            b" ",
+            left.as_bytes(),
+            b"\n",
+        ],
+    )
+}
+
+// Prints a cell's square.
+pub(crate) fn put_square<K: Sink>(sink: &mut K, square: FaceIj) -> Result<(), WriteFault>
+    requires { K.fault_count sink.old < 2 ^ 64 - 1 }
+    ensures puts { Puts (K.taken sink.old) (K.taken sink.new) result (square_line square) }
+    ensures faults { K.fault_count sink.new ≡ K.fault_count sink.old + write_faults result }
+{
+    let (mut face, mut i, mut j) = (Buffer::new(), Buffer::new(), Buffer::new());
+    let (mut level, mut orientation) = (Buffer::new(), Buffer::new());
+    put_parts(
+        sink,
+        &[
+            face.format(square.face).as_bytes(),
+            b" ",
+            i.format(square.i).as_bytes(),
+            b" ",
+            j.format(square.j).as_bytes(),
+            b" ",
+            level.format(square.level).as_bytes(),
+            b" ",
+            orientation.format(square.orientation).as_bytes(),
+            b"\n",
+        ],
+    )
 }

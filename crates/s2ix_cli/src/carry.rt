@@ -4,11 +4,12 @@ ghost use Rattle.s2ix_cli.specs.Carry.{Carries};
 ghost use Rattle.s2ix_cli.specs.Faults.{sink_faults};
 ghost use Rattle.s2ix_cli.specs.Step.{command_step, edit_step, step_of, undo_step};
 
-use crate::answer::{put_no, put_ok, put_path};
+use crate::answer::{put_neighbors, put_no, put_ok, put_path, put_square};
 use crate::command::Command;
 use crate::names::edit_error_name;
 use crate::outcome::{LineOutcome, RunFault};
 use crate::parse::meaning;
+use s2id_cube::to_face_ij;
 use s2ix_edit::{Edit, EditError, Store, UndoError};
 use s2ix_text::{Sink, write_dump};
 
@@ -50,6 +51,14 @@ fn carry_command<K: Sink>(
         Command::Undo => carry_undo(store, sink),
         Command::Path(cell) => {
             put_path(sink, cell)?;
+            Ok(LineOutcome::Accepted)
+        }
+        Command::Neighbors(cell) => {
+            put_neighbors(sink, cell)?;
+            Ok(LineOutcome::Accepted)
+        }
+        Command::Face(cell) => {
+            put_square(sink, to_face_ij(cell))?;
             Ok(LineOutcome::Accepted)
         }
         Command::Dump => {

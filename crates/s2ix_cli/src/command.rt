@@ -10,6 +10,10 @@ pub enum Command {
     Undo,
     /// `path`.
     Path(CellId),
+    /// `neighbors`.
+    Neighbors(CellId),
+    /// `face`.
+    Face(CellId),
     /// `dump`.
     Dump,
 }

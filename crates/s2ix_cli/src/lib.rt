@@ -4,8 +4,6 @@
 mod answer;
 mod carry;
 mod command;
-#[cfg(test)]
-mod devices;
 mod lines;
 mod names;
 mod numbers;

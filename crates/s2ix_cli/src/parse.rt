@@ -52,6 +52,10 @@ fn command_asked(word: &[u8], fields: Fields<'_>) -> Result<Command, LineFault>
         bare(Command::Undo, fields)
     } else if word == b"path".as_slice() {
         Ok(Command::Path(cell_asked(fields)?))
+    } else if word == b"neighbors".as_slice() {
+        Ok(Command::Neighbors(cell_asked(fields)?))
+    } else if word == b"face".as_slice() {
+        Ok(Command::Face(cell_asked(fields)?))
     } else if word == b"dump".as_slice() {
         bare(Command::Dump, fields)
     } else {

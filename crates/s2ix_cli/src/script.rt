@@ -33,9 +33,9 @@ pub fn run<S: Source, K: Sink>(
     ensures finished { IfOk result (λ told. (input : List ℕ) × Consumes (S.left source.old) (S.left source.new) input
         × IsAtEnd (S.left source.new)
         × Finishes options.stop input store.old store.new (K.taken sink.old) (K.taken sink.new) told) }
-    ensures stopped { IfErr result (λ fault. (input : List ℕ) × Consumes (S.left source.old) (S.left source.new) input
-        × IsPatient fault options.turns (length input)
+    ensures stopped { OnErr result ((input : List ℕ) × Consumes (S.left source.old) (S.left source.new) input
         × StopsAfter options.stop input (S.left source.new) store.old store.new (K.taken sink.old) (K.taken sink.new)) }
+    ensures too_long { IfErr result (λ fault. IsPatient S.gives fault options.turns source.old source.new) }
     ensures source_faults { S.fault_count source.new ≡ S.fault_count source.old + source_faults result }
     ensures sink_faults { K.fault_count sink.new ≡ K.fault_count sink.old + sink_faults result }
 {

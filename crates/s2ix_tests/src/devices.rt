@@ -3,6 +3,7 @@
 ghost use Rattle.std.specs.Prelude.{◌≡◌, ◌↔◌, ◌+◌, ◌-◌, ◌^◌, ◌<◌, Some, Ok, [], max, IsErr, IsTrue};
 ghost use Rattle.std.specs.Io.KnownBytes.{Keeps};
 ghost use Rattle.s2ix_text.specs.Faults.{write_faults};
+ghost use Rattle.s2ix_text.specs.Pieces.{Gave};
 ghost use Rattle.s2ix_tests.specs.Devices.{flush_fails, piece_len_of, put_len_of, sink_fault_at, source_fault_at};
 
 use s2ix_text::{ReadFault, Sink, Source, WriteFault};
@@ -39,6 +40,8 @@ impl<'a> SliceSource<'a> {
 
 impl Source for SliceSource<'_> {
     ghost left = { λ s. Some s.left.now };
+
+    ghost gives = { λ old n new. Gave (Some old.left.now) n (Some new.left.now) };
 
     ghost fault_count = { λ s. s.faults };
 

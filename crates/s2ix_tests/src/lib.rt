@@ -7,6 +7,8 @@ pub mod devices;
 #[cfg(test)]
 mod fault_tests;
 #[cfg(test)]
+mod reading_tests;
+#[cfg(test)]
 mod script_tests;
 #[cfg(test)]
 mod store_tests;

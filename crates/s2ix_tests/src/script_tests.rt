@@ -281,3 +281,53 @@ fn paths(rt: HostRuntime) -> Result<(), Fail> {
     ];
     check_all(&rt, rt.alloc(), &cases)
 }
+
+#[test]
+fn neighbors(rt: HostRuntime) -> Result<(), Fail> {
+    let cases = [
+        script(
+            "neighbors lie down, right, up and left, over the edges of the cube too",
+            b"neighbors 1\nneighbors 04\nneighbors 1d\n",
+            b"b 3 5 9\nbc 1c 0c 94\nb7 1f 1b 03\n",
+            false,
+        ),
+        script(
+            "a leaf has neighbors on three other faces",
+            b"neighbors 0000000000000001\n",
+            b"bfffffffffffffff 0000000000000003 0000000000000007 9555555555555555\n",
+            false,
+        ),
+        script(
+            "neighbors are of one cell",
+            b"neighbors X\nneighbors\nneighbors 1 3\n",
+            b"no BadToken\nno BadArguments\nno BadArguments\n",
+            true,
+        ),
+    ];
+    check_all(&rt, rt.alloc(), &cases)
+}
+
+#[test]
+fn squares(rt: HostRuntime) -> Result<(), Fail> {
+    let cases = [
+        script(
+            "a square has a face, a column, a row, a level and an orientation",
+            b"face 1\nface 3\nface 04\nface 1d\nface bc\nface 94\n",
+            b"0 0 0 0 0\n1 0 0 0 1\n0 0 0 1 1\n0 2 0 2 3\n5 0 1 1 2\n4 1 1 1 0\n",
+            false,
+        ),
+        script(
+            "the squares of leaves",
+            b"face 0000000000000001\nface 0000000000000003\nface 9555555555555555\nface bfffffffffffffff\n",
+            b"0 0 0 30 0\n0 1 0 30 1\n4 1073741823 1073741823 30 0\n5 0 1073741823 30 1\n",
+            false,
+        ),
+        script(
+            "a square is of one cell",
+            b"face X\nface\nface 1 3\n",
+            b"no BadToken\nno BadArguments\nno BadArguments\n",
+            true,
+        ),
+    ];
+    check_all(&rt, rt.alloc(), &cases)
+}

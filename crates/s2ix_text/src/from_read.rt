@@ -1,5 +1,6 @@
 ghost use Rattle.std.specs.Prelude.{◌≡◌};
 ghost use Rattle.s2ix_text.specs.Adapters.{reader_of, reader_faults};
+ghost use Rattle.s2ix_text.specs.Pieces.{Gave};
 
 use super::{ReadFault, Source};
 use std::io::Read;
@@ -23,6 +24,8 @@ impl<R: Read> FromRead<R> {
 
 impl<R: Read> Source for FromRead<R> {
     ghost left = { λ s. R.remaining (reader_of s) };
+
+    ghost gives = { λ old n new. Gave (R.remaining (reader_of old)) n (R.remaining (reader_of new)) };
 
     ghost fault_count = { reader_faults };
 

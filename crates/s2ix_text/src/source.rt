@@ -15,6 +15,9 @@ pub trait Source {
     // The bytes that are still to come, where they are known.
     ghost left: { Self → Option (List ℕ) };
 
+    // A call of `piece` that gave so many bytes may lead from the first state of the source to the second.
+    ghost gives: { Self → ℕ → Self → Type 0 };
+
     // How many calls of `piece` have failed so far.
     ghost fault_count: { Self → ℕ };
 
@@ -27,6 +30,7 @@ pub trait Source {
         ensures bytes { MatchResult result
             (λ n. Consumes (left self.old) (left self.new) (take n buf.new))
             (λ _. Keeps (left self.old) (left self.new)) }
+        ensures call { IfOk result (λ n. gives self.old n self.new) }
         ensures end { IfOk result (λ n. n ≡ 0 → IsAtEnd (left self.new)) }
         ensures faults { fault_count self.new ≡ fault_count self.old + read_faults result };
 

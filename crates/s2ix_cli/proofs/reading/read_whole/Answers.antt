@@ -7,4 +7,4 @@ pub returns-in_err-extend_from_slice-clause-stopped : goal.returns-in_err-extend
 returns-in_err-extend_from_slice-clause-stopped g c =
     let exit = c.from_residual-in_err-extend_from_slice in
     let p = err_from_is_err_and exit.result exit.ensures.1 in
-    rw (p.1, p.2) (_, Consumes-trans _ _ _ _ _ c.pieces.invariant.0 c.in_ok-count.ensures.bytes, tt)
+    rw p.1 (_, Consumes-trans _ _ _ _ _ c.pieces.invariant.0 c.in_ok-count.ensures.bytes)

@@ -9,7 +9,7 @@ pub returns-in_err-input-clause-stopped : goal.returns-in_err-input-clause-stopp
 returns-in_err-input-clause-stopped g c =
     let read = c.in_err-input.ensures.stopped in
     let p = err_from_is_err_and c.from_residual.result c.from_residual.ensures.1 in
-    rw (p.1, p.2) (read.0, read.1, read.2, StopsAfter-nothing _ _ _ _ _)
+    rw p.1 (read.0, read.1, StopsAfter-nothing _ _ _ _ _)
 
 pub returns-in_err-flush-clause-stopped : goal.returns-in_err-flush-clause-stopped
 returns-in_err-flush-clause-stopped g c =
@@ -17,5 +17,5 @@ returns-in_err-flush-clause-stopped g c =
     let whole = c.in_ok-input.ensures.whole in
     let told = c.in_ok-told.ensures.finished in
     let p = err_from_is_err_and exit.result exit.ensures.1 in
-    rw (p.1, p.2)
-    (c.deref.result.now, subst (λ l. Consumes (g.S.Source.left c.args.source.now) (g.S.Source.left c.read_whole.new.source) l) (sym c.deref.ensures.value) whole.0, tt, StopsAfter-finished _ _ _ _ _ _ _ _ _ whole.1 told c.in_err-flush.ensures.bytes)
+    rw p.1
+    (c.deref.result.now, subst (λ l. Consumes (g.S.Source.left c.args.source.now) (g.S.Source.left c.read_whole.new.source) l) (sym c.deref.ensures.value) whole.0, StopsAfter-finished _ _ _ _ _ _ _ _ _ whole.1 told c.in_err-flush.ensures.bytes)
