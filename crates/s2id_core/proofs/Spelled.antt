@@ -28,7 +28,7 @@ numbered_at : (n : ℕ) (h : IsCellNumber n) (b : Bool) (e : is_cell_number n �
 numbered_at n h true e = ap (λ (v : IsCellNumber n). Some (record { raw = n; valid = v })) (IsCellNumber-prop n (IsCellNumber-from_test n e) h)
 numbered_at n h false e = absurd (both_ways (is_cell_number n) e (is_cell_number-true n h))
 
-numbered : (n : ℕ) (h : IsCellNumber n) → cell_numbered n ≡ Some (record { raw = n; valid = h })
+pub numbered : (n : ℕ) (h : IsCellNumber n) → cell_numbered n ≡ Some (record { raw = n; valid = h })
 unfolding cell_numbered
 numbered n h = numbered_at n h (is_cell_number n) refl
 
@@ -40,7 +40,7 @@ numbered-raw_at : (n : ℕ) (c : CellId) (b : Bool) (e : is_cell_number n ≡ b)
 numbered-raw_at n c true e h = let same : record { raw = n; valid = IsCellNumber-from_test n e } ≡ c = cc in ap raw_of same
 numbered-raw_at n c false e h = cc
 
-numbered-raw : (n : ℕ) (c : CellId) → cell_numbered n ≡ Some c → n ≡ raw_of c
+pub numbered-raw : (n : ℕ) (c : CellId) → cell_numbered n ≡ Some c → n ≡ raw_of c
 unfolding cell_numbered
 numbered-raw n c h = numbered-raw_at n c (is_cell_number n) refl h
 

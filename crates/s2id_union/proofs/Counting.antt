@@ -1,5 +1,5 @@
 -- The leaves of a chain of cells, one by one.
-use Rattle.std.proofs.Common.{◌≡◌, ◌↔◌, ℕ, zero, suc, ◌+◌, ◌-◌, ◌*◌, ◌/◌, ◌%◌, ◌<◌, ◌≤◌, ◌⊎◌, inl, inr, List, [], ◌∷◌, ◌++◌, length, get_or, take, sym, ◌∙◌, ap, ap₂, refl, arith, subst, AllPairs, All, Contains}
+use Rattle.std.proofs.Common.{◌≡◌, ℕ, zero, suc, ◌+◌, ◌-◌, ◌*◌, ◌/◌, ◌%◌, ◌<◌, ◌≤◌, inl, inr, List, [], ◌∷◌, ◌++◌, length, get_or, take, sym, ◌∙◌, ap, ap₂, refl, arith, subst, AllPairs, Contains}
 use Rattle.std.proofs.lemmas.Bool.{cases_lt}
 use Rattle.std.proofs.lemmas.List.{length-append, take_more, take_all, get_or_default}
 use Rattle.std.proofs.lemmas.List.Elements.{Contains-append_left, Contains-append_right, Contains-append_cases, Contains-get_or}
@@ -11,7 +11,7 @@ use Rattle.s2id_core.specs.Leaves.{IsLeafPath}
 use Rattle.s2id_core.proofs.Numbers.{path_at-number}
 use Rattle.s2id_core.proofs.Spans.{number_of_leaf}
 use Rattle.s2id_core.proofs.Nested.{span, leaf_of_odd}
-use Rattle.s2id_union.specs.Region.{IsLeafList, IsNormal, InRegion}
+use Rattle.s2id_union.specs.Region.{IsLeafList}
 use Rattle.s2id_union.specs.Covers.{Covers, IsChain}
 use Rattle.s2id_union.proofs.Lists.{head_pairs, tail_pairs, cons_cases, in_tail, at_head, none_in_nil}
 use Rattle.s2id_union.proofs.Covering.{region_from_covers, covers_from_region, covers_nil}

@@ -1,9 +1,9 @@
 -- Regions of leaves against sets of numbers.
-use Rattle.std.proofs.Common.{◌≡◌, ◌↔◌, ℕ, ◌+◌, ◌<◌, ◌≤◌, ◌⊎◌, inl, inr, List, [], ◌∷◌, ◌++◌, arith, Contains, subst, sym}
+use Rattle.std.proofs.Common.{◌≡◌, ℕ, ◌<◌, ◌≤◌, ◌⊎◌, inl, inr, List, [], ◌∷◌, ◌++◌, arith, subst, sym}
 use Rattle.s2id_core.specs.declared.cell_id.CellId.{CellId}
-use Rattle.s2id_core.specs.CellId.{raw_of, path_of, first_of, end_of}
+use Rattle.s2id_core.specs.CellId.{raw_of, first_of, end_of}
 use Rattle.s2id_core.specs.Path.{Path, number_of}
-use Rattle.s2id_core.specs.Leaves.{IsLeafPath, IsLeafOf}
+use Rattle.s2id_core.specs.Leaves.{IsLeafPath}
 use Rattle.s2id_core.proofs.Nested.{span, span_from_leaf, leaf_from_span}
 use Rattle.std.proofs.lemmas.List.Elements.{Contains-append_left, Contains-push, Contains-push_cases}
 use Rattle.s2id_union.specs.Region.{InRegion}

@@ -1,19 +1,19 @@
 -- The greatest cell of a run of leaves, by zeros and width.
-use Rattle.std.proofs.Common.{◌≡◌, ◌↔◌, ℕ, zero, suc, ◌+◌, ◌-◌, ◌*◌, ◌/◌, ◌%◌, ◌^◌, ◌<◌, ◌≤◌, ◌⊎◌, inl, inr, List, length, sym, ◌∙◌, ap, ap₂, refl, arith, subst}
+use Rattle.std.proofs.Common.{◌≡◌, ℕ, zero, suc, ◌+◌, ◌-◌, ◌*◌, ◌/◌, ◌%◌, ◌^◌, ◌<◌, ◌≤◌, inl, inr, length, sym, ◌∙◌, ap, arith}
 use Rattle.std.specs.Int.{w64, trailing_zeros}
-use Rattle.std.specs.Int.Count.{count_trailing_zeros, trailing_of_zero}
-use Rattle.std.proofs.Math.Nat.{mul-le-mul_left, mul-le-mul_right}
+use Rattle.std.specs.Int.Count.{count_trailing_zeros}
+use Rattle.std.proofs.Math.Nat.{mul-le-mul_right}
 use Rattle.std.proofs.lemmas.Bool.{cases_lt}
 use Rattle.std.proofs.lemmas.Nat.{pow-add, pow_pos, one_shl}
-use Rattle.s2id_core.specs.Path.{Path, number_of, path_at, place_of}
+use Rattle.s2id_core.specs.Path.{Path, path_at, place_of}
 use Rattle.s2id_core.specs.Cell.{IsCellNumber}
 use Rattle.s2id_core.specs.Span.{first_at, end_at}
 use Rattle.s2id_core.proofs.Powers.{two_step, four_pow, four_pow_odd, four_pos, four_below}
-use Rattle.s2id_core.proofs.Zeros.{OddPart, odd_part}
+use Rattle.s2id_core.proofs.Zeros.{odd_part}
 use Rattle.s2id_core.proofs.Places.{length-last_digits}
-use Rattle.s2id_core.proofs.Numbers.{number-path_at, path_by_place, path_of_place, path_of_cell}
+use Rattle.s2id_core.proofs.Numbers.{number-path_at, path_by_place}
 use Rattle.s2id_core.proofs.Spans.{width, start}
-use Rattle.s2id_core.proofs.Nested.{Run, run}
+use Rattle.s2id_core.proofs.Nested.{run}
 use Rattle.s2id_union.specs.Covers.{IsGreatest, IsLeast}
 use lib.Count.{under}
 

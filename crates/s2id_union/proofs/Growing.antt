@@ -1,14 +1,14 @@
 -- A list that grows by the greatest cells of a run of leaves.
-use Rattle.std.proofs.Common.{◌≡◌, ◌↔◌, ℕ, suc, ◌+◌, ◌%◌, ◌<◌, ◌≤◌, ◌⊎◌, inl, inr, List, [], ◌∷◌, ◌++◌, length, get_or, sym, ap, arith, subst, AllPairs, Contains}
+use Rattle.std.proofs.Common.{◌≡◌, ◌↔◌, ℕ, ◌+◌, ◌%◌, ◌<◌, ◌≤◌, ◌⊎◌, inl, inr, List, [], ◌∷◌, ◌++◌, get_or, sym, ap, arith, subst}
 use Rattle.std.proofs.lemmas.Bool.{cases_lt}
 use Rattle.std.proofs.lemmas.List.Elements.{Contains-get_or, Contains-push_cases}
 use Rattle.std.proofs.lemmas.List.Quantifiers.{all_pairs_push}
 use Rattle.s2id_core.specs.declared.cell_id.CellId.{CellId}
 use Rattle.s2id_core.specs.CellId.{raw_of, first_of, end_of}
 use Rattle.s2id_core.specs.Cell.{IsCellNumber}
-use Rattle.s2id_core.specs.Span.{first_at, end_at, IsNested}
+use Rattle.s2id_core.specs.Span.{first_at, end_at}
 use Rattle.s2id_core.proofs.Nested.{span, nested_from_crossing_spans, same_span}
-use Rattle.s2id_union.specs.Covers.{Covers, InRun, IsChain, IsMaximal, IsGrown, IsGrowing, IsGreatest, IsAdded}
+use Rattle.s2id_union.specs.Covers.{Covers, InRun, IsMaximal, IsGrown, IsGrowing, IsGreatest, IsAdded}
 use Rattle.s2id_union.proofs.Lists.{none_in_nil}
 use Rattle.s2id_union.proofs.Covering.{covers_push_left, covers_push_right, covers_push_cases}
 

@@ -1,5 +1,5 @@
 -- Cells in the order of their first leaves, joined to runs.
-use Rattle.std.proofs.Common.{◌≡◌, ◌↔◌, ℕ, zero, suc, ◌+◌, ◌-◌, ◌%◌, ◌<◌, ◌≤◌, ◌⊎◌, inl, inr, List, [], ◌∷◌, ◌++◌, length, get_or, take, sym, ◌∙◌, ap, refl, arith, subst, Contains}
+use Rattle.std.proofs.Common.{◌≡◌, ◌↔◌, ℕ, ◌+◌, ◌%◌, ◌<◌, ◌≤◌, ◌⊎◌, inl, inr, List, [], ◌∷◌, ◌++◌, length, get_or, take, sym, ◌∙◌, ap, arith, subst}
 use Rattle.std.specs.List.Sorted.{IsNonDecreasingBy, IsPermutation}
 use Rattle.std.proofs.lemmas.Bool.{cases_lt}
 use Rattle.std.proofs.lemmas.List.{get_or_default, take_more, take_all}
@@ -8,7 +8,7 @@ use Rattle.s2id_core.specs.declared.cell_id.CellId.{CellId}
 use Rattle.s2id_core.specs.CellId.{raw_of, first_of, end_of}
 use Rattle.s2id_core.proofs.Nested.{span}
 use Rattle.s2id_union.specs.Region.{IsNormal}
-use Rattle.s2id_union.specs.Covers.{Covers, InRun, IsGrown, IsAdded, IsJoined}
+use Rattle.s2id_union.specs.Covers.{Covers, InRun, IsAdded, IsJoined}
 use Rattle.s2id_union.proofs.Covering.{covers_nil, covers_push_left, covers_push_right, covers_push_cases}
 use Rattle.s2id_union.proofs.Growing.{grown_nil, grown_later}
 use Rattle.s2id_union.proofs.Normal.{normal_from_grown}

@@ -4,8 +4,9 @@ mod Covering
 mod Growing
 mod Normal
 mod Greatest
-mod Searching
+pub mod Searching
 mod Sweeping
 mod Made
+pub mod NormalForm
 mod Joining
 mod Counting

@@ -1,5 +1,5 @@
 -- Pairs and members of lists.
-use Rattle.std.proofs.Common.{◌≡◌, ℕ, zero, suc, ◌+◌, ◌<◌, ◌≤◌, ◌⊎◌, inl, inr, List, [], ◌∷◌, ◌++◌, length, get_or, take, drop, sym, ◌∙◌, ap, refl, arith, All, AllPairs, Contains, subst}
+use Rattle.std.proofs.Common.{◌≡◌, zero, suc, ◌⊎◌, inl, inr, List, [], ◌∷◌, sym, ◌∙◌, refl, arith, AllPairs, Contains, subst}
 
 pub head_pairs : {X : Type 0} (R : X → X → Type 0) (x : X) (xs : List X) → AllPairs R (x ∷ xs) → (y : X) → Contains xs y → R x y
 head_pairs R x xs h y c = subst (R x) c.2 (h 0 (suc c.0) y (omega arith) (let l = c.1 in omega arith))

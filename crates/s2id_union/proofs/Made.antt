@@ -1,10 +1,10 @@
 -- A list that is made of runs, as a set of leaves.
-use Rattle.std.proofs.Common.{◌≡◌, ◌↔◌, ℕ, ◌+◌, ◌<◌, ◌≤◌, ◌⊎◌, inl, inr, List, [], subst, sym, arith}
+use Rattle.std.proofs.Common.{◌≡◌, ◌↔◌, ℕ, ◌+◌, ◌<◌, ◌≤◌, ◌⊎◌, inl, inr, List, [], subst, sym}
 use Rattle.s2id_core.specs.declared.cell_id.CellId.{CellId}
 use Rattle.s2id_core.specs.Path.{Path, number_of}
 use Rattle.s2id_core.specs.Leaves.{IsLeafPath}
 use Rattle.s2id_union.specs.Region.{InRegion, IsNormal}
-use Rattle.s2id_union.specs.Covers.{Covers, InRun, IsGrown, IsAdded}
+use Rattle.s2id_union.specs.Covers.{Covers, IsGrown, IsAdded}
 use Rattle.s2id_union.specs.declared.sweep.Operation.{Operation}
 use Rattle.s2id_union.specs.declared.sweep.Operation.TheVariants.{Union, Intersection, Difference}
 use Rattle.s2id_union.specs.Operation.{Keeps}

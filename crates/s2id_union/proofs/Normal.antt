@@ -1,21 +1,20 @@
 -- A grown list is normal.
-use Rattle.std.proofs.Common.{◌≡◌, ◌↔◌, ℕ, suc, ◌+◌, ◌-◌, ◌*◌, ◌^◌, ◌<◌, ◌≤◌, ◌⊎◌, inl, inr, List, [], ◌∷◌, ◌++◌, length, get_or, sym, ◌∙◌, ap, ap₂, refl, arith, subst, Any, AllPairs, Contains}
+use Rattle.std.proofs.Common.{◌≡◌, ℕ, suc, ◌+◌, ◌-◌, ◌*◌, ◌^◌, ◌<◌, ◌≤◌, inl, inr, List, [], ◌∷◌, length, get_or, sym, ◌∙◌, ap, arith, subst, Any}
 use Rattle.std.proofs.lemmas.Bool.{cases_lt}
 use Rattle.std.proofs.lemmas.List.{length_push, get_or_append_left}
-use Rattle.std.proofs.lemmas.List.Elements.{All-append, All-take}
 use Rattle.s2id_core.specs.declared.cell_id.CellId.{CellId}
 use Rattle.s2id_core.specs.CellId.{raw_of, path_of, first_of, end_of}
 use Rattle.s2id_core.specs.Cell.{IsCellNumber}
 use Rattle.s2id_core.specs.Path.{Path, IsPath, number_of, path_at, place_of, base_four, child}
 use Rattle.s2id_core.specs.Leaves.{IsWithin}
-use Rattle.s2id_core.specs.Span.{first_at, end_at, IsNested}
+use Rattle.s2id_core.specs.Span.{first_at, end_at}
 use Rattle.s2id_core.proofs.Numbers.{path_of_cell, cell_of_path, path_at-number}
-use Rattle.s2id_core.proofs.Powers.{four_step, four_pos}
+use Rattle.s2id_core.proofs.Powers.{four_step}
 use Rattle.s2id_core.proofs.Levels.{place_of-more}
 use Rattle.s2id_core.proofs.Spans.{width, start}
 use Rattle.s2id_core.proofs.Nested.{run, span, nested_from_within}
 use Rattle.s2id_union.specs.Region.{IsNormal}
-use Rattle.s2id_union.specs.Covers.{Covers, InRun, IsChain, IsMaximal, IsGrown}
+use Rattle.s2id_union.specs.Covers.{Covers, IsGrown}
 use Rattle.s2id_union.proofs.Lists.{pair_cases}
 use Rattle.s2id_union.proofs.Unique.{child_level, child_within}
 

@@ -1,17 +1,15 @@
 -- The one cell of a normal list that can hold a place.
-use Rattle.std.proofs.Common.{◌≡◌, ◌≢◌, ◌↔◌, ℕ, zero, suc, ◌+◌, ◌-◌, ◌<◌, ◌≤◌, ◌⊎◌, inl, inr, List, length, get_or, sym, ◌∙◌, ap, arith, subst, Contains}
+use Rattle.std.proofs.Common.{◌≡◌, ℕ, ◌<◌, ◌≤◌, inl, inr, List, length, get_or, sym, ◌∙◌, ap, arith, subst, Contains}
 use Rattle.std.proofs.lemmas.Bool.{cases_lt}
 use Rattle.std.proofs.lemmas.List.{get_or_default}
 use Rattle.std.proofs.lemmas.List.Elements.{Contains-get_or}
 use Rattle.s2id_core.specs.declared.cell_id.CellId.{CellId}
 use Rattle.s2id_core.specs.CellId.{raw_of, path_of, first_of, end_of}
-use Rattle.s2id_core.specs.Path.{Path, number_of}
-use Rattle.s2id_core.specs.Leaves.{IsLeafOf, IsWithin, Overlap}
 use Rattle.s2id_core.specs.Span.{IsNested}
 use Rattle.s2id_core.proofs.Numbers.{path_of_cell}
 use Rattle.s2id_core.proofs.Spans.{leaves_iff_within}
 use Rattle.s2id_core.proofs.Nested.{span, span_from_leaf, nested_from_within, within_from_nested, nested_from_crossing_spans}
-use Rattle.s2id_union.specs.Region.{InRegion, IsNormal, HasAllOf, Meets}
+use Rattle.s2id_union.specs.Region.{IsNormal, HasAllOf, Meets}
 use Rattle.s2id_union.specs.Covers.{IsChain, IsAhead}
 use Rattle.s2id_union.proofs.Unique.{around_from_all}
 

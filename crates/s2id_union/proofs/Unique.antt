@@ -1,20 +1,19 @@
 -- A region has one normal list.
-use Rattle.std.proofs.Common.{◌≡◌, ◌↔◌, ℕ, zero, suc, ◌+◌, ◌<◌, ◌≤◌, ◌⊎◌, inl, inr, List, [], ◌∷◌, ◌++◌, length, take, ◌-◌, sym, ◌∙◌, ap, ap₂, refl, arith, All, Any, AllPairs, Contains, subst}
+use Rattle.std.proofs.Common.{◌≡◌, ℕ, zero, suc, ◌+◌, ◌<◌, ◌⊎◌, inl, inr, List, [], ◌∷◌, ◌++◌, length, ◌-◌, sym, ◌∙◌, ap, ap₂, refl, arith, Any, AllPairs, Contains, subst}
 use Rattle.std.proofs.lemmas.Bool.{cases_lt}
 use Rattle.std.proofs.lemmas.List.{length_push, take_all, take_at, take-append-le}
 use Rattle.std.proofs.lemmas.List.Elements.{All-push}
 use Rattle.s2id_core.specs.declared.cell_id.CellId.{CellId}
 use Rattle.s2id_core.specs.CellId.{raw_of, path_of}
-use Rattle.s2id_core.specs.Cell.{IsCellNumber}
-use Rattle.s2id_core.specs.Path.{Path, IsPath, number_of, path_at, ancestor, child}
-use Rattle.s2id_core.specs.Leaves.{IsLeafPath, IsLeafOf, IsWithin}
+use Rattle.s2id_core.specs.Path.{Path, IsPath, ancestor, child}
+use Rattle.s2id_core.specs.Leaves.{IsLeafOf, IsWithin}
 use Rattle.s2id_core.specs.Span.{IsNested}
 use Rattle.s2id_core.proofs.Numbers.{path_of_cell}
 use Rattle.s2id_core.proofs.Levels.{ancestor_itself}
 use Rattle.s2id_core.proofs.Spans.{leaves_from_within}
 use Rattle.s2id_core.proofs.Nested.{nested_from_within, within_from_nested, same_span}
 use Rattle.s2id_core.proofs.Cells.{same_cell}
-use Rattle.s2id_union.specs.Region.{InRegion, IsNormal, HaveSameRegion, HasAllOf}
+use Rattle.s2id_union.specs.Region.{IsNormal, HaveSameRegion, HasAllOf}
 use Rattle.s2id_union.proofs.Lists.{head_pairs, tail_pairs, cons_cases, in_tail, at_head, none_in_nil}
 
 -- ---- children
@@ -117,7 +116,8 @@ moved xs ys nx ny same c held =
     let f : b ≡ c = same_cell b c (same_span (raw_of b) (raw_of c) b.valid c.valid (omega arith) (omega arith)) in
     subst (Contains ys) f held_b
 
-abbrev Rises : List CellId → Type 0
+-- the numbers of the cells rise strictly
+abbrev pub Rises : List CellId → Type 0
 Rises = AllPairs (λ a b. raw_of a < raw_of b)
 
 -- lists that rise strictly and have the same cells are equal

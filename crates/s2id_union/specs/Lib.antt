@@ -1,4 +1,5 @@
 pub mod Region
+pub mod NormalForm
 pub mod Covers
 pub mod Range
 pub mod Operation

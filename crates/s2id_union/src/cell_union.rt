@@ -3,6 +3,7 @@ ghost use Rattle.s2id_core.specs.CellId.{path_of};
 ghost use Rattle.s2id_core.specs.Path.{Path, number_of};
 ghost use Rattle.s2id_core.specs.Leaves.{IsLeafPath};
 ghost use Rattle.s2id_union.specs.Region.{InRegion, IsNormal, HaveSameRegion, HasAllOf, Meets, IsLeafList};
+ghost use Rattle.s2id_union.specs.NormalForm.{normal_form};
 ghost use Rattle.s2id_union.specs.Range.{IsLeafRange, IsRangeRefusal};
 
 use crate::count::counted;
@@ -80,6 +81,7 @@ impl CellUnion {
     pub fn normalise(alloc: Global, cells: &[CellId]) -> Result<CellUnion, OutOfMemory>
         ensures region { IfOk result (λ union. HaveSameRegion union cells.now) }
         ensures normal { IfOk result IsNormal }
+        ensures form { IfOk result (λ union. union ≡ normal_form cells.now) }
     {
         let cells = normal_list(alloc, cells)?;
         Ok(CellUnion { cells })

@@ -2,9 +2,19 @@
 
 ghost use Rattle.std.specs.Prelude.{◌≡◌, List};
 ghost use Rattle.s2id_core.specs.declared.cell_id.CellId.{CellId};
+ghost use Rattle.s2id_union.specs.NormalForm.{normal_form};
 ghost use Rattle.s2id_union.specs.Region.{IsNormal, HaveSameRegion};
 
 /// Two normal lists with the same region are equal.
 pub fn one_normal_list()
     ensures { (xs ys : List CellId) → IsNormal xs → IsNormal ys → HaveSameRegion xs ys → xs ≡ ys }
+{}
+
+/// The normal form of any cells is normal and has their region, a normal list is its own normal form, and lists with
+/// the same region have the same normal form.
+pub fn normal_form_is_normal()
+    ensures normal { (cells : List CellId) → IsNormal (normal_form cells) }
+    ensures region { (cells : List CellId) → HaveSameRegion (normal_form cells) cells }
+    ensures itself { (cells : List CellId) → IsNormal cells → normal_form cells ≡ cells }
+    ensures same { (xs ys : List CellId) → HaveSameRegion xs ys → normal_form xs ≡ normal_form ys }
 {}

@@ -7,6 +7,7 @@ mod error;
 mod join;
 pub mod laws;
 mod run;
+mod same;
 mod search;
 mod sweep;
 

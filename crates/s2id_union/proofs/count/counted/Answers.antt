@@ -1,9 +1,9 @@
-use Rattle.std.proofs.Common.{◌≡◌, ℕ, ◌+◌, ◌-◌, ◌*◌, ◌/◌, ◌<◌, ◌≤◌, length, get_or, take, sym, ◌∙◌, ap, arith}
+use Rattle.std.proofs.Common.{◌≡◌, ◌+◌, get_or, sym, ◌∙◌, ap, arith}
 use Rattle.s2id_core.specs.declared.cell_id.CellId.{CellId}
 use Rattle.s2id_core.specs.CellId.{raw_of, first_of, end_of}
 use Rattle.s2id_core.proofs.Nested.{span}
 use Rattle.s2id_union.proofs.Searching.{chain_from_normal}
-use Rattle.s2id_union.proofs.Counting.{total, total-none, total_more, next_bound, cell_width, counted}
+use Rattle.s2id_union.proofs.Counting.{total-none, total_more, next_bound, cell_width, counted}
 use Rattle.s2id_union.proofs.count.counted.Goals as goal
 
 pub loop-cell-init : goal.loop-cell-init

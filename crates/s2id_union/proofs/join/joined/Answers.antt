@@ -1,5 +1,4 @@
-use Rattle.std.proofs.Common.{◌≡◌, ◌+◌, ℕ, ◌<◌, ◌≤◌, inl, inr, sym, ◌∙◌, ap, refl, arith}
-use Rattle.s2id_core.specs.declared.cell_id.CellId.{CellId}
+use Rattle.std.proofs.Common.{◌≡◌, ◌+◌, inl, inr, sym, ◌∙◌, ap, refl, arith}
 use Rattle.s2id_core.specs.CellId.{first_of, end_of}
 use Rattle.s2id_union.proofs.Joining.{joined_start, joined_next_gap, joined_next_touch, joined_end}
 use Rattle.s2id_union.proofs.join.joined.Goals as goal

@@ -1,4 +1,3 @@
-use Rattle.std.proofs.Common.{◌≡◌, ◌↔◌, ℕ}
 use Rattle.s2id_union.proofs.Joining.{covers_permutation}
 use Rattle.s2id_union.proofs.join.joined_sorted.Goals as goal
 

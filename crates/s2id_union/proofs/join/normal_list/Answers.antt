@@ -1,4 +1,4 @@
-use Rattle.std.proofs.Common.{◌≡◌, ◌↔◌, ℕ, ◌∙◌, subst}
+use Rattle.std.proofs.Common.{◌↔◌, ℕ, ◌∙◌, subst}
 use Rattle.s2id_union.specs.Covers.{Covers}
 use Rattle.s2id_union.proofs.join.normal_list.Goals as goal
 

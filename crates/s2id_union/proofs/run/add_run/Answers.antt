@@ -1,5 +1,5 @@
-use Rattle.std.proofs.Common.{◌≡◌, ◌+◌, ℕ, ◌<◌, ◌≤◌, ◌∙◌, sym, ap, arith}
-use Rattle.s2id_core.specs.CellId.{raw_of, end_of}
+use Rattle.std.proofs.Common.{◌+◌, ◌∙◌, ap, arith}
+use Rattle.s2id_core.specs.CellId.{raw_of}
 use Rattle.s2id_core.proofs.Nested.{span}
 use Rattle.s2id_union.proofs.Growing.{growing_next}
 use Rattle.s2id_union.proofs.run.add_run.Goals as goal

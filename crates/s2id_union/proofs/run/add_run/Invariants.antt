@@ -1,4 +1,4 @@
-use Rattle.std.proofs.Common.{◌≡◌, ℕ, ◌-◌, ◌%◌, ◌≤◌}
+use Rattle.std.proofs.Common.{◌≡◌, ◌-◌, ◌%◌, ◌≤◌}
 use Rattle.s2id_union.specs.Covers.{IsGrowing}
 use Rattle.s2id_union.proofs.run.add_run.Given as goal
 

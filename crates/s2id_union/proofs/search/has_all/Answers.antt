@@ -1,6 +1,6 @@
-use Rattle.std.proofs.Common.{◌≡◌, ℕ, ◌<◌, ◌≤◌, length, get_or, sym, ◌∙◌, subst, arith, Contains}
+use Rattle.std.proofs.Common.{sym, ◌∙◌, subst, arith, Contains}
 use Rattle.std.proofs.lemmas.Bool.Decides.{nat_tests}
-use Rattle.s2id_core.specs.CellId.{path_of, first_of}
+use Rattle.s2id_core.specs.CellId.{first_of}
 use Rattle.s2id_union.specs.Covers.{IsAhead}
 use Rattle.s2id_union.proofs.Searching.{chain_from_normal, all_from_within, within_ahead}
 use Rattle.s2id_union.proofs.search.has_all.Goals as goal

@@ -1,4 +1,4 @@
-use Rattle.std.proofs.Common.{◌≡◌, ℕ, ◌+◌, ◌%◌, ◌<◌, ◌≤◌, IsTrue, true, false, arith}
+use Rattle.std.proofs.Common.{IsTrue, arith}
 use Rattle.s2id_union.proofs.Searching.{chain_from_normal}
 use Rattle.s2id_union.proofs.Sweeping.{swept_init, swept_next_on, swept_next_off, swept_end}
 use Rattle.s2id_union.proofs.sweep.swept.Goals as goal

@@ -1,4 +1,4 @@
-use Rattle.std.proofs.Common.{◌≡◌, ℕ, ◌-◌, ◌%◌, ◌≤◌}
+use Rattle.std.proofs.Common.{◌≡◌, ◌-◌, ◌%◌, ◌≤◌}
 use Rattle.s2id_union.specs.Covers.{IsAhead}
 use Rattle.s2id_union.specs.Operation.{IsSwept}
 use Rattle.s2id_union.proofs.sweep.swept.Given as goal
