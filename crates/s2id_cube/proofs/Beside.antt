@@ -1,6 +1,6 @@
 -- The square beside a square over a side: on its own face, or over an edge of the cube.
 use Rattle.std.proofs.Common.{◌≡◌, ℕ, zero, suc, ◌+◌, ◌-◌, ◌*◌, ◌<◌, ◌≤◌, List, [], ◌∷◌, get_or, sym, ◌∙◌, ap, ap₂, refl, arith, subst}
-use Rattle.s2id_cube.specs.Grid.{Spot, spot, mid_u, mid_v, middle, IsBeside, column_on, row_on}
+use Rattle.s2id_cube.specs.Grid.{spot, mid_u, mid_v, middle, IsBeside, column_on, row_on}
 use Rattle.s2id_cube.proofs.Cases.{four, six}
 use Rattle.s2id_cube.proofs.Grid.{spot_is}
 

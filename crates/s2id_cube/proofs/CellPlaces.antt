@@ -1,7 +1,7 @@
 -- Cells by their places along the curve.
 use Rattle.std.proofs.Common.{◌≡◌, ℕ, ◌+◌, ◌-◌, ◌*◌, ◌/◌, ◌%◌, ◌^◌, ◌<◌, ◌≤◌, length, sym, ◌∙◌, ap, arith}
 use Rattle.std.proofs.Math.Nat.{pow-le-pow_right}
-use Rattle.s2id_core.specs.Path.{Path, IsPath, number_of, place_of, path_at}
+use Rattle.s2id_core.specs.Path.{Path, place_of, path_at}
 use Rattle.s2id_core.specs.Cell.{IsCellNumber}
 use Rattle.s2id_cube.specs.Neighbor.{number_at}
 use Rattle.s2id_core.proofs.Powers.{four_pow, four_pos, four_split, odd_below}

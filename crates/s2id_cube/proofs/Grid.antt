@@ -1,7 +1,7 @@
 -- Points of the cube in whole numbers, counted from its lowest corner in squares of one level: n of them to a side.
-use Rattle.std.proofs.Common.{◌≡◌, ◌≢◌, ℕ, zero, suc, ◌+◌, ◌-◌, ◌*◌, ◌/◌, ◌%◌, ◌<◌, ◌≤◌, ◌⊎◌, inl, inr, sym, ◌∙◌, ap, ap₂, refl, arith, subst}
+use Rattle.std.proofs.Common.{◌≡◌, ◌≢◌, ℕ, zero, suc, ◌+◌, ◌-◌, ◌*◌, ◌%◌, ◌<◌, ◌≤◌, ◌⊎◌, inl, inr, sym, ◌∙◌, ap, ap₂, refl, arith, subst}
 use Rattle.std.proofs.lemmas.Bool.{cases_eq}
-use Rattle.s2id_cube.specs.Grid.{Spot, spot, mid_u, mid_v, middle, IsBeside, column_on, row_on}
+use Rattle.s2id_cube.specs.Grid.{Spot, spot, mid_u, mid_v, middle}
 use Rattle.s2id_cube.proofs.Cases.{three, four, six}
 
 pub spot_is : (a b c d e f : ℕ) → a ≡ d → b ≡ e → c ≡ f → let s : Spot = record { x = a; y = b; z = c } in let t : Spot = record { x = d; y = e; z = f } in s ≡ t
@@ -178,14 +178,14 @@ one_face n f g pos hf hg axis same =
     high : (f g : ℕ) → f < 6 → g < 6 → 3 ≤ f → 3 ≤ g → f % 3 ≡ g % 3 → f ≡ g
     high f g hf hg lf lg e = omega arith
 
-at_height : (n m f i j : ℕ) (p : Spot) → AtSide n m f i j p → coordinate (f % 3) p ≡ height (2 * n) f
+pub at_height : (n m f i j : ℕ) (p : Spot) → AtSide n m f i j p → coordinate (f % 3) p ≡ height (2 * n) f
 unfolding middle
 at_height n m f i j p h = ap (coordinate (f % 3)) (sym h.at) ∙ on_face (2 * n) (mid_u m i) (mid_v m j) f h.face
 
-even_height : (n f : ℕ) → f < 6 → height (2 * n) f % 2 ≡ 0
+pub even_height : (n f : ℕ) → f < 6 → height (2 * n) f % 2 ≡ 0
 even_height n f h = elim (height_is (2 * n) f h) [ inl a ↦ let x = a.1 in omega arith | inr a ↦ let x = a.1 in omega arith ]
 
-axes_apart : (n m f i j o g a b : ℕ) (p : Spot) → AtSide n m f i j p → AtSide n o g a b p → (f ≡ g → ⊥) → f % 3 ≢ g % 3
+pub axes_apart : (n m f i j o g a b : ℕ) (p : Spot) → AtSide n m f i j p → AtSide n o g a b p → (f ≡ g → ⊥) → f % 3 ≢ g % 3
 axes_apart n m f i j o g a b p h k apart axis =
     apart (one_face (2 * n) f g (let x = h.column in omega arith) h.face k.face axis (sym (at_height n m f i j p h) ∙ ap (λ x. coordinate x p) axis ∙ at_height n o g a b p k))
 
@@ -251,7 +251,7 @@ beside_on_face n m f i j o a b p h k apart =
     let e = one_spot (2 * n) (mid_u m i) (mid_v m j) (mid_u o a) (mid_v o b) s.u_small s.v_small t.u_small t.v_small f h.face (h.at ∙ sym k.at) in
     same_or_step i j a b apart m h.is_side o k.is_side e.0 e.1
 
-on_face_of : (n o f g a b : ℕ) (p : Spot) → g ≡ f → AtSide n o g a b p → AtSide n o f a b p
+pub on_face_of : (n o f g a b : ℕ) (p : Spot) → g ≡ f → AtSide n o g a b p → AtSide n o f a b p
 on_face_of n o f g a b p e h = subst (λ x. AtSide n o x a b p) e h
 
 -- beside a square over a side there is one square

@@ -8,3 +8,9 @@ pub mod Sides
 pub mod Shared
 pub mod OverSides
 mod Loop
+mod Nesting
+mod Perimeter
+mod Round
+mod Gathering
+mod Sorting
+mod Distinct

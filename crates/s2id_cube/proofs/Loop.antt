@@ -1,5 +1,5 @@
 -- The curve is a closed loop: a cell and the next of its level lie side by side.
-use Rattle.std.proofs.Common.{◌≡◌, ℕ, zero, suc, ◌+◌, ◌-◌, ◌*◌, ◌/◌, ◌%◌, ◌^◌, ◌<◌, ◌≤◌, length, inl, inr, sym, ◌∙◌, ap, ap₂, refl, arith, subst}
+use Rattle.std.proofs.Common.{◌≡◌, ℕ, zero, suc, ◌+◌, ◌-◌, ◌*◌, ◌/◌, ◌%◌, ◌^◌, ◌<◌, length, inl, inr, sym, ◌∙◌, ap, ap₂, refl, arith, subst}
 use Rattle.std.proofs.Math.Nat.{div-div-eq-div-mul}
 use Rattle.std.proofs.lemmas.Bool.{cases_eq, cases_lt}
 use Rattle.std.proofs.lemmas.Nat.{pow_pos, div-mul-add, mod-mul-add, mod_below, div-add-mod'}
@@ -12,7 +12,7 @@ use Rattle.s2id_cube.specs.Edge.{ShareEdge}
 use Rattle.s2id_cube.specs.Grid.{IsBeside, column_on, row_on}
 use Rattle.s2id_cube.proofs.Cases.{three, four, six}
 use Rattle.s2id_cube.proofs.Grid.{IsStep, step_down, step_right, step_up, step_left}
-use Rattle.s2id_cube.proofs.Squares.{IsSquare, square_at, square_of_place, IsSquare-square_at, face-square_at}
+use Rattle.s2id_cube.proofs.Squares.{square_at, square_of_place, IsSquare-square_at, face-square_at}
 use Rattle.s2id_cube.proofs.Beside.{along_over, over_edge_is, beside_down, beside_right, beside_up, beside_left}
 use Rattle.s2id_cube.proofs.Shared.{shares_from_beside}
 

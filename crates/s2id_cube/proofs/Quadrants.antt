@@ -1,6 +1,6 @@
 -- The tables of the curve, entry by entry.
-use Rattle.std.proofs.Common.{◌≡◌, ℕ, ◌+◌, ◌*◌, ◌/◌, ◌%◌, ◌<◌, List, [], ◌∷◌, get_or, refl, arith}
-use Rattle.s2id_cube.specs.Square.{quadrants, quadrant, turned}
+use Rattle.std.proofs.Common.{◌≡◌, ℕ, ◌+◌, ◌*◌, ◌<◌, List, [], ◌∷◌, get_or, refl, arith}
+use Rattle.s2id_cube.specs.Square.{quadrant, turned}
 use Rattle.s2id_cube.proofs.Cases.{four}
 
 pub quadrant_below : (o d : ℕ) → o < 4 → d < 4 → quadrant o d < 4

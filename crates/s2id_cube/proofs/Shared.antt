@@ -1,11 +1,11 @@
 -- Cells that share a side, by their squares.
-use Rattle.std.proofs.Common.{◌≡◌, ℕ, ◌+◌, ◌*◌, ◌^◌, ◌<◌, ◌≤◌, length, sym, ◌∙◌, ap, refl, arith, subst}
+use Rattle.std.proofs.Common.{◌≡◌, ℕ, ◌*◌, ◌^◌, ◌<◌, ◌≤◌, length, sym, ◌∙◌, ap, refl, arith, subst}
 use Rattle.s2id_core.specs.Path.{Path, IsPath, place_of}
 use Rattle.s2id_core.proofs.Numbers.{place_below}
 use Rattle.s2id_core.proofs.Levels.{same_place}
 use Rattle.s2id_cube.specs.declared.face_ij.FaceIj.{FaceIj}
 use Rattle.s2id_cube.specs.Square.{square_of}
-use Rattle.s2id_cube.specs.Edge.{SharesSide, ShareEdge}
+use Rattle.s2id_cube.specs.Edge.{SharesSide}
 use Rattle.s2id_cube.specs.Grid.{middle, IsBeside}
 use Rattle.s2id_cube.proofs.Squares.{IsSquare, square_at, square_of_place, IsSquare-square_at, one_place}
 use Rattle.s2id_cube.proofs.Grid.{AtSide, one_beside}

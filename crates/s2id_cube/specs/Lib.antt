@@ -3,3 +3,4 @@ pub mod Point
 pub mod Edge
 pub mod Grid
 pub mod Neighbor
+pub mod Border

@@ -1,10 +1,16 @@
 //! Cells as squares on the faces of the cube: coordinates, neighbours over edges, borders.
 #![tactic(auto)]
 
+mod borders;
+#[cfg(test)]
+mod comparison;
+mod error;
 mod face_ij;
 pub mod laws;
 mod neighbors;
 mod place;
 
+pub use borders::border;
+pub use error::BorderError;
 pub use face_ij::{FaceIj, from_face_ij, to_face_ij};
 pub use neighbors::edge_neighbors;

@@ -1,4 +1,4 @@
-ghost use Rattle.std.specs.Prelude.{◌≡◌, ℕ, ◌+◌, ◌^◌, ◌<◌, ◌≤◌, slice_index_or};
+ghost use Rattle.std.specs.Prelude.{◌≡◌, ◌≢◌, ℕ, ◌+◌, ◌^◌, ◌<◌, ◌≤◌, slice_index_or, AllPairs};
 ghost use Rattle.s2id_core.specs.Path.{Path, IsPath};
 ghost use Rattle.s2id_core.specs.CellId.{path_of, raw_of};
 ghost use Rattle.s2id_cube.specs.Square.{square_of};
@@ -6,7 +6,7 @@ ghost use Rattle.s2id_cube.specs.Edge.{SharesSide, ShareEdge};
 ghost use Rattle.s2id_cube.specs.Neighbor.{neighbor_number};
 ghost use Rattle.s2id_cube.specs.Grid.{IsBeside, column_on, row_on};
 
-use crate::face_ij::{FaceIj, from_face_ij, to_face_ij};
+use crate::face_ij::{from_face_ij, to_face_ij};
 use s2id_core::CellId;
 
 /// The face over each side of a face, in the order down, right, up, left, four for each face.
@@ -36,29 +36,31 @@ pub fn edge_neighbors(cell: CellId) -> [CellId; 4]
     ensures numbers { (side : ℕ)
         → side < 4
         → raw_of (slice_index_or result side cell) ≡ neighbor_number side (path_of cell) }
+    ensures distinct { AllPairs (λ x y. x ≢ y) result }
 {
     let square = to_face_ij(cell);
     [
-        neighbor(square, 0),
-        neighbor(square, 1),
-        neighbor(square, 2),
-        neighbor(square, 3),
+        neighbor(square.face, square.i, square.j, square.level, 0),
+        neighbor(square.face, square.i, square.j, square.level, 1),
+        neighbor(square.face, square.i, square.j, square.level, 2),
+        neighbor(square.face, square.i, square.j, square.level, 3),
     ]
 }
 
-fn neighbor(square: FaceIj, side: u8) -> CellId
-    requires face { square.face < 6 }
-    requires level { square.level ≤ 30 }
-    requires column { square.i < 2 ^ square.level }
-    requires row { square.j < 2 ^ square.level }
+/// The cell over one side of a square of a level.
+pub(crate) fn neighbor(face: u8, i: u32, j: u32, level: u8, side: u8) -> CellId
+    requires face { face < 6 }
+    requires level { level ≤ 30 }
+    requires column { i < 2 ^ level }
+    requires row { j < 2 ^ level }
     requires side { side < 4 }
-    ensures level { (square_of (path_of result)).level ≡ square.level }
+    ensures level { (square_of (path_of result)).level ≡ level }
     ensures beside { let other = square_of (path_of result)
-        in IsBeside (2 ^ square.level) side square.face square.i square.j other.face other.i other.j }
+        in IsBeside (2 ^ level) side face i j other.face other.i other.j }
 {
-    let last = (1 << square.level) - 1;
-    let (face, i, j) = beside(square.face, square.i, square.j, last, side);
-    from_face_ij(face, i, j, square.level).unwrap()
+    let last = (1 << level) - 1;
+    let (face_over, column, row) = beside(face, i, j, last, side);
+    from_face_ij(face_over, column, row, level).unwrap()
 }
 
 fn beside(face: u8, i: u32, j: u32, last: u32, side: u8) -> (u8, u32, u32)
@@ -112,7 +114,8 @@ fn over_edge(face: u8, side: u8, along: u32, last: u32) -> (u8, u32, u32)
     (FACES_OVER[edge], i, j)
 }
 
-fn on_side(side: u8, along: u32, last: u32) -> (u32, u32)
+/// The column and the row of a square at a place along a side, in a grid whose last column and row is `last`.
+pub(crate) fn on_side(side: u8, along: u32, last: u32) -> (u32, u32)
     requires side { side < 4 }
     ensures column { result.0 ≡ column_on side along last }
     ensures row { result.1 ≡ row_on side along last }

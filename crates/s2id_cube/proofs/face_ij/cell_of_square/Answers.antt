@@ -1,8 +1,8 @@
-use Rattle.std.proofs.Common.{◌≡◌, ◌+◌, ◌-◌, ◌*◌, ◌/◌, ◌%◌, ◌^◌, ◌<◌, get_or, refl, arith}
+use Rattle.std.proofs.Common.{◌+◌, ◌-◌, ◌*◌, ◌/◌, ◌%◌, ◌^◌, refl, arith}
 use Rattle.s2id_core.specs.CellId.{path_of}
 use Rattle.s2id_core.proofs.Numbers.{path_of_cell}
 use Rattle.s2id_cube.specs.Square.{turned}
-use Rattle.s2id_cube.proofs.Quadrants.{positions, position_below}
+use Rattle.s2id_cube.proofs.Quadrants.{position_below}
 use Rattle.s2id_cube.proofs.Squares.{led_none, led_orientation, led_more, led_square, small_place}
 use Rattle.s2id_cube.proofs.face_ij.cell_of_square.Goals as goal
 

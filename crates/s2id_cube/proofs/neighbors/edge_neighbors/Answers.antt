@@ -1,12 +1,16 @@
-use Rattle.std.proofs.Common.{◌≡◌, ℕ, ◌<◌, List, [], ◌∷◌, get_or, arith}
+use Rattle.std.proofs.Common.{◌≡◌, ℕ, ◌^◌, ◌<◌, List, [], ◌∷◌, get_or, refl, arith}
 use Rattle.s2id_core.specs.declared.cell_id.CellId.{CellId}
 use Rattle.s2id_core.specs.CellId.{path_of, raw_of}
 use Rattle.s2id_core.specs.Path.{Path, IsPath}
 use Rattle.s2id_core.proofs.Numbers.{path_of_cell}
+use Rattle.s2id_cube.specs.declared.face_ij.FaceIj.{FaceIj}
+use Rattle.s2id_cube.specs.Grid.{IsBeside}
+use Rattle.s2id_cube.specs.Square.{square_of}
 use Rattle.s2id_cube.specs.Edge.{SharesSide, ShareEdge}
 use Rattle.s2id_cube.specs.Neighbor.{neighbor_number}
 use Rattle.s2id_cube.proofs.Cases.{four}
 use Rattle.s2id_cube.proofs.OverSides.{neighbor_number-is}
+use Rattle.s2id_cube.proofs.Distinct.{all_distinct}
 use Rattle.s2id_cube.proofs.Shared.{square_facts, shares_from_square, one_neighbor}
 use Rattle.s2id_cube.proofs.neighbors.edge_neighbors.Goals as goal
 
@@ -69,28 +73,30 @@ numbered : (cell : CellId) (cs : List CellId) → ((m : ℕ) → m < 4 → Share
 numbered cell cs sides m hm =
     neighbor_number-is m (path_of cell) (get_or cs m cell).raw hm (pathed cell) (get_or cs m cell).valid (sides m hm)
 
+-- the cell stands over side m of the square
+abbrev IsOverSide : FaceIj → ℕ → CellId → Type 0
+IsOverSide s m q =
+    let t = square_of (path_of q) in
+    (t.level ≡ s.level) × IsBeside (2 ^ s.level) m s.face s.i s.j t.face t.i t.j
+
+shares_over : (cell : CellId) (s : FaceIj) (q : CellId) (m : ℕ) → m < 4 → s ≡ square_of (path_of cell) → IsOverSide s m q → SharesSide m (path_of cell) (path_of q)
+shares_over cell s q m hm is over = shares_from_square m (path_of cell) (path_of q) s hm (pathed cell) (pathed q) is over.0 over.1
+
+-- each of the four shares the side of its place
+four_sides : (cell : CellId) (s : FaceIj) (down right up left : CellId) → s ≡ square_of (path_of cell) → IsOverSide s 0 down → IsOverSide s 1 right → IsOverSide s 2 up → IsOverSide s 3 left → (m : ℕ) → m < 4 → SharesSide m (path_of cell) (path_of (get_or (down ∷ right ∷ up ∷ left ∷ []) m cell))
+four_sides cell s down right up left is d r u l =
+    four (λ m. SharesSide m (path_of cell) (path_of (get_or (down ∷ right ∷ up ∷ left ∷ []) m cell)))
+    (shares_over cell s down 0 (omega arith) is d) (shares_over cell s right 1 (omega arith) is r) (shares_over cell s up 2 (omega arith) is u) (shares_over cell s left 3 (omega arith) is l)
+
 pub returns-clause-sides : goal.returns-clause-sides
 returns-clause-sides c =
-    four (λ m. SharesSide m (path_of c.args.cell) (path_of (get_or (c.neighbor.result ∷ c.neighbor-2.result ∷ c.neighbor-3.result ∷ c.neighbor-4.result ∷ []) m c.args.cell)))
-    (shares_from_square 0 (path_of c.args.cell) (path_of c.neighbor.result) c.to_face_ij-square.result (omega arith) (pathed c.args.cell) (pathed c.neighbor.result) c.to_face_ij-square.ensures c.neighbor.ensures.level c.neighbor.ensures.beside)
-    (shares_from_square 1 (path_of c.args.cell) (path_of c.neighbor-2.result) c.to_face_ij-square.result (omega arith) (pathed c.args.cell) (pathed c.neighbor-2.result) c.to_face_ij-square.ensures c.neighbor-2.ensures.level c.neighbor-2.ensures.beside)
-    (shares_from_square 2 (path_of c.args.cell) (path_of c.neighbor-3.result) c.to_face_ij-square.result (omega arith) (pathed c.args.cell) (pathed c.neighbor-3.result) c.to_face_ij-square.ensures c.neighbor-3.ensures.level c.neighbor-3.ensures.beside)
-    (shares_from_square 3 (path_of c.args.cell) (path_of c.neighbor-4.result) c.to_face_ij-square.result (omega arith) (pathed c.args.cell) (pathed c.neighbor-4.result) c.to_face_ij-square.ensures c.neighbor-4.ensures.level c.neighbor-4.ensures.beside)
+    four_sides c.args.cell c.to_face_ij-square.result c.neighbor.result c.neighbor-2.result c.neighbor-3.result c.neighbor-4.result c.to_face_ij-square.ensures (c.neighbor.ensures.level, c.neighbor.ensures.beside) (c.neighbor-2.ensures.level, c.neighbor-2.ensures.beside) (c.neighbor-3.ensures.level, c.neighbor-3.ensures.beside) (c.neighbor-4.ensures.level, c.neighbor-4.ensures.beside)
 
 pub returns-clause-only : goal.returns-clause-only
-returns-clause-only c =
-    others c.args.cell (c.neighbor.result ∷ c.neighbor-2.result ∷ c.neighbor-3.result ∷ c.neighbor-4.result ∷ [])
-    (four (λ m. SharesSide m (path_of c.args.cell) (path_of (get_or (c.neighbor.result ∷ c.neighbor-2.result ∷ c.neighbor-3.result ∷ c.neighbor-4.result ∷ []) m c.args.cell)))
-    (shares_from_square 0 (path_of c.args.cell) (path_of c.neighbor.result) c.to_face_ij-square.result (omega arith) (pathed c.args.cell) (pathed c.neighbor.result) c.to_face_ij-square.ensures c.neighbor.ensures.level c.neighbor.ensures.beside)
-    (shares_from_square 1 (path_of c.args.cell) (path_of c.neighbor-2.result) c.to_face_ij-square.result (omega arith) (pathed c.args.cell) (pathed c.neighbor-2.result) c.to_face_ij-square.ensures c.neighbor-2.ensures.level c.neighbor-2.ensures.beside)
-    (shares_from_square 2 (path_of c.args.cell) (path_of c.neighbor-3.result) c.to_face_ij-square.result (omega arith) (pathed c.args.cell) (pathed c.neighbor-3.result) c.to_face_ij-square.ensures c.neighbor-3.ensures.level c.neighbor-3.ensures.beside)
-    (shares_from_square 3 (path_of c.args.cell) (path_of c.neighbor-4.result) c.to_face_ij-square.result (omega arith) (pathed c.args.cell) (pathed c.neighbor-4.result) c.to_face_ij-square.ensures c.neighbor-4.ensures.level c.neighbor-4.ensures.beside))
+returns-clause-only c = others c.args.cell (c.neighbor.result ∷ c.neighbor-2.result ∷ c.neighbor-3.result ∷ c.neighbor-4.result ∷ []) (returns-clause-sides c)
 
 pub returns-clause-numbers : goal.returns-clause-numbers
-returns-clause-numbers c =
-    numbered c.args.cell (c.neighbor.result ∷ c.neighbor-2.result ∷ c.neighbor-3.result ∷ c.neighbor-4.result ∷ [])
-    (four (λ m. SharesSide m (path_of c.args.cell) (path_of (get_or (c.neighbor.result ∷ c.neighbor-2.result ∷ c.neighbor-3.result ∷ c.neighbor-4.result ∷ []) m c.args.cell)))
-    (shares_from_square 0 (path_of c.args.cell) (path_of c.neighbor.result) c.to_face_ij-square.result (omega arith) (pathed c.args.cell) (pathed c.neighbor.result) c.to_face_ij-square.ensures c.neighbor.ensures.level c.neighbor.ensures.beside)
-    (shares_from_square 1 (path_of c.args.cell) (path_of c.neighbor-2.result) c.to_face_ij-square.result (omega arith) (pathed c.args.cell) (pathed c.neighbor-2.result) c.to_face_ij-square.ensures c.neighbor-2.ensures.level c.neighbor-2.ensures.beside)
-    (shares_from_square 2 (path_of c.args.cell) (path_of c.neighbor-3.result) c.to_face_ij-square.result (omega arith) (pathed c.args.cell) (pathed c.neighbor-3.result) c.to_face_ij-square.ensures c.neighbor-3.ensures.level c.neighbor-3.ensures.beside)
-    (shares_from_square 3 (path_of c.args.cell) (path_of c.neighbor-4.result) c.to_face_ij-square.result (omega arith) (pathed c.args.cell) (pathed c.neighbor-4.result) c.to_face_ij-square.ensures c.neighbor-4.ensures.level c.neighbor-4.ensures.beside))
+returns-clause-numbers c = numbered c.args.cell (c.neighbor.result ∷ c.neighbor-2.result ∷ c.neighbor-3.result ∷ c.neighbor-4.result ∷ []) (returns-clause-sides c)
+
+pub returns-clause-distinct : goal.returns-clause-distinct
+returns-clause-distinct c = all_distinct c.args.cell (c.neighbor.result ∷ c.neighbor-2.result ∷ c.neighbor-3.result ∷ c.neighbor-4.result ∷ []) refl pathed (returns-clause-sides c)

@@ -1,5 +1,5 @@
 use Rattle.std.proofs.Common.{◌≡◌, ◌+◌, ◌*◌, get_or, ◌∙◌}
-use Rattle.s2id_cube.proofs.Beside.{sides_over, reversals, along_over, along_reversed, along_same, over_edge_at}
+use Rattle.s2id_cube.proofs.Beside.{reversals, along_over, along_reversed, along_same, over_edge_at}
 use Rattle.s2id_cube.proofs.neighbors.over_edge.Goals as goal
 use Rattle.s2id_cube.proofs.neighbors.over_edge.Goals.{then-edge-eq0, else-edge-eq0}
 

@@ -1,0 +1,5 @@
+use Rattle.s2id_cube.proofs.Gathering.{HasGained}
+use Rattle.s2id_cube.proofs.borders.add_side.Given as goal
+
+abbrev pub invariant-loop-along : goal.invariant-loop-along
+invariant-loop-along l = HasGained l.fn.cells.items l.cells.items l.square l.depth l.side l.along

@@ -1,0 +1,5 @@
+use Rattle.s2id_cube.proofs.Gathering.{HasSides}
+use Rattle.s2id_cube.proofs.borders.cells_round.Given as goal
+
+abbrev pub invariant-loop-side : goal.invariant-loop-side
+invariant-loop-side l = HasSides l.cells.items l.square l.depth l.side

@@ -1,0 +1,145 @@
+ghost use Rattle.std.specs.Prelude.{◌≡◌, ◌↔◌, ℕ, ◌+◌, ◌-◌, ◌*◌, ◌^◌, ◌<◌, ◌≤◌, ◌⊎◌, IfOk, IsErrOf, Any, AllPairs, Contains};
+ghost use Rattle.s2id_core.specs.declared.cell_id.CellId.{CellId};
+ghost use Rattle.s2id_core.specs.Path.{Path};
+ghost use Rattle.s2id_core.specs.CellId.{raw_of, path_of, level_of};
+ghost use Rattle.s2id_cube.specs.Square.{square_of};
+ghost use Rattle.s2id_cube.specs.Border.{IsOnBorder, IsOverAt, IsOverFirst, IsOverSides};
+
+use crate::error::BorderError;
+use crate::face_ij::{FaceIj, to_face_ij};
+use crate::neighbors::{neighbor, on_side};
+use s2id_core::{CellId, OutOfMemory};
+use std::alloc::Global;
+
+/// The cells of a level outside the cell that share an edge with a cell of that level inside it, each once, in
+/// rising order: at the cell's own level its four edge neighbours (this project's own; S2 has `AppendAllNeighbors`,
+/// which counts corners too). O(n log n) in the `n = 4 * 2^(level - cell's level)` cells along its sides, at most
+/// 1024. `Coarser` for a level below the cell's; `TooFine` for one above 30, or more than 8 above the cell's;
+/// `OutOfMemory` where a growth is refused.
+pub fn border(alloc: Global, cell: CellId, level: u8) -> Result<Vec<CellId>, BorderError>
+    ensures coarser { IsErrOf result BorderError.Coarser ↔ (level < level_of cell) }
+    ensures too_fine { IsErrOf result BorderError.TooFine
+        ↔ ((level_of cell ≤ level) × ((30 < level) ⊎ (level_of cell + 8 < level))) }
+    ensures rising { IfOk result (λ cells. AllPairs (λ x y. raw_of x < raw_of y) cells.items) }
+    ensures cells { IfOk result (λ cells. (x : CellId)
+        → Contains cells.items x
+        ↔ IsOnBorder (path_of cell) level (path_of x)) }
+    ensures complete { IfOk result (λ cells. (q : Path)
+        → IsOnBorder (path_of cell) level q
+        → Any (λ x. path_of x ≡ q) cells.items) }
+{
+    let own = cell.level();
+    if level < own {
+        return Err(BorderError::Coarser);
+    }
+    if level > 30 || level - own > 8 {
+        return Err(BorderError::TooFine);
+    }
+    let mut cells = cells_round(alloc, to_face_ij(cell), level - own)?;
+    cells.sort_unstable();
+    cells.dedup();
+    Ok(cells)
+}
+
+// The cells over the four sides of a square, `depth` levels finer, side by side.
+fn cells_round(alloc: Global, square: FaceIj, depth: u8) -> Result<Vec<CellId>, OutOfMemory>
+    requires face { square.face < 6 }
+    requires depth { depth ≤ 8 }
+    requires level { square.level + depth ≤ 30 }
+    requires column { square.i < 2 ^ square.level }
+    requires row { square.j < 2 ^ square.level }
+    ensures { IfOk result (λ cells. (x : CellId)
+        → Contains cells.items x
+        ↔ IsOverSides square depth 4 (path_of x)) }
+{
+    let mut cells = Vec::with_capacity(alloc, 4 << depth)?;
+    for side in 0..4 {
+        add_side(&mut cells, square, depth, side)?;
+    }
+    Ok(cells)
+}
+
+// Adds the cells over one side of a square, `depth` levels finer, in the order of the side.
+fn add_side(cells: &mut Vec<CellId>, square: FaceIj, depth: u8, side: u8) -> Result<(), OutOfMemory>
+    requires face { square.face < 6 }
+    requires depth { depth ≤ 8 }
+    requires level { square.level + depth ≤ 30 }
+    requires column { square.i < 2 ^ square.level }
+    requires row { square.j < 2 ^ square.level }
+    requires side { side < 4 }
+    ensures { IfOk result (λ _. (x : CellId)
+        → Contains cells.new.items x
+        ↔ (Contains cells.old.items x ⊎ IsOverFirst square depth side (2 ^ depth) (path_of x))) }
+{
+    for along in 0..1 << depth {
+        cells.push(over_side(square, depth, side, along))?;
+    }
+    Ok(())
+}
+
+// The cell over the finer square at a place along one side of a square.
+fn over_side(square: FaceIj, depth: u8, side: u8, along: u32) -> CellId
+    requires face { square.face < 6 }
+    requires depth { depth ≤ 8 }
+    requires level { square.level + depth ≤ 30 }
+    requires column { square.i < 2 ^ square.level }
+    requires row { square.j < 2 ^ square.level }
+    requires side { side < 4 }
+    requires along { along < 2 ^ depth }
+    ensures { IsOverAt square depth side along (path_of result) }
+{
+    let (i, j) = on_side(side, along, (1 << depth) - 1);
+    let column = (square.i << depth) + i;
+    let row = (square.j << depth) + j;
+    neighbor(square.face, column, row, square.level + depth, side)
+}
+
+#[cfg(test)]
+mod tests {
+    use super::*;
+    use std::test::Fail;
+
+    #[test]
+    fn border_of_a_cell_in_rising_order(rt: HostRuntime) -> Result<(), Fail> {
+        let cell = CellId::from_token(b"04")?;
+        let cells = border(rt.alloc(), cell, 2)?;
+        let tokens = [
+            b"09".as_slice(),
+            b"0f".as_slice(),
+            b"1b".as_slice(),
+            b"1d".as_slice(),
+            b"93".as_slice(),
+            b"95".as_slice(),
+            b"b9".as_slice(),
+            b"bf".as_slice(),
+        ];
+        assert_eq!(rt; cells.len(), 8);
+        for k in 0..8 {
+            assert_eq!(rt; cells[k], CellId::from_token(tokens[k])?);
+        }
+        Ok(())
+    }
+
+    #[test]
+    fn border_at_the_own_level_and_eight_finer(rt: HostRuntime) -> Result<(), Fail> {
+        let face = CellId::from_token(b"1")?;
+        let cells = border(rt.alloc(), face, 0)?;
+        assert_eq!(rt; cells.len(), 4);
+        assert_eq!(rt; cells[0], CellId::from_token(b"3")?);
+        assert_eq!(rt; cells[3], CellId::from_token(b"b")?);
+        assert_eq!(rt; border(rt.alloc(), face, 8)?.len(), 1024);
+        Ok(())
+    }
+
+    #[test]
+    fn no_border_of_other_levels(rt: HostRuntime) -> Result<(), Fail> {
+        let cell = CellId::from_token(b"1d")?;
+        let face = CellId::from_token(b"1")?;
+        let leaf = CellId::from_token(b"0000000000000001")?;
+        assert!(rt; matches!(border(rt.alloc(), cell, 1), Err(BorderError::Coarser)));
+        assert!(rt; matches!(border(rt.alloc(), face, 9), Err(BorderError::TooFine)));
+        assert!(rt; matches!(border(rt.alloc(), leaf, 31), Err(BorderError::TooFine)));
+        assert!(rt; matches!(border(rt.alloc(), cell, 31), Err(BorderError::TooFine)));
+        Ok(())
+    }
+}

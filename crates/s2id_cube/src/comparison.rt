@@ -1,0 +1,128 @@
+//! Squares and neighbours against a plain search over the points of the cube.
+
+use crate::face_ij::{from_face_ij, to_face_ij};
+use crate::neighbors::edge_neighbors;
+use s2id_core::CellId;
+use std::alloc::Global;
+use std::process::Abort;
+use std::test::Fail;
+
+/// A point of the cube, in half squares from its middle.
+#[derive(Clone, Copy, PartialEq, Eq, Debug)]
+struct Corner {
+    x: i32,
+    y: i32,
+    z: i32,
+}
+
+/// The two ends of a side.
+#[derive(Clone, Copy, Debug)]
+struct Side {
+    start: Corner,
+    end: Corner,
+}
+
+/// A cell and its sides: down, right, up, left.
+#[derive(Clone, Copy, Debug)]
+struct Sided {
+    cell: CellId,
+    sides: [Side; 4],
+}
+
+/// The corner in column `i` and row `j` of a face's grid of `n` squares a side.
+fn corner_at(face: u8, i: u8, j: u8, n: u8) -> Corner {
+    let one = n as i32;
+    let u = 2 * i as i32 - one;
+    let v = 2 * j as i32 - one;
+    let (x, y, z) = match face {
+        0 => (one, u, v),
+        1 => (-u, one, v),
+        2 => (-u, -v, one),
+        3 => (-one, -v, -u),
+        4 => (v, -one, -u),
+        _ => (v, u, -one),
+    };
+    Corner { x, y, z }
+}
+
+fn side_between(start: Corner, end: Corner) -> Side {
+    Side { start, end }
+}
+
+/// Each cell of a level of at most 7. Its square is the one that it was made from.
+fn cells_of_level(rt: &impl Abort, alloc: Global, level: u8) -> Result<Vec<Sided>, Fail> {
+    assert!(rt; level < 8);
+    let n = 1 << level;
+    let mut all = Vec::new(alloc);
+    for face in 0..6 {
+        for i in 0..n {
+            for j in 0..n {
+                let cell = from_face_ij(face, i as u32, j as u32, level).expect(rt, "a cell");
+                let square = to_face_ij(cell);
+                assert_eq!(rt; square.face, face);
+                assert_eq!(rt; square.i, i as u32);
+                assert_eq!(rt; square.j, j as u32);
+                assert_eq!(rt; square.level, level);
+                let low = corner_at(face, i, j, n);
+                let right = corner_at(face, i + 1, j, n);
+                let high = corner_at(face, i + 1, j + 1, n);
+                let up = corner_at(face, i, j + 1, n);
+                let sides = [
+                    side_between(low, right),
+                    side_between(right, high),
+                    side_between(up, high),
+                    side_between(low, up),
+                ];
+                all.push(Sided { cell, sides })?;
+            }
+        }
+    }
+    Ok(all)
+}
+
+/// Whether one of the cell's sides has these ends.
+fn has_side(cell: &Sided, a: Corner, b: Corner) -> bool {
+    for k in 0..4 {
+        let start = cell.sides[k].start;
+        let end = cell.sides[k].end;
+        if start == a && end == b || start == b && end == a {
+            return true;
+        }
+    }
+    false
+}
+
+/// The other cells that have a side with these ends: how many, and the last of them.
+fn others_at(all: &[Sided], own: CellId, a: Corner, b: Corner) -> (usize, CellId) {
+    let mut count: usize = 0;
+    let mut found = own;
+    for other in all {
+        if has_side(other, a, b) && other.cell != own {
+            count = count.wrapping_add(1);
+            found = other.cell;
+        }
+    }
+    (count, found)
+}
+
+#[test]
+fn neighbors_have_the_ends_of_a_side(rt: HostRuntime) -> Result<(), Fail> {
+    for level in 0..5 {
+        let all = cells_of_level(&rt, rt.alloc(), level)?;
+        for own in &all {
+            let neighbors = edge_neighbors(own.cell);
+            for k in 0..4 {
+                let own_side = own.sides[k];
+                let (count, found) = others_at(
+                    all.as_slice(),
+                    own.cell,
+                    own_side.start,
+                    own_side.end,
+                );
+                assert_eq!(rt; count, 1);
+                assert_eq!(rt; found, neighbors[k]);
+            }
+        }
+    }
+    Ok(())
+}
