@@ -11,3 +11,4 @@ pub mod Parts
 pub mod Walks
 pub mod Comparing
 mod Labels
+pub mod OfLabel

@@ -1,11 +1,13 @@
 -- What the definitions say, in other words: each of these is proved, by the function of `laws` of its name.
-use Rattle.std.specs.Prelude.{◌≡◌, ◌<◌, ◌↔◌, ◌⊎◌, None, List, Contains}
+use Rattle.std.specs.Prelude.{◌≡◌, ◌==◌, ◌<◌, ◌↔◌, ◌⊎◌, if◌then◌else◌, None, List, Contains, AllPairs}
 use Rattle.s2id_core.specs.CellId.{raw_of}
 use Rattle.s2ix_bag.specs.Apply.{apply_refusal}
 use Rattle.s2ix_bag.specs.Change.{IsChangeList, counts_at, count_after, difference_of, changed, change_between, inverse_of}
 use Rattle.s2ix_bag.specs.Collection.{Collection, Contents, IsBag, IsCollection, count_in}
 use Rattle.s2ix_bag.specs.Label.{value_of}
+use Rattle.s2ix_bag.specs.OfLabel.{held_of}
 use Rattle.s2ix_bag.specs.Pair.{rank_of}
+use Rattle.s2ix_bag.specs.declared.label.Label.{Label}
 use Rattle.s2ix_bag.specs.declared.pair.Pair.{Pair}
 use Rattle.s2ix_bag.specs.declared.pair.Held.{Held}
 use Rattle.s2ix_bag.specs.declared.pair.Entry.{Entry}
@@ -66,3 +68,14 @@ abbrev pub InverseTakesBack : Type 0
 InverseTakesBack =
     (bag : Contents) (es : List Entry) → IsBag bag → IsChangeList es → apply_refusal bag es ≡ None →
     (apply_refusal (record { limits = bag.limits; held = changed bag.held es }) (inverse_of es) ≡ None) × (changed (changed bag.held es) (inverse_of es) ≡ bag.held)
+
+-- what is held with a label is a collection, with the count of each pair of that label and of no other
+abbrev pub LabelsAreCounted : Type 0
+LabelsAreCounted =
+    (label : Label) (hs : Collection) → IsCollection hs →
+    IsCollection (held_of label hs) × ((p : Pair) → count_in (held_of label hs) p ≡ (if value_of p.label == value_of label then count_in hs p else 0))
+
+-- and it rises by cell
+abbrev pub LabelsRiseByCell : Type 0
+LabelsRiseByCell =
+    (label : Label) (hs : Collection) → IsCollection hs → AllPairs (λ (g h : Held). raw_of g.pair.cell < raw_of h.pair.cell) (held_of label hs)

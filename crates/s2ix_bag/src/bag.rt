@@ -2,10 +2,13 @@ ghost use Rattle.std.specs.Prelude.{◌≡◌, ◌==◌, ℕ, ◌<◌, ◌≤◌
 ghost use Rattle.s2ix_bag.specs.Apply.{apply_refusal, IsApplyRefusal};
 ghost use Rattle.s2ix_bag.specs.Change.{changed};
 ghost use Rattle.s2ix_bag.specs.Collection.{Contents, IsBag, copies_in, count_in};
+ghost use Rattle.s2ix_bag.specs.OfLabel.{held_of};
 
 use crate::apply::{merged, refusal};
 use crate::change::Change;
 use crate::errors::ApplyError;
+use crate::label::Label;
+use crate::label_iter::LabelIter;
 use crate::limits::Limits;
 use crate::pair::{Held, Pair};
 use crate::search::count_of;
@@ -89,6 +92,15 @@ impl Bag {
         ensures { slice_get self.now.held k ≡ Some result }
     {
         self.held[k]
+    }
+
+    /// The pairs held with a label, with their counts, by rising cell. O(n) from the first to the end, for n pairs
+    /// held with any label.
+    pub fn of_label(&self, label: Label) -> LabelIter<'_>
+        ensures list { result ≡ held_of label self.now.held }
+        ensures within { IsBag self.now }
+    {
+        LabelIter::new(label, self.held.as_slice())
     }
 
     /// The held pairs with their counts, in rising order.

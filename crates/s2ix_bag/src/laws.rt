@@ -1,6 +1,6 @@
 //! What the definitions that the contracts cite say, in other words. Each function is a law: it does nothing, and
 //! its contract is the fact.
-ghost use Rattle.s2ix_bag.specs.Laws.{RanksOrderPairs, RanksTellPairsApart, HeldAreCounted, CountedAreHeld, CountsTellCollectionsApart, ChangeSetsCounts, ChangeListsDifferences, OnlyChangeListsDifferences, ChangeLeadsThereAndBack, InverseTakesBack};
+ghost use Rattle.s2ix_bag.specs.Laws.{RanksOrderPairs, RanksTellPairsApart, HeldAreCounted, CountedAreHeld, CountsTellCollectionsApart, ChangeSetsCounts, ChangeListsDifferences, OnlyChangeListsDifferences, ChangeLeadsThereAndBack, InverseTakesBack, LabelsAreCounted, LabelsRiseByCell};
 
 /// The order by ranks is that by cell, then by label.
 pub fn ranks_order_pairs()
@@ -50,4 +50,14 @@ pub fn change_leads_there_and_back()
 /// A change that a bag takes can be taken back: the inverse isn't refused, and gives the first bag.
 pub fn inverse_takes_back()
     ensures { InverseTakesBack }
+{}
+
+/// What is held with a label is a collection, with the count of each pair of that label and of no other.
+pub fn labels_are_counted()
+    ensures { LabelsAreCounted }
+{}
+
+/// What is held with a label rises by cell.
+pub fn labels_rise_by_cell()
+    ensures { LabelsRiseByCell }
 {}

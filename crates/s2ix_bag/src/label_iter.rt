@@ -1,0 +1,93 @@
+ghost use Rattle.std.specs.Prelude.{◌≡◌};
+ghost use Rattle.std.specs.Iterator.{YieldsFirst, item_count};
+ghost use Rattle.s2ix_bag.specs.OfLabel.{held_of};
+
+use crate::label::Label;
+use crate::pair::Held;
+use std::marker::Model;
+
+/// The pairs that a bag holds with one label, with their counts, by rising cell; made by
+/// [`Bag::of_label`](crate::Bag::of_label). Contracts see the list of those still to come. It goes over all that
+/// the bag holds: O(n) from the first to the end, for n pairs held with any label. This project's own.
+#[derive(Debug, Drop)]
+pub struct LabelIter<'a> {
+    label: Label,
+    rest: &'a [Held],
+}
+
+impl<'a> Model for LabelIter<'a> {
+    ghost use Rattle.s2ix_bag.specs.Collection.{Collection};
+    ghost use Rattle.s2ix_bag.specs.OfLabel.{held_of};
+
+    ghost Value = { Collection };
+
+    ghost view = { λ s. held_of s.label s.rest.now };
+}
+
+impl<'a> LabelIter<'a> {
+    /// Those of the held pairs that have the label.
+    pub(crate) fn new(label: Label, held: &'a [Held]) -> LabelIter<'a>
+        ensures { result ≡ held_of label held.now }
+    {
+        LabelIter { label, rest: held }
+    }
+}
+
+impl<'a> Iterator for LabelIter<'a> {
+    type Item = Held;
+
+    ghost next_gives = { YieldsFirst (λ rest. rest) };
+
+    ghost remaining = { item_count (λ rest. rest) };
+
+    fn next(&mut self) -> Option<Held> {
+        while let Some((first, rest)) = self.rest.split_first() {
+            self.rest = rest;
+            if first.pair.label == self.label {
+                return Some(*first);
+            }
+        }
+        None
+    }
+}
+
+#[cfg(test)]
+mod tests {
+    use crate::bag::Bag;
+    use crate::label::Label;
+    use crate::pair::Held;
+    use crate::samples::{limits_of, pair_of, with_pair};
+    use std::test::Fail;
+
+    #[test]
+    fn a_label_lists_its_own_pairs(rt: HostRuntime) -> Result<(), Fail> {
+        let low = pair_of(&rt, 0x0400000000000000, 9);
+        let other = pair_of(&rt, 0x0400000000000000, 7);
+        let high = pair_of(&rt, 0x1000000000000000, 9);
+        let empty = Bag::empty(rt.alloc(), limits_of(&rt, 3, 3, 1));
+        let one = with_pair(&rt, &empty, high, 3)?;
+        let two = with_pair(&rt, &one, other, 2)?;
+        let bag = with_pair(&rt, &two, low, 1)?;
+        let mut pairs = bag.of_label(low.label);
+        assert_eq!(rt;
+            pairs.next(),
+            Some(Held {
+                pair: low,
+                count: 1
+            })
+        );
+        assert_eq!(rt;
+            pairs.next(),
+            Some(Held {
+                pair: high,
+                count: 3
+            })
+        );
+        assert_eq!(rt; pairs.next(), None);
+        assert_eq!(rt; pairs.next(), None);
+        let absent = Label::new(8).expect(&rt, "a label's number");
+        assert_eq!(rt; bag.of_label(absent).count(), 0);
+        assert_eq!(rt; bag.of_label(other.label).count(), 1);
+        Ok(())
+    }
+}
