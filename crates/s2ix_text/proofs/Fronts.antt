@@ -138,3 +138,9 @@ pub AppendsFront-flat_map_at : {X : Type 0} (f : X → List ℕ) (old mid new : 
 AppendsFront-flat_map_at f old mid new xs i x h p q =
     AppendsFront-flat_map f old mid new xs i x (slice_get_within xs i x h) p
     (subst (λ y. AppendsFront mid new (f y)) (sym (get_or_from_slice_get xs i x x h)) q)
+
+-- the same, where the item is the one at the index
+pub AppendsFront-flat_map_item : {X : Type 0} (f : X → List ℕ) (old mid new : Option (List ℕ)) (xs : List X) (i : ℕ) (x : X) → i < length xs → x ≡ get_or xs i x
+    → Appends old mid (flat_map f (take i xs)) → AppendsFront mid new (f x) → AppendsFront old new (flat_map f xs)
+AppendsFront-flat_map_item f old mid new xs i x h e p q =
+    AppendsFront-flat_map f old mid new xs i x h p (subst (λ y. AppendsFront mid new (f y)) e q)

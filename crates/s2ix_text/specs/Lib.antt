@@ -1,5 +1,7 @@
 pub mod Adapters
 pub mod Dump
 pub mod Faults
+pub mod Journal
+pub mod Laws
 pub mod Pieces
 pub mod Puts

@@ -3,6 +3,8 @@
 
 mod dump;
 mod from_read;
+mod journal;
+pub mod laws;
 mod put;
 mod sink;
 mod source;
@@ -10,6 +12,7 @@ mod to_write;
 
 pub use dump::write_dump;
 pub use from_read::FromRead;
+pub use journal::write_journal;
 pub use put::{put_all, put_parts};
 pub use sink::{Sink, WriteFault};
 pub use source::{ReadFault, Source};
