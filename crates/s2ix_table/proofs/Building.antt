@@ -1,0 +1,209 @@
+-- The steps by which a table is built of all that is held.
+use Rattle.std.proofs.Common.{◌≡◌, ℕ, zero, suc, ◌+◌, ◌%◌, ◌<◌, ◌≤◌, ◌⊎◌, inl, inr, List, [], ◌∷◌, ◌++◌, length, get_or, drop, refl, sym, ◌∙◌, ap, arith, subst, leb, true, false}
+use Rattle.std.proofs.lemmas.Bool.{cases_lt, leb-true, leb-false}
+use Rattle.std.specs.List.Sorted.{IsNonDecreasingBy}
+use Rattle.std.proofs.lemmas.List.{map-append}
+use Rattle.std.proofs.lemmas.List.Elements.{Contains-append_left, Contains-push, Contains-push_cases}
+use Rattle.s2id_union.proofs.Lists.{none_in_nil}
+use Rattle.s2id_core.specs.CellId.{first_of, end_of}
+use Rattle.s2ix_bag.specs.declared.pair.Held.{Held}
+use Rattle.s2ix_bag.specs.Collection.{Collection}
+use Rattle.s2ix_table.specs.declared.copied_row.CopiedRow.{CopiedRow}
+use Rattle.s2ix_table.specs.Contents.{contents_at}
+use Rattle.s2ix_table.specs.Copied.{run_of, runs_of}
+use Rattle.s2ix_table.specs.Table.{Run, run_at, leaf_end, IsNextBound, IsBound, IsTableOver, IsRangeTable, IsFound}
+use Rattle.s2ix_table.proofs.Over.{span_of}
+use Rattle.s2ix_table.proofs.Runs.{IsTable, IsRunFrom, changes_at, stays_between, table_push, places_from_table}
+
+-- ---- the next bound
+
+pub next_none : (at : ℕ) → at < leaf_end → IsNextBound [] at leaf_end
+next_none at lt = record {
+  above = lt;
+  within = omega arith;
+  odd = refl;
+  no_first = λ h held. absurd (none_in_nil h held);
+  no_end = λ h held. absurd (none_in_nil h held);
+  is_bound = λ l. absurd (omega arith);
+}
+
+-- the lesser of a limit and a bound above a leaf
+pub record IsNearer (at limit bound result : ℕ) : Type 0 where
+  pub within : result ≤ limit
+  pub past : at < bound → result ≤ bound
+  pub is : (result ≡ limit) ⊎ ((result ≡ bound) × (at < bound) × (bound < limit))
+
+bound_more : (hs : Collection) (h : Held) (b : ℕ) → IsBound hs b → IsBound (hs ++ h ∷ []) b
+bound_more hs h b (x, held, is) = (x, Contains-append_left hs (h ∷ []) x held, is)
+
+pub next_more : (hs : Collection) (h : Held) (at limit mid new : ℕ) → IsNextBound hs at limit → IsNearer at limit (first_of h.pair.cell) mid → IsNearer at mid (end_of h.pair.cell) new → IsNextBound (hs ++ h ∷ []) at new
+next_more hs h at limit mid new next first last =
+    let s = span_of h in
+    let a = next.above in
+    let b = next.within in
+    let o = next.odd in
+    let f1 = first.within in
+    let l1 = last.within in
+    let so = s.odd in
+    let se = s.odd_end in
+    record {
+      above = elim last.is [ inl e ↦ elim first.is [ inl f ↦ omega arith | inr f ↦ omega (arith, f.0, f.1) ] | inr e ↦ omega (arith, e.0, e.1) ];
+      within = omega arith;
+      odd = elim last.is [ inl e ↦ elim first.is [ inl f ↦ omega arith | inr f ↦ omega (arith, f.0) ] | inr e ↦ omega (arith, e.0) ];
+      no_first = λ x held lt.
+          elim (Contains-push_cases hs h x held) [
+            | inl c ↦ let p = next.no_first x c lt in omega arith
+            | inr e ↦
+                (let same = ap (λ (y : Held). first_of y.pair.cell) e in
+                let p = first.past (omega arith) in
+                omega arith)
+          ];
+      no_end = λ x held lt.
+          elim (Contains-push_cases hs h x held) [
+            | inl c ↦ let p = next.no_end x c lt in omega arith
+            | inr e ↦
+                (let same = ap (λ (y : Held). end_of y.pair.cell) e in
+                let p = last.past (omega arith) in
+                omega arith)
+          ];
+      is_bound = λ lt.
+          elim last.is [
+            | inl e ↦
+                elim first.is [
+                  | inl f ↦
+                      (let same : limit ≡ new = omega arith in
+                      let there : limit < leaf_end = omega arith in
+                      subst (IsBound (hs ++ h ∷ [])) same (bound_more hs h limit (next.is_bound there)))
+                  | inr f ↦ (h, Contains-push hs h, inl (sym f.0 ∙ sym e))
+                ]
+            | inr e ↦ (h, Contains-push hs h, inr (sym e.0))
+          ];
+    }
+
+-- ---- runs
+
+pub runs_push : (rows : List CopiedRow) (row : CopiedRow) → runs_of (rows ++ row ∷ []) ≡ runs_of rows ++ run_of row ∷ []
+runs_push rows row = map-append run_of rows (row ∷ [])
+
+pub run_of_row : (rows : List CopiedRow) (k : ℕ) (d : CopiedRow) → k < length rows → run_at (runs_of rows) k ≡ run_of (get_or rows k d)
+run_of_row [] k d lt = absurd (omega arith)
+run_of_row (row ∷ rows) zero d lt = refl
+run_of_row (row ∷ rows) (suc k) d lt = run_of_row rows k d (omega arith)
+
+pub length_runs : (rows : List CopiedRow) → length (runs_of rows) ≡ length rows
+length_runs [] = refl
+length_runs (row ∷ rows) = ap suc (length_runs rows)
+
+-- what stands while a table is built: the runs up to a leaf at which contents change
+pub record IsBuilt (hs : Collection) (rows : List CopiedRow) (at : ℕ) : Type 0 where
+  pub table : IsTable hs 1 (runs_of rows) at
+  pub begins : 1 ≤ at
+  pub within : at ≤ leaf_end
+  pub odd : at % 2 ≡ 1
+  pub is_bound : 1 < at → at < leaf_end → IsBound hs at
+
+pub built_none : (hs : Collection) → IsBuilt hs [] 1
+built_none hs = record { table = refl; begins = omega arith; within = omega arith; odd = refl; is_bound = λ a b. absurd (omega arith) }
+
+pub built_more : (hs : Collection) (rows : List CopiedRow) (at limit : ℕ) (row : CopiedRow) → IsBuilt hs rows at → at < leaf_end → IsNextBound hs at limit → row.start ≡ at → row.limit ≡ limit → row.contents.items ≡ contents_at at hs → IsBuilt hs (rows ++ row ∷ []) limit
+built_more hs rows at limit row built lt next start ends contents =
+    let a = built.begins in
+    let o = built.odd in
+    let b = next.above in
+    let run : IsRunFrom hs at (run_of row) = record {
+      start = start;
+      odd = o;
+      rises = omega arith;
+      shared = λ q odd le l. stays_between hs at limit q next le (omega arith) ∙ sym contents;
+    } in
+    let table = table_push hs 1 (runs_of rows) at (run_of row) built.table run (λ q le two same. changes_at hs q at (omega arith) two (built.is_bound (omega arith) lt) same) in
+    record {
+      table = subst (λ n. IsTable hs 1 (runs_of (rows ++ row ∷ [])) n) ends (subst (λ rs. IsTable hs 1 rs row.limit) (sym (runs_push rows row)) table);
+      begins = omega arith;
+      within = next.within;
+      odd = next.odd;
+      is_bound = λ above below. next.is_bound below;
+    }
+
+pub built_end : (hs : Collection) (rows : List CopiedRow) (at : ℕ) → IsBuilt hs rows at → leaf_end ≤ at → IsRangeTable hs (runs_of rows)
+built_end hs rows at built le =
+    let w = built.within in
+    let e : at ≡ leaf_end = omega arith in
+    places_from_table hs 1 leaf_end (runs_of rows) (omega arith) (subst (IsTable hs 1 (runs_of rows)) e built.table)
+
+-- ---- the range that has a leaf
+
+pub found : (hs : Collection) (runs : List Run) (k q : ℕ) → IsRangeTable hs runs → 1 ≤ q → q < leaf_end → k ≤ length runs → ((j : ℕ) → j < k → (run_at runs j).limit ≤ q) → ((j : ℕ) → k ≤ j → j < length runs → q < (run_at runs j).limit) → IsFound runs k q
+found hs runs zero q t from to le low high =
+    let some = t.some in
+    let first = t.first in
+    record { within = some; start = omega arith; limit = high 0 (omega arith) some }
+found hs runs (suc k) q t from to le low high =
+    let here : suc k < length runs =
+    elim (cases_lt (suc k) (length runs)) [
+      | inl lt ↦ lt
+      | inr ge ↦ absurd (let last = t.last k (omega arith) in let l = low k (omega arith) in omega arith)
+    ] in
+    let next = t.next k (suc k) (omega arith) here in
+    let l = low k (omega arith) in
+    record { within = here; start = omega arith; limit = high (suc k) (omega arith) here }
+
+pub limits_rise : (hs : Collection) (from to : ℕ) (runs : List Run) → IsTableOver hs from to runs → (i j : ℕ) → i ≤ j → j < length runs → (run_at runs i).limit ≤ (run_at runs j).limit
+limits_rise hs from to runs t i zero le lt = let e : i ≡ 0 = omega arith in let f = ap (λ k. (run_at runs k).limit) e in omega arith
+limits_rise hs from to runs t i (suc j) le lt =
+    elim (cases_lt i (suc j)) [
+      | inl less ↦
+          (let before = limits_rise hs from to runs t i j (omega arith) (omega arith) in
+          let next = t.next j (suc j) (omega arith) lt in
+          let rises = t.rises (suc j) lt in
+          omega arith)
+      | inr ge ↦ let e : i ≡ suc j = omega arith in let f = ap (λ k. (run_at runs k).limit) e in omega arith
+    ]
+
+row_limit : (rows : List CopiedRow) (k : ℕ) (d : CopiedRow) → k < length rows → (run_at (runs_of rows) k).limit ≡ (get_or rows k d).limit
+row_limit rows k d lt = ap (λ (r : Run). r.limit) (run_of_row rows k d lt)
+
+pub rows_rise : (hs : Collection) (rows : List CopiedRow) → IsRangeTable hs (runs_of rows) → IsNonDecreasingBy (λ (r : CopiedRow). r.limit) rows
+rows_rise hs rows t i j d le lt =
+    let n = length_runs rows in
+    let r = limits_rise hs 1 leaf_end (runs_of rows) t i j le (omega arith) in
+    let a = row_limit rows i d (omega arith) in
+    let b = row_limit rows j d lt in
+    omega arith
+
+pub found_row : (hs : Collection) (rows : List CopiedRow) (k q : ℕ) → IsRangeTable hs (runs_of rows) → 1 ≤ q → q < leaf_end → k ≤ length rows → ((j : ℕ) (e : CopiedRow) → 0 ≤ j → j < k → leb (get_or rows j e).limit q ≡ true) → ((j : ℕ) (e : CopiedRow) → k ≤ j → j < length rows → leb (get_or rows j e).limit q ≡ false) → IsFound (runs_of rows) k q
+found_row hs [] k q t from to le low high = absurd (let some = t.some in omega arith)
+found_row hs (row ∷ rows) k q t from to le low high =
+    let n = length_runs (row ∷ rows) in
+    found hs (runs_of (row ∷ rows)) k q t from to (omega arith)
+    (λ j lt.
+    let a = row_limit (row ∷ rows) j row (omega arith) in
+    let b = leb-true (get_or (row ∷ rows) j row).limit q (low j row (omega arith) lt) in
+    omega arith)
+    (λ j ge lt.
+    let a = row_limit (row ∷ rows) j row (omega arith) in
+    let b = leb-false (get_or (row ∷ rows) j row).limit q (high j row ge (omega arith)) in
+    omega arith)
+
+-- ---- a place's chain
+
+pub row_contents : (rows : List CopiedRow) (k : ℕ) (row : CopiedRow) → k < length rows → row ≡ get_or rows k row → (run_at (runs_of rows) k).contents ≡ row.contents.items
+row_contents rows k row lt is = ap (λ (r : Run). r.contents) (run_of_row rows k row lt) ∙ ap (λ (r : CopiedRow). r.contents.items) (sym is)
+
+pub drop_more : (n : ℕ) (xs : Collection) → drop (n + 1) xs ≡ drop 1 (drop n xs)
+drop_more n xs = ap (λ m. drop m xs) (let e : n + 1 ≡ suc n = omega arith in e) ∙ go n xs
+  where
+    go : (n : ℕ) (xs : Collection) → drop (suc n) xs ≡ drop 1 (drop n xs)
+    go zero xs = refl
+    go (suc n) [] = refl
+    go (suc n) (x ∷ xs) = go n xs
+
+no_chain : (at : ℕ) → 0 < length (drop at (run_at [] 0).contents) → ⊥
+no_chain zero lt = omega arith
+no_chain (suc at) lt = omega arith
+
+-- a place with a chain is one of a row
+pub place_in_rows : (rows : List CopiedRow) (k at : ℕ) → 0 < length (drop at (run_at (runs_of rows) k).contents) → k < length rows
+place_in_rows [] k at lt = absurd (no_chain at lt)
+place_in_rows (row ∷ rows) zero at lt = omega arith
+place_in_rows (row ∷ rows) (suc k) at lt = let less = place_in_rows rows k at lt in omega arith

@@ -1,0 +1,17 @@
+pub mod InOrder
+pub mod Over
+pub mod Runs
+pub mod Shared
+pub mod Meetings
+pub mod Building
+pub mod Leads
+pub mod Walks
+pub mod Visits
+pub mod Rising
+pub mod Lists
+pub mod Labelling
+pub mod Yielding
+pub mod Once
+pub mod RangeList
+pub mod LabelList
+pub mod SameMeeting

@@ -1,0 +1,228 @@
+-- Range tables, run by run.
+use Rattle.std.proofs.Common.{◌≡◌, ◌≢◌, ℕ, zero, suc, ◌+◌, ◌-◌, ◌*◌, ◌%◌, ◌<◌, ◌≤◌, inl, inr, ◌&&◌, leb, ltb, List, [], ◌∷◌, ◌++◌, length, refl, sym, ◌∙◌, ap₂, arith, Contains, subst}
+use Rattle.std.proofs.lemmas.Bool.{cases_order}
+use Rattle.std.proofs.lemmas.Bool.Decides.{nat_tests}
+use Rattle.s2id_core.specs.CellId.{first_of, end_of}
+use Rattle.s2ix_bag.specs.Collection.{Collection}
+use Rattle.s2ix_table.specs.Contents.{covers, depth_key, contents_at}
+use Rattle.s2ix_table.specs.Table.{Run, run_at, IsTableOver, IsNextBound, IsBound}
+use Rattle.s2ix_table.proofs.InOrder.{chosen_agree}
+use Rattle.s2ix_table.proofs.Over.{span_of, in_contents, contents_has}
+
+-- ---- where contents change
+
+-- at each bound of a held cell the contents change
+pub changes_at : (hs : Collection) (q b : ℕ) → q % 2 ≡ 1 → q + 2 ≡ b → IsBound hs b → contents_at q hs ≡ contents_at b hs → ⊥
+changes_at hs q b odd next (h, held, inl e) same =
+    let s = span_of h in
+    let a = s.rises in
+    let over = contents_has b hs h held (record { from = omega arith; to = omega arith }) in
+    let before = (in_contents q hs h (subst (λ cs. Contains cs h) (sym same) over)).1.from in
+    omega arith
+changes_at hs q b odd next (h, held, inr e) same =
+    let s = span_of h in
+    let a = s.rises in
+    let over = contents_has q hs h held (record { from = omega arith; to = omega arith }) in
+    let after = (in_contents b hs h (subst (λ cs. Contains cs h) same over)).1.to in
+    omega arith
+
+-- and between two neighbouring bounds they stay
+pub stays_between : (hs : Collection) (at limit q : ℕ) → IsNextBound hs at limit → at ≤ q → q < limit → contents_at q hs ≡ contents_at at hs
+unfolding contents_at
+stays_between hs at limit q next from to =
+    chosen_agree (covers q) (covers at) depth_key hs (λ h held.
+    let no_first = next.no_first h held in
+    let no_end = next.no_end h held in
+    tests (first_of h.pair.cell) (end_of h.pair.cell) at limit q from to no_first no_end)
+  where
+    tests : (f e at limit q : ℕ) → at ≤ q → q < limit → (at < f → limit ≤ f) → (at < e → limit ≤ e) → (leb f q && ltb q e) ≡ (leb f at && ltb at e)
+    tests f e at limit q from to no_first no_end = grind (arith, nat_tests)
+
+-- ---- tables by recursion
+
+pub record IsRunFrom (hs : Collection) (from : ℕ) (r : Run) : Type 0 where
+  pub start : r.start ≡ from
+  pub odd : from % 2 ≡ 1
+  pub rises : from < r.limit
+  pub shared : (q : ℕ) → q % 2 ≡ 1 → from ≤ q → q < r.limit → contents_at q hs ≡ r.contents
+
+abbrev pub Changes : Run → List Run → Type 0
+Changes r [] = Unit {0}
+Changes r (s ∷ rs) = r.contents ≢ s.contents
+
+abbrev pub IsTable : Collection → ℕ → List Run → ℕ → Type 0
+IsTable hs from [] to = from ≡ to
+IsTable hs from (r ∷ rs) to = IsRunFrom hs from r × Changes r rs × IsTable hs r.limit rs to
+
+pub table_rises : (hs : Collection) (from : ℕ) (runs : List Run) (to : ℕ) → IsTable hs from runs to → from ≤ to
+table_rises hs from [] to t = omega arith
+table_rises hs from (r ∷ rs) to t =
+    let le = table_rises hs r.limit rs to t.2 in
+    let lt = t.0.rises in
+    omega arith
+
+-- one more run at the end
+pub table_push : (hs : Collection) (from : ℕ) (runs : List Run) (mid : ℕ) (r : Run) → IsTable hs from runs mid → IsRunFrom hs mid r → ((q : ℕ) → from ≤ q → q + 2 ≡ mid → contents_at q hs ≢ contents_at mid hs) → IsTable hs from (runs ++ r ∷ []) r.limit
+table_push hs from [] mid r t run changes =
+    let a = run.start in
+    let b = run.odd in
+    let c = run.rises in
+    (record { start = a ∙ sym t; odd = omega arith; rises = omega arith; shared = λ q odd le lt. run.shared q odd (omega arith) lt }, tt, refl)
+table_push hs from (s ∷ []) mid r t run changes =
+    let a = t.0.odd in
+    let b = t.0.rises in
+    let c = run.odd in
+    let d = run.rises in
+    let e = t.2 in
+    let last : ℕ = mid - 2 in
+    let two : last + 2 ≡ mid = omega arith in (
+      t.0,
+      λ same. changes last (omega arith) two (t.0.shared last (omega arith) (omega arith) (omega arith) ∙ same ∙ sym (run.shared mid c (omega arith) d)),
+      table_push hs s.limit [] mid r t.2 run (λ q le f. absurd (omega arith)),
+    )
+table_push hs from (s ∷ u ∷ us) mid r t run changes =
+    let a = t.0.rises in
+    (t.0, t.1, table_push hs s.limit (u ∷ us) mid r t.2 run (λ q le f. changes q (omega arith) f))
+
+-- ---- and by places
+
+pub table_from_places : (hs : Collection) (from to : ℕ) (runs : List Run) → IsTableOver hs from to runs → IsTable hs from runs to
+table_from_places hs from to [] t = absurd (let some = t.some in omega arith)
+table_from_places hs from to (r ∷ []) t =
+    let first = t.first in
+    let odd = t.odd 0 (omega arith) in
+    let rises = t.rises 0 (omega arith) in (
+      record { start = first; odd = omega arith; rises = omega arith; shared = λ q o le lt. t.shared 0 q (omega arith) o (omega arith) lt },
+      tt,
+      t.last 0 (omega arith),
+    )
+table_from_places hs from to (r ∷ s ∷ rs) t =
+    let first = t.first in
+    let odd = t.odd 0 (omega arith) in
+    let rises = t.rises 0 (omega arith) in (
+      record { start = first; odd = omega arith; rises = omega arith; shared = λ q o le lt. t.shared 0 q (omega arith) o (omega arith) lt },
+      t.maximal 0 1 (omega arith) (omega arith),
+      table_from_places hs r.limit to (s ∷ rs) (record {
+        some = omega arith;
+        first = sym (t.next 0 1 (omega arith) (omega arith));
+        last = λ k e. t.last (suc k) (omega arith);
+        next = λ j k e lt. t.next (suc j) (suc k) (omega arith) (omega arith);
+        odd = λ k lt. t.odd (suc k) (omega arith);
+        rises = λ k lt. t.rises (suc k) (omega arith);
+        shared = λ k q lt o le l. t.shared (suc k) q (omega arith) o le l;
+        maximal = λ j k e lt. t.maximal (suc j) (suc k) (omega arith) (omega arith);
+      }),
+    )
+
+table_last : (hs : Collection) (from : ℕ) (runs : List Run) (to : ℕ) → IsTable hs from runs to → (k : ℕ) → k + 1 ≡ length runs → (run_at runs k).limit ≡ to
+table_last hs from [] to t k e = absurd (omega arith)
+table_last hs from (r ∷ []) to t zero e = t.2
+table_last hs from (r ∷ []) to t (suc k) e = absurd (omega arith)
+table_last hs from (r ∷ s ∷ rs) to t zero e = absurd (omega arith)
+table_last hs from (r ∷ s ∷ rs) to t (suc k) e = table_last hs r.limit (s ∷ rs) to t.2 k (omega arith)
+
+table_next : (hs : Collection) (from : ℕ) (runs : List Run) (to : ℕ) → IsTable hs from runs to → (j k : ℕ) → j + 1 ≡ k → k < length runs → (run_at runs j).limit ≡ (run_at runs k).start
+table_next hs from [] to t j k e lt = absurd (omega arith)
+table_next hs from (r ∷ []) to t j k e lt = absurd (omega arith)
+table_next hs from (r ∷ s ∷ rs) to t zero zero e lt = absurd (omega arith)
+table_next hs from (r ∷ s ∷ rs) to t zero (suc zero) e lt = sym t.2.0.start
+table_next hs from (r ∷ s ∷ rs) to t zero (suc (suc k)) e lt = absurd (omega arith)
+table_next hs from (r ∷ s ∷ rs) to t (suc j) zero e lt = absurd (omega arith)
+table_next hs from (r ∷ s ∷ rs) to t (suc j) (suc k) e lt = table_next hs r.limit (s ∷ rs) to t.2 j k (omega arith) (omega arith)
+
+table_maximal : (hs : Collection) (from : ℕ) (runs : List Run) (to : ℕ) → IsTable hs from runs to → (j k : ℕ) → j + 1 ≡ k → k < length runs → (run_at runs j).contents ≢ (run_at runs k).contents
+table_maximal hs from [] to t j k e lt = absurd (omega arith)
+table_maximal hs from (r ∷ []) to t j k e lt = absurd (omega arith)
+table_maximal hs from (r ∷ s ∷ rs) to t zero zero e lt = absurd (omega arith)
+table_maximal hs from (r ∷ s ∷ rs) to t zero (suc zero) e lt = t.1
+table_maximal hs from (r ∷ s ∷ rs) to t zero (suc (suc k)) e lt = absurd (omega arith)
+table_maximal hs from (r ∷ s ∷ rs) to t (suc j) zero e lt = absurd (omega arith)
+table_maximal hs from (r ∷ s ∷ rs) to t (suc j) (suc k) e lt = table_maximal hs r.limit (s ∷ rs) to t.2 j k (omega arith) (omega arith)
+
+record IsRun (hs : Collection) (r : Run) : Type 0 where
+  odd : r.start % 2 ≡ 1
+  rises : r.start < r.limit
+  shared : (q : ℕ) → q % 2 ≡ 1 → r.start ≤ q → q < r.limit → contents_at q hs ≡ r.contents
+
+table_run : (hs : Collection) (from : ℕ) (runs : List Run) (to : ℕ) → IsTable hs from runs to → (k : ℕ) → k < length runs → IsRun hs (run_at runs k)
+table_run hs from [] to t k lt = absurd (omega arith)
+table_run hs from (r ∷ rs) to t zero lt =
+    let start = t.0.start in
+    let odd = t.0.odd in
+    let rises = t.0.rises in
+    record { odd = omega arith; rises = omega arith; shared = λ q o le l. t.0.shared q o (omega arith) l }
+table_run hs from (r ∷ rs) to t (suc k) lt = table_run hs r.limit rs to t.2 k (omega arith)
+
+pub places_from_table : (hs : Collection) (from to : ℕ) (runs : List Run) → from < to → IsTable hs from runs to → IsTableOver hs from to runs
+places_from_table hs from to [] lt t = absurd (omega arith)
+places_from_table hs from to (r ∷ rs) lt t = record {
+  some = omega arith;
+  first = t.0.start;
+  last = table_last hs from (r ∷ rs) to t;
+  next = table_next hs from (r ∷ rs) to t;
+  odd = λ k l. (table_run hs from (r ∷ rs) to t k l).odd;
+  rises = λ k l. (table_run hs from (r ∷ rs) to t k l).rises;
+  shared = λ k q l o le u. (table_run hs from (r ∷ rs) to t k l).shared q o le u;
+  maximal = table_maximal hs from (r ∷ rs) to t;
+}
+
+-- ---- a collection has one table
+
+-- no run of a table ends before that of another with the same start
+no_shorter : (hs : Collection) (from : ℕ) (r s : Run) (rs ss : List Run) (to : ℕ) → IsTable hs from (r ∷ rs) to → IsTable hs from (s ∷ ss) to → r.limit < s.limit → ⊥
+no_shorter hs from r s [] ss to t u lt =
+    let e = t.2 in
+    let le = table_rises hs s.limit ss to u.2 in
+    omega arith
+no_shorter hs from r s (v ∷ vs) ss to t u lt =
+    let a = t.0.rises in
+    let o = t.2.0.odd in
+    let l = t.2.0.rises in
+    let mine = t.0.shared from t.0.odd (omega arith) (omega arith) in
+    let yours = u.0.shared from t.0.odd (omega arith) (omega arith) in
+    let there = u.0.shared r.limit o (omega arith) lt in
+    let next = t.2.0.shared r.limit o (omega arith) l in
+    t.1 (sym mine ∙ yours ∙ sym there ∙ next)
+
+made : ℕ → ℕ → Collection → Run
+made start limit contents = record { start = start; limit = limit; contents = contents }
+
+same_run : (r s : Run) → r.start ≡ s.start → r.limit ≡ s.limit → r.contents ≡ s.contents → r ≡ s
+unfolding made
+same_run r s a b c =
+    let e : made r.start r.limit r.contents ≡ made s.start s.limit s.contents = cc in e
+
+pub same_table : (hs : Collection) (from : ℕ) (xs ys : List Run) (to : ℕ) → IsTable hs from xs to → IsTable hs from ys to → xs ≡ ys
+same_table hs from [] [] to t u = refl
+same_table hs from [] (s ∷ ss) to t u =
+    absurd (let le = table_rises hs s.limit ss to u.2 in let lt = u.0.rises in omega arith)
+same_table hs from (r ∷ rs) [] to t u =
+    absurd (let le = table_rises hs r.limit rs to t.2 in let lt = t.0.rises in omega arith)
+same_table hs from (r ∷ rs) (s ∷ ss) to t u =
+    let limits : r.limit ≡ s.limit =
+    elim (cases_order r.limit s.limit) [
+      | inl e ↦ e
+      | inr o ↦
+          elim o [
+            | inl lt ↦ absurd (no_shorter hs from r s rs ss to t u lt)
+            | inr gt ↦ absurd (no_shorter hs from s r ss rs to u t gt)
+          ]
+    ] in
+    let a = t.0.rises in
+    let b = u.0.rises in
+    let contents = sym (t.0.shared from t.0.odd (omega arith) a) ∙ u.0.shared from t.0.odd (omega arith) b in
+    ap₂ (λ (x : Run) (xs : List Run). x ∷ xs) (same_run r s (t.0.start ∙ sym u.0.start) limits contents)
+    (same_table hs r.limit rs ss to t.2 (subst (λ n. IsTable hs n ss to) (sym limits) u.2))
+
+-- ---- places and numbers
+
+-- the runs of a table begin at odd numbers one above the other
+pub places_fit : (hs : Collection) (from to : ℕ) (runs : List Run) → IsTableOver hs from to runs → (k : ℕ) → k < length runs → from + 2 * k ≤ (run_at runs k).start
+places_fit hs from to runs t zero lt = let e = t.first in omega arith
+places_fit hs from to runs t (suc k) lt =
+    let le = places_fit hs from to runs t k (omega arith) in
+    let e = t.next k (suc k) (omega arith) lt in
+    let r = t.rises k (omega arith) in
+    let a = t.odd k (omega arith) in
+    let b = t.odd (suc k) lt in
+    omega arith

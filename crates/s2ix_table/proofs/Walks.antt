@@ -1,0 +1,210 @@
+-- The steps of a walk over the ranges that a target meets.
+use Rattle.std.proofs.Common.{◌≡◌, ℕ, ◌+◌, ◌-◌, ◌%◌, ◌^◌, ◌<◌, ◌≤◌, ◌⊎◌, inl, inr, max, Option, Some, None, List, [], ◌∷◌, ◌++◌, length, get_or, refl, sym, ◌∙◌, ap, arith, Contains, subst}
+use Rattle.std.proofs.lemmas.Bool.{cases_lt, cases_order}
+use Rattle.std.proofs.lemmas.List.{get_or_default}
+use Rattle.s2id_core.specs.declared.cell_id.CellId.{CellId}
+use Rattle.s2id_core.specs.CellId.{raw_of, first_of, end_of}
+use Rattle.s2id_core.proofs.Nested.{span}
+use Rattle.s2id_union.specs.Covers.{Covers, IsChain}
+use Rattle.s2ix_bag.specs.Collection.{Collection}
+use Rattle.s2ix_bag.specs.declared.pair.Held.{Held}
+use Rattle.s2ix_table.specs.Meeting.{meeting_from}
+use Rattle.s2ix_table.specs.Places.{from_place, LeadsTo, front_from}
+use Rattle.s2ix_table.specs.Table.{Run, run_at, leaf_end, IsRangeTable, IsFound}
+use Rattle.s2ix_table.specs.Walk.{ArePassed}
+use Rattle.s2ix_table.proofs.Over.{IsOver, in_contents, contents_has}
+use Rattle.s2ix_table.proofs.Runs.{places_fit}
+use Rattle.s2ix_table.proofs.Building.{limits_rise}
+use Rattle.s2ix_table.proofs.Meetings.{IsStep, step_meets, front_here, front_stops}
+
+-- ---- the cells of the target
+
+pub passed_more : (target : List CellId) (k seen : ℕ) (x : CellId) → k < length target → x ≡ get_or target k x → end_of x ≤ seen → ArePassed target k seen → ArePassed target (k + 1) seen
+passed_more target k seen x lt is ends passed j d less within =
+    elim (cases_lt j k) [
+      | inl before ↦ passed j d before within
+      | inr ge ↦
+          (let here : j ≡ k = omega arith in
+          let e = ap (λ (y : CellId). end_of y) (is ∙ get_or_default target k x d lt) in
+          let f = ap (λ i. end_of (get_or target i d)) here in
+          omega arith)
+    ]
+
+pub passed_later : (target : List CellId) (k seen next : ℕ) → seen ≤ next → ArePassed target k seen → ArePassed target k next
+passed_later target k seen next le passed j d less within = let p = passed j d less within in omega arith
+
+-- where all cells are passed, no leaf of the target is left
+pub passed_all : (target : List CellId) (k seen : ℕ) → ArePassed target k seen → length target ≤ k → (q : ℕ) → Covers target q → q < seen
+passed_all target k seen passed le q v =
+    let j = v.held.0 in
+    let within = v.held.1 in
+    let to = v.to in
+    let p = passed j v.cell (omega arith) within in
+    let e = ap (λ (y : CellId). end_of y) v.held.2 in
+    omega arith
+
+-- no leaf of the target lies between the passed cells and the next
+gap_from : (target : List CellId) (k seen : ℕ) (x : CellId) → IsChain target → ArePassed target k seen → k < length target → x ≡ get_or target k x → (q : ℕ) → Covers target q → seen ≤ q → first_of x ≤ q
+gap_from target k seen x chain passed lt is q v le =
+    let j = v.held.0 in
+    let within = v.held.1 in
+    let from = v.from in
+    let to = v.to in
+    let first = ap (λ (y : CellId). first_of y) v.held.2 in
+    let end = ap (λ (y : CellId). end_of y) v.held.2 in
+    elim (cases_order j k) [
+      | inl same ↦
+          (let e = ap (λ (y : CellId). first_of y) (is ∙ get_or_default target k x v.cell lt) in
+          let f = ap (λ i. first_of (get_or target i v.cell)) same in
+          omega arith)
+      | inr other ↦
+          elim other [
+            | inl less ↦ absurd (let p = passed j v.cell less within in omega arith)
+            | inr more ↦
+                (let c = chain k j v.cell more within in
+                let e = ap (λ (y : CellId). end_of y) (is ∙ get_or_default target k x v.cell lt) in
+                let s = span (raw_of x) x.valid in
+                let s1 = s.from in
+                let s2 = s.to in
+                omega arith)
+          ]
+    ]
+
+-- ---- the bounds of a range
+
+-- a range ends at a leaf number
+pub limit_bounds : (hs : Collection) (runs : List Run) → IsRangeTable hs runs → (k : ℕ) → k < length runs → ((run_at runs k).limit % 2 ≡ 1) × ((run_at runs k).limit ≤ leaf_end)
+limit_bounds hs runs t k lt =
+    let n = length runs - 1 in
+    let last = t.last n (omega arith) in
+    let le = limits_rise hs 1 leaf_end runs t k n (omega arith) (omega arith) in (
+      elim (cases_lt (k + 1) (length runs)) [
+        | inl more ↦ let next = t.next k (k + 1) refl more in let odd = t.odd (k + 1) more in omega arith
+        | inr end ↦ let e = t.last k (omega arith) in omega arith
+      ],
+      omega arith,
+    )
+
+pub range_fits : (hs : Collection) (runs : List Run) → IsRangeTable hs runs → (k : ℕ) → k < length runs → k + 1 < 2 ^ 64
+range_fits hs runs t k lt =
+    let fit = places_fit hs 1 leaf_end runs t k lt in
+    let rises = t.rises k lt in
+    let bounds = (limit_bounds hs runs t k lt).1 in
+    omega arith
+
+-- the next range has the leaf at which one ends
+pub found_next : (hs : Collection) (runs : List Run) → IsRangeTable hs runs → (k : ℕ) → k < length runs → (run_at runs k).limit < leaf_end → IsFound runs (k + 1) (run_at runs k).limit
+found_next hs runs t k lt less =
+    let more : k + 1 < length runs = elim (cases_lt (k + 1) (length runs)) [ inl more ↦ more | inr end ↦ absurd (let e = t.last k (omega arith) in omega arith) ] in
+    let next = t.next k (k + 1) refl more in
+    let rises = t.rises (k + 1) more in
+    record { within = more; start = omega arith; limit = omega arith }
+
+-- ---- one range
+
+stays_in : (hs : Collection) (runs : List Run) → IsRangeTable hs runs → (k at : ℕ) → IsFound runs k at → at % 2 ≡ 1 → (h : Held) (q : ℕ) → Contains hs h → q % 2 ≡ 1 → at ≤ q → q < (run_at runs k).limit → IsOver h q → IsOver h at
+stays_in hs runs t k at found odd h q held odd_q from to over =
+    let start = found.start in
+    let same = t.shared k q found.within odd_q (omega arith) to ∙ sym (t.shared k at found.within odd start found.limit) in
+    (in_contents at hs h (subst (λ cs. Contains cs h) same (contents_has q hs h held over))).1
+
+-- what is known of a walk that has passed to a cell of the target and the range with its first leaf that is left
+pub record IsAt (target : List CellId) (hs : Collection) (runs : List Run) (k seen range : ℕ) (x : CellId) : Type 0 where
+  pub chain : IsChain target
+  pub table : IsRangeTable hs runs
+  pub odd : seen % 2 ≡ 1
+  pub tight : (q : ℕ) → 1 ≤ q → q + 2 ≡ seen → Covers target q
+  pub passed : ArePassed target k seen
+  pub within : k < length target
+  pub is : x ≡ get_or target k x
+  pub beyond : seen < end_of x
+  pub found : IsFound runs range (max seen (first_of x))
+
+pub record IsNext (target : List CellId) (hs : Collection) (runs : List Run) (k seen range : ℕ) (x : CellId) (next : ℕ) : Type 0 where
+  pub rises : seen < next
+  pub odd : next % 2 ≡ 1
+  pub within : next ≤ leaf_end
+  pub tight : (q : ℕ) → 1 ≤ q → q + 2 ≡ next → Covers target q
+  pub passed : ArePassed target k next
+  pub left : meeting_from target seen hs ≡ front_from seen (run_at runs range).contents ++ meeting_from target next hs
+
+pub next_at : (target : List CellId) (hs : Collection) (runs : List Run) (k seen range : ℕ) (x : CellId) (next : ℕ) → IsAt target hs runs k seen range x → next ≤ (run_at runs range).limit → next ≤ end_of x → (next ≡ (run_at runs range).limit) ⊎ (next ≡ end_of x) → IsNext target hs runs k seen range x next
+next_at target hs runs k seen range x next a in_run in_cell is_end =
+    let s = span (raw_of x) x.valid in
+    let s1 = s.odd in
+    let s2 = s.from in
+    let s3 = s.to in
+    let s4 = s.ends in
+    let s5 = s.odd_end in
+    let o = a.odd in
+    let b = a.beyond in
+    let at : ℕ = max seen (first_of x) in
+    let f1 = a.found.start in
+    let f2 = a.found.limit in
+    let bounds = limit_bounds hs runs a.table range a.found.within in
+    let l1 = bounds.0 in
+    let l2 = bounds.1 in
+    let odd_at : at % 2 ≡ 1 = elim (cases_lt seen (first_of x)) [ inl lt ↦ omega arith | inr ge ↦ omega arith ] in
+    let after : at < next = elim is_end [ inl e ↦ omega arith | inr e ↦ omega arith ] in
+    let odd_next : next % 2 ≡ 1 = elim is_end [ inl e ↦ omega arith | inr e ↦ omega arith ] in
+    let covers : (q : ℕ) → first_of x ≤ q → q < end_of x → Covers target q =
+    λ q from to. record { cell = x; held = (k, a.within, sym a.is); from = from; to = to } in
+    let step : IsStep target hs seen at next = record {
+      odd = o;
+      reached = omega arith;
+      after = after;
+      on_curve = omega arith;
+      here = covers at (omega arith) (omega arith);
+      gap = λ q v le. let g = gap_from target k seen x a.chain a.passed a.within a.is q v le in omega arith;
+      tight = a.tight;
+      stays = λ h q held odd_q from to over. stays_in hs runs a.table range at a.found odd_at h q held odd_q from (omega arith) over;
+    } in
+    let contents = a.table.shared range at a.found.within odd_at f1 f2 in
+    record {
+      rises = omega arith;
+      odd = odd_next;
+      within = omega arith;
+      tight = λ q some e. covers q (omega arith) (omega arith);
+      passed = passed_later target k seen next (omega arith) a.passed;
+      left = step_meets target hs seen at next step ∙ ap (λ cs. front_from seen cs ++ meeting_from target next hs) contents;
+    }
+
+-- ---- the walk
+
+pub moved_left : {P : Type 0} (chain : P → Collection) (target : List CellId) (hs : Collection) (runs : List Run) (k seen range : ℕ) (x : CellId) (next : ℕ) (place : Option P) → IsNext target hs runs k seen range x next → LeadsTo chain place (run_at runs range).contents → meeting_from target seen hs ≡ front_from seen (from_place chain place) ++ meeting_from target next hs
+moved_left {P} chain target hs runs k seen range x next place n leads =
+    n.left ∙ ap (λ cs. front_from seen cs ++ meeting_from target next hs) (sym leads.pairs_are)
+
+pub walk_none : (target : List CellId) (q : ℕ) → 1 ≤ q → q + 2 ≡ 1 → Covers target q
+walk_none target q some e = absurd (omega arith)
+
+pub found_first : (hs : Collection) (runs : List Run) → IsRangeTable hs runs → IsFound runs 0 1
+found_first hs runs t =
+    let some = t.some in
+    let first = t.first in
+    let rises = t.rises 0 some in
+    record { within = some; start = omega arith; limit = omega arith }
+
+-- ---- the chain at hand
+
+pub new_none : {P : Type 0} (chain : P → Collection) (from : ℕ) (place : Option P) → place ≡ None → front_from from (from_place chain place) ≡ []
+unfolding front_from
+new_none {P} chain from place e = ap (λ (o : Option P). front_from from (from_place chain o)) e
+
+pub new_stop : {P : Type 0} (chain : P → Collection) (from : ℕ) (place : Option P) (p : P) (h : Held) (rest : Collection) → place ≡ Some p → chain p ≡ h ∷ rest → first_of h.pair.cell < from → front_from from (from_place chain place) ≡ []
+new_stop {P} chain from place p h rest e is early =
+    ap (λ (o : Option P). front_from from (from_place chain o)) e ∙ ap (front_from from) is ∙ front_stops from h rest early
+
+pub new_more : {P : Type 0} (chain : P → Collection) (from : ℕ) (place outer : Option P) (p : P) (h : Held) (rest : Collection) → place ≡ Some p → chain p ≡ h ∷ rest → from ≤ first_of h.pair.cell → LeadsTo chain outer rest → front_from from (from_place chain place) ≡ h ∷ front_from from (from_place chain outer)
+new_more {P} chain from place outer p h rest e is late leads =
+    ap (λ (o : Option P). front_from from (from_place chain o)) e ∙ ap (front_from from) is ∙ front_here from h rest late ∙ ap (λ cs. h ∷ front_from from cs) (sym leads.pairs_are)
+
+-- the range begins before the cell ends
+pub begins : (target : List CellId) (hs : Collection) (runs : List Run) (k seen range : ℕ) (x : CellId) → IsAt target hs runs k seen range x → (run_at runs range).start < end_of x
+begins target hs runs k seen range x a =
+    let s = span (raw_of x) x.valid in
+    let s1 = s.from in
+    let s2 = s.to in
+    let b = a.beyond in
+    let f = a.found.start in
+    elim (cases_lt seen (first_of x)) [ inl lt ↦ omega arith | inr ge ↦ omega arith ]

@@ -1,0 +1,11 @@
+use Rattle.std.proofs.Common.{◌≡◌, ◌-◌}
+use Rattle.s2ix_table.specs.Walk.{left_of, IsWalk}
+use Rattle.s2ix_table.proofs.met.next_met.Given as goal
+
+abbrev pub invariant-loop-link : goal.invariant-loop-link
+invariant-loop-link g l =
+    IsWalk (g.T.RangeTable.chain l.table) l.cells (g.T.RangeTable.runs l.table) l.at
+    × (left_of (g.T.RangeTable.chain l.table) l.cells (g.T.RangeTable.pairs l.table) l.at ≡ left_of (g.T.RangeTable.chain l.table) l.cells (g.T.RangeTable.pairs l.table) l.fn.walk)
+
+abbrev pub decreases-loop-link : goal.decreases-loop-link
+decreases-loop-link g l = 13835058055282163713 - l.at.seen

@@ -1,0 +1,24 @@
+use Rattle.std.proofs.Common.{◌≡◌, sym, ap, ◌∙◌, subst}
+use Rattle.s2id_union.proofs.Searching.{chain_from_normal}
+use Rattle.s2id_union.specs.Region.{IsNormal}
+use Rattle.s2ix_table.specs.Meeting.{meeting_of}
+use Rattle.s2ix_table.specs.Walk.{left_of}
+use Rattle.s2ix_table.proofs.Visits.{may_same, visits_same}
+use Rattle.s2ix_table.proofs.table.RangeTable.visit.Goals as goal
+
+pub loop-met-init : goal.loop-met-init
+loop-met-init g c =
+    let t = c.args.self.now in
+    let hs = g.Self.RangeTable.pairs t in
+    let cells = c.cells-cells.result.now in
+    let all = meeting_of c.args.target.now hs in
+    let left = left_of (g.Self.RangeTable.chain t) cells hs c.walk_of-walk.result in
+    let same : left ≡ all = c.walk_of-walk.ensures.left ∙ ap (λ ts. meeting_of ts hs) c.cells-cells.ensures.list in (
+      c.walk_of-walk.ensures.walk,
+      may_same (λ p x. goal.F-pre g p x) (λ p x r q. goal.F-step g p x r q) c.args.f.now all left (sym same) c.requires,
+      λ whole last v. visits_same (λ p x r q. goal.F-step g p x r q) c.args.f.now left all whole last same v,
+    )
+
+pub next_met-requires-clause-chain : goal.next_met-requires-clause-chain
+next_met-requires-clause-chain g c =
+    chain_from_normal c.cells-cells.result.now (subst IsNormal (sym c.cells-cells.ensures.list) c.cells-cells.ensures.normal)

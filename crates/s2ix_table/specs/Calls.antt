@@ -1,0 +1,16 @@
+-- What a visitor asks of a closure, and what its calls come to.
+use Rattle.std.specs.Prelude.{◌≡◌, ◌⊎◌, Bool, true, false, [], ◌∷◌}
+use Rattle.s2ix_bag.specs.Collection.{Collection}
+use Rattle.s2ix_bag.specs.declared.pair.Held.{Held}
+
+-- a closure may be called on the first pair of a list, and after each answer true on the next
+abbrev pub MayVisit : {F : Type 0} → (F → Held → Type 0) → (F → Held → Bool → F → Type 0) → F → Collection → Type 0
+MayVisit pre step f [] = Unit {0}
+MayVisit {F} pre step f (h ∷ hs) = pre f h × ((g : F) → step f h true g → MayVisit pre step g hs)
+
+-- a closure was called on the pairs of a list in order, up to and with the first answer false; `whole` says
+-- whether every answer was true
+abbrev pub Visits : {F : Type 0} → (F → Held → Bool → F → Type 0) → F → Collection → Bool → F → Type 0
+Visits step f [] whole last = (whole ≡ true) × (last ≡ f)
+Visits {F} step f (h ∷ hs) whole last =
+    (step f h false last × (whole ≡ false)) ⊎ ((g : F) × step f h true g × Visits step g hs whole last)

@@ -1,0 +1,23 @@
+-- What the iterators have still to give.
+use Rattle.std.specs.Prelude.{◌≡◌, ℕ, ◌+◌, List, [], ◌∷◌, drop}
+use Rattle.s2ix_table.specs.declared.iter.RangeIter.{RangeIter}
+use Rattle.s2ix_table.specs.declared.row.RangeRow.{RangeRow}
+use Rattle.s2ix_table.specs.Table.{Run}
+
+-- the bounds of runs with their places, counted from k
+abbrev pub numbered_rows : ℕ → List Run → List (ℕ × RangeRow)
+numbered_rows k [] = []
+numbered_rows k (r ∷ rs) = (k, record { start = r.start; limit = r.limit }) ∷ numbered_rows (k + 1) rs
+
+-- the table that an iterator goes over
+abbrev pub table_of : {T : Type 0} → RangeIter T → T
+table_of it = it.table.now
+
+-- the bounds that an iterator has still to give, with their places
+abbrev pub ranges_left : {T : Type 0} → (T → List Run) → RangeIter T → List (ℕ × RangeRow)
+ranges_left runs it = numbered_rows it.next (drop it.next (runs it.table.now))
+
+-- an iterator goes over the runs of a table from the k-th on
+pub record IsAtRange {T : Type 0} (runs : T → List Run) (table : T) (it : RangeIter T) (k : ℕ) : Type 0 where
+  pub same : it.table.now ≡ table
+  pub left : ranges_left runs it ≡ numbered_rows k (drop k (runs table))

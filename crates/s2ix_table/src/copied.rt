@@ -1,0 +1,121 @@
+ghost use Rattle.std.specs.Prelude.{◌≡◌, IfOk, drop};
+ghost use Rattle.s2ix_bag.specs.Collection.{IsCollection};
+ghost use Rattle.s2ix_table.specs.Table.{run_at, IsRangeTable};
+ghost use Rattle.s2ix_table.specs.Copied.{runs_of, IsCollection-prop};
+
+use crate::copied_row::CopiedRow;
+use crate::filter::{contents_over, next_bound};
+use crate::row::RangeRow;
+use crate::table::RangeTable;
+use s2id_core::{CellId, LEAF_END, OutOfMemory};
+use s2ix_bag::{Bag, Held};
+use std::alloc::Global;
+
+/// A range table that keeps a list of its own for each range. Building takes O(r * n) for r ranges and n pairs.
+#[derive(Debug, Drop)]
+pub struct CopiedTable {
+    held: Vec<Held>,
+    rows: Vec<CopiedRow>,
+    ghost rises: { IsCollection held.items } by { IsCollection-prop 0 held.items },
+    ghost table: { IsRangeTable held.items (runs_of rows.items) },
+}
+
+/// A pair of a range's list, by the range and its place in that list.
+#[derive(Clone, Copy, Debug, PartialEq, Eq)]
+pub struct CopiedPlace {
+    range: usize,
+    at: usize,
+}
+
+impl RangeTable for CopiedTable {
+    type Place = CopiedPlace;
+
+    ghost pairs = { λ t. t.held.items };
+
+    ghost runs = { λ t. runs_of t.rows.items };
+
+    ghost chain = { λ t p. drop p.at (run_at (runs_of t.rows.items) p.range).contents };
+
+    ghost is_collection = { λ t. t.rises };
+
+    ghost is_table = { λ t. t.table };
+
+    fn build(alloc: Global, bag: &Bag) -> Result<Self, OutOfMemory> {
+        let held = held_pairs(alloc, bag)?;
+        let rows = rows_over(alloc, held.as_slice())?;
+        Ok(CopiedTable { held, rows })
+    }
+
+    fn range_count(&self) -> usize {
+        self.rows.len()
+    }
+
+    fn range(&self, k: usize) -> RangeRow {
+        let row = &self.rows[k];
+        RangeRow {
+            start: row.start,
+            limit: row.limit,
+        }
+    }
+
+    fn first(&self, k: usize) -> Option<CopiedPlace> {
+        if self.rows[k].contents.is_empty() {
+            None
+        } else {
+            Some(CopiedPlace { range: k, at: 0 })
+        }
+    }
+
+    fn held_at(&self, place: CopiedPlace) -> Held {
+        self.rows[place.range].contents[place.at]
+    }
+
+    fn outer(&self, place: CopiedPlace) -> Option<CopiedPlace> {
+        let len = self.rows[place.range].contents.len();
+        if place.at < len - 1 {
+            Some(CopiedPlace {
+                range: place.range,
+                at: place.at + 1,
+            })
+        } else {
+            None
+        }
+    }
+
+    fn find(&self, leaf: CellId) -> usize {
+        let leaf = leaf.raw();
+        self.rows.partition_point(|row| row.limit <= leaf)
+    }
+}
+
+// What a bag holds, in its order.
+fn held_pairs(alloc: Global, bag: &Bag) -> Result<Vec<Held>, OutOfMemory>
+    ensures list { IfOk result (λ held. held.items ≡ bag.now.held) }
+    ensures rises { IfOk result (λ held. IsCollection held.items) }
+{
+    let len = bag.len();
+    let mut held = Vec::with_capacity(alloc, len)?;
+    for k in 0..len {
+        held.push(bag.held(k))?;
+    }
+    Ok(held)
+}
+
+// The runs of leaves over which the same pairs lie, each from where one ended up to the next bound of a cell.
+fn rows_over(alloc: Global, held: &[Held]) -> Result<Vec<CopiedRow>, OutOfMemory>
+    ensures { IfOk result (λ rows. IsRangeTable held.now (runs_of rows.items)) }
+{
+    let mut rows = Vec::new(alloc);
+    let mut at = 1;
+    while at < LEAF_END {
+        let limit = next_bound(held, at);
+        let contents = contents_over(alloc, held, at)?;
+        rows.push(CopiedRow {
+            start: at,
+            limit,
+            contents,
+        })?;
+        at = limit;
+    }
+    Ok(rows)
+}

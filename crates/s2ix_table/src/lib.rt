@@ -1,0 +1,27 @@
+//! Range tables of labelled cells, and what they answer (S2's `S2CellIndex`).
+//!
+//! The leaves of the curve fall into maximal runs over which the same pairs lie. A [`RangeTable`] keeps these runs in
+//! order, and with each of them its contents: the pairs whose cells have its leaves, the innermost cell first.
+#![tactic(auto)]
+
+mod copied;
+mod copied_row;
+mod filter;
+mod iter;
+mod labels;
+pub mod laws;
+mod met;
+mod pairs;
+mod row;
+#[cfg(test)]
+mod samples;
+mod span;
+mod table;
+mod walk;
+#[cfg(test)]
+mod worked;
+
+pub use copied::{CopiedPlace, CopiedTable};
+pub use iter::{ChainIter, RangeIter, chain_at, contents, ranges};
+pub use row::RangeRow;
+pub use table::RangeTable;

@@ -1,0 +1,66 @@
+//! What the tests of this crate share.
+ghost use Rattle.std.specs.Prelude.{◌<◌};
+ghost use Rattle.s2ix_bag.specs.declared.pair.Held.{Held};
+
+use crate::copied::CopiedTable;
+use crate::table::RangeTable;
+use s2id_core::CellId;
+use s2id_union::CellUnion;
+use s2ix_bag::{Bag, Change, Entry, Held, Label, Limits, Pair};
+use std::alloc::Global;
+use std::process::Abort;
+use std::test::Fail;
+
+/// The cell of a token.
+pub fn cell_of(rt: &impl Abort, token: &[u8]) -> CellId {
+    CellId::from_token(token).ok().expect(rt, "a cell's token")
+}
+
+/// A held pair, by the token of its cell.
+pub fn held_of(rt: &impl Abort, token: &[u8], label: u32, count: u32) -> Held {
+    Held {
+        pair: Pair {
+            cell: cell_of(rt, token),
+            label: Label::new(label).expect(rt, "a label's number"),
+        },
+        count,
+    }
+}
+
+/// The union of the cells of two tokens.
+pub fn union_of(
+    rt: &impl Abort,
+    alloc: Global,
+    first: &[u8],
+    second: &[u8],
+) -> Result<CellUnion, Fail> {
+    let cells = [cell_of(rt, first), cell_of(rt, second)];
+    Ok(CellUnion::normalise(alloc, cells.as_slice())?)
+}
+
+/// The table of pairs that differ.
+pub fn table_of(rt: &impl Abort, alloc: Global, pairs: &[Held]) -> Result<CopiedTable, Fail> {
+    let mut bag = Bag::empty(alloc, Limits::default());
+    for held in pairs {
+        assert!(rt; 0 < held.count);
+        let entry = Entry {
+            pair: held.pair,
+            before: 0,
+            after: held.count,
+        };
+        let change = Change::from_vec(vec![in alloc; entry]?);
+        bag = bag.applied(alloc, &change)?;
+    }
+    Ok(CopiedTable::build(alloc, &bag)?)
+}
+
+/// A visit by a closure that may always be called.
+pub fn visited<T: RangeTable, F: FnMut(Held) -> bool>(
+    table: &T,
+    target: &CellUnion,
+    f: &mut F,
+) -> bool
+    requires { (state : F) (held : Held) → F.pre state held }
+{
+    table.visit(target, f)
+}

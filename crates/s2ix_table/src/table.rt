@@ -1,0 +1,120 @@
+ghost use Rattle.std.specs.Prelude.{◌≡◌, ◌<◌, ◌≤◌, ◌∷◌, IfOk, List, length, drop};
+ghost use Rattle.s2id_core.specs.CellId.{raw_of, level_of};
+ghost use Rattle.s2ix_bag.specs.Collection.{Collection, IsCollection};
+ghost use Rattle.s2ix_table.specs.LabelList.{label_list};
+ghost use Rattle.s2ix_table.specs.LabelList.{label_list};
+ghost use Rattle.s2ix_table.specs.Table.{Run, run_at, IsRangeTable};
+ghost use Rattle.s2ix_table.specs.Places.{IsPlace, LeadsTo};
+ghost use Rattle.s2ix_table.specs.Meeting.{IsMeetingList, IsLabelList, meeting_of};
+ghost use Rattle.s2ix_table.specs.Calls.{MayVisit, Visits};
+
+use crate::labels::labels_of;
+use crate::met::{next_met, walk_of};
+use crate::row::RangeRow;
+use s2id_core::{CellId, OutOfMemory};
+use s2id_union::CellUnion;
+use s2ix_bag::{Bag, Held, Label};
+use std::alloc::Global;
+
+/// The range table of a collection: the maximal runs of leaves over which the same pairs lie, in order, each with a
+/// chain of these pairs (S2's `S2CellIndex`, its ranges and its contents). The runs cover all leaves, empty ones too.
+pub trait RangeTable: Sized {
+    /// Where a table keeps a pair of a chain.
+    type Place: Copy;
+
+    // the pairs that the table was built of, with their counts
+    ghost pairs: { Self → Collection };
+
+    // the runs, each with its contents
+    ghost runs: { Self → List Run };
+
+    // the pairs from a place on, outwards; none at what is no place of the table
+    ghost chain: { Self → Self.Place → Collection };
+
+    /// The table of a bag. `OutOfMemory` where a growth is refused.
+    fn build(alloc: Global, bag: &Bag) -> Result<Self, OutOfMemory>
+        ensures { IfOk result (λ table. pairs table ≡ bag.now.held) };
+
+    /// How many ranges there are, at least 1.
+    fn range_count(&self) -> usize
+        ensures { result ≡ length (runs self.now) };
+
+    /// The leaves of a range.
+    fn range(&self, k: usize) -> RangeRow
+        requires { k < length (runs self.now) }
+        ensures start { result.start ≡ (run_at (runs self.now) k).start }
+        ensures limit { result.limit ≡ (run_at (runs self.now) k).limit };
+
+    /// The place of a range's innermost pair, or `None` where nothing lies over it.
+    fn first(&self, k: usize) -> Option<Self::Place>
+        requires { k < length (runs self.now) }
+        ensures { LeadsTo (chain self.now) result (run_at (runs self.now) k).contents };
+
+    /// The pair at a place, with its count.
+    fn held_at(&self, place: Self::Place) -> Held
+        requires { IsPlace (chain self.now) place }
+        ensures { chain self.now place ≡ result ∷ drop 1 (chain self.now place) };
+
+    /// The place of the next pair outwards, or `None` at the outermost.
+    fn outer(&self, place: Self::Place) -> Option<Self::Place>
+        requires { IsPlace (chain self.now) place }
+        ensures { LeadsTo (chain self.now) result (drop 1 (chain self.now place)) };
+
+    /// The range that has a leaf. O(log n) for n ranges.
+    fn find(&self, leaf: CellId) -> usize
+        requires { level_of leaf ≡ 30 }
+        ensures within { result < length (runs self.now) }
+        ensures start { (run_at (runs self.now) result).start ≤ raw_of leaf }
+        ensures limit { raw_of leaf < (run_at (runs self.now) result).limit };
+
+    // the pairs rise strictly, each with a count above 0
+    ghost is_collection: { (table : Self) → IsCollection (pairs table) };
+
+    // the runs are the range table of the pairs
+    ghost is_table: { (table : Self) → IsRangeTable (pairs table) (runs table) };
+
+    /// Calls `f` on each pair of the target's meeting list, in order, up to and with the first call that answers false;
+    /// whether every call answered true (S2's `VisitIntersectingCells()`). Takes no memory; `f` need only be callable on
+    /// the pairs of the list.
+    final fn visit<F: FnMut(Held) -> bool>(&self, target: &CellUnion, f: &mut F) -> bool
+        requires { MayVisit F.pre F.step f.old (meeting_of target.now (pairs self.now)) }
+        ensures { Visits F.step f.old (meeting_of target.now (pairs self.now)) result f.new }
+    {
+        let cells = target.cells();
+        let mut walk = walk_of(self, cells);
+        while let Some(met) = next_met(self, cells, walk) {
+            if !f(met.held) {
+                return false;
+            }
+            walk = met.after;
+        }
+        true
+    }
+
+    /// The target's meeting list: the held pairs that share a leaf with it, each once, by first shared leaf, then falling
+    /// level, then rising label (S2's `GetIntersectingLabels()` with the cells and counts). `OutOfMemory` where a growth
+    /// is refused.
+    final fn meeting(&self, alloc: Global, target: &CellUnion) -> Result<Vec<Held>, OutOfMemory>
+        ensures list { IfOk result (λ list. list.items ≡ meeting_of target.now (pairs self.now)) }
+        ensures met { IfOk result (λ list. IsMeetingList target.now (pairs self.now) list.items) }
+    {
+        let cells = target.cells();
+        let mut list = Vec::new(alloc);
+        let mut walk = walk_of(self, cells);
+        while let Some(met) = next_met(self, cells, walk) {
+            list.push(met.held)?;
+            walk = met.after;
+        }
+        Ok(list)
+    }
+
+    /// The labels of the target's meeting list, once each and rising (S2's `GetIntersectingLabels()`). `OutOfMemory`
+    /// where a growth is refused.
+    final fn labels(&self, alloc: Global, target: &CellUnion) -> Result<Vec<Label>, OutOfMemory>
+        ensures labels { IfOk result (λ labels. IsLabelList (meeting_of target.now (pairs self.now)) labels.items) }
+        ensures list { IfOk result (λ labels. labels.items ≡ label_list (meeting_of target.now (pairs self.now))) }
+    {
+        let meeting = self.meeting(alloc, target)?;
+        labels_of(alloc, meeting.as_slice())
+    }
+}

@@ -1,0 +1,150 @@
+//! Worked tables, and what they answer.
+use crate::iter::{chain_at, contents, ranges};
+use crate::row::RangeRow;
+use crate::samples::{cell_of, held_of, table_of, union_of, visited};
+use crate::table::RangeTable;
+use s2id_core::CellId;
+use std::test::Fail;
+
+#[test]
+fn nested_cells_make_three_ranges(rt: HostRuntime) -> Result<(), Fail> {
+    let outer = held_of(&rt, b"1", 7, 1);
+    let inner = held_of(&rt, b"04", 9, 1);
+    let table = table_of(&rt, rt.alloc(), [outer, inner].as_slice())?;
+    let mut rows = Vec::new(rt.alloc());
+    for (k, row) in ranges(&table) {
+        assert_eq!(rt; k, rows.len());
+        rows.push(row)?;
+    }
+    assert_eq!(rt;
+        rows.as_slice(),
+        [
+            RangeRow {
+                start: 1,
+                limit: 0x0800000000000001,
+            },
+            RangeRow {
+                start: 0x0800000000000001,
+                limit: 0x2000000000000001,
+            },
+            RangeRow {
+                start: 0x2000000000000001,
+                limit: 0xc000000000000001,
+            },
+        ]
+        .as_slice()
+    );
+    assert_eq!(rt; table.range_count(), 3);
+    let mut first = Vec::new(rt.alloc());
+    for held in contents(&table, 0) {
+        first.push(held)?;
+    }
+    assert_eq!(rt; first.as_slice(), [inner, outer].as_slice());
+    let leaf = CellId::from_raw(0x1fffffffffffffff).expect(&rt, "a leaf");
+    assert_eq!(rt; leaf.level(), 30);
+    assert_eq!(rt; table.find(leaf), 1);
+    let mut chain = Vec::new(rt.alloc());
+    for held in chain_at(&table, leaf) {
+        chain.push(held)?;
+    }
+    assert_eq!(rt; chain.as_slice(), [outer].as_slice());
+    let mut from_leaf = ranges(&table);
+    from_leaf.seek(leaf);
+    let (k, row) = from_leaf.next().expect(&rt, "a range");
+    assert_eq!(rt; (k, row.start), (1, 0x0800000000000001));
+    Ok(())
+}
+
+#[test]
+fn empty_table_has_one_range(rt: HostRuntime) -> Result<(), Fail> {
+    let table = table_of(&rt, rt.alloc(), [].as_slice())?;
+    assert_eq!(rt; table.range_count(), 1);
+    let row = table.range(0);
+    assert_eq!(rt; (row.start, row.limit), (1, 0xc000000000000001));
+    assert!(rt; table.first(0).is_none());
+    Ok(())
+}
+
+#[test]
+fn places_lead_outwards(rt: HostRuntime) -> Result<(), Fail> {
+    let outer = held_of(&rt, b"1", 7, 1);
+    let inner = held_of(&rt, b"04", 9, 1);
+    let table = table_of(&rt, rt.alloc(), [outer, inner].as_slice())?;
+    assert!(rt; 0 < table.range_count());
+    let place = table.first(0).expect(&rt, "a pair over the first range");
+    assert_eq!(rt; table.held_at(place), inner);
+    let next = table.outer(place).expect(&rt, "a pair around it");
+    assert_eq!(rt; table.held_at(next), outer);
+    assert!(rt; table.outer(next).is_none());
+    Ok(())
+}
+
+#[test]
+fn target_meets_an_outer_cell(rt: HostRuntime) -> Result<(), Fail> {
+    let outer = held_of(&rt, b"1", 7, 1);
+    let inner = held_of(&rt, b"04", 9, 1);
+    let table = table_of(&rt, rt.alloc(), [outer, inner].as_slice())?;
+    let target = union_of(&rt, rt.alloc(), b"0c", b"0c")?;
+    let met = table.meeting(rt.alloc(), &target)?;
+    assert_eq!(rt; met.as_slice(), [outer].as_slice());
+    Ok(())
+}
+
+#[test]
+fn meeting_lists_are_in_order(rt: HostRuntime) -> Result<(), Fail> {
+    let face = held_of(&rt, b"1", 7, 1);
+    let first = held_of(&rt, b"04", 9, 1);
+    let last = held_of(&rt, b"1c", 2, 1);
+    let table = table_of(&rt, rt.alloc(), [face, first, last].as_slice())?;
+    let target = union_of(&rt, rt.alloc(), b"1c", b"04")?;
+    let met = table.meeting(rt.alloc(), &target)?;
+    assert_eq!(rt; met.as_slice(), [first, face, last].as_slice());
+    let labels = table.labels(rt.alloc(), &target)?;
+    assert_eq!(rt;
+        labels.as_slice(),
+        [last.pair.label, face.pair.label, first.pair.label].as_slice()
+    );
+    Ok(())
+}
+
+#[test]
+fn meeting_lists_go_over_gaps(rt: HostRuntime) -> Result<(), Fail> {
+    let first = held_of(&rt, b"04", 9, 1);
+    let face = held_of(&rt, b"5", 3, 1);
+    let before = held_of(&rt, b"44", 6, 1);
+    let second = held_of(&rt, b"4c", 1, 1);
+    let table = table_of(&rt, rt.alloc(), [first, face, before, second].as_slice())?;
+    let target = union_of(&rt, rt.alloc(), b"04", b"4c")?;
+    let met = table.meeting(rt.alloc(), &target)?;
+    assert_eq!(rt; met.as_slice(), [first, second, face].as_slice());
+    Ok(())
+}
+
+#[test]
+fn visit_ends_at_the_first_false(rt: HostRuntime) -> Result<(), Fail> {
+    let face = held_of(&rt, b"1", 7, 1);
+    let first = held_of(&rt, b"04", 9, 1);
+    let last = held_of(&rt, b"1c", 2, 1);
+    let table = table_of(&rt, rt.alloc(), [face, first, last].as_slice())?;
+    let target = union_of(&rt, rt.alloc(), b"1c", b"04")?;
+    let mut given = None;
+    let mut refused = None;
+    let whole = visited(
+        &table,
+        &target,
+        &mut |held| {
+            if given.is_none() {
+                given = Some(held);
+                true
+            } else {
+                refused = Some(held);
+                false
+            }
+        },
+    );
+    assert!(rt; !whole);
+    assert_eq!(rt; given, Some(first));
+    assert_eq!(rt; refused, Some(face));
+    assert!(rt; visited(&table, &target, &mut |_| true));
+    Ok(())
+}
