@@ -2,3 +2,4 @@ mod Reached
 mod Steps
 pub mod ScriptLines
 pub mod ScriptNumbers
+mod CellFields

@@ -6,14 +6,14 @@ use Rattle.std.proofs.lemmas.Option.{slice_get-get_or}
 use Rattle.s2ix_text.specs.Puts.{AppendsFront}
 use Rattle.s2ix_edit.specs.declared.edit.Edit.{Edit}
 use Rattle.s2ix_edit.specs.declared.errors.EditError.{EditError}
-use Rattle.s2ix_edit.specs.declared.errors.EditError.TheVariants.{JournalFull, NotHeld, NoChange, TooManyCopies, TooManyPairs, OutOfMemory}
-use Rattle.s2ix_edit.specs.History.{State, after_edit, after_undo, change_of, undo_size}
+use Rattle.s2ix_edit.specs.declared.errors.EditError.TheVariants.{JournalFull, NoSuchLabel, NotHeld, NoChange, TooManyCopies, TooManyPairs, OutOfMemory}
+use Rattle.s2ix_edit.specs.History.{State, after_edit, after_undo, after_redo, change_of, undo_size, redo_size}
 use Rattle.s2ix_edit.specs.Refusals.{edit_refusal, IsEditRefusal}
 use Rattle.s2ix_cli.specs.declared.outcome.LineOutcome.TheVariants.{Accepted, Refused}
 use Rattle.s2ix_cli.specs.declared.outcome.RunFault.TheVariants.{Write}
 use Rattle.s2ix_cli.specs.Carry.{Takes, StopsAt}
 use Rattle.s2ix_cli.specs.Names.{edit_error_name}
-use Rattle.s2ix_cli.specs.Step.{Step, accepted, refused, no_line, ok_line, edit_step, edit_step_at, undo_step, undo_step_at}
+use Rattle.s2ix_cli.specs.Step.{Step, accepted, refused, no_line, ok_line, edit_step, edit_step_at, undo_step, undo_step_at, redo_step, redo_step_at}
 
 -- ---- what an edit comes to
 
@@ -27,13 +27,14 @@ pub edit_step-refused : (s : State) (edit : Edit) (error : EditError) (name : Li
     → edit_step s edit ≡ refused s name
 unfolding edit_step
 edit_step-refused s edit JournalFull name e other is = ap (edit_step_at s edit) e ∙ ap (refused s) (sym is)
+edit_step-refused s edit NoSuchLabel name e other is = ap (edit_step_at s edit) e ∙ ap (refused s) (sym is)
 edit_step-refused s edit NotHeld name e other is = ap (edit_step_at s edit) e ∙ ap (refused s) (sym is)
 edit_step-refused s edit NoChange name e other is = ap (edit_step_at s edit) e ∙ ap (refused s) (sym is)
 edit_step-refused s edit TooManyCopies name e other is = ap (edit_step_at s edit) e ∙ ap (refused s) (sym is)
 edit_step-refused s edit TooManyPairs name e other is = ap (edit_step_at s edit) e ∙ ap (refused s) (sym is)
 edit_step-refused s edit OutOfMemory name e other is = absurd (other refl)
 
--- ---- what an undo comes to
+-- ---- what an undo and a redo come to
 
 -- the last of a list that is not empty
 slice_get-last : {A : Type 0} (xs : List A) → (xs ≡ [] → ⊥) → (x : A) × (slice_get xs (length xs - 1) ≡ Some x)
@@ -49,6 +50,16 @@ undo_step-accepted s n some is = ap (undo_step_at s) (slice_get-last s.done some
 pub undo_step-refused : (s : State) → s.done ≡ [] → undo_step s ≡ refused s (codes "NothingToUndo")
 unfolding undo_step
 undo_step-refused s none = ap (undo_step_at s) (ap (λ xs. slice_get xs (length xs - 1)) none)
+
+-- a redo where a change was undone
+pub redo_step-accepted : (s : State) (n : ℕ) → (s.undone ≡ [] → ⊥) → n ≡ redo_size s → redo_step s ≡ accepted (after_redo s) n
+unfolding redo_step
+redo_step-accepted s n some is = ap (redo_step_at s) (slice_get-last s.undone some).1 ∙ ap (accepted (after_redo s)) (sym is)
+
+-- a redo where none was
+pub redo_step-refused : (s : State) → s.undone ≡ [] → redo_step s ≡ refused s (codes "NothingToRedo")
+unfolding redo_step
+redo_step-refused s none = ap (redo_step_at s) (ap (λ xs. slice_get xs (length xs - 1)) none)
 
 -- ---- what was carried out
 

@@ -1,14 +1,17 @@
 -- What a line of a script asks for.
-use Rattle.std.specs.Prelude.{ℕ, ◌==◌, nat_lt, if◌then◌else◌, codes, Option, Some, None, Result, Ok, Err, List, [], ◌∷◌, length, slice_index}
+use Rattle.std.specs.Prelude.{◌≡◌, ℕ, ◌==◌, nat_lt, if◌then◌else◌, Bool, true, false, codes, Option, Some, None, Result, Ok, Err, List, [], ◌∷◌, length, slice_index}
 use Rattle.std.specs.Str.{bytes_eq}
 use Rattle.s2id_core.specs.declared.cell_id.CellId.{CellId}
 use Rattle.s2id_core.specs.Spelled.{cell_spelled}
+use Rattle.s2id_union.specs.NormalForm.{normal_form}
 use Rattle.s2ix_bag.specs.declared.label.Label.{Label}
 use Rattle.s2ix_bag.specs.declared.pair.Pair.{Pair}
 use Rattle.s2ix_edit.specs.declared.edit.Edit.{Edit}
-use Rattle.s2ix_edit.specs.declared.edit.Edit.TheVariants.{Add, Remove}
+use Rattle.s2ix_edit.specs.declared.edit.Edit.TheVariants.{Add, AddUnion, Remove, DropLabel, Relabel}
 use Rattle.s2ix_cli.specs.declared.command.Command.{Command}
 use Rattle.s2ix_cli.specs.declared.command.Command.TheVariants as command
+use Rattle.s2ix_cli.specs.declared.command.LineError.{LineError}
+use Rattle.s2ix_cli.specs.declared.command.LineError.TheVariants.{Fault, OutOfMemory}
 use Rattle.s2ix_cli.specs.declared.command.LineFault.{LineFault}
 use Rattle.s2ix_cli.specs.declared.command.LineFault.TheVariants.{LineTooLong, BadCommand, BadArguments, BadToken, BadLabel, BadCount}
 use Rattle.s2ix_cli.specs.Fields.{fields_of, label_spelled, copies_spelled}
@@ -57,17 +60,84 @@ abbrev pub of_cell : (CellId → Command) → Result CellId LineFault → Result
 of_cell asked (Ok cell) = Ok (asked cell)
 of_cell asked (Err fault) = Err fault
 
--- the command that a word and the fields behind it ask for
-abbrev pub command_asked : List ℕ → List (List ℕ) → Result Command LineFault
-command_asked word fields =
+-- the label that the one field LABEL names
+abbrev pub label_with : Option Label → Result Label LineFault
+label_with None = Err BadLabel
+label_with (Some label) = Ok label
+
+abbrev pub label_asked : List (List ℕ) → Result Label LineFault
+label_asked (label ∷ []) = label_with (label_spelled label)
+label_asked fields = Err BadArguments
+
+-- the two labels that the fields SOURCE TARGET name; the first that does not decides
+abbrev pub labels_with : Option Label → Option Label → Result (Label × Label) LineFault
+labels_with None target = Err BadLabel
+labels_with (Some source) None = Err BadLabel
+labels_with (Some source) (Some target) = Ok (source, target)
+
+abbrev pub labels_asked : List (List ℕ) → Result (Label × Label) LineFault
+labels_asked (source ∷ target ∷ []) = labels_with (label_spelled source) (label_spelled target)
+labels_asked fields = Err BadArguments
+
+-- the command that drops the label that fields name
+abbrev pub drop_of : Result Label LineFault → Result Command LineFault
+drop_of (Ok label) = Ok (command.Edit (DropLabel label))
+drop_of (Err fault) = Err fault
+
+-- the command that relabels as fields say
+abbrev pub relabel_of : Result (Label × Label) LineFault → Result Command LineFault
+relabel_of (Ok labels) = Ok (command.Edit (Relabel labels.0 labels.1))
+relabel_of (Err fault) = Err fault
+
+-- a cell before others; the first field that names none decides
+abbrev pub before : Result CellId LineFault → Result (List CellId) LineFault → Result (List CellId) LineFault
+before (Err fault) cells = Err fault
+before (Ok cell) (Err fault) = Err fault
+before (Ok cell) (Ok cells) = Ok (cell ∷ cells)
+
+-- the cells that the fields TOKEN.. name
+abbrev pub cells_named : List (List ℕ) → Result (List CellId) LineFault
+cells_named [] = Ok []
+cells_named (token ∷ tokens) = before (cell_with (cell_spelled token)) (cells_named tokens)
+
+-- the command that adds the normal union of the cells under a label
+abbrev pub add_union_of : Label → Result (List CellId) LineFault → Result Command LineFault
+add_union_of label (Ok cells) = Ok (command.Edit (AddUnion (normal_form cells) label))
+add_union_of label (Err fault) = Err fault
+
+abbrev pub add_union_with : Result Label LineFault → Result (List CellId) LineFault → Result Command LineFault
+add_union_with (Ok label) cells = add_union_of label cells
+add_union_with (Err fault) cells = Err fault
+
+-- the fields LABEL TOKEN..
+abbrev pub add_union_asked : List (List ℕ) → Result Command LineFault
+add_union_asked (label ∷ token ∷ tokens) = add_union_with (label_with (label_spelled label)) (cells_named (token ∷ tokens))
+add_union_asked fields = Err BadArguments
+
+-- the command that a word and the fields behind it ask for, where it takes no list of cells
+abbrev pub plain_asked : List ℕ → List (List ℕ) → Result Command LineFault
+plain_asked word fields =
     if bytes_eq word (codes "add") then edit_asked Add fields
     else (if bytes_eq word (codes "remove") then edit_asked Remove fields
+    else (if bytes_eq word (codes "drop") then drop_of (label_asked fields)
+    else (if bytes_eq word (codes "relabel") then relabel_of (labels_asked fields)
     else (if bytes_eq word (codes "undo") then bare command.Undo fields
+    else (if bytes_eq word (codes "redo") then bare command.Redo fields
+    else (if bytes_eq word (codes "forget") then bare command.Forget fields
     else (if bytes_eq word (codes "path") then of_cell command.Path (cell_asked fields)
     else (if bytes_eq word (codes "neighbors") then of_cell command.Neighbors (cell_asked fields)
     else (if bytes_eq word (codes "face") then of_cell command.Face (cell_asked fields)
     else (if bytes_eq word (codes "dump") then bare command.Dump fields
-    else Err BadCommand))))))
+    else (if bytes_eq word (codes "journal") then bare command.Journal fields
+    else Err BadCommand)))))))))))
+
+-- whether a command takes a list of cells
+abbrev pub takes_list : List ℕ → Bool
+takes_list word = bytes_eq word (codes "addunion")
+
+-- the command that a word and the fields behind it ask for
+abbrev pub command_asked : List ℕ → List (List ℕ) → Result Command LineFault
+command_asked word fields = if takes_list word then add_union_asked fields else plain_asked word fields
 
 -- an answer in place of nothing
 abbrev pub asked : Result Command LineFault → Result (Option Command) LineFault
@@ -82,3 +152,19 @@ meaning_of_fields (word ∷ fields) = if slice_index word 0 == 35 then Ok None e
 -- what a line asks for
 unfoldable pub meaning_of : List ℕ → Result (Option Command) LineFault
 meaning_of line = if nat_lt LONGEST (length line) then Err LineTooLong else meaning_of_fields (fields_of line)
+
+-- whether the fields of a line begin with a command that takes a list of cells
+abbrev pub begins_list : List (List ℕ) → Bool
+begins_list [] = false
+begins_list (word ∷ fields) = takes_list word
+
+-- the error is the fault of the meaning, or memory was wanted
+abbrev pub IsFault : {A : Type 0} → LineError → Result A LineFault → Type 0
+IsFault (Fault fault) meaning = meaning ≡ Err fault
+IsFault OutOfMemory meaning = Unit {0}
+
+-- the answer is the meaning, or memory was wanted, as it may be where cells are gathered
+abbrev pub Means : {A : Type 0} → Result A LineError → Bool → Result A LineFault → Type 0
+Means (Ok asked) gathers meaning = meaning ≡ Ok asked
+Means (Err (Fault fault)) gathers meaning = meaning ≡ Err fault
+Means (Err OutOfMemory) gathers meaning = gathers ≡ true

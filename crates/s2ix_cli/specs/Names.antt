@@ -17,6 +17,7 @@ fault_name fault.BadCount = codes "BadCount"
 -- the name of an edit's refusal; want of memory is no answer of a line, and has a name all the same
 abbrev pub edit_error_name : EditError → List ℕ
 edit_error_name edit.JournalFull = codes "JournalFull"
+edit_error_name edit.NoSuchLabel = codes "NoSuchLabel"
 edit_error_name edit.NotHeld = codes "NotHeld"
 edit_error_name edit.NoChange = codes "NoChange"
 edit_error_name edit.TooManyCopies = codes "TooManyCopies"

@@ -11,9 +11,11 @@ use Rattle.s2id_cube.specs.Neighbor.{neighbor_number}
 use Rattle.s2id_cube.specs.Square.{square_of}
 use Rattle.s2ix_edit.specs.declared.edit.Edit.{Edit}
 use Rattle.s2ix_edit.specs.declared.errors.EditError.{EditError}
-use Rattle.s2ix_edit.specs.History.{State, after_edit, after_undo, change_of, last_done, undo_size}
+use Rattle.s2ix_edit.specs.History.{State, after_edit, after_undo, after_redo, change_of, last_done, last_undone, undo_size, redo_size}
+use Rattle.s2ix_edit.specs.Plan.{starting_at}
 use Rattle.s2ix_edit.specs.Refusals.{edit_refusal}
 use Rattle.s2ix_text.specs.Dump.{dump_text}
+use Rattle.s2ix_text.specs.Journal.{journal_text}
 use Rattle.s2ix_cli.specs.declared.command.Command.{Command}
 use Rattle.s2ix_cli.specs.declared.command.Command.TheVariants as command
 use Rattle.s2ix_cli.specs.declared.command.LineFault.{LineFault}
@@ -85,14 +87,26 @@ undo_step_at s (Some change) = accepted (after_undo s) (undo_size s)
 unfoldable pub undo_step : State → Step
 undo_step s = undo_step_at s (last_done s)
 
+-- what `redo` comes to, where this change was the last that was undone or none was
+abbrev pub redo_step_at : State → Option (List Entry) → Step
+redo_step_at s None = refused s (codes "NothingToRedo")
+redo_step_at s (Some change) = accepted (after_redo s) (redo_size s)
+
+-- what `redo` comes to
+unfoldable pub redo_step : State → Step
+redo_step s = redo_step_at s (last_undone s)
+
 -- what a command comes to
 abbrev pub command_step : State → Command → Step
 command_step s (command.Edit edit) = edit_step s edit
 command_step s command.Undo = undo_step s
+command_step s command.Redo = redo_step s
+command_step s command.Forget = accepted (starting_at s.bag) 0
 command_step s (command.Path cell) = shown s (path_line cell)
 command_step s (command.Neighbors cell) = shown s (neighbors_line cell)
 command_step s (command.Face cell) = shown s (square_line (square_of (path_of cell)))
 command_step s command.Dump = shown s (dump_text s.bag.held)
+command_step s command.Journal = shown s (journal_text s.done)
 
 -- what a line of this meaning comes to
 abbrev pub step_at : State → Result (Option Command) LineFault → Step

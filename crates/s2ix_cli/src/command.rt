@@ -1,13 +1,20 @@
-use s2id_core::CellId;
+ghost use Rattle.std.specs.Prelude.{◌≡◌};
+ghost use Rattle.s2ix_cli.specs.declared.command.LineError.TheVariants.{Fault, OutOfMemory as Wanting};
+
+use s2id_core::{CellId, OutOfMemory};
 use s2ix_edit::Edit;
 
 /// What a line of a script asks for.
-#[derive(Clone, Copy, Debug, PartialEq, Eq)]
+#[derive(Debug, Drop)]
 pub enum Command {
-    /// `add` and `remove`.
+    /// `add`, `addunion`, `remove`, `drop` and `relabel`.
     Edit(Edit),
     /// `undo`.
     Undo,
+    /// `redo`.
+    Redo,
+    /// `forget`.
+    Forget,
     /// `path`.
     Path(CellId),
     /// `neighbors`.
@@ -16,6 +23,8 @@ pub enum Command {
     Face(CellId),
     /// `dump`.
     Dump,
+    /// `journal`.
+    Journal,
 }
 
 /// Why a line asks for nothing, in the order of the tests.
@@ -33,4 +42,29 @@ pub enum LineFault {
     BadLabel,
     /// A field that should be a number of copies is no script number from 1 to 65535.
     BadCount,
+}
+
+/// Why the meaning of a line was not found.
+#[derive(Clone, Copy, Debug, PartialEq, Eq)]
+pub enum LineError {
+    /// The line asks for nothing.
+    Fault(LineFault),
+    /// A growth was refused while the cells of the line were gathered.
+    OutOfMemory,
+}
+
+impl From<LineFault> for LineError {
+    ghost from_gives = { λ fault error. error ≡ Fault fault };
+
+    fn from(fault: LineFault) -> LineError {
+        LineError::Fault(fault)
+    }
+}
+
+impl From<OutOfMemory> for LineError {
+    ghost from_gives = { λ _ error. error ≡ Wanting };
+
+    fn from(_: OutOfMemory) -> LineError {
+        LineError::OutOfMemory
+    }
 }

@@ -12,7 +12,7 @@ mod parse;
 mod reading;
 mod script;
 
-pub use command::{Command, LineFault};
+pub use command::{Command, LineError, LineFault};
 pub use lines::Lines;
 pub use names::edit_error_name;
 pub use outcome::{RunEnd, RunFault, RunOptions};

@@ -68,32 +68,3 @@ impl<'a> Iterator for Lines<'a> {
         self.next_line()
     }
 }
-
-#[cfg(test)]
-mod tests {
-    use super::*;
-
-    #[test]
-    fn lines_end_at_line_feeds_alone(rt: HostRuntime) {
-        let mut lines = Lines::new(b"undo\r\n\na\rb\ndump");
-        assert_eq!(rt; lines.next_line(), Some(b"undo\r".as_slice()));
-        assert_eq!(rt; lines.next_line(), Some(b"".as_slice()));
-        assert_eq!(rt; lines.next_line(), Some(b"a\rb".as_slice()));
-        assert_eq!(rt; lines.next_line(), Some(b"dump".as_slice()));
-        assert_eq!(rt; lines.next_line(), None);
-    }
-
-    #[test]
-    fn no_line_follows_the_last_line_feed(rt: HostRuntime) {
-        for (text, number) in [
-            (b"".as_slice(), 0),
-            (b"\n".as_slice(), 1),
-            (b"undo".as_slice(), 1),
-            (b"undo\n".as_slice(), 1),
-            (b"undo\n\n".as_slice(), 2),
-            (b"undo\n ".as_slice(), 2),
-        ] {
-            assert_eq!(rt; Lines::new(text).count(), number);
-        }
-    }
-}

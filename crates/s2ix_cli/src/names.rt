@@ -28,23 +28,11 @@ pub fn edit_error_name(error: EditError) -> &'static str
 {
     match error {
         EditError::JournalFull => "JournalFull",
+        EditError::NoSuchLabel => "NoSuchLabel",
         EditError::NotHeld => "NotHeld",
         EditError::NoChange => "NoChange",
         EditError::TooManyCopies => "TooManyCopies",
         EditError::TooManyPairs => "TooManyPairs",
         EditError::OutOfMemory => "OutOfMemory",
-    }
-}
-
-#[cfg(test)]
-mod tests {
-    use super::*;
-
-    #[test]
-    fn names_are_those_of_the_variants(rt: HostRuntime) {
-        assert_eq!(rt; LineFault::LineTooLong.name(), "LineTooLong");
-        assert_eq!(rt; LineFault::BadArguments.name(), "BadArguments");
-        assert_eq!(rt; edit_error_name(EditError::JournalFull), "JournalFull");
-        assert_eq!(rt; edit_error_name(EditError::TooManyPairs), "TooManyPairs");
     }
 }

@@ -1,46 +1,61 @@
 //! What a line of a script asks for.
-ghost use Rattle.std.specs.Prelude.{◌≡◌, ℕ, List};
-ghost use Rattle.s2ix_cli.specs.Meaning.{bare as bare_of, cell_asked as cell_of, command_asked as command_of, meaning_of, meaning_of_fields as meaning_by_fields, pair_asked as pair_of};
+ghost use Rattle.std.specs.Prelude.{◌≡◌, true, Ok, ◌∷◌, MatchResult};
+ghost use Rattle.s2id_core.specs.Spelled.{cell_spelled};
+ghost use Rattle.s2ix_cli.specs.Fields.{fields_of};
+ghost use Rattle.s2ix_cli.specs.Meaning.{IsFault, Means, add_union_asked as add_union_of_fields, bare as bare_of, begins_list, cell_asked as cell_of, cell_with, cells_named as cells_of, command_asked as command_of, label_asked as label_of, labels_asked as labels_of, meaning_of, meaning_of_fields as meaning_by_fields, pair_asked as pair_of, plain_asked as plain_of, takes_list};
 
-use crate::command::{Command, LineFault};
+use crate::command::{Command, LineError, LineFault};
 use crate::numbers::{copies_spelled, label_spelled};
 use bstr::{ByteSlice, Fields};
-use s2id_core::CellId;
-use s2ix_bag::Pair;
+use s2id_core::{CellId, OutOfMemory};
+use s2id_union::CellUnion;
+use s2ix_bag::{Label, Pair};
 use s2ix_edit::Edit;
+use std::alloc::Global;
 
 /// The most bytes that a line of a script may have, its line feed not counted.
 pub const LONGEST_LINE: usize = 65536;
 
 /// What a line asks for: nothing where it has no field, or its first field begins with `#`. The line comes
 /// without its line feed. Its fields are what stands between runs of Unicode's white space; bytes that are no
-/// UTF-8 separate nothing. O(n) for n bytes, and no memory is taken.
+/// UTF-8 separate nothing. O(n) for n bytes; a list of cells is normalised. Memory is taken for such a list alone.
 ///
 /// The first of these faults that applies is answered: too long, no command, a number of fields that does not
 /// fit the command, then the first unfit field from the left.
 #[tactic(auto, unfolding(crate::specs::Meaning::meaning_of, crate::specs::Fields::fields_of))]
-pub fn meaning(line: &[u8]) -> Result<Option<Command>, LineFault>
-    ensures { result ≡ meaning_of line.now }
+pub fn meaning(alloc: Global, line: &[u8]) -> Result<Option<Command>, LineError>
+    ensures { Means result (begins_list (fields_of line.now)) (meaning_of line.now) }
 {
     if line.len() > LONGEST_LINE {
-        return Err(LineFault::LineTooLong);
+        return Err(LineError::Fault(LineFault::LineTooLong));
     }
-    meaning_of_fields(line.fields())
+    meaning_of_fields(alloc, line.fields())
 }
 
 // What the fields of a line ask for.
-fn meaning_of_fields(mut fields: Fields<'_>) -> Result<Option<Command>, LineFault>
-    ensures { result ≡ meaning_by_fields fields.entry }
+fn meaning_of_fields(alloc: Global, mut fields: Fields<'_>) -> Result<Option<Command>, LineError>
+    ensures { Means result (begins_list fields.entry) (meaning_by_fields fields.entry) }
 {
     match fields.next() {
         None | Some([b'#', ..]) => Ok(None),
-        Some(word) => Ok(Some(command_asked(word, fields)?)),
+        Some(word) => Ok(Some(command_asked(alloc, word, fields)?)),
     }
 }
 
 // The command that a word and the fields behind it ask for.
-fn command_asked(word: &[u8], fields: Fields<'_>) -> Result<Command, LineFault>
-    ensures { result ≡ command_of word.now fields.entry }
+fn command_asked(alloc: Global, word: &[u8], fields: Fields<'_>) -> Result<Command, LineError>
+    ensures { Means result (takes_list word.now) (command_of word.now fields.entry) }
+{
+    if word == b"addunion".as_slice() {
+        add_union_asked(alloc, fields)
+    } else {
+        Ok(plain_asked(word, fields)?)
+    }
+}
+
+// The command that a word and the fields behind it ask for, where it takes no list of cells.
+fn plain_asked(word: &[u8], fields: Fields<'_>) -> Result<Command, LineFault>
+    ensures { result ≡ plain_of word.now fields.entry }
 {
     if word == b"add".as_slice() {
         let (pair, copies) = pair_asked(fields)?;
@@ -48,8 +63,18 @@ fn command_asked(word: &[u8], fields: Fields<'_>) -> Result<Command, LineFault>
     } else if word == b"remove".as_slice() {
         let (pair, copies) = pair_asked(fields)?;
         Ok(Command::Edit(Edit::Remove { pair, copies }))
+    } else if word == b"drop".as_slice() {
+        let label = label_asked(fields)?;
+        Ok(Command::Edit(Edit::DropLabel { label }))
+    } else if word == b"relabel".as_slice() {
+        let (source, target) = labels_asked(fields)?;
+        Ok(Command::Edit(Edit::Relabel { source, target }))
     } else if word == b"undo".as_slice() {
         bare(Command::Undo, fields)
+    } else if word == b"redo".as_slice() {
+        bare(Command::Redo, fields)
+    } else if word == b"forget".as_slice() {
+        bare(Command::Forget, fields)
     } else if word == b"path".as_slice() {
         Ok(Command::Path(cell_asked(fields)?))
     } else if word == b"neighbors".as_slice() {
@@ -58,6 +83,8 @@ fn command_asked(word: &[u8], fields: Fields<'_>) -> Result<Command, LineFault>
         Ok(Command::Face(cell_asked(fields)?))
     } else if word == b"dump".as_slice() {
         bare(Command::Dump, fields)
+    } else if word == b"journal".as_slice() {
+        bare(Command::Journal, fields)
     } else {
         Err(LineFault::BadCommand)
     }
@@ -83,6 +110,74 @@ fn cell_asked(mut fields: Fields<'_>) -> Result<CellId, LineFault>
     if fields.next().is_some() {
         return Err(LineFault::BadArguments);
     }
+    cell_named(token)
+}
+
+// The label that the one field LABEL names.
+fn label_asked(mut fields: Fields<'_>) -> Result<Label, LineFault>
+    ensures { result ≡ label_of fields.entry }
+{
+    let Some(label) = fields.next() else {
+        return Err(LineFault::BadArguments);
+    };
+    if fields.next().is_some() {
+        return Err(LineFault::BadArguments);
+    }
+    label_spelled(label).ok_or(LineFault::BadLabel)
+}
+
+// The labels that the two fields SOURCE TARGET name.
+fn labels_asked(mut fields: Fields<'_>) -> Result<(Label, Label), LineFault>
+    ensures { result ≡ labels_of fields.entry }
+{
+    let Some(source) = fields.next() else {
+        return Err(LineFault::BadArguments);
+    };
+    let Some(target) = fields.next() else {
+        return Err(LineFault::BadArguments);
+    };
+    if fields.next().is_some() {
+        return Err(LineFault::BadArguments);
+    }
+    let source = label_spelled(source).ok_or(LineFault::BadLabel)?;
+    let target = label_spelled(target).ok_or(LineFault::BadLabel)?;
+    Ok((source, target))
+}
+
+// The command that adds the cells that the fields LABEL TOKEN.. name, of which one token at least stands there.
+fn add_union_asked(alloc: Global, mut fields: Fields<'_>) -> Result<Command, LineError>
+    ensures { Means result true (add_union_of_fields fields.entry) }
+{
+    let Some(label) = fields.next() else {
+        return Err(LineError::Fault(LineFault::BadArguments));
+    };
+    let Some(first) = fields.next() else {
+        return Err(LineError::Fault(LineFault::BadArguments));
+    };
+    let label = label_spelled(label).ok_or(LineFault::BadLabel)?;
+    let cells = cells_named(alloc, first, fields)?;
+    let union = CellUnion::normalise(alloc, &cells)?;
+    Ok(Command::Edit(Edit::AddUnion { union, label }))
+}
+
+// The cells that the fields TOKEN.. name, the first of them and the rest.
+fn cells_named(alloc: Global, first: &[u8], rest: Fields<'_>) -> Result<Vec<CellId>, LineError>
+    ensures { MatchResult result
+        (λ cells. cells_of (first.now ∷ rest.entry) ≡ Ok cells.items)
+        (λ error. IsFault error (cells_of (first.now ∷ rest.entry))) }
+{
+    let mut cells = Vec::new(alloc);
+    cells.push(cell_named(first)?).map_err(|_| OutOfMemory)?;
+    'tokens: for token in rest {
+        cells.push(cell_named(token)?).map_err(|_| OutOfMemory)?;
+    }
+    Ok(cells)
+}
+
+// The cell that a field names.
+fn cell_named(token: &[u8]) -> Result<CellId, LineFault>
+    ensures { result ≡ cell_with (cell_spelled token.now) }
+{
     CellId::from_token(token).map_err(|_| LineFault::BadToken)
 }
 
@@ -100,143 +195,11 @@ fn pair_asked(mut fields: Fields<'_>) -> Result<(Pair, u32), LineFault>
     if fields.next().is_some() {
         return Err(LineFault::BadArguments);
     }
-    let cell = CellId::from_token(token).map_err(|_| LineFault::BadToken)?;
+    let cell = cell_named(token)?;
     let label = label_spelled(label).ok_or(LineFault::BadLabel)?;
     let copies = match copies {
         None => 1,
         Some(copies) => copies_spelled(copies).ok_or(LineFault::BadCount)?,
     };
     Ok((Pair { cell, label }, copies))
-}
-
-#[cfg(test)]
-mod tests {
-    use super::*;
-    use s2ix_bag::Label;
-    use std::test::Fail;
-
-    #[test]
-    fn a_line_without_fields_and_a_comment_ask_for_nothing(rt: HostRuntime) {
-        for line in [
-            b"".as_slice(),
-            b" \t\r".as_slice(),
-            b"# note".as_slice(),
-            b"#undo".as_slice(),
-            b"\xc2\xa0 #".as_slice(),
-        ] {
-            assert_eq!(rt; meaning(line), Ok(None));
-        }
-    }
-
-    #[test]
-    fn the_first_fault_is_answered(rt: HostRuntime) {
-        for (line, fault) in [
-            (b"ADD 04 9".as_slice(), LineFault::BadCommand),
-            (b"addd 04 9".as_slice(), LineFault::BadCommand),
-            (b"04".as_slice(), LineFault::BadCommand),
-            (b"add X".as_slice(), LineFault::BadArguments),
-            (b"add".as_slice(), LineFault::BadArguments),
-            (b"remove 04 9 1 1".as_slice(), LineFault::BadArguments),
-            (b"undo 1".as_slice(), LineFault::BadArguments),
-            (b"dump #".as_slice(), LineFault::BadArguments),
-        ] {
-            assert_eq!(rt; meaning(line), Err(fault));
-        }
-    }
-
-    #[test]
-    fn white_space_is_that_of_unicode(rt: HostRuntime) {
-        let undo = Ok(Some(Command::Undo));
-        assert_eq!(rt; meaning(b"undo\r"), undo);
-        assert_eq!(rt; meaning(b"\tdump\x0b"), Ok(Some(Command::Dump)));
-        assert_eq!(rt;
-            meaning(b"\xc2\x85undo\xe2\x80\x83"),
-            undo,
-            "U+0085 and U+2003 separate"
-        );
-        let apart = Err(LineFault::BadArguments);
-        assert_eq!(rt; meaning(b"undo\xc2\xa0x"), apart, "U+00A0 separates");
-        assert_eq!(rt;
-            meaning(b"undo \xf0\xc2\xa0"),
-            apart,
-            "a byte before U+00A0 is a field"
-        );
-        let joined = Err(LineFault::BadCommand);
-        assert_eq!(rt;
-            meaning(b"undo\xf0\xc2\xa0"),
-            joined,
-            "and belongs to the field before it"
-        );
-        assert_eq!(rt;
-            meaning(b"undo\xe2\x80\x8b"),
-            joined,
-            "U+200B does not separate"
-        );
-        assert_eq!(rt; meaning(b"undo\x1c"), joined, "U+001C does not separate");
-        assert_eq!(rt;
-            meaning(b"undo\xa0"),
-            joined,
-            "a byte that is no UTF-8 does not separate"
-        );
-    }
-
-    #[test]
-    fn a_line_may_have_65536_bytes(rt: HostRuntime) {
-        let blank = [b' '; 65537];
-        assert_eq!(rt; meaning(&blank[..65536]), Ok(None));
-        assert_eq!(rt; meaning(&blank), Err(LineFault::LineTooLong));
-    }
-
-    fn pair_04(label: u32) -> Result<Pair, Fail> {
-        Ok(Pair {
-            cell: CellId::from_token(b"04")?,
-            label: Label::new(label).ok_or("no label")?,
-        })
-    }
-
-    #[test]
-    fn fields_name_a_pair_and_copies(rt: HostRuntime) -> Result<(), Fail> {
-        let pair = pair_04(9)?;
-        let once = Ok(Some(Command::Edit(Edit::Add { pair, copies: 1 })));
-        assert_eq!(rt; meaning(b"add 04 9"), once);
-        assert_eq!(rt; meaning(b"add 04 9\r"), once, "with a carriage return");
-        assert_eq!(rt; meaning(b"add\xc2\xa004\xc2\xa09"), once, "with U+00A0");
-        assert_eq!(rt; meaning(b"add 04 0000000009"), once, "ten digits");
-        assert_eq!(rt; meaning(b"add 04 9 0000000001"), once);
-        let most = Edit::Remove {
-            pair,
-            copies: 65535,
-        };
-        assert_eq!(rt;
-            meaning(b"remove 04 9 65535"),
-            Ok(Some(Command::Edit(most)))
-        );
-        let pair = pair_04(2147483647)?;
-        let last = Edit::Add { pair, copies: 1 };
-        assert_eq!(rt;
-            meaning(b"add 04 2147483647"),
-            Ok(Some(Command::Edit(last)))
-        );
-        Ok(())
-    }
-
-    #[test]
-    fn the_first_unfit_field_decides(rt: HostRuntime) {
-        for (line, fault) in [
-            (b"add 00 x x".as_slice(), LineFault::BadToken),
-            (b"add X 9".as_slice(), LineFault::BadToken),
-            (b"add 04 x x".as_slice(), LineFault::BadLabel),
-            (b"add 04 9\xff".as_slice(), LineFault::BadLabel),
-            (b"add 04 00000000009".as_slice(), LineFault::BadLabel),
-            (b"add 04 2147483648".as_slice(), LineFault::BadLabel),
-            (b"add 04 9999999999".as_slice(), LineFault::BadLabel),
-            (b"add 04 -1".as_slice(), LineFault::BadLabel),
-            (b"add 04 +1".as_slice(), LineFault::BadLabel),
-            (b"add 04 9 0".as_slice(), LineFault::BadCount),
-            (b"add 04 9 65536".as_slice(), LineFault::BadCount),
-            (b"remove 04 9 x".as_slice(), LineFault::BadCount),
-        ] {
-            assert_eq!(rt; meaning(line), Err(fault));
-        }
-    }
 }

@@ -40,13 +40,14 @@ pub fn run<S: Source, K: Sink>(
     ensures sink_faults { K.fault_count sink.new ≡ K.fault_count sink.old + sink_faults result }
 {
     let input = read_whole(alloc, source, options.turns)?;
-    let told = carry_lines(store, sink, &input, options.stop)?;
+    let told = carry_lines(alloc, store, sink, &input, options.stop)?;
     sink.flush()?;
     Ok(told)
 }
 
 // Carries the lines of a text out, with `stop` up to and with the first refused one, and prints their answers.
 fn carry_lines<K: Sink>(
+    alloc: Global,
     store: &mut Store,
     sink: &mut K,
     text: &[u8],
@@ -61,7 +62,7 @@ fn carry_lines<K: Sink>(
 {
     let mut told = RunEnd::NONE;
     'lines: for line in Lines::new(text) {
-        let outcome = carry_out(store, sink, line)?;
+        let outcome = carry_out(alloc, store, sink, line)?;
         told = told.with(outcome);
         if stop && outcome.is_refused() {
             return Ok(told);

@@ -1,5 +1,5 @@
 -- The collections of a store's history.
-use Rattle.std.proofs.Common.{◌≡◌, List, [], ◌∷◌, ◌++◌, All, get_or, length, reverse, Some, None, refl, sym, ap, ap₂, ◌∙◌, arith}
+use Rattle.std.proofs.Common.{◌≡◌, ◌+◌, List, [], ◌∷◌, ◌++◌, All, get_or, length, reverse, Some, None, refl, sym, ap, ap₂, ◌∙◌, arith}
 use Rattle.std.specs.List.{slice_get}
 use Rattle.std.proofs.lemmas.List.{append_assoc, length-append, length-reverse, reverse-append, reverse-reverse}
 use Rattle.std.proofs.Math.Seq.{get_or-append_seam}
@@ -89,3 +89,15 @@ bag_at_cursor s =
     slice_get_read (before ++ s.bag.held ∷ after) (length (before ++ s.bag.held ∷ after)) (length s.done) s.bag.held refl
     (omega (arith, place, length-append before (s.bag.held ∷ after)))
     (sym (get_or-append_seam before s.bag.held after s.bag.held) ∙ ap (λ k. get_or (before ++ s.bag.held ∷ after) k s.bag.held) place)
+
+-- ---- its length
+
+length-later : (hs : Collection) (ess : List (List Entry)) → length (later hs ess) ≡ length ess
+length-later hs [] = refl
+length-later hs (es ∷ rest) = let e = length-later (changed hs es) rest in omega (arith, e)
+
+pub length_of_history : (s : State) → length (history_of s).collections ≡ (history_of s).cursor + 1 + length s.undone
+length_of_history s =
+    let before = length-earlier s.bag.held (reverse s.done) ∙ length-reverse s.done in
+    let after = length-later s.bag.held (reverse s.undone) ∙ length-reverse s.undone in
+    omega (arith, before, after, length-append (earlier s.bag.held (reverse s.done)) (s.bag.held ∷ later s.bag.held (reverse s.undone)))

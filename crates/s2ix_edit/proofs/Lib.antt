@@ -1,6 +1,11 @@
 pub mod Along
+mod Dropped
+pub mod Led
+mod Moved
 pub mod Places
 mod Plans
+pub mod Raised
+pub mod Redone
 mod Refused
 pub mod Taken
 pub mod Undone

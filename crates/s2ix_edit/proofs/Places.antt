@@ -1,13 +1,13 @@
 -- Where a store stands in its history.
-use Rattle.std.proofs.Common.{◌≡◌, ℕ, ◌+◌, ◌-◌, ◌<◌, List, [], ◌∷◌, ◌++◌, length, take, reverse, Option, Some, None, refl, sym, ap, ap₂, ◌∙◌, subst, arith}
+use Rattle.std.proofs.Common.{◌≡◌, ℕ, ◌+◌, ◌-◌, ◌<◌, List, [], ◌∷◌, ◌++◌, length, take, drop, reverse, Option, Some, None, refl, sym, ap, ap₂, ◌∙◌, subst, arith}
 use Rattle.std.proofs.lemmas.List.{append_assoc, length-append, length-reverse, reverse-append}
-use Rattle.std.proofs.Math.Seq.{take-append-add}
+use Rattle.std.proofs.Math.Seq.{drop-append_seam, take-append-add}
 use Rattle.s2ix_bag.specs.declared.pair.Entry.{Entry}
 use Rattle.s2ix_bag.specs.Apply.{apply_refusal, first_mismatch}
 use Rattle.s2ix_bag.specs.Change.{changed, inverse_of, IsChangeList}
 use Rattle.s2ix_bag.specs.Collection.{Collection, Contents, IsBag, IsCollection}
 use Rattle.s2ix_bag.specs.Limits.{changes_limit}
-use Rattle.s2ix_edit.specs.History.{State, History, IsStore, CanGoBack, CanGoOn, earlier, later, history_of, holding, one_back, with_next}
+use Rattle.s2ix_edit.specs.History.{State, History, IsStore, CanGoBack, CanGoOn, earlier, later, history_of, forgotten, alone, holding, one_back, one_on, with_next}
 use Rattle.s2ix_edit.specs.Plan.{recorded}
 use Rattle.s2ix_bag.proofs.Inverse.{inverse-inverse, inverse_keeps}
 use Rattle.s2ix_edit.proofs.Taken.{changed_back, not_mismatched, takes_back}
@@ -44,17 +44,22 @@ history_recorded s es c rises matches =
     (collections_recorded s.bag.held (changed s.bag.held es) es s.done (later s.bag.held (reverse s.undone)) (changed_back s.bag es c rises matches))
     (length-append s.done (es ∷ []))
 
+-- a bag that a change made can go back over it, and on as before
+back_over : (bag : Contents) (done : List (List Entry)) (es : List Entry) → IsBag bag → CanGoBack bag (reverse done) → IsChangeList es → apply_refusal bag es ≡ None → CanGoBack (holding bag (changed bag.held es)) (reverse (done ++ es ∷ []))
+back_over bag done es b back rises taken =
+    let Back : List (List Entry) → Type 0 = λ xs. CanGoBack (holding bag (changed bag.held es)) xs in
+    let Older : Collection → Type 0 = λ hs. CanGoBack (holding bag hs) (reverse done) in
+    subst Back (sym (reverse_push done es))
+    (rises, takes_back bag es b rises taken, subst Older (sym (changed_back bag es b.rises rises (not_mismatched bag es taken))) back)
+
 -- the store stands at the changed bag, with one more change behind it
-pub stands_recorded : (s after : State) (es : List Entry) → after ≡ recorded s es → IsStore s → length s.done < changes_limit s.bag.limits → IsChangeList es → apply_refusal s.bag es ≡ None → first_mismatch s.bag es ≡ None → IsBag after.bag → IsStore after
-stands_recorded s after es is st room rises taken matches b =
-    let Back : List (List Entry) → Type 0 = λ xs. CanGoBack (holding s.bag (changed s.bag.held es)) xs in
-    let Older : Collection → Type 0 = λ hs. CanGoBack (holding s.bag hs) (reverse s.done) in
+pub stands_recorded : (s after : State) (es : List Entry) → after ≡ recorded s es → IsStore s → length s.done < changes_limit s.bag.limits → IsChangeList es → apply_refusal s.bag es ≡ None → IsBag after.bag → IsStore after
+stands_recorded s after es is st room rises taken b =
     let Stands : State → Type 0 = λ t. IsStore t in
     let Bag : Contents → Type 0 = λ bag. IsBag bag in
     subst Stands (sym is) (record {
       bag = subst Bag (ap (λ (t : State). t.bag) is) b;
-      back = subst Back (sym (reverse_push s.done es))
-          (rises, takes_back s.bag es st.bag rises taken, subst Older (sym (changed_back s.bag es st.bag.rises rises matches)) st.back);
+      back = back_over s.bag s.done es st.bag st.back rises taken;
       on = tt;
       room = omega (arith, length-append s.done (es ∷ []));
     })
@@ -126,6 +131,64 @@ history_undone s after es st u =
     ∙ collections_undone s.bag.held prev es after.done s.undone refl (forth_again s.bag es st.bag.rises back.0 matches)
     ∙ ap (λ xs. earlier s.bag.held (reverse xs) ++ s.bag.held ∷ later s.bag.held (reverse s.undone)) (sym u.done))
     (let grown = ap length u.done in omega (arith, grown, length-append after.done (es ∷ [])))
+
+-- ---- a redo
+
+-- the last undone change of the first store is done again in the second
+pub record Redoes (s after : State) (es : List Entry) : Type 0 where
+  pub bag : after.bag ≡ holding s.bag (changed s.bag.held es)
+  pub done : after.done ≡ s.done ++ es ∷ []
+  pub undone : s.undone ≡ after.undone ++ es ∷ []
+
+-- a store can go on over its last undone change
+pub goes_on : (s : State) (front : List (List Entry)) (es : List Entry) → IsStore s → s.undone ≡ front ++ es ∷ [] → CanGoOn s.bag (es ∷ reverse front)
+goes_on s front es st is =
+    let On : List (List Entry) → Type 0 = λ xs. CanGoOn s.bag xs in
+    subst On (ap reverse is ∙ reverse_push front es) st.on
+
+pub stands_redone : (s after : State) (es : List Entry) → IsStore s → Redoes s after es → IsBag after.bag → IsStore after
+stands_redone s after es st r b =
+    let on = goes_on s after.undone es st r.undone in
+    let Back : Contents → Type 0 = λ bag. CanGoBack bag (reverse (s.done ++ es ∷ [])) in
+    let BackList : List (List Entry) → Type 0 = λ xs. CanGoBack after.bag (reverse xs) in
+    let On : Contents → Type 0 = λ bag. CanGoOn bag (reverse after.undone) in
+    record {
+      bag = b;
+      back = subst BackList (sym r.done) (subst Back (sym r.bag) (back_over s.bag s.done es st.bag st.back on.0 on.1));
+      on = subst On (sym r.bag) on.2;
+      room =
+          let few = st.room in
+          let limits = ap (λ (bag : Contents). changes_limit bag.limits) r.bag in
+          omega (arith, few, limits, ap length r.done, ap length r.undone, length-append s.done (es ∷ []), length-append after.undone (es ∷ []));
+    }
+
+-- a redo is undone by going back, so the history is the same
+undoes_redo : (s after : State) (es : List Entry) → IsStore s → Redoes s after es → Undoes after s es
+undoes_redo s after es st r =
+    let on = goes_on s after.undone es st r.undone in
+    record {
+      bag = sym (ap (λ bag. holding bag (changed bag.held (inverse_of es))) r.bag
+          ∙ ap (λ hs. holding s.bag hs) (changed_back s.bag es st.bag.rises on.0 (not_mismatched s.bag es on.1)));
+      done = r.done;
+      undone = r.undone;
+    }
+
+pub history_redone : (s after : State) (es : List Entry) → IsStore s → Redoes s after es → IsBag after.bag → history_of after ≡ one_on (history_of s)
+history_redone s after es st r b =
+    let was = history_undone after s es (stands_redone s after es st r b) (undoes_redo s after es st r) in
+    ap₂ (λ (collections : List Collection) (cursor : ℕ). let h : History = record { collections = collections; cursor = cursor } in h)
+    (ap (λ (h : History). h.collections) (sym was))
+    (ap length r.done ∙ length-append s.done (es ∷ []))
+
+-- ---- a history forgotten
+
+pub history_forgotten : (s : State) → alone s.bag.held ≡ forgotten (history_of s)
+history_forgotten s =
+    let before = earlier s.bag.held (reverse s.done) in
+    let after = s.bag.held ∷ later s.bag.held (reverse s.undone) in
+    let place = length-earlier s.bag.held (reverse s.done) ∙ length-reverse s.done in
+    let at_cursor = ap (λ k. drop k (before ++ after)) (sym place) ∙ drop-append_seam before after in
+    ap (λ hs. let h : History = record { collections = take 1 hs; cursor = 0 } in h) (sym at_cursor)
 
 -- ---- the last of a list
 

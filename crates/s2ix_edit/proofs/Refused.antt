@@ -1,24 +1,26 @@
 -- Which refusal of an edit stands first.
-use Rattle.std.proofs.Common.{◌≡◌, ◌≢◌, ℕ, ◌+◌, ◌<◌, ◌≤◌, ◌==◌, Bool, false, cond, ltb, List, [], ◌∷◌, length, Option, Some, None, refl, ◌||◌, sym, ap, ap₂, ◌++◌, ◌∙◌, arith, lt-ltb}
-use Rattle.std.proofs.lemmas.Bool.{cond-false}
+use Rattle.std.proofs.Common.{◌≡◌, ℕ, ◌+◌, ◌<◌, ◌≤◌, ◌==◌, Bool, true, false, cond, ltb, List, [], ◌∷◌, length, Option, Some, None, refl, subst, ⊎_elim, sym, ap, ap₂, ◌++◌, ◌∙◌, arith}
+use Rattle.std.proofs.lemmas.Bool.{cases_Bool, cond-false, eqb-true}
 use borrow.Author.Tests.{lt-leb}
 use Rattle.std.specs.List.{list_any}
 use Rattle.s2ix_bag.specs.declared.pair.Pair.{Pair}
-use Rattle.s2ix_bag.specs.declared.pair.Held.{Held}
 use Rattle.s2ix_bag.specs.declared.pair.Entry.{Entry}
 use Rattle.s2ix_bag.specs.Change.{change_between, changed}
-use Rattle.s2ix_bag.specs.Collection.{Collection, Contents, IsBag, count_in}
+use Rattle.s2ix_bag.specs.Collection.{Collection, Contents, IsBag, IsCollection, count_in}
 use Rattle.s2ix_bag.specs.Limits.{pairs_limit, count_limit, changes_limit}
 use Rattle.s2ix_edit.specs.declared.edit.Edit.{Edit}
 use Rattle.s2ix_edit.specs.declared.edit.Edit.TheVariants.{Add}
 use Rattle.s2ix_edit.specs.declared.errors.EditError.{EditError}
-use Rattle.s2ix_edit.specs.declared.errors.EditError.TheVariants.{NoChange, TooManyCopies, TooManyPairs}
+use Rattle.s2ix_edit.specs.declared.errors.EditError.TheVariants.{JournalFull, NoSuchLabel, NotHeld, NoChange, TooManyCopies, TooManyPairs, OutOfMemory}
 use Rattle.s2ix_edit.specs.Edit.{edited}
 use Rattle.s2ix_edit.specs.History.{State, IsStore, after_edit, holding}
-use Rattle.s2ix_edit.specs.Plan.{Plans, entries_refusal, one_entry, recorded, starting_at}
-use Rattle.s2ix_edit.specs.Refusals.{edit_refusal, takes_too_many}
-use Rattle.s2ix_edit.proofs.Taken.{any_above_changed, between_changed}
-use Rattle.s2ix_edit.proofs.Plans.{add_plans, an_entry}
+use Rattle.s2ix_edit.specs.Plan.{Plans, entries_refusal, recorded, starting_at}
+use Rattle.s2ix_edit.specs.Refusals.{edit_refusal, has_count_above, lacks_label, takes_too_many, IsEditRefusal, IsPlanFailure, MayWantMemory}
+use Rattle.s2ix_edit.proofs.Taken.{above_from_count, any_above_changed, between_changed, none_above}
+use Rattle.s2ix_edit.proofs.Undone.{edited_is_collection}
+use Rattle.s2ix_bag.proofs.Collections.{count_in-set_count_same}
+use Rattle.s2ix_bag.proofs.Differences.{changed_between}
+use Rattle.s2ix_bag.specs.Pair.{rank_of}
 
 -- with room in the journal the refusal is that of a store with no history
 pub with_room : (s : State) (edit : Edit) → length s.done < changes_limit s.bag.limits → edit_refusal s edit ≡ edit_refusal (starting_at s.bag) edit
@@ -37,19 +39,19 @@ first_of_three same high many =
     cond same (Some NoChange) (cond high (Some TooManyCopies) (cond many (Some TooManyPairs) None))
 
 is_high : Contents → Collection → Bool
-is_high bag hs = list_any (λ h. ltb (count_limit bag.limits) h.count) hs
+is_high bag hs = has_count_above (count_limit bag.limits) hs
 
-later_refusal : (bag : Contents) (edit : Edit) → takes_too_many edit bag.held ≡ false → edit_refusal (starting_at bag) edit ≡ first_of_three (length (change_between bag.held (edited edit bag.held)) == 0) (is_high bag (edited edit bag.held)) (ltb (pairs_limit bag.limits) (length (edited edit bag.held)))
+later_refusal : (bag : Contents) (edit : Edit) → lacks_label edit bag.held ≡ false → takes_too_many edit bag.held ≡ false → edit_refusal (starting_at bag) edit ≡ first_of_three (length (change_between bag.held (edited edit bag.held)) == 0) (is_high bag (edited edit bag.held)) (ltb (pairs_limit bag.limits) (length (edited edit bag.held)))
 unfolding first_of_three is_high
-later_refusal bag edit allowed =
-    cond-false _ _ _ (lt-leb _ _ (starts_with_room bag)) ∙ cond-false _ _ _ allowed
+later_refusal bag edit known allowed =
+    cond-false _ _ _ (lt-leb _ _ (starts_with_room bag)) ∙ cond-false _ _ _ known ∙ cond-false _ _ _ allowed
 
 -- ---- the refusals of planned entries
 
 any_high : (bag : Contents) (edit : Edit) (es : List Entry) → IsBag bag → Plans bag edit es → is_high bag (edited edit bag.held) ≡ list_any (λ e. ltb (count_limit bag.limits) e.after) es
 unfolding is_high
 any_high bag edit es b plans =
-    ap (λ hs. list_any (λ (h : Held). ltb (count_limit bag.limits) h.count) hs) (sym plans.result)
+    ap (λ hs. has_count_above (count_limit bag.limits) hs) (sym plans.result)
     ∙ any_above_changed (count_limit bag.limits) bag.held es b.rises plans.rises b.small
 
 -- the change that an edit records is its plan
@@ -67,25 +69,67 @@ pub planned_refusal : (bag : Contents) (edit : Edit) (es : List Entry) → IsBag
 planned_refusal bag edit es b plans =
     let many : Collection → Bool = λ hs. ltb (pairs_limit bag.limits) (length hs) in
     let high : Bool = list_any (λ (e : Entry). ltb (count_limit bag.limits) e.after) es in
-    later_refusal bag edit plans.allowed
+    later_refusal bag edit plans.known plans.allowed
     ∙ ap (λ (ds : List Entry). first_of_three (length ds == 0) (is_high bag (edited edit bag.held)) (many (edited edit bag.held))) (planned_change bag edit es b plans)
     ∙ ap (λ t. first_of_three (length es == 0) t (many (edited edit bag.held))) (any_high bag edit es b plans)
     ∙ ap (λ hs. first_of_three (length es == 0) high (many hs)) (sym plans.result)
     ∙ entries_by_three bag es
 
--- an entry whose count after passes the limit is refused
-one_too_high : (bag : Contents) (p : Pair) (m n : ℕ) → m ≢ n → count_limit bag.limits < n → entries_refusal bag (one_entry p m n) ≡ Some TooManyCopies
-unfolding first_of_three
-one_too_high bag p m n ne high =
-    ap (λ es. entries_refusal bag es) (an_entry p m n ne)
-    ∙ ap (λ t. first_of_three false (t || false) (ltb (pairs_limit bag.limits) (length (changed bag.held (record { pair = p; before = m; after = n } ∷ []))))) (lt-ltb _ _ high)
+-- ---- a count above the limit
+
+no_entries : (es : List Entry) → (length es == 0) ≡ true → es ≡ []
+no_entries [] is = refl
+no_entries (e ∷ es) is = absurd (omega (arith, eqb-true (length (e ∷ es)) 0 is))
+
+-- where a count of the edited collection passes the limit, the edit changes the collection
+changes_some : (bag : Contents) (new : Collection) → IsBag bag → IsCollection new → has_count_above (count_limit bag.limits) new ≡ true → (length (change_between bag.held new) == 0) ≡ false
+changes_some bag new b is high =
+    ⊎_elim
+    (λ none.
+    let same : bag.held ≡ new = sym (ap (λ es. changed bag.held es) (no_entries (change_between bag.held new) none)) ∙ changed_between bag.held new b.rises is in
+    let clash : true ≡ false = sym high ∙ ap (λ hs. has_count_above (count_limit bag.limits) hs) (sym same) ∙ none_above (count_limit bag.limits) bag.held b.small in
+    cc)
+    (λ some. some)
+    (cases_Bool (length (change_between bag.held new) == 0))
+
+-- an edit that makes a count above the limit is refused for its copies
+too_high : (bag : Contents) (edit : Edit) → IsBag bag → lacks_label edit bag.held ≡ false → takes_too_many edit bag.held ≡ false → has_count_above (count_limit bag.limits) (edited edit bag.held) ≡ true → edit_refusal (starting_at bag) edit ≡ Some TooManyCopies
+unfolding first_of_three is_high
+too_high bag edit b known allowed high =
+    let many : Bool = ltb (pairs_limit bag.limits) (length (edited edit bag.held)) in
+    later_refusal bag edit known allowed
+    ∙ ap (λ t. first_of_three t (is_high bag (edited edit bag.held)) many) (changes_some bag (edited edit bag.held) b (edited_is_collection edit bag.held b.rises) high)
+    ∙ ap (λ t. first_of_three false t many) high
 
 -- a sum above every limit is refused for its copies
-pub sum_too_high : (bag : Contents) (p : Pair) (copies before : ℕ) → IsBag bag → before ≡ count_in bag.held p → before < 4294967296 → 4294967296 ≤ before + copies → edit_refusal (starting_at bag) (Add p copies) ≡ Some TooManyCopies
-sum_too_high bag p copies before b is_before fits high =
+pub sum_too_high : (bag : Contents) (p : Pair) (copies before : ℕ) → IsBag bag → before ≡ count_in bag.held p → 4294967296 ≤ before + copies → edit_refusal (starting_at bag) (Add p copies) ≡ Some TooManyCopies
+sum_too_high bag p copies before b is_before high =
     let range = bag.limits.in_range in
-    planned_refusal bag (Add p copies) (one_entry p (count_in bag.held p) (count_in bag.held p + copies)) b (add_plans bag p copies _ _ _ b refl refl refl)
-    ∙ one_too_high bag p (count_in bag.held p) (count_in bag.held p + copies) (λ e. omega (arith, e)) (omega (arith, range))
+    let sum = count_in-set_count_same p (count_in bag.held p + copies) bag.held b.rises in
+    too_high bag (Add p copies) b refl refl
+    (above_from_count (count_limit bag.limits) (edited (Add p copies) bag.held) (rank_of p) (omega (arith, range, sum, is_before, high)))
+
+-- want of memory may come in place of what is found while the change is made
+may_want : (same high many : Bool) → MayWantMemory (first_of_three same high many)
+unfolding first_of_three
+may_want true high many = tt
+may_want false true many = tt
+may_want false false true = tt
+may_want false false false = tt
+
+memory_wanted : (bag : Contents) (edit : Edit) → lacks_label edit bag.held ≡ false → takes_too_many edit bag.held ≡ false → MayWantMemory (edit_refusal (starting_at bag) edit)
+memory_wanted bag edit known allowed =
+    subst MayWantMemory (sym (later_refusal bag edit known allowed)) (may_want _ _ _)
+
+-- why no entries are planned is why the edit is refused
+pub failed_plan : (bag : Contents) (edit : Edit) (error : EditError) → IsBag bag → lacks_label edit bag.held ≡ false → takes_too_many edit bag.held ≡ false → IsPlanFailure bag (edited edit bag.held) error → IsEditRefusal error (edit_refusal (starting_at bag) edit)
+failed_plan bag edit JournalFull b known allowed failed = absurd failed
+failed_plan bag edit NoSuchLabel b known allowed failed = absurd failed
+failed_plan bag edit NotHeld b known allowed failed = absurd failed
+failed_plan bag edit NoChange b known allowed failed = absurd failed
+failed_plan bag edit TooManyCopies b known allowed failed = too_high bag edit b known allowed failed
+failed_plan bag edit TooManyPairs b known allowed failed = absurd failed
+failed_plan bag edit OutOfMemory b known allowed failed = memory_wanted bag edit known allowed
 
 -- an edit makes what its planned entries make
 pub planned_state : (s : State) (edit : Edit) (es : List Entry) → IsBag s.bag → Plans s.bag edit es → recorded s es ≡ after_edit s edit

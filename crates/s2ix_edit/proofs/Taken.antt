@@ -1,5 +1,5 @@
 -- Changes that a bag takes.
-use Rattle.std.proofs.Common.{◌≡◌, ℕ, ◌+◌, ◌≤◌, ◌||◌, ltb, Bool, false, List, [], ◌∷◌, Some, None, All, refl, sym, ap, ◌∙◌, ⊎_elim, arith, le-ltb, ltb-false}
+use Rattle.std.proofs.Common.{◌≡◌, ℕ, ◌+◌, ◌≤◌, ◌||◌, ◌<◌, ltb, true, false, List, [], ◌∷◌, Some, None, All, refl, sym, ap, ◌∙◌, ⊎_elim, arith, le-ltb, ltb-false}
 use Rattle.std.specs.List.{list_any}
 use Rattle.std.proofs.lemmas.Bool.{cases_Bool, cases_eq, or_parts}
 use Rattle.std.proofs.lemmas.List.Elements.{All-head, All-tail}
@@ -13,6 +13,7 @@ use Rattle.s2ix_bag.proofs.Applied.{change_between-changed, changed_inverse}
 use Rattle.s2ix_bag.proofs.Changes.{count_changed, counts_head, counts_tail, counts_below}
 use Rattle.s2ix_bag.proofs.Counts.{count_head, count_tail}
 use Rattle.s2ix_bag.proofs.Lengths.{AreAfterWithin, small_changed}
+use Rattle.s2ix_edit.specs.Refusals.{has_count_above}
 use Rattle.s2ix_bag.proofs.Refusals.{before_from_no_mismatch, inverse_taken, no_mismatch, none_from_within, refusal_of_taken, taken_from_none, within_from_none}
 
 -- the change to a changed collection is the change itself
@@ -50,29 +51,32 @@ within_from_counts c n (e ∷ es) rises found = (
       (cases_eq (rank_of e.pair) k)),
 )
 
--- whether a count passes the limit
-any_above : ℕ → Collection → Bool
-any_above c hs = list_any (λ h. ltb c h.count) hs
-
-count_within : (c : ℕ) (hs : Collection) (k : ℕ) → any_above c hs ≡ false → count_at hs k ≤ c
-unfolding any_above
+count_within : (c : ℕ) (hs : Collection) (k : ℕ) → has_count_above c hs ≡ false → count_at hs k ≤ c
 count_within c [] k none = omega arith
 count_within c (h ∷ hs) k none =
-    let parts = or_parts (ltb c h.count) (any_above c hs) none in
+    let parts = or_parts (ltb c h.count) (has_count_above c hs) none in
     ⊎_elim
     (λ here. let own = ltb-false c h.count parts.0 in omega (arith, own, count_head h hs k here))
     (λ other. let rest = count_within c hs k parts.1 in omega (arith, rest, count_tail h hs k other))
     (cases_eq (rank_of h.pair) k)
 
-none_above : (c : ℕ) (hs : Collection) → All (λ (h : Held). h.count ≤ c) hs → any_above c hs ≡ false
-unfolding any_above
+-- where no count of a collection passes the limit, the test finds none
+pub none_above : (c : ℕ) (hs : Collection) → All (λ (h : Held). h.count ≤ c) hs → has_count_above c hs ≡ false
 none_above c [] small = refl
 none_above c (h ∷ hs) small =
-    ap (λ t. t || any_above c hs) (le-ltb c h.count (All-head (λ (x : Held). x.count ≤ c) h hs small))
+    ap (λ t. t || has_count_above c hs) (le-ltb c h.count (All-head (λ (x : Held). x.count ≤ c) h hs small))
     ∙ none_above c hs (All-tail (λ (x : Held). x.count ≤ c) h hs small)
 
+-- a count above the limit is found
+pub above_from_count : (c : ℕ) (hs : Collection) (k : ℕ) → c < count_at hs k → has_count_above c hs ≡ true
+above_from_count c hs k above =
+    ⊎_elim
+    (λ has. has)
+    (λ none. let small = count_within c hs k none in absurd (omega (arith, small, above)))
+    (cases_Bool (has_count_above c hs))
+
 -- if no count of a changed collection passes the limit, no count after does
-within_from_changed : (c : ℕ) (hs : Collection) (es : List Entry) → IsCollection hs → IsChangeList es → any_above c (changed hs es) ≡ false → AreAfterWithin c es
+within_from_changed : (c : ℕ) (hs : Collection) (es : List Entry) → IsCollection hs → IsChangeList es → has_count_above c (changed hs es) ≡ false → AreAfterWithin c es
 within_from_changed c hs es is rises none =
     within_from_counts c 0 es rises
     (λ k before after found.
@@ -81,13 +85,12 @@ within_from_changed c hs es is rises none =
     omega (arith, small, counted))
 
 -- where the counts were within a limit, one passes it where a count after does
-pub any_above_changed : (limit : ℕ) (hs : Collection) (es : List Entry) → IsCollection hs → IsChangeList es → All (λ h. h.count ≤ limit) hs → list_any (λ h. ltb limit h.count) (changed hs es) ≡ list_any (λ e. ltb limit e.after) es
-unfolding any_above
+pub any_above_changed : (limit : ℕ) (hs : Collection) (es : List Entry) → IsCollection hs → IsChangeList es → All (λ h. h.count ≤ limit) hs → has_count_above limit (changed hs es) ≡ list_any (λ e. ltb limit e.after) es
 any_above_changed limit hs es is rises small =
     ⊎_elim
     (λ above. ⊎_elim
     (λ has. has ∙ sym above)
     (λ none. let clash = sym above ∙ none_from_within limit es (within_from_changed limit hs es is rises none) in cc)
-    (cases_Bool (any_above limit (changed hs es))))
+    (cases_Bool (has_count_above limit (changed hs es))))
     (λ within. none_above limit (changed hs es) (small_changed limit hs es (within_from_none limit es within) small) ∙ sym within)
     (cases_Bool (list_any (λ e. ltb limit e.after) es))

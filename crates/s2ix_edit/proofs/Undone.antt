@@ -8,23 +8,30 @@ use Rattle.s2ix_bag.specs.Collection.{Collection, IsCollection, count_in}
 use Rattle.s2ix_bag.proofs.Collections.{set_keeps}
 use Rattle.s2ix_bag.proofs.Inverse.{changed_inverse_between}
 use Rattle.s2ix_edit.specs.declared.edit.Edit.{Edit}
-use Rattle.s2ix_edit.specs.declared.edit.Edit.TheVariants.{Add, Remove}
+use Rattle.s2ix_edit.specs.declared.edit.Edit.TheVariants.{Add, AddUnion, Remove, DropLabel, Relabel}
+use Rattle.s2ix_bag.specs.OfLabel.{held_of}
 use Rattle.s2ix_edit.specs.Edit.{edited}
 use Rattle.s2ix_edit.specs.History.{State, IsStore, after_edit, after_undo, after_undo_of, change_of, holding}
+use Rattle.s2ix_edit.proofs.Dropped.{without_keeps}
+use Rattle.s2ix_edit.proofs.Moved.{all_moved_keeps}
 use Rattle.s2ix_edit.proofs.Places.{slice_get_last}
+use Rattle.s2ix_edit.proofs.Raised.{with_each_keeps}
 
 -- an edited collection is a collection
 pub edited_is_collection : (edit : Edit) (hs : Collection) → IsCollection hs → IsCollection (edited edit hs)
 edited_is_collection (Add pair copies) hs is = set_keeps pair (count_in hs pair + copies) hs is
+edited_is_collection (AddUnion cells label) hs is = with_each_keeps label cells hs is
 edited_is_collection (Remove pair copies) hs is = set_keeps pair (count_in hs pair - copies) hs is
+edited_is_collection (DropLabel label) hs is = without_keeps label hs is
+edited_is_collection (Relabel source target) hs is = all_moved_keeps target (held_of source hs) hs is
 
--- an undo after a change was recorded takes that change back
-undo_of_last : (s : State) (done : List (List Entry)) (es : List Entry) → s.done ≡ done ++ es ∷ [] → after_undo s ≡ after_undo_of s es
+-- an undo takes back the last change that was done
+pub undo_of_last : (s : State) (done : List (List Entry)) (es : List Entry) → s.done ≡ done ++ es ∷ [] → after_undo s ≡ after_undo_of s es
 undo_of_last s done es is =
     let last = ap (λ (l : List (List Entry)). slice_get l (length l - 1)) is ∙ slice_get_last done es in
     ap (λ (o : Option (List Entry)). elim o [ Some x ↦ after_undo_of s x | None ↦ s ]) last
 
-front_of : (done : List (List Entry)) (es : List Entry) → take (length (done ++ es ∷ []) - 1) (done ++ es ∷ []) ≡ done
+pub front_of : (done : List (List Entry)) (es : List Entry) → take (length (done ++ es ∷ []) - 1) (done ++ es ∷ []) ≡ done
 front_of done es =
     let place : length (done ++ es ∷ []) - 1 ≡ length done = omega (arith, length-append done (es ∷ [])) in
     ap (λ k. take k (done ++ es ∷ [])) place ∙ take-append_seam done (es ∷ [])

@@ -1,10 +1,52 @@
 -- What an edit makes of a collection.
-use Rattle.std.specs.Prelude.{◌+◌, ◌-◌}
+use Rattle.std.specs.Prelude.{ℕ, ◌+◌, ◌-◌, ◌==◌, Bool, not, List, [], ◌∷◌}
+use Rattle.std.specs.List.{filter}
+use Rattle.s2id_core.specs.declared.cell_id.CellId.{CellId}
+use Rattle.s2ix_bag.specs.declared.label.Label.{Label}
+use Rattle.s2ix_bag.specs.declared.pair.Pair.{Pair}
+use Rattle.s2ix_bag.specs.declared.pair.Held.{Held}
+use Rattle.s2ix_bag.specs.Label.{value_of}
 use Rattle.s2ix_bag.specs.Collection.{Collection, count_in, set_count}
+use Rattle.s2ix_bag.specs.OfLabel.{held_of}
 use Rattle.s2ix_edit.specs.declared.edit.Edit.{Edit}
-use Rattle.s2ix_edit.specs.declared.edit.Edit.TheVariants.{Add, Remove}
+use Rattle.s2ix_edit.specs.declared.edit.Edit.TheVariants.{Add, AddUnion, Remove, DropLabel, Relabel}
 
--- the collection after the edit: `Add` adds copies to the pair's count, `Remove` takes them from it
+-- the pair of a cell under a label
+abbrev pub pair_of : CellId → Label → Pair
+pair_of cell label = record { cell = cell; label = label }
+
+-- whether a held pair is of the label
+abbrev pub is_of : Label → Held → Bool
+is_of label h = value_of h.pair.label == value_of label
+
+-- the held pairs of other labels
+abbrev pub without : Label → Collection → Collection
+without label hs = filter (λ h. not (is_of label h)) hs
+
+-- the collection with copies added to the count of one pair
+abbrev pub with_more : Pair → ℕ → Collection → Collection
+with_more pair copies hs = set_count pair (count_in hs pair + copies) hs
+
+-- the collection with one copy more under the label for each of the cells
+abbrev pub with_each : Label → List CellId → Collection → Collection
+with_each label [] hs = hs
+with_each label (c ∷ cs) hs = with_each label cs (with_more (pair_of c label) 1 hs)
+
+-- the collection with the copies of one held pair moved to the target's pair of its cell
+abbrev pub moved : Label → Held → Collection → Collection
+moved target h hs = with_more (pair_of h.pair.cell target) h.count (set_count h.pair 0 hs)
+
+-- the collection with the copies of each of the held pairs moved so
+abbrev pub all_moved : Label → List Held → Collection → Collection
+all_moved target [] hs = hs
+all_moved target (h ∷ rest) hs = all_moved target rest (moved target h hs)
+
+-- the collection after the edit: `Add` adds copies to the pair's count, `AddUnion` one copy under the label for each
+-- cell, `Remove` takes copies from the pair's count, `DropLabel` takes the label's pairs away, and `Relabel` moves
+-- the copies of each pair of `source` to the same cell's pair of `target`
 abbrev pub edited : Edit → Collection → Collection
-edited (Add pair copies) hs = set_count pair (count_in hs pair + copies) hs
+edited (Add pair copies) hs = with_more pair copies hs
+edited (AddUnion cells label) hs = with_each label cells hs
 edited (Remove pair copies) hs = set_count pair (count_in hs pair - copies) hs
+edited (DropLabel label) hs = without label hs
+edited (Relabel source target) hs = all_moved target (held_of source hs) hs

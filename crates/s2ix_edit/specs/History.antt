@@ -1,5 +1,5 @@
 -- Histories: whole collections in the order in which they were reached, and where a store stands among them.
-use Rattle.std.specs.Prelude.{◌≡◌, ℕ, ◌+◌, ◌-◌, ◌≤◌, Option, Some, None, List, [], ◌∷◌, ◌++◌, length, take, reverse, slice_get}
+use Rattle.std.specs.Prelude.{◌≡◌, ℕ, ◌+◌, ◌-◌, ◌≤◌, Option, Some, None, List, [], ◌∷◌, ◌++◌, length, take, drop, reverse, slice_get}
 use Rattle.s2ix_bag.specs.declared.pair.Entry.{Entry}
 use Rattle.s2ix_bag.specs.Apply.{apply_refusal}
 use Rattle.s2ix_bag.specs.Change.{change_between, changed, inverse_of, IsChangeList}
@@ -55,6 +55,18 @@ with_next h hs = record { collections = take (h.cursor + 1) h.collections ++ hs 
 abbrev pub one_back : History → History
 one_back h = record { collections = h.collections; cursor = h.cursor - 1 }
 
+-- the history after a redo: the cursor moves on
+abbrev pub one_on : History → History
+one_on h = record { collections = h.collections; cursor = h.cursor + 1 }
+
+-- the history of one collection and no other
+abbrev pub alone : Collection → History
+alone hs = record { collections = hs ∷ []; cursor = 0 }
+
+-- the history after it is forgotten: the cursor's collection and no other
+abbrev pub forgotten : History → History
+forgotten h = record { collections = take 1 (drop h.cursor h.collections); cursor = 0 }
+
 -- a bag with another collection
 abbrev pub holding : Contents → Collection → Contents
 holding bag hs = record { limits = bag.limits; held = hs }
@@ -90,6 +102,26 @@ after_undo s = elim (last_done s) [ Some es ↦ after_undo_of s es | None ↦ s 
 -- how many pairs an undo changes
 abbrev pub undo_size : State → ℕ
 undo_size s = elim (last_done s) [ Some es ↦ length es | None ↦ 0 ]
+
+-- the change that a redo does again: the last that was undone
+abbrev pub last_undone : State → Option (List Entry)
+last_undone s = slice_get s.undone (length s.undone - 1)
+
+-- the store after a redo that does this change again
+abbrev pub after_redo_of : State → List Entry → State
+after_redo_of s es = record {
+  bag = holding s.bag (changed s.bag.held es);
+  done = s.done ++ es ∷ [];
+  undone = take (length s.undone - 1) s.undone;
+}
+
+-- the store after a redo; with nothing to redo it stays as it is
+abbrev pub after_redo : State → State
+after_redo s = elim (last_undone s) [ Some es ↦ after_redo_of s es | None ↦ s ]
+
+-- how many pairs a redo changes
+abbrev pub redo_size : State → ℕ
+redo_size s = elim (last_undone s) [ Some es ↦ length es | None ↦ 0 ]
 
 -- changes, the newest first, that can be taken back from a bag one after the other
 abbrev pub CanGoBack : Contents → List (List Entry) → Type 0

@@ -5,3 +5,4 @@ pub mod Refusals
 pub use Rattle.s2ix_bag.specs.Change
 pub use Rattle.s2ix_bag.specs.Collection
 pub use Rattle.s2ix_bag.specs.Limits
+pub use Rattle.s2ix_bag.specs.OfLabel

@@ -2,17 +2,19 @@
 use Rattle.std.specs.Prelude.{◌≡◌, ℕ, ◌==◌, nat_lt, if◌then◌else◌, false, Option, Some, None, List, [], ◌∷◌, ◌++◌, length}
 use Rattle.std.specs.List.{list_any}
 use Rattle.s2ix_bag.specs.declared.pair.Entry.{Entry}
+use Rattle.s2ix_bag.specs.declared.pair.Held.{Held}
 use Rattle.s2ix_bag.specs.declared.pair.Pair.{Pair}
 use Rattle.s2ix_bag.specs.Apply.{first_mismatch}
-use Rattle.s2ix_bag.specs.Change.{changed, IsChangeList}
-use Rattle.s2ix_bag.specs.Collection.{Contents}
+use Rattle.s2ix_bag.specs.Change.{changed, gone, IsChangeList}
+use Rattle.s2ix_bag.specs.Label.{value_of}
+use Rattle.s2ix_bag.specs.Collection.{Collection, Contents}
 use Rattle.s2ix_bag.specs.Limits.{pairs_limit, count_limit}
 use Rattle.s2ix_edit.specs.declared.edit.Edit.{Edit}
 use Rattle.s2ix_edit.specs.declared.errors.EditError.{EditError}
 use Rattle.s2ix_edit.specs.declared.errors.EditError.TheVariants.{NoChange, TooManyCopies, TooManyPairs}
 use Rattle.s2ix_edit.specs.Edit.{edited}
 use Rattle.s2ix_edit.specs.History.{State, holding}
-use Rattle.s2ix_edit.specs.Refusals.{takes_too_many}
+use Rattle.s2ix_edit.specs.Refusals.{lacks_label, takes_too_many}
 
 -- a store that stands at a bag and has no history
 abbrev pub starting_at : Contents → State
@@ -23,9 +25,16 @@ abbrev pub one_entry : Pair → ℕ → ℕ → List Entry
 one_entry pair before after =
     if before == after then [] else record { pair = pair; before = before; after = after } ∷ []
 
--- the entries carry the edit out: it takes no more than is held, the counts before are the bag's, and the
--- counts after make the edited collection
+-- the entries make this collection of the bag's: the counts before are the bag's, and those after the collection's
+pub record Makes (bag : Contents) (new : Collection) (es : List Entry) : Type 0 where
+  pub rises : IsChangeList es
+  pub matches : first_mismatch bag es ≡ None
+  pub result : changed bag.held es ≡ new
+
+-- the entries carry the edit out: its label is held, it takes no more than is held, the counts before are the bag's,
+-- and the counts after make the edited collection
 pub record Plans (bag : Contents) (edit : Edit) (es : List Entry) : Type 0 where
+  pub known : lacks_label edit bag.held ≡ false
   pub allowed : takes_too_many edit bag.held ≡ false
   pub rises : IsChangeList es
   pub matches : first_mismatch bag es ≡ None
@@ -38,6 +47,11 @@ entries_refusal bag es =
     if length es == 0 then Some NoChange
     else (if list_any (λ e. nat_lt (count_limit bag.limits) e.after) es then Some TooManyCopies
     else (if nat_lt (pairs_limit bag.limits) (length (changed bag.held es)) then Some TooManyPairs else None))
+
+-- the entries of a held pair that goes and of one that gains its copies, in the order of their labels
+abbrev pub moving_entries : Held → Entry → List Entry
+moving_entries h gaining =
+    if nat_lt (value_of h.pair.label) (value_of gaining.pair.label) then gone h ∷ gaining ∷ [] else gaining ∷ gone h ∷ []
 
 -- the store after planned entries: its bag has the counts after, and they are the last change that was done
 abbrev pub recorded : State → List Entry → State

@@ -1,32 +1,54 @@
 -- Where an edit is refused.
-use Rattle.std.specs.Prelude.{◌≡◌, ◌==◌, nat_lt, nat_le, Bool, false, Option, Some, None, List, [], ◌∷◌, length, find}
+use Rattle.std.specs.Prelude.{◌≡◌, ℕ, ◌==◌, nat_lt, nat_le, Bool, true, false, Option, Some, None, List, [], ◌∷◌, length, find}
 use Rattle.std.specs.List.{list_any}
-use Rattle.s2ix_bag.specs.Collection.{Collection, count_in}
+use Rattle.s2ix_bag.specs.declared.label.Label.{Label}
+use Rattle.s2ix_bag.specs.Collection.{Collection, Contents, count_in}
 use Rattle.s2ix_bag.specs.Limits.{pairs_limit, count_limit, changes_limit}
+use Rattle.s2ix_bag.specs.OfLabel.{held_of}
 use Rattle.s2ix_edit.specs.declared.edit.Edit.{Edit}
-use Rattle.s2ix_edit.specs.declared.edit.Edit.TheVariants.{Add, Remove}
+use Rattle.s2ix_edit.specs.declared.edit.Edit.TheVariants.{Add, AddUnion, Remove, DropLabel, Relabel}
 use Rattle.s2ix_edit.specs.declared.errors.EditError.{EditError}
-use Rattle.s2ix_edit.specs.declared.errors.EditError.TheVariants.{JournalFull, NotHeld, NoChange, TooManyCopies, TooManyPairs, OutOfMemory}
+use Rattle.s2ix_edit.specs.declared.errors.EditError.TheVariants.{JournalFull, NoSuchLabel, NotHeld, NoChange, TooManyCopies, TooManyPairs, OutOfMemory}
 use Rattle.s2ix_edit.specs.Edit.{edited}
 use Rattle.s2ix_edit.specs.History.{State, change_of}
+
+-- whether no pair of the label is held
+abbrev pub holds_none : Label → Collection → Bool
+holds_none label hs = length (held_of label hs) == 0
+
+-- the edit speaks of a label of which no pair is held
+abbrev pub lacks_label : Edit → Collection → Bool
+lacks_label (Add pair copies) hs = false
+lacks_label (AddUnion cells label) hs = false
+lacks_label (Remove pair copies) hs = false
+lacks_label (DropLabel label) hs = holds_none label hs
+lacks_label (Relabel source target) hs = holds_none source hs
 
 -- the edit takes more copies than are held
 abbrev pub takes_too_many : Edit → Collection → Bool
 takes_too_many (Add pair copies) hs = false
+takes_too_many (AddUnion cells label) hs = false
 takes_too_many (Remove pair copies) hs = nat_lt (count_in hs pair) copies
+takes_too_many (DropLabel label) hs = false
+takes_too_many (Relabel source target) hs = false
+
+-- whether a count is above a limit
+abbrev pub has_count_above : ℕ → Collection → Bool
+has_count_above limit hs = list_any (λ h. nat_lt limit h.count) hs
 
 -- where each refusal stands
 abbrev pub stands : State → Edit → EditError → Bool
 stands s edit JournalFull = nat_le (changes_limit s.bag.limits) (length s.done)
+stands s edit NoSuchLabel = lacks_label edit s.bag.held
 stands s edit NotHeld = takes_too_many edit s.bag.held
 stands s edit NoChange = length (change_of s edit) == 0
-stands s edit TooManyCopies = list_any (λ h. nat_lt (count_limit s.bag.limits) h.count) (edited edit s.bag.held)
+stands s edit TooManyCopies = has_count_above (count_limit s.bag.limits) (edited edit s.bag.held)
 stands s edit TooManyPairs = nat_lt (pairs_limit s.bag.limits) (length (edited edit s.bag.held))
 stands s edit OutOfMemory = false
 
 -- the refusals, memory aside, in the order in which they decide
 abbrev pub refusals : List EditError
-refusals = JournalFull ∷ NotHeld ∷ NoChange ∷ TooManyCopies ∷ TooManyPairs ∷ []
+refusals = JournalFull ∷ NoSuchLabel ∷ NotHeld ∷ NoChange ∷ TooManyCopies ∷ TooManyPairs ∷ []
 
 -- the refusal of an edit: the first that stands; `None` where the edit is accepted, memory aside
 abbrev pub edit_refusal : State → Edit → Option EditError
@@ -36,6 +58,7 @@ edit_refusal s edit = find (stands s edit) refusals
 abbrev pub MayWantMemory : Option EditError → Type 0
 MayWantMemory None = Unit {0}
 MayWantMemory (Some JournalFull) = ⊥
+MayWantMemory (Some NoSuchLabel) = ⊥
 MayWantMemory (Some NotHeld) = ⊥
 MayWantMemory (Some NoChange) = Unit {0}
 MayWantMemory (Some TooManyCopies) = Unit {0}
@@ -45,8 +68,19 @@ MayWantMemory (Some OutOfMemory) = ⊥
 -- the error is the refusal, or memory was wanted where it may be
 abbrev pub IsEditRefusal : EditError → Option EditError → Type 0
 IsEditRefusal JournalFull refusal = refusal ≡ Some JournalFull
+IsEditRefusal NoSuchLabel refusal = refusal ≡ Some NoSuchLabel
 IsEditRefusal NotHeld refusal = refusal ≡ Some NotHeld
 IsEditRefusal NoChange refusal = refusal ≡ Some NoChange
 IsEditRefusal TooManyCopies refusal = refusal ≡ Some TooManyCopies
 IsEditRefusal TooManyPairs refusal = refusal ≡ Some TooManyPairs
 IsEditRefusal OutOfMemory refusal = MayWantMemory refusal
+
+-- why no entries are planned that make a collection: a count of it would pass the limit, or memory was wanted
+abbrev pub IsPlanFailure : Contents → Collection → EditError → Type 0
+IsPlanFailure bag new JournalFull = ⊥
+IsPlanFailure bag new NoSuchLabel = ⊥
+IsPlanFailure bag new NotHeld = ⊥
+IsPlanFailure bag new NoChange = ⊥
+IsPlanFailure bag new TooManyCopies = has_count_above (count_limit bag.limits) new ≡ true
+IsPlanFailure bag new TooManyPairs = ⊥
+IsPlanFailure bag new OutOfMemory = Unit {0}

@@ -1,10 +1,17 @@
-use s2ix_bag::Pair;
+use s2id_union::CellUnion;
+use s2ix_bag::{Label, Pair};
 
 /// A step from one collection to the next. This project's own.
-#[derive(Clone, Copy, Debug, PartialEq, Eq)]
+#[derive(Debug, Drop, PartialEq, Eq)]
 pub enum Edit {
     /// Adds copies to the pair's count.
     Add { pair: Pair, copies: u32 },
+    /// Adds one copy under the label for each cell of the union.
+    AddUnion { union: CellUnion, label: Label },
     /// Takes copies from the pair's count.
     Remove { pair: Pair, copies: u32 },
+    /// Takes away all copies of the label's pairs.
+    DropLabel { label: Label },
+    /// Moves all copies of `source` to `target`, cell by cell.
+    Relabel { source: Label, target: Label },
 }

@@ -9,6 +9,9 @@ pub enum EditError {
     /// As many changes as the limit can be undone.
     #[error("the journal is full")]
     JournalFull,
+    /// No pair of the label is held.
+    #[error("no pair of the label is held")]
+    NoSuchLabel,
     /// Fewer copies are held than the edit takes.
     #[error("fewer copies are held")]
     NotHeld,
@@ -67,5 +70,38 @@ impl From<AllocError> for UndoError {
 
     fn from(_: AllocError) -> Self {
         UndoError::OutOfMemory
+    }
+}
+
+/// Why [`Store::redo`](crate::Store::redo) was refused.
+#[derive(Clone, Copy, Debug, PartialEq, Eq, Error)]
+pub enum RedoError {
+    /// No change can be redone.
+    #[error("nothing to redo")]
+    NothingToRedo,
+    /// A growth was refused.
+    #[error("out of memory")]
+    OutOfMemory,
+}
+
+impl From<OutOfMemory> for RedoError {
+    ghost use Rattle.std.specs.Prelude.{◌≡◌};
+    ghost use Rattle.s2ix_edit.specs.declared.errors.RedoError.TheVariants.{OutOfMemory};
+
+    ghost from_gives = { λ _ error. error ≡ OutOfMemory };
+
+    fn from(_: OutOfMemory) -> Self {
+        RedoError::OutOfMemory
+    }
+}
+
+impl From<AllocError> for RedoError {
+    ghost use Rattle.std.specs.Prelude.{◌≡◌};
+    ghost use Rattle.s2ix_edit.specs.declared.errors.RedoError.TheVariants.{OutOfMemory};
+
+    ghost from_gives = { λ _ error. error ≡ OutOfMemory };
+
+    fn from(_: AllocError) -> Self {
+        RedoError::OutOfMemory
     }
 }

@@ -1,14 +1,19 @@
 //! What holds of edits, undos and histories, whatever code runs.
 
-ghost use Rattle.std.specs.Prelude.{◌≡◌, ◌≢◌, ℕ, ◌+◌, ◌-◌, Some, [], ◌∷◌, ◌++◌, reverse, slice_get, All};
+ghost use Rattle.std.specs.Prelude.{◌≡◌, ◌≢◌, ℕ, ◌+◌, ◌-◌, Some, [], ◌∷◌, ◌++◌, length, reverse, slice_get, All, List, Contains};
+ghost use Rattle.s2id_core.specs.declared.cell_id.CellId.{CellId};
+ghost use Rattle.s2id_union.specs.Region.{IsNormal};
+ghost use Rattle.s2ix_bag.specs.declared.label.Label.{Label};
 ghost use Rattle.s2ix_bag.specs.declared.pair.Pair.{Pair};
 ghost use Rattle.s2ix_bag.specs.Change.{IsChangeList, counts_at, difference_of};
 ghost use Rattle.s2ix_bag.specs.Collection.{Collection, IsBag, IsCollection, count_in};
 ghost use Rattle.s2ix_bag.specs.Pair.{rank_of};
 ghost use Rattle.s2ix_edit.specs.declared.edit.Edit.{Edit};
-ghost use Rattle.s2ix_edit.specs.declared.edit.Edit.TheVariants.{Add, Remove};
-ghost use Rattle.s2ix_edit.specs.Edit.{edited};
-ghost use Rattle.s2ix_edit.specs.History.{State, IsStore, after_edit, after_undo, change_of, changes_along, history_of, holding};
+ghost use Rattle.s2ix_edit.specs.declared.edit.Edit.TheVariants.{Add, AddUnion, Remove, DropLabel, Relabel};
+ghost use Rattle.s2ix_edit.specs.Edit.{edited, pair_of};
+ghost use Rattle.s2ix_edit.specs.History.{State, IsStore, after_edit, after_redo, after_undo, change_of, changes_along, history_of, holding};
+ghost use Rattle.s2ix_edit.specs.Plan.{starting_at};
+ghost use Rattle.s2ix_table.specs.Table.{Run, IsRangeTable};
 
 /// `Add` adds the copies to the pair's count, and leaves every other count.
 pub fn add_adds_copies()
@@ -48,16 +53,97 @@ pub fn undo_takes_edit_back()
         ≡ record { bag = s.bag; done = s.done; undone = change_of s edit ∷ [] } }
 {}
 
+/// An edit and then an undo restore the bag, that is the same pairs with their counts; so they restore its range table,
+/// since two equal bags have one.
+pub fn undo_restores_the_table()
+    ensures bag { (s : State) (edit : Edit)
+        → IsStore s
+        → (after_undo (after_edit s edit)).bag ≡ s.bag }
+    ensures table { (s : State) (edit : Edit) (before after : List Run)
+        → IsStore s
+        → IsRangeTable s.bag.held before
+        → IsRangeTable (after_undo (after_edit s edit)).bag.held after
+        → after ≡ before }
+{}
+
+/// An undo and a redo lead back to where the store stood, whichever of them comes first.
+pub fn undo_and_redo_lead_back()
+    ensures redo_after_undo { (s : State)
+        → IsStore s
+        → s.done ≢ []
+        → after_redo (after_undo s) ≡ s }
+    ensures undo_after_redo { (s : State)
+        → IsStore s
+        → s.undone ≢ []
+        → after_undo (after_redo s) ≡ s }
+{}
+
+/// No step changes the limits.
+pub fn steps_keep_limits()
+    ensures edit { (s : State) (edit : Edit) → (after_edit s edit).bag.limits ≡ s.bag.limits }
+    ensures undo { (s : State) → (after_undo s).bag.limits ≡ s.bag.limits }
+    ensures redo { (s : State) → (after_redo s).bag.limits ≡ s.bag.limits }
+    ensures forget { (s : State) → (starting_at s.bag).bag.limits ≡ s.bag.limits }
+{}
+
 /// A store stands at one place of its history: the bag holds the collection at the cursor, each collection is
 /// within the limits, and the changes between neighbouring collections are those that were done and then,
-/// the last undone first, those that were undone.
+/// the last undone first, those that were undone. So it stands at the history's start where nothing was done, and
+/// at its end where nothing was undone.
 pub fn store_stands_in_history()
     ensures place { (s : State)
         → slice_get (history_of s).collections (history_of s).cursor ≡ Some s.bag.held }
     ensures within { (s : State)
         → IsStore s
         → All (λ hs. IsBag (holding s.bag hs)) (history_of s).collections }
+    ensures number { (s : State)
+        → length (history_of s).collections ≡ (history_of s).cursor + 1 + length s.undone }
     ensures changes { (s : State)
         → IsStore s
         → changes_along (history_of s).collections ≡ s.done ++ reverse s.undone }
+{}
+
+/// `AddUnion` adds one copy under the label for each cell, and leaves every other count.
+pub fn add_union_adds_a_copy_each()
+    ensures cells { (hs : Collection) (cells : List CellId) (label : Label) (cell : CellId)
+        → IsCollection hs
+        → IsNormal cells
+        → Contains cells cell
+        → count_in (edited (AddUnion cells label) hs) (pair_of cell label) ≡ count_in hs (pair_of cell label) + 1 }
+    ensures others { (hs : Collection) (cells : List CellId) (label : Label) (other : Pair)
+        → (Contains cells other.cell → other.label ≢ label)
+        → count_in (edited (AddUnion cells label) hs) other ≡ count_in hs other }
+{}
+
+/// `DropLabel` takes all copies of the label's pairs away, and leaves every other count.
+pub fn drop_label_takes_all_copies()
+    ensures label { (hs : Collection) (label : Label) (pair : Pair)
+        → pair.label ≡ label
+        → count_in (edited (DropLabel label) hs) pair ≡ 0 }
+    ensures others { (hs : Collection) (label : Label) (other : Pair)
+        → IsCollection hs
+        → other.label ≢ label
+        → count_in (edited (DropLabel label) hs) other ≡ count_in hs other }
+{}
+
+/// `Relabel` gives the target at each cell the sum of both counts, takes all copies of the source away, and leaves
+/// every other count. A label that is moved to itself stays as it is.
+pub fn relabel_moves_copies()
+    ensures target { (hs : Collection) (source target : Label) (cell : CellId)
+        → IsCollection hs
+        → source ≢ target
+        → count_in (edited (Relabel source target) hs) (pair_of cell target)
+        ≡ count_in hs (pair_of cell target) + count_in hs (pair_of cell source) }
+    ensures source { (hs : Collection) (source target : Label) (cell : CellId)
+        → IsCollection hs
+        → source ≢ target
+        → count_in (edited (Relabel source target) hs) (pair_of cell source) ≡ 0 }
+    ensures others { (hs : Collection) (source target : Label) (other : Pair)
+        → IsCollection hs
+        → other.label ≢ source
+        → other.label ≢ target
+        → count_in (edited (Relabel source target) hs) other ≡ count_in hs other }
+    ensures itself { (hs : Collection) (label : Label)
+        → IsCollection hs
+        → edited (Relabel label label) hs ≡ hs }
 {}

@@ -1,16 +1,26 @@
-//! An editable collection: edits that record exactly what they change, and undo.
+//! An editable collection: edits that record exactly what they change, undo and redo.
 //!
 //! A [`Store`] stands at one place of a history of collections. An accepted [`Edit`] makes the next collection and
-//! records the change between the two; `undo` goes back by one. A refused step leaves the store as it was.
+//! records the change between the two; `undo` goes back by one, `redo` on by one, and `forget` keeps the
+//! collection alone. A refused step leaves the store as it was. The store keeps the range table of its collection
+//! beside it, for queries.
 #![tactic(auto)]
 
 mod edit;
+#[cfg(test)]
+mod edit_tests;
 mod errors;
 pub mod laws;
+#[cfg(test)]
+mod move_tests;
 mod plan;
+mod raise;
+mod relabel;
 mod steps;
 mod store;
+#[cfg(test)]
+mod table_tests;
 
 pub use edit::Edit;
-pub use errors::{EditError, UndoError};
-pub use store::Store;
+pub use errors::{EditError, RedoError, UndoError};
+pub use store::{Store, StoreTable};

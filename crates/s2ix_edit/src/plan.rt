@@ -1,11 +1,14 @@
 //! What each edit changes: the entries that carry it out, before any limit is looked at.
 
 ghost use Rattle.std.specs.Prelude.{◌≡◌, IfOk, IfErr};
+ghost use Rattle.s2ix_bag.specs.Collection.{IsBag};
 ghost use Rattle.s2ix_edit.specs.Plan.{Plans, one_entry, starting_at};
 ghost use Rattle.s2ix_edit.specs.Refusals.{edit_refusal, IsEditRefusal};
 
 use crate::edit::Edit;
 use crate::errors::EditError;
+use crate::raise::one_more_each;
+use crate::relabel::{with_dropped, with_relabelled};
 use s2id_core::OutOfMemory;
 use s2ix_bag::{Bag, Change, Entry, Pair};
 use std::alloc::Global;
@@ -13,13 +16,17 @@ use std::alloc::Global;
 /// The change that carries an edit out on a bag, or why the bag has none. It looks at no limit: a sum that no
 /// `u32` holds is above every one.
 pub fn planned(alloc: Global, bag: &Bag, edit: &Edit) -> Result<Change, EditError>
+    requires { IsBag bag.now }
     ensures plan { IfOk result (Plans bag.now edit.now) }
     ensures refused { IfErr result (λ error.
         IsEditRefusal error (edit_refusal (starting_at bag.now) edit.now)) }
 {
-    match *edit {
-        Edit::Add { pair, copies } => with_added(alloc, bag, pair, copies),
-        Edit::Remove { pair, copies } => with_removed(alloc, bag, pair, copies),
+    match edit {
+        Edit::Add { pair, copies } => with_added(alloc, bag, *pair, *copies),
+        Edit::AddUnion { union, label } => one_more_each(alloc, bag, union.cells(), *label),
+        Edit::Remove { pair, copies } => with_removed(alloc, bag, *pair, *copies),
+        Edit::DropLabel { label } => with_dropped(alloc, bag, *label),
+        Edit::Relabel { source, target } => with_relabelled(alloc, bag, *source, *target),
     }
 }
 

@@ -1,4 +1,4 @@
-//! What edits and undos are made of: a bag after a change, and a change moved from one list to the other.
+//! What edits, undos and redos are made of: a bag after a change, and a change moved from one list to the other.
 
 ghost use Rattle.std.specs.Prelude.{◌≡◌, ◌<◌, None, IfOk, IfErr, OnOk, vec_len, vec_capacity};
 ghost use Rattle.s2ix_bag.specs.Apply.{apply_refusal, first_mismatch};

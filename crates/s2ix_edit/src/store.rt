@@ -1,32 +1,42 @@
-ghost use Rattle.std.specs.Prelude.{◌≡◌, ℕ, ◌↔◌, ◌<◌, [], length, None, IfOk, IfErr, OnOk, OnErr};
+ghost use Rattle.std.specs.Prelude.{◌≡◌, ◌≢◌, ℕ, ◌↔◌, ◌<◌, [], length, None, IfOk, IfErr, OnOk, OnErr};
 ghost use Rattle.s2ix_bag.specs.Apply.{first_mismatch};
-ghost use Rattle.s2ix_bag.specs.Change.{changed};
+ghost use Rattle.s2ix_bag.specs.declared.pair.Pair.{Pair};
+ghost use Rattle.s2ix_bag.specs.Change.{changed, counts_at, difference_of};
+ghost use Rattle.s2ix_bag.specs.Collection.{count_in};
 ghost use Rattle.s2ix_bag.specs.Limits.{changes_limit};
+ghost use Rattle.s2ix_bag.specs.Pair.{rank_of};
 ghost use Rattle.s2ix_edit.specs.Edit.{edited};
-ghost use Rattle.s2ix_edit.specs.History.{State, IsStore, after_edit, after_undo, change_of, history_of, one_back, undo_size, with_next};
-ghost use Rattle.s2ix_edit.specs.Plan.{entries_refusal, recorded};
+ghost use Rattle.s2ix_edit.specs.History.{State, IsStore, after_edit, after_redo, after_undo, alone, change_of, forgotten, history_of, one_back, one_on, redo_size, undo_size, with_next};
+ghost use Rattle.s2ix_edit.specs.Plan.{entries_refusal, recorded, starting_at};
 ghost use Rattle.s2ix_edit.specs.Refusals.{edit_refusal, IsEditRefusal};
+ghost use Rattle.s2ix_table.specs.Table.{IsRangeTable};
 
 use crate::edit::Edit;
-use crate::errors::{EditError, UndoError};
+use crate::errors::{EditError, RedoError, UndoError};
 use crate::plan::planned;
 use crate::steps::{bag_after, bag_moved, move_last};
 use s2id_core::OutOfMemory;
 use s2ix_bag::{Bag, Change, Limits};
+use s2ix_table::{CopiedTable, RangeTable};
 use std::alloc::Global;
 use std::marker::Model;
 
-/// A collection with its history. Contracts see a store as its bag with the changes that were done and undone.
-/// This project's own.
+/// The range table that a [`Store`] keeps of its collection.
+pub type StoreTable = CopiedTable;
+
+/// A collection with its history and its range table. Contracts see a store as its bag with the changes that were
+/// done and undone; the table is always that of the bag. This project's own.
 #[derive(Debug, Drop)]
 pub struct Store {
     alloc: Global,
     bag: Bag,
+    table: StoreTable,
     done: Vec<Change>,
     undone: Vec<Change>,
 }
 
 impl Model for Store {
+    ghost use Rattle.std.specs.Prelude.{◌≡◌};
     ghost use Rattle.s2ix_edit.specs.History.{State, IsStore};
 
     ghost Value = { State };
@@ -34,19 +44,33 @@ impl Model for Store {
     ghost view = { λ s. record { bag = s.bag; done = s.done.items; undone = s.undone.items } };
 
     ghost invariant = { λ s.
-        IsStore (record { bag = s.bag; done = s.done.items; undone = s.undone.items }) };
+        IsStore (record { bag = s.bag; done = s.done.items; undone = s.undone.items })
+        × (⟦<StoreTable as RangeTable>⟧.pairs s.table ≡ s.bag.held) };
 }
 
 impl Store {
-    /// A store of the empty collection, with nothing to undo. It takes no memory yet; the error is for a store
-    /// that would.
+    /// A store of the empty collection, with nothing to undo or redo. `OutOfMemory` where a growth of its table is
+    /// refused. O(1).
     pub fn new(alloc: Global, limits: Limits) -> Result<Store, OutOfMemory>
-        ensures { IfOk result (λ store. store
-            ≡ record { bag = record { limits = limits; held = [] }; done = []; undone = [] }) }
+        ensures state { IfOk result (λ store.
+            store ≡ starting_at (record { limits = limits; held = [] })) }
+        ensures history { IfOk result (λ store. history_of store ≡ alone []) }
     {
+        Store::from_bag(alloc, Bag::empty(alloc, limits))
+    }
+
+    /// A store that starts from its bag, with the bag's limits and nothing to undo or redo. `OutOfMemory` where a
+    /// growth of its table is refused; the bag is let go then. O(r * n) for n pairs held and r ranges of the table, at
+    /// most 2 * n + 1.
+    pub fn from_bag(alloc: Global, bag: Bag) -> Result<Store, OutOfMemory>
+        ensures state { IfOk result (λ store. store ≡ starting_at bag) }
+        ensures history { IfOk result (λ store. history_of store ≡ alone bag.held) }
+    {
+        let table = StoreTable::build(alloc, &bag)?;
         Ok(Store {
             alloc,
-            bag: Bag::empty(alloc, limits),
+            bag,
+            table,
             done: Vec::new(alloc),
             undone: Vec::new(alloc),
         })
@@ -54,12 +78,16 @@ impl Store {
 
     /// Carries an edit out, and answers how many pairs changed their counts. An accepted edit records the change
     /// at the end of `done` and empties `undone`; a refused one changes nothing. [`EditError`] says when each
-    /// refusal stands. O(n + m) for n pairs held and m in the change, and what it takes to let the undone go.
+    /// refusal stands. O(n + m) for n pairs held and m in the change, what it takes to let the undone go, and the
+    /// table of the new bag: O(r * n) for its r ranges.
     pub fn edit(&mut self, edit: &Edit) -> Result<usize, EditError>
         ensures state { OnOk result (self.new ≡ after_edit self.old edit.now) }
         ensures history { OnOk result (history_of self.new
             ≡ with_next (history_of self.old) (edited edit.now self.old.bag.held)) }
         ensures number { IfOk result (λ n. n ≡ length (change_of self.old edit.now)) }
+        ensures records { OnOk result ((pair : Pair)
+            → counts_at (change_of self.old edit.now) (rank_of pair)
+            ≡ difference_of (count_in self.old.bag.held pair) (count_in self.new.bag.held pair)) }
         ensures accepted { OnOk result (edit_refusal self.old edit.now ≡ None) }
         ensures refused { IfErr result (λ error.
             IsEditRefusal error (edit_refusal self.old edit.now)) }
@@ -87,19 +115,25 @@ impl Store {
     {
         let number = change.entries().len();
         let bag = bag_after(self.alloc, &self.bag, &change)?;
+        let table = StoreTable::build(self.alloc, &bag)?;
         self.done.push(change).map_err(|_| EditError::OutOfMemory)?;
         self.undone.clear();
         self.bag = bag;
+        self.table = table;
         Ok(number)
     }
 
     /// Takes the last change back, and answers how many pairs it had. The change moves to the end of `undone`.
     /// `NothingToUndo` is tested first; after it only memory can be wanting. O(n + m) for n pairs held and m in
-    /// the change.
+    /// the change, and the table of the new bag: O(r * n) for its r ranges.
     pub fn undo(&mut self) -> Result<usize, UndoError>
         ensures state { OnOk result (self.new ≡ after_undo self.old) }
         ensures history { OnOk result (history_of self.new ≡ one_back (history_of self.old)) }
         ensures number { IfOk result (λ n. n ≡ undo_size self.old) }
+        ensures restores { OnOk result ((s : State) (edit : Edit)
+            → IsStore s
+            → self.old ≡ after_edit s edit
+            → self.new.bag ≡ s.bag) }
         ensures nothing { (result ≡ Err UndoError.NothingToUndo) ↔ (self.old.done ≡ []) }
         ensures unchanged { OnErr result (self.new ≡ self.old) }
     {
@@ -108,10 +142,49 @@ impl Store {
         };
         let inverse = last.inverse(self.alloc)?;
         let bag = bag_moved(self.alloc, &self.bag, &inverse)?;
+        let table = StoreTable::build(self.alloc, &bag)?;
         self.undone.reserve(1)?;
         let number = move_last(&mut self.done, &mut self.undone);
         self.bag = bag;
+        self.table = table;
         Ok(number)
+    }
+
+    /// Does the last undone change again, and answers how many pairs it has. The change moves back to the end of
+    /// `done`. `NothingToRedo` is tested first; after it only memory can be wanting, and the journal is never
+    /// full: an undo keeps the room of its change. O(n + m) for n pairs held and m in the change, and the table of
+    /// the new bag: O(r * n) for its r ranges.
+    pub fn redo(&mut self) -> Result<usize, RedoError>
+        ensures state { OnOk result (self.new ≡ after_redo self.old) }
+        ensures history { OnOk result (history_of self.new ≡ one_on (history_of self.old)) }
+        ensures number { IfOk result (λ n. n ≡ redo_size self.old) }
+        ensures restores { OnOk result ((s : State)
+            → IsStore s
+            → s.done ≢ []
+            → self.old ≡ after_undo s
+            → self.new ≡ s) }
+        ensures nothing { (result ≡ Err RedoError.NothingToRedo) ↔ (self.old.undone ≡ []) }
+        ensures unchanged { OnErr result (self.new ≡ self.old) }
+    {
+        let Some(last) = self.undone.last() else {
+            return Err(RedoError::NothingToRedo);
+        };
+        let bag = bag_moved(self.alloc, &self.bag, last)?;
+        let table = StoreTable::build(self.alloc, &bag)?;
+        self.done.reserve(1)?;
+        let number = move_last(&mut self.undone, &mut self.done);
+        self.bag = bag;
+        self.table = table;
+        Ok(number)
+    }
+
+    /// Keeps the collection and lets all changes go: nothing is left to undo or redo. It takes no memory.
+    pub fn forget(&mut self)
+        ensures state { self.new ≡ starting_at self.old.bag }
+        ensures history { history_of self.new ≡ forgotten (history_of self.old) }
+    {
+        self.done.clear();
+        self.undone.clear();
     }
 
     /// The collection that the store stands at.
@@ -120,6 +193,14 @@ impl Store {
         ensures within { IsStore self.now }
     {
         &self.bag
+    }
+
+    /// The range table of the collection that the store stands at: what queries read.
+    pub fn table(&self) -> &StoreTable
+        ensures pairs { ⟦<StoreTable as RangeTable>⟧.pairs result.now ≡ self.now.bag.held }
+        ensures table { IsRangeTable self.now.bag.held (⟦<StoreTable as RangeTable>⟧.runs result.now) }
+    {
+        &self.table
     }
 
     /// The changes that can be undone, the oldest first.

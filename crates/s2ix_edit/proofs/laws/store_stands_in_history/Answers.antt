@@ -1,4 +1,4 @@
-use Rattle.s2ix_edit.proofs.Along.{bag_at_cursor, changes_of_history, history_within}
+use Rattle.s2ix_edit.proofs.Along.{bag_at_cursor, changes_of_history, history_within, length_of_history}
 use Rattle.s2ix_edit.proofs.laws.store_stands_in_history.Goals as goal
 
 pub returns-clause-place : goal.returns-clause-place
@@ -9,3 +9,6 @@ returns-clause-within c = history_within
 
 pub returns-clause-changes : goal.returns-clause-changes
 returns-clause-changes c = changes_of_history
+
+pub returns-clause-number : goal.returns-clause-number
+returns-clause-number c = length_of_history

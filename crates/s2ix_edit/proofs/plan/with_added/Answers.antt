@@ -7,7 +7,7 @@ pub returns-in_default-clause-refused : goal.returns-in_default-clause-refused
 returns-in_default-clause-refused c =
     let h = c.in_default.ensures in
     let r = c.count-before.type_inv in
-    sum_too_high c.args.bag.now c.args.pair c.args.copies c.count-before.result c.count-before.ensures.within c.count-before.ensures.count (omega arith) (omega (arith, h))
+    sum_too_high c.args.bag.now c.args.pair c.args.copies c.count-before.result c.count-before.ensures.within c.count-before.ensures.count (omega (arith, h))
 
 pub returns-clause-plan : goal.returns-clause-plan
 returns-clause-plan c =

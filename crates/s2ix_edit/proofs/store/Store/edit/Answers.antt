@@ -5,12 +5,13 @@ use Rattle.s2ix_edit.specs.declared.errors.EditError.{EditError}
 use Rattle.s2ix_edit.specs.History.{State, IsStore}
 use Rattle.s2ix_edit.specs.Plan.{Plans, starting_at}
 use Rattle.s2ix_edit.specs.Refusals.{edit_refusal, IsEditRefusal}
+use Rattle.s2ix_edit.proofs.Led.{counts_recorded}
 use Rattle.s2ix_edit.proofs.Refused.{planned_change, planned_state, refusal_of_entries, with_room}
 use Rattle.s2ix_edit.proofs.store.Store.edit.Goals.{After-planned, In_ok-change}
 use Rattle.s2ix_edit.proofs.store.Store.edit.Goals as goal
 
 stood : (c : After-planned) → IsStore c.args.self.now
-stood c = let Stands : State → Type 0 = λ s. IsStore s in subst Stands c.self.view_is c.self.invariant
+stood c = let Stands : State → Type 0 = λ s. IsStore s in subst Stands c.self.view_is c.self.invariant.0
 
 room : (c : After-planned) → length c.args.self.now.done < changes_limit c.args.self.now.bag.limits
 room c =
@@ -22,6 +23,9 @@ plan : (c : In_ok-change) → Plans c.args.self.now.bag c.args.edit.now c.in_ok-
 plan c =
     let Carries : State → Type 0 = λ s. Plans s.bag c.args.edit.now c.in_ok-change.change in
     subst Carries c.self.view_is c.in_ok-change.ensures.plan
+
+pub planned-requires : goal.planned-requires
+planned-requires c = c.self.invariant.0.bag
 
 pub returns-in_err-change-clause-refused : goal.returns-in_err-change-clause-refused
 returns-in_err-change-clause-refused c =
@@ -61,3 +65,11 @@ returns-clause-refused c =
     let Refused : Option EditError → Type 0 = λ refusal. IsEditRefusal error refusal in
     subst Refused (refusal_of_entries c.args.self.now c.args.edit.now c.in_ok-change.change (stood a) (room a) (plan d)) refused)
     c.record_change.ensures.refused
+
+pub returns-clause-records : goal.returns-clause-records
+returns-clause-records c =
+    let d = (goal.at-returns-clause-records c).In_ok-change in
+    let a = (goal.at-returns-clause-records c).After-planned in
+    on_ok_weaker c.record_change.result
+    (λ is. counts_recorded c.args.self.now _ c.args.edit.now (stood a) (is ∙ planned_state c.args.self.now c.args.edit.now c.in_ok-change.change (stood a).bag (plan d)))
+    c.record_change.ensures.state

@@ -12,12 +12,13 @@ is_recorded : (c : After-clear) →
 is_recorded c = grind (arith, common_steps)
 
 stood : (c : After-clear) → IsStore c.args.self.now
-stood c = let Stands : State → Type 0 = λ s. IsStore s in subst Stands c.self.view_is c.self.invariant
+stood c = let Stands : State → Type 0 = λ s. IsStore s in subst Stands c.self.view_is c.self.invariant.0
 
 pub invariant_of-self-2 : goal.invariant_of-self-2
 invariant_of-self-2 c =
     let d = (goal.at.invariant_of-self-2 c).After-clear in
-    stands_recorded c.args.self.now _ c.args.change (is_recorded d) (stood d) c.requires.room c.entries-number.ensures.rises (ap (λ (s : State). apply_refusal s.bag c.args.change) (sym c.self.view_is) ∙ c.in_ok-bag.ensures.fits) c.requires.matches c.in_ok-bag.ensures.within
+    let taken = ap (λ (s : State). apply_refusal s.bag c.args.change) (sym c.self.view_is) ∙ c.in_ok-bag.ensures.fits in
+    (stands_recorded c.args.self.now _ c.args.change (is_recorded d) (stood d) c.requires.room c.entries-number.ensures.rises taken c.in_ok-bag.ensures.within, c.in_ok-table.ensures)
 
 pub returns-clause-history : goal.returns-clause-history
 returns-clause-history c =

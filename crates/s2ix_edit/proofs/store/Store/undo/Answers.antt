@@ -3,6 +3,7 @@ use Rattle.s2ix_bag.specs.declared.pair.Entry.{Entry}
 use Rattle.std.specs.List.{slice_get}
 use Rattle.s2ix_bag.specs.Change.{changed, inverse_of}
 use Rattle.s2ix_edit.specs.History.{State, history_of, holding, one_back}
+use Rattle.s2ix_edit.proofs.Led.{bag_restored}
 use Rattle.s2ix_edit.proofs.Places.{Undoes, history_undone, same_last, stands_undone}
 use Rattle.s2ix_edit.proofs.store.Store.undo.Goals.{After-move_last-number}
 use Rattle.s2ix_edit.proofs.store.Store.undo.Goals as goal
@@ -24,8 +25,13 @@ last_taken_back c =
 
 pub invariant_of-self-2 : goal.invariant_of-self-2
 invariant_of-self-2 c =
-    stands_undone _ _ _ c.self.invariant (last_taken_back (goal.at.invariant_of-self-2 c).After-move_last-number) c.in_ok-bag.ensures.within
+    (stands_undone _ _ _ c.self.invariant.0 (last_taken_back (goal.at.invariant_of-self-2 c).After-move_last-number) c.in_ok-bag.ensures.within, c.in_ok-table.ensures)
 
 pub returns-clause-history : goal.returns-clause-history
 returns-clause-history c =
-    history_undone _ _ _ c.self.invariant (last_taken_back (goal.at.returns-clause-history c).After-move_last-number) ∙ ap (λ (s : State). one_back (history_of s)) c.self.view_is
+    history_undone _ _ _ c.self.invariant.0 (last_taken_back (goal.at.returns-clause-history c).After-move_last-number) ∙ ap (λ (s : State). one_back (history_of s)) c.self.view_is
+
+pub returns-clause-restores : goal.returns-clause-restores
+returns-clause-restores c =
+    λ s edit st is.
+    bag_restored s _ _ edit _ st (c.self.view_is ∙ is) (last_taken_back (goal.at.returns-clause-restores c).After-move_last-number)
