@@ -1,5 +1,5 @@
 -- Ancestors, children, digits and the next cell, by places.
-use Rattle.std.proofs.Common.{◌≡◌, ◌≢◌, ℕ, zero, suc, ◌+◌, ◌-◌, ◌*◌, ◌/◌, ◌%◌, ◌^◌, ◌<◌, ◌≤◌, ◌⊎◌, inl, inr, min, List, [], ◌∷◌, ◌++◌, All, length, take, get_or, bit_and, sym, ◌∙◌, ap, ap₂, refl, arith, subst}
+use Rattle.std.proofs.Common.{◌≡◌, ◌≢◌, ℕ, suc, ◌+◌, ◌-◌, ◌*◌, ◌/◌, ◌%◌, ◌^◌, ◌<◌, ◌≤◌, inl, inr, List, [], ◌∷◌, ◌++◌, All, length, take, get_or, bit_and, sym, ◌∙◌, ap, ap₂, arith, subst}
 use Rattle.std.specs.Prelude.{bit_xor}
 use Rattle.std.specs.Int.{w64, leading_zeros}
 use Rattle.std.specs.Int.Bits.{xor_self, xor_assoc, xor_zero_l, xor_zero_r}
@@ -15,7 +15,7 @@ use Rattle.s2id_core.specs.Cell.{IsCellNumber}
 use Rattle.s2id_core.proofs.Powers.{two_step, four_pow, four_step}
 use Rattle.s2id_core.proofs.Numbers.{path_of_cell, place_below}
 use Rattle.s2id_core.proofs.Bits.{places_fit}
-use Rattle.s2id_core.proofs.Levels.{place_of-more, same_place, length-ancestor, IsPath-ancestor, Below, below, ancestor-ancestor, ancestor_itself, place_of-ancestor}
+use Rattle.s2id_core.proofs.Levels.{place_of-more, same_place, length-ancestor, IsPath-ancestor, ancestor-ancestor, ancestor_itself, place_of-ancestor}
 
 -- ---- one more digit
 

@@ -1,14 +1,14 @@
 -- What the code computes of a number's bits: the level, the lowest 1, and places.
-use Rattle.std.proofs.Common.{◌≡◌, ◌↔◌, ℕ, zero, suc, ◌+◌, ◌-◌, ◌*◌, ◌/◌, ◌%◌, ◌^◌, ◌<◌, ◌≤◌, ◌⊎◌, inl, inr, length, sym, ◌∙◌, ap, ap₂, refl, arith, subst}
+use Rattle.std.proofs.Common.{◌≡◌, ℕ, zero, suc, ◌+◌, ◌-◌, ◌*◌, ◌/◌, ◌%◌, ◌^◌, ◌<◌, ◌≤◌, inl, inr, length, sym, ◌∙◌, ap, ap₂, refl, arith, subst}
 use Rattle.std.specs.Int.{w64, trailing_zeros}
 use Rattle.std.proofs.Math.Nat.{le-mul_of_pos_right}
 use Rattle.std.proofs.lemmas.Bool.{cases_lt}
 use Rattle.std.proofs.lemmas.Nat.{one_shl, shr-shr}
-use Rattle.s2id_core.specs.Path.{Path, IsPath, place_of, path_at, level_at, ancestor}
+use Rattle.s2id_core.specs.Path.{Path, place_of, path_at, ancestor}
 use Rattle.s2id_core.specs.Cell.{IsCellNumber}
 use Rattle.s2id_core.proofs.Powers.{four_pow, four_step, four_pos, four_split, odd_below}
 use Rattle.s2id_core.proofs.Places.{number_by_place, length-last_digits}
-use Rattle.s2id_core.proofs.Numbers.{zeros_by_place, place_by_place, path_by_place, path_of_place, place_of-path_of_place, number-path_at, path_of_cell, place_below}
+use Rattle.s2id_core.proofs.Numbers.{zeros_by_place, place_by_place, path_by_place, place_of-path_of_place, number-path_at, path_of_cell, place_below}
 use Rattle.s2id_core.proofs.Levels.{place_of-ancestor, length-ancestor, IsPath-ancestor}
 
 -- a cell's number by its path

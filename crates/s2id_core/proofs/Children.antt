@@ -1,13 +1,12 @@
 -- The four children of a cell: their runs tile its run.
-use Rattle.std.proofs.Common.{◌≡◌, ℕ, ◌+◌, ◌-◌, ◌*◌, ◌^◌, ◌<◌, ◌≤◌, suc, length, ap, ap₂, ◌∙◌, sym, arith}
-use Rattle.s2id_core.specs.Path.{Path, place_of, path_at, ancestor, child}
-use Rattle.s2id_core.specs.Leaves.{IsWithin}
-use Rattle.s2id_core.specs.Span.{first_at, end_at, IsNested}
+use Rattle.std.proofs.Common.{◌≡◌, ℕ, ◌+◌, ◌-◌, ◌*◌, ◌^◌, ◌<◌, suc, length, ap, ◌∙◌, arith}
+use Rattle.s2id_core.specs.Path.{Path, place_of, path_at, child}
+use Rattle.s2id_core.specs.Span.{first_at, end_at}
 use Rattle.s2id_core.specs.Cell.{IsCellNumber}
 use Rattle.s2id_core.proofs.Powers.{four_step, four_pos}
 use Rattle.s2id_core.proofs.Numbers.{path_of_cell}
 use Rattle.s2id_core.proofs.Spans.{width, start}
-use Rattle.s2id_core.proofs.Nested.{Run, run}
+use Rattle.s2id_core.proofs.Nested.{run}
 use Rattle.s2id_core.proofs.Ancestry.{place_of-child, length-child}
 
 -- the run of child d of a cell: a quarter of the cell's, the d-th of four

@@ -1,15 +1,14 @@
 -- Places of ancestors, children and leaves.
-use Rattle.std.proofs.Common.{◌≡◌, ◌≢◌, ℕ, zero, suc, ◌+◌, ◌-◌, ◌*◌, ◌/◌, ◌%◌, ◌^◌, ◌<◌, ◌≤◌, ◌⊎◌, inl, inr, List, [], ◌∷◌, ◌++◌, length, take, drop, replicate, All, sym, ◌∙◌, ap, ap₂, refl, arith, subst}
-use Rattle.std.proofs.Math.Nat.{mul-le-mul_right, le_of_mul-le-mul_right}
+use Rattle.std.proofs.Common.{◌≡◌, ℕ, zero, suc, ◌+◌, ◌-◌, ◌*◌, ◌/◌, ◌^◌, ◌<◌, ◌≤◌, inl, inr, List, [], ◌∷◌, ◌++◌, length, take, drop, replicate, sym, ◌∙◌, ap, ap₂, refl, arith, subst}
 use Rattle.std.proofs.lemmas.Bool.{cases_lt}
-use Rattle.std.proofs.lemmas.List.{length-append, length-take-le, length-drop, length-replicate, take-append-drop, take-append-le, take_all, take-take}
-use Rattle.std.proofs.lemmas.List.Elements.{All-take, All-drop, All-append, All-replicate, All-cons, All-nil}
-use Rattle.std.proofs.lemmas.Nat.{same_from_place, div-mul-add, mod-mul-add}
-use Rattle.s2id_core.specs.Path.{Path, IsPath, number_of, base_four, place_of, path_at, ancestor, child, first_leaf, last_leaf}
-use Rattle.s2id_core.specs.Leaves.{IsLeafPath, IsLeafOf, IsWithin, HasLeavesWithin, Overlap}
-use Rattle.s2id_core.proofs.Powers.{four_step, four_pos, four_add, four_split}
-use Rattle.s2id_core.proofs.Places.{number_by_place, base_four_below}
-use Rattle.s2id_core.proofs.Numbers.{path_of_place, path_of_place-place_of, place_below}
+use Rattle.std.proofs.lemmas.List.{length-append, length-take-le, length-drop, length-replicate, take-append-drop, take_all, take-take}
+use Rattle.std.proofs.lemmas.List.Elements.{All-take, All-drop}
+use Rattle.std.proofs.lemmas.Nat.{same_from_place, div-mul-add}
+use Rattle.s2id_core.specs.Path.{Path, IsPath, base_four, place_of, ancestor}
+use Rattle.s2id_core.specs.Leaves.{IsWithin}
+use Rattle.s2id_core.proofs.Powers.{four_step, four_add}
+use Rattle.s2id_core.proofs.Places.{base_four_below}
+use Rattle.s2id_core.proofs.Numbers.{path_of_place, path_of_place-place_of}
 
 -- ---- digits in a row
 

@@ -1,14 +1,14 @@
 -- Runs of cell numbers: what crates above need of cells, with no power in sight.
-use Rattle.std.proofs.Common.{◌≡◌, ◌↔◌, ℕ, ◌+◌, ◌-◌, ◌*◌, ◌/◌, ◌%◌, suc, ◌^◌, ◌<◌, ◌≤◌, ◌⊎◌, inl, inr, Bool, IsTrue, length, sym, ◌∙◌, ap, ap₂, arith, subst}
+use Rattle.std.proofs.Common.{◌≡◌, ◌↔◌, ℕ, ◌+◌, ◌-◌, ◌*◌, ◌/◌, ◌%◌, suc, ◌^◌, ◌<◌, ◌≤◌, ◌⊎◌, inl, inr, Bool, IsTrue, length, sym, ◌∙◌, ap, arith}
 use Rattle.std.proofs.Math.Nat.{le-mul_of_pos_right}
 use Rattle.std.proofs.lemmas.Bool.{cases_lt}
-use Rattle.s2id_core.specs.Path.{Path, IsPath, number_of, place_of, path_at, first_leaf, last_leaf}
-use Rattle.s2id_core.specs.Leaves.{IsLeafPath, IsLeafOf, IsWithin, HasLeavesWithin, Contains, Overlap}
+use Rattle.s2id_core.specs.Path.{Path, number_of, place_of, path_at, first_leaf, last_leaf}
+use Rattle.s2id_core.specs.Leaves.{IsLeafPath, IsLeafOf, IsWithin, Contains, Overlap}
 use Rattle.s2id_core.specs.Span.{first_at, end_at, IsNested}
 use Rattle.s2id_core.specs.Cell.{IsCellNumber}
-use Rattle.s2id_core.proofs.Powers.{four_pos, four_step, level_from_width, width_split, inside_from_crossing, none_inside}
+use Rattle.s2id_core.proofs.Powers.{four_pos, four_step, level_from_width, width_split, none_inside}
 use Rattle.s2id_core.proofs.Places.{number_by_place, length-last_digits}
-use Rattle.s2id_core.proofs.Numbers.{path_of_cell, cell_of_path, path_at-number, number-path_at, path_of_place, path_by_place}
+use Rattle.s2id_core.proofs.Numbers.{path_of_cell, number-path_at, path_of_place, path_by_place}
 use Rattle.s2id_core.proofs.Levels.{below_from_within, same_place}
 use Rattle.s2id_core.proofs.Spans.{width, start, start_below, within_from_run, run_from_within, finer_within, nested_from_crossing, leaf_of_first, leaf_of_last, place_of-first_leaf, place_of-last_leaf, number_of_leaf, place_from_leaf, leaf_from_place, leaves_iff_within, overlap_from_within, nested_from_overlap}
 

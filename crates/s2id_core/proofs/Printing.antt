@@ -82,11 +82,6 @@ pub canonical_by_zeros : (n : ℕ) → 0 < n → n < 2 ^ 64 → canonical_token 
 unfolding canonical_token without_last_zeros
 canonical_by_zeros n pos below = ap₂ (λ x y. take (x - y) (sixteen_digits n)) (length-sixteen_digits n) (last_zeros n pos below)
 
--- what the code has made
-pub canonical_from_code : (n : ℕ) (bytes : List ℕ) → 0 < n → n < 2 ^ 64 → length bytes ≡ 16 → ((k : ℕ) → k < 16 → get_or bytes k 0 ≡ digit_char (n / 16 ^ (15 - k) % 16)) → take (16 - trailing_zeros w64 n / 4) bytes ≡ canonical_token n
-canonical_from_code n bytes pos below long each =
-    ap (take (16 - trailing_zeros w64 n / 4)) (sixteen_digits_by n bytes long each) ∙ sym (canonical_by_zeros n pos below)
-
 -- the digit that the code shifts out
 pub shifted_digit : (n place d : ℕ) → place < 16 → d ≡ digit_char (bit_and (n / 2 ^ (60 - 4 * place)) 15) → d ≡ digit_char (n / 16 ^ (15 - place) % 16)
 shifted_digit n place d h e =

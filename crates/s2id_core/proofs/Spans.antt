@@ -1,16 +1,14 @@
 -- Cells as runs of leaves: nested where one lies within the other, and apart where neither does.
-use Rattle.std.proofs.Common.{◌≡◌, ◌↔◌, ℕ, zero, suc, ◌+◌, ◌-◌, ◌*◌, ◌/◌, ◌%◌, ◌^◌, ◌<◌, ◌≤◌, ◌⊎◌, inl, inr, List, ◌++◌, length, replicate, All, sym, ◌∙◌, ap, ap₂, refl, arith, subst}
+use Rattle.std.proofs.Common.{◌≡◌, ◌↔◌, ℕ, ◌+◌, ◌-◌, ◌*◌, ◌^◌, ◌<◌, ◌≤◌, ◌⊎◌, inl, inr, ◌++◌, length, replicate, sym, ◌∙◌, ap, ap₂, refl, arith}
 use Rattle.std.proofs.lemmas.Bool.{cases_lt}
 use Rattle.std.proofs.lemmas.List.{length-append, length-replicate, take_at}
 use Rattle.std.proofs.lemmas.List.Elements.{All-append, All-replicate}
-use Rattle.s2id_core.specs.Path.{Path, IsPath, number_of, base_four, place_of, path_at, ancestor, first_leaf, last_leaf}
+use Rattle.s2id_core.specs.Path.{Path, IsPath, number_of, place_of, ancestor, first_leaf, last_leaf}
 use Rattle.s2id_core.specs.Leaves.{IsLeafPath, IsLeafOf, IsWithin, HasLeavesWithin, Overlap}
-use Rattle.s2id_core.specs.Span.{first_at, end_at, IsNested}
-use Rattle.s2id_core.specs.Cell.{IsCellNumber}
 use Rattle.s2id_core.proofs.Powers.{four_pos, four_split, level_from_width, width_split, run_inside, inside_from_crossing}
 use Rattle.s2id_core.proofs.Places.{number_by_place}
-use Rattle.s2id_core.proofs.Numbers.{place_below, path_of_cell}
-use Rattle.s2id_core.proofs.Levels.{base_four-zeros, base_four-threes, place_of-more, same_place, ancestor-ancestor, IsBelow, below_from_within, within_from_below}
+use Rattle.s2id_core.proofs.Numbers.{place_below}
+use Rattle.s2id_core.proofs.Levels.{base_four-zeros, base_four-threes, place_of-more, ancestor-ancestor, below_from_within, within_from_below}
 
 -- ---- a path's run, counted in leaves
 

@@ -2,6 +2,7 @@
 #![tactic(auto)]
 
 mod cell_id;
+mod hexadecimal;
 pub mod laws;
 mod memory;
 mod path;
@@ -10,6 +11,7 @@ mod relatives;
 mod token;
 
 pub use cell_id::{CellId, LEAF_END};
+pub use hexadecimal::sixteen_digits;
 pub use memory::OutOfMemory;
 pub use path::PathText;
 pub use token::{Token, TokenError};

@@ -1,9 +1,10 @@
 ghost use Rattle.std.specs.Prelude.{◌≡◌, ℕ, ◌↔◌, ◌<◌, ◌≤◌, min, length, IfOk, IfErr, IsErrOf};
-ghost use Rattle.std.specs.Char.{digit_char, digit_value};
+ghost use Rattle.std.specs.Char.{digit_value};
 ghost use Rattle.std.specs.Result.{result_ok};
 ghost use Rattle.s2id_core.specs.Token.{Spells, IsFirstNotHex, canonical_token};
 
 use crate::cell_id::CellId;
+use crate::hexadecimal::sixteen_digits;
 use thiserror::Error;
 
 /// Why a text is no token. This project's own; the faults are tested in this order.
@@ -42,9 +43,6 @@ impl Token {
         &self.bytes[..self.len]
     }
 }
-
-// The sixteen hexadecimal digits.
-const DIGITS: [u8; 16] = *b"0123456789abcdef";
 
 // What each byte is worth as a hexadecimal digit of either case; 16 where it is none.
 const DIGIT_VALUES: [u8; 256] = [
@@ -99,12 +97,8 @@ impl CellId {
         ensures { text_of result ≡ canonical_token (raw_of self) }
     {
         let raw = self.raw();
-        let mut bytes = [0u8; 16];
-        for place in 0..16 {
-            bytes[place] = lower_digit((raw >> (60 - 4 * place) & 15) as u8);
-        }
         Token {
-            bytes,
+            bytes: sixteen_digits(raw),
             len: 16 - raw.trailing_zeros() as usize / 4,
         }
     }
@@ -134,15 +128,6 @@ fn worth(byte: u8) -> u8
     ensures { result ≡ min 16 (digit_value byte) }
 {
     DIGIT_VALUES[byte as usize]
-}
-
-// The byte that writes a hexadecimal digit.
-#[inline]
-fn lower_digit(digit: u8) -> u8
-    requires { digit < 16 }
-    ensures { result ≡ digit_char digit }
-{
-    DIGITS[digit as usize]
 }
 
 #[cfg(test)]

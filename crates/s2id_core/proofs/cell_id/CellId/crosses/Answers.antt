@@ -1,6 +1,6 @@
 use Rattle.std.proofs.Common.{arith}
 use Rattle.std.proofs.lemmas.Bool.Decides.{nat_tests}
-use Rattle.s2id_core.proofs.Nested.{IsSpan, span}
+use Rattle.s2id_core.proofs.Nested.{span}
 use Rattle.s2id_core.proofs.cell_id.CellId.crosses.Goals as goal
 
 pub returns-then-raw-reach : goal.returns-then-raw-reach

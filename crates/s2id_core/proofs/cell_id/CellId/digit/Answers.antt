@@ -1,4 +1,4 @@
-use Rattle.std.proofs.Common.{bit_and, ap, ◌∙◌, arith}
+use Rattle.std.proofs.Common.{bit_and, ap, ◌∙◌}
 use Rattle.s2id_core.specs.Path.{path_at}
 use Rattle.s2id_core.proofs.Numbers.{path_of_cell}
 use Rattle.s2id_core.proofs.Ancestry.{digit_by_place}

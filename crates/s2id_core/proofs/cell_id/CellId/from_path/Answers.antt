@@ -1,7 +1,7 @@
-use Rattle.std.proofs.Common.{◌≡◌, ◌+◌, ◌*◌, ◌<◌, ◌^◌, take, get_or, All, length, refl, ap, ◌∙◌, subst, arith}
+use Rattle.std.proofs.Common.{◌≡◌, ◌<◌, get_or, All, length, refl, ap, ◌∙◌, subst, arith}
 use Rattle.std.proofs.lemmas.List.{take_all}
 use Rattle.std.proofs.lemmas.List.Elements.{All-nil, All-more}
-use Rattle.s2id_core.specs.Path.{Path, IsPath, place_of}
+use Rattle.s2id_core.specs.Path.{IsPath, place_of}
 use Rattle.s2id_core.proofs.Numbers.{place_below}
 use Rattle.s2id_core.proofs.Ancestry.{place_of_face_alone, digits_fit, digits_more, path_by_digits}
 use Rattle.s2id_core.proofs.cell_id.CellId.from_path.Goals as goal

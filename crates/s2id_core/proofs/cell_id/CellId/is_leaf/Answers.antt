@@ -1,4 +1,4 @@
-use Rattle.std.proofs.Common.{◌≡◌, ◌%◌, arith}
+use Rattle.std.proofs.Common.{arith}
 use Rattle.std.proofs.lemmas.Bool.Decides.{nat_tests}
 use Rattle.s2id_core.proofs.Bits.{leaf_by_bit, bit_by_leaf}
 use Rattle.s2id_core.proofs.cell_id.CellId.is_leaf.Goals as goal

@@ -1,4 +1,4 @@
-use Rattle.std.proofs.Common.{◌≡◌, ◌+◌, ◌*◌, ◌%◌, ◌^◌, ap, ap₂, ◌∙◌, subst, arith}
+use Rattle.std.proofs.Common.{◌≡◌, ◌+◌, ◌*◌, ◌%◌, ◌^◌, ap₂, ◌∙◌, subst, arith}
 use Rattle.s2id_core.specs.Path.{place_of, path_at, ancestor}
 use Rattle.s2id_core.proofs.Powers.{four_pos}
 use Rattle.s2id_core.proofs.Ancestry.{own_place, whole_curve, next_place, wrapped_place}

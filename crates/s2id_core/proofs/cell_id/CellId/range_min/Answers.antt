@@ -1,6 +1,5 @@
-use Rattle.std.proofs.Common.{◌≡◌, ◌/◌, ap, ◌∙◌, arith}
+use Rattle.std.proofs.Common.{◌≡◌, arith}
 use Rattle.s2id_core.specs.Path.{path_at, first_leaf}
-use Rattle.s2id_core.specs.Span.{first_at}
 use Rattle.s2id_core.proofs.Nested.{first_place, leaf_at_first, number_of_first}
 use Rattle.s2id_core.proofs.cell_id.CellId.range_min.Goals as goal
 

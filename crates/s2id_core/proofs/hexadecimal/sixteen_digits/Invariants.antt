@@ -1,7 +1,7 @@
 use Rattle.std.proofs.Common.{◌≡◌, ℕ, ◌-◌, ◌/◌, ◌%◌, ◌^◌, ◌<◌, length, get_or}
 use Rattle.std.specs.Char.{digit_char}
-use Rattle.s2id_core.proofs.cell_id.CellId.token.Given as goal
+use Rattle.s2id_core.proofs.hexadecimal.sixteen_digits.Given as goal
 
 abbrev pub invariant-loop-place : goal.invariant-loop-place
 invariant-loop-place l =
-    (length l.bytes ≡ 16) × ((k : ℕ) → k < l.place → get_or l.bytes k 0 ≡ digit_char (l.raw / 16 ^ (15 - k) % 16))
+    (length l.digits ≡ 16) × ((k : ℕ) → k < l.place → get_or l.digits k 0 ≡ digit_char (l.number / 16 ^ (15 - k) % 16))
