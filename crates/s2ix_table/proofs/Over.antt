@@ -11,7 +11,7 @@ use Rattle.s2ix_bag.specs.declared.pair.Held.{Held}
 use Rattle.s2ix_bag.specs.Collection.{Collection}
 use Rattle.s2ix_table.specs.InOrder.{chosen, inserted, Rises}
 use Rattle.s2ix_table.specs.Contents.{covers, depth_key, contents_at}
-use Rattle.s2ix_table.proofs.InOrder.{every_chosen, in_chosen, chosen_has, chosen_in, chosen_out, rises_chosen}
+use Rattle.s2ix_table.proofs.InOrder.{every_chosen, in_chosen, chosen_has, chosen_in, chosen_out, rises_chosen, length_chosen}
 
 -- the run of a held pair's cell
 pub start_of : Held → ℕ
@@ -61,6 +61,10 @@ every_content P q hs each = every_chosen P (covers q) depth_key hs (λ h held t.
 pub contents_rise : (q : ℕ) (hs : Collection) → Rises depth_key (contents_at q hs)
 unfolding contents_at
 contents_rise q hs = rises_chosen (covers q) depth_key hs
+
+pub length_contents : (q : ℕ) (hs : Collection) → length (contents_at q hs) ≤ length hs
+unfolding contents_at
+length_contents q hs = length_chosen (covers q) depth_key hs
 
 pub contents_in : (q : ℕ) (h : Held) (hs : Collection) → covers q h ≡ true → contents_at q (h ∷ hs) ≡ inserted depth_key h (contents_at q hs)
 unfolding contents_at

@@ -1,11 +1,11 @@
 -- Fronts of texts, and what went out of a text that is put part by part.
-use Rattle.std.proofs.Common.{◌≡◌, ℕ, ◌≤◌, ◌+◌, ◌<◌, List, [], ◌∷◌, ◌++◌, length, take, drop, get_or, Option, Some, Result, Ok, Err, refl, sym, ap, subst, ◌∙◌, append_assoc, append-nil, take-append-drop, length-append, arith}
+use Rattle.std.proofs.Common.{◌≡◌, ℕ, ◌≤◌, ◌+◌, ◌<◌, List, [], ◌∷◌, ◌++◌, length, take, drop, take_all, get_or, Option, Some, Result, Ok, Err, refl, sym, ap, subst, ◌∙◌, append_assoc, append-nil, take-append-drop, length-append, arith}
 use Rattle.std.specs.Prelude.{IsOk, IsErr, flat_map, slice_get}
 use Rattle.std.specs.Io.KnownBytes.{Keeps, Appends}
 use Rattle.std.proofs.lemmas.Bool.{false≢true}
-use Rattle.std.proofs.lemmas.List.{drop_more, take_more}
+use Rattle.std.proofs.lemmas.List.{drop_more, take_more, length_push}
 use Rattle.std.proofs.lemmas.List.Concat.{flat_map-append}
-use Rattle.std.proofs.lemmas.Option.{slice_get_within, get_or_from_slice_get}
+use Rattle.std.proofs.lemmas.Option.{slice_get_within, slice_get_read, get_or_from_slice_get}
 use Rattle.std.proofs.KnownBytes.{Appends-nil, Appends-trans, Appends-kept}
 use Rattle.s2ix_text.specs.Puts.{IsFront, AppendsFront, Puts}
 
@@ -144,3 +144,19 @@ pub AppendsFront-flat_map_item : {X : Type 0} (f : X → List ℕ) (old mid new 
     → Appends old mid (flat_map f (take i xs)) → AppendsFront mid new (f x) → AppendsFront old new (flat_map f xs)
 AppendsFront-flat_map_item f old mid new xs i x h e p q =
     AppendsFront-flat_map f old mid new xs i x h p (subst (λ y. AppendsFront mid new (f y)) e q)
+
+-- a loop over the items of a list went on by one: their texts went out up to and with that of this item
+pub Appends-flat_map_turn : {X : Type 0} (f : X → List ℕ) (old mid new : Option (List ℕ)) (xs done : List X) (x : X) → (length done < length xs) × (x ≡ get_or xs (length done) x)
+    → Appends old mid (flat_map f (take (length done) xs)) → Appends mid new (f x) → Appends old new (flat_map f (take (length (done ++ x ∷ [])) xs))
+Appends-flat_map_turn f old mid new xs done x h p q =
+    subst (λ (n : ℕ). Appends old new (flat_map f (take n xs))) (sym (length_push done x))
+    (Appends-flat_map f old mid new xs (length done) x (slice_get_read xs (length xs) (length done) x refl h.0 h.1) p q)
+
+-- a loop over the items of a list met a fault in the text of this item
+pub AppendsFront-flat_map_turn : {X : Type 0} (f : X → List ℕ) (old mid new : Option (List ℕ)) (xs done : List X) (x : X) → (length done < length xs) × (x ≡ get_or xs (length done) x)
+    → Appends old mid (flat_map f (take (length done) xs)) → AppendsFront mid new (f x) → AppendsFront old new (flat_map f xs)
+AppendsFront-flat_map_turn f old mid new xs done x h p q = AppendsFront-flat_map_item f old mid new xs (length done) x h.0 h.1 p q
+
+-- a loop over the items of a list came to its end: the texts of all went out
+pub Appends-flat_map_end : {X : Type 0} (f : X → List ℕ) (old new : Option (List ℕ)) (xs : List X) (i : ℕ) → i ≡ length xs → Appends old new (flat_map f (take i xs)) → Appends old new (flat_map f xs)
+Appends-flat_map_end {X} f old new xs i h p = subst (λ (ys : List X). Appends old new (flat_map f ys)) (take_all i xs (omega arith)) p

@@ -5,3 +5,4 @@ pub mod Journal
 pub mod Laws
 pub mod Pieces
 pub mod Puts
+pub mod Queries

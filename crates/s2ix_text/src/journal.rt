@@ -1,48 +1,36 @@
 ghost use Rattle.std.specs.Prelude.{◌≡◌, ◌+◌, ◌-◌, ◌^◌, ◌<◌, flat_map};
 ghost use Rattle.s2ix_text.specs.Faults.{write_faults};
-ghost use Rattle.s2ix_text.specs.Journal.{change_line, entry_line, group_text, journal_text, last_line};
+ghost use Rattle.s2ix_text.specs.Journal.{change_line, entry_line, group_text, journal_text};
 ghost use Rattle.s2ix_text.specs.Puts.{Puts};
 
+use super::list::{Line, write_end_of_list, write_lines};
 use super::{Sink, WriteFault, put_all, put_parts};
 use itoa::Buffer;
 use s2ix_bag::{Change, Entry};
 
-// Writes the line of an entry.
-#[tactic(auto, unfolding(crate::specs::Journal::entry_line))]
-fn write_entry<K: Sink>(entry: Entry, sink: &mut K) -> Result<(), WriteFault>
-    requires { K.fault_count sink.old < 2 ^ 64 - 1 }
-    ensures puts { Puts (K.taken sink.old) (K.taken sink.new) result (entry_line entry) }
-    ensures faults { K.fault_count sink.new ≡ K.fault_count sink.old + write_faults result }
-{
-    let token = entry.pair.cell.token();
-    let mut label = Buffer::new();
-    let mut before = Buffer::new();
-    let mut after = Buffer::new();
-    put_parts(
-        sink,
-        &[
-            token.as_bytes(),
-            b" ",
-            label.format(entry.pair.label.get()).as_bytes(),
-            b" ",
-            before.format(entry.before).as_bytes(),
-            b" ",
-            after.format(entry.after).as_bytes(),
-            b"\n",
-        ],
-    )
-}
+impl Line for Entry {
+    ghost line = { entry_line };
 
-// Writes the lines of all entries of a change, in rising order.
-fn write_entries<K: Sink>(entries: &[Entry], sink: &mut K) -> Result<(), WriteFault>
-    requires { K.fault_count sink.old < 2 ^ 64 - 1 }
-    ensures puts { Puts (K.taken sink.old) (K.taken sink.new) result (flat_map entry_line entries.now) }
-    ensures faults { K.fault_count sink.new ≡ K.fault_count sink.old + write_faults result }
-{
-    for entry in entries {
-        write_entry(*entry, sink)?;
+    #[tactic(auto, unfolding(crate::specs::Journal::entry_line))]
+    fn write_line<K: Sink>(self, sink: &mut K) -> Result<(), WriteFault> {
+        let token = self.pair.cell.token();
+        let mut label = Buffer::new();
+        let mut before = Buffer::new();
+        let mut after = Buffer::new();
+        put_parts(
+            sink,
+            &[
+                token.as_bytes(),
+                b" ",
+                label.format(self.pair.label.get()).as_bytes(),
+                b" ",
+                before.format(self.before).as_bytes(),
+                b" ",
+                after.format(self.after).as_bytes(),
+                b"\n",
+            ],
+        )
     }
-    Ok(())
 }
 
 // Writes the line above the entries of a change.
@@ -71,7 +59,7 @@ fn write_group<K: Sink>(change: &Change, sink: &mut K) -> Result<(), WriteFault>
 {
     let entries = change.entries();
     write_change_line(entries, sink)?;
-    write_entries(entries, sink)
+    write_lines(entries, sink)
 }
 
 // Writes the groups of all changes.
@@ -86,24 +74,6 @@ fn write_groups<K: Sink>(changes: &[Change], sink: &mut K) -> Result<(), WriteFa
     Ok(())
 }
 
-// Writes the last line.
-#[tactic(auto, unfolding(crate::specs::Journal::last_line))]
-fn write_last<K: Sink>(changes: &[Change], sink: &mut K) -> Result<(), WriteFault>
-    requires { K.fault_count sink.old < 2 ^ 64 - 1 }
-    ensures puts { Puts (K.taken sink.old) (K.taken sink.new) result (last_line changes.now) }
-    ensures faults { K.fault_count sink.new ≡ K.fault_count sink.old + write_faults result }
-{
-    let mut number = Buffer::new();
-    put_parts(
-        sink,
-        &[
-            b"end ".as_slice(),
-            number.format(changes.len()).as_bytes(),
-            b"\n",
-        ],
-    )
-}
-
 /// Writes the journal of a list of changes: for each change, the oldest first, a line that counts its entries and
 /// one line for each entry, between a header and a line that counts the changes.
 ///
@@ -116,5 +86,5 @@ pub fn write_journal<K: Sink>(changes: &[Change], sink: &mut K) -> Result<(), Wr
 {
     put_all(sink, b"s2ix-journal 1\n")?;
     write_groups(changes, sink)?;
-    write_last(changes, sink)
+    write_end_of_list(changes.len(), sink)
 }

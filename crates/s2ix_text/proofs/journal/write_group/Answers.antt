@@ -17,6 +17,6 @@ returns-in_err-write_change_line-clause-puts g c =
 pub returns-clause-puts : goal.returns-clause-puts
 unfolding group_text
 returns-clause-puts g c =
-    let PutsGroup : List Entry → Type 0 = λ es. Puts (g.K.Sink.taken c.args.sink.now) (g.K.Sink.taken c.write_entries.new.sink) c.write_entries.result (group_text es) in
+    let PutsGroup : List Entry → Type 0 = λ es. Puts (g.K.Sink.taken c.args.sink.now) (g.K.Sink.taken c.write_lines.new.sink) c.write_lines.result (group_text es) in
     subst PutsGroup c.entries-entries.ensures.list
-    (Puts-after _ _ _ _ (change_line c.entries-entries.result.now) (flat_map entry_line c.entries-entries.result.now) c.in_ok-write_change_line.ensures.puts c.write_entries.ensures.puts)
+    (Puts-after _ _ _ _ (change_line c.entries-entries.result.now) (flat_map entry_line c.entries-entries.result.now) c.in_ok-write_change_line.ensures.puts c.write_lines.ensures.puts)

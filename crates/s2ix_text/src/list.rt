@@ -1,0 +1,78 @@
+ghost use Rattle.std.specs.Prelude.{◌≡◌, ◌+◌, ◌-◌, ◌^◌, ◌<◌, ℕ, List, flat_map};
+ghost use Rattle.s2ix_text.specs.Faults.{write_faults};
+ghost use Rattle.s2ix_text.specs.Puts.{Puts};
+ghost use Rattle.s2ix_text.specs.Queries.{end_of_list, held_line, label_line, list_text};
+
+use super::pair::write_pair_between;
+use super::{Sink, WriteFault, put_parts};
+use itoa::Buffer;
+use s2ix_bag::{Held, Label};
+
+/// What stands on a line of its own in a list. This project's own.
+pub trait Line: Copy {
+    // the line, with its line feed
+    ghost line: { Self → List ℕ };
+
+    /// Writes the line. It takes no memory and does not flush. At the first fault of the sink it ends, when a front of the line went out.
+    fn write_line<K: Sink>(self, sink: &mut K) -> Result<(), WriteFault>
+        requires { K.fault_count sink.old < 2 ^ 64 - 1 }
+        ensures puts { Puts (K.taken sink.old) (K.taken sink.new) result (line self) }
+        ensures faults { K.fault_count sink.new ≡ K.fault_count sink.old + write_faults result };
+}
+
+impl Line for Held {
+    ghost line = { held_line };
+
+    #[tactic(auto, unfolding(crate::specs::Queries::held_line))]
+    fn write_line<K: Sink>(self, sink: &mut K) -> Result<(), WriteFault> {
+        write_pair_between(b"", self, b"\n", sink)
+    }
+}
+
+impl Line for Label {
+    ghost line = { label_line };
+
+    #[tactic(auto, unfolding(crate::specs::Queries::label_line))]
+    fn write_line<K: Sink>(self, sink: &mut K) -> Result<(), WriteFault> {
+        let mut number = Buffer::new();
+        put_parts(sink, &[number.format(self.get()).as_bytes(), b"\n"])
+    }
+}
+
+// Writes the lines of all items, in order.
+pub(crate) fn write_lines<A: Line, K: Sink>(items: &[A], sink: &mut K) -> Result<(), WriteFault>
+    requires { K.fault_count sink.old < 2 ^ 64 - 1 }
+    ensures puts { Puts (K.taken sink.old) (K.taken sink.new) result (flat_map A.line items.now) }
+    ensures faults { K.fault_count sink.new ≡ K.fault_count sink.old + write_faults result }
+{
+    for item in items {
+        item.write_line(sink)?;
+    }
+    Ok(())
+}
+
+// Writes the last line of a list.
+#[tactic(auto, unfolding(crate::specs::Queries::end_of_list))]
+pub(crate) fn write_end_of_list<K: Sink>(count: usize, sink: &mut K) -> Result<(), WriteFault>
+    requires { K.fault_count sink.old < 2 ^ 64 - 1 }
+    ensures puts { Puts (K.taken sink.old) (K.taken sink.new) result (end_of_list count) }
+    ensures faults { K.fault_count sink.new ≡ K.fault_count sink.old + write_faults result }
+{
+    let mut number = Buffer::new();
+    put_parts(
+        sink,
+        &[b"end ".as_slice(), number.format(count).as_bytes(), b"\n"],
+    )
+}
+
+/// Writes a list: each item on a line of its own, in order, and then `end` with the number of items.
+///
+/// It takes no memory and does not flush. At the first fault of the sink it ends, when a front of the list went out. O(n) for n items.
+pub fn write_list<A: Line, K: Sink>(items: &[A], sink: &mut K) -> Result<(), WriteFault>
+    requires { K.fault_count sink.old < 2 ^ 64 - 1 }
+    ensures puts { Puts (K.taken sink.old) (K.taken sink.new) result (list_text A.line items.now) }
+    ensures faults { K.fault_count sink.new ≡ K.fault_count sink.old + write_faults result }
+{
+    write_lines(items, sink)?;
+    write_end_of_list(items.len(), sink)
+}

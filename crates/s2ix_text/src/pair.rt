@@ -1,0 +1,37 @@
+ghost use Rattle.std.specs.Prelude.{◌≡◌, ◌+◌, ◌-◌, ◌^◌, ◌<◌, ◌++◌};
+ghost use Rattle.s2ix_text.specs.Faults.{write_faults};
+ghost use Rattle.s2ix_text.specs.Puts.{Puts};
+ghost use Rattle.s2ix_text.specs.Queries.{pair_text};
+
+use super::{Sink, WriteFault, put_parts};
+use itoa::Buffer;
+use s2ix_bag::Held;
+
+// Writes a held pair as queries print it, between two texts.
+#[tactic(auto, unfolding(crate::specs::Queries::pair_text))]
+pub(crate) fn write_pair_between<K: Sink>(
+    before: &[u8],
+    held: Held,
+    behind: &[u8],
+    sink: &mut K,
+) -> Result<(), WriteFault>
+    requires { K.fault_count sink.old < 2 ^ 64 - 1 }
+    ensures puts { Puts (K.taken sink.old) (K.taken sink.new) result (before.now ++ (pair_text held ++ behind.now)) }
+    ensures faults { K.fault_count sink.new ≡ K.fault_count sink.old + write_faults result }
+{
+    let token = held.pair.cell.token();
+    let mut label = Buffer::new();
+    let mut count = Buffer::new();
+    put_parts(
+        sink,
+        &[
+            before,
+            token.as_bytes(),
+            b":",
+            label.format(held.pair.label.get()).as_bytes(),
+            b":",
+            count.format(held.count).as_bytes(),
+            behind,
+        ],
+    )
+}

@@ -1,0 +1,93 @@
+ghost use Rattle.std.specs.Prelude.{◌≡◌, ◌+◌, ◌-◌, ◌^◌, ◌<◌, flat_map, length};
+ghost use Rattle.s2id_core.specs.CellId.{level_of, raw_of};
+ghost use Rattle.s2ix_table.specs.Contents.{contents_at};
+ghost use Rattle.s2ix_table.specs.Table.{run_at};
+ghost use Rattle.s2ix_text.specs.Faults.{write_faults};
+ghost use Rattle.s2ix_text.specs.Puts.{Puts};
+ghost use Rattle.s2ix_text.specs.Queries.{bounds_text, held_line, list_text, run_line, spaced_pair};
+
+use super::list::write_end_of_list;
+use super::pair::write_pair_between;
+use super::{Sink, WriteFault, put_all, put_parts};
+use s2id_core::{CellId, sixteen_digits};
+use s2ix_table::{RangeRow, RangeTable, chain_at, contents};
+
+/// Writes what lies over a leaf as a list of pairs, innermost cell first.
+///
+/// It takes no memory and does not flush. At the first fault of the sink it ends, when a front of the list went out. O(log n + m)
+/// for n ranges and m pairs over the leaf. This project's own.
+pub fn write_contents<T: RangeTable, K: Sink>(
+    table: &T,
+    leaf: CellId,
+    sink: &mut K,
+) -> Result<(), WriteFault>
+    requires counts { K.fault_count sink.old < 2 ^ 64 - 1 }
+    requires leaf { level_of leaf ≡ 30 }
+    requires few { length (T.pairs table.now) < 2 ^ 64 }
+    ensures puts { Puts (K.taken sink.old) (K.taken sink.new) result (list_text held_line (contents_at (raw_of leaf) (T.pairs table.now))) }
+    ensures faults { K.fault_count sink.new ≡ K.fault_count sink.old + write_faults result }
+{
+    let mut count = 0;
+    for held in chain_at(table, leaf) {
+        write_pair_between(b"", held, b"\n", sink)?;
+        count += 1;
+    }
+    write_end_of_list(count, sink)
+}
+
+// Writes the bounds of a range.
+#[tactic(auto, unfolding(crate::specs::Queries::bounds_text))]
+fn write_bounds<K: Sink>(range: RangeRow, sink: &mut K) -> Result<(), WriteFault>
+    requires { K.fault_count sink.old < 2 ^ 64 - 1 }
+    ensures puts { Puts (K.taken sink.old) (K.taken sink.new) result (bounds_text range.start range.limit) }
+    ensures faults { K.fault_count sink.new ≡ K.fault_count sink.old + write_faults result }
+{
+    let start = sixteen_digits(range.start);
+    let limit = sixteen_digits(range.limit);
+    put_parts(sink, &[start.as_slice(), b" ", limit.as_slice()])
+}
+
+// Writes the pairs of a range, innermost cell first, each behind a space.
+fn write_range_pairs<T: RangeTable, K: Sink>(
+    table: &T,
+    k: usize,
+    sink: &mut K,
+) -> Result<(), WriteFault>
+    requires counts { K.fault_count sink.old < 2 ^ 64 - 1 }
+    requires within { k < length (T.runs table.now) }
+    ensures puts { Puts (K.taken sink.old) (K.taken sink.new) result (flat_map spaced_pair (run_at (T.runs table.now) k).contents) }
+    ensures faults { K.fault_count sink.new ≡ K.fault_count sink.old + write_faults result }
+{
+    for held in contents(table, k) {
+        write_pair_between(b" ", held, b"", sink)?;
+    }
+    Ok(())
+}
+
+// Writes the line of a range.
+fn write_range<T: RangeTable, K: Sink>(table: &T, k: usize, sink: &mut K) -> Result<(), WriteFault>
+    requires counts { K.fault_count sink.old < 2 ^ 64 - 1 }
+    requires within { k < length (T.runs table.now) }
+    ensures puts { Puts (K.taken sink.old) (K.taken sink.new) result (run_line (run_at (T.runs table.now) k)) }
+    ensures faults { K.fault_count sink.new ≡ K.fault_count sink.old + write_faults result }
+{
+    write_bounds(table.range(k), sink)?;
+    write_range_pairs(table, k, sink)?;
+    put_all(sink, b"\n")
+}
+
+/// Writes the ranges of a table as a list, in order: on one line for each its bounds in sixteen hexadecimal digits, and
+/// its pairs, innermost cell first.
+///
+/// It takes no memory and does not flush. At the first fault of the sink it ends, when a front of the list went out. O(n + m) for
+/// n ranges with m pairs in all. This project's own.
+pub fn write_ranges<T: RangeTable, K: Sink>(table: &T, sink: &mut K) -> Result<(), WriteFault>
+    requires { K.fault_count sink.old < 2 ^ 64 - 1 }
+    ensures puts { Puts (K.taken sink.old) (K.taken sink.new) result (list_text run_line (T.runs table.now)) }
+    ensures faults { K.fault_count sink.new ≡ K.fault_count sink.old + write_faults result }
+{
+    for k in 0..table.range_count() {
+        write_range(table, k, sink)?;
+    }
+    write_end_of_list(table.range_count(), sink)
+}
