@@ -1,5 +1,2 @@
 mod Reached
 mod Steps
-pub mod ScriptLines
-pub mod ScriptNumbers
-mod CellFields

@@ -11,7 +11,7 @@ use Rattle.s2ix_cli.specs.declared.outcome.RunEnd.{RunEnd}
 use Rattle.s2ix_cli.specs.declared.outcome.RunFault.{RunFault}
 use Rattle.s2ix_cli.specs.declared.outcome.RunFault.TheVariants.{Read, Write, OutOfMemory, ReaderTooLong}
 use Rattle.s2ix_cli.specs.Carry.{is_counted, is_refused, Takes, StopsAt, StopsAmong}
-use Rattle.s2ix_cli.specs.Lines.{lines_of}
+use Rattle.s2ix_script.specs.Lines.{lines_of}
 use Rattle.s2ix_cli.specs.Script.{after, output_of, counted_in, refused_in, carried, MOST, Finishes, StopsAfter}
 use Rattle.s2ix_cli.specs.Step.{step_of}
 

@@ -1,19 +1,21 @@
--- What single steps come to, and what was carried out of them.
+-- What single moves come to, by what the store answers.
 use Rattle.std.proofs.Common.{◌≡◌, ◌≢◌, ◌-◌, ℕ, List, [], ◌∷◌, Option, None, Some, refl, sym, ap, ◌∙◌, subst, length, arith}
 use Rattle.std.specs.Prelude.{codes, slice_get}
-use Rattle.std.specs.Io.KnownBytes.{Appends}
 use Rattle.std.proofs.lemmas.Option.{slice_get-get_or}
-use Rattle.s2ix_text.specs.Puts.{AppendsFront}
 use Rattle.s2ix_edit.specs.declared.edit.Edit.{Edit}
 use Rattle.s2ix_edit.specs.declared.errors.EditError.{EditError}
 use Rattle.s2ix_edit.specs.declared.errors.EditError.TheVariants.{JournalFull, NoSuchLabel, NotHeld, NoChange, TooManyCopies, TooManyPairs, OutOfMemory}
 use Rattle.s2ix_edit.specs.History.{State, after_edit, after_undo, after_redo, change_of, undo_size, redo_size}
 use Rattle.s2ix_edit.specs.Refusals.{edit_refusal, IsEditRefusal}
-use Rattle.s2ix_cli.specs.declared.outcome.LineOutcome.TheVariants.{Accepted, Refused}
-use Rattle.s2ix_cli.specs.declared.outcome.RunFault.TheVariants.{Write}
-use Rattle.s2ix_cli.specs.Carry.{Takes, StopsAt}
-use Rattle.s2ix_cli.specs.Names.{edit_error_name}
-use Rattle.s2ix_cli.specs.Step.{Step, accepted, refused, no_line, ok_line, edit_step, edit_step_at, undo_step, undo_step_at, redo_step, redo_step_at}
+use Rattle.s2ix_edit.specs.declared.errors.RedoError.{RedoError}
+use Rattle.s2ix_edit.specs.declared.errors.RedoError.TheVariants.{NothingToRedo}
+use Rattle.s2ix_edit.specs.declared.errors.UndoError.{UndoError}
+use Rattle.s2ix_edit.specs.declared.errors.UndoError.TheVariants.{NothingToUndo}
+use Rattle.s2ix_cli.specs.declared.moves.Refusal.{Refusal}
+use Rattle.s2ix_cli.specs.declared.moves.Refusal.TheVariants as refusal
+use Rattle.s2ix_cli.specs.Moves.{IsOfEdit, IsOfRedo, IsOfUndo, IsRefusedFor}
+use Rattle.s2ix_script.specs.Names.{edit_error_name}
+use Rattle.s2ix_cli.specs.Step.{accepted, refused, edit_step, edit_step_at, undo_step, undo_step_at, redo_step, redo_step_at}
 
 -- ---- what an edit comes to
 
@@ -34,6 +36,11 @@ edit_step-refused s edit TooManyCopies name e other is = ap (edit_step_at s edit
 edit_step-refused s edit TooManyPairs name e other is = ap (edit_step_at s edit) e ∙ ap (refused s) (sym is)
 edit_step-refused s edit OutOfMemory name e other is = absurd (other refl)
 
+-- an edit that the store stays for
+pub edit_step-stays : (s : State) (edit : Edit) (error : EditError) (why : Refusal) → IsEditRefusal error (edit_refusal s edit) → IsOfEdit error why → IsRefusedFor s (edit_step s edit) why
+edit_step-stays s edit error (refusal.Named name) e is = edit_step-refused s edit error name.now e is.1 is.0
+edit_step-stays s edit error refusal.OutOfMemory e is = tt
+
 -- ---- what an undo and a redo come to
 
 -- the last of a list that is not empty
@@ -51,6 +58,11 @@ pub undo_step-refused : (s : State) → s.done ≡ [] → undo_step s ≡ refuse
 unfolding undo_step
 undo_step-refused s none = ap (undo_step_at s) (ap (λ xs. slice_get xs (length xs - 1)) none)
 
+-- an undo that the store stays for
+pub undo_step-stays : (s : State) (error : UndoError) (why : Refusal) → (error ≡ NothingToUndo → s.done ≡ []) → IsOfUndo error why → IsRefusedFor s (undo_step s) why
+undo_step-stays s error (refusal.Named name) nothing is = undo_step-refused s (nothing is.1) ∙ ap (refused s) (sym is.0)
+undo_step-stays s error refusal.OutOfMemory nothing is = tt
+
 -- a redo where a change was undone
 pub redo_step-accepted : (s : State) (n : ℕ) → (s.undone ≡ [] → ⊥) → n ≡ redo_size s → redo_step s ≡ accepted (after_redo s) n
 unfolding redo_step
@@ -61,26 +73,7 @@ pub redo_step-refused : (s : State) → s.undone ≡ [] → redo_step s ≡ refu
 unfolding redo_step
 redo_step-refused s none = ap (redo_step_at s) (ap (λ xs. slice_get xs (length xs - 1)) none)
 
--- ---- what was carried out
-
--- an accepted step whose answer was put
-pub Takes-accepted : (step : Step) (stands new : State) (n : ℕ) (before behind : Option (List ℕ)) → step ≡ accepted stands n → new ≡ stands → Appends before behind (ok_line n)
-    → Takes step new before behind Accepted
-Takes-accepted step stands new n before behind e here put =
-    subst (λ x. Takes x new before behind Accepted) (sym e) (record { store = here; output = put; counted = refl; refused = refl })
-
--- a refused step whose answer was put
-pub Takes-refused : (step : Step) (stands new : State) (name : List ℕ) (before behind : Option (List ℕ)) → step ≡ refused stands name → new ≡ stands → Appends before behind (no_line name)
-    → Takes step new before behind Refused
-Takes-refused step stands new name before behind e here put =
-    subst (λ x. Takes x new before behind Refused) (sym e) (record { store = here; output = put; counted = refl; refused = refl })
-
--- an accepted step whose answer the sink failed to take
-pub StopsAt-accepted : (step : Step) (old stands new : State) (n : ℕ) (before behind : Option (List ℕ)) → step ≡ accepted stands n → new ≡ stands → AppendsFront before behind (ok_line n)
-    → StopsAt step old new before behind Write
-StopsAt-accepted step old stands new n before behind e here put = subst (λ x. StopsAt x old new before behind Write) (sym e) (here, put)
-
--- a refused step whose answer the sink failed to take
-pub StopsAt-refused : (step : Step) (old stands new : State) (name : List ℕ) (before behind : Option (List ℕ)) → step ≡ refused stands name → new ≡ stands → AppendsFront before behind (no_line name)
-    → StopsAt step old new before behind Write
-StopsAt-refused step old stands new name before behind e here put = subst (λ x. StopsAt x old new before behind Write) (sym e) (here, put)
+-- a redo that the store stays for
+pub redo_step-stays : (s : State) (error : RedoError) (why : Refusal) → (error ≡ NothingToRedo → s.undone ≡ []) → IsOfRedo error why → IsRefusedFor s (redo_step s) why
+redo_step-stays s error (refusal.Named name) nothing is = redo_step-refused s (nothing is.1) ∙ ap (refused s) (sym is.0)
+redo_step-stays s error refusal.OutOfMemory nothing is = tt

@@ -4,7 +4,7 @@ use Rattle.std.specs.Io.KnownBytes.{Appends, IsAtEnd}
 use Rattle.s2ix_edit.specs.History.{State}
 use Rattle.s2ix_text.specs.Puts.{AppendsFront}
 use Rattle.s2ix_cli.specs.declared.outcome.RunEnd.{RunEnd}
-use Rattle.s2ix_cli.specs.Lines.{lines_of}
+use Rattle.s2ix_script.specs.Lines.{lines_of}
 use Rattle.s2ix_cli.specs.Step.{step_of}
 
 -- the store after lines

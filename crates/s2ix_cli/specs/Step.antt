@@ -1,9 +1,9 @@
 -- What one line of a script comes to.
-use Rattle.std.specs.Prelude.{ℕ, codes, decimal, Bool, true, false, Option, Some, None, Result, Ok, Err, List, [], ◌∷◌, length}
+use Rattle.std.specs.Prelude.{ℕ, ◌==◌, if◌then◌else◌, codes, decimal, Bool, true, false, Option, Some, None, Result, Ok, Err, List, [], ◌∷◌, length}
 use Rattle.std.specs.List.{concat}
 use Rattle.s2ix_bag.specs.declared.pair.Entry.{Entry}
 use Rattle.s2id_core.specs.declared.cell_id.CellId.{CellId}
-use Rattle.s2id_core.specs.CellId.{path_of}
+use Rattle.s2id_core.specs.CellId.{level_of, path_of, raw_of}
 use Rattle.s2id_core.specs.Path.{readable_path}
 use Rattle.s2id_core.specs.Token.{canonical_token}
 use Rattle.s2id_cube.specs.declared.face_ij.FaceIj.{FaceIj}
@@ -15,12 +15,21 @@ use Rattle.s2ix_edit.specs.History.{State, after_edit, after_undo, after_redo, c
 use Rattle.s2ix_edit.specs.Plan.{starting_at}
 use Rattle.s2ix_edit.specs.Refusals.{edit_refusal}
 use Rattle.s2ix_text.specs.Dump.{dump_text}
+use Rattle.s2ix_table.specs.Contents.{contents_at}
+use Rattle.s2ix_table.specs.LabelList.{label_list}
+use Rattle.s2ix_table.specs.Meeting.{meeting_of}
+use Rattle.s2ix_table.specs.RangeList.{range_table}
 use Rattle.s2ix_text.specs.Journal.{journal_text}
-use Rattle.s2ix_cli.specs.declared.command.Command.{Command}
-use Rattle.s2ix_cli.specs.declared.command.Command.TheVariants as command
-use Rattle.s2ix_cli.specs.declared.command.LineFault.{LineFault}
-use Rattle.s2ix_cli.specs.Meaning.{meaning_of}
-use Rattle.s2ix_cli.specs.Names.{fault_name, edit_error_name}
+use Rattle.s2ix_text.specs.Queries.{held_line, label_line, list_text, run_line}
+use Rattle.s2ix_script.specs.declared.command.Command.{Command}
+use Rattle.s2ix_script.specs.declared.command.Command.TheVariants as command
+use Rattle.s2ix_script.specs.declared.command.LineFault.{LineFault}
+use Rattle.s2ix_script.specs.declared.command.Move.{Move}
+use Rattle.s2ix_script.specs.declared.command.Move.TheVariants as move
+use Rattle.s2ix_script.specs.declared.command.Query.{Query}
+use Rattle.s2ix_script.specs.declared.command.Query.TheVariants as query
+use Rattle.s2ix_script.specs.Meaning.{meaning_of}
+use Rattle.s2ix_script.specs.Names.{fault_name, edit_error_name}
 
 -- the store after a line, what the line prints, and whether it counts as a line and as a refused one
 pub record Step : Type 0 where
@@ -96,17 +105,33 @@ redo_step_at s (Some change) = accepted (after_redo s) (redo_size s)
 unfoldable pub redo_step : State → Step
 redo_step s = redo_step_at s (last_undone s)
 
+-- what `at` comes to: the pairs over a leaf; a cell that is no leaf is refused
+abbrev pub at_step : State → CellId → Step
+at_step s cell = if level_of cell == 30 then shown s (list_text held_line (contents_at (raw_of cell) s.bag.held)) else refused s (codes "NotLeaf")
+
+-- what a query comes to
+abbrev pub query_step : State → Query → Step
+query_step s (query.At cell) = at_step s cell
+query_step s (query.Meet target) = shown s (list_text held_line (meeting_of target s.bag.held))
+query_step s (query.Labels target) = shown s (list_text label_line (label_list (meeting_of target s.bag.held)))
+query_step s query.Ranges = shown s (list_text run_line (range_table s.bag.held))
+query_step s (query.Path cell) = shown s (path_line cell)
+query_step s (query.Neighbors cell) = shown s (neighbors_line cell)
+query_step s (query.Face cell) = shown s (square_line (square_of (path_of cell)))
+query_step s query.Dump = shown s (dump_text s.bag.held)
+query_step s query.Journal = shown s (journal_text s.done)
+
+-- what a move comes to
+abbrev pub move_step : State → Move → Step
+move_step s (move.Edit edit) = edit_step s edit
+move_step s move.Undo = undo_step s
+move_step s move.Redo = redo_step s
+move_step s move.Forget = accepted (starting_at s.bag) 0
+
 -- what a command comes to
 abbrev pub command_step : State → Command → Step
-command_step s (command.Edit edit) = edit_step s edit
-command_step s command.Undo = undo_step s
-command_step s command.Redo = redo_step s
-command_step s command.Forget = accepted (starting_at s.bag) 0
-command_step s (command.Path cell) = shown s (path_line cell)
-command_step s (command.Neighbors cell) = shown s (neighbors_line cell)
-command_step s (command.Face cell) = shown s (square_line (square_of (path_of cell)))
-command_step s command.Dump = shown s (dump_text s.bag.held)
-command_step s command.Journal = shown s (journal_text s.done)
+command_step s (command.Move asked) = move_step s asked
+command_step s (command.Query asked) = query_step s asked
 
 -- what a line of this meaning comes to
 abbrev pub step_at : State → Result (Option Command) LineFault → Step

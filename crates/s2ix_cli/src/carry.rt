@@ -2,16 +2,15 @@
 ghost use Rattle.std.specs.Prelude.{◌≡◌, ◌+◌, ◌-◌, ◌^◌, ◌<◌};
 ghost use Rattle.s2ix_cli.specs.Carry.{Carries};
 ghost use Rattle.s2ix_cli.specs.Faults.{sink_faults};
-ghost use Rattle.s2ix_cli.specs.Step.{command_step, edit_step, redo_step, step_of, undo_step};
+ghost use Rattle.s2ix_cli.specs.Step.{command_step, move_step, step_of};
 
-use crate::answer::{put_neighbors, put_no, put_ok, put_path, put_square};
-use crate::command::{Command, LineError};
-use crate::names::edit_error_name;
+use crate::answer::{put_no, put_ok};
+use crate::moves::{Refusal, moved};
 use crate::outcome::{LineOutcome, RunFault};
-use crate::parse::meaning;
-use s2id_cube::to_face_ij;
-use s2ix_edit::{Edit, EditError, RedoError, Store, UndoError};
-use s2ix_text::{Sink, write_dump, write_journal};
+use crate::query::answer_query;
+use s2ix_edit::Store;
+use s2ix_script::{Command, LineError, Move, meaning};
+use s2ix_text::Sink;
 use std::alloc::Global;
 
 // Carries a line out, and prints its answer.
@@ -29,7 +28,7 @@ pub(crate) fn carry_out<K: Sink>(
     match meaning(alloc, line) {
         Ok(asked) => match asked {
             None => Ok(LineOutcome::PassedOver),
-            Some(command) => carry_command(store, sink, command),
+            Some(command) => carry_command(alloc, store, sink, command),
         },
         Err(LineError::Fault(fault)) => {
             put_no(sink, fault.name())?;
@@ -41,6 +40,7 @@ pub(crate) fn carry_out<K: Sink>(
 
 // Carries a command out, and prints its answer.
 fn carry_command<K: Sink>(
+    alloc: Global,
     store: &mut Store,
     sink: &mut K,
     command: Command,
@@ -50,96 +50,30 @@ fn carry_command<K: Sink>(
     ensures faults { K.fault_count sink.new ≡ K.fault_count sink.old + sink_faults result }
 {
     match command {
-        Command::Edit(edit) => carry_edit(store, sink, &edit),
-        Command::Undo => carry_undo(store, sink),
-        Command::Redo => carry_redo(store, sink),
-        Command::Forget => {
-            store.forget();
-            put_ok(sink, 0)?;
-            Ok(LineOutcome::Accepted)
-        }
-        Command::Path(cell) => {
-            put_path(sink, cell)?;
-            Ok(LineOutcome::Accepted)
-        }
-        Command::Neighbors(cell) => {
-            put_neighbors(sink, cell)?;
-            Ok(LineOutcome::Accepted)
-        }
-        Command::Face(cell) => {
-            put_square(sink, to_face_ij(cell))?;
-            Ok(LineOutcome::Accepted)
-        }
-        Command::Dump => {
-            write_dump(store.bag(), sink)?;
-            Ok(LineOutcome::Accepted)
-        }
-        Command::Journal => {
-            write_journal(store.done(), sink)?;
-            Ok(LineOutcome::Accepted)
-        }
+        Command::Move(asked) => carry_move(store, sink, asked),
+        Command::Query(query) => answer_query(alloc, store, sink, query),
     }
 }
 
-// Carries an edit out, and prints its answer.
-fn carry_edit<K: Sink>(
+// Moves a store, and prints how many pairs changed their counts, or why it stays.
+fn carry_move<K: Sink>(
     store: &mut Store,
     sink: &mut K,
-    edit: &Edit,
+    asked: Move,
 ) -> Result<LineOutcome, RunFault>
     requires { K.fault_count sink.old < 2 ^ 64 - 1 }
-    ensures carries { Carries (edit_step store.old edit.now) store.old store.new (K.taken sink.old) (K.taken sink.new) result }
+    ensures carries { Carries (move_step store.old asked) store.old store.new (K.taken sink.old) (K.taken sink.new) result }
     ensures faults { K.fault_count sink.new ≡ K.fault_count sink.old + sink_faults result }
 {
-    match store.edit(edit) {
+    match moved(store, asked) {
         Ok(pairs) => {
             put_ok(sink, pairs)?;
             Ok(LineOutcome::Accepted)
         }
-        Err(error) => match error {
-            EditError::OutOfMemory => Err(RunFault::OutOfMemory),
-            _ => {
-                put_no(sink, edit_error_name(error))?;
-                Ok(LineOutcome::Refused)
-            }
-        },
-    }
-}
-
-// Takes the last change back, and prints its answer.
-fn carry_undo<K: Sink>(store: &mut Store, sink: &mut K) -> Result<LineOutcome, RunFault>
-    requires { K.fault_count sink.old < 2 ^ 64 - 1 }
-    ensures carries { Carries (undo_step store.old) store.old store.new (K.taken sink.old) (K.taken sink.new) result }
-    ensures faults { K.fault_count sink.new ≡ K.fault_count sink.old + sink_faults result }
-{
-    match store.undo() {
-        Ok(pairs) => {
-            put_ok(sink, pairs)?;
-            Ok(LineOutcome::Accepted)
-        }
-        Err(UndoError::NothingToUndo) => {
-            put_no(sink, "NothingToUndo")?;
+        Err(Refusal::Named(name)) => {
+            put_no(sink, name)?;
             Ok(LineOutcome::Refused)
         }
-        Err(UndoError::OutOfMemory) => Err(RunFault::OutOfMemory),
-    }
-}
-
-// Does the last undone change again, and prints its answer.
-fn carry_redo<K: Sink>(store: &mut Store, sink: &mut K) -> Result<LineOutcome, RunFault>
-    requires { K.fault_count sink.old < 2 ^ 64 - 1 }
-    ensures carries { Carries (redo_step store.old) store.old store.new (K.taken sink.old) (K.taken sink.new) result }
-    ensures faults { K.fault_count sink.new ≡ K.fault_count sink.old + sink_faults result }
-{
-    match store.redo() {
-        Ok(pairs) => {
-            put_ok(sink, pairs)?;
-            Ok(LineOutcome::Accepted)
-        }
-        Err(RedoError::NothingToRedo) => {
-            put_no(sink, "NothingToRedo")?;
-            Ok(LineOutcome::Refused)
-        }
-        Err(RedoError::OutOfMemory) => Err(RunFault::OutOfMemory),
+        Err(Refusal::OutOfMemory) => Err(RunFault::OutOfMemory),
     }
 }

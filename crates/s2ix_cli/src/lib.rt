@@ -1,21 +1,14 @@
-//! Scripts: lines of commands carried out over a store.
+//! Runs of scripts: their lines carried out over a store, and the answers printed.
 #![tactic(auto)]
 
 mod answer;
 mod carry;
-mod command;
-mod lines;
-mod names;
-mod numbers;
+mod moves;
 mod outcome;
-mod parse;
+mod query;
 mod reading;
 mod script;
 
-pub use command::{Command, LineError, LineFault};
-pub use lines::Lines;
-pub use names::edit_error_name;
 pub use outcome::{RunEnd, RunFault, RunOptions};
-pub use parse::{LONGEST_LINE, meaning};
 pub use reading::read_whole;
 pub use script::run;

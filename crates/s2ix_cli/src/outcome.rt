@@ -109,3 +109,11 @@ impl From<AllocError> for RunFault {
         RunFault::OutOfMemory
     }
 }
+
+impl From<s2id_core::OutOfMemory> for RunFault {
+    ghost from_gives = { λ _ fault. fault ≡ OutOfMemory };
+
+    fn from(_error: s2id_core::OutOfMemory) -> RunFault {
+        RunFault::OutOfMemory
+    }
+}

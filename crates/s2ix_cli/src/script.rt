@@ -3,14 +3,14 @@ ghost use Rattle.std.specs.Prelude.{◌≡◌, ◌≢◌, ℕ, ◌+◌, ◌-◌,
 ghost use Rattle.std.specs.Io.KnownBytes.{Consumes, IsAtEnd};
 ghost use Rattle.s2ix_cli.specs.Carry.{StopsAmong};
 ghost use Rattle.s2ix_cli.specs.Faults.{source_faults, sink_faults, IsPatient};
-ghost use Rattle.s2ix_cli.specs.Lines.{lines_of};
+ghost use Rattle.s2ix_script.specs.Lines.{lines_of};
 ghost use Rattle.s2ix_cli.specs.Script.{Finishes, StopsAfter};
 
 use crate::carry::carry_out;
-use crate::lines::Lines;
 use crate::outcome::{RunEnd, RunFault, RunOptions};
 use crate::reading::read_whole;
 use s2ix_edit::Store;
+use s2ix_script::Lines;
 use s2ix_text::{Sink, Source};
 use std::alloc::Global;
 

@@ -199,6 +199,7 @@ impl Store {
     pub fn table(&self) -> &StoreTable
         ensures pairs { ⟦<StoreTable as RangeTable>⟧.pairs result.now ≡ self.now.bag.held }
         ensures table { IsRangeTable self.now.bag.held (⟦<StoreTable as RangeTable>⟧.runs result.now) }
+        ensures within { IsStore self.now }
     {
         &self.table
     }

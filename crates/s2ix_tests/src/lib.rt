@@ -15,6 +15,8 @@ mod journal_tests;
 #[cfg(test)]
 mod line_tests;
 #[cfg(test)]
+mod list_tests;
+#[cfg(test)]
 mod meaning_tests;
 #[cfg(test)]
 mod model;
@@ -22,6 +24,8 @@ mod model;
 mod model_tests;
 #[cfg(test)]
 mod plain;
+#[cfg(test)]
+mod query_tests;
 #[cfg(test)]
 mod random;
 #[cfg(test)]

@@ -1,6 +1,7 @@
 // Lines, and the names that refused lines are answered by.
-use s2ix_cli::{LineFault, Lines, edit_error_name};
 use s2ix_edit::EditError;
+use s2ix_script::{LineError, LineFault, Lines, edit_error_name};
+use std::test::Fail;
 
 #[test]
 fn lines_end_at_line_feeds_alone(rt: HostRuntime) {
@@ -32,4 +33,13 @@ fn names_are_those_of_the_variants(rt: HostRuntime) {
     assert_eq!(rt; LineFault::BadArguments.name(), "BadArguments");
     assert_eq!(rt; edit_error_name(EditError::JournalFull), "JournalFull");
     assert_eq!(rt; edit_error_name(EditError::TooManyPairs), "TooManyPairs");
+}
+
+#[test]
+fn faults_have_texts(rt: HostRuntime) -> Result<(), Fail> {
+    let text = format!(in rt.alloc(); "{}", LineError::Fault(LineFault::BadCommand))?;
+    assert_eq!(rt; text.as_str(), "no command");
+    let text = format!(in rt.alloc(); "{}", LineError::OutOfMemory)?;
+    assert_eq!(rt; text.as_str(), "out of memory");
+    Ok(())
 }

@@ -1,8 +1,8 @@
 // What lines ask for, and the faults of lines that ask for nothing.
 use s2id_core::CellId;
 use s2ix_bag::{Label, Pair};
-use s2ix_cli::{Command, LineError, LineFault, meaning};
 use s2ix_edit::Edit;
+use s2ix_script::{Command, LineError, LineFault, Move, Query, meaning};
 use std::alloc::Global;
 use std::test::Fail;
 
@@ -47,6 +47,11 @@ fn the_first_fault_is_answered(rt: HostRuntime) {
         (b"redo 1".as_slice(), LineFault::BadArguments),
         (b"forget 1".as_slice(), LineFault::BadArguments),
         (b"journal 1".as_slice(), LineFault::BadArguments),
+        (b"at".as_slice(), LineFault::BadArguments),
+        (b"at x x".as_slice(), LineFault::BadArguments),
+        (b"meet".as_slice(), LineFault::BadArguments),
+        (b"labels".as_slice(), LineFault::BadArguments),
+        (b"ranges 1".as_slice(), LineFault::BadArguments),
     ] {
         assert!(rt; fault_of(rt.alloc(), line) == Some(fault));
     }
@@ -59,7 +64,12 @@ fn white_space_is_that_of_unicode(rt: HostRuntime) {
         b"\tundo\x0b".as_slice(),
         b"\xc2\x85undo\xe2\x80\x83".as_slice(),
     ] {
-        assert!(rt; matches!(meaning(rt.alloc(), line), Ok(Some(Command::Undo))));
+        assert!(rt;
+            matches!(
+                meaning(rt.alloc(), line),
+                Ok(Some(Command::Move(Move::Undo)))
+            )
+        );
     }
     for (line, fault, why) in [
         (
@@ -127,7 +137,7 @@ fn fields_name_a_pair_and_copies(rt: HostRuntime) -> Result<(), Fail> {
         assert!(rt;
             matches!(
                 asked,
-                Ok(Some(Command::Edit(Edit::Add { pair, copies: asked_copies })))
+                Ok(Some(Command::Move(Move::Edit(Edit::Add { pair, copies: asked_copies }))))
                     if pair == wanted && asked_copies == copies
             )
         );
@@ -156,7 +166,38 @@ fn the_first_unfit_field_decides(rt: HostRuntime) {
         (b"addunion x y".as_slice(), LineFault::BadLabel),
         (b"addunion 9 y 04".as_slice(), LineFault::BadToken),
         (b"addunion 9 04 2".as_slice(), LineFault::BadToken),
+        (b"at x".as_slice(), LineFault::BadToken),
+        (b"meet 04 2".as_slice(), LineFault::BadToken),
+        (b"labels x 04".as_slice(), LineFault::BadToken),
     ] {
         assert!(rt; fault_of(rt.alloc(), line) == Some(fault));
     }
+}
+
+#[test]
+fn tokens_name_a_target(rt: HostRuntime) -> Result<(), Fail> {
+    let face = CellId::from_token(b"1")?;
+    let asked = meaning(rt.alloc(), b"meet 1c 04 14 0C 04");
+    assert!(rt;
+        matches!(
+            asked,
+            Ok(Some(Command::Query(Query::Meet(target)))) if target.cells() == [face].as_slice()
+        )
+    );
+    let asked = meaning(rt.alloc(), b"labels 1 1d");
+    assert!(rt;
+        matches!(
+            asked,
+            Ok(Some(Command::Query(Query::Labels(target)))) if target.cells() == [face].as_slice()
+        )
+    );
+    let asked = meaning(rt.alloc(), b"at 1");
+    assert!(rt; matches!(asked, Ok(Some(Command::Query(Query::At(cell)))) if cell == face));
+    assert!(rt;
+        matches!(
+            meaning(rt.alloc(), b"ranges"),
+            Ok(Some(Command::Query(Query::Ranges)))
+        )
+    );
+    Ok(())
 }

@@ -1,6 +1,6 @@
 -- How far the lines are carried out; no call has failed.
 use Rattle.std.proofs.Common.{◌≡◌}
-use Rattle.s2ix_cli.specs.Lines.{lines_of}
+use Rattle.s2ix_script.specs.Lines.{lines_of}
 use Rattle.s2ix_cli.proofs.Reached.{Reached}
 use Rattle.s2ix_cli.proofs.script.carry_lines.Given as goal
 

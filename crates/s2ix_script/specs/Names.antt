@@ -1,0 +1,25 @@
+-- The names that a refused line is answered by.
+use Rattle.std.specs.Prelude.{ℕ, List, codes}
+use Rattle.s2ix_edit.specs.declared.errors.EditError.{EditError}
+use Rattle.s2ix_edit.specs.declared.errors.EditError.TheVariants as edit
+use Rattle.s2ix_script.specs.declared.command.LineFault.{LineFault}
+use Rattle.s2ix_script.specs.declared.command.LineFault.TheVariants as fault
+
+-- the name of a line's fault
+abbrev pub fault_name : LineFault → List ℕ
+fault_name fault.LineTooLong = codes "LineTooLong"
+fault_name fault.BadCommand = codes "BadCommand"
+fault_name fault.BadArguments = codes "BadArguments"
+fault_name fault.BadToken = codes "BadToken"
+fault_name fault.BadLabel = codes "BadLabel"
+fault_name fault.BadCount = codes "BadCount"
+
+-- the name of an edit's refusal; want of memory is no answer of a line, and has a name all the same
+abbrev pub edit_error_name : EditError → List ℕ
+edit_error_name edit.JournalFull = codes "JournalFull"
+edit_error_name edit.NoSuchLabel = codes "NoSuchLabel"
+edit_error_name edit.NotHeld = codes "NotHeld"
+edit_error_name edit.NoChange = codes "NoChange"
+edit_error_name edit.TooManyCopies = codes "TooManyCopies"
+edit_error_name edit.TooManyPairs = codes "TooManyPairs"
+edit_error_name edit.OutOfMemory = codes "OutOfMemory"

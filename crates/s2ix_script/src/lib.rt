@@ -1,0 +1,13 @@
+//! Scripts: their lines, what each line asks for, and the names by which lines are refused.
+#![tactic(auto)]
+
+mod command;
+mod lines;
+mod names;
+mod numbers;
+mod parse;
+
+pub use command::{Command, LineError, LineFault, Move, Query};
+pub use lines::Lines;
+pub use names::edit_error_name;
+pub use parse::{LONGEST_LINE, meaning};

@@ -1,0 +1,38 @@
+//! The names by which refusals are printed.
+ghost use Rattle.std.specs.Prelude.{◌≡◌};
+ghost use Rattle.s2ix_script.specs.Names.{edit_error_name as name_of_edit_error, fault_name};
+
+use crate::command::LineFault;
+use s2ix_edit::EditError;
+
+impl LineFault {
+    /// The name by which a line with this fault is answered, as `no NAME`.
+    pub fn name(self) -> &'static str
+        ensures { result.now ≡ fault_name self }
+    {
+        match self {
+            LineFault::LineTooLong => "LineTooLong",
+            LineFault::BadCommand => "BadCommand",
+            LineFault::BadArguments => "BadArguments",
+            LineFault::BadToken => "BadToken",
+            LineFault::BadLabel => "BadLabel",
+            LineFault::BadCount => "BadCount",
+        }
+    }
+}
+
+/// The name by which a line whose edit is refused is answered, as `no NAME`. Want of memory ends a run and is
+/// never printed; its name is that of its variant.
+pub fn edit_error_name(error: EditError) -> &'static str
+    ensures { result.now ≡ name_of_edit_error error }
+{
+    match error {
+        EditError::JournalFull => "JournalFull",
+        EditError::NoSuchLabel => "NoSuchLabel",
+        EditError::NotHeld => "NotHeld",
+        EditError::NoChange => "NoChange",
+        EditError::TooManyCopies => "TooManyCopies",
+        EditError::TooManyPairs => "TooManyPairs",
+        EditError::OutOfMemory => "OutOfMemory",
+    }
+}
