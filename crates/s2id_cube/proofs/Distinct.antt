@@ -8,44 +8,29 @@ use Rattle.s2id_core.specs.CellId.{path_of}
 use Rattle.s2id_cube.specs.Square.{square_of}
 use Rattle.s2id_cube.specs.Edge.{SharesSide}
 use Rattle.s2id_cube.specs.Grid.{Spot, spot, mid_u, mid_v, middle}
-use Rattle.s2id_cube.proofs.Cases.{three, four, six}
+use Rattle.s2id_cube.proofs.Cases.{three, four, six, four_by_four}
 use Rattle.s2id_cube.proofs.Grid.{coordinate, AtSide, IsStep, sided, beside_on_face, on_face_of, axes_apart, at_height, even_height}
 use Rattle.s2id_cube.proofs.Shared.{one_path, at_side_first, at_side_second}
 
 -- a step tells its side
 step_side : (i j a b m : ℕ) → m < 4 → (n : ℕ) → n < 4 → IsStep m i j a b → IsStep n i j a b → m ≡ n
-step_side i j a b m hm n hn =
-    four (λ m. (n : ℕ) → n < 4 → IsStep m i j a b → IsStep n i j a b → m ≡ n)
-    (four (λ n. IsStep 0 i j a b → IsStep n i j a b → 0 ≡ n)
-    (λ h k. refl) (λ h k. let x = h.0 refl in let y = k.1 refl in omega arith) (λ h k. let x = h.0 refl in let y = k.2 refl in omega arith) (λ h k. let x = h.0 refl in let y = k.3 refl in omega arith))
-    (four (λ n. IsStep 1 i j a b → IsStep n i j a b → 1 ≡ n)
-    (λ h k. let x = h.1 refl in let y = k.0 refl in omega arith) (λ h k. refl) (λ h k. let x = h.1 refl in let y = k.2 refl in omega arith) (λ h k. let x = h.1 refl in let y = k.3 refl in omega arith))
-    (four (λ n. IsStep 2 i j a b → IsStep n i j a b → 2 ≡ n)
-    (λ h k. let x = h.2 refl in let y = k.0 refl in omega arith) (λ h k. let x = h.2 refl in let y = k.1 refl in omega arith) (λ h k. refl) (λ h k. let x = h.2 refl in let y = k.3 refl in omega arith))
-    (four (λ n. IsStep 3 i j a b → IsStep n i j a b → 3 ≡ n)
-    (λ h k. let x = h.3 refl in let y = k.0 refl in omega arith) (λ h k. let x = h.3 refl in let y = k.1 refl in omega arith) (λ h k. let x = h.3 refl in let y = k.2 refl in omega arith) (λ h k. refl))
-    m hm n hn
+step_side i j a b m hm n hn h =
+    four (λ m. IsStep m i j a b → IsStep n i j a b → m ≡ n) (
+      λ h. let x = h.0 refl in four (λ n. IsStep n i j a b → 0 ≡ n) (omega arith, λ k. omega (arith, k.1 refl), λ k. omega (arith, k.2 refl), λ k. omega (arith, k.3 refl)) n hn,
+      λ h. let x = h.1 refl in four (λ n. IsStep n i j a b → 1 ≡ n) (λ k. omega (arith, k.0 refl), omega arith, λ k. omega (arith, k.2 refl), λ k. omega (arith, k.3 refl)) n hn,
+      λ h. let x = h.2 refl in four (λ n. IsStep n i j a b → 2 ≡ n) (λ k. omega (arith, k.0 refl), λ k. omega (arith, k.1 refl), omega arith, λ k. omega (arith, k.3 refl)) n hn,
+      λ h. let x = h.3 refl in four (λ n. IsStep n i j a b → 3 ≡ n) (λ k. omega (arith, k.0 refl), λ k. omega (arith, k.1 refl), λ k. omega (arith, k.2 refl), omega arith) n hn,
+    )
+    m hm h
 
 -- an even column or row of a side's middle tells the side
-side_by_column : (i m : ℕ) → m < 4 → (n : ℕ) → n < 4 → mid_u m i ≡ mid_u n i → mid_u m i % 2 ≡ 0 → m ≡ n
+side_by_column : (i m n : ℕ) → m < 4 → n < 4 → mid_u m i ≡ mid_u n i → mid_u m i % 2 ≡ 0 → m ≡ n
 unfolding mid_u
-side_by_column i m hm n hn =
-    four (λ m. (n : ℕ) → n < 4 → mid_u m i ≡ mid_u n i → mid_u m i % 2 ≡ 0 → m ≡ n)
-    (four (λ n. mid_u 0 i ≡ mid_u n i → mid_u 0 i % 2 ≡ 0 → 0 ≡ n) (λ e h. omega arith) (λ e h. omega arith) (λ e h. omega arith) (λ e h. omega arith))
-    (four (λ n. mid_u 1 i ≡ mid_u n i → mid_u 1 i % 2 ≡ 0 → 1 ≡ n) (λ e h. omega arith) (λ e h. omega arith) (λ e h. omega arith) (λ e h. omega arith))
-    (four (λ n. mid_u 2 i ≡ mid_u n i → mid_u 2 i % 2 ≡ 0 → 2 ≡ n) (λ e h. omega arith) (λ e h. omega arith) (λ e h. omega arith) (λ e h. omega arith))
-    (four (λ n. mid_u 3 i ≡ mid_u n i → mid_u 3 i % 2 ≡ 0 → 3 ≡ n) (λ e h. omega arith) (λ e h. omega arith) (λ e h. omega arith) (λ e h. omega arith))
-    m hm n hn
+side_by_column i = four_by_four (λ m n. mid_u m i ≡ mid_u n i → mid_u m i % 2 ≡ 0 → m ≡ n) (omega arith)
 
-side_by_row : (j m : ℕ) → m < 4 → (n : ℕ) → n < 4 → mid_v m j ≡ mid_v n j → mid_v m j % 2 ≡ 0 → m ≡ n
+side_by_row : (j m n : ℕ) → m < 4 → n < 4 → mid_v m j ≡ mid_v n j → mid_v m j % 2 ≡ 0 → m ≡ n
 unfolding mid_v
-side_by_row j m hm n hn =
-    four (λ m. (n : ℕ) → n < 4 → mid_v m j ≡ mid_v n j → mid_v m j % 2 ≡ 0 → m ≡ n)
-    (four (λ n. mid_v 0 j ≡ mid_v n j → mid_v 0 j % 2 ≡ 0 → 0 ≡ n) (λ e h. omega arith) (λ e h. omega arith) (λ e h. omega arith) (λ e h. omega arith))
-    (four (λ n. mid_v 1 j ≡ mid_v n j → mid_v 1 j % 2 ≡ 0 → 1 ≡ n) (λ e h. omega arith) (λ e h. omega arith) (λ e h. omega arith) (λ e h. omega arith))
-    (four (λ n. mid_v 2 j ≡ mid_v n j → mid_v 2 j % 2 ≡ 0 → 2 ≡ n) (λ e h. omega arith) (λ e h. omega arith) (λ e h. omega arith) (λ e h. omega arith))
-    (four (λ n. mid_v 3 j ≡ mid_v n j → mid_v 3 j % 2 ≡ 0 → 3 ≡ n) (λ e h. omega arith) (λ e h. omega arith) (λ e h. omega arith) (λ e h. omega arith))
-    m hm n hn
+side_by_row j = four_by_four (λ m n. mid_v m j ≡ mid_v n j → mid_v m j % 2 ≡ 0 → m ≡ n) (omega arith)
 
 -- a coordinate off the face's own axis tells the column or the row
 abbrev Tells : ℕ → ℕ → ℕ → ℕ → ℕ → ℕ → ℕ → Type 0
@@ -54,13 +39,14 @@ Tells n u v x y f a = a ≢ f % 3 → coordinate a (spot (2 * n) f u v) ≡ coor
 tells : (n u v x y : ℕ) → u ≤ 2 * n → v ≤ 2 * n → x ≤ 2 * n → y ≤ 2 * n → (f : ℕ) → f < 6 → (a : ℕ) → a < 3 → Tells n u v x y f a
 unfolding spot coordinate
 tells n u v x y hu hv hx hy f hf a ha =
-    six (λ f. (a : ℕ) → a < 3 → Tells n u v x y f a)
-    (three (Tells n u v x y 0) (λ o e h. absurd (o refl)) (λ o e h. inl (omega arith, omega arith)) (λ o e h. inr (omega arith, omega arith)))
-    (three (Tells n u v x y 1) (λ o e h. inl (omega arith, omega arith)) (λ o e h. absurd (o refl)) (λ o e h. inr (omega arith, omega arith)))
-    (three (Tells n u v x y 2) (λ o e h. inl (omega arith, omega arith)) (λ o e h. inr (omega arith, omega arith)) (λ o e h. absurd (o refl)))
-    (three (Tells n u v x y 3) (λ o e h. absurd (o refl)) (λ o e h. inr (omega arith, omega arith)) (λ o e h. inl (omega arith, omega arith)))
-    (three (Tells n u v x y 4) (λ o e h. inr (omega arith, omega arith)) (λ o e h. absurd (o refl)) (λ o e h. inl (omega arith, omega arith)))
-    (three (Tells n u v x y 5) (λ o e h. inr (omega arith, omega arith)) (λ o e h. inl (omega arith, omega arith)) (λ o e h. absurd (o refl)))
+    six (λ f. (a : ℕ) → a < 3 → Tells n u v x y f a) (
+      three (Tells n u v x y 0) (λ o e h. absurd (o refl), λ o e h. inl (omega arith), λ o e h. inr (omega arith)),
+      three (Tells n u v x y 1) (λ o e h. inl (omega arith), λ o e h. absurd (o refl), λ o e h. inr (omega arith)),
+      three (Tells n u v x y 2) (λ o e h. inl (omega arith), λ o e h. inr (omega arith), λ o e h. absurd (o refl)),
+      three (Tells n u v x y 3) (λ o e h. absurd (o refl), λ o e h. inr (omega arith), λ o e h. inl (omega arith)),
+      three (Tells n u v x y 4) (λ o e h. inr (omega arith), λ o e h. absurd (o refl), λ o e h. inl (omega arith)),
+      three (Tells n u v x y 5) (λ o e h. inr (omega arith), λ o e h. inl (omega arith), λ o e h. absurd (o refl)),
+    )
     f hf a ha
 
 -- two squares have at most one side in common
@@ -79,8 +65,8 @@ one_common_side n m k f i j o r g a b p q sp tp sq tq apart =
           let at_q = ap (coordinate (g % 3)) sq.at ∙ at_height n r g a b q tq in
           let even = ap (λ x. x % 2) at_p ∙ even_height n g tp.face in
           elim (tells n (mid_u m i) (mid_v m j) (mid_u k i) (mid_v k j) hm.u_small hm.v_small hk.u_small hk.v_small f sp.face (g % 3) (omega arith) (λ e. axis (sym e)) (at_p ∙ sym at_q) even) [
-            | inl t ↦ side_by_column i m sp.is_side k sq.is_side t.0 t.1
-            | inr t ↦ side_by_row j m sp.is_side k sq.is_side t.0 t.1
+            | inl t ↦ side_by_column i m k sp.is_side sq.is_side t.0 t.1
+            | inr t ↦ side_by_row j m k sp.is_side sq.is_side t.0 t.1
           ]
     ]
 

@@ -1,11 +1,15 @@
 -- Points of the cube in whole numbers, counted from its lowest corner in squares of one level: n of them to a side.
-use Rattle.std.proofs.Common.{◌≡◌, ◌≢◌, ℕ, zero, suc, ◌+◌, ◌-◌, ◌*◌, ◌%◌, ◌<◌, ◌≤◌, ◌⊎◌, inl, inr, sym, ◌∙◌, ap, ap₂, refl, arith, subst}
+use Rattle.std.proofs.Common.{◌≡◌, ◌≢◌, ℕ, zero, suc, ◌+◌, ◌*◌, ◌%◌, ◌<◌, ◌≤◌, ◌⊎◌, inl, inr, sym, ◌∙◌, ap, refl, arith, subst}
 use Rattle.std.proofs.lemmas.Bool.{cases_eq}
 use Rattle.s2id_cube.specs.Grid.{Spot, spot, mid_u, mid_v, middle}
 use Rattle.s2id_cube.proofs.Cases.{three, four, six}
 
-pub spot_is : (a b c d e f : ℕ) → a ≡ d → b ≡ e → c ≡ f → let s : Spot = record { x = a; y = b; z = c } in let t : Spot = record { x = d; y = e; z = f } in s ≡ t
-spot_is a b c d e f p q r = ap₂ (λ x y. let s : Spot = record { x = x; y = y; z = c } in s) p q ∙ ap (λ z. let s : Spot = record { x = d; y = e; z = z } in s) r
+-- two points by their coordinates
+abbrev pub AreOneSpot : Spot → Spot → Type 0
+AreOneSpot s t = (s.x ≡ t.x) × (s.y ≡ t.y) × (s.z ≡ t.z)
+
+pub spot_is : {s t : Spot} → AreOneSpot s t → s ≡ t
+spot_is h = λ k. record { x = h.0 k; y = h.1 k; z = h.2 k }
 
 unfoldable pub coordinate : ℕ → Spot → ℕ
 coordinate zero s = s.x
@@ -38,19 +42,20 @@ v_axis (suc (suc (suc (suc (suc f))))) = 0
 
 pub on_face : (n u v f : ℕ) → f < 6 → coordinate (f % 3) (spot n f u v) ≡ height n f
 unfolding spot coordinate height
-on_face n u v f h = six (λ f. coordinate (f % 3) (spot n f u v) ≡ height n f) refl refl refl refl refl refl f h
+on_face n u v f h = six (λ f. coordinate (f % 3) (spot n f u v) ≡ height n f) (refl, refl, refl, refl, refl, refl) f h
 
 -- strictly within a face the other two coordinates lie strictly within the cube
 pub strictly : (n u v : ℕ) → 0 < u → u < n → 0 < v → v < n → (f : ℕ) → f < 6 → (a : ℕ) → a < 3 → a ≢ f % 3 → (0 < coordinate a (spot n f u v)) × (coordinate a (spot n f u v) < n)
 unfolding spot coordinate
 strictly n u v hu hu' hv hv' f hf a ha =
-    six (λ f. (a : ℕ) → a < 3 → a ≢ f % 3 → (0 < coordinate a (spot n f u v)) × (coordinate a (spot n f u v) < n))
-    (three (λ a. a ≢ 0 → (0 < coordinate a (spot n 0 u v)) × (coordinate a (spot n 0 u v) < n)) (λ h. absurd (h refl)) (λ h. (omega arith, omega arith)) (λ h. (omega arith, omega arith)))
-    (three (λ a. a ≢ 1 → (0 < coordinate a (spot n 1 u v)) × (coordinate a (spot n 1 u v) < n)) (λ h. (omega arith, omega arith)) (λ h. absurd (h refl)) (λ h. (omega arith, omega arith)))
-    (three (λ a. a ≢ 2 → (0 < coordinate a (spot n 2 u v)) × (coordinate a (spot n 2 u v) < n)) (λ h. (omega arith, omega arith)) (λ h. (omega arith, omega arith)) (λ h. absurd (h refl)))
-    (three (λ a. a ≢ 0 → (0 < coordinate a (spot n 3 u v)) × (coordinate a (spot n 3 u v) < n)) (λ h. absurd (h refl)) (λ h. (omega arith, omega arith)) (λ h. (omega arith, omega arith)))
-    (three (λ a. a ≢ 1 → (0 < coordinate a (spot n 4 u v)) × (coordinate a (spot n 4 u v) < n)) (λ h. (omega arith, omega arith)) (λ h. absurd (h refl)) (λ h. (omega arith, omega arith)))
-    (three (λ a. a ≢ 2 → (0 < coordinate a (spot n 5 u v)) × (coordinate a (spot n 5 u v) < n)) (λ h. (omega arith, omega arith)) (λ h. (omega arith, omega arith)) (λ h. absurd (h refl)))
+    six (λ f. (a : ℕ) → a < 3 → a ≢ f % 3 → (0 < coordinate a (spot n f u v)) × (coordinate a (spot n f u v) < n)) (
+      three (λ a. a ≢ 0 → (0 < coordinate a (spot n 0 u v)) × (coordinate a (spot n 0 u v) < n)) (omega arith),
+      three (λ a. a ≢ 1 → (0 < coordinate a (spot n 1 u v)) × (coordinate a (spot n 1 u v) < n)) (omega arith),
+      three (λ a. a ≢ 2 → (0 < coordinate a (spot n 2 u v)) × (coordinate a (spot n 2 u v) < n)) (omega arith),
+      three (λ a. a ≢ 0 → (0 < coordinate a (spot n 3 u v)) × (coordinate a (spot n 3 u v) < n)) (omega arith),
+      three (λ a. a ≢ 1 → (0 < coordinate a (spot n 4 u v)) × (coordinate a (spot n 4 u v) < n)) (omega arith),
+      three (λ a. a ≢ 2 → (0 < coordinate a (spot n 5 u v)) × (coordinate a (spot n 5 u v) < n)) (omega arith),
+    )
     f hf a ha
 
 -- the other two coordinates are odd where the column or the row is
@@ -66,27 +71,14 @@ pub record Parities (n f u v : ℕ) : Type 0 where
 pub parities : (n u v : ℕ) → u ≤ 2 * n → v ≤ 2 * n → (f : ℕ) → f < 6 → Parities n f u v
 unfolding spot coordinate u_axis v_axis
 parities n u v hu hv f hf =
-    six (λ f. Parities n f u v)
-    (record { u_below = omega arith; v_below = omega arith; u_off = λ e. absurd (omega arith); v_off = λ e. absurd (omega arith); off = λ e. absurd (omega arith); along_u = omega arith; along_v = omega arith })
-    (record { u_below = omega arith; v_below = omega arith; u_off = λ e. absurd (omega arith); v_off = λ e. absurd (omega arith); off = λ e. absurd (omega arith); along_u = omega arith; along_v = omega arith })
-    (record { u_below = omega arith; v_below = omega arith; u_off = λ e. absurd (omega arith); v_off = λ e. absurd (omega arith); off = λ e. absurd (omega arith); along_u = omega arith; along_v = omega arith })
-    (record { u_below = omega arith; v_below = omega arith; u_off = λ e. absurd (omega arith); v_off = λ e. absurd (omega arith); off = λ e. absurd (omega arith); along_u = omega arith; along_v = omega arith })
-    (record { u_below = omega arith; v_below = omega arith; u_off = λ e. absurd (omega arith); v_off = λ e. absurd (omega arith); off = λ e. absurd (omega arith); along_u = omega arith; along_v = omega arith })
-    (record { u_below = omega arith; v_below = omega arith; u_off = λ e. absurd (omega arith); v_off = λ e. absurd (omega arith); off = λ e. absurd (omega arith); along_u = omega arith; along_v = omega arith })
-    f hf
+    six (λ f. Parities n f u v) (omega arith) f hf
 
 -- on one face the point tells the column and the row
 pub one_spot : (n u v a b : ℕ) → u ≤ n → v ≤ n → a ≤ n → b ≤ n → (f : ℕ) → f < 6 → spot n f u v ≡ spot n f a b → (u ≡ a) × (v ≡ b)
 unfolding spot
-one_spot n u v a b hu hv ha hb f hf =
-    six (λ f. spot n f u v ≡ spot n f a b → (u ≡ a) × (v ≡ b))
-    (λ e. let y : u ≡ a = ap (λ (s : Spot). s.y) e in let z : v ≡ b = ap (λ (s : Spot). s.z) e in (y, z))
-    (λ e. let x : n - u ≡ n - a = ap (λ (s : Spot). s.x) e in let z : v ≡ b = ap (λ (s : Spot). s.z) e in (omega arith, z))
-    (λ e. let x : n - u ≡ n - a = ap (λ (s : Spot). s.x) e in let y : n - v ≡ n - b = ap (λ (s : Spot). s.y) e in (omega arith, omega arith))
-    (λ e. let z : n - u ≡ n - a = ap (λ (s : Spot). s.z) e in let y : n - v ≡ n - b = ap (λ (s : Spot). s.y) e in (omega arith, omega arith))
-    (λ e. let z : n - u ≡ n - a = ap (λ (s : Spot). s.z) e in let x : v ≡ b = ap (λ (s : Spot). s.x) e in (omega arith, x))
-    (λ e. let y : u ≡ a = ap (λ (s : Spot). s.y) e in let x : v ≡ b = ap (λ (s : Spot). s.x) e in (y, x))
-    f hf
+one_spot n u v a b hu hv ha hb f hf e =
+    six (λ f. AreOneSpot (spot n f u v) (spot n f a b) → (u ≡ a) × (v ≡ b)) (omega arith) f hf
+    (ap (λ (s : Spot). s.x) e, ap (λ (s : Spot). s.y) e, ap (λ (s : Spot). s.z) e)
 
 -- ---- sides by their middles, in half squares
 
@@ -106,49 +98,24 @@ pub record Sided (n m i j : ℕ) : Type 0 where
 pub sided : (n i j : ℕ) → i < n → j < n → (m : ℕ) → m < 4 → Sided n m i j
 unfolding mid_u mid_v
 sided n i j hi hj m hm =
-    four (λ m. Sided n m i j)
-    (record { u_small = omega arith; v_small = omega arith; one_odd = omega arith })
-    (record { u_small = omega arith; v_small = omega arith; one_odd = omega arith })
-    (record { u_small = omega arith; v_small = omega arith; one_odd = omega arith })
-    (record { u_small = omega arith; v_small = omega arith; one_odd = omega arith })
-    m hm
+    four (λ m. Sided n m i j) (omega arith) m hm
 
 -- an inner side lies strictly within its face
 pub inner_strictly : (n i j : ℕ) → i < n → j < n → (m : ℕ) → m < 4 → IsInner n m i j → (0 < mid_u m i) × (mid_u m i < 2 * n) × (0 < mid_v m j) × (mid_v m j < 2 * n)
 unfolding mid_u mid_v
 inner_strictly n i j hi hj m hm =
-    four (λ m. IsInner n m i j → (0 < mid_u m i) × (mid_u m i < 2 * n) × (0 < mid_v m j) × (mid_v m j < 2 * n))
-    (λ h. let x = h.0 refl in (omega arith, omega arith, omega arith, omega arith))
-    (λ h. let x = h.1 refl in (omega arith, omega arith, omega arith, omega arith))
-    (λ h. let x = h.2 refl in (omega arith, omega arith, omega arith, omega arith))
-    (λ h. let x = h.3 refl in (omega arith, omega arith, omega arith, omega arith))
-    m hm
-
-pub step_down : (i j a b : ℕ) → a ≡ i → b + 1 ≡ j → IsStep 0 i j a b
-step_down i j a b e f = (λ _. (e, f), λ h. absurd (omega arith), λ h. absurd (omega arith), λ h. absurd (omega arith))
-
-pub step_right : (i j a b : ℕ) → a ≡ i + 1 → b ≡ j → IsStep 1 i j a b
-step_right i j a b e f = (λ h. absurd (omega arith), λ _. (e, f), λ h. absurd (omega arith), λ h. absurd (omega arith))
-
-pub step_up : (i j a b : ℕ) → a ≡ i → b ≡ j + 1 → IsStep 2 i j a b
-step_up i j a b e f = (λ h. absurd (omega arith), λ h. absurd (omega arith), λ _. (e, f), λ h. absurd (omega arith))
-
-pub step_left : (i j a b : ℕ) → a + 1 ≡ i → b ≡ j → IsStep 3 i j a b
-step_left i j a b e f = (λ h. absurd (omega arith), λ h. absurd (omega arith), λ h. absurd (omega arith), λ _. (e, f))
+    four (λ m. IsInner n m i j → (0 < mid_u m i) × (mid_u m i < 2 * n) × (0 < mid_v m j) × (mid_v m j < 2 * n)) (omega arith) m hm
 
 -- two squares of one face with a side in common are one, or the second is beside the first
 pub same_or_step : (i j a b : ℕ) → ((i ≡ a) × (j ≡ b) → ⊥) → (m : ℕ) → m < 4 → (o : ℕ) → o < 4 → mid_u m i ≡ mid_u o a → mid_v m j ≡ mid_v o b → IsStep m i j a b
 unfolding mid_u mid_v
 same_or_step i j a b apart m hm o ho =
-    four (λ m. (o : ℕ) → o < 4 → mid_u m i ≡ mid_u o a → mid_v m j ≡ mid_v o b → IsStep m i j a b)
-    (four (λ o. mid_u 0 i ≡ mid_u o a → mid_v 0 j ≡ mid_v o b → IsStep 0 i j a b)
-    (λ e f. absurd (apart (omega arith, omega arith))) (λ e f. absurd (omega arith)) (λ e f. step_down i j a b (omega arith) (omega arith)) (λ e f. absurd (omega arith)))
-    (four (λ o. mid_u 1 i ≡ mid_u o a → mid_v 1 j ≡ mid_v o b → IsStep 1 i j a b)
-    (λ e f. absurd (omega arith)) (λ e f. absurd (apart (omega arith, omega arith))) (λ e f. absurd (omega arith)) (λ e f. step_right i j a b (omega arith) (omega arith)))
-    (four (λ o. mid_u 2 i ≡ mid_u o a → mid_v 2 j ≡ mid_v o b → IsStep 2 i j a b)
-    (λ e f. step_up i j a b (omega arith) (omega arith)) (λ e f. absurd (omega arith)) (λ e f. absurd (apart (omega arith, omega arith))) (λ e f. absurd (omega arith)))
-    (four (λ o. mid_u 3 i ≡ mid_u o a → mid_v 3 j ≡ mid_v o b → IsStep 3 i j a b)
-    (λ e f. absurd (omega arith)) (λ e f. step_left i j a b (omega arith) (omega arith)) (λ e f. absurd (omega arith)) (λ e f. absurd (apart (omega arith, omega arith))))
+    four (λ m. (o : ℕ) → o < 4 → mid_u m i ≡ mid_u o a → mid_v m j ≡ mid_v o b → IsStep m i j a b) (
+      four (λ o. mid_u 0 i ≡ mid_u o a → mid_v 0 j ≡ mid_v o b → IsStep 0 i j a b) (λ e f. absurd (apart (omega arith)), omega arith, omega arith, omega arith),
+      four (λ o. mid_u 1 i ≡ mid_u o a → mid_v 1 j ≡ mid_v o b → IsStep 1 i j a b) (omega arith, λ e f. absurd (apart (omega arith)), omega arith, omega arith),
+      four (λ o. mid_u 2 i ≡ mid_u o a → mid_v 2 j ≡ mid_v o b → IsStep 2 i j a b) (omega arith, omega arith, λ e f. absurd (apart (omega arith)), omega arith),
+      four (λ o. mid_u 3 i ≡ mid_u o a → mid_v 3 j ≡ mid_v o b → IsStep 3 i j a b) (omega arith, omega arith, omega arith, λ e f. absurd (apart (omega arith))),
+    )
     m hm o ho
 
 -- ---- a side belongs to two squares
@@ -163,7 +130,7 @@ pub record AtSide (n m f i j : ℕ) (p : Spot) : Type 0 where
 
 height_is : (n f : ℕ) → f < 6 → ((f < 3) × (height n f ≡ n)) ⊎ ((3 ≤ f) × (height n f ≡ 0))
 unfolding height
-height_is n f h = six (λ f. ((f < 3) × (height n f ≡ n)) ⊎ ((3 ≤ f) × (height n f ≡ 0))) (inl (omega arith, refl)) (inl (omega arith, refl)) (inl (omega arith, refl)) (inr (omega arith, refl)) (inr (omega arith, refl)) (inr (omega arith, refl)) f h
+height_is n f h = six (λ f. ((f < 3) × (height n f ≡ n)) ⊎ ((3 ≤ f) × (height n f ≡ 0))) (inl (omega arith, refl), inl (omega arith, refl), inl (omega arith, refl), inr (omega arith, refl), inr (omega arith, refl), inr (omega arith, refl)) f h
 
 one_face : (n f g : ℕ) → 0 < n → f < 6 → g < 6 → f % 3 ≡ g % 3 → height n f ≡ height n g → f ≡ g
 one_face n f g pos hf hg axis same =
@@ -231,16 +198,10 @@ four_axes t a b c ht ha hb hc ta tb tc ab ac bc = omega arith
 
 one_step : (i j a b c d m : ℕ) → m < 4 → IsStep m i j a b → IsStep m i j c d → (a ≡ c) × (b ≡ d)
 one_step i j a b c d m hm =
-    four (λ m. IsStep m i j a b → IsStep m i j c d → (a ≡ c) × (b ≡ d))
-    (λ h k. let x = h.0 refl in let y = k.0 refl in (omega arith, omega arith))
-    (λ h k. let x = h.1 refl in let y = k.1 refl in (omega arith, omega arith))
-    (λ h k. let x = h.2 refl in let y = k.2 refl in (omega arith, omega arith))
-    (λ h k. let x = h.3 refl in let y = k.3 refl in (omega arith, omega arith))
-    m hm
+    four (λ m. IsStep m i j a b → IsStep m i j c d → (a ≡ c) × (b ≡ d)) (omega arith) m hm
 
 step_inner : (n i j a b m : ℕ) → a < n → b < n → IsStep m i j a b → IsInner n m i j
-step_inner n i j a b m ha hb h =
-    (λ e. let x = h.0 e in omega arith, λ e. let x = h.1 e in omega arith, λ e. let x = h.2 e in omega arith, λ e. let x = h.3 e in omega arith)
+step_inner n i j a b m ha hb h = omega arith
 
 -- two squares of one face at one side
 pub beside_on_face : (n m f i j o a b : ℕ) (p : Spot) → AtSide n m f i j p → AtSide n o f a b p → ((i ≡ a) × (j ≡ b) → ⊥) → IsStep m i j a b

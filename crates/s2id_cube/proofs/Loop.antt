@@ -10,10 +10,10 @@ use Rattle.s2id_cube.specs.declared.face_ij.FaceIj.{FaceIj}
 use Rattle.s2id_cube.specs.Square.{quadrant, turned, quarter, whole_face, square_of}
 use Rattle.s2id_cube.specs.Edge.{ShareEdge}
 use Rattle.s2id_cube.specs.Grid.{IsBeside, column_on, row_on}
-use Rattle.s2id_cube.proofs.Cases.{three, four, six}
-use Rattle.s2id_cube.proofs.Grid.{IsStep, step_down, step_right, step_up, step_left}
+use Rattle.s2id_cube.proofs.Cases.{three, four, six, four_by_four}
+use Rattle.s2id_cube.proofs.Grid.{IsStep}
 use Rattle.s2id_cube.proofs.Squares.{square_at, square_of_place, IsSquare-square_at, face-square_at}
-use Rattle.s2id_cube.proofs.Beside.{along_over, over_edge_is, beside_down, beside_right, beside_up, beside_left}
+use Rattle.s2id_cube.proofs.Beside.{along_over, over_edge_is, beside_step, beside_moved}
 use Rattle.s2id_cube.proofs.Shared.{shares_from_beside}
 
 -- the side by which the curve goes on, from the quadrant where it ends to that where it begins again
@@ -29,13 +29,7 @@ Follows s t = IsStep (way (quadrant s.orientation 3) (quadrant t.orientation 0))
 
 way_below : (o r : ℕ) → o < 4 → r < 4 → way (quadrant o 3) (quadrant r 0) < 4
 unfolding way quadrant
-way_below o r ho hr =
-    four (λ o. (r : ℕ) → r < 4 → way (quadrant o 3) (quadrant r 0) < 4)
-    (four (λ r. way (quadrant 0 3) (quadrant r 0) < 4) (omega arith) (omega arith) (omega arith) (omega arith))
-    (four (λ r. way (quadrant 1 3) (quadrant r 0) < 4) (omega arith) (omega arith) (omega arith) (omega arith))
-    (four (λ r. way (quadrant 2 3) (quadrant r 0) < 4) (omega arith) (omega arith) (omega arith) (omega arith))
-    (four (λ r. way (quadrant 3 3) (quadrant r 0) < 4) (omega arith) (omega arith) (omega arith) (omega arith))
-    o ho r hr
+way_below o r = four_by_four (λ o r. way (quadrant o 3) (quadrant r 0) < 4) (omega arith) o r
 
 -- two children in a row of one cell
 abbrev InRow : ℕ → ℕ → ℕ → ℕ → Type 0
@@ -44,11 +38,12 @@ InRow i j o d = IsStep (way (quadrant (turned o d) 3) (quadrant (turned o (suc d
 in_row : (i j o d : ℕ) → o < 4 → d < 3 → InRow i j o d
 unfolding way quadrant turned
 in_row i j o d ho hd =
-    four (λ o. (d : ℕ) → d < 3 → InRow i j o d)
-    (three (λ d. InRow i j 0 d) (step_up _ _ _ _ (omega arith) (omega arith)) (step_right _ _ _ _ (omega arith) (omega arith)) (step_down _ _ _ _ (omega arith) (omega arith)))
-    (three (λ d. InRow i j 1 d) (step_right _ _ _ _ (omega arith) (omega arith)) (step_up _ _ _ _ (omega arith) (omega arith)) (step_left _ _ _ _ (omega arith) (omega arith)))
-    (three (λ d. InRow i j 2 d) (step_down _ _ _ _ (omega arith) (omega arith)) (step_left _ _ _ _ (omega arith) (omega arith)) (step_up _ _ _ _ (omega arith) (omega arith)))
-    (three (λ d. InRow i j 3 d) (step_left _ _ _ _ (omega arith) (omega arith)) (step_down _ _ _ _ (omega arith) (omega arith)) (step_right _ _ _ _ (omega arith) (omega arith)))
+    four (λ o. (d : ℕ) → d < 3 → InRow i j o d) (
+      three (InRow i j 0) (omega arith),
+      three (InRow i j 1) (omega arith),
+      three (InRow i j 2) (omega arith),
+      three (InRow i j 3) (omega arith),
+    )
     o ho d hd
 
 -- the last child of a cell and the first of the next
@@ -58,27 +53,12 @@ Across i j a b o r = IsStep (way (quadrant o 3) (quadrant r 0)) i j a b → IsSt
 across : (i j a b o r : ℕ) → o < 4 → r < 4 → Across i j a b o r
 unfolding way quadrant turned
 across i j a b o r ho hr =
-    four (λ o. (r : ℕ) → r < 4 → Across i j a b o r)
-    (four (λ r. Across i j a b 0 r)
-    (λ h. let e = h.1 refl in step_right _ _ _ _ (omega arith) (omega arith))
-    (λ h. let e = h.1 refl in step_right _ _ _ _ (omega arith) (omega arith))
-    (λ h. let e = h.0 refl in step_down _ _ _ _ (omega arith) (omega arith))
-    (λ h. let e = h.0 refl in step_down _ _ _ _ (omega arith) (omega arith)))
-    (four (λ r. Across i j a b 1 r)
-    (λ h. let e = h.2 refl in step_up _ _ _ _ (omega arith) (omega arith))
-    (λ h. let e = h.2 refl in step_up _ _ _ _ (omega arith) (omega arith))
-    (λ h. let e = h.3 refl in step_left _ _ _ _ (omega arith) (omega arith))
-    (λ h. let e = h.3 refl in step_left _ _ _ _ (omega arith) (omega arith)))
-    (four (λ r. Across i j a b 2 r)
-    (λ h. let e = h.2 refl in step_up _ _ _ _ (omega arith) (omega arith))
-    (λ h. let e = h.2 refl in step_up _ _ _ _ (omega arith) (omega arith))
-    (λ h. let e = h.3 refl in step_left _ _ _ _ (omega arith) (omega arith))
-    (λ h. let e = h.3 refl in step_left _ _ _ _ (omega arith) (omega arith)))
-    (four (λ r. Across i j a b 3 r)
-    (λ h. let e = h.1 refl in step_right _ _ _ _ (omega arith) (omega arith))
-    (λ h. let e = h.1 refl in step_right _ _ _ _ (omega arith) (omega arith))
-    (λ h. let e = h.0 refl in step_down _ _ _ _ (omega arith) (omega arith))
-    (λ h. let e = h.0 refl in step_down _ _ _ _ (omega arith) (omega arith)))
+    four (λ o. (r : ℕ) → r < 4 → Across i j a b o r) (
+      four (Across i j a b 0) (omega arith),
+      four (Across i j a b 1) (omega arith),
+      four (Across i j a b 2) (omega arith),
+      four (Across i j a b 3) (omega arith),
+    )
     o ho r hr
 
 -- ---- along one face
@@ -114,18 +94,6 @@ along_face (suc k) q h e =
           let before = along_face k (q / 4) (omega arith) (same_face_above q k e up) in
           subst (λ x. Follows x (quarter ((q + 1) % 4) (square_at k ((q + 1) / 4)))) (sym here) (subst (λ x. Follows (quarter 3 s) x) (sym there) (across s.i s.j t.i t.j s.orientation t.orientation is.orientation it.orientation before))
     ]
-
-beside_at : (n m f i j g a b x y : ℕ) → x ≡ a → y ≡ b → IsBeside n m f i j g x y → IsBeside n m f i j g a b
-beside_at n m f i j g a b x y ex ey h = subst (λ y. IsBeside n m f i j g a y) ey (subst (λ x. IsBeside n m f i j g x y) ex h)
-
-beside_from_step : (n f i j a b m : ℕ) → m < 4 → f < 6 → i < n → j < n → a < n → b < n → IsStep m i j a b → IsBeside n m f i j f a b
-beside_from_step n f i j a b m hm hf hi hj ha hb =
-    four (λ m. IsStep m i j a b → IsBeside n m f i j f a b)
-    (λ h. let e = h.0 refl in beside_at n 0 f i j f a b i (j - 1) (sym e.0) (let x : j - 1 ≡ b = omega arith in x) (beside_down n f i j hf hi hj (omega arith)))
-    (λ h. let e = h.1 refl in beside_at n 1 f i j f a b (i + 1) j (sym e.0) (sym e.1) (beside_right n f i j hf hi hj (omega arith)))
-    (λ h. let e = h.2 refl in beside_at n 2 f i j f a b i (j + 1) (sym e.0) (sym e.1) (beside_up n f i j hf hi hj (omega arith)))
-    (λ h. let e = h.3 refl in beside_at n 3 f i j f a b (i - 1) j (let x : i - 1 ≡ a = omega arith in x) (sym e.1) (beside_left n f i j hf hi hj (omega arith)))
-    m hm
 
 -- ---- from face to face
 
@@ -174,11 +142,11 @@ record IsLast (n e : ℕ) (s : FaceIj) : Type 0 where
 
 ends_again : (o : ℕ) → o < 4 → quadrant (turned o 3) 3 ≡ quadrant o 3
 unfolding quadrant turned
-ends_again o h = four (λ o. quadrant (turned o 3) 3 ≡ quadrant o 3) refl refl refl refl o h
+ends_again o h = four (λ o. quadrant (turned o 3) 3 ≡ quadrant o 3) (refl, refl, refl, refl) o h
 
 turned_small : (o : ℕ) → o < 4 → turned o 3 < 4
 unfolding turned
-turned_small o h = four (λ o. turned o 3 < 4) (omega arith) (omega arith) (omega arith) (omega arith) o h
+turned_small o h = four (λ o. turned o 3 < 4) (omega arith) o h
 
 last_quarter : (k e : ℕ) (s : FaceIj) → (e < 3) → 0 < e → IsLast (2 ^ k) e s → IsLast (2 ^ suc k) e (quarter 3 s)
 unfolding quarter
@@ -190,31 +158,23 @@ last_quarter k e s he pos h =
     record {
       ends = ends_again s.orientation h.small ∙ h.ends;
       small = turned_small s.orientation h.small;
-      i = (λ x. let y = i.0 x in omega arith, λ x. let y = i.1 x in omega arith);
-      j = (λ x. let y = j.0 x in omega arith, λ x. let y = j.1 x in omega arith);
+      i = omega arith;
+      j = omega arith;
     }
 
-even_face : (f : ℕ) → f % 2 ≡ 0 → IsLast (2 ^ 0) (2 - f % 2) (whole_face f)
-unfolding whole_face quadrant
-even_face f e = record {
-  ends = ap (λ x. quadrant x 3) e ∙ ap (λ x. 2 - x) (sym e);
-  small = omega arith;
-  i = (λ x. omega arith, λ x. refl);
-  j = (λ x. refl, λ x. omega arith);
-}
+end_quadrant : (o : ℕ) → o < 2 → quadrant o 3 ≡ 2 - o
+unfolding quadrant
+end_quadrant zero h = refl
+end_quadrant (suc zero) h = refl
+end_quadrant (suc (suc o)) h = absurd (omega arith)
 
-odd_face : (f : ℕ) → f % 2 ≡ 1 → IsLast (2 ^ 0) (2 - f % 2) (whole_face f)
-unfolding whole_face quadrant
-odd_face f e = record {
-  ends = ap (λ x. quadrant x 3) e ∙ ap (λ x. 2 - x) (sym e);
-  small = omega arith;
-  i = (λ x. omega arith, λ x. refl);
-  j = (λ x. refl, λ x. omega arith);
-}
+whole_ends : (f : ℕ) → IsLast (2 ^ 0) (2 - f % 2) (whole_face f)
+unfolding whole_face
+whole_ends f = record { ends = end_quadrant (f % 2) (omega arith); small = omega arith; i = omega arith; j = omega arith }
 
 last_of_face : (k f q : ℕ) → q + 1 ≡ (f + 1) * 4 ^ k → IsLast (2 ^ k) (2 - f % 2) (square_at k q)
 unfolding square_at
-last_of_face zero f q e = subst (λ x. IsLast (2 ^ 0) (2 - f % 2) (whole_face x)) (let x : f ≡ q = omega arith in x) (elim (cases_eq (f % 2) 0) [ inl even ↦ even_face f even | inr odd ↦ odd_face f (omega arith) ])
+last_of_face zero f q e = subst (λ x. IsLast (2 ^ 0) (2 - f % 2) (whole_face x)) (let x : f ≡ q = omega arith in x) (whole_ends f)
 last_of_face (suc k) f q e =
     let step = four_step k in
     let wide : q + 1 ≡ (f + 1) * 4 ^ k * 4 = e ∙ ap (λ x. (f + 1) * x) step ∙ turn_four (f + 1) (4 ^ k) in
@@ -233,24 +193,15 @@ last_of_face (suc k) f q e =
 crossing : (last f : ℕ) → f < 6 → (f % 2 ≡ 0 → IsBeside (last + 1) 1 f last 0 ((f + 1) % 6) 0 0) × (f % 2 ≡ 1 → IsBeside (last + 1) 2 f 0 last ((f + 1) % 6) 0 0)
 unfolding column_on row_on along_over
 crossing last f h =
-    six (λ f. (f % 2 ≡ 0 → IsBeside (last + 1) 1 f last 0 ((f + 1) % 6) 0 0) × (f % 2 ≡ 1 → IsBeside (last + 1) 2 f 0 last ((f + 1) % 6) 0 0))
-    (λ _. over_edge_is 0 last (omega arith) 0 (omega arith) 1 (omega arith), λ e. absurd (omega arith))
-    (λ e. absurd (omega arith), λ _. over_edge_is 0 last (omega arith) 1 (omega arith) 2 (omega arith))
-    (λ _. over_edge_is 0 last (omega arith) 2 (omega arith) 1 (omega arith), λ e. absurd (omega arith))
-    (λ e. absurd (omega arith), λ _. over_edge_is 0 last (omega arith) 3 (omega arith) 2 (omega arith))
-    (λ _. over_edge_is 0 last (omega arith) 4 (omega arith) 1 (omega arith), λ e. absurd (omega arith))
-    (λ e. absurd (omega arith), λ _. over_edge_is 0 last (omega arith) 5 (omega arith) 2 (omega arith))
+    six (λ f. (f % 2 ≡ 0 → IsBeside (last + 1) 1 f last 0 ((f + 1) % 6) 0 0) × (f % 2 ≡ 1 → IsBeside (last + 1) 2 f 0 last ((f + 1) % 6) 0 0)) (
+      (λ _. over_edge_is 0 last (omega arith) 0 (omega arith) 1 (omega arith), λ e. absurd (omega arith)),
+      (λ e. absurd (omega arith), λ _. over_edge_is 0 last (omega arith) 1 (omega arith) 2 (omega arith)),
+      (λ _. over_edge_is 0 last (omega arith) 2 (omega arith) 1 (omega arith), λ e. absurd (omega arith)),
+      (λ e. absurd (omega arith), λ _. over_edge_is 0 last (omega arith) 3 (omega arith) 2 (omega arith)),
+      (λ _. over_edge_is 0 last (omega arith) 4 (omega arith) 1 (omega arith), λ e. absurd (omega arith)),
+      (λ e. absurd (omega arith), λ _. over_edge_is 0 last (omega arith) 5 (omega arith) 2 (omega arith)),
+    )
     f h
-
-beside_moved : (n n' m f f' i i' j j' g g' a a' b b' : ℕ) → n ≡ n' → f ≡ f' → i ≡ i' → j ≡ j' → g ≡ g' → a ≡ a' → b ≡ b' → IsBeside n m f i j g a b → IsBeside n' m f' i' j' g' a' b'
-beside_moved n n' m f f' i i' j j' g g' a a' b b' en ef ei ej eg ea eb h =
-    subst (λ x. IsBeside x m f' i' j' g' a' b') en
-    (subst (λ x. IsBeside n m x i' j' g' a' b') ef
-    (subst (λ x. IsBeside n m f x j' g' a' b') ei
-    (subst (λ x. IsBeside n m f i x g' a' b') ej
-    (subst (λ x. IsBeside n m f i j x a' b') eg
-    (subst (λ x. IsBeside n m f i j g x b') ea
-    (subst (λ x. IsBeside n m f i j g a x) eb h))))))
 
 -- a square beside another over some side
 record HasSide (n : ℕ) (s t : FaceIj) : Type 0 where
@@ -276,12 +227,12 @@ from_face_to_face k f q r hf eq er =
           let two : 2 - f % 2 ≡ 2 = omega arith in
           let i = done.i.0 two in
           let j = done.j.0 two in
-          record { side = 1; is_side = omega arith; beside = beside_moved (last + 1) (2 ^ k) 1 f s.face last s.i 0 s.j ((f + 1) % 6) t.face 0 t.i 0 t.j whole face_s (omega arith) (sym j) face_t (sym begin.i) (sym begin.j) ((crossing last f hf).0 even) }
+          record { side = 1; is_side = omega arith; beside = beside_moved whole refl face_s (omega arith) (sym j) face_t (sym begin.i) (sym begin.j) ((crossing last f hf).0 even) }
       | inr odd ↦
           let one : 2 - f % 2 ≡ 1 = omega arith in
           let i = done.i.1 one in
           let j = done.j.1 one in
-          record { side = 2; is_side = omega arith; beside = beside_moved (last + 1) (2 ^ k) 2 f s.face 0 s.i last s.j ((f + 1) % 6) t.face 0 t.i 0 t.j whole face_s (sym i) (omega arith) face_t (sym begin.i) (sym begin.j) ((crossing last f hf).1 (omega arith)) }
+          record { side = 2; is_side = omega arith; beside = beside_moved whole refl face_s (sym i) (omega arith) face_t (sym begin.i) (sym begin.j) ((crossing last f hf).1 (omega arith)) }
     ]
   where
     within : (f q b : ℕ) → 0 < b → q + 1 ≡ (f + 1) * b → q ≡ f * b + (b - 1)
@@ -296,7 +247,7 @@ on_one_face k q h e =
     let m = way (quadrant s.orientation 3) (quadrant t.orientation 0) in
     let hm = way_below s.orientation t.orientation is.orientation it.orientation in
     let face : s.face ≡ t.face = face-square_at k q ∙ e ∙ sym (face-square_at k (q + 1)) in
-    record { side = m; is_side = hm; beside = subst (λ g. IsBeside (2 ^ k) m s.face s.i s.j g t.i t.j) face (beside_from_step (2 ^ k) s.face s.i s.j t.i t.j m hm is.face is.i is.j it.i it.j (along_face k q h e)) }
+    record { side = m; is_side = hm; beside = subst (λ g. IsBeside (2 ^ k) m s.face s.i s.j g t.i t.j) face (beside_step (hm, is.face, is.i, is.j, it.i, it.j, along_face k q h e)) }
 
 -- a place and the next one on different faces
 face_ends : (q b : ℕ) → 0 < b → (q / b ≡ (q + 1) / b → ⊥) → q + 1 ≡ (q / b + 1) * b

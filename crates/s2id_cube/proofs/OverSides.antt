@@ -1,10 +1,9 @@
 -- The cell over a side: its number is found by search.
-use Rattle.std.proofs.Common.{◌≡◌, ◌≢◌, ℕ, zero, suc, ◌+◌, ◌*◌, ◌-◌, ◌^◌, ◌<◌, ◌==◌, ◌&&◌, ◌||◌, ◌⊎◌, inl, inr, not, Bool, true, false, cond, length, refl, sym, ap, ap₂, ◌∙◌, subst, ⊎_elim, true≢false, ℤ, arith, ne_eqb}
-use Rattle.std.specs.Ordering.{int_eq}
+use Rattle.std.proofs.Common.{◌≡◌, ◌≢◌, ℕ, zero, suc, ◌+◌, ◌*◌, ◌-◌, ◌^◌, ◌<◌, ◌⊎◌, inl, inr, Bool, true, false, cond, length, refl, sym, ap, ◌∙◌, subst, ⊎_elim, true≢false, arith}
 use Rattle.std.specs.Bool.{Decides}
 use Rattle.std.proofs.lemmas.Bool.{cases_eq}
 use Rattle.std.proofs.lemmas.Bool.Decides.{Decides-int_eq, Decides-eqb, Decides-not, Decides-and, Decides-or, Decides-like}
-use Rattle.s2id_core.specs.Path.{Path, IsPath, path_at, place_of, number_of}
+use Rattle.s2id_core.specs.Path.{Path, IsPath, path_at, place_of}
 use Rattle.s2id_core.specs.Cell.{IsCellNumber}
 use Rattle.s2id_core.proofs.Numbers.{path_of_cell, place_below}
 use Rattle.s2id_core.proofs.Places.{number_by_place}
@@ -16,17 +15,15 @@ use Rattle.s2id_cube.specs.Edge.{side_start, side_end, AreOneSide, SharesSide}
 use Rattle.s2id_cube.specs.Neighbor.{is_point, are_one_side, is_same_side, is_side_of, number_at, passing_below, is_over, neighbor_number}
 use Rattle.s2id_cube.proofs.Cases.{four}
 use Rattle.s2id_cube.proofs.CellPlaces.{cell_number_at, level_number_at, place_number_at}
+use Rattle.s2id_cube.proofs.Sides.{point_is}
 use Rattle.s2id_cube.proofs.Shared.{one_neighbor}
 
 -- ---- the tests decide what they are named for
 
-same : (a b : Point) → a.x ≡ b.x → a.y ≡ b.y → a.z ≡ b.z → a ≡ b
-same a b x y z = let point = λ (x y z : ℤ). let p : Point = record { x = x; y = y; z = z } in p in ap (λ t. point t a.y a.z) x ∙ ap (λ t. point b.x t a.z) y ∙ ap (λ t. point b.x b.y t) z
-
 is_point-decides : (a b : Point) → Decides (is_point a b) (a ≡ b)
 is_point-decides a b =
     Decides-like (is_point a b)
-    (λ h. same a b h.0 h.1.0 h.1.1)
+    (λ h. point_is h.0 h.1.0 h.1.1)
     (λ e. (ap (λ (p : Point). p.x) e, (ap (λ (p : Point). p.y) e, ap (λ (p : Point). p.z) e)))
     (Decides-and _ _ (Decides-int_eq a.x b.x) (Decides-and _ _ (Decides-int_eq a.y b.y) (Decides-int_eq a.z b.z)))
 
@@ -52,14 +49,11 @@ is_side_of-decides m s t =
     Decides-like (is_side_of m s t) there back
     (Decides-or _ _ (is_same_side-decides m s 0 t) (Decides-or _ _ (is_same_side-decides m s 1 t) (Decides-or _ _ (is_same_side-decides m s 2 t) (is_same_side-decides m s 3 t))))
   where
-    Any : Type 0
-    Any = IsSameSide m s 0 t ⊎ (IsSameSide m s 1 t ⊎ (IsSameSide m s 2 t ⊎ IsSameSide m s 3 t))
-
-    there : Any → IsSideOf m s t
+    there : IsOneOf m s t → IsSideOf m s t
     there = ⊎_elim (λ h. (0, omega arith, h)) (⊎_elim (λ h. (1, omega arith, h)) (⊎_elim (λ h. (2, omega arith, h)) (λ h. (3, omega arith, h))))
 
     back : IsSideOf m s t → IsOneOf m s t
-    back h = four (λ o. IsSameSide m s o t → IsOneOf m s t) inl (λ x. inr (inl x)) (λ x. inr (inr (inl x))) (λ x. inr (inr (inr x))) h.0 h.1 h.2
+    back h = four (λ o. IsSameSide m s o t → IsOneOf m s t) (inl, λ x. inr (inl x), λ x. inr (inr (inl x)), λ x. inr (inr (inr x))) h.0 h.1 h.2
 
 -- ---- the search
 
@@ -86,10 +80,7 @@ over_place m p q place hp hq is at long =
     Decides-like (is_over m p place) there back
     (Decides-and _ _ (Decides-not _ (Decides-eqb place (place_of p))) (is_side_of-decides m (square_of p) (square_of (path_at (number_at (length p.digits) place)))))
   where
-    Found : Type 0
-    Found = (¬ (place ≡ place_of p)) × IsSideOf m (square_of p) (square_of (path_at (number_at (length p.digits) place)))
-
-    there : Found → SharesSide m p q
+    there : IsFound m p place → SharesSide m p q
     there h = record {
       apart = λ e. h.0 (sym at ∙ ap place_of (sym e));
       one_level = long;

@@ -4,7 +4,7 @@ use Rattle.std.proofs.lemmas.Bool.{cases_lt}
 use Rattle.s2id_cube.specs.Grid.{middle, IsBeside, column_on, row_on}
 use Rattle.s2id_cube.proofs.Cases.{four}
 use Rattle.s2id_cube.proofs.Grid.{AtSide, IsStep, beside_on_face, on_face_of, one_beside}
-use Rattle.s2id_cube.proofs.Beside.{beside_down, beside_right, beside_up, beside_left}
+use Rattle.s2id_cube.proofs.Beside.{IsNext, beside_step}
 
 at_first : (n m f i j : ℕ) → m < 4 → f < 6 → i < n → j < n → AtSide n m f i j (middle n m f i j)
 at_first n m f i j hm hf hi hj = record { is_side = hm; face = hf; column = hi; row = hj; at = refl }
@@ -28,23 +28,13 @@ pub record InBlock (u v w i j : ℕ) : Type 0 where
 pub along_in_block : (u v w t m : ℕ) → t < w → m < 4 → InBlock u v w (u + column_on m t (w - 1)) (v + row_on m t (w - 1))
 unfolding column_on row_on
 along_in_block u v w t m ht hm =
-    four (λ m. InBlock u v w (u + column_on m t (w - 1)) (v + row_on m t (w - 1)))
-    (record { left = omega arith; right = omega arith; down = omega arith; up = omega arith })
-    (record { left = omega arith; right = omega arith; down = omega arith; up = omega arith })
-    (record { left = omega arith; right = omega arith; down = omega arith; up = omega arith })
-    (record { left = omega arith; right = omega arith; down = omega arith; up = omega arith })
-    m hm
+    four (λ m. InBlock u v w (u + column_on m t (w - 1)) (v + row_on m t (w - 1))) (omega arith) m hm
 
 -- a step over the side leaves the block
 step_leaves : (u v w t a b m : ℕ) → t < w → m < 4 → IsStep m (u + column_on m t (w - 1)) (v + row_on m t (w - 1)) a b → InBlock u v w a b → ⊥
 unfolding column_on row_on
 step_leaves u v w t a b m ht hm =
-    four (λ m. IsStep m (u + column_on m t (w - 1)) (v + row_on m t (w - 1)) a b → InBlock u v w a b → ⊥)
-    (λ h k. let x = h.0 refl in let y = k.down in omega arith)
-    (λ h k. let x = h.1 refl in let y = k.right in omega arith)
-    (λ h k. let x = h.2 refl in let y = k.up in omega arith)
-    (λ h k. let x = h.3 refl in let y = k.left in omega arith)
-    m hm
+    four (λ m. IsStep m (u + column_on m t (w - 1)) (v + row_on m t (w - 1)) a b → InBlock u v w a b → ⊥) (omega arith) m hm
 
 pub over_is_outside : (n u v w m t f g a b : ℕ) → m < 4 → t < w → f < 6 → u + w ≤ n → v + w ≤ n → IsBeside n m f (u + column_on m t (w - 1)) (v + row_on m t (w - 1)) g a b → g ≡ f → InBlock u v w a b → ⊥
 over_is_outside n u v w m t f g a b hm ht hf hu hv h e =
@@ -69,9 +59,9 @@ pub record LiesAlong (u v w m i j : ℕ) : Type 0 where
 abbrev Goes : ℕ → ℕ → ℕ → ℕ → ℕ → ℕ → ℕ → ℕ → ℕ → ℕ → ℕ → Type 0
 Goes n u v w f i j g a b m = IsBeside n m f i j g a b → LiesAlong u v w m i j
 
-inner_step : (n u v w m f i j g a b c d : ℕ) → m < 4 → f < 6 → i < n → j < n → (g ≡ f → InBlock u v w a b → ⊥) → IsBeside n m f i j g a b → IsBeside n m f i j f c d → InBlock u v w c d → ⊥
-inner_step n u v w m f i j g a b c d hm hf hi hj out h k inside =
-    let e = same_beside n m f i j g a b f c d hm hf hi hj h k in
+inner_step : (n u v w m f i j g a b c d : ℕ) → (g ≡ f → InBlock u v w a b → ⊥) → IsBeside n m f i j g a b → IsNext n m f i j c d → InBlock u v w c d → ⊥
+inner_step n u v w m f i j g a b c d out h next inside =
+    let e = same_beside n m f i j g a b f c d next.0 next.1 next.2 next.3 h (beside_step next) in
     out e.0 (subst (λ y. InBlock u v w a y) (sym e.2) (subst (λ x. InBlock u v w x d) (sym e.1) inside))
 
 pub outside_is_over : (n u v w m f i j g a b : ℕ) → m < 4 → f < 6 → u + w ≤ n → v + w ≤ n → InBlock u v w i j → (g ≡ f → InBlock u v w a b → ⊥) → IsBeside n m f i j g a b → LiesAlong u v w m i j
@@ -83,21 +73,22 @@ outside_is_over n u v w m f i j g a b hm hf hu hv k out =
     let up = k.up in
     let hi : i < n = omega arith in
     let hj : j < n = omega arith in
-    four (Goes n u v w f i j g a b)
-    (λ h. elim (cases_lt v j) [
-      | inl lt ↦ absurd (inner_step n u v w 0 f i j g a b i (j - 1) (omega arith) hf hi hj out h (beside_down n f i j hf hi hj (omega arith)) (record { left = left; right = right; down = omega arith; up = omega arith }))
-      | inr ge ↦ record { along = i - u; is_along = omega arith; column = omega arith; row = omega arith }
-    ])
-    (λ h. elim (cases_lt (i + 1) (u + w)) [
-      | inl lt ↦ absurd (inner_step n u v w 1 f i j g a b (i + 1) j (omega arith) hf hi hj out h (beside_right n f i j hf hi hj (omega arith)) (record { left = omega arith; right = omega arith; down = down; up = up }))
-      | inr ge ↦ record { along = j - v; is_along = omega arith; column = omega arith; row = omega arith }
-    ])
-    (λ h. elim (cases_lt (j + 1) (v + w)) [
-      | inl lt ↦ absurd (inner_step n u v w 2 f i j g a b i (j + 1) (omega arith) hf hi hj out h (beside_up n f i j hf hi hj (omega arith)) (record { left = left; right = right; down = omega arith; up = omega arith }))
-      | inr ge ↦ record { along = i - u; is_along = omega arith; column = omega arith; row = omega arith }
-    ])
-    (λ h. elim (cases_lt u i) [
-      | inl lt ↦ absurd (inner_step n u v w 3 f i j g a b (i - 1) j (omega arith) hf hi hj out h (beside_left n f i j hf hi hj (omega arith)) (record { left = omega arith; right = omega arith; down = down; up = up }))
-      | inr ge ↦ record { along = j - v; is_along = omega arith; column = omega arith; row = omega arith }
-    ])
+    four (Goes n u v w f i j g a b) (
+      λ h. elim (cases_lt v j) [
+        | inl lt ↦ absurd (inner_step n u v w 0 f i j g a b i (j - 1) out h (omega arith) (omega arith))
+        | inr ge ↦ record { along = i - u; is_along = omega arith; column = omega arith; row = omega arith }
+      ],
+      λ h. elim (cases_lt (i + 1) (u + w)) [
+        | inl lt ↦ absurd (inner_step n u v w 1 f i j g a b (i + 1) j out h (omega arith) (omega arith))
+        | inr ge ↦ record { along = j - v; is_along = omega arith; column = omega arith; row = omega arith }
+      ],
+      λ h. elim (cases_lt (j + 1) (v + w)) [
+        | inl lt ↦ absurd (inner_step n u v w 2 f i j g a b i (j + 1) out h (omega arith) (omega arith))
+        | inr ge ↦ record { along = i - u; is_along = omega arith; column = omega arith; row = omega arith }
+      ],
+      λ h. elim (cases_lt u i) [
+        | inl lt ↦ absurd (inner_step n u v w 3 f i j g a b (i - 1) j out h (omega arith) (omega arith))
+        | inr ge ↦ record { along = j - v; is_along = omega arith; column = omega arith; row = omega arith }
+      ],
+    )
     m hm

@@ -10,7 +10,7 @@ use Rattle.s2id_cube.specs.Square.{square_of}
 use Rattle.s2id_cube.specs.Edge.{SharesSide}
 use Rattle.s2id_cube.specs.Grid.{IsBeside, column_on, row_on}
 use Rattle.s2id_cube.specs.Border.{IsOnBorder, IsOverAt, IsOverSides}
-use Rattle.s2id_cube.proofs.Beside.{over_from}
+use Rattle.s2id_cube.proofs.Beside.{beside_moved}
 use Rattle.s2id_cube.proofs.Shared.{IsSquare-square_of, one_path, square_facts, shares_from_beside, at_side_second}
 use Rattle.s2id_cube.proofs.Nesting.{nested_path, within_of_square, cell_of_square, run_from_quotient, quotient_from_run}
 use Rattle.s2id_cube.proofs.Perimeter.{InBlock, along_in_block, same_beside, over_is_outside, outside_is_over}
@@ -91,7 +91,7 @@ border_from_over p q d m t hp hq most hm ht h =
     let block : InBlock u v w (square_of r).i (square_of r).j = subst (λ y. InBlock u v w (square_of r).i y) (sym c.square.row) (subst (λ x. InBlock u v w x j) (sym c.square.column) inside) in
     let within = within_block p r d hp c.is_path long_r c.square.face block in
     let at : IsBeside n m (square_of r).face (square_of r).i (square_of r).j g.face g.i g.j =
-    subst (λ x. IsBeside n m x (square_of r).i (square_of r).j g.face g.i g.j) (sym c.square.face) (over_from n m s.face (square_of r).i (square_of r).j g.face g.i g.j i j (sym c.square.column) (sym c.square.row) h.beside) in
+    beside_moved refl refl (sym c.square.face) (sym c.square.column) (sym c.square.row) refl refl refl h.beside in
     record {
       path = hq;
       level_is = long;
@@ -144,7 +144,7 @@ over_from_border p q d hp h =
             over =
                 record {
                   level_is = (IsSquare-square_of q hq).level ∙ h.level_is ∙ ap (λ x. x + d) (sym level);
-                  beside = over_from n m s.face (u + column_on m lies.along (w - 1)) (v + row_on m lies.along (w - 1)) g.face g.i g.j (square_of r).i (square_of r).j lies.column lies.row at;
+                  beside = beside_moved refl refl refl lies.column lies.row refl refl refl at;
                 };
           };
     }
@@ -199,5 +199,5 @@ finer_at s d m t x y most hi hj hm ht ex ey =
 pub over_found : (s : FaceIj) (d m t x y : ℕ) (q : Path) → IsFinerAt s d m t x y → (square_of q).level ≡ s.level + d → IsBeside (2 ^ (s.level + d)) m s.face (s.i * 2 ^ d % 2 ^ 32 + x) (s.j * 2 ^ d % 2 ^ 32 + y) (square_of q).face (square_of q).i (square_of q).j → IsOverAt s d m t q
 over_found s d m t x y q at level h = record {
   level_is = level;
-  beside = over_from (2 ^ (s.level + d)) m s.face (s.i * 2 ^ d + column_on m t (2 ^ d - 1)) (s.j * 2 ^ d + row_on m t (2 ^ d - 1)) (square_of q).face (square_of q).i (square_of q).j (s.i * 2 ^ d % 2 ^ 32 + x) (s.j * 2 ^ d % 2 ^ 32 + y) at.column at.row h;
+  beside = beside_moved refl refl refl at.column at.row refl refl refl h;
 }

@@ -8,6 +8,7 @@ use Rattle.s2id_cube.specs.Point.{Point, point_of}
 use Rattle.s2id_cube.specs.Edge.{corner, side_start, side_end, AreOneSide}
 use Rattle.s2id_cube.specs.Grid.{Spot, spot, mid_u, mid_v, middle}
 use Rattle.s2id_cube.proofs.Cases.{four, six}
+use Rattle.s2id_cube.proofs.Grid.{AreOneSpot, spot_is}
 use Rattle.s2id_cube.proofs.Squares.{IsSquare}
 
 -- a coordinate in squares of width w, counted from the cube's lowest corner
@@ -17,8 +18,8 @@ place w x = pos (2 * (x * w)) -ℤ pos (2 ^ 30)
 unfoldable real : ℕ → Spot → Point
 real w s = record { x = place w s.x; y = place w s.y; z = place w s.z }
 
-point_is : (a b c d e f : ℤ) → a ≡ d → b ≡ e → c ≡ f → let s : Point = record { x = a; y = b; z = c } in let t : Point = record { x = d; y = e; z = f } in s ≡ t
-point_is a b c d e f p q r = ap₂ (λ x y. let s : Point = record { x = x; y = y; z = c } in s) p q ∙ ap (λ z. let s : Point = record { x = d; y = e; z = z } in s) r
+pub point_is : {s t : Point} → s.x ≡ t.x → s.y ≡ t.y → s.z ≡ t.z → s ≡ t
+point_is p q r = λ k. record { x = p k; y = q k; z = r k }
 
 high : (n w : ℕ) → n * w ≡ 2 ^ 30 → pos (2 ^ 30) ≡ pos (2 * (n * w)) -ℤ pos (2 ^ 30)
 high n w e = high_by (n * w) e
@@ -44,13 +45,14 @@ opposite n w u e h = by (u * w) ((n - u) * w) (split (n - u) u w ∙ ap (λ x. x
 real_point : (n w u v : ℕ) → n * w ≡ 2 ^ 30 → u ≤ n → v ≤ n → (f : ℕ) → f < 6 → point_of f (u * w) (v * w) ≡ real w (spot n f u v)
 unfolding point_of real spot
 real_point n w u v e hu hv f hf =
-    six (λ f. point_of f (u * w) (v * w) ≡ real w (spot n f u v))
-    (point_is _ _ _ _ _ _ (high n w e) refl refl)
-    (point_is _ _ _ _ _ _ (opposite n w u e hu) (high n w e) refl)
-    (point_is _ _ _ _ _ _ (opposite n w u e hu) (opposite n w v e hv) (high n w e))
-    (point_is _ _ _ _ _ _ (low w) (opposite n w v e hv) (opposite n w u e hu))
-    (point_is _ _ _ _ _ _ refl (low w) (opposite n w u e hu))
-    (point_is _ _ _ _ _ _ refl refl (low w))
+    six (λ f. point_of f (u * w) (v * w) ≡ real w (spot n f u v)) (
+      point_is (high n w e) refl refl,
+      point_is (opposite n w u e hu) (high n w e) refl,
+      point_is (opposite n w u e hu) (opposite n w v e hv) (high n w e),
+      point_is (low w) (opposite n w v e hv) (opposite n w u e hu),
+      point_is refl (low w) (opposite n w u e hu),
+      point_is refl refl (low w),
+    )
     f hf
 
 same_place : (w a b : ℕ) → 0 < w → place w a ≡ place w b → a ≡ b
@@ -59,13 +61,10 @@ same_place w a b pos_w e = sym (mul-div_cancel a {n = w} pos_w) ∙ ap (λ x. x 
     by : (x y : ℕ) → pos (2 * x) -ℤ pos (2 ^ 30) ≡ pos (2 * y) -ℤ pos (2 ^ 30) → x ≡ y
     by x y e = omega (arith, ints)
 
-spot_is : (s t : Spot) → s.x ≡ t.x → s.y ≡ t.y → s.z ≡ t.z → s ≡ t
-spot_is s t p q r = ap₂ (λ x y. let s' : Spot = record { x = x; y = y; z = s.z } in s') p q ∙ ap (λ z. let s' : Spot = record { x = t.x; y = t.y; z = z } in s') r
-
 one_real : (w : ℕ) (s t : Spot) → 0 < w → real w s ≡ real w t → s ≡ t
 unfolding real
 one_real w s t h e =
-    spot_is s t (same_place w s.x t.x h (ap (λ (p : Point). p.x) e)) (same_place w s.y t.y h (ap (λ (p : Point). p.y) e)) (same_place w s.z t.z h (ap (λ (p : Point). p.z) e))
+    spot_is (same_place w s.x t.x h (ap (λ (p : Point). p.x) e), same_place w s.y t.y h (ap (λ (p : Point). p.y) e), same_place w s.z t.z h (ap (λ (p : Point). p.z) e))
 
 -- ---- the ends of a side
 
@@ -104,20 +103,15 @@ record Ends (m i j n : ℕ) : Type 0 where
 ends : (i j n : ℕ) → i < n → j < n → (m : ℕ) → m < 4 → Ends m i j n
 unfolding start_u start_v end_u end_v mid_u mid_v
 ends i j n hi hj m hm =
-    four (λ m. Ends m i j n)
-    (record { su = omega arith; sv = omega arith; eu = omega arith; ev = omega arith; mu = omega arith; mv = omega arith })
-    (record { su = omega arith; sv = omega arith; eu = omega arith; ev = omega arith; mu = omega arith; mv = omega arith })
-    (record { su = omega arith; sv = omega arith; eu = omega arith; ev = omega arith; mu = omega arith; mv = omega arith })
-    (record { su = omega arith; sv = omega arith; eu = omega arith; ev = omega arith; mu = omega arith; mv = omega arith })
-    m hm
+    four (λ m. Ends m i j n) (omega arith) m hm
 
 start_corner : (s : FaceIj) (m : ℕ) → m < 4 → side_start m s ≡ corner s (start_u m s.i) (start_v m s.j)
 unfolding side_start start_u start_v
-start_corner s m h = four (λ m. side_start m s ≡ corner s (start_u m s.i) (start_v m s.j)) refl refl refl refl m h
+start_corner s m h = four (λ m. side_start m s ≡ corner s (start_u m s.i) (start_v m s.j)) (refl, refl, refl, refl) m h
 
 end_corner : (s : FaceIj) (m : ℕ) → m < 4 → side_end m s ≡ corner s (end_u m s.i) (end_v m s.j)
 unfolding side_end end_u end_v
-end_corner s m h = four (λ m. side_end m s ≡ corner s (end_u m s.i) (end_v m s.j)) refl refl refl refl m h
+end_corner s m h = four (λ m. side_end m s ≡ corner s (end_u m s.i) (end_v m s.j)) (refl, refl, refl, refl) m h
 
 two_split : (k : ℕ) → k ≤ 30 → 2 ^ k * 2 ^ (30 - k) ≡ 2 ^ 30
 two_split k h = sym (pow-add 2 k (30 - k)) ∙ ap (λ x. 2 ^ x) (let e : k + (30 - k) ≡ 30 = omega arith in e)
@@ -146,19 +140,12 @@ plus s t = record { x = s.x + t.x; y = s.y + t.y; z = s.z + t.z }
 
 plus_turned : (s t : Spot) → plus s t ≡ plus t s
 unfolding plus
-plus_turned s t = spot_is (plus s t) (plus t s) (omega arith) (omega arith) (omega arith)
+plus_turned s t = spot_is (omega arith)
 
 middle_sum : (n a b c d : ℕ) → a ≤ n → b ≤ n → c ≤ n → d ≤ n → (f : ℕ) → f < 6 → spot (2 * n) f (a + c) (b + d) ≡ plus (spot n f a b) (spot n f c d)
 unfolding spot plus
 middle_sum n a b c d ha hb hc hd f hf =
-    six (λ f. spot (2 * n) f (a + c) (b + d) ≡ plus (spot n f a b) (spot n f c d))
-    (spot_is _ _ (omega arith) refl refl)
-    (spot_is _ _ (omega arith) (omega arith) refl)
-    (spot_is _ _ (omega arith) (omega arith) (omega arith))
-    (spot_is _ _ refl (omega arith) (omega arith))
-    (spot_is _ _ refl refl (omega arith))
-    (spot_is _ _ refl refl refl)
-    f hf
+    spot_is (six (λ f. AreOneSpot (spot (2 * n) f (a + c) (b + d)) (plus (spot n f a b) (spot n f c d))) (omega arith) f hf)
 
 middle_of_side : (k : ℕ) (s : FaceIj) → IsSquare k s → (m : ℕ) → m < 4 → middle (2 ^ k) m s.face s.i s.j ≡ plus (start_spot k m s) (end_spot k m s)
 unfolding middle
@@ -193,25 +180,27 @@ AreEnds s t p = ((s ≡ lower p) × (t ≡ upper p)) ⊎ ((s ≡ upper p) × (t 
 ends_in_u : (n a b : ℕ) → a + 1 ≤ n → b ≤ n → (f : ℕ) → f < 6 → AreEnds (spot n f a b) (spot n f (a + 1) b) (spot (2 * n) f (a + (a + 1)) (b + b))
 unfolding spot lower upper
 ends_in_u n a b ha hb f hf =
-    six (λ f. AreEnds (spot n f a b) (spot n f (a + 1) b) (spot (2 * n) f (a + (a + 1)) (b + b)))
-    (inl (spot_is _ _ (omega arith) (omega arith) (omega arith), spot_is _ _ (omega arith) (omega arith) (omega arith)))
-    (inr (spot_is _ _ (omega arith) (omega arith) (omega arith), spot_is _ _ (omega arith) (omega arith) (omega arith)))
-    (inr (spot_is _ _ (omega arith) (omega arith) (omega arith), spot_is _ _ (omega arith) (omega arith) (omega arith)))
-    (inr (spot_is _ _ (omega arith) (omega arith) (omega arith), spot_is _ _ (omega arith) (omega arith) (omega arith)))
-    (inr (spot_is _ _ (omega arith) (omega arith) (omega arith), spot_is _ _ (omega arith) (omega arith) (omega arith)))
-    (inl (spot_is _ _ (omega arith) (omega arith) (omega arith), spot_is _ _ (omega arith) (omega arith) (omega arith)))
+    six (λ f. AreEnds (spot n f a b) (spot n f (a + 1) b) (spot (2 * n) f (a + (a + 1)) (b + b))) (
+      inl (spot_is (omega arith), spot_is (omega arith)),
+      inr (spot_is (omega arith), spot_is (omega arith)),
+      inr (spot_is (omega arith), spot_is (omega arith)),
+      inr (spot_is (omega arith), spot_is (omega arith)),
+      inr (spot_is (omega arith), spot_is (omega arith)),
+      inl (spot_is (omega arith), spot_is (omega arith)),
+    )
     f hf
 
 ends_in_v : (n a b : ℕ) → a ≤ n → b + 1 ≤ n → (f : ℕ) → f < 6 → AreEnds (spot n f a b) (spot n f a (b + 1)) (spot (2 * n) f (a + a) (b + (b + 1)))
 unfolding spot lower upper
 ends_in_v n a b ha hb f hf =
-    six (λ f. AreEnds (spot n f a b) (spot n f a (b + 1)) (spot (2 * n) f (a + a) (b + (b + 1))))
-    (inl (spot_is _ _ (omega arith) (omega arith) (omega arith), spot_is _ _ (omega arith) (omega arith) (omega arith)))
-    (inl (spot_is _ _ (omega arith) (omega arith) (omega arith), spot_is _ _ (omega arith) (omega arith) (omega arith)))
-    (inr (spot_is _ _ (omega arith) (omega arith) (omega arith), spot_is _ _ (omega arith) (omega arith) (omega arith)))
-    (inr (spot_is _ _ (omega arith) (omega arith) (omega arith), spot_is _ _ (omega arith) (omega arith) (omega arith)))
-    (inl (spot_is _ _ (omega arith) (omega arith) (omega arith), spot_is _ _ (omega arith) (omega arith) (omega arith)))
-    (inl (spot_is _ _ (omega arith) (omega arith) (omega arith), spot_is _ _ (omega arith) (omega arith) (omega arith)))
+    six (λ f. AreEnds (spot n f a b) (spot n f a (b + 1)) (spot (2 * n) f (a + a) (b + (b + 1)))) (
+      inl (spot_is (omega arith), spot_is (omega arith)),
+      inl (spot_is (omega arith), spot_is (omega arith)),
+      inr (spot_is (omega arith), spot_is (omega arith)),
+      inr (spot_is (omega arith), spot_is (omega arith)),
+      inl (spot_is (omega arith), spot_is (omega arith)),
+      inl (spot_is (omega arith), spot_is (omega arith)),
+    )
     f hf
 
 unfoldable sum_spot : ℕ → ℕ → FaceIj → Spot
@@ -221,24 +210,20 @@ to_sum : (k : ℕ) (s : FaceIj) → IsSquare k s → (m : ℕ) → m < 4 → mid
 unfolding middle sum_spot
 to_sum k s is m hm = let e = ends s.i s.j (2 ^ k) is.i is.j m hm in ap₂ (spot (2 * 2 ^ k) s.face) e.mu e.mv
 
-bottom_ends : (k : ℕ) (s : FaceIj) → IsSquare k s → AreEnds (start_spot k 0 s) (end_spot k 0 s) (sum_spot k 0 s)
+ends_of_sum : (k : ℕ) (s : FaceIj) → IsSquare k s → (m : ℕ) → m < 4 → AreEnds (start_spot k m s) (end_spot k m s) (sum_spot k m s)
 unfolding sum_spot start_u start_v end_u end_v
-bottom_ends k s is = let a = is.i in let b = is.j in ends_in_u (2 ^ k) s.i s.j (omega arith) (omega arith) s.face is.face
-
-right_ends : (k : ℕ) (s : FaceIj) → IsSquare k s → AreEnds (start_spot k 1 s) (end_spot k 1 s) (sum_spot k 1 s)
-unfolding sum_spot start_u start_v end_u end_v
-right_ends k s is = let a = is.i in let b = is.j in ends_in_v (2 ^ k) (s.i + 1) s.j (omega arith) (omega arith) s.face is.face
-
-top_ends : (k : ℕ) (s : FaceIj) → IsSquare k s → AreEnds (start_spot k 2 s) (end_spot k 2 s) (sum_spot k 2 s)
-unfolding sum_spot start_u start_v end_u end_v
-top_ends k s is = let a = is.i in let b = is.j in ends_in_u (2 ^ k) s.i (s.j + 1) (omega arith) (omega arith) s.face is.face
-
-left_ends : (k : ℕ) (s : FaceIj) → IsSquare k s → AreEnds (start_spot k 3 s) (end_spot k 3 s) (sum_spot k 3 s)
-unfolding sum_spot start_u start_v end_u end_v
-left_ends k s is = let a = is.i in let b = is.j in ends_in_v (2 ^ k) s.i s.j (omega arith) (omega arith) s.face is.face
+ends_of_sum k s is =
+    let a = is.i in
+    let b = is.j in
+    four (λ m. AreEnds (start_spot k m s) (end_spot k m s) (sum_spot k m s)) (
+      ends_in_u (2 ^ k) s.i s.j (omega arith) (omega arith) s.face is.face,
+      ends_in_v (2 ^ k) (s.i + 1) s.j (omega arith) (omega arith) s.face is.face,
+      ends_in_u (2 ^ k) s.i (s.j + 1) (omega arith) (omega arith) s.face is.face,
+      ends_in_v (2 ^ k) s.i s.j (omega arith) (omega arith) s.face is.face,
+    )
 
 ends_of_side : (k : ℕ) (s : FaceIj) → IsSquare k s → (m : ℕ) → m < 4 → AreEnds (start_spot k m s) (end_spot k m s) (middle (2 ^ k) m s.face s.i s.j)
-ends_of_side k s is m hm = subst (λ p. AreEnds (start_spot k m s) (end_spot k m s) p) (sym (to_sum k s is m hm)) (four (λ m. AreEnds (start_spot k m s) (end_spot k m s) (sum_spot k m s)) (bottom_ends k s is) (right_ends k s is) (top_ends k s is) (left_ends k s is) m hm)
+ends_of_side k s is m hm = subst (λ p. AreEnds (start_spot k m s) (end_spot k m s) p) (sym (to_sum k s is m hm)) (ends_of_sum k s is m hm)
 
 pub side_from_middle : (k : ℕ) (s t : FaceIj) → k ≤ 30 → IsSquare k s → IsSquare k t → (m o : ℕ) → m < 4 → o < 4 → middle (2 ^ k) m s.face s.i s.j ≡ middle (2 ^ k) o t.face t.i t.j → AreOneSide (side_start m s) (side_end m s) (side_start o t) (side_end o t)
 side_from_middle k s t h is it m o hm ho e =

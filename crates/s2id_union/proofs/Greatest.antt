@@ -1,5 +1,5 @@
 -- The greatest cell of a run of leaves, by zeros and width.
-use Rattle.std.proofs.Common.{◌≡◌, ℕ, zero, suc, ◌+◌, ◌-◌, ◌*◌, ◌/◌, ◌%◌, ◌^◌, ◌<◌, ◌≤◌, inl, inr, length, sym, ◌∙◌, ap, arith}
+use Rattle.std.proofs.Common.{◌≡◌, ℕ, zero, suc, ◌+◌, ◌-◌, ◌*◌, ◌/◌, ◌%◌, ◌^◌, ◌<◌, ◌≤◌, inl, inr, length, sym, ◌∙◌, ap, refl, arith, subst}
 use Rattle.std.specs.Int.{w64, trailing_zeros}
 use Rattle.std.specs.Int.Count.{count_trailing_zeros}
 use Rattle.std.proofs.Math.Nat.{mul-le-mul_right}
@@ -105,18 +105,16 @@ some_fit at limit wide fit odd odd_limit some w1 w2 least =
     least.greatest 1 one_zero one_wide (omega arith)
 
 -- the width as the code shifts it
-pub shifted : (fit : ℕ) → fit ≤ 61 → 1 * 2 ^ (2 * ((fit - 1) / 2)) % 18446744073709551616 ≡ 4 ^ ((fit - 1) / 2)
+shifted : (fit : ℕ) → fit ≤ 61 → 1 * 2 ^ (2 * ((fit - 1) / 2)) % 18446744073709551616 ≡ 4 ^ ((fit - 1) / 2)
 shifted fit h = one_shl (2 * ((fit - 1) / 2)) 64 (omega arith) ∙ four_pow ((fit - 1) / 2)
 
-pub greatest_cell : (at limit zeros wide fit : ℕ) → at % 2 ≡ 1 → limit % 2 ≡ 1 → at < limit → limit ≤ 13835058055282163713 → zeros ≡ trailing_zeros w64 (at - 1) → 2 ^ wide ≤ limit - at → limit - at < 2 * 2 ^ wide → IsLeast fit zeros wide 61 → IsCellNumber (at - 1 + 4 ^ ((fit - 1) / 2)) × IsGreatest (at - 1 + 4 ^ ((fit - 1) / 2)) at limit
-greatest_cell at limit zeros wide fit odd odd_limit some on_curve z w1 w2 least =
+greatest_cell : (at limit wide fit : ℕ) → at % 2 ≡ 1 → limit % 2 ≡ 1 → at < limit → limit ≤ 13835058055282163713 → 2 ^ wide ≤ limit - at → limit - at < 2 * 2 ^ wide → IsLeast fit (trailing_zeros w64 (at - 1)) wide 61 → IsCellNumber (at - 1 + 4 ^ ((fit - 1) / 2)) × IsGreatest (at - 1 + 4 ^ ((fit - 1) / 2)) at limit
+greatest_cell at limit wide fit odd odd_limit some on_curve w1 w2 least =
     let h = (fit - 1) / 2 in
     let l1 = least.first in
     let l2 = least.second in
     let l3 = least.third in
-    let one_zero = zeros_least 64 1 ((at - 1) / 2) (at - 1) (omega arith) (let e : at - 1 ≡ (at - 1) / 2 * 2 = omega arith in e) in
-    let one_wide : 1 ≤ wide = elim (cases_lt wide 1) [ inl lt ↦ absurd (let e : wide ≡ 0 = omega arith in let f = ap (λ x. 2 ^ x) e in omega arith) | inr le ↦ le ] in
-    let some_fit = least.greatest 1 (omega arith) one_wide (omega arith) in
+    let some_fits = some_fit at limit wide fit odd odd_limit some w1 w2 least in
     let m = multiple (2 * h + 1) (at - 1) (omega arith) (omega arith) in
     let two = four_pow_odd h in
     let pos = four_pos h in
@@ -131,7 +129,7 @@ greatest_cell at limit zeros wide fit odd odd_limit some on_curve z w1 w2 least 
         begins = omega arith;
         ends = omega arith;
         greatest = λ b cell begins ends.
-            let f = fits at limit zeros wide some z w2 b cell begins ends in
+            let f = fits at limit (trailing_zeros w64 (at - 1)) wide some refl w2 b cell begins ends in
             let k = 30 - length (path_at b).digits in
             let le = least.greatest (2 * k + 1) f.0 f.1 (omega arith) in
             let r = run b cell in
@@ -147,3 +145,8 @@ greatest_cell at limit zeros wide fit odd odd_limit some on_curve z w1 w2 least 
 
     four_monotone : (a b : ℕ) → a ≤ b → 4 ^ a ≤ 4 ^ b
     four_monotone a b h = elim (cases_lt a b) [ inl lt ↦ let m = four_below a b lt in omega arith | inr ge ↦ let e = ap (λ x. 4 ^ x) (let f : a ≡ b = omega arith in f) in omega arith ]
+
+-- the same, as the code shifts it
+pub greatest_shifted : (at limit wide fit : ℕ) → at % 2 ≡ 1 → limit % 2 ≡ 1 → at < limit → limit ≤ 13835058055282163713 → 2 ^ wide ≤ limit - at → limit - at < 2 * 2 ^ wide → IsLeast fit (trailing_zeros w64 (at - 1)) wide 61 → let n = at - 1 + 1 * 2 ^ (2 * ((fit - 1) / 2)) % 18446744073709551616 in IsCellNumber n × IsGreatest n at limit
+greatest_shifted at limit wide fit odd odd_limit some on_curve w1 w2 least =
+    subst (λ x. IsCellNumber (at - 1 + x) × IsGreatest (at - 1 + x) at limit) (sym (shifted fit least.third)) (greatest_cell at limit wide fit odd odd_limit some on_curve w1 w2 least)

@@ -26,14 +26,6 @@ grown_later cells free more h le = record {
   maximal = λ c held b cell nest all. h.maximal c held b cell nest (λ q f t low. all q f t (omega arith));
 }
 
-pub growing_start : (old : List CellId) (free start limit : ℕ) → IsGrown old free → free ≤ start → start ≤ limit → IsGrowing old old start limit start
-growing_start old free start limit h le run = record {
-  chain = h.chain;
-  below = λ c held. let b = h.below c held in omega arith;
-  maximal = λ c held b cell nest all. h.maximal c held b cell nest (λ q f t low. elim (all q f t (omega arith)) [ inl v ↦ v | inr r ↦ absurd (let a = r.from in omega arith) ]);
-  covers = λ q. (inl, λ v. elim v [ inl c ↦ c | inr r ↦ absurd (let a = r.from in let b = r.to in omega arith) ]);
-}
-
 -- it is maximal
 step_maximal : (old cells : List CellId) (start limit at : ℕ) → IsGrowing old cells start limit at → start ≤ at → at < limit → (c : ℕ) → IsCellNumber c → IsGreatest c at limit → IsMaximal (λ q. Covers old q ⊎ InRun start limit q) (limit + 1) c
 step_maximal old cells start limit at h from to c cell_c g b cell_b nest all =

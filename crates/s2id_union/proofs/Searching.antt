@@ -1,5 +1,5 @@
 -- The one cell of a normal list that can hold a place.
-use Rattle.std.proofs.Common.{◌≡◌, ℕ, ◌<◌, ◌≤◌, inl, inr, List, length, get_or, sym, ◌∙◌, ap, arith, subst, Contains}
+use Rattle.std.proofs.Common.{◌≡◌, ℕ, ◌+◌, ◌<◌, ◌≤◌, inl, inr, List, length, get_or, sym, ◌∙◌, ap, arith, subst, Contains}
 use Rattle.std.proofs.lemmas.Bool.{cases_lt}
 use Rattle.std.proofs.lemmas.List.{get_or_default}
 use Rattle.std.proofs.lemmas.List.Elements.{Contains-get_or}
@@ -50,6 +50,19 @@ ends_rise cells chain i j d le l =
       | inr ge ↦ let e = ap (λ k. end_of (get_or cells k d)) (let f : i ≡ j = omega arith in f) in omega arith
     ]
 
+-- the same by a cell of the list
+pub ends_from : (cells : List CellId) → IsChain cells → (k : ℕ) (x : CellId) → k < length cells → x ≡ get_or cells k x → (j : ℕ) (d : CellId) → k ≤ j → j < length cells → end_of x ≤ end_of (get_or cells j d)
+ends_from cells chain k x l is j d le within =
+    let e = ap (λ (c : CellId). end_of c) (is ∙ get_or_default cells k x d l) in
+    let r = ends_rise cells chain k j d le within in
+    omega arith
+
+pub ends_to : (cells : List CellId) → IsChain cells → (k : ℕ) (x : CellId) → k < length cells → x ≡ get_or cells k x → (j : ℕ) (d : CellId) → j < k + 1 → j < length cells → end_of (get_or cells j d) ≤ end_of x
+ends_to cells chain k x l is j d lt within =
+    let e = ap (λ (c : CellId). end_of c) (is ∙ get_or_default cells k x d l) in
+    let r = ends_rise cells chain j k d (omega arith) l in
+    omega arith
+
 pub ahead_start : (cells : List CellId) (at : ℕ) → ((j : ℕ) (d : CellId) → 0 ≤ j → j < length cells → at < end_of (get_or cells j d)) → IsAhead cells 0 at
 ahead_start cells at h = record { passed = λ j d lt l. absurd (omega arith); ahead = h }
 
@@ -73,8 +86,8 @@ all_from_within cells x cell held nest l i =
     (held.0, x, held.1, held.2, leaves l i)
 
 -- a cell whose leaves are all in the region lies within the first cell that is not passed
-pub within_ahead : (cells : List CellId) → IsNormal cells → (k : ℕ) (cell : CellId) → IsAhead cells k (first_of cell) → HasAllOf cells (path_of cell) → (k < length cells) × ((x : CellId) → x ≡ get_or cells k x → IsNested (raw_of cell) (raw_of x))
-within_ahead cells normal k cell h all =
+pub within_ahead : (cells : List CellId) → IsNormal cells → (k at : ℕ) (cell : CellId) → at ≡ first_of cell → IsAhead cells k at → HasAllOf cells (path_of cell) → (k < length cells) × ((x : CellId) → x ≡ get_or cells k x → IsNested (raw_of cell) (raw_of x))
+within_ahead cells normal k at cell begins h all =
     let a = around_from_all cells normal (path_of cell) (path_of_cell (raw_of cell) cell.valid) all in
     let y = a.1 in
     let nest = nested_from_within (raw_of cell) (raw_of y) cell.valid y.valid a.4 in
@@ -85,7 +98,7 @@ within_ahead cells normal k cell h all =
     let s2 = s.to in
     let f = ap (λ (c : CellId). first_of c) a.3 in
     let e = ap (λ (c : CellId). end_of c) a.3 in
-    let same : a.0 ≡ k = at_ahead cells (chain_from_normal cells normal) k (first_of cell) h a.0 y a.2 (omega arith) (omega arith) in
+    let same : a.0 ≡ k = at_ahead cells (chain_from_normal cells normal) k at h a.0 y a.2 (omega arith) (omega arith) in
     let short = a.2 in
     let here : k < length cells = omega arith in (
       here,
@@ -95,8 +108,8 @@ within_ahead cells normal k cell h all =
     )
 
 -- a cell that shares a leaf with the region shares it with the first cell that is not passed
-pub meets_ahead : (cells : List CellId) → IsNormal cells → (k : ℕ) (cell : CellId) → IsAhead cells k (first_of cell) → Meets cells (path_of cell) → (k < length cells) × ((x : CellId) → x ≡ get_or cells k x → (first_of x < end_of cell) × (first_of cell < end_of x))
-meets_ahead cells normal k cell h m =
+pub meets_ahead : (cells : List CellId) → IsNormal cells → (k at : ℕ) (cell : CellId) → at ≡ first_of cell → IsAhead cells k at → Meets cells (path_of cell) → (k < length cells) × ((x : CellId) → x ≡ get_or cells k x → (first_of x < end_of cell) × (first_of cell < end_of x))
+meets_ahead cells normal k at cell begins h m =
     let leaf = m.0 in
     let in_cell = m.1 in
     let j = m.2.0 in

@@ -13,7 +13,7 @@ use Rattle.s2id_union.specs.Covers.{Covers, IsChain, IsAdded, IsAhead, IsReached
 use Rattle.s2id_union.proofs.Covering.{covers_nil, covers_bounds}
 use Rattle.s2id_union.proofs.Growing.{grown_nil, grown_later}
 use Rattle.s2id_union.proofs.Normal.{normal_from_grown}
-use Rattle.s2id_union.proofs.Searching.{ends_rise, ahead_start}
+use Rattle.s2id_union.proofs.Searching.{ends_rise, ends_from, ends_to, ahead_start}
 
 -- a covering cell, by its index
 record CoversAt (cells : List CellId) (q : ℕ) : Type 0 where
@@ -34,74 +34,68 @@ by_index cells q h =
       to = subst (λ (x : CellId). q < end_of x) e h.to;
     }
 
-not_true : IsTrue false → ⊥
-not_true h = false≢true h
+-- a stretch up to its end, that lies in the list's runs or outside them
+pub record IsStretch (cells : List CellId) (k at end : ℕ) (inside : Bool) : Type 0 where
+  pub rises : at < end
+  pub on_curve : end ≤ 13835058055282163713
+  pub odd : end % 2 ≡ 1
+  pub reached : IsReached cells k end
+  pub constant : IsConstant cells at end inside
 
-pub none_ahead : (cells : List CellId) (k at : ℕ) → IsAhead cells k at → length cells ≤ k → (end : ℕ) → IsReached cells k end × IsConstant cells at end false
-none_ahead cells k at h past end = (
-  λ j d le l. absurd (omega arith),
-  λ q from to. (
-    λ v.
-        let w = by_index cells q v in
-        let l = w.within in
-        let p = h.passed w.at w.cell (omega arith) l in
-        let t = w.to in
-        absurd (omega arith),
-    λ no. absurd (not_true no),
-  ),
-)
-
-pub before_first : (cells : List CellId) → IsChain cells → (k at : ℕ) → IsAhead cells k at → (x : CellId) → k < length cells → x ≡ get_or cells k x → at < first_of x → IsReached cells k (first_of x) × IsConstant cells at (first_of x) false
-before_first cells chain k at h x l is lt =
+pub before_first : (cells : List CellId) → IsChain cells → (k at end : ℕ) → IsAhead cells k at → (x : CellId) → k < length cells → x ≡ get_or cells k x → end ≡ first_of x → at < end → IsStretch cells k at end false
+before_first cells chain k at end h x l is here rises =
     let s = span (raw_of x) x.valid in
     let s1 = s.from in
-    let s2 = s.to in (
-      λ j d le within.
-          let e = ap (λ (c : CellId). end_of c) (is ∙ get_or_default cells k x d l) in
-          let r = ends_rise cells chain k j d le within in
-          omega arith,
-      λ q from to. (
+    let s2 = s.to in
+    let s3 = s.ends in
+    let s4 = s.odd in
+    record {
+      rises = rises;
+      on_curve = omega arith;
+      odd = omega arith;
+      reached = λ j d le within. let r = ends_from cells chain k x l is j d le within in omega arith;
+      constant = λ q from to. (
         λ v.
             let w = by_index cells q v in
             let l2 = w.within in
             let f = w.from in
             let t = w.to in
-            let e = ap (λ (c : CellId). end_of c) (is ∙ get_or_default cells k x w.cell l) in
             let g = ap (λ (c : CellId). first_of c) (is ∙ get_or_default cells k x w.cell l) in
             elim (cases_lt w.at k) [
               | inl before ↦ absurd (let p = h.passed w.at w.cell before l2 in omega arith)
               | inr ge ↦
                   elim (cases_lt k w.at) [
-                    | inl behind ↦ absurd (let c = chain k w.at w.cell behind l2 in omega arith)
+                    | inl behind ↦
+                        absurd (let e = ap (λ (c : CellId). end_of c) (is ∙ get_or_default cells k x w.cell l) in let c = chain k w.at w.cell behind l2 in omega arith)
                     | inr le ↦
                         absurd (let m = ap (λ i. first_of (get_or cells i w.cell)) (let n : w.at ≡ k = omega arith in n) in omega arith)
                   ]
             ],
-        λ no. absurd (not_true no),
-      ),
-    )
+        λ no. absurd (false≢true no),
+      );
+    }
 
-pub within_cell : (cells : List CellId) → IsChain cells → (k at : ℕ) → (x : CellId) → k < length cells → x ≡ get_or cells k x → first_of x ≤ at → IsReached cells k (end_of x) × IsConstant cells at (end_of x) true
-within_cell cells chain k at x l is le = (
-  λ j d ge within.
-      let e = ap (λ (c : CellId). end_of c) (is ∙ get_or_default cells k x d l) in
-      let r = ends_rise cells chain k j d ge within in
-      omega arith,
-  λ q from to. (λ _. refl, λ _. record { cell = x; held = (k, l, sym is); from = omega arith; to = to }),
-)
+pub within_cell : (cells : List CellId) → IsChain cells → (k at first end : ℕ) → IsAhead cells k at → (x y : CellId) → k < length cells → x ≡ get_or cells k x → y ≡ get_or cells k y → first ≡ first_of x → end ≡ end_of y → first ≤ at → IsStretch cells k at end true
+within_cell cells chain k at first end h x y l is is_y begins here le =
+    let s = span (raw_of y) y.valid in
+    let s3 = s.ends in
+    let s5 = s.odd_end in
+    let more = h.ahead k y (omega arith) l in
+    let last = ap (λ (c : CellId). end_of c) is_y in
+    let same = ap (λ (c : CellId). first_of c) (is ∙ get_or_default cells k x y l ∙ sym is_y) in
+    record {
+      rises = omega arith;
+      on_curve = omega arith;
+      odd = omega arith;
+      reached = λ j d ge within. let r = ends_from cells chain k y l is_y j d ge within in omega arith;
+      constant = λ q from to. (λ _. refl, λ _. record { cell = y; held = (k, l, sym is_y); from = omega arith; to = omega arith });
+    }
 
 -- ---- on to the end of a stretch
 
 pub ahead_passed : (cells : List CellId) → IsChain cells → (k at end : ℕ) → IsAhead cells k at → at ≤ end → (x : CellId) → k < length cells → x ≡ get_or cells k x → end_of x ≤ end → IsReached cells k end → IsAhead cells (k + 1) end
 ahead_passed cells chain k at end h le x l is done reached = record {
-  passed = λ j d lt within.
-      elim (cases_lt j k) [
-        | inl before ↦ let p = h.passed j d before within in omega arith
-        | inr ge ↦
-            (let e = ap (λ (c : CellId). end_of c) (is ∙ get_or_default cells k x d l) in
-            let f = ap (λ i. end_of (get_or cells i d)) (let n : j ≡ k = omega arith in n) in
-            omega arith)
-      ];
+  passed = λ j d lt within. let r = ends_to cells chain k x l is j d lt within in omega arith;
   ahead = λ j d ge within.
       let c = chain k j d (omega arith) within in
       let r = reached k d (omega arith) l in

@@ -14,6 +14,7 @@ use Rattle.s2ix_cli.specs.Carry.{is_counted, is_refused, Takes, StopsAt, StopsAm
 use Rattle.s2ix_script.specs.Lines.{lines_of}
 use Rattle.s2ix_cli.specs.Script.{after, output_of, counted_in, refused_in, carried, MOST, Finishes, StopsAfter}
 use Rattle.s2ix_cli.specs.Step.{step_of}
+use Rattle.s2ix_cli.specs.Wants.{IsWantOnlyIf, LineWants, WantsAmong}
 
 -- ---- lines and then one more
 
@@ -142,6 +143,37 @@ StopsAmong-reached stop whole left rest line old now new before mid behind told 
     (at.0 ∙ ap (λ x. x.after) here ∙ sym (after-more old r.done line))
     (subst (AppendsFront before behind) (ap (λ x. output_of old r.done ++ x.answer) here ∙ sym (output_of-more old r.done line))
     (AppendsFront-after before mid behind (output_of old r.done) (step_of now line).answer r.output at.1))
+
+-- a line wanted memory behind those that are done
+pub WantsAmong-reached : (stop : Bool) (whole left rest : List (List ℕ)) (line : List ℕ) (old now new : State) (before mid behind : Option (List ℕ)) (told : RunEnd) (fault : RunFault)
+    → Reached stop whole left old now before mid told → left ≡ line ∷ rest → StopsAt (step_of now line) now new mid behind fault → IsWantOnlyIf (LineWants now line) fault
+    → IsWantOnlyIf (WantsAmong stop whole old new) fault
+WantsAmong-reached stop whole left rest line old now new before mid behind told OutOfMemory r e at wants =
+    record {
+      done = r.done;
+      line = line;
+      rest = if stop && (step_of now line).is_refused then [] else carried stop (step_of now line).after rest;
+      are_carried = r.goes_on ∙ ap (λ l. r.done ++ carried stop now l) e;
+      store = at.0 ∙ r.store;
+      wants = subst (λ s. LineWants s line) (sym at.0) wants;
+    }
+WantsAmong-reached stop whole left rest line old now new before mid behind told Read r e at wants = tt
+WantsAmong-reached stop whole left rest line old now new before mid behind told Write r e at wants = tt
+WantsAmong-reached stop whole left rest line old now new before mid behind told ReaderTooLong r e at wants = tt
+
+-- a weaker condition holds where the stronger one does
+pub IsWantOnlyIf-weaker : {P Q : Type 0} (fault : RunFault) → (P → Q) → IsWantOnlyIf P fault → IsWantOnlyIf Q fault
+IsWantOnlyIf-weaker OutOfMemory f p = f p
+IsWantOnlyIf-weaker Read f p = tt
+IsWantOnlyIf-weaker Write f p = tt
+IsWantOnlyIf-weaker ReaderTooLong f p = tt
+
+-- a condition that holds
+pub IsWantOnlyIf-held : {P : Type 0} (fault : RunFault) → P → IsWantOnlyIf P fault
+IsWantOnlyIf-held OutOfMemory p = p
+IsWantOnlyIf-held Read p = tt
+IsWantOnlyIf-held Write p = tt
+IsWantOnlyIf-held ReaderTooLong p = tt
 
 -- ---- the whole run
 

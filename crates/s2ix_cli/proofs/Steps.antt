@@ -1,5 +1,5 @@
 -- What single moves come to, by what the store answers.
-use Rattle.std.proofs.Common.{◌≡◌, ◌≢◌, ◌-◌, ℕ, List, [], ◌∷◌, Option, None, Some, refl, sym, ap, ◌∙◌, subst, length, arith}
+use Rattle.std.proofs.Common.{◌≡◌, ◌≢◌, ◌↔◌, ◌-◌, ℕ, List, [], ◌∷◌, Option, None, Some, refl, sym, ap, ◌∙◌, subst, length, arith}
 use Rattle.std.specs.Prelude.{codes, slice_get}
 use Rattle.std.proofs.lemmas.Option.{slice_get-get_or}
 use Rattle.s2ix_edit.specs.declared.edit.Edit.{Edit}
@@ -13,6 +13,7 @@ use Rattle.s2ix_edit.specs.declared.errors.UndoError.{UndoError}
 use Rattle.s2ix_edit.specs.declared.errors.UndoError.TheVariants.{NothingToUndo}
 use Rattle.s2ix_cli.specs.declared.moves.Refusal.{Refusal}
 use Rattle.s2ix_cli.specs.declared.moves.Refusal.TheVariants as refusal
+use Rattle.s2ix_script.specs.declared.command.Move.TheVariants as move
 use Rattle.s2ix_cli.specs.Moves.{IsOfEdit, IsOfRedo, IsOfUndo, IsRefusedFor}
 use Rattle.s2ix_script.specs.Names.{edit_error_name}
 use Rattle.s2ix_cli.specs.Step.{accepted, refused, edit_step, edit_step_at, undo_step, undo_step_at, redo_step, redo_step_at}
@@ -37,9 +38,9 @@ edit_step-refused s edit TooManyPairs name e other is = ap (edit_step_at s edit)
 edit_step-refused s edit OutOfMemory name e other is = absurd (other refl)
 
 -- an edit that the store stays for
-pub edit_step-stays : (s : State) (edit : Edit) (error : EditError) (why : Refusal) → IsEditRefusal error (edit_refusal s edit) → IsOfEdit error why → IsRefusedFor s (edit_step s edit) why
+pub edit_step-stays : (s : State) (edit : Edit) (error : EditError) (why : Refusal) → IsEditRefusal error (edit_refusal s edit) → IsOfEdit error why → IsRefusedFor s (move.Edit edit) why
 edit_step-stays s edit error (refusal.Named name) e is = edit_step-refused s edit error name.now e is.1 is.0
-edit_step-stays s edit error refusal.OutOfMemory e is = tt
+edit_step-stays s edit error refusal.OutOfMemory e is = subst (λ (x : EditError). IsEditRefusal x (edit_refusal s edit)) is e
 
 -- ---- what an undo and a redo come to
 
@@ -59,9 +60,9 @@ unfolding undo_step
 undo_step-refused s none = ap (undo_step_at s) (ap (λ xs. slice_get xs (length xs - 1)) none)
 
 -- an undo that the store stays for
-pub undo_step-stays : (s : State) (error : UndoError) (why : Refusal) → (error ≡ NothingToUndo → s.done ≡ []) → IsOfUndo error why → IsRefusedFor s (undo_step s) why
-undo_step-stays s error (refusal.Named name) nothing is = undo_step-refused s (nothing is.1) ∙ ap (refused s) (sym is.0)
-undo_step-stays s error refusal.OutOfMemory nothing is = tt
+pub undo_step-stays : (s : State) (error : UndoError) (why : Refusal) → ((error ≡ NothingToUndo) ↔ (s.done ≡ [])) → IsOfUndo error why → IsRefusedFor s move.Undo why
+undo_step-stays s error (refusal.Named name) nothing is = undo_step-refused s (nothing.0 is.1) ∙ ap (refused s) (sym is.0)
+undo_step-stays s error refusal.OutOfMemory nothing is = λ none. let e = nothing.1 none in cc
 
 -- a redo where a change was undone
 pub redo_step-accepted : (s : State) (n : ℕ) → (s.undone ≡ [] → ⊥) → n ≡ redo_size s → redo_step s ≡ accepted (after_redo s) n
@@ -74,6 +75,6 @@ unfolding redo_step
 redo_step-refused s none = ap (redo_step_at s) (ap (λ xs. slice_get xs (length xs - 1)) none)
 
 -- a redo that the store stays for
-pub redo_step-stays : (s : State) (error : RedoError) (why : Refusal) → (error ≡ NothingToRedo → s.undone ≡ []) → IsOfRedo error why → IsRefusedFor s (redo_step s) why
-redo_step-stays s error (refusal.Named name) nothing is = redo_step-refused s (nothing is.1) ∙ ap (refused s) (sym is.0)
-redo_step-stays s error refusal.OutOfMemory nothing is = tt
+pub redo_step-stays : (s : State) (error : RedoError) (why : Refusal) → ((error ≡ NothingToRedo) ↔ (s.undone ≡ [])) → IsOfRedo error why → IsRefusedFor s move.Redo why
+redo_step-stays s error (refusal.Named name) nothing is = redo_step-refused s (nothing.0 is.1) ∙ ap (refused s) (sym is.0)
+redo_step-stays s error refusal.OutOfMemory nothing is = λ none. let e = nothing.1 none in cc

@@ -3,3 +3,4 @@ pub mod Faults
 pub mod Moves
 pub mod Script
 pub mod Step
+pub mod Wants

@@ -7,15 +7,17 @@ use Rattle.s2ix_edit.specs.declared.errors.RedoError.TheVariants as redo
 use Rattle.s2ix_edit.specs.declared.errors.UndoError.{UndoError}
 use Rattle.s2ix_edit.specs.declared.errors.UndoError.TheVariants as undo
 use Rattle.s2ix_edit.specs.History.{State}
+use Rattle.s2ix_script.specs.declared.command.Move.{Move}
 use Rattle.s2ix_script.specs.Names.{edit_error_name}
 use Rattle.s2ix_cli.specs.declared.moves.Refusal.{Refusal}
 use Rattle.s2ix_cli.specs.declared.moves.Refusal.TheVariants.{Named, OutOfMemory}
-use Rattle.s2ix_cli.specs.Step.{Step, refused}
+use Rattle.s2ix_cli.specs.Step.{move_step, refused}
+use Rattle.s2ix_cli.specs.Wants.{MoveWants}
 
--- the step is refused by this name, or memory was wanted
-abbrev pub IsRefusedFor : State → Step → Refusal → Type 0
-IsRefusedFor s step (Named name) = step ≡ refused s name.now
-IsRefusedFor s step OutOfMemory = Unit {0}
+-- the move is refused by this name, or wanted memory where it may
+abbrev pub IsRefusedFor : State → Move → Refusal → Type 0
+IsRefusedFor s asked (Named name) = move_step s asked ≡ refused s name.now
+IsRefusedFor s asked OutOfMemory = MoveWants s asked
 
 -- the refusal is that of an edit: its name, but for want of memory
 abbrev pub IsOfEdit : EditError → Refusal → Type 0

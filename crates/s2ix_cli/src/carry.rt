@@ -1,8 +1,9 @@
 //! Carrying one line out: from its bytes to the store's step and the answer.
-ghost use Rattle.std.specs.Prelude.{◌≡◌, ◌+◌, ◌-◌, ◌^◌, ◌<◌};
+ghost use Rattle.std.specs.Prelude.{◌≡◌, ◌+◌, ◌-◌, ◌^◌, ◌<◌, IfErr};
 ghost use Rattle.s2ix_cli.specs.Carry.{Carries};
 ghost use Rattle.s2ix_cli.specs.Faults.{sink_faults};
 ghost use Rattle.s2ix_cli.specs.Step.{command_step, move_step, step_of};
+ghost use Rattle.s2ix_cli.specs.Wants.{CommandWants, IsWantOnlyIf, LineWants, MoveWants};
 
 use crate::answer::{put_no, put_ok};
 use crate::moves::{Refusal, moved};
@@ -23,6 +24,7 @@ pub(crate) fn carry_out<K: Sink>(
 ) -> Result<LineOutcome, RunFault>
     requires { K.fault_count sink.old < 2 ^ 64 - 1 }
     ensures carries { Carries (step_of store.old line.now) store.old store.new (K.taken sink.old) (K.taken sink.new) result }
+    ensures memory { IfErr result (IsWantOnlyIf (LineWants store.old line.now)) }
     ensures faults { K.fault_count sink.new ≡ K.fault_count sink.old + sink_faults result }
 {
     match meaning(alloc, line) {
@@ -47,6 +49,7 @@ fn carry_command<K: Sink>(
 ) -> Result<LineOutcome, RunFault>
     requires { K.fault_count sink.old < 2 ^ 64 - 1 }
     ensures carries { Carries (command_step store.old command) store.old store.new (K.taken sink.old) (K.taken sink.new) result }
+    ensures memory { IfErr result (IsWantOnlyIf (CommandWants store.old command)) }
     ensures faults { K.fault_count sink.new ≡ K.fault_count sink.old + sink_faults result }
 {
     match command {
@@ -63,6 +66,7 @@ fn carry_move<K: Sink>(
 ) -> Result<LineOutcome, RunFault>
     requires { K.fault_count sink.old < 2 ^ 64 - 1 }
     ensures carries { Carries (move_step store.old asked) store.old store.new (K.taken sink.old) (K.taken sink.new) result }
+    ensures memory { IfErr result (IsWantOnlyIf (MoveWants store.old asked)) }
     ensures faults { K.fault_count sink.new ≡ K.fault_count sink.old + sink_faults result }
 {
     match moved(store, asked) {

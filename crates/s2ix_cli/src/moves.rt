@@ -51,7 +51,7 @@ impl From<RedoError> for Refusal {
 // Moves a store, and tells how many pairs changed their counts.
 pub(crate) fn moved(store: &mut Store, asked: Move) -> Result<usize, Refusal>
     ensures accepted { IfOk result (λ pairs. move_step store.old asked ≡ accepted store.new pairs) }
-    ensures refused { IfErr result (IsRefusedFor store.old (move_step store.old asked)) }
+    ensures refused { IfErr result (IsRefusedFor store.old asked) }
     ensures unchanged { OnErr result (store.new ≡ store.old) }
 {
     match asked {

@@ -1,8 +1,9 @@
 //! Answering a query: it reads the store and prints, and changes nothing.
-ghost use Rattle.std.specs.Prelude.{◌≡◌, ◌+◌, ◌-◌, ◌^◌, ◌<◌};
+ghost use Rattle.std.specs.Prelude.{◌≡◌, ◌≢◌, ◌+◌, ◌-◌, ◌^◌, ◌<◌, Err, IfErr};
 ghost use Rattle.s2ix_cli.specs.Carry.{Carries};
 ghost use Rattle.s2ix_cli.specs.Faults.{sink_faults};
 ghost use Rattle.s2ix_cli.specs.Step.{at_step, query_step};
+ghost use Rattle.s2ix_cli.specs.Wants.{IsWantOnlyIf, QueryWants};
 
 use crate::answer::{put_neighbors, put_no, put_path, put_square};
 use crate::outcome::{LineOutcome, RunFault};
@@ -23,6 +24,7 @@ pub(crate) fn answer_query<K: Sink>(
 ) -> Result<LineOutcome, RunFault>
     requires { K.fault_count sink.old < 2 ^ 64 - 1 }
     ensures carries { Carries (query_step store.now query) store.now store.now (K.taken sink.old) (K.taken sink.new) result }
+    ensures memory { IfErr result (IsWantOnlyIf (QueryWants query)) }
     ensures faults { K.fault_count sink.new ≡ K.fault_count sink.old + sink_faults result }
 {
     match query {
@@ -43,6 +45,7 @@ pub(crate) fn answer_query<K: Sink>(
 fn answer_at<K: Sink>(store: &Store, sink: &mut K, cell: CellId) -> Result<LineOutcome, RunFault>
     requires { K.fault_count sink.old < 2 ^ 64 - 1 }
     ensures carries { Carries (at_step store.now cell) store.now store.now (K.taken sink.old) (K.taken sink.new) result }
+    ensures memory { result ≢ Err RunFault.OutOfMemory }
     ensures faults { K.fault_count sink.new ≡ K.fault_count sink.old + sink_faults result }
 {
     if !cell.is_leaf() {

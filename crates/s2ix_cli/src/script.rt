@@ -1,10 +1,11 @@
 //! A run: the lines of a script, one after the other.
-ghost use Rattle.std.specs.Prelude.{◌≡◌, ◌≢◌, ℕ, ◌+◌, ◌-◌, ◌^◌, ◌<◌, List, length, Err, IfOk, IfErr, OnErr};
+ghost use Rattle.std.specs.Prelude.{◌≡◌, ◌≢◌, ◌⊎◌, ℕ, ◌+◌, ◌-◌, ◌^◌, ◌<◌, List, length, Err, IfOk, IfErr, OnErr};
 ghost use Rattle.std.specs.Io.KnownBytes.{Consumes, IsAtEnd};
 ghost use Rattle.s2ix_cli.specs.Carry.{StopsAmong};
 ghost use Rattle.s2ix_cli.specs.Faults.{source_faults, sink_faults, IsPatient};
 ghost use Rattle.s2ix_script.specs.Lines.{lines_of};
 ghost use Rattle.s2ix_cli.specs.Script.{Finishes, StopsAfter};
+ghost use Rattle.s2ix_cli.specs.Wants.{IsWantOnlyIf, WantsAmong};
 
 use crate::carry::carry_out;
 use crate::outcome::{RunEnd, RunFault, RunOptions};
@@ -20,7 +21,8 @@ use std::alloc::Global;
 ///
 /// The first fault ends the run: `Read` and `Write` at the first fault of the source and the sink (a failed flush is `Write`),
 /// `OutOfMemory` where a growth was refused, `ReaderTooLong` where `turns` pieces were read and none was the end. A line that memory
-/// was refused for has changed nothing and printed nothing. After a fault the store keeps what the lines before it did.
+/// was refused for has changed nothing and printed nothing, and it is an edit, an undo, a redo or a line with a list of cells. After a
+/// fault the store keeps what the lines before it did.
 pub fn run<S: Source, K: Sink>(
     alloc: Global,
     source: &mut S,
@@ -35,6 +37,9 @@ pub fn run<S: Source, K: Sink>(
         × Finishes options.stop input store.old store.new (K.taken sink.old) (K.taken sink.new) told) }
     ensures stopped { OnErr result ((input : List ℕ) × Consumes (S.left source.old) (S.left source.new) input
         × StopsAfter options.stop input (S.left source.new) store.old store.new (K.taken sink.old) (K.taken sink.new)) }
+    ensures memory { IfErr result (IsWantOnlyIf ((store.new ≡ store.old)
+        ⊎ ((input : List ℕ) × Consumes (S.left source.old) (S.left source.new) input
+        × WantsAmong options.stop (lines_of input) store.old store.new))) }
     ensures too_long { IfErr result (λ fault. IsPatient S.gives fault options.turns source.old source.new) }
     ensures source_faults { S.fault_count source.new ≡ S.fault_count source.old + source_faults result }
     ensures sink_faults { K.fault_count sink.new ≡ K.fault_count sink.old + sink_faults result }
@@ -56,6 +61,7 @@ fn carry_lines<K: Sink>(
     requires { K.fault_count sink.old < 2 ^ 64 - 1 }
     ensures finished { IfOk result (λ told. Finishes stop text.now store.old store.new (K.taken sink.old) (K.taken sink.new) told) }
     ensures stopped { OnErr result (StopsAmong stop (lines_of text.now) store.old store.new (K.taken sink.old) (K.taken sink.new)) }
+    ensures memory { IfErr result (IsWantOnlyIf (WantsAmong stop (lines_of text.now) store.old store.new)) }
     ensures no_read { result ≢ Err RunFault.Read }
     ensures no_turns { result ≢ Err RunFault.ReaderTooLong }
     ensures faults { K.fault_count sink.new ≡ K.fault_count sink.old + sink_faults result }

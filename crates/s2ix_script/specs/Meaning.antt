@@ -1,5 +1,6 @@
 -- What a line of a script asks for.
-use Rattle.std.specs.Prelude.{◌≡◌, ℕ, ◌==◌, ◌||◌, nat_lt, if◌then◌else◌, Bool, true, false, codes, Option, Some, None, Result, Ok, Err, List, [], ◌∷◌, length, slice_index}
+use Rattle.std.specs.Prelude.{◌≡◌, ℕ, ◌==◌, ◌&&◌, nat_lt, if◌then◌else◌, Bool, true, false, codes, Option, Some, None, Result, Ok, Err, List, [], ◌∷◌, length, slice_index}
+use Rattle.std.specs.Option.{is_some}
 use Rattle.std.specs.Str.{bytes_eq}
 use Rattle.s2id_core.specs.declared.cell_id.CellId.{CellId}
 use Rattle.s2id_core.specs.Spelled.{cell_spelled}
@@ -150,10 +151,6 @@ plain_asked word fields =
     else (if bytes_eq word (codes "journal") then bare (command.Query query.Journal) fields
     else Err BadCommand)))))))))))))
 
--- whether a command takes a list of cells
-abbrev pub takes_list : List ℕ → Bool
-takes_list word = bytes_eq word (codes "addunion") || bytes_eq word (codes "meet") || bytes_eq word (codes "labels")
-
 -- the command that a word and the fields behind it ask for
 abbrev pub command_asked : List ℕ → List (List ℕ) → Result Command LineFault
 command_asked word fields =
@@ -176,18 +173,40 @@ meaning_of_fields (word ∷ fields) = if slice_index word 0 == 35 then Ok None e
 unfoldable pub meaning_of : List ℕ → Result (Option Command) LineFault
 meaning_of line = if nat_lt LONGEST (length line) then Err LineTooLong else meaning_of_fields (fields_of line)
 
--- whether the fields of a line begin with a command that takes a list of cells
-abbrev pub begins_list : List (List ℕ) → Bool
-begins_list [] = false
-begins_list (word ∷ fields) = takes_list word
+-- ---- where memory may be wanted
 
--- the error is the fault of the meaning, or memory was wanted
-abbrev pub IsFault : {A : Type 0} → LineError → Result A LineFault → Type 0
-IsFault (Fault fault) meaning = meaning ≡ Err fault
-IsFault OutOfMemory meaning = Unit {0}
+-- whether cells are gathered for the fields TOKEN..: from the first on, where it names a cell
+abbrev pub gathers_target : List (List ℕ) → Bool
+gathers_target [] = false
+gathers_target (token ∷ tokens) = is_some (cell_spelled token)
 
--- the answer is the meaning, or memory was wanted, as it may be where cells are gathered
+-- and for the fields LABEL TOKEN.., where the first names a label
+abbrev pub gathers_union : List (List ℕ) → Bool
+gathers_union [] = false
+gathers_union (label ∷ tokens) = is_some (label_spelled label) && gathers_target tokens
+
+-- whether a command gathers cells
+abbrev pub gathers_for : List ℕ → List (List ℕ) → Bool
+gathers_for word fields =
+    if bytes_eq word (codes "addunion") then gathers_union fields
+    else (if bytes_eq word (codes "meet") then gathers_target fields
+    else (if bytes_eq word (codes "labels") then gathers_target fields else false))
+
+-- whether the fields of a line gather cells
+abbrev pub gathers_by_fields : List (List ℕ) → Bool
+gathers_by_fields [] = false
+gathers_by_fields (word ∷ fields) = gathers_for word fields
+
+-- whether a line gathers cells
+unfoldable pub gathers : List ℕ → Bool
+gathers line = if nat_lt LONGEST (length line) then false else gathers_by_fields (fields_of line)
+
+-- the error is the fault of the meaning, or memory was wanted where cells are gathered
+abbrev pub IsFault : {A : Type 0} → LineError → Bool → Result A LineFault → Type 0
+IsFault (Fault fault) gathers meaning = meaning ≡ Err fault
+IsFault OutOfMemory gathers meaning = gathers ≡ true
+
+-- the answer is the meaning, or memory was wanted where cells are gathered
 abbrev pub Means : {A : Type 0} → Result A LineError → Bool → Result A LineFault → Type 0
 Means (Ok asked) gathers meaning = meaning ≡ Ok asked
-Means (Err (Fault fault)) gathers meaning = meaning ≡ Err fault
-Means (Err OutOfMemory) gathers meaning = gathers ≡ true
+Means (Err error) gathers meaning = IsFault error gathers meaning

@@ -1,8 +1,8 @@
 -- The steps by which a table is built of all that is held.
-use Rattle.std.proofs.Common.{◌≡◌, ℕ, zero, suc, ◌+◌, ◌%◌, ◌<◌, ◌≤◌, ◌⊎◌, inl, inr, List, [], ◌∷◌, ◌++◌, length, get_or, drop, refl, sym, ◌∙◌, ap, arith, subst, leb, true, false}
+use Rattle.std.proofs.Common.{◌≡◌, ℕ, zero, suc, ◌%◌, ◌<◌, ◌≤◌, ◌⊎◌, inl, inr, List, [], ◌∷◌, ◌++◌, length, get_or, drop, refl, sym, ◌∙◌, ap, arith, subst, leb, true, false, Contains}
 use Rattle.std.proofs.lemmas.Bool.{cases_lt, leb-true, leb-false}
 use Rattle.std.specs.List.Sorted.{IsNonDecreasingBy}
-use Rattle.std.proofs.lemmas.List.{map-append}
+use Rattle.std.proofs.lemmas.List.{map-append, length-map, length-drop, get_or-map, get_or_past}
 use Rattle.std.proofs.lemmas.List.Elements.{Contains-append_left, Contains-push, Contains-push_cases}
 use Rattle.s2id_union.proofs.Lists.{none_in_nil}
 use Rattle.s2id_core.specs.CellId.{first_of, end_of}
@@ -33,66 +33,40 @@ pub record IsNearer (at limit bound result : ℕ) : Type 0 where
   pub past : at < bound → result ≤ bound
   pub is : (result ≡ limit) ⊎ ((result ≡ bound) × (at < bound) × (bound < limit))
 
-bound_more : (hs : Collection) (h : Held) (b : ℕ) → IsBound hs b → IsBound (hs ++ h ∷ []) b
-bound_more hs h b (x, held, is) = (x, Contains-append_left hs (h ∷ []) x held, is)
+-- what holds of the limit and of a bound above a leaf holds of the lesser
+nearer_has : (P : ℕ → Type 0) (at limit bound result : ℕ) → IsNearer at limit bound result → P limit → (at < bound → P bound) → P result
+nearer_has P at limit bound result n of_limit of_bound =
+    elim n.is [ inl e ↦ subst P (sym e) of_limit | inr e ↦ subst P (sym e.0) (of_bound e.1) ]
+
+-- no bound of one kind is passed, with one more pair either
+none_passed : (bound : Held → ℕ) (hs : Collection) (h : Held) (at limit new : ℕ) → new ≤ limit → ((x : Held) → Contains hs x → at < bound x → limit ≤ bound x) → (at < bound h → new ≤ bound h) → (x : Held) → Contains (hs ++ h ∷ []) x → at < bound x → new ≤ bound x
+none_passed bound hs h at limit new le before own x held lt =
+    elim (Contains-push_cases hs h x held) [
+      | inl c ↦ let p = before x c lt in omega arith
+      | inr e ↦ subst (λ (y : Held). at < bound y → new ≤ bound y) e own lt
+    ]
 
 pub next_more : (hs : Collection) (h : Held) (at limit mid new : ℕ) → IsNextBound hs at limit → IsNearer at limit (first_of h.pair.cell) mid → IsNearer at mid (end_of h.pair.cell) new → IsNextBound (hs ++ h ∷ []) at new
 next_more hs h at limit mid new next first last =
     let s = span_of h in
-    let a = next.above in
-    let b = next.within in
-    let o = next.odd in
-    let f1 = first.within in
-    let l1 = last.within in
-    let so = s.odd in
-    let se = s.odd_end in
+    let le : new ≤ limit = omega (arith, first.within, last.within) in
+    let Fits : ℕ → Type 0 = λ b. (at < b) × (b % 2 ≡ 1) × (b < leaf_end → IsBound (hs ++ h ∷ []) b) in
+    let old : Fits limit = (next.above, next.odd, λ lt. let is = next.is_bound lt in (is.0, Contains-append_left hs (h ∷ []) is.0 is.1, is.2)) in
+    let both = nearer_has Fits at limit _ mid first old (λ lt. (lt, s.odd, λ _. (h, Contains-push hs h, inl refl))) in
+    let fits = nearer_has Fits at mid _ new last both (λ lt. (lt, s.odd_end, λ _. (h, Contains-push hs h, inr refl))) in
     record {
-      above = elim last.is [ inl e ↦ elim first.is [ inl f ↦ omega arith | inr f ↦ omega (arith, f.0, f.1) ] | inr e ↦ omega (arith, e.0, e.1) ];
-      within = omega arith;
-      odd = elim last.is [ inl e ↦ elim first.is [ inl f ↦ omega arith | inr f ↦ omega (arith, f.0) ] | inr e ↦ omega (arith, e.0) ];
-      no_first = λ x held lt.
-          elim (Contains-push_cases hs h x held) [
-            | inl c ↦ let p = next.no_first x c lt in omega arith
-            | inr e ↦
-                (let same = ap (λ (y : Held). first_of y.pair.cell) e in
-                let p = first.past (omega arith) in
-                omega arith)
-          ];
-      no_end = λ x held lt.
-          elim (Contains-push_cases hs h x held) [
-            | inl c ↦ let p = next.no_end x c lt in omega arith
-            | inr e ↦
-                (let same = ap (λ (y : Held). end_of y.pair.cell) e in
-                let p = last.past (omega arith) in
-                omega arith)
-          ];
-      is_bound = λ lt.
-          elim last.is [
-            | inl e ↦
-                elim first.is [
-                  | inl f ↦
-                      (let same : limit ≡ new = omega arith in
-                      let there : limit < leaf_end = omega arith in
-                      subst (IsBound (hs ++ h ∷ [])) same (bound_more hs h limit (next.is_bound there)))
-                  | inr f ↦ (h, Contains-push hs h, inl (sym f.0 ∙ sym e))
-                ]
-            | inr e ↦ (h, Contains-push hs h, inr (sym e.0))
-          ];
+      above = fits.0;
+      within = omega (arith, next.within);
+      odd = fits.1;
+      no_first = none_passed (λ (x : Held). first_of x.pair.cell) hs h at limit new le next.no_first (λ lt. omega (arith, first.past lt, last.within));
+      no_end = none_passed (λ (x : Held). end_of x.pair.cell) hs h at limit new le next.no_end last.past;
+      is_bound = fits.2;
     }
 
 -- ---- runs
 
-pub runs_push : (rows : List CopiedRow) (row : CopiedRow) → runs_of (rows ++ row ∷ []) ≡ runs_of rows ++ run_of row ∷ []
-runs_push rows row = map-append run_of rows (row ∷ [])
-
-pub run_of_row : (rows : List CopiedRow) (k : ℕ) (d : CopiedRow) → k < length rows → run_at (runs_of rows) k ≡ run_of (get_or rows k d)
-run_of_row [] k d lt = absurd (omega arith)
-run_of_row (row ∷ rows) zero d lt = refl
-run_of_row (row ∷ rows) (suc k) d lt = run_of_row rows k d (omega arith)
-
-pub length_runs : (rows : List CopiedRow) → length (runs_of rows) ≡ length rows
-length_runs [] = refl
-length_runs (row ∷ rows) = ap suc (length_runs rows)
+run_of_row : (rows : List CopiedRow) (k : ℕ) (d : CopiedRow) → k < length rows → run_at (runs_of rows) k ≡ run_of (get_or rows k d)
+run_of_row rows k d lt = get_or-map run_of rows k d _ lt
 
 -- what stands while a table is built: the runs up to a leaf at which contents change
 pub record IsBuilt (hs : Collection) (rows : List CopiedRow) (at : ℕ) : Type 0 where
@@ -118,7 +92,7 @@ built_more hs rows at limit row built lt next start ends contents =
     } in
     let table = table_push hs 1 (runs_of rows) at (run_of row) built.table run (λ q le two same. changes_at hs q at (omega arith) two (built.is_bound (omega arith) lt) same) in
     record {
-      table = subst (λ n. IsTable hs 1 (runs_of (rows ++ row ∷ [])) n) ends (subst (λ rs. IsTable hs 1 rs row.limit) (sym (runs_push rows row)) table);
+      table = subst (λ n. IsTable hs 1 (runs_of (rows ++ row ∷ [])) n) ends (subst (λ rs. IsTable hs 1 rs row.limit) (sym (map-append run_of rows (row ∷ []))) table);
       begins = omega arith;
       within = next.within;
       odd = next.odd;
@@ -165,7 +139,7 @@ row_limit rows k d lt = ap (λ (r : Run). r.limit) (run_of_row rows k d lt)
 
 pub rows_rise : (hs : Collection) (rows : List CopiedRow) → IsRangeTable hs (runs_of rows) → IsNonDecreasingBy (λ (r : CopiedRow). r.limit) rows
 rows_rise hs rows t i j d le lt =
-    let n = length_runs rows in
+    let n = length-map rows run_of in
     let r = limits_rise hs 1 leaf_end (runs_of rows) t i j le (omega arith) in
     let a = row_limit rows i d (omega arith) in
     let b = row_limit rows j d lt in
@@ -174,7 +148,7 @@ rows_rise hs rows t i j d le lt =
 pub found_row : (hs : Collection) (rows : List CopiedRow) (k q : ℕ) → IsRangeTable hs (runs_of rows) → 1 ≤ q → q < leaf_end → k ≤ length rows → ((j : ℕ) (e : CopiedRow) → 0 ≤ j → j < k → leb (get_or rows j e).limit q ≡ true) → ((j : ℕ) (e : CopiedRow) → k ≤ j → j < length rows → leb (get_or rows j e).limit q ≡ false) → IsFound (runs_of rows) k q
 found_row hs [] k q t from to le low high = absurd (let some = t.some in omega arith)
 found_row hs (row ∷ rows) k q t from to le low high =
-    let n = length_runs (row ∷ rows) in
+    let n = length-map (row ∷ rows) run_of in
     found hs (runs_of (row ∷ rows)) k q t from to (omega arith)
     (λ j lt.
     let a = row_limit (row ∷ rows) j row (omega arith) in
@@ -190,20 +164,13 @@ found_row hs (row ∷ rows) k q t from to le low high =
 pub row_contents : (rows : List CopiedRow) (k : ℕ) (row : CopiedRow) → k < length rows → row ≡ get_or rows k row → (run_at (runs_of rows) k).contents ≡ row.contents.items
 row_contents rows k row lt is = ap (λ (r : Run). r.contents) (run_of_row rows k row lt) ∙ ap (λ (r : CopiedRow). r.contents.items) (sym is)
 
-pub drop_more : (n : ℕ) (xs : Collection) → drop (n + 1) xs ≡ drop 1 (drop n xs)
-drop_more n xs = ap (λ m. drop m xs) (let e : n + 1 ≡ suc n = omega arith in e) ∙ go n xs
-  where
-    go : (n : ℕ) (xs : Collection) → drop (suc n) xs ≡ drop 1 (drop n xs)
-    go zero xs = refl
-    go (suc n) [] = refl
-    go (suc n) (x ∷ xs) = go n xs
-
-no_chain : (at : ℕ) → 0 < length (drop at (run_at [] 0).contents) → ⊥
-no_chain zero lt = omega arith
-no_chain (suc at) lt = omega arith
-
 -- a place with a chain is one of a row
 pub place_in_rows : (rows : List CopiedRow) (k at : ℕ) → 0 < length (drop at (run_at (runs_of rows) k).contents) → k < length rows
-place_in_rows [] k at lt = absurd (no_chain at lt)
-place_in_rows (row ∷ rows) zero at lt = omega arith
-place_in_rows (row ∷ rows) (suc k) at lt = let less = place_in_rows rows k at lt in omega arith
+place_in_rows rows k at lt =
+    elim (cases_lt k (length rows)) [
+      | inl less ↦ less
+      | inr le ↦
+          (let none : Collection = [] in
+          let past : length (drop at (run_at (runs_of rows) k).contents) ≡ length (drop at none) = ap (λ (r : Run). length (drop at r.contents)) (get_or_past (runs_of rows) k _ (omega (arith, length-map rows run_of))) in
+          absurd (omega (arith, length-drop at none)))
+    ]

@@ -1,5 +1,5 @@
 -- The label list that is computed is the one of its meeting list.
-use Rattle.std.proofs.Common.{◌≡◌, ◌⊎◌, inl, inr, List, [], ◌∷◌, ◌∙◌, ap, refl, Contains}
+use Rattle.std.proofs.Common.{◌≡◌, inl, inr, List, [], ◌∷◌, ◌∙◌, ap, Contains}
 use Rattle.s2id_union.proofs.Lists.{cons_cases, in_tail, at_head, none_in_nil}
 use Rattle.s2ix_bag.proofs.Pairs.{same_label}
 use Rattle.s2ix_bag.specs.Collection.{Collection}

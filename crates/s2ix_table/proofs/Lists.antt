@@ -1,25 +1,28 @@
 -- The lists of contents, of what is met and of labels as what they have and in which order.
-use Rattle.std.proofs.Common.{◌≡◌, ℕ, ◌+◌, ◌-◌, ◌*◌, ◌<◌, ◌≤◌, ◌⊎◌, inl, inr, true, leb, ltb, List, [], ◌∷◌, sym, ◌∙◌, ap, arith, Contains, AllPairs, subst, le-leb, lt-ltb}
+use Rattle.std.proofs.Common.{◌≡◌, ℕ, ◌+◌, ◌-◌, ◌*◌, ◌<◌, ◌≤◌, ◌⊎◌, inl, inr, true, false, leb, ltb, List, [], ◌∷◌, ◌++◌, take, get_or, length, sym, ◌∙◌, ap, arith, Contains, AllPairs, subst, le-leb, lt-ltb}
 use Rattle.std.proofs.lemmas.Bool.{cases_order, and_parts, and_from, ltb-true}
+use Rattle.std.proofs.lemmas.List.{take_more}
 use Rattle.s2id_core.specs.declared.cell_id.CellId.{CellId}
 use Rattle.s2id_core.specs.CellId.{raw_of, path_of, level_of}
 use Rattle.s2id_core.specs.Leaves.{IsLeafPath}
 use Rattle.s2id_core.specs.Path.{Path, number_of, path_at}
-use Rattle.s2id_core.proofs.Nested.{span, nested_by_level, same_from_level, span_from_leaf, leaf_from_span, leaf_of_odd}
+use Rattle.s2id_core.proofs.Nested.{span, same_from_level, span_from_leaf, leaf_from_span, leaf_of_odd}
 use Rattle.s2id_union.specs.Covers.{Covers}
 use Rattle.s2id_union.specs.Region.{InRegion, Meets}
 use Rattle.s2ix_bag.proofs.Collections.{rank_of_get}
+use Rattle.s2ix_bag.proofs.Parts.{collection_take}
 use Rattle.s2ix_bag.specs.Collection.{Collection, IsCollection, IsCollectionFrom}
 use Rattle.s2ix_bag.specs.Label.{value_of}
 use Rattle.s2ix_bag.specs.Pair.{rank_of}
 use Rattle.s2ix_bag.specs.declared.label.Label.{Label}
 use Rattle.s2ix_bag.specs.declared.pair.Held.{Held}
 use Rattle.s2ix_table.specs.Contents.{IsDeeper, IsContents, covers, depth_key, contents_at}
+use Rattle.s2ix_table.specs.InOrder.{inserted}
 use Rattle.s2ix_table.specs.Meeting.{IsFirstShared, IsMetBefore, IsMeetingList, IsLabelList, first_shared, meeting_key, is_met_from, meeting_from, meeting_of}
 use Rattle.s2ix_table.specs.Table.{leaf_end}
 use Rattle.s2ix_table.proofs.InOrder.{in_chosen, chosen_has}
-use Rattle.s2ix_table.proofs.Over.{IsOver, over-true, in_contents, contents_has, level_at_most, level_by_key, depth_bound, span_of}
-use Rattle.s2ix_table.proofs.Rising.{same_rising, AreApart, strictly_chosen, strict_pairs}
+use Rattle.s2ix_table.proofs.Over.{IsOver, over-true, in_contents, contents_has, level_at_most, level_by_key, nested_over, depth_bound, span_of}
+use Rattle.s2ix_table.proofs.Rising.{same_rising, AreApart, strictly_chosen, chosen_more_in, chosen_more_out, strict_pairs}
 use Rattle.s2ix_table.proofs.Shared.{shared_le, shared_is}
 
 -- ---- order by depth
@@ -53,14 +56,10 @@ label_from_key a b e f =
 -- two pairs over one leaf with the same depth are one pair
 same_pair_over : (q : ℕ) (a b : Held) → IsOver a q → IsOver b q → depth_key a ≡ depth_key b → rank_of a.pair ≡ rank_of b.pair
 same_pair_over q a b over_a over_b e =
-    let a1 = over_a.from in
-    let a2 = over_a.to in
-    let b1 = over_b.from in
-    let b2 = over_b.to in
     let le = level_by_key a b (omega arith) in
     let ge = level_by_key b a (omega arith) in
     let levels : level_of a.pair.cell ≡ level_of b.pair.cell = omega arith in
-    let nested = nested_by_level (raw_of a.pair.cell) (raw_of b.pair.cell) a.pair.cell.valid b.pair.cell.valid (omega arith) (omega arith) le in
+    let nested = nested_over q a b over_a over_b (omega arith) in
     let cells = same_from_level (raw_of a.pair.cell) (raw_of b.pair.cell) a.pair.cell.valid b.pair.cell.valid nested levels in
     let labels = label_from_key a b levels e in
     omega arith
@@ -79,6 +78,19 @@ apart_over q n (h ∷ hs) c = (
       omega arith,
   apart_over q (rank_of h.pair + 1) hs c.2,
 )
+
+-- the contents with the pairs before a place, and with that one
+pub contents_more_in : (q k : ℕ) (hs : Collection) (h : Held) → IsCollection hs → k < length hs → h ≡ get_or hs k h → covers q h ≡ true → contents_at q (take (k + 1) hs) ≡ inserted depth_key h (contents_at q (take k hs))
+unfolding contents_at
+contents_more_in q k hs h c lt is t =
+    let more = take_more hs k h lt ∙ ap (λ (y : Held). take k hs ++ y ∷ []) (sym is) in
+    ap (contents_at q) more ∙ chosen_more_in (covers q) depth_key h (take k hs) (subst (AreApart (covers q) depth_key) more (apart_over q 0 (take (k + 1) hs) (collection_take (k + 1) 0 hs c))) t
+
+pub contents_more_out : (q k : ℕ) (hs : Collection) (h : Held) → k < length hs → h ≡ get_or hs k h → covers q h ≡ false → contents_at q (take (k + 1) hs) ≡ contents_at q (take k hs)
+unfolding contents_at
+contents_more_out q k hs h lt is f =
+    let more = take_more hs k h lt ∙ ap (λ (y : Held). take k hs ++ y ∷ []) (sym is) in
+    ap (contents_at q) more ∙ chosen_more_out (covers q) depth_key h (take k hs) f
 
 contents_deepen : (q : ℕ) (hs : Collection) → IsCollection hs → AllPairs IsDeeper (contents_at q hs)
 unfolding contents_at

@@ -15,7 +15,7 @@ use Rattle.s2ix_table.specs.Table.{leaf_end}
 use Rattle.s2ix_table.specs.Meeting.{first_shared, meeting_key, is_met_from, meeting_from}
 use Rattle.s2ix_table.specs.Places.{front_from}
 use Rattle.s2ix_table.proofs.InOrder.{every_chosen, every_weaker, chosen_in, chosen_out, chosen_none}
-use Rattle.s2ix_table.proofs.Over.{IsOver, span_of, over-true, covers-from, every_content, contents_in, contents_out, deeper_begins_later, depth_bound}
+use Rattle.s2ix_table.proofs.Over.{IsOver, span_of, over-true, covers-from, every_content, contents_in, contents_out, nested_over, depth_bound}
 use Rattle.s2ix_table.proofs.Shared.{shared_le, shared_is}
 
 -- ---- the front of a chain
@@ -59,7 +59,7 @@ front_new q from h (y ∷ ys) over le all =
                 ap (front_from from) (before h y ys lt) ∙ front_here from h (y ∷ ys) le ∙ ap (λ zs. h ∷ zs) (front_here from y ys late) ∙ sym (before h y (front_from from ys) lt) ∙ ap (inserted depth_key h) (sym (front_here from y ys late))
           ]
       | inr ge ↦
-          (let order = deeper_begins_later q y h all.0 over ge in
+          (let order = (nested_over q y h all.0 over ge).from in
           let late : from ≤ first_of y.pair.cell = omega arith in
           ap (front_from from) (behind h y ys ge) ∙ front_here from y (inserted depth_key h ys) late ∙ ap (λ zs. y ∷ zs) (front_new q from h ys over le all.1) ∙ sym (behind h y (front_from from ys) ge) ∙ ap (inserted depth_key h) (sym (front_here from y ys late)))
     ]
@@ -71,7 +71,7 @@ front_old q from h [] over early all = front_stops from h [] early
 front_old q from h (y ∷ ys) over early all =
     elim (cases_lt (depth_key h) (depth_key y)) [
       | inl lt ↦
-          (let order = deeper_begins_later q h y over all.0 (omega arith) in
+          (let order = (nested_over q h y over all.0 (omega arith)).from in
           let too : first_of y.pair.cell < from = omega arith in
           ap (front_from from) (before h y ys lt) ∙ front_stops from h (y ∷ ys) early ∙ sym (front_stops from y ys too))
       | inr ge ↦

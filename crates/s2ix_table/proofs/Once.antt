@@ -1,5 +1,5 @@
 -- Lists that rise by a number, each number once.
-use Rattle.std.proofs.Common.{◌≡◌, ℕ, zero, suc, ◌<◌, ◌⊎◌, inl, inr, true, false, cond, ltb, List, [], ◌∷◌, length, sym, ◌∙◌, ap, arith, refl, Contains, AllPairs}
+use Rattle.std.proofs.Common.{◌≡◌, ℕ, zero, suc, ◌<◌, ◌⊎◌, inl, inr, true, false, cond, ltb, List, [], ◌∷◌, ◌∙◌, ap, arith, refl, Contains, AllPairs}
 use Rattle.std.proofs.lemmas.Bool.{ltb-true, ltb-false}
 use Rattle.std.proofs.lemmas.List.Elements.{Contains-get_or}
 use Rattle.s2id_union.proofs.Lists.{cons_cases, in_tail, none_in_nil}

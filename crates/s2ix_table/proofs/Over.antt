@@ -1,15 +1,15 @@
 -- What lies over a leaf, by the numbers of leaves.
-use Rattle.std.proofs.Common.{◌≡◌, ℕ, ◌+◌, ◌-◌, ◌*◌, ◌%◌, ◌<◌, ◌≤◌, true, false, [], ◌∷◌, suc, get_or, drop, length, sym, ◌∙◌, ap, arith, Contains, le-leb, lt-ltb}
+use Rattle.std.proofs.Common.{◌≡◌, ℕ, ◌+◌, ◌-◌, ◌*◌, ◌%◌, ◌<◌, ◌≤◌, true, false, ◌∷◌, length, arith, Contains, le-leb, lt-ltb}
 use Rattle.std.specs.List.{AllByRecursion}
 use Rattle.std.proofs.lemmas.Bool.{and_parts, and_from, leb-true, ltb-true}
-use Rattle.std.proofs.Math.Seq.{drop-cons, drop-length}
 use Rattle.s2id_core.specs.CellId.{raw_of, first_of, end_of, level_of}
 use Rattle.s2id_core.proofs.Numbers.{path_of_cell}
+use Rattle.s2id_core.specs.Span.{IsNested}
 use Rattle.s2id_core.proofs.Nested.{span, nested_by_level}
 use Rattle.s2ix_bag.specs.Label.{value_of}
 use Rattle.s2ix_bag.specs.declared.pair.Held.{Held}
 use Rattle.s2ix_bag.specs.Collection.{Collection}
-use Rattle.s2ix_table.specs.InOrder.{chosen, inserted, Rises}
+use Rattle.s2ix_table.specs.InOrder.{inserted, Rises}
 use Rattle.s2ix_table.specs.Contents.{covers, depth_key, contents_at}
 use Rattle.s2ix_table.proofs.InOrder.{every_chosen, in_chosen, chosen_has, chosen_in, chosen_out, rises_chosen, length_chosen}
 
@@ -74,19 +74,6 @@ pub contents_out : (q : ℕ) (h : Held) (hs : Collection) → covers q h ≡ fal
 unfolding contents_at
 contents_out q h hs t = chosen_out (covers q) depth_key h hs t
 
--- over the pairs from a place on
-pub contents_none : (q : ℕ) (hs : Collection) → contents_at q (drop (length hs) hs) ≡ []
-unfolding contents_at chosen
-contents_none q hs = ap (contents_at q) (drop-length hs)
-
-pub contents_step_in : (q j k : ℕ) (hs : Collection) (h : Held) → suc j ≡ k → j < length hs → h ≡ get_or hs j h → covers q h ≡ true → contents_at q (drop j hs) ≡ inserted depth_key h (contents_at q (drop k hs))
-contents_step_in q j k hs h next lt is t =
-    ap (contents_at q) (drop-cons hs j h lt ∙ ap (λ x. x ∷ drop (suc j) hs) (sym is)) ∙ contents_in q h (drop (suc j) hs) t ∙ ap (λ n. inserted depth_key h (contents_at q (drop n hs))) next
-
-pub contents_step_out : (q j k : ℕ) (hs : Collection) (h : Held) → suc j ≡ k → j < length hs → h ≡ get_or hs j h → covers q h ≡ false → contents_at q (drop j hs) ≡ contents_at q (drop k hs)
-contents_step_out q j k hs h next lt is t =
-    ap (contents_at q) (drop-cons hs j h lt ∙ ap (λ x. x ∷ drop (suc j) hs) (sym is)) ∙ contents_out q h (drop (suc j) hs) t ∙ ap (λ n. contents_at q (drop n hs)) next
-
 -- ---- depth
 
 pub level_at_most : (h : Held) → level_of h.pair.cell ≤ 30
@@ -100,14 +87,10 @@ unfolding depth_key
 level_by_key a b le =
     level_from_key (level_of a.pair.cell) (level_of b.pair.cell) (value_of a.pair.label) (value_of b.pair.label) (level_at_most a) (level_at_most b) a.pair.label.in_range b.pair.label.in_range le
 
--- of two pairs over a leaf the deeper one begins later
-pub deeper_begins_later : (q : ℕ) (a b : Held) → IsOver a q → IsOver b q → depth_key a ≤ depth_key b → first_of b.pair.cell ≤ first_of a.pair.cell
-deeper_begins_later q a b over_a over_b le =
-    let a1 = over_a.from in
-    let a2 = over_a.to in
-    let b1 = over_b.from in
-    let b2 = over_b.to in
-    (nested_by_level (raw_of a.pair.cell) (raw_of b.pair.cell) a.pair.cell.valid b.pair.cell.valid (omega arith) (omega arith) (level_by_key a b le)).from
+-- of two pairs over a leaf the deeper one lies in the other
+pub nested_over : (q : ℕ) (a b : Held) → IsOver a q → IsOver b q → depth_key a ≤ depth_key b → IsNested (raw_of a.pair.cell) (raw_of b.pair.cell)
+nested_over q a b over_a over_b le =
+    nested_by_level (raw_of a.pair.cell) (raw_of b.pair.cell) a.pair.cell.valid b.pair.cell.valid (omega (arith, over_a.from, over_b.to)) (omega (arith, over_b.from, over_a.to)) (level_by_key a b le)
 
 key_bound : (k v : ℕ) → v ≤ 2147483647 → (30 - k) * 2147483648 + v < 68719476736
 key_bound k v a = omega arith

@@ -32,14 +32,9 @@ fits_cut hs b (inl e) = record { odd = omega arith; from = omega arith; to = ome
 fits_cut hs b (inr (inl e)) = record { odd = omega arith; from = omega arith; to = omega arith }
 fits_cut hs b (inr (inr (h, held, is))) =
     let s = span_of h in
-    let s1 = s.begins in
-    let s2 = s.odd in
-    let s3 = s.rises in
-    let s4 = s.ends in
-    let s5 = s.odd_end in
     elim is [
-      | inl e ↦ record { odd = omega arith; from = omega arith; to = omega arith }
-      | inr e ↦ record { odd = omega arith; from = omega arith; to = omega arith }
+      | inl e ↦ subst FitsCut e (record { odd = s.odd; from = s.begins; to = omega (arith, s.rises, s.ends) })
+      | inr e ↦ subst FitsCut e (record { odd = s.odd_end; from = omega (arith, s.begins, s.rises); to = s.ends })
     ]
 
 cut_more : (h : Held) (hs : Collection) (b : ℕ) → IsCut hs b → IsCut (h ∷ hs) b

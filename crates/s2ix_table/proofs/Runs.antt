@@ -86,33 +86,30 @@ table_push hs from (s ∷ u ∷ us) mid r t run changes =
 
 -- ---- and by places
 
+first_run : (hs : Collection) (from to : ℕ) (r : Run) (rs : List Run) → IsTableOver hs from to (r ∷ rs) → IsRunFrom hs from r
+first_run hs from to r rs t =
+    let first = t.first in
+    let odd = t.odd 0 (omega arith) in
+    let rises = t.rises 0 (omega arith) in
+    record { start = first; odd = omega arith; rises = omega arith; shared = λ q o le lt. t.shared 0 q (omega arith) o (omega arith) lt }
+
 pub table_from_places : (hs : Collection) (from to : ℕ) (runs : List Run) → IsTableOver hs from to runs → IsTable hs from runs to
 table_from_places hs from to [] t = absurd (let some = t.some in omega arith)
-table_from_places hs from to (r ∷ []) t =
-    let first = t.first in
-    let odd = t.odd 0 (omega arith) in
-    let rises = t.rises 0 (omega arith) in (
-      record { start = first; odd = omega arith; rises = omega arith; shared = λ q o le lt. t.shared 0 q (omega arith) o (omega arith) lt },
-      tt,
-      t.last 0 (omega arith),
-    )
-table_from_places hs from to (r ∷ s ∷ rs) t =
-    let first = t.first in
-    let odd = t.odd 0 (omega arith) in
-    let rises = t.rises 0 (omega arith) in (
-      record { start = first; odd = omega arith; rises = omega arith; shared = λ q o le lt. t.shared 0 q (omega arith) o (omega arith) lt },
-      t.maximal 0 1 (omega arith) (omega arith),
-      table_from_places hs r.limit to (s ∷ rs) (record {
-        some = omega arith;
-        first = sym (t.next 0 1 (omega arith) (omega arith));
-        last = λ k e. t.last (suc k) (omega arith);
-        next = λ j k e lt. t.next (suc j) (suc k) (omega arith) (omega arith);
-        odd = λ k lt. t.odd (suc k) (omega arith);
-        rises = λ k lt. t.rises (suc k) (omega arith);
-        shared = λ k q lt o le l. t.shared (suc k) q (omega arith) o le l;
-        maximal = λ j k e lt. t.maximal (suc j) (suc k) (omega arith) (omega arith);
-      }),
-    )
+table_from_places hs from to (r ∷ []) t = (first_run hs from to r [] t, tt, t.last 0 (omega arith))
+table_from_places hs from to (r ∷ s ∷ rs) t = (
+  first_run hs from to r (s ∷ rs) t,
+  t.maximal 0 1 (omega arith) (omega arith),
+  table_from_places hs r.limit to (s ∷ rs) (record {
+    some = omega arith;
+    first = sym (t.next 0 1 (omega arith) (omega arith));
+    last = λ k e. t.last (suc k) (omega arith);
+    next = λ j k e lt. t.next (suc j) (suc k) (omega arith) (omega arith);
+    odd = λ k lt. t.odd (suc k) (omega arith);
+    rises = λ k lt. t.rises (suc k) (omega arith);
+    shared = λ k q lt o le l. t.shared (suc k) q (omega arith) o le l;
+    maximal = λ j k e lt. t.maximal (suc j) (suc k) (omega arith) (omega arith);
+  }),
+)
 
 table_last : (hs : Collection) (from : ℕ) (runs : List Run) (to : ℕ) → IsTable hs from runs to → (k : ℕ) → k + 1 ≡ length runs → (run_at runs k).limit ≡ to
 table_last hs from [] to t k e = absurd (omega arith)
@@ -121,36 +118,23 @@ table_last hs from (r ∷ []) to t (suc k) e = absurd (omega arith)
 table_last hs from (r ∷ s ∷ rs) to t zero e = absurd (omega arith)
 table_last hs from (r ∷ s ∷ rs) to t (suc k) e = table_last hs r.limit (s ∷ rs) to t.2 k (omega arith)
 
-table_next : (hs : Collection) (from : ℕ) (runs : List Run) (to : ℕ) → IsTable hs from runs to → (j k : ℕ) → j + 1 ≡ k → k < length runs → (run_at runs j).limit ≡ (run_at runs k).start
-table_next hs from [] to t j k e lt = absurd (omega arith)
-table_next hs from (r ∷ []) to t j k e lt = absurd (omega arith)
-table_next hs from (r ∷ s ∷ rs) to t zero zero e lt = absurd (omega arith)
-table_next hs from (r ∷ s ∷ rs) to t zero (suc zero) e lt = sym t.2.0.start
-table_next hs from (r ∷ s ∷ rs) to t zero (suc (suc k)) e lt = absurd (omega arith)
-table_next hs from (r ∷ s ∷ rs) to t (suc j) zero e lt = absurd (omega arith)
-table_next hs from (r ∷ s ∷ rs) to t (suc j) (suc k) e lt = table_next hs r.limit (s ∷ rs) to t.2 j k (omega arith) (omega arith)
+-- one run ends where the next begins, with other contents
+record Meet (r s : Run) : Type 0 where
+  next : r.limit ≡ s.start
+  maximal : r.contents ≢ s.contents
 
-table_maximal : (hs : Collection) (from : ℕ) (runs : List Run) (to : ℕ) → IsTable hs from runs to → (j k : ℕ) → j + 1 ≡ k → k < length runs → (run_at runs j).contents ≢ (run_at runs k).contents
-table_maximal hs from [] to t j k e lt = absurd (omega arith)
-table_maximal hs from (r ∷ []) to t j k e lt = absurd (omega arith)
-table_maximal hs from (r ∷ s ∷ rs) to t zero zero e lt = absurd (omega arith)
-table_maximal hs from (r ∷ s ∷ rs) to t zero (suc zero) e lt = t.1
-table_maximal hs from (r ∷ s ∷ rs) to t zero (suc (suc k)) e lt = absurd (omega arith)
-table_maximal hs from (r ∷ s ∷ rs) to t (suc j) zero e lt = absurd (omega arith)
-table_maximal hs from (r ∷ s ∷ rs) to t (suc j) (suc k) e lt = table_maximal hs r.limit (s ∷ rs) to t.2 j k (omega arith) (omega arith)
+table_meets : (hs : Collection) (from : ℕ) (runs : List Run) (to : ℕ) → IsTable hs from runs to → (j k : ℕ) → j + 1 ≡ k → k < length runs → Meet (run_at runs j) (run_at runs k)
+table_meets hs from [] to t j k e lt = absurd (omega arith)
+table_meets hs from (r ∷ []) to t j k e lt = absurd (omega arith)
+table_meets hs from (r ∷ s ∷ rs) to t zero zero e lt = absurd (omega arith)
+table_meets hs from (r ∷ s ∷ rs) to t zero (suc zero) e lt = record { next = sym t.2.0.start; maximal = t.1 }
+table_meets hs from (r ∷ s ∷ rs) to t zero (suc (suc k)) e lt = absurd (omega arith)
+table_meets hs from (r ∷ s ∷ rs) to t (suc j) zero e lt = absurd (omega arith)
+table_meets hs from (r ∷ s ∷ rs) to t (suc j) (suc k) e lt = table_meets hs r.limit (s ∷ rs) to t.2 j k (omega arith) (omega arith)
 
-record IsRun (hs : Collection) (r : Run) : Type 0 where
-  odd : r.start % 2 ≡ 1
-  rises : r.start < r.limit
-  shared : (q : ℕ) → q % 2 ≡ 1 → r.start ≤ q → q < r.limit → contents_at q hs ≡ r.contents
-
-table_run : (hs : Collection) (from : ℕ) (runs : List Run) (to : ℕ) → IsTable hs from runs to → (k : ℕ) → k < length runs → IsRun hs (run_at runs k)
+table_run : (hs : Collection) (from : ℕ) (runs : List Run) (to : ℕ) → IsTable hs from runs to → (k : ℕ) → k < length runs → IsRunFrom hs (run_at runs k).start (run_at runs k)
 table_run hs from [] to t k lt = absurd (omega arith)
-table_run hs from (r ∷ rs) to t zero lt =
-    let start = t.0.start in
-    let odd = t.0.odd in
-    let rises = t.0.rises in
-    record { odd = omega arith; rises = omega arith; shared = λ q o le l. t.0.shared q o (omega arith) l }
+table_run hs from (r ∷ rs) to t zero lt = subst (λ n. IsRunFrom hs n r) (sym t.0.start) t.0
 table_run hs from (r ∷ rs) to t (suc k) lt = table_run hs r.limit rs to t.2 k (omega arith)
 
 pub places_from_table : (hs : Collection) (from to : ℕ) (runs : List Run) → from < to → IsTable hs from runs to → IsTableOver hs from to runs
@@ -159,11 +143,11 @@ places_from_table hs from to (r ∷ rs) lt t = record {
   some = omega arith;
   first = t.0.start;
   last = table_last hs from (r ∷ rs) to t;
-  next = table_next hs from (r ∷ rs) to t;
+  next = λ j k e l. (table_meets hs from (r ∷ rs) to t j k e l).next;
   odd = λ k l. (table_run hs from (r ∷ rs) to t k l).odd;
   rises = λ k l. (table_run hs from (r ∷ rs) to t k l).rises;
   shared = λ k q l o le u. (table_run hs from (r ∷ rs) to t k l).shared q o le u;
-  maximal = table_maximal hs from (r ∷ rs) to t;
+  maximal = λ j k e l. (table_meets hs from (r ∷ rs) to t j k e l).maximal;
 }
 
 -- ---- a collection has one table

@@ -1,21 +1,20 @@
 -- Targets with one region have one meeting list.
-use Rattle.std.proofs.Common.{◌≡◌, ℕ, ◌+◌, ◌*◌, ◌%◌, ◌<◌, ◌≤◌, inl, inr, true, false, ◌&&◌, cond, leb, ltb, min, max, List, [], ◌∷◌, ap, arith, subst}
+use Rattle.std.proofs.Common.{◌≡◌, ℕ, ◌+◌, ◌*◌, ◌%◌, ◌<◌, ◌≤◌, inl, inr, ◌&&◌, leb, ltb, List, [], ◌∷◌, ap, arith, subst}
 use Rattle.std.proofs.Math.Path.{fun_ext}
 use Rattle.std.proofs.lemmas.Bool.{cases_lt}
 use Rattle.s2id_core.specs.declared.cell_id.CellId.{CellId}
-use Rattle.s2id_core.specs.CellId.{raw_of, first_of, end_of}
-use Rattle.s2id_core.specs.Path.{Path, path_at, number_of}
+use Rattle.s2id_core.specs.CellId.{raw_of}
+use Rattle.s2id_core.specs.Path.{path_at, number_of}
 use Rattle.s2id_core.proofs.Nested.{leaf_from_span, leaf_of_odd}
 use Rattle.s2id_union.specs.Covers.{Covers}
 use Rattle.s2id_union.specs.Region.{HaveSameRegion}
-use Rattle.s2ix_bag.specs.declared.pair.Held.{Held}
 use Rattle.s2ix_bag.specs.Collection.{Collection}
 use Rattle.s2ix_table.specs.Contents.{depth_key}
 use Rattle.s2ix_table.specs.InOrder.{chosen}
 use Rattle.s2ix_table.specs.Meeting.{first_shared, meeting_key, meeting_from, meeting_of}
 use Rattle.s2ix_table.specs.Table.{leaf_end}
 use Rattle.s2ix_table.proofs.Lists.{covers_from_region}
-use Rattle.s2ix_table.proofs.Shared.{shared_le, shared_is}
+use Rattle.s2ix_table.proofs.Shared.{shared_le, shared_is, shared_tail}
 
 same_covers : (xs ys : List CellId) → HaveSameRegion xs ys → (q : ℕ) → q % 2 ≡ 1 → q < leaf_end → Covers xs q → Covers ys q
 same_covers xs ys same q odd lt v =
@@ -29,12 +28,7 @@ same_covers xs ys same q odd lt v =
 shared_within : (target : List CellId) (cell : CellId) → first_shared target cell ≤ leaf_end
 unfolding first_shared
 shared_within [] cell = omega arith
-shared_within (t ∷ ts) cell =
-    let rest = shared_within ts cell in
-    elim (ltb (first_of t) (end_of cell) && ltb (first_of cell) (end_of t)) as (λ b. cond b (min (max (first_of t) (first_of cell)) (first_shared ts cell)) (first_shared ts cell) ≤ leaf_end) [
-      | true ↦ omega arith
-      | false ↦ omega arith
-    ]
+shared_within (t ∷ ts) cell = omega (arith, shared_within ts cell, shared_tail t ts cell)
 
 no_later : (xs ys : List CellId) → HaveSameRegion xs ys → (cell : CellId) → first_shared ys cell ≤ first_shared xs cell
 no_later xs ys same cell =

@@ -26,7 +26,7 @@ shared_here : (t : CellId) (ts : List CellId) (cell : CellId) → first_of t < e
 unfolding first_shared
 shared_here t ts cell a b = cond-true _ _ _ (and_from _ _ (lt-ltb _ _ a) (lt-ltb _ _ b))
 
-shared_tail : (t : CellId) (ts : List CellId) (cell : CellId) → first_shared (t ∷ ts) cell ≤ first_shared ts cell
+pub shared_tail : (t : CellId) (ts : List CellId) (cell : CellId) → first_shared (t ∷ ts) cell ≤ first_shared ts cell
 unfolding first_shared
 shared_tail t ts cell =
     elim (ltb (first_of t) (end_of cell) && ltb (first_of cell) (end_of t)) as (λ b. cond b (min (max (first_of t) (first_of cell)) (first_shared ts cell)) (first_shared ts cell) ≤ first_shared ts cell) [

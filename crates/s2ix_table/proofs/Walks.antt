@@ -1,5 +1,5 @@
 -- The steps of a walk over the ranges that a target meets.
-use Rattle.std.proofs.Common.{◌≡◌, ℕ, ◌+◌, ◌-◌, ◌%◌, ◌^◌, ◌<◌, ◌≤◌, ◌⊎◌, inl, inr, max, Option, Some, None, List, [], ◌∷◌, ◌++◌, length, get_or, refl, sym, ◌∙◌, ap, arith, Contains, subst}
+use Rattle.std.proofs.Common.{◌≡◌, ℕ, ◌+◌, ◌-◌, ◌%◌, ◌^◌, ◌<◌, ◌≤◌, ◌⊎◌, inl, inr, min, max, Option, Some, None, List, [], ◌∷◌, ◌++◌, length, get_or, refl, sym, ◌∙◌, ap, arith, Contains, subst}
 use Rattle.std.proofs.lemmas.Bool.{cases_lt, cases_order}
 use Rattle.std.proofs.lemmas.List.{get_or_default}
 use Rattle.s2id_core.specs.declared.cell_id.CellId.{CellId}
@@ -11,7 +11,8 @@ use Rattle.s2ix_bag.specs.declared.pair.Held.{Held}
 use Rattle.s2ix_table.specs.Meeting.{meeting_from}
 use Rattle.s2ix_table.specs.Places.{from_place, LeadsTo, front_from}
 use Rattle.s2ix_table.specs.Table.{Run, run_at, leaf_end, IsRangeTable, IsFound}
-use Rattle.s2ix_table.specs.Walk.{ArePassed}
+use Rattle.s2ix_table.specs.Walk.{left_of, ArePassed, IsWalk}
+use Rattle.s2ix_table.specs.declared.walk.Walk.{Walk}
 use Rattle.s2ix_table.proofs.Over.{IsOver, in_contents, contents_has}
 use Rattle.s2ix_table.proofs.Runs.{places_fit}
 use Rattle.s2ix_table.proofs.Building.{limits_rise}
@@ -93,8 +94,8 @@ range_fits hs runs t k lt =
     omega arith
 
 -- the next range has the leaf at which one ends
-pub found_next : (hs : Collection) (runs : List Run) → IsRangeTable hs runs → (k : ℕ) → k < length runs → (run_at runs k).limit < leaf_end → IsFound runs (k + 1) (run_at runs k).limit
-found_next hs runs t k lt less =
+pub found_next : (hs : Collection) (runs : List Run) → IsRangeTable hs runs → (k limit : ℕ) → k < length runs → limit ≡ (run_at runs k).limit → limit < leaf_end → IsFound runs (k + 1) limit
+found_next hs runs t k limit lt is less =
     let more : k + 1 < length runs = elim (cases_lt (k + 1) (length runs)) [ inl more ↦ more | inr end ↦ absurd (let e = t.last k (omega arith) in omega arith) ] in
     let next = t.next k (k + 1) refl more in
     let rises = t.rises (k + 1) more in
@@ -120,16 +121,17 @@ pub record IsAt (target : List CellId) (hs : Collection) (runs : List Run) (k se
   pub beyond : seen < end_of x
   pub found : IsFound runs range (max seen (first_of x))
 
-pub record IsNext (target : List CellId) (hs : Collection) (runs : List Run) (k seen range : ℕ) (x : CellId) (next : ℕ) : Type 0 where
-  pub rises : seen < next
-  pub odd : next % 2 ≡ 1
-  pub within : next ≤ leaf_end
-  pub tight : (q : ℕ) → 1 ≤ q → q + 2 ≡ next → Covers target q
-  pub passed : ArePassed target k next
-  pub left : meeting_from target seen hs ≡ front_from seen (run_at runs range).contents ++ meeting_from target next hs
+-- where a walk goes on behind a range: at the next one, or where the cell ends before that
+abbrev pub GoesOn : ℕ → ℕ → ℕ → ℕ × ℕ → Type 0
+GoesOn range limit end to = ((limit ≤ end) × (to ≡ (range + 1, limit))) ⊎ ((end < limit) × (to ≡ (range, end)))
 
-pub next_at : (target : List CellId) (hs : Collection) (runs : List Run) (k seen range : ℕ) (x : CellId) (next : ℕ) → IsAt target hs runs k seen range x → next ≤ (run_at runs range).limit → next ≤ end_of x → (next ≡ (run_at runs range).limit) ⊎ (next ≡ end_of x) → IsNext target hs runs k seen range x next
-next_at target hs runs k seen range x next a in_run in_cell is_end =
+-- a walk goes on behind a range, with the chain of that range at hand
+pub record IsPast {P : Type 0} (chain : P → Collection) (target : List CellId) (hs : Collection) (runs : List Run) (walk : Walk P) : Type 0 where
+  pub left : meeting_from target walk.from hs ≡ left_of chain target hs walk
+  pub next : IsWalk chain target runs walk
+
+pub walk_past : {P : Type 0} (chain : P → Collection) (target : List CellId) (hs : Collection) (runs : List Run) (range limit end : ℕ) (x : CellId) (walk : Walk P) → IsAt target hs runs walk.cell walk.from range x → LeadsTo chain walk.place (run_at runs range).contents → limit ≡ (run_at runs range).limit → end ≡ end_of x → GoesOn range limit end (walk.range, walk.seen) → IsPast chain target hs runs walk
+walk_past {P} chain target hs runs range limit end x walk a leads is_limit is_end on =
     let s = span (raw_of x) x.valid in
     let s1 = s.odd in
     let s2 = s.from in
@@ -138,42 +140,47 @@ next_at target hs runs k seen range x next a in_run in_cell is_end =
     let s5 = s.odd_end in
     let o = a.odd in
     let b = a.beyond in
+    let seen : ℕ = walk.from in
+    let next : ℕ = walk.seen in
     let at : ℕ = max seen (first_of x) in
     let f1 = a.found.start in
     let f2 = a.found.limit in
     let bounds = limit_bounds hs runs a.table range a.found.within in
     let l1 = bounds.0 in
     let l2 = bounds.1 in
+    let is : next ≡ min limit end = elim on [ inl i ↦ omega (arith, i.0, ap (λ to. to.1) i.1) | inr i ↦ omega (arith, i.0, ap (λ to. to.1) i.1) ] in
     let odd_at : at % 2 ≡ 1 = elim (cases_lt seen (first_of x)) [ inl lt ↦ omega arith | inr ge ↦ omega arith ] in
-    let after : at < next = elim is_end [ inl e ↦ omega arith | inr e ↦ omega arith ] in
-    let odd_next : next % 2 ≡ 1 = elim is_end [ inl e ↦ omega arith | inr e ↦ omega arith ] in
-    let covers : (q : ℕ) → first_of x ≤ q → q < end_of x → Covers target q =
-    λ q from to. record { cell = x; held = (k, a.within, sym a.is); from = from; to = to } in
+    let odd_next : next % 2 ≡ 1 = elim (cases_lt limit end) [ inl lt ↦ omega arith | inr ge ↦ omega arith ] in
+    let after : at < next = omega arith in
+    let covers : (q : ℕ) → first_of x ≤ q → q < end_of x → Covers target q = λ q from to. record { cell = x; held = (walk.cell, a.within, sym a.is); from = from; to = to } in
     let step : IsStep target hs seen at next = record {
       odd = o;
       reached = omega arith;
       after = after;
       on_curve = omega arith;
       here = covers at (omega arith) (omega arith);
-      gap = λ q v le. let g = gap_from target k seen x a.chain a.passed a.within a.is q v le in omega arith;
+      gap = λ q v le. let g = gap_from target walk.cell seen x a.chain a.passed a.within a.is q v le in omega arith;
       tight = a.tight;
       stays = λ h q held odd_q from to over. stays_in hs runs a.table range at a.found odd_at h q held odd_q from (omega arith) over;
     } in
+    let At : ℕ × ℕ → Type 0 = λ to. IsFound runs to.0 to.1 in
     let contents = a.table.shared range at a.found.within odd_at f1 f2 in
     record {
-      rises = omega arith;
-      odd = odd_next;
-      within = omega arith;
-      tight = λ q some e. covers q (omega arith) (omega arith);
-      passed = passed_later target k seen next (omega arith) a.passed;
-      left = step_meets target hs seen at next step ∙ ap (λ cs. front_from seen cs ++ meeting_from target next hs) contents;
+      left = step_meets target hs seen at next step ∙ ap (λ cs. front_from seen cs ++ meeting_from target next hs) (contents ∙ sym leads.pairs_are);
+      next = record {
+        odd = odd_next;
+        within = omega arith;
+        tight = λ q some e. covers q (omega arith) (omega arith);
+        passed = passed_later target walk.cell seen next (omega arith) a.passed;
+        found = λ lt. elim on [
+          | inl i ↦ subst At (sym i.1) (found_next hs runs a.table range limit a.found.within is_limit (omega (arith, ap (λ to. to.1) i.1)))
+          | inr i ↦ subst At (sym i.1) (record { within = a.found.within; start = omega arith; limit = omega (arith, i.0) })
+        ];
+        place = leads.place;
+      };
     }
 
 -- ---- the walk
-
-pub moved_left : {P : Type 0} (chain : P → Collection) (target : List CellId) (hs : Collection) (runs : List Run) (k seen range : ℕ) (x : CellId) (next : ℕ) (place : Option P) → IsNext target hs runs k seen range x next → LeadsTo chain place (run_at runs range).contents → meeting_from target seen hs ≡ front_from seen (from_place chain place) ++ meeting_from target next hs
-moved_left {P} chain target hs runs k seen range x next place n leads =
-    n.left ∙ ap (λ cs. front_from seen cs ++ meeting_from target next hs) (sym leads.pairs_are)
 
 pub walk_none : (target : List CellId) (q : ℕ) → 1 ≤ q → q + 2 ≡ 1 → Covers target q
 walk_none target q some e = absurd (omega arith)
@@ -198,13 +205,3 @@ new_stop {P} chain from place p h rest e is early =
 pub new_more : {P : Type 0} (chain : P → Collection) (from : ℕ) (place outer : Option P) (p : P) (h : Held) (rest : Collection) → place ≡ Some p → chain p ≡ h ∷ rest → from ≤ first_of h.pair.cell → LeadsTo chain outer rest → front_from from (from_place chain place) ≡ h ∷ front_from from (from_place chain outer)
 new_more {P} chain from place outer p h rest e is late leads =
     ap (λ (o : Option P). front_from from (from_place chain o)) e ∙ ap (front_from from) is ∙ front_here from h rest late ∙ ap (λ cs. h ∷ front_from from cs) (sym leads.pairs_are)
-
--- the range begins before the cell ends
-pub begins : (target : List CellId) (hs : Collection) (runs : List Run) (k seen range : ℕ) (x : CellId) → IsAt target hs runs k seen range x → (run_at runs range).start < end_of x
-begins target hs runs k seen range x a =
-    let s = span (raw_of x) x.valid in
-    let s1 = s.from in
-    let s2 = s.to in
-    let b = a.beyond in
-    let f = a.found.start in
-    elim (cases_lt seen (first_of x)) [ inl lt ↦ omega arith | inr ge ↦ omega arith ]

@@ -11,7 +11,8 @@ use s2id_core::{CellId, LEAF_END, OutOfMemory};
 use s2ix_bag::{Bag, Held};
 use std::alloc::Global;
 
-/// A range table that keeps a list of its own for each range. Building takes O(r * n) for r ranges and n pairs.
+/// A range table that keeps a list of its own for each range. Building takes O(r * n) for r ranges and n pairs, and what it takes to
+/// put the pairs over one leaf in order: nothing for the labels of one cell, at worst m * m moves for m pairs of nested cells.
 #[derive(Debug, Drop)]
 pub struct CopiedTable {
     held: Vec<Held>,
@@ -103,6 +104,7 @@ fn held_pairs(alloc: Global, bag: &Bag) -> Result<Vec<Held>, OutOfMemory>
 
 // The runs of leaves over which the same pairs lie, each from where one ended up to the next bound of a cell.
 fn rows_over(alloc: Global, held: &[Held]) -> Result<Vec<CopiedRow>, OutOfMemory>
+    requires { IsCollection held.now }
     ensures { IfOk result (λ rows. IsRangeTable held.now (runs_of rows.items)) }
 {
     let mut rows = Vec::new(alloc);

@@ -70,7 +70,7 @@ pub fn ranges<T: RangeTable>(table: &T) -> RangeIter<'_, T>
     RangeIter::new(table)
 }
 
-/// The pairs of a chain, innermost first (S2's `ContentsIterator`, without its memory of what it gave).
+/// The pairs of a chain, innermost cell first, the labels of one cell rising (S2's `ContentsIterator`, without its memory of what it gave).
 #[derive(Drop)]
 pub struct ChainIter<'a, T: RangeTable> {
     table: &'a T,
@@ -93,7 +93,7 @@ impl<T: RangeTable> Iterator for ChainIter<'_, T> {
     }
 }
 
-/// What lies over a range, innermost cell first.
+/// What lies over a range, innermost cell first, the labels of one cell rising.
 pub fn contents<T: RangeTable>(table: &T, k: usize) -> ChainIter<'_, T>
     requires { k < length (T.runs table.now) }
     ensures { AlwaysYields ⟦<ChainIter<'static, T> as Iterator>⟧.next_gives (λ held. held) result (run_at (T.runs table.now) k).contents }
@@ -102,7 +102,7 @@ pub fn contents<T: RangeTable>(table: &T, k: usize) -> ChainIter<'_, T>
     ChainIter { table, next }
 }
 
-/// What lies over a leaf, innermost cell first. O(log n) for n ranges.
+/// What lies over a leaf, innermost cell first, the labels of one cell rising. O(log n) for n ranges.
 pub fn chain_at<T: RangeTable>(table: &T, leaf: CellId) -> ChainIter<'_, T>
     requires { level_of leaf ≡ 30 }
     ensures { AlwaysYields ⟦<ChainIter<'static, T> as Iterator>⟧.next_gives (λ held. held) result (contents_at (raw_of leaf) (T.pairs table.now)) }

@@ -52,11 +52,8 @@ pub(crate) fn next_met<T: RangeTable>(
     loop {
         if let Some(link) = new_pair(table, at.from, at.place) {
             let after = Walk {
-                cell: at.cell,
-                range: at.range,
-                seen: at.seen,
-                from: at.from,
                 place: link.outer,
+                ..at
             };
             return Some(Met {
                 held: link.held,
@@ -90,25 +87,20 @@ fn moved_on<T: RangeTable>(
     let range = range_from(table, target, walk.range, walk.seen);
     let end = limit_of(target);
     let row = table.range(range);
-    let place = table.first(range);
-    let from = walk.seen;
-    if row.limit <= end {
-        Some(Walk {
-            cell,
-            range: range + 1,
-            seen: row.limit,
-            from,
-            place,
-        })
+    let (next, seen) = if row.limit <= end {
+        (range + 1, row.limit)
     } else {
-        Some(Walk {
-            cell,
-            range,
-            seen: end,
-            from,
-            place,
-        })
-    }
+        (range, end)
+    };
+    let from = walk.seen;
+    let place = table.first(range);
+    Some(Walk {
+        cell,
+        range: next,
+        seen,
+        from,
+        place,
+    })
 }
 
 // The first cell from the k-th on that goes beyond a leaf.

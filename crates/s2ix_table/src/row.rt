@@ -1,6 +1,8 @@
-/// A run of leaves: the number of the first, and the leaf number after the last.
+/// A run of leaves that the same pairs lie over (S2's `RangeNode`).
 #[derive(Clone, Copy, Debug, PartialEq, Eq)]
 pub struct RangeRow {
+    /// The number of the first leaf.
     pub start: u64,
+    /// The number after that of the last leaf.
     pub limit: u64,
 }

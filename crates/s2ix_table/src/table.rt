@@ -2,7 +2,6 @@ ghost use Rattle.std.specs.Prelude.{◌≡◌, ◌<◌, ◌≤◌, ◌∷◌, If
 ghost use Rattle.s2id_core.specs.CellId.{raw_of, level_of};
 ghost use Rattle.s2ix_bag.specs.Collection.{Collection, IsCollection};
 ghost use Rattle.s2ix_table.specs.LabelList.{label_list};
-ghost use Rattle.s2ix_table.specs.LabelList.{label_list};
 ghost use Rattle.s2ix_table.specs.Table.{Run, run_at, IsRangeTable};
 ghost use Rattle.s2ix_table.specs.Places.{IsPlace, LeadsTo};
 ghost use Rattle.s2ix_table.specs.Meeting.{IsMeetingList, IsLabelList, meeting_of};
@@ -75,7 +74,7 @@ pub trait RangeTable: Sized {
 
     /// Calls `f` on each pair of the target's meeting list, in order, up to and with the first call that answers false;
     /// whether every call answered true (S2's `VisitIntersectingCells()`). Takes no memory; `f` need only be callable on
-    /// the pairs of the list.
+    /// the pairs of the list. O(k + r + t log n) for k pairs over the r ranges that the target meets, t cells of it and n ranges.
     final fn visit<F: FnMut(Held) -> bool>(&self, target: &CellUnion, f: &mut F) -> bool
         requires { MayVisit F.pre F.step f.old (meeting_of target.now (pairs self.now)) }
         ensures { Visits F.step f.old (meeting_of target.now (pairs self.now)) result f.new }
@@ -92,8 +91,7 @@ pub trait RangeTable: Sized {
     }
 
     /// The target's meeting list: the held pairs that share a leaf with it, each once, by first shared leaf, then falling
-    /// level, then rising label (S2's `GetIntersectingLabels()` with the cells and counts). `OutOfMemory` where a growth
-    /// is refused.
+    /// level, then rising label: what `visit` gives, as a list. `OutOfMemory` where a growth is refused. Takes what `visit` takes.
     final fn meeting(&self, alloc: Global, target: &CellUnion) -> Result<Vec<Held>, OutOfMemory>
         ensures list { IfOk result (λ list. list.items ≡ meeting_of target.now (pairs self.now)) }
         ensures met { IfOk result (λ list. IsMeetingList target.now (pairs self.now) list.items) }
@@ -109,7 +107,7 @@ pub trait RangeTable: Sized {
     }
 
     /// The labels of the target's meeting list, once each and rising (S2's `GetIntersectingLabels()`). `OutOfMemory`
-    /// where a growth is refused.
+    /// where a growth is refused. Takes what `meeting` takes, and O(m log m) for m pairs met.
     final fn labels(&self, alloc: Global, target: &CellUnion) -> Result<Vec<Label>, OutOfMemory>
         ensures labels { IfOk result (λ labels. IsLabelList (meeting_of target.now (pairs self.now)) labels.items) }
         ensures list { IfOk result (λ labels. labels.items ≡ label_list (meeting_of target.now (pairs self.now))) }

@@ -75,6 +75,7 @@ fn an_empty_list_is_its_end(rt: HostRuntime) -> Result<(), Fail> {
 fn tables_are_written(rt: HostRuntime) -> Result<(), Fail> {
     let store = nested_store(rt.alloc())?;
     let leaf = CellId::from_token(b"0000000000000001")?;
+    assert!(rt; leaf.is_leaf());
     let mut sink = KeepingSink::new(rt.alloc(), 5, 0, false);
     assert_eq!(rt; write_contents(store.table(), leaf, &mut sink), Ok(()));
     assert_eq!(rt; write_ranges(store.table(), &mut sink), Ok(()));

@@ -180,19 +180,19 @@ fn tokens_name_a_target(rt: HostRuntime) -> Result<(), Fail> {
     let asked = meaning(rt.alloc(), b"meet 1c 04 14 0C 04");
     assert!(rt;
         matches!(
-            asked,
+            &asked,
             Ok(Some(Command::Query(Query::Meet(target)))) if target.cells() == [face].as_slice()
         )
     );
     let asked = meaning(rt.alloc(), b"labels 1 1d");
     assert!(rt;
         matches!(
-            asked,
+            &asked,
             Ok(Some(Command::Query(Query::Labels(target)))) if target.cells() == [face].as_slice()
         )
     );
     let asked = meaning(rt.alloc(), b"at 1");
-    assert!(rt; matches!(asked, Ok(Some(Command::Query(Query::At(cell)))) if cell == face));
+    assert!(rt; matches!(&asked, Ok(Some(Command::Query(Query::At(cell)))) if *cell == face));
     assert!(rt;
         matches!(
             meaning(rt.alloc(), b"ranges"),

@@ -1,4 +1,5 @@
-//! What a run of a script reads from and writes to, as texts go in and out: sources, sinks, and the calls that put texts.
+//! What a run of a script reads from and writes to: sources, sinks, and the texts that go out. A bag has a dump and a list of changes
+//! a journal; pairs, labels and ranges, which answer queries, are lists with an end line.
 #![tactic(auto)]
 
 mod dump;

@@ -68,6 +68,7 @@ pub(crate) fn write_end_of_list<K: Sink>(count: usize, sink: &mut K) -> Result<(
 /// Writes a list: each item on a line of its own, in order, and then `end` with the number of items.
 ///
 /// It takes no memory and does not flush. At the first fault of the sink it ends, when a front of the list went out. O(n) for n items.
+/// This project's own.
 pub fn write_list<A: Line, K: Sink>(items: &[A], sink: &mut K) -> Result<(), WriteFault>
     requires { K.fault_count sink.old < 2 ^ 64 - 1 }
     ensures puts { Puts (K.taken sink.old) (K.taken sink.new) result (list_text A.line items.now) }

@@ -6,13 +6,14 @@ ghost use Rattle.s2ix_text.specs.Faults.{write_faults};
 ghost use Rattle.s2ix_text.specs.Puts.{Puts};
 ghost use Rattle.s2ix_text.specs.Queries.{bounds_text, held_line, list_text, run_line, spaced_pair};
 
-use super::list::write_end_of_list;
+use super::list::{Line, write_end_of_list};
 use super::pair::write_pair_between;
 use super::{Sink, WriteFault, put_all, put_parts};
 use s2id_core::{CellId, sixteen_digits};
 use s2ix_table::{RangeRow, RangeTable, chain_at, contents};
 
-/// Writes what lies over a leaf as a list of pairs, innermost cell first.
+/// Writes what lies over a leaf as a list of pairs, innermost cell first, the labels of one cell rising. The table holds fewer
+/// than 2^64 pairs, as that of every bag does.
 ///
 /// It takes no memory and does not flush. At the first fault of the sink it ends, when a front of the list went out. O(log n + m)
 /// for n ranges and m pairs over the leaf. This project's own.
@@ -29,7 +30,7 @@ pub fn write_contents<T: RangeTable, K: Sink>(
 {
     let mut count = 0;
     for held in chain_at(table, leaf) {
-        write_pair_between(b"", held, b"\n", sink)?;
+        held.write_line(sink)?;
         count += 1;
     }
     write_end_of_list(count, sink)
@@ -77,7 +78,7 @@ fn write_range<T: RangeTable, K: Sink>(table: &T, k: usize, sink: &mut K) -> Res
 }
 
 /// Writes the ranges of a table as a list, in order: on one line for each its bounds in sixteen hexadecimal digits, and
-/// its pairs, innermost cell first.
+/// its pairs, innermost cell first, the labels of one cell rising.
 ///
 /// It takes no memory and does not flush. At the first fault of the sink it ends, when a front of the list went out. O(n + m) for
 /// n ranges with m pairs in all. This project's own.

@@ -6,23 +6,12 @@ use Rattle.s2id_cube.proofs.Shared.{IsSquare-square_of, square_facts}
 use Rattle.s2id_cube.proofs.Sorting.{rising, same_members, border_cells, border_paths}
 use Rattle.s2id_cube.proofs.borders.border.Goals as goal
 
-pub cells_round-requires-clause-face : goal.cells_round-requires-clause-face
-cells_round-requires-clause-face c =
-    (square_facts (path_of c.args.cell) (path_of_cell c.args.cell.raw c.args.cell.valid) c.to_face_ij.result c.to_face_ij.ensures).0
-
-pub cells_round-requires-clause-level : goal.cells_round-requires-clause-level
-cells_round-requires-clause-level c =
+pub cells_round-requires : goal.cells_round-requires
+cells_round-requires c =
+    let f = square_facts (path_of c.args.cell) (path_of_cell c.args.cell.raw c.args.cell.valid) c.to_face_ij.result c.to_face_ij.ensures in
     let level = ap (λ (s : FaceIj). s.level) c.to_face_ij.ensures ∙ (IsSquare-square_of (path_of c.args.cell) (path_of_cell c.args.cell.raw c.args.cell.valid)).level in
     let own = c.level-own.ensures.level in
     omega arith
-
-pub cells_round-requires-clause-column : goal.cells_round-requires-clause-column
-cells_round-requires-clause-column c =
-    (square_facts (path_of c.args.cell) (path_of_cell c.args.cell.raw c.args.cell.valid) c.to_face_ij.result c.to_face_ij.ensures).2
-
-pub cells_round-requires-clause-row : goal.cells_round-requires-clause-row
-cells_round-requires-clause-row c =
-    (square_facts (path_of c.args.cell) (path_of_cell c.args.cell.raw c.args.cell.valid) c.to_face_ij.result c.to_face_ij.ensures).3
 
 pub returns-clause-rising : goal.returns-clause-rising
 returns-clause-rising c =
@@ -36,7 +25,4 @@ returns-clause-cells c =
 
 pub returns-clause-complete : goal.returns-clause-complete
 returns-clause-complete c =
-    let own = c.level-own.ensures.level in
-    let above : c.args.level ≡ length (path_of c.args.cell).digits + (c.args.level - c.level-own.result) = omega arith in
-    border_paths (path_of c.args.cell) c.args.level c.dedup.new.self.items
-    (border_cells c.args.cell c.to_face_ij.result (c.args.level - c.level-own.result) c.args.level c.in_ok-cells.cells.items c.dedup.new.self.items c.to_face_ij.ensures above (omega arith) c.in_ok-cells.ensures (same_members c.in_ok-cells.cells.items c.sort_unstable.new.self.items c.dedup.new.self.items c.sort_unstable.ensures.permutation c.dedup.ensures.filtered))
+    border_paths (path_of c.args.cell) c.args.level c.dedup.new.self.items (returns-clause-cells c)

@@ -6,24 +6,17 @@ use Rattle.s2id_cube.proofs.borders.over_side.Goals as goal
 pub overflow_add-column : goal.overflow_add-column
 overflow_add-column c =
     let f = finer_at c.args.square c.args.depth c.args.side c.args.along c.on_side-i.result.0 c.on_side-i.result.1 c.requires.level c.requires.column c.requires.row c.requires.side c.requires.along c.on_side-i.ensures.column c.on_side-i.ensures.row in
-    let below = f.column_below in
-    let small = f.small in
     omega arith
 
 pub overflow_add-row : goal.overflow_add-row
 overflow_add-row c =
     let f = finer_at c.args.square c.args.depth c.args.side c.args.along c.on_side-i.result.0 c.on_side-i.result.1 c.requires.level c.requires.column c.requires.row c.requires.side c.requires.along c.on_side-i.ensures.column c.on_side-i.ensures.row in
-    let below = f.row_below in
-    let small = f.small in
     omega arith
 
-pub neighbor-requires-clause-column : goal.neighbor-requires-clause-column
-neighbor-requires-clause-column c =
-    (finer_at c.args.square c.args.depth c.args.side c.args.along c.on_side-i.result.0 c.on_side-i.result.1 c.requires.level c.requires.column c.requires.row c.requires.side c.requires.along c.on_side-i.ensures.column c.on_side-i.ensures.row).column_below
-
-pub neighbor-requires-clause-row : goal.neighbor-requires-clause-row
-neighbor-requires-clause-row c =
-    (finer_at c.args.square c.args.depth c.args.side c.args.along c.on_side-i.result.0 c.on_side-i.result.1 c.requires.level c.requires.column c.requires.row c.requires.side c.requires.along c.on_side-i.ensures.column c.on_side-i.ensures.row).row_below
+pub neighbor-requires : goal.neighbor-requires
+neighbor-requires c =
+    let f = finer_at c.args.square c.args.depth c.args.side c.args.along c.on_side-i.result.0 c.on_side-i.result.1 c.requires.level c.requires.column c.requires.row c.requires.side c.requires.along c.on_side-i.ensures.column c.on_side-i.ensures.row in
+    omega arith
 
 pub returns : goal.returns
 returns c =

@@ -36,14 +36,7 @@ unfolding turned
 loop-step-preserved c =
     led_more c.args.face c.args.i c.args.j c.args.level c.loop-step.step c.loop-step.place c.loop-step.orientation (omega arith) c.loop-step.invariant _ _ refl refl _ refl
 
-pub returns-clause-face : goal.returns-clause-face
-returns-clause-face c = (led_square (path_of c.cell_at.result) (path_of_cell c.cell_at.result.raw c.cell_at.result.valid) c.args.face c.args.i c.args.j c.args.level c.loop-step.step c.loop-step.place c.loop-step.orientation c.cell_at.ensures.level c.cell_at.ensures.place (omega arith) c.loop-step.invariant).at_face
-
-pub returns-clause-i : goal.returns-clause-i
-returns-clause-i c = (led_square (path_of c.cell_at.result) (path_of_cell c.cell_at.result.raw c.cell_at.result.valid) c.args.face c.args.i c.args.j c.args.level c.loop-step.step c.loop-step.place c.loop-step.orientation c.cell_at.ensures.level c.cell_at.ensures.place (omega arith) c.loop-step.invariant).at_i
-
-pub returns-clause-j : goal.returns-clause-j
-returns-clause-j c = (led_square (path_of c.cell_at.result) (path_of_cell c.cell_at.result.raw c.cell_at.result.valid) c.args.face c.args.i c.args.j c.args.level c.loop-step.step c.loop-step.place c.loop-step.orientation c.cell_at.ensures.level c.cell_at.ensures.place (omega arith) c.loop-step.invariant).at_j
-
-pub returns-clause-level : goal.returns-clause-level
-returns-clause-level c = (led_square (path_of c.cell_at.result) (path_of_cell c.cell_at.result.raw c.cell_at.result.valid) c.args.face c.args.i c.args.j c.args.level c.loop-step.step c.loop-step.place c.loop-step.orientation c.cell_at.ensures.level c.cell_at.ensures.place (omega arith) c.loop-step.invariant).at_level
+pub returns : goal.returns
+returns c =
+    let s = led_square (path_of c.cell_at.result) (path_of_cell c.cell_at.result.raw c.cell_at.result.valid) c.args.face c.args.i c.args.j c.args.level c.loop-step.step c.loop-step.place c.loop-step.orientation c.cell_at.ensures.level c.cell_at.ensures.place (omega arith) c.loop-step.invariant in
+    record { face = s.at_face; i = s.at_i; j = s.at_j; level = s.at_level }

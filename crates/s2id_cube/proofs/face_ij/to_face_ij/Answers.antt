@@ -9,25 +9,11 @@ pub loop-step-init : goal.loop-step-init
 loop-step-init c =
     first_is (path_of c.args.cell) (path_of_cell c.args.cell.raw c.args.cell.valid) _ c.face.result _ _ c.face_square-square.ensures c.face.ensures c.level-level.ensures.level c.place_in_level-place.ensures
 
-pub child_square-square-requires-clause-i : goal.child_square-square-requires-clause-i
-child_square-square-requires-clause-i c =
+pub child_square-square-requires : goal.child_square-square-requires
+child_square-square-requires c =
     let f = cell_fits (path_of c.args.cell) (path_of_cell c.args.cell.raw c.args.cell.valid) c.level-level.result c.place_in_level-place.result c.level-level.ensures.level c.place_in_level-place.ensures in
-    (square_fits c.place_in_level-place.result c.level-level.result c.loop-step.step f.0 (omega arith) f.1 c.loop-step.square c.loop-step.invariant).0
-
-pub child_square-square-requires-clause-j : goal.child_square-square-requires-clause-j
-child_square-square-requires-clause-j c =
-    let f = cell_fits (path_of c.args.cell) (path_of_cell c.args.cell.raw c.args.cell.valid) c.level-level.result c.place_in_level-place.result c.level-level.ensures.level c.place_in_level-place.ensures in
-    (square_fits c.place_in_level-place.result c.level-level.result c.loop-step.step f.0 (omega arith) f.1 c.loop-step.square c.loop-step.invariant).1
-
-pub child_square-square-requires-clause-level : goal.child_square-square-requires-clause-level
-child_square-square-requires-clause-level c =
-    let f = cell_fits (path_of c.args.cell) (path_of_cell c.args.cell.raw c.args.cell.valid) c.level-level.result c.place_in_level-place.result c.level-level.ensures.level c.place_in_level-place.ensures in
-    (square_fits c.place_in_level-place.result c.level-level.result c.loop-step.step f.0 (omega arith) f.1 c.loop-step.square c.loop-step.invariant).2
-
-pub child_square-square-requires-clause-orientation : goal.child_square-square-requires-clause-orientation
-child_square-square-requires-clause-orientation c =
-    let f = cell_fits (path_of c.args.cell) (path_of_cell c.args.cell.raw c.args.cell.valid) c.level-level.result c.place_in_level-place.result c.level-level.ensures.level c.place_in_level-place.ensures in
-    (square_fits c.place_in_level-place.result c.level-level.result c.loop-step.step f.0 (omega arith) f.1 c.loop-step.square c.loop-step.invariant).3
+    let s = square_fits c.place_in_level-place.result c.level-level.result c.loop-step.step f.0 (omega arith) f.1 c.loop-step.square c.loop-step.invariant in
+    omega arith
 
 pub loop-step-preserved : goal.loop-step-preserved
 loop-step-preserved c =

@@ -1,4 +1,4 @@
-use Rattle.std.proofs.Common.{◌≡◌, ℕ, ◌^◌, ◌<◌, List, [], ◌∷◌, get_or, refl, arith}
+use Rattle.std.proofs.Common.{◌≡◌, ℕ, ◌^◌, ◌<◌, ◌≤◌, List, [], ◌∷◌, get_or, refl, arith}
 use Rattle.s2id_core.specs.declared.cell_id.CellId.{CellId}
 use Rattle.s2id_core.specs.CellId.{path_of, raw_of}
 use Rattle.s2id_core.specs.Path.{Path, IsPath}
@@ -21,53 +21,20 @@ others : (cell : CellId) (cs : List CellId) → ((m : ℕ) → m < 4 → SharesS
 others cell cs sides q path h =
     (h.side, h.is_side, one_neighbor h.side (path_of cell) (path_of (get_or cs h.side cell)) q h.is_side (pathed cell) (pathed (get_or cs h.side cell)) path (sides h.side h.is_side) h.shares)
 
-pub neighbor-requires-clause-face : goal.neighbor-requires-clause-face
-neighbor-requires-clause-face c = (square_facts (path_of c.args.cell) (pathed c.args.cell) c.to_face_ij-square.result c.to_face_ij-square.ensures).0
+facts : (cell : CellId) (s : FaceIj) → s ≡ square_of (path_of cell) → (s.face < 6) × (s.level ≤ 30) × (s.i < 2 ^ s.level) × (s.j < 2 ^ s.level)
+facts cell s is = square_facts (path_of cell) (pathed cell) s is
 
-pub neighbor-requires-clause-level : goal.neighbor-requires-clause-level
-neighbor-requires-clause-level c = (square_facts (path_of c.args.cell) (pathed c.args.cell) c.to_face_ij-square.result c.to_face_ij-square.ensures).1
+pub neighbor-requires : goal.neighbor-requires
+neighbor-requires c = let f = facts c.args.cell c.to_face_ij-square.result c.to_face_ij-square.ensures in omega arith
 
-pub neighbor-requires-clause-column : goal.neighbor-requires-clause-column
-neighbor-requires-clause-column c = (square_facts (path_of c.args.cell) (pathed c.args.cell) c.to_face_ij-square.result c.to_face_ij-square.ensures).2
+pub neighbor-requires-2 : goal.neighbor-requires-2
+neighbor-requires-2 c = let f = facts c.args.cell c.to_face_ij-square.result c.to_face_ij-square.ensures in omega arith
 
-pub neighbor-requires-clause-row : goal.neighbor-requires-clause-row
-neighbor-requires-clause-row c = (square_facts (path_of c.args.cell) (pathed c.args.cell) c.to_face_ij-square.result c.to_face_ij-square.ensures).3
+pub neighbor-requires-3 : goal.neighbor-requires-3
+neighbor-requires-3 c = let f = facts c.args.cell c.to_face_ij-square.result c.to_face_ij-square.ensures in omega arith
 
-pub neighbor-requires-2-clause-face : goal.neighbor-requires-2-clause-face
-neighbor-requires-2-clause-face c = (square_facts (path_of c.args.cell) (pathed c.args.cell) c.to_face_ij-square.result c.to_face_ij-square.ensures).0
-
-pub neighbor-requires-2-clause-level : goal.neighbor-requires-2-clause-level
-neighbor-requires-2-clause-level c = (square_facts (path_of c.args.cell) (pathed c.args.cell) c.to_face_ij-square.result c.to_face_ij-square.ensures).1
-
-pub neighbor-requires-2-clause-column : goal.neighbor-requires-2-clause-column
-neighbor-requires-2-clause-column c = (square_facts (path_of c.args.cell) (pathed c.args.cell) c.to_face_ij-square.result c.to_face_ij-square.ensures).2
-
-pub neighbor-requires-2-clause-row : goal.neighbor-requires-2-clause-row
-neighbor-requires-2-clause-row c = (square_facts (path_of c.args.cell) (pathed c.args.cell) c.to_face_ij-square.result c.to_face_ij-square.ensures).3
-
-pub neighbor-requires-3-clause-face : goal.neighbor-requires-3-clause-face
-neighbor-requires-3-clause-face c = (square_facts (path_of c.args.cell) (pathed c.args.cell) c.to_face_ij-square.result c.to_face_ij-square.ensures).0
-
-pub neighbor-requires-3-clause-level : goal.neighbor-requires-3-clause-level
-neighbor-requires-3-clause-level c = (square_facts (path_of c.args.cell) (pathed c.args.cell) c.to_face_ij-square.result c.to_face_ij-square.ensures).1
-
-pub neighbor-requires-3-clause-column : goal.neighbor-requires-3-clause-column
-neighbor-requires-3-clause-column c = (square_facts (path_of c.args.cell) (pathed c.args.cell) c.to_face_ij-square.result c.to_face_ij-square.ensures).2
-
-pub neighbor-requires-3-clause-row : goal.neighbor-requires-3-clause-row
-neighbor-requires-3-clause-row c = (square_facts (path_of c.args.cell) (pathed c.args.cell) c.to_face_ij-square.result c.to_face_ij-square.ensures).3
-
-pub neighbor-requires-4-clause-face : goal.neighbor-requires-4-clause-face
-neighbor-requires-4-clause-face c = (square_facts (path_of c.args.cell) (pathed c.args.cell) c.to_face_ij-square.result c.to_face_ij-square.ensures).0
-
-pub neighbor-requires-4-clause-level : goal.neighbor-requires-4-clause-level
-neighbor-requires-4-clause-level c = (square_facts (path_of c.args.cell) (pathed c.args.cell) c.to_face_ij-square.result c.to_face_ij-square.ensures).1
-
-pub neighbor-requires-4-clause-column : goal.neighbor-requires-4-clause-column
-neighbor-requires-4-clause-column c = (square_facts (path_of c.args.cell) (pathed c.args.cell) c.to_face_ij-square.result c.to_face_ij-square.ensures).2
-
-pub neighbor-requires-4-clause-row : goal.neighbor-requires-4-clause-row
-neighbor-requires-4-clause-row c = (square_facts (path_of c.args.cell) (pathed c.args.cell) c.to_face_ij-square.result c.to_face_ij-square.ensures).3
+pub neighbor-requires-4 : goal.neighbor-requires-4
+neighbor-requires-4 c = let f = facts c.args.cell c.to_face_ij-square.result c.to_face_ij-square.ensures in omega arith
 
 numbered : (cell : CellId) (cs : List CellId) → ((m : ℕ) → m < 4 → SharesSide m (path_of cell) (path_of (get_or cs m cell))) → (m : ℕ) → m < 4 → raw_of (get_or cs m cell) ≡ neighbor_number m (path_of cell)
 numbered cell cs sides m hm =
@@ -85,8 +52,12 @@ shares_over cell s q m hm is over = shares_from_square m (path_of cell) (path_of
 -- each of the four shares the side of its place
 four_sides : (cell : CellId) (s : FaceIj) (down right up left : CellId) → s ≡ square_of (path_of cell) → IsOverSide s 0 down → IsOverSide s 1 right → IsOverSide s 2 up → IsOverSide s 3 left → (m : ℕ) → m < 4 → SharesSide m (path_of cell) (path_of (get_or (down ∷ right ∷ up ∷ left ∷ []) m cell))
 four_sides cell s down right up left is d r u l =
-    four (λ m. SharesSide m (path_of cell) (path_of (get_or (down ∷ right ∷ up ∷ left ∷ []) m cell)))
-    (shares_over cell s down 0 (omega arith) is d) (shares_over cell s right 1 (omega arith) is r) (shares_over cell s up 2 (omega arith) is u) (shares_over cell s left 3 (omega arith) is l)
+    four (λ m. SharesSide m (path_of cell) (path_of (get_or (down ∷ right ∷ up ∷ left ∷ []) m cell))) (
+      shares_over cell s down 0 (omega arith) is d,
+      shares_over cell s right 1 (omega arith) is r,
+      shares_over cell s up 2 (omega arith) is u,
+      shares_over cell s left 3 (omega arith) is l,
+    )
 
 pub returns-clause-sides : goal.returns-clause-sides
 returns-clause-sides c =

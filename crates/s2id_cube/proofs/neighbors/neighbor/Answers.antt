@@ -1,10 +1,10 @@
-use Rattle.std.proofs.Common.{◌≡◌, ◌+◌, ◌-◌, ◌*◌, ◌%◌, ◌^◌, ◌≤◌, Option, IfSome, sym, subst, arith}
+use Rattle.std.proofs.Common.{◌≡◌, ◌^◌, ◌≤◌, Option, IfSome, refl, sym, subst, arith}
 use Rattle.std.proofs.Math.Nat.{pow-le-pow_right}
 use Rattle.std.proofs.lemmas.Nat.{one_shl, pow_pos}
 use Rattle.s2id_core.specs.declared.cell_id.CellId.{CellId}
 use Rattle.s2id_core.specs.CellId.{path_of}
 use Rattle.s2id_cube.specs.Square.{square_of}
-use Rattle.s2id_cube.proofs.Beside.{beside_same}
+use Rattle.s2id_cube.proofs.Beside.{beside_moved}
 use Rattle.s2id_cube.proofs.neighbors.neighbor.Goals as goal
 
 pub beside-face_over-requires-clause-last : goal.beside-face_over-requires-clause-last
@@ -33,4 +33,4 @@ returns-clause-beside c =
     let F : Option CellId → Type 0 = λ o. IfSome o (λ cell. (square_of (path_of cell)).face ≡ c.beside-face_over.result.0) in
     let I : Option CellId → Type 0 = λ o. IfSome o (λ cell. (square_of (path_of cell)).i ≡ c.beside-face_over.result.1) in
     let J : Option CellId → Type 0 = λ o. IfSome o (λ cell. (square_of (path_of cell)).j ≡ c.beside-face_over.result.2) in
-    beside_same _ _ _ _ _ _ _ _ _ _ _ _ (let e : (1 * 2 ^ c.args.level) % 2 ^ 32 - 1 + 1 ≡ 2 ^ c.args.level = omega arith in e) (sym (subst F c.unwrap.ensures c.from_face_ij.ensures.face)) (sym (subst I c.unwrap.ensures c.from_face_ij.ensures.i)) (sym (subst J c.unwrap.ensures c.from_face_ij.ensures.j)) c.beside-face_over.ensures
+    beside_moved (omega arith) refl refl refl refl (sym (subst F c.unwrap.ensures c.from_face_ij.ensures.face)) (sym (subst I c.unwrap.ensures c.from_face_ij.ensures.i)) (sym (subst J c.unwrap.ensures c.from_face_ij.ensures.j)) c.beside-face_over.ensures

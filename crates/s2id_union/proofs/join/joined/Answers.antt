@@ -24,10 +24,7 @@ loop-cell-preserved c =
           joined_next_touch c.args.sorted.now c.loop-cell.cells.items c.if-at-first.cells.items c.loop-cell.cell-index c.loop-cell.run c.loop-cell.at c.if-at-first.run c.if-at-first.at inv.0 inv.1 inv.2 inv.3 inv.4 x (omega arith) c.cell-item.is (omega (arith, first, w.if-at-first.false)) (omega (arith, w.at-is)) (omega (arith, end, w.at-is, w.if-at-end.false)) (inl (sym w.at-is)) (ap (λ v. v.items) w.cells-is) w.run-is
     ]
 
-pub returns-clause-normal : goal.returns-clause-normal
-returns-clause-normal c =
-    (joined_end c.args.sorted.now _ _ c.loop-cell.cell-index _ _ (omega arith) c.loop-cell.invariant.0 c.in_ok-add_run-2.ensures).normal
-
-pub returns-clause-covers : goal.returns-clause-covers
-returns-clause-covers c =
-    (joined_end c.args.sorted.now _ _ c.loop-cell.cell-index _ _ (omega arith) c.loop-cell.invariant.0 c.in_ok-add_run-2.ensures).covers
+pub returns : goal.returns
+returns c =
+    let whole = joined_end c.args.sorted.now _ _ c.loop-cell.cell-index _ _ (omega arith) c.loop-cell.invariant.0 c.in_ok-add_run-2.ensures in
+    record { normal = whole.normal; covers = whole.covers }

@@ -1,8 +1,7 @@
-use Rattle.std.proofs.Common.{◌+◌, ◌-◌, sym, ◌∙◌, ap, refl, subst, arith}
+use Rattle.std.proofs.Common.{sym, subst, arith}
 use Rattle.std.proofs.lemmas.Bool.{false≢true}
-use Rattle.s2id_core.specs.Cell.{IsCellNumber}
 use Rattle.s2id_union.specs.Covers.{IsGreatest}
-use Rattle.s2id_union.proofs.Greatest.{some_fit, shifted, greatest_cell}
+use Rattle.s2id_union.proofs.Greatest.{some_fit, greatest_shifted}
 use Rattle.s2id_union.proofs.run.greatest_at.Goals as goal
 
 pub overflow_sub-height : goal.overflow_sub-height
@@ -11,19 +10,16 @@ overflow_sub-height c =
 
 pub overflow_add-at : goal.overflow_add-at
 overflow_add-at c =
-    let e = shifted c.least-fit.result c.least-fit.ensures.third in
-    let cell = greatest_cell c.args.at c.args.limit _ c.ilog2-wide.result c.least-fit.result c.requires.odd c.requires.odd_limit c.requires.some c.requires.on_curve refl c.ilog2-wide.ensures.power_le c.ilog2-wide.ensures.next_power_gt c.least-fit.ensures in
+    let cell = greatest_shifted c.args.at c.args.limit c.ilog2-wide.result c.least-fit.result c.requires.odd c.requires.odd_limit c.requires.some c.requires.on_curve c.ilog2-wide.ensures.power_le c.ilog2-wide.ensures.next_power_gt c.least-fit.ensures in
     let below = cell.0.0 in
     omega arith
 
 pub unreachable-requires : goal.unreachable-requires
 unreachable-requires c =
-    let e = shifted c.least-fit.result c.least-fit.ensures.third in
-    let cell = greatest_cell c.args.at c.args.limit _ c.ilog2-wide.result c.least-fit.result c.requires.odd c.requires.odd_limit c.requires.some c.requires.on_curve refl c.ilog2-wide.ensures.power_le c.ilog2-wide.ensures.next_power_gt c.least-fit.ensures in
-    false≢true (c.in-None.ensures.found.1 (subst (λ x. IsCellNumber (c.args.at - 1 + x)) (sym e) cell.0))
+    let cell = greatest_shifted c.args.at c.args.limit c.ilog2-wide.result c.least-fit.result c.requires.odd c.requires.odd_limit c.requires.some c.requires.on_curve c.ilog2-wide.ensures.power_le c.ilog2-wide.ensures.next_power_gt c.least-fit.ensures in
+    false≢true (c.in-None.ensures.found.1 cell.0)
 
 pub returns : goal.returns
 returns c =
-    let e = shifted c.least-fit.result c.least-fit.ensures.third in
-    let cell = greatest_cell c.args.at c.args.limit _ c.ilog2-wide.result c.least-fit.result c.requires.odd c.requires.odd_limit c.requires.some c.requires.on_curve refl c.ilog2-wide.ensures.power_le c.ilog2-wide.ensures.next_power_gt c.least-fit.ensures in
-    subst (λ n. IsGreatest n c.args.at c.args.limit) (sym (c.in-Some.ensures.number ∙ ap (λ x. c.args.at - 1 + x) e)) cell.1
+    let cell = greatest_shifted c.args.at c.args.limit c.ilog2-wide.result c.least-fit.result c.requires.odd c.requires.odd_limit c.requires.some c.requires.on_curve c.ilog2-wide.ensures.power_le c.ilog2-wide.ensures.next_power_gt c.least-fit.ensures in
+    subst (λ n. IsGreatest n c.args.at c.args.limit) (sym c.in-Some.ensures.number) cell.1

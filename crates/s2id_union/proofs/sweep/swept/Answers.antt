@@ -35,10 +35,7 @@ loop-at-preserved c =
     let t : IsTrue c.keeps-kept.result = cc in
     swept_next_on c.args.operation c.args.first.now c.args.second.now c.loop-at.cells.items c.loop-at.run c.loop-at.at e.result f.result.end s.result.end c.advanced-i.result c.advanced-j.result f.result.inside s.result.inside c.loop-at.invariant.0 c.loop-at.invariant.3 c.loop-at.invariant.6 (e.ensures.above c.loop-at.at f.ensures.rises s.ensures.rises) e.ensures.first e.ensures.second f.ensures.on_curve odd f.ensures.constant s.ensures.constant (c.keeps-kept.ensures.0 t) c.advanced-i.ensures c.advanced-j.ensures
 
-pub returns-clause-normal : goal.returns-clause-normal
-returns-clause-normal c =
-    (swept_end c.args.operation c.args.first.now c.args.second.now _ _ _ c.loop-at.at c.loop-at.invariant.0 (omega arith) c.in_ok-add_run-2.ensures).normal
-
-pub returns-clause-covers : goal.returns-clause-covers
-returns-clause-covers c =
-    (swept_end c.args.operation c.args.first.now c.args.second.now _ _ _ c.loop-at.at c.loop-at.invariant.0 (omega arith) c.in_ok-add_run-2.ensures).covers
+pub returns : goal.returns
+returns c =
+    let whole = swept_end c.args.operation c.args.first.now c.args.second.now _ _ _ c.loop-at.at c.loop-at.invariant.0 (omega arith) c.in_ok-add_run-2.ensures in
+    record { normal = whole.normal; covers = whole.covers }

@@ -29,10 +29,10 @@ pub returns-in_err-undo-in-Undo-clause-refused : goal.returns-in_err-undo-in-Und
 returns-in_err-undo-in-Undo-clause-refused c =
     let exit = c.from_residual-in_err-undo-in-Undo in
     let p = err_from_is_err_and exit.result exit.ensures.1 in
-    rw (p.1, c.in-Undo.is) (undo_step-stays _ _ _ (λ e. c.in_err-undo-in-Undo.ensures.nothing.0 (ap Err e)) p.2)
+    rw (p.1, c.in-Undo.is) (undo_step-stays _ _ _ (λ e. c.in_err-undo-in-Undo.ensures.nothing.0 (ap Err e), λ none. let e = c.in_err-undo-in-Undo.ensures.nothing.1 none in cc) p.2)
 
 pub returns-in_err-redo-in-Redo-clause-refused : goal.returns-in_err-redo-in-Redo-clause-refused
 returns-in_err-redo-in-Redo-clause-refused c =
     let exit = c.from_residual-in_err-redo-in-Redo in
     let p = err_from_is_err_and exit.result exit.ensures.1 in
-    rw (p.1, c.in-Redo.is) (redo_step-stays _ _ _ (λ e. c.in_err-redo-in-Redo.ensures.nothing.0 (ap Err e)) p.2)
+    rw (p.1, c.in-Redo.is) (redo_step-stays _ _ _ (λ e. c.in_err-redo-in-Redo.ensures.nothing.0 (ap Err e), λ none. let e = c.in_err-redo-in-Redo.ensures.nothing.1 none in cc) p.2)

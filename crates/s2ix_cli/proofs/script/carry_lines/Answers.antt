@@ -2,7 +2,7 @@
 use Rattle.std.proofs.Common.{◌≡◌, ◌&&◌, false, true, refl, sym, ap, ◌∙◌, arith}
 use Rattle.std.proofs.lemmas.Result.{err_from_is_err_and}
 use Rattle.s2ix_cli.specs.Carry.{is_refused}
-use Rattle.s2ix_cli.proofs.Reached.{Reached-on, Reached-last, Finishes-reached, StopsAmong-reached}
+use Rattle.s2ix_cli.proofs.Reached.{Reached-on, Reached-last, Finishes-reached, StopsAmong-reached, WantsAmong-reached}
 use Rattle.s2ix_cli.proofs.script.carry_lines.Goals as goal
 use Rattle.s2ix_cli.proofs.script.carry_lines.Goals.{else-stop-via-then-stop+else-is_refused, else-stop-via-else-stop}
 
@@ -27,3 +27,8 @@ pub returns-in_err-outcome-clause-stopped : goal.returns-in_err-outcome-clause-s
 returns-in_err-outcome-clause-stopped g c =
     let p = err_from_is_err_and c.from_residual.result c.from_residual.ensures.1 in
     rw p.1 (StopsAmong-reached _ _ _ _ _ _ _ _ _ _ _ _ _ c.lines.invariant.0 c.in-Some.ensures.steps c.in_err-outcome.ensures.carries)
+
+pub returns-in_err-outcome-clause-memory : goal.returns-in_err-outcome-clause-memory
+returns-in_err-outcome-clause-memory g c =
+    let p = err_from_is_err_and c.from_residual.result c.from_residual.ensures.1 in
+    rw (p.1, p.2) (WantsAmong-reached _ _ _ _ _ _ _ _ _ _ _ _ _ c.lines.invariant.0 c.in-Some.ensures.steps c.in_err-outcome.ensures.carries c.in_err-outcome.ensures.memory)

@@ -23,25 +23,24 @@ overflow_add-count g c =
     omega arith
 
 pub loop-held-preserved : goal.loop-held-preserved
-unfolding held_line
 loop-held-preserved g c =
     let all = contents_at (raw_of c.args.leaf) (g.T.RangeTable.pairs c.args.table.now) in
     let turn = yields_turn (λ (it : ChainIter g.row.T.Denot g.row.T-Place.Denot g.T.RangeTable). from_place (g.T.RangeTable.chain it.table.now) it.next) _ _ _ c.next.new.self all c.loop-held.yielded _ c.in-Some.held c.chain_at-held-items.ensures c.into_iter-held-iterator.ensures.into_iter_gives c.loop-held.yielded_by c.in-Some.is c.next.ensures.steps in (
       tt,
       tt,
       omega (arith, c.loop-held.invariant.2, length_push c.loop-held.yielded c.in-Some.held),
-      Appends-flat_map_turn held_line _ _ _ all c.loop-held.yielded c.in-Some.held turn c.loop-held.invariant.3 c.in_ok-write_pair_between.ensures.puts,
-      omega (arith, c.loop-held.invariant.4, c.in_ok-write_pair_between.ensures.faults),
+      Appends-flat_map_turn held_line _ _ _ all c.loop-held.yielded c.in-Some.held turn c.loop-held.invariant.3 c.in_ok-write_line.ensures.puts,
+      omega (arith, c.loop-held.invariant.4, c.in_ok-write_line.ensures.faults),
     )
 
-pub returns-in_err-write_pair_between-clause-puts : goal.returns-in_err-write_pair_between-clause-puts
-unfolding list_text held_line
-returns-in_err-write_pair_between-clause-puts g c =
+pub returns-in_err-write_line-clause-puts : goal.returns-in_err-write_line-clause-puts
+unfolding list_text
+returns-in_err-write_line-clause-puts g c =
     let all = contents_at (raw_of c.args.leaf) (g.T.RangeTable.pairs c.args.table.now) in
     let turn = yields_turn (λ (it : ChainIter g.row.T.Denot g.row.T-Place.Denot g.T.RangeTable). from_place (g.T.RangeTable.chain it.table.now) it.next) _ _ _ c.next.new.self all c.loop-held.yielded _ c.in-Some.held c.chain_at-held-items.ensures c.into_iter-held-iterator.ensures.into_iter_gives c.loop-held.yielded_by c.in-Some.is c.next.ensures.steps in
     Puts-of_err _ _ _ _ c.from_residual.ensures.0
     (AppendsFront-more _ _ (flat_map held_line all) (end_of_list (length all))
-    (AppendsFront-flat_map_turn held_line _ _ _ all c.loop-held.yielded c.in-Some.held turn c.loop-held.invariant.3 c.in_err-write_pair_between.ensures.puts))
+    (AppendsFront-flat_map_turn held_line _ _ _ all c.loop-held.yielded c.in-Some.held turn c.loop-held.invariant.3 c.in_err-write_line.ensures.puts))
 
 pub returns-clause-puts : goal.returns-clause-puts
 unfolding list_text

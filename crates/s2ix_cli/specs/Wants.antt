@@ -1,0 +1,65 @@
+-- Where a line may want memory.
+use Rattle.std.specs.Prelude.{◌≡◌, ◌≢◌, ◌⊎◌, ℕ, Bool, true, Option, Some, None, Result, Ok, Err, List, [], ◌∷◌, ◌++◌}
+use Rattle.s2ix_edit.specs.History.{State}
+use Rattle.s2ix_edit.specs.Refusals.{MayWantMemory, edit_refusal}
+use Rattle.s2ix_script.specs.declared.command.Command.{Command}
+use Rattle.s2ix_script.specs.declared.command.Command.TheVariants as command
+use Rattle.s2ix_script.specs.declared.command.LineFault.{LineFault}
+use Rattle.s2ix_script.specs.declared.command.Move.{Move}
+use Rattle.s2ix_script.specs.declared.command.Move.TheVariants as move
+use Rattle.s2ix_script.specs.declared.command.Query.{Query}
+use Rattle.s2ix_script.specs.declared.command.Query.TheVariants as query
+use Rattle.s2ix_script.specs.Meaning.{gathers, meaning_of}
+use Rattle.s2ix_cli.specs.declared.outcome.RunFault.{RunFault}
+use Rattle.s2ix_cli.specs.declared.outcome.RunFault.TheVariants.{Read, Write, OutOfMemory, ReaderTooLong}
+use Rattle.s2ix_cli.specs.Script.{after, carried}
+
+-- a move: an edit unless it is refused before its change is made, and an undo or a redo of a change that there is
+abbrev pub MoveWants : State → Move → Type 0
+MoveWants s (move.Edit edit) = MayWantMemory (edit_refusal s edit)
+MoveWants s move.Undo = s.done ≢ []
+MoveWants s move.Redo = s.undone ≢ []
+MoveWants s move.Forget = ⊥
+
+-- a query: one that gathers what it prints
+abbrev pub QueryWants : Query → Type 0
+QueryWants (query.At cell) = ⊥
+QueryWants (query.Meet target) = Unit {0}
+QueryWants (query.Labels target) = Unit {0}
+QueryWants query.Ranges = ⊥
+QueryWants (query.Path cell) = ⊥
+QueryWants (query.Neighbors cell) = ⊥
+QueryWants (query.Face cell) = ⊥
+QueryWants query.Dump = ⊥
+QueryWants query.Journal = ⊥
+
+-- a command
+abbrev pub CommandWants : State → Command → Type 0
+CommandWants s (command.Move asked) = MoveWants s asked
+CommandWants s (command.Query asked) = QueryWants asked
+
+-- a line of this meaning, when it is carried out
+abbrev pub MeaningWants : State → Result (Option Command) LineFault → Type 0
+MeaningWants s (Ok None) = ⊥
+MeaningWants s (Ok (Some c)) = CommandWants s c
+MeaningWants s (Err fault) = ⊥
+
+-- a line: while its cells are gathered, or when it is carried out
+abbrev pub LineWants : State → List ℕ → Type 0
+LineWants s line = (gathers line ≡ true) ⊎ MeaningWants s (meaning_of line)
+
+-- a line of those to be carried out wanted memory: the store stands after the lines before it
+pub record WantsAmong (stop : Bool) (lines : List (List ℕ)) (old new : State) : Type 0 where
+  pub done : List (List ℕ)
+  pub line : List ℕ
+  pub rest : List (List ℕ)
+  pub are_carried : carried stop old lines ≡ done ++ line ∷ rest
+  pub store : new ≡ after old done
+  pub wants : LineWants new line
+
+-- the fault is want of memory only where this holds
+abbrev pub IsWantOnlyIf : Type 0 → RunFault → Type 0
+IsWantOnlyIf wants OutOfMemory = wants
+IsWantOnlyIf wants Read = Unit {0}
+IsWantOnlyIf wants Write = Unit {0}
+IsWantOnlyIf wants ReaderTooLong = Unit {0}
