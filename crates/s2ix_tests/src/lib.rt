@@ -2,8 +2,6 @@
 #![tactic(auto)]
 
 #[cfg(test)]
-mod cases;
-#[cfg(test)]
 mod device_tests;
 pub mod devices;
 #[cfg(test)]
@@ -32,6 +30,8 @@ mod random;
 mod reading_tests;
 #[cfg(test)]
 mod script_tests;
+#[cfg(test)]
+mod scripts;
 #[cfg(test)]
 mod store_tests;
 #[cfg(test)]
