@@ -5,7 +5,7 @@
 use s2ix_bag::Limits;
 use s2ix_cli::{RunEnd, RunFault, RunOptions};
 use s2ix_edit::Store;
-use s2ix_text::{FromRead, ToWrite};
+use s2ix_io::{FromRead, ToWrite};
 use std::io::BufWriter;
 use std::process::ExitCode;
 

@@ -4,8 +4,8 @@ use Rattle.std.specs.Io.KnownBytes.{Appends, Keeps, IsAtEnd}
 use Rattle.std.proofs.Math.Seq.{take-append_seam}
 use Rattle.std.proofs.KnownBytes.{Appends-nil, Appends-trans, Appends-kept}
 use Rattle.s2ix_edit.specs.History.{State}
-use Rattle.s2ix_text.specs.Puts.{AppendsFront}
-use Rattle.s2ix_text.proofs.Fronts.{AppendsFront-all, AppendsFront-after}
+use Rattle.s2ix_io.specs.Puts.{AppendsFront}
+use Rattle.s2ix_io.proofs.Fronts.{AppendsFront-all, AppendsFront-after}
 use Rattle.s2ix_cli.specs.declared.outcome.LineOutcome.{LineOutcome}
 use Rattle.s2ix_cli.specs.declared.outcome.RunEnd.{RunEnd}
 use Rattle.s2ix_cli.specs.declared.outcome.RunFault.{RunFault}

@@ -2,7 +2,7 @@
 use Rattle.std.specs.Prelude.{◌≡◌, ℕ, ◌≤◌, Bool, true, false, Option, Result, Ok, Err, List, length, take}
 use Rattle.std.specs.Io.KnownBytes.{Appends, Keeps}
 use Rattle.s2ix_edit.specs.History.{State}
-use Rattle.s2ix_text.specs.Puts.{AppendsFront}
+use Rattle.s2ix_io.specs.Puts.{AppendsFront}
 use Rattle.s2ix_cli.specs.declared.outcome.LineOutcome.{LineOutcome}
 use Rattle.s2ix_cli.specs.declared.outcome.LineOutcome.TheVariants.{PassedOver, Accepted, Refused}
 use Rattle.s2ix_cli.specs.declared.outcome.RunFault.{RunFault}

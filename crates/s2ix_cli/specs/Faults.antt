@@ -1,6 +1,6 @@
 -- What the answer of a run tells of its devices.
 use Rattle.std.specs.Prelude.{ℕ, Result, Ok, Err}
-use Rattle.s2ix_text.specs.Pieces.{ReadsOn}
+use Rattle.s2ix_io.specs.Pieces.{ReadsOn}
 use Rattle.s2ix_cli.specs.declared.outcome.RunFault.{RunFault}
 use Rattle.s2ix_cli.specs.declared.outcome.RunFault.TheVariants.{Read, Write, OutOfMemory, ReaderTooLong}
 

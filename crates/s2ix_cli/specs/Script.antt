@@ -2,7 +2,7 @@
 use Rattle.std.specs.Prelude.{◌≡◌, ℕ, ◌+◌, ◌-◌, ◌^◌, ◌≤◌, ◌⊎◌, ◌==◌, ◌&&◌, min, if◌then◌else◌, Bool, Option, List, [], ◌∷◌, ◌++◌, take, length, count_by}
 use Rattle.std.specs.Io.KnownBytes.{Appends, IsAtEnd}
 use Rattle.s2ix_edit.specs.History.{State}
-use Rattle.s2ix_text.specs.Puts.{AppendsFront}
+use Rattle.s2ix_io.specs.Puts.{AppendsFront}
 use Rattle.s2ix_cli.specs.declared.outcome.RunEnd.{RunEnd}
 use Rattle.s2ix_script.specs.Lines.{lines_of}
 use Rattle.s2ix_cli.specs.Step.{step_of}

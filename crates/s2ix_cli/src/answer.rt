@@ -1,13 +1,13 @@
 //! The answers of lines, as they are printed.
 ghost use Rattle.std.specs.Prelude.{◌≡◌, ◌+◌, ◌-◌, ◌^◌, ◌<◌};
-ghost use Rattle.s2ix_text.specs.Faults.{write_faults};
-ghost use Rattle.s2ix_text.specs.Puts.{Puts};
+ghost use Rattle.s2ix_io.specs.Faults.{write_faults};
+ghost use Rattle.s2ix_io.specs.Puts.{Puts};
 ghost use Rattle.s2ix_cli.specs.Step.{neighbors_line, no_line, ok_line, path_line, square_line};
 
 use itoa::Buffer;
 use s2id_core::CellId;
 use s2id_cube::{FaceIj, edge_neighbors};
-use s2ix_text::{Sink, WriteFault, put_parts};
+use s2ix_io::{Sink, WriteFault, put_parts};
 
 // Prints that a line is refused, and why.
 pub(crate) fn put_no<K: Sink>(sink: &mut K, name: &str) -> Result<(), WriteFault>

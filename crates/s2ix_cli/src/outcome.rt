@@ -3,7 +3,7 @@ ghost use Rattle.s2ix_cli.specs.Carry.{is_counted, is_refused};
 ghost use Rattle.s2ix_cli.specs.Script.{MOST};
 ghost use Rattle.s2ix_cli.specs.declared.outcome.RunFault.TheVariants.{OutOfMemory, Read, Write};
 
-use s2ix_text::{ReadFault, WriteFault};
+use s2ix_io::{ReadFault, WriteFault};
 use std::alloc::AllocError;
 use thiserror::Error;
 

@@ -4,7 +4,7 @@ ghost use Rattle.std.specs.Io.KnownBytes.{Consumes, IsAtEnd};
 ghost use Rattle.s2ix_cli.specs.Faults.{source_faults, IsPatient};
 
 use crate::outcome::RunFault;
-use s2ix_text::Source;
+use s2ix_io::Source;
 use std::alloc::Global;
 
 /// How many bytes are asked for at once.

@@ -1,9 +1,6 @@
-//! Tests that cross crates: devices in memory, worked scripts from bytes to bytes, and devices that fail.
+//! Tests that cross crates: worked scripts from bytes to bytes, and devices that fail.
 #![tactic(auto)]
 
-#[cfg(test)]
-mod device_tests;
-pub mod devices;
 #[cfg(test)]
 mod fault_tests;
 #[cfg(test)]

@@ -1,5 +1,5 @@
 // Long scripts of a fixed generator, with what a plain model answers to them.
-use crate::devices::{KeepingSink, SliceSource};
+use s2ix_io::{KeepingSink, SliceSource};
 use crate::model::{Answer, Cell, Model, Row, token};
 use s2ix_bag::Limits;
 use s2ix_cli::{RunOptions, run};

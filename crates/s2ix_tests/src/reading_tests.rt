@@ -1,7 +1,7 @@
 // Sources that are read whole.
-use crate::devices::SliceSource;
+use s2ix_io::SliceSource;
 use s2ix_cli::{RunFault, read_whole};
-use s2ix_text::Source;
+use s2ix_io::Source;
 
 #[test]
 fn all_pieces_are_read(rt: HostRuntime) {

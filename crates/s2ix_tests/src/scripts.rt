@@ -1,5 +1,5 @@
 // Scripts with what runs of them print, and runs that are compared with it.
-use crate::devices::{KeepingSink, SliceSource};
+use s2ix_io::{KeepingSink, SliceSource};
 use s2ix_bag::Limits;
 use s2ix_cli::{RunOptions, run};
 use s2ix_edit::Store;

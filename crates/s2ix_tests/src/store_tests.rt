@@ -1,9 +1,10 @@
 // Stores and dumps by their calls, with no script.
-use crate::devices::KeepingSink;
+use s2ix_io::KeepingSink;
 use s2id_core::CellId;
 use s2ix_bag::{ApplyError, Change, Entry, Held, Label, Limits, Pair};
 use s2ix_edit::{Edit, EditError, Store};
-use s2ix_text::{Sink, WriteFault, write_dump};
+use s2ix_io::{Sink, WriteFault};
+use s2ix_text::write_dump;
 use std::alloc::Global;
 use std::test::Fail;
 

@@ -1,11 +1,11 @@
 ghost use Rattle.std.specs.Prelude.{◌≡◌, ◌+◌, ◌-◌, ◌^◌, ◌<◌, flat_map};
 ghost use Rattle.s2ix_text.specs.Dump.{dump_text, end_line, pair_line};
-ghost use Rattle.s2ix_text.specs.Faults.{write_faults};
-ghost use Rattle.s2ix_text.specs.Puts.{Puts};
+ghost use Rattle.s2ix_io.specs.Faults.{write_faults};
+ghost use Rattle.s2ix_io.specs.Puts.{Puts};
 
-use super::{Sink, WriteFault, put_all, put_parts};
 use itoa::Buffer;
 use s2ix_bag::{Bag, Held};
+use s2ix_io::{Sink, WriteFault, put_all, put_parts};
 
 // Writes the line of a held pair.
 #[tactic(auto, unfolding(crate::specs::Dump::pair_line))]

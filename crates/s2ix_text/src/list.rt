@@ -1,12 +1,12 @@
 ghost use Rattle.std.specs.Prelude.{◌≡◌, ◌+◌, ◌-◌, ◌^◌, ◌<◌, ℕ, List, flat_map};
-ghost use Rattle.s2ix_text.specs.Faults.{write_faults};
-ghost use Rattle.s2ix_text.specs.Puts.{Puts};
+ghost use Rattle.s2ix_io.specs.Faults.{write_faults};
+ghost use Rattle.s2ix_io.specs.Puts.{Puts};
 ghost use Rattle.s2ix_text.specs.Queries.{end_of_list, held_line, label_line, list_text};
 
 use super::pair::write_pair_between;
-use super::{Sink, WriteFault, put_parts};
 use itoa::Buffer;
 use s2ix_bag::{Held, Label};
+use s2ix_io::{Sink, WriteFault, put_parts};
 
 /// What stands on a line of its own in a list. This project's own.
 pub trait Line: Copy {

@@ -1,11 +1,11 @@
 ghost use Rattle.std.specs.Prelude.{◌≡◌, ◌+◌, ◌-◌, ◌^◌, ◌<◌, ◌++◌};
-ghost use Rattle.s2ix_text.specs.Faults.{write_faults};
-ghost use Rattle.s2ix_text.specs.Puts.{Puts};
+ghost use Rattle.s2ix_io.specs.Faults.{write_faults};
+ghost use Rattle.s2ix_io.specs.Puts.{Puts};
 ghost use Rattle.s2ix_text.specs.Queries.{pair_text};
 
-use super::{Sink, WriteFault, put_parts};
 use itoa::Buffer;
 use s2ix_bag::Held;
+use s2ix_io::{Sink, WriteFault, put_parts};
 
 // Writes a held pair as queries print it, between two texts.
 #[tactic(auto, unfolding(crate::specs::Queries::pair_text))]

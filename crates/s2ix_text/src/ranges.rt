@@ -2,14 +2,14 @@ ghost use Rattle.std.specs.Prelude.{◌≡◌, ◌+◌, ◌-◌, ◌^◌, ◌<�
 ghost use Rattle.s2id_core.specs.CellId.{level_of, raw_of};
 ghost use Rattle.s2ix_table.specs.Contents.{contents_at};
 ghost use Rattle.s2ix_table.specs.Table.{run_at};
-ghost use Rattle.s2ix_text.specs.Faults.{write_faults};
-ghost use Rattle.s2ix_text.specs.Puts.{Puts};
+ghost use Rattle.s2ix_io.specs.Faults.{write_faults};
+ghost use Rattle.s2ix_io.specs.Puts.{Puts};
 ghost use Rattle.s2ix_text.specs.Queries.{bounds_text, held_line, list_text, run_line, spaced_pair};
 
 use super::list::{Line, write_end_of_list};
 use super::pair::write_pair_between;
-use super::{Sink, WriteFault, put_all, put_parts};
 use s2id_core::{CellId, sixteen_digits};
+use s2ix_io::{Sink, WriteFault, put_all, put_parts};
 use s2ix_table::{RangeRow, RangeTable, chain_at, contents};
 
 /// Writes what lies over a leaf as a list of pairs, innermost cell first, the labels of one cell rising. The table holds fewer

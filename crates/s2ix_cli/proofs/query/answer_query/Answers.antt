@@ -4,7 +4,7 @@ use Rattle.std.specs.Io.KnownBytes.{Appends}
 use Rattle.std.proofs.lemmas.Result.{err_from_is_err_and}
 use Rattle.s2ix_table.proofs.RangeList.{is_range_table}
 use Rattle.s2ix_table.specs.Table.{Run}
-use Rattle.s2ix_text.specs.Puts.{AppendsFront}
+use Rattle.s2ix_io.specs.Puts.{AppendsFront}
 use Rattle.s2ix_text.specs.Queries.{list_text, run_line}
 use Rattle.s2ix_cli.proofs.query.answer_query.Goals as goal
 

@@ -1,7 +1,7 @@
 -- What was read so far is the text, by one piece a turn, and no call has failed.
 use Rattle.std.proofs.Common.{◌≡◌}
 use Rattle.std.specs.Io.KnownBytes.{Consumes}
-use Rattle.s2ix_text.specs.Pieces.{ReadsOn}
+use Rattle.s2ix_io.specs.Pieces.{ReadsOn}
 use Rattle.s2ix_cli.proofs.reading.read_whole.Given as goal
 
 abbrev pub invariant-pieces : goal.invariant-pieces

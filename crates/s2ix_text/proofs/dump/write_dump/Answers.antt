@@ -1,7 +1,7 @@
 -- The header, the lines of the pairs and the end line go out one after the other, or a front of them does.
 use Rattle.std.proofs.Common.{◌++◌, flat_map, codes}
 use Rattle.s2ix_text.specs.Dump.{dump_text, end_line, pair_line}
-use Rattle.s2ix_text.proofs.Fronts.{AppendsFront-after, AppendsFront-more, Puts-after, Puts-of_err}
+use Rattle.s2ix_io.proofs.Fronts.{AppendsFront-after, AppendsFront-more, Puts-after, Puts-of_err}
 use Rattle.s2ix_text.proofs.dump.write_dump.Goals as goal
 
 pub returns-in_err-put_all-clause-puts : goal.returns-in_err-put_all-clause-puts

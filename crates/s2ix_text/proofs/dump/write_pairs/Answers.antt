@@ -1,7 +1,7 @@
 -- The line of this pair goes out behind those before it, or a front of it does.
 use Rattle.std.proofs.Common.{arith}
 use Rattle.s2ix_text.specs.Dump.{pair_line}
-use Rattle.s2ix_text.proofs.Fronts.{Appends-flat_map, AppendsFront-flat_map_at, Puts-of_err}
+use Rattle.s2ix_io.proofs.Fronts.{Appends-flat_map, AppendsFront-flat_map_at, Puts-of_err}
 use Rattle.s2ix_text.proofs.dump.write_pairs.Goals as goal
 
 pub loop-place-preserved : goal.loop-place-preserved

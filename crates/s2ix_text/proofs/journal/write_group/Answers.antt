@@ -2,8 +2,8 @@
 use Rattle.std.proofs.Common.{List, flat_map, subst}
 use Rattle.s2ix_bag.specs.declared.pair.Entry.{Entry}
 use Rattle.s2ix_text.specs.Journal.{change_line, entry_line, group_text}
-use Rattle.s2ix_text.specs.Puts.{AppendsFront, Puts}
-use Rattle.s2ix_text.proofs.Fronts.{AppendsFront-more, Puts-after, Puts-of_err}
+use Rattle.s2ix_io.specs.Puts.{AppendsFront, Puts}
+use Rattle.s2ix_io.proofs.Fronts.{AppendsFront-more, Puts-after, Puts-of_err}
 use Rattle.s2ix_text.proofs.journal.write_group.Goals as goal
 
 pub returns-in_err-write_change_line-clause-puts : goal.returns-in_err-write_change_line-clause-puts

@@ -1,7 +1,7 @@
 -- At a fault, the groups before went out, and a front of this one.
 use Rattle.std.proofs.Common.{arith}
 use Rattle.s2ix_text.specs.Journal.{group_text}
-use Rattle.s2ix_text.proofs.Fronts.{AppendsFront-flat_map_item, Puts-of_err}
+use Rattle.s2ix_io.proofs.Fronts.{AppendsFront-flat_map_item, Puts-of_err}
 use Rattle.s2ix_text.proofs.journal.write_groups.Goals as goal
 
 pub returns-in_err-write_group-clause-puts : goal.returns-in_err-write_group-clause-puts

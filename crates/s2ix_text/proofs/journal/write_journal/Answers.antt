@@ -2,7 +2,7 @@
 use Rattle.std.proofs.Common.{◌++◌, flat_map, codes}
 use Rattle.s2ix_text.specs.Journal.{group_text, journal_text, last_line}
 use Rattle.s2ix_text.specs.Queries.{end_of_list}
-use Rattle.s2ix_text.proofs.Fronts.{AppendsFront-after, AppendsFront-more, Puts-after, Puts-of_err}
+use Rattle.s2ix_io.proofs.Fronts.{AppendsFront-after, AppendsFront-more, Puts-after, Puts-of_err}
 use Rattle.s2ix_text.proofs.journal.write_journal.Goals as goal
 
 pub returns-in_err-put_all-clause-puts : goal.returns-in_err-put_all-clause-puts

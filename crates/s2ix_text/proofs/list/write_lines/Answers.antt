@@ -1,6 +1,6 @@
 -- At a fault, the lines before went out, and a front of this one.
 use Rattle.std.proofs.Common.{arith}
-use Rattle.s2ix_text.proofs.Fronts.{AppendsFront-flat_map_item, Puts-of_err}
+use Rattle.s2ix_io.proofs.Fronts.{AppendsFront-flat_map_item, Puts-of_err}
 use Rattle.s2ix_text.proofs.list.write_lines.Goals as goal
 
 pub returns-in_err-write_line-clause-puts : goal.returns-in_err-write_line-clause-puts

@@ -1,7 +1,7 @@
 -- The lines of the items and the end line go out one after the other, or a front of them does.
 use Rattle.std.proofs.Common.{length, flat_map}
 use Rattle.s2ix_text.specs.Queries.{end_of_list, list_text}
-use Rattle.s2ix_text.proofs.Fronts.{AppendsFront-more, Puts-after, Puts-of_err}
+use Rattle.s2ix_io.proofs.Fronts.{AppendsFront-more, Puts-after, Puts-of_err}
 use Rattle.s2ix_text.proofs.list.write_list.Goals as goal
 
 pub returns-in_err-write_lines-clause-puts : goal.returns-in_err-write_lines-clause-puts

@@ -7,9 +7,9 @@ use Rattle.s2ix_table.specs.Places.{from_place}
 use Rattle.s2ix_table.specs.declared.iter.ChainIter.{ChainIter}
 use Rattle.s2ix_table.proofs.Over.{length_contents}
 use Rattle.s2ix_table.proofs.Yielding.{yields_turn, yields_end}
-use Rattle.s2ix_text.specs.Puts.{Puts}
+use Rattle.s2ix_io.specs.Puts.{Puts}
 use Rattle.s2ix_text.specs.Queries.{end_of_list, held_line, list_text}
-use Rattle.s2ix_text.proofs.Fronts.{Appends-flat_map_turn, AppendsFront-flat_map_turn, Appends-flat_map_end, AppendsFront-more, Puts-after, Puts-of_err}
+use Rattle.s2ix_io.proofs.Fronts.{Appends-flat_map_turn, AppendsFront-flat_map_turn, Appends-flat_map_end, AppendsFront-more, Puts-after, Puts-of_err}
 use Rattle.s2ix_text.proofs.ranges.write_contents.Goals as goal
 
 pub overflow_add-count : goal.overflow_add-count

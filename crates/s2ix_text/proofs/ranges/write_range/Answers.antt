@@ -2,9 +2,9 @@
 use Rattle.std.proofs.Common.{ℕ, List, ◌++◌, codes, flat_map, ap₂, subst}
 use Rattle.std.specs.Io.KnownBytes.{Appends}
 use Rattle.s2ix_table.specs.Table.{run_at}
-use Rattle.s2ix_text.specs.Puts.{AppendsFront}
+use Rattle.s2ix_io.specs.Puts.{AppendsFront}
 use Rattle.s2ix_text.specs.Queries.{bounds_text, run_line, spaced_pair}
-use Rattle.s2ix_text.proofs.Fronts.{AppendsFront-after, AppendsFront-more, Puts-after, Puts-of_err}
+use Rattle.s2ix_io.proofs.Fronts.{AppendsFront-after, AppendsFront-more, Puts-after, Puts-of_err}
 use Rattle.s2ix_text.proofs.ranges.write_range.Goals as goal
 
 pub returns-in_err-write_bounds-clause-puts : goal.returns-in_err-write_bounds-clause-puts

@@ -5,9 +5,9 @@ use Rattle.s2ix_table.specs.Places.{from_place}
 use Rattle.s2ix_table.specs.Table.{run_at}
 use Rattle.s2ix_table.specs.declared.iter.ChainIter.{ChainIter}
 use Rattle.s2ix_table.proofs.Yielding.{yields_turn, yields_end}
-use Rattle.s2ix_text.specs.Puts.{AppendsFront}
+use Rattle.s2ix_io.specs.Puts.{AppendsFront}
 use Rattle.s2ix_text.specs.Queries.{pair_text, spaced_pair}
-use Rattle.s2ix_text.proofs.Fronts.{Appends-flat_map_turn, AppendsFront-flat_map_turn, Appends-flat_map_end, Puts-of_err}
+use Rattle.s2ix_io.proofs.Fronts.{Appends-flat_map_turn, AppendsFront-flat_map_turn, Appends-flat_map_end, Puts-of_err}
 use Rattle.s2ix_text.proofs.ranges.write_range_pairs.Goals as goal
 
 pub loop-held-preserved : goal.loop-held-preserved

@@ -2,9 +2,9 @@
 use Rattle.std.proofs.Common.{◌≡◌, ◌<◌, ℕ, length, flat_map, subst, arith}
 use Rattle.std.proofs.lemmas.Option.{slice_get-get_or}
 use Rattle.s2ix_table.specs.Table.{run_at}
-use Rattle.s2ix_text.specs.Puts.{Puts}
+use Rattle.s2ix_io.specs.Puts.{Puts}
 use Rattle.s2ix_text.specs.Queries.{end_of_list, list_text, run_line}
-use Rattle.s2ix_text.proofs.Fronts.{Appends-flat_map, AppendsFront-flat_map, Appends-flat_map_end, AppendsFront-more, Puts-after, Puts-of_err}
+use Rattle.s2ix_io.proofs.Fronts.{Appends-flat_map, AppendsFront-flat_map, Appends-flat_map_end, AppendsFront-more, Puts-after, Puts-of_err}
 use Rattle.s2ix_text.proofs.ranges.write_ranges.Goals as goal
 
 pub loop-k-preserved : goal.loop-k-preserved

@@ -1,6 +1,6 @@
 ghost use Rattle.std.specs.Prelude.{◌≡◌, ◌+◌, ◌-◌, ◌^◌, ◌<◌};
-ghost use Rattle.s2ix_text.specs.Faults.{write_faults};
-ghost use Rattle.s2ix_text.specs.Puts.{Puts, text_of};
+ghost use Rattle.s2ix_io.specs.Faults.{write_faults};
+ghost use Rattle.s2ix_io.specs.Puts.{Puts, text_of};
 
 use super::{Sink, WriteFault};
 

@@ -1,7 +1,7 @@
 -- What is gone from `rest` was taken, and no call has failed.
 use Rattle.std.proofs.Common.{◌≡◌, ℕ, List, ◌++◌, length}
 use Rattle.std.specs.Io.KnownBytes.{Appends}
-use Rattle.s2ix_text.proofs.put.put_all.Given as goal
+use Rattle.s2ix_io.proofs.put.put_all.Given as goal
 
 abbrev pub invariant-loop-rest : goal.invariant-loop-rest
 invariant-loop-rest g l =

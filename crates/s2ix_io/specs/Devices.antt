@@ -1,7 +1,7 @@
 -- How the devices in memory are set: how much they move a call, and where they fail.
 use Rattle.std.specs.Prelude.{ℕ, Bool}
-use Rattle.s2ix_tests.specs.declared.devices.SliceSource.{SliceSource}
-use Rattle.s2ix_tests.specs.declared.devices.KeepingSink.{KeepingSink}
+use Rattle.s2ix_io.specs.declared.slice_source.SliceSource.{SliceSource}
+use Rattle.s2ix_io.specs.declared.keeping_sink.KeepingSink.{KeepingSink}
 
 -- how many bytes the source gives a call, at most
 abbrev pub piece_len_of : SliceSource → ℕ

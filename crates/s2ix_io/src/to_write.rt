@@ -1,5 +1,5 @@
 ghost use Rattle.std.specs.Prelude.{◌≡◌};
-ghost use Rattle.s2ix_text.specs.Adapters.{writer_of, writer_faults};
+ghost use Rattle.s2ix_io.specs.Adapters.{writer_of, writer_faults};
 
 use super::{Sink, WriteFault};
 use std::io::Write;

@@ -7,7 +7,7 @@ use Rattle.std.proofs.lemmas.List.{drop_more, take_more, length_push}
 use Rattle.std.proofs.lemmas.List.Concat.{flat_map-append}
 use Rattle.std.proofs.lemmas.Option.{slice_get_within, slice_get_read, get_or_from_slice_get}
 use Rattle.std.proofs.KnownBytes.{Appends-nil, Appends-trans, Appends-kept}
-use Rattle.s2ix_text.specs.Puts.{IsFront, AppendsFront, Puts}
+use Rattle.s2ix_io.specs.Puts.{IsFront, AppendsFront, Puts}
 
 -- ---- fronts
 

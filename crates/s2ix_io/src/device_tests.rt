@@ -1,6 +1,8 @@
 // Sources, sinks, the adapters of std's readers and writers, and the calls that put texts.
-use crate::devices::{Broken, KeepingSink, SliceSource, TakesNone};
-use s2ix_text::{FromRead, ReadFault, Sink, Source, ToWrite, WriteFault, put_all, put_parts};
+use crate::{
+    Broken, FromRead, KeepingSink, ReadFault, Sink, SliceSource, Source, TakesNone, ToWrite,
+    WriteFault, put_all, put_parts,
+};
 use std::alloc::AllocError;
 
 #[test]

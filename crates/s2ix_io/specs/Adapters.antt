@@ -1,7 +1,7 @@
 -- What the adapters hold: the reader or writer of std's, and how often it failed.
 use Rattle.std.specs.Prelude.{ℕ}
-use Rattle.s2ix_text.specs.declared.from_read.FromRead.{FromRead}
-use Rattle.s2ix_text.specs.declared.to_write.ToWrite.{ToWrite}
+use Rattle.s2ix_io.specs.declared.from_read.FromRead.{FromRead}
+use Rattle.s2ix_io.specs.declared.to_write.ToWrite.{ToWrite}
 
 -- the reader that a source reads from
 abbrev pub reader_of : {R : Type 0} → FromRead R → R

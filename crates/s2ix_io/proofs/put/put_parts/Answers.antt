@@ -1,8 +1,8 @@
 -- At a fault, the parts before went out, and a front of this one.
 use Rattle.std.proofs.Common.{ℕ, List, arith}
 use Rattle.std.specs.Borrow.{Bor}
-use Rattle.s2ix_text.proofs.Fronts.{AppendsFront-flat_map, Puts-of_err}
-use Rattle.s2ix_text.proofs.put.put_parts.Goals as goal
+use Rattle.s2ix_io.proofs.Fronts.{AppendsFront-flat_map, Puts-of_err}
+use Rattle.s2ix_io.proofs.put.put_parts.Goals as goal
 
 pub returns-in_err-put_all-clause-puts : goal.returns-in_err-put_all-clause-puts
 returns-in_err-put_all-clause-puts g c =

@@ -1,7 +1,7 @@
 ghost use Rattle.std.specs.Prelude.{◌≡◌, ℕ, ◌+◌, ◌-◌, ◌^◌, ◌<◌, ◌≤◌, List, length, take, IfOk, MatchResult};
 ghost use Rattle.std.specs.declared.option.Option.{Option};
 ghost use Rattle.std.specs.Io.KnownBytes.{Keeps, Consumes, IsAtEnd};
-ghost use Rattle.s2ix_text.specs.Faults.{read_faults};
+ghost use Rattle.s2ix_io.specs.Faults.{read_faults};
 
 use thiserror::Error;
 

@@ -1,6 +1,6 @@
 ghost use Rattle.std.specs.Prelude.{◌≡◌};
-ghost use Rattle.s2ix_text.specs.Adapters.{reader_of, reader_faults};
-ghost use Rattle.s2ix_text.specs.Pieces.{Gave};
+ghost use Rattle.s2ix_io.specs.Adapters.{reader_of, reader_faults};
+ghost use Rattle.s2ix_io.specs.Pieces.{Gave};
 
 use super::{ReadFault, Source};
 use std::io::Read;

@@ -1,0 +1,78 @@
+ghost use Rattle.std.specs.Prelude.{◌≡◌, ◌↔◌, ◌+◌, ◌-◌, ◌^◌, ◌<◌, Some, [], max, IsErr, IsTrue};
+ghost use Rattle.std.specs.Io.KnownBytes.{Keeps};
+ghost use Rattle.s2ix_io.specs.Faults.{write_faults};
+ghost use Rattle.s2ix_io.specs.Devices.{flush_fails, put_len_of, sink_fault_at};
+
+use crate::{Sink, WriteFault};
+use std::alloc::Global;
+
+/// A sink that keeps what it takes.
+#[derive(Drop)]
+pub struct KeepingSink {
+    kept: Vec<u8>,
+    put_len: usize,
+    calls_to_fault: u64,
+    is_flush_failing: bool,
+    faults: u64,
+}
+
+impl KeepingSink {
+    /// A sink that takes at most `put_len` bytes a call (at least one), whose call number `fault_at` of `put` fails, and whose `flush`
+    /// fails where `is_flush_failing`. Calls count from 1: at 0 none fails.
+    pub fn new(alloc: Global, put_len: usize, fault_at: u64, is_flush_failing: bool) -> KeepingSink
+        ensures taken { ⟦<KeepingSink as Sink>⟧.taken result ≡ Some [] }
+        ensures faults { ⟦<KeepingSink as Sink>⟧.fault_count result ≡ 0 }
+        ensures put_len { put_len_of result ≡ max put_len 1 }
+        ensures fault_at { sink_fault_at result ≡ fault_at }
+        ensures flush { flush_fails result ≡ is_flush_failing }
+    {
+        KeepingSink {
+            kept: Vec::new(alloc),
+            put_len: put_len.max(1),
+            calls_to_fault: fault_at,
+            is_flush_failing,
+            faults: 0,
+        }
+    }
+
+    /// What the sink took so far.
+    pub fn kept(&self) -> &[u8]
+        ensures { ⟦<KeepingSink as Sink>⟧.taken self.now ≡ Some result.now }
+    {
+        &self.kept
+    }
+}
+
+impl Sink for KeepingSink {
+    ghost taken = { λ s. Some s.kept.items };
+
+    ghost fault_count = { λ s. s.faults };
+
+    fn put(&mut self, bytes: &[u8]) -> Result<usize, WriteFault> {
+        let is_fault = self.calls_to_fault == 1;
+        self.calls_to_fault = self.calls_to_fault.saturating_sub(1);
+        let count = self.put_len.max(1).min(bytes.len());
+        if is_fault || self.kept.extend_from_slice(&bytes[..count]).is_err() {
+            self.faults += 1;
+            return Err(WriteFault);
+        }
+        Ok(count)
+    }
+
+    fn flush(&mut self) -> Result<(), WriteFault>
+        requires { ⟦<KeepingSink as Sink>⟧.fault_count self.old < 2 ^ 64 - 1 }
+        ensures bytes { Keeps (⟦<KeepingSink as Sink>⟧.taken self.old) (⟦<KeepingSink as Sink>⟧.taken self.new) }
+        ensures faults { ⟦<KeepingSink as Sink>⟧.fault_count self.new ≡ ⟦<KeepingSink as Sink>⟧.fault_count self.old + write_faults result }
+        ensures fails { IsErr result ↔ IsTrue (flush_fails self.old) }
+    {
+        if self.is_flush_failing {
+            self.faults += 1;
+            return Err(WriteFault);
+        }
+        Ok(())
+    }
+
+    fn faults(&self) -> u64 {
+        self.faults
+    }
+}

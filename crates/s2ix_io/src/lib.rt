@@ -1,0 +1,24 @@
+//! What a run reads from and writes to. A source gives bytes piece by piece, a sink takes them; each tells how often it failed.
+//! Beside the two traits stand adapters of std's readers and writers, devices in memory that can be made to fail, and the calls that put
+//! a whole text.
+#![tactic(auto)]
+
+mod broken;
+#[cfg(test)]
+mod device_tests;
+mod from_read;
+mod keeping_sink;
+mod put;
+mod sink;
+mod slice_source;
+mod source;
+mod to_write;
+
+pub use broken::{Broken, TakesNone};
+pub use from_read::FromRead;
+pub use keeping_sink::KeepingSink;
+pub use put::{put_all, put_parts};
+pub use sink::{Sink, WriteFault};
+pub use slice_source::SliceSource;
+pub use source::{ReadFault, Source};
+pub use to_write::ToWrite;
