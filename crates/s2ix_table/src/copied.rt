@@ -1,4 +1,4 @@
-ghost use Rattle.std.specs.Prelude.{◌≡◌, IfOk, drop};
+ghost use Rattle.std.specs.Prelude.{◌≡◌, ◌≤◌, IfOk, drop, length};
 ghost use Rattle.s2ix_bag.specs.Collection.{IsCollection};
 ghost use Rattle.s2ix_table.specs.Table.{run_at, IsRangeTable};
 ghost use Rattle.s2ix_table.specs.Copied.{runs_of, IsCollection-prop};
@@ -19,6 +19,7 @@ pub struct CopiedTable {
     rows: Vec<CopiedRow>,
     ghost rises: { IsCollection held.items } by { IsCollection-prop 0 held.items },
     ghost table: { IsRangeTable held.items (runs_of rows.items) },
+    ghost few: { length held.items ≤ 1000000 },
 }
 
 /// A pair of a range's list, by the range and its place in that list.
@@ -40,6 +41,8 @@ impl RangeTable for CopiedTable {
     ghost is_collection = { λ t. t.rises };
 
     ghost is_table = { λ t. t.table };
+
+    ghost few = { λ t. t.few };
 
     fn build(alloc: Global, bag: &Bag) -> Result<Self, OutOfMemory> {
         let held = held_pairs(alloc, bag)?;
@@ -93,6 +96,7 @@ impl RangeTable for CopiedTable {
 fn held_pairs(alloc: Global, bag: &Bag) -> Result<Vec<Held>, OutOfMemory>
     ensures list { IfOk result (λ held. held.items ≡ bag.now.held) }
     ensures rises { IfOk result (λ held. IsCollection held.items) }
+    ensures few { IfOk result (λ held. length held.items ≤ 1000000) }
 {
     let len = bag.len();
     let mut held = Vec::with_capacity(alloc, len)?;
