@@ -1,6 +1,7 @@
-ghost use Rattle.std.specs.Prelude.{◌≡◌, ◌≤◌, IfOk, drop, length};
+ghost use Rattle.std.specs.Prelude.{◌≡◌, ◌≢◌, ℕ, ◌%◌, ◌<◌, ◌≤◌, IfOk, drop, length};
 ghost use Rattle.s2ix_bag.specs.Collection.{IsCollection};
-ghost use Rattle.s2ix_table.specs.Table.{run_at, IsRangeTable};
+ghost use Rattle.s2ix_table.specs.Contents.{contents_at};
+ghost use Rattle.s2ix_table.specs.Table.{run_at, leaf_end, IsRangeTable};
 ghost use Rattle.s2ix_table.specs.Copied.{runs_of, IsCollection-prop};
 
 use crate::copied_row::CopiedRow;
@@ -106,7 +107,7 @@ fn held_pairs(alloc: Global, bag: &Bag) -> Result<Vec<Held>, OutOfMemory>
     Ok(held)
 }
 
-// The runs of leaves over which the same pairs lie, each from where one ended up to the next bound of a cell.
+// The runs of leaves over which the same pairs lie, each from where one ended up to where the next begins.
 fn rows_over(alloc: Global, held: &[Held]) -> Result<Vec<CopiedRow>, OutOfMemory>
     requires { IsCollection held.now }
     ensures { IfOk result (λ rows. IsRangeTable held.now (runs_of rows.items)) }
@@ -114,14 +115,28 @@ fn rows_over(alloc: Global, held: &[Held]) -> Result<Vec<CopiedRow>, OutOfMemory
     let mut rows = Vec::new(alloc);
     let mut at = 1;
     while at < LEAF_END {
-        let limit = next_bound(held, at);
-        let contents = contents_over(alloc, held, at)?;
-        rows.push(CopiedRow {
-            start: at,
-            limit,
-            contents,
-        })?;
-        at = limit;
+        let row = row_from(alloc, held, at)?;
+        at = row.limit;
+        rows.push(row)?;
     }
     Ok(rows)
+}
+
+// The run from a leaf on, up to the next bound of a cell. O(n), and the moves of the insertions.
+fn row_from(alloc: Global, held: &[Held], at: u64) -> Result<CopiedRow, OutOfMemory>
+    requires rises { IsCollection held.now }
+    requires odd { at % 2 ≡ 1 }
+    requires within { at < leaf_end }
+    ensures start { IfOk result (λ row. row.start ≡ at) }
+    ensures limit { IfOk result (λ row. (at < row.limit) × (row.limit ≤ leaf_end) × (row.limit % 2 ≡ 1)) }
+    ensures shared { IfOk result (λ row. (q : ℕ) → at ≤ q → q < row.limit → contents_at q held.now ≡ row.contents.items) }
+    ensures maximal { IfOk result (λ row. row.limit < leaf_end → contents_at row.limit held.now ≢ row.contents.items) }
+{
+    let limit = next_bound(held, at);
+    let contents = contents_over(alloc, held, at)?;
+    Ok(CopiedRow {
+        start: at,
+        limit,
+        contents,
+    })
 }
