@@ -11,16 +11,20 @@ use crate::table::RangeTable;
 use s2id_core::{CellId, LEAF_END, OutOfMemory};
 use s2ix_bag::{Bag, Held};
 use std::alloc::Global;
+use std::snapshot::Snapshot;
 
 /// A range table that keeps a list of its own for each range. Building takes O(r * n) for r ranges and n pairs, and what it takes to
 /// put the pairs over one leaf in order: nothing for the labels of one cell, at worst m * m moves for m pairs of nested cells.
-#[derive(Debug, Drop)]
+#[derive(Drop)]
+#[derive_where(Debug)]
 pub struct CopiedTable {
-    held: Vec<Held>,
     rows: Vec<CopiedRow>,
-    ghost rises: { IsCollection held.items } by { IsCollection-prop 0 held.items },
-    ghost table: { IsRangeTable held.items (runs_of rows.items) },
-    ghost few: { length held.items ≤ 1000000 },
+    // what the table was built of: clauses alone read it, and it has no bytes
+    #[derive_where(skip)]
+    held: Snapshot<Vec<Held>>,
+    ghost rises: { IsCollection held.value.items } by { IsCollection-prop 0 held.value.items },
+    ghost table: { IsRangeTable held.value.items (runs_of rows.items) },
+    ghost few: { length held.value.items ≤ 1000000 },
 }
 
 /// A pair of a range's list, by the range and its place in that list.
@@ -33,7 +37,7 @@ pub struct CopiedPlace {
 impl RangeTable for CopiedTable {
     type Place = CopiedPlace;
 
-    ghost pairs = { λ t. t.held.items };
+    ghost pairs = { λ t. t.held.value.items };
 
     ghost runs = { λ t. runs_of t.rows.items };
 
@@ -48,7 +52,8 @@ impl RangeTable for CopiedTable {
     fn build(alloc: Global, bag: &Bag) -> Result<Self, OutOfMemory> {
         let held = held_pairs(alloc, bag)?;
         let rows = rows_over(alloc, held.as_slice())?;
-        Ok(CopiedTable { held, rows })
+        let held = Snapshot::of(&held);
+        Ok(CopiedTable { rows, held })
     }
 
     fn range_count(&self) -> usize {
