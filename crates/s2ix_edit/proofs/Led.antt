@@ -8,17 +8,18 @@ use Rattle.s2ix_bag.specs.Pair.{rank_of}
 use Rattle.s2ix_bag.proofs.Differences.{counts_between}
 use Rattle.s2ix_edit.specs.declared.edit.Edit.{Edit}
 use Rattle.s2ix_edit.specs.Edit.{edited}
-use Rattle.s2ix_edit.specs.History.{State, IsStore, after_edit, after_redo, after_redo_of, after_undo, change_of}
+use Rattle.s2ix_edit.specs.History.{State, IsStore, after_edit, after_redo, after_redo_of, after_undo, change_of, history_of}
+use Rattle.s2ix_edit.proofs.Edited.{held_edited_is_collection}
 use Rattle.s2ix_edit.proofs.Places.{Redoes, Undoes}
 use Rattle.s2ix_edit.proofs.Redone.{redo_of_last, redo_of_undo}
-use Rattle.s2ix_edit.proofs.Undone.{edited_is_collection, front_of, undo_of_edit, undo_of_last}
+use Rattle.s2ix_edit.proofs.Undone.{front_of, undo_of_edit, undo_of_last}
 use Rattle.s2ix_table.specs.Table.{Run, IsRangeTable, leaf_end}
 use Rattle.s2ix_table.proofs.Runs.{same_table, table_from_places}
 
 -- the counts that an edit records are those of the two collections
 pub counts_recorded : (before after : State) (edit : Edit) → IsStore before → after ≡ after_edit before edit → (pair : Pair) → counts_at (change_of before edit) (rank_of pair) ≡ difference_of (count_in before.bag.held pair) (count_in after.bag.held pair)
 counts_recorded before after edit st is pair =
-    counts_between before.bag.held (edited edit before.bag.held) pair st.bag.rises (edited_is_collection edit before.bag.held st.bag.rises)
+    counts_between before.bag.held (edited (history_of before) edit) pair st.bag.rises (held_edited_is_collection before edit st.bag.rises)
     ∙ ap (λ (t : State). difference_of (count_in before.bag.held pair) (count_in t.bag.held pair)) (sym is)
 
 -- an edit that is undone leaves the bag as it was

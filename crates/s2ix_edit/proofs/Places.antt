@@ -7,8 +7,9 @@ use Rattle.s2ix_bag.specs.Apply.{apply_refusal, first_mismatch}
 use Rattle.s2ix_bag.specs.Change.{changed, inverse_of, IsChangeList}
 use Rattle.s2ix_bag.specs.Collection.{Collection, Contents, IsBag, IsCollection}
 use Rattle.s2ix_bag.specs.Limits.{changes_limit}
-use Rattle.s2ix_edit.specs.History.{State, History, IsStore, CanGoBack, CanGoOn, earlier, later, history_of, forgotten, alone, holding, one_back, one_on, with_next}
+use Rattle.s2ix_edit.specs.History.{State, IsStore, CanGoBack, CanGoOn, earlier, later, history_of, holding}
 use Rattle.s2ix_edit.specs.Plan.{recorded}
+use Rattle.s2ix_edit.specs.Steps.{History, alone, forgotten, one_back, one_on}
 use Rattle.s2ix_bag.proofs.Inverse.{inverse-inverse, inverse_keeps}
 use Rattle.s2ix_edit.proofs.Taken.{changed_back, not_mismatched, takes_back}
 use Rattle.std.specs.List.{slice_get}
@@ -32,17 +33,11 @@ take_through xs ys x n e = ap (λ k. take (k + 1) (xs ++ x ∷ ys)) (sym e) ∙ 
 -- ---- planned entries recorded
 
 -- the history goes on to the changed collection
-collections_recorded : (hs new : Collection) (es : List Entry) (done : List (List Entry)) (rest : List Collection) → changed new (inverse_of es) ≡ hs → earlier new (reverse (done ++ es ∷ [])) ++ new ∷ [] ≡ take (length done + 1) (earlier hs (reverse done) ++ hs ∷ rest) ++ new ∷ []
+pub collections_recorded : (hs new : Collection) (es : List Entry) (done : List (List Entry)) (rest : List Collection) → changed new (inverse_of es) ≡ hs → earlier new (reverse (done ++ es ∷ [])) ++ new ∷ [] ≡ take (length done + 1) (earlier hs (reverse done) ++ hs ∷ rest) ++ new ∷ []
 collections_recorded hs new es done rest back =
     ap (λ xs. earlier new xs ++ new ∷ []) (reverse_push done es)
     ∙ ap (λ k. (earlier k (reverse done) ++ k ∷ []) ++ new ∷ []) back
     ∙ ap (λ xs. xs ++ new ∷ []) (sym (take_through (earlier hs (reverse done)) rest hs (length done) (length-earlier hs (reverse done) ∙ length-reverse done)))
-
-pub history_recorded : (s : State) (es : List Entry) → IsCollection s.bag.held → IsChangeList es → first_mismatch s.bag es ≡ None → history_of (recorded s es) ≡ with_next (history_of s) (changed s.bag.held es)
-history_recorded s es c rises matches =
-    ap₂ (λ (collections : List Collection) (cursor : ℕ). let h : History = record { collections = collections; cursor = cursor } in h)
-    (collections_recorded s.bag.held (changed s.bag.held es) es s.done (later s.bag.held (reverse s.undone)) (changed_back s.bag es c rises matches))
-    (length-append s.done (es ∷ []))
 
 -- a bag that a change made can go back over it, and on as before
 back_over : (bag : Contents) (done : List (List Entry)) (es : List Entry) → IsBag bag → CanGoBack bag (reverse done) → IsChangeList es → apply_refusal bag es ≡ None → CanGoBack (holding bag (changed bag.held es)) (reverse (done ++ es ∷ []))

@@ -10,29 +10,37 @@ ghost use Rattle.s2ix_bag.specs.Collection.{Collection, IsBag, IsCollection, cou
 ghost use Rattle.s2ix_bag.specs.Pair.{rank_of};
 ghost use Rattle.s2ix_edit.specs.declared.edit.Edit.{Edit};
 ghost use Rattle.s2ix_edit.specs.declared.edit.Edit.TheVariants.{Add, AddUnion, Remove, DropLabel, Relabel};
-ghost use Rattle.s2ix_edit.specs.Edit.{edited, pair_of};
-ghost use Rattle.s2ix_edit.specs.History.{State, IsStore, after_edit, after_redo, after_undo, change_of, changes_along, history_of, holding};
+ghost use Rattle.s2ix_edit.specs.Edit.{edited, edited_alone, pair_of};
+ghost use Rattle.s2ix_edit.specs.History.{State, IsStore, after_edit, after_redo, after_undo, change_of, history_of, holding};
 ghost use Rattle.s2ix_edit.specs.Plan.{starting_at};
+ghost use Rattle.s2ix_edit.specs.Steps.{History, at_cursor, changes_along};
 ghost use Rattle.s2ix_table.specs.Table.{Run, IsRangeTable};
+
+/// What an edit makes of the collection at the cursor of a history is what it makes of that collection alone; of a
+/// store's history, what it makes of the collection that its bag holds.
+pub fn edits_read_the_collection()
+    ensures cursor { (h : History) (edit : Edit) → edited h edit ≡ edited_alone edit (at_cursor h) }
+    ensures bag { (s : State) (edit : Edit) → edited (history_of s) edit ≡ edited_alone edit s.bag.held }
+{}
 
 /// `Add` adds the copies to the pair's count, and leaves every other count.
 pub fn add_adds_copies()
     ensures pair { (hs : Collection) (pair : Pair) (copies : ℕ)
         → IsCollection hs
-        → count_in (edited (Add pair copies) hs) pair ≡ count_in hs pair + copies }
+        → count_in (edited_alone (Add pair copies) hs) pair ≡ count_in hs pair + copies }
     ensures others { (hs : Collection) (pair other : Pair) (copies : ℕ)
         → pair ≢ other
-        → count_in (edited (Add pair copies) hs) other ≡ count_in hs other }
+        → count_in (edited_alone (Add pair copies) hs) other ≡ count_in hs other }
 {}
 
 /// `Remove` takes the copies from the pair's count, and leaves every other count.
 pub fn remove_takes_copies()
     ensures pair { (hs : Collection) (pair : Pair) (copies : ℕ)
         → IsCollection hs
-        → count_in (edited (Remove pair copies) hs) pair ≡ count_in hs pair - copies }
+        → count_in (edited_alone (Remove pair copies) hs) pair ≡ count_in hs pair - copies }
     ensures others { (hs : Collection) (pair other : Pair) (copies : ℕ)
         → pair ≢ other
-        → count_in (edited (Remove pair copies) hs) other ≡ count_in hs other }
+        → count_in (edited_alone (Remove pair copies) hs) other ≡ count_in hs other }
 {}
 
 /// The change that an edit records has the two counts of exactly the pairs whose counts the edit changes.
@@ -41,7 +49,7 @@ pub fn change_lists_differences()
     ensures counts { (s : State) (edit : Edit) (pair : Pair)
         → IsStore s
         → counts_at (change_of s edit) (rank_of pair)
-        ≡ difference_of (count_in s.bag.held pair) (count_in (edited edit s.bag.held) pair) }
+        ≡ difference_of (count_in s.bag.held pair) (count_in (edited (history_of s) edit) pair) }
 {}
 
 /// An edit and then an undo lead back: the bag and the changes that led to it are as they were, and the edit's change
@@ -109,21 +117,21 @@ pub fn add_union_adds_a_copy_each()
         → IsCollection hs
         → IsNormal cells
         → Contains cells cell
-        → count_in (edited (AddUnion cells label) hs) (pair_of cell label) ≡ count_in hs (pair_of cell label) + 1 }
+        → count_in (edited_alone (AddUnion cells label) hs) (pair_of cell label) ≡ count_in hs (pair_of cell label) + 1 }
     ensures others { (hs : Collection) (cells : List CellId) (label : Label) (other : Pair)
         → (Contains cells other.cell → other.label ≢ label)
-        → count_in (edited (AddUnion cells label) hs) other ≡ count_in hs other }
+        → count_in (edited_alone (AddUnion cells label) hs) other ≡ count_in hs other }
 {}
 
 /// `DropLabel` takes all copies of the label's pairs away, and leaves every other count.
 pub fn drop_label_takes_all_copies()
     ensures label { (hs : Collection) (label : Label) (pair : Pair)
         → pair.label ≡ label
-        → count_in (edited (DropLabel label) hs) pair ≡ 0 }
+        → count_in (edited_alone (DropLabel label) hs) pair ≡ 0 }
     ensures others { (hs : Collection) (label : Label) (other : Pair)
         → IsCollection hs
         → other.label ≢ label
-        → count_in (edited (DropLabel label) hs) other ≡ count_in hs other }
+        → count_in (edited_alone (DropLabel label) hs) other ≡ count_in hs other }
 {}
 
 /// `Relabel` gives the target at each cell the sum of both counts, takes all copies of the source away, and leaves
@@ -132,18 +140,18 @@ pub fn relabel_moves_copies()
     ensures target { (hs : Collection) (source target : Label) (cell : CellId)
         → IsCollection hs
         → source ≢ target
-        → count_in (edited (Relabel source target) hs) (pair_of cell target)
+        → count_in (edited_alone (Relabel source target) hs) (pair_of cell target)
         ≡ count_in hs (pair_of cell target) + count_in hs (pair_of cell source) }
     ensures source { (hs : Collection) (source target : Label) (cell : CellId)
         → IsCollection hs
         → source ≢ target
-        → count_in (edited (Relabel source target) hs) (pair_of cell source) ≡ 0 }
+        → count_in (edited_alone (Relabel source target) hs) (pair_of cell source) ≡ 0 }
     ensures others { (hs : Collection) (source target : Label) (other : Pair)
         → IsCollection hs
         → other.label ≢ source
         → other.label ≢ target
-        → count_in (edited (Relabel source target) hs) other ≡ count_in hs other }
+        → count_in (edited_alone (Relabel source target) hs) other ≡ count_in hs other }
     ensures itself { (hs : Collection) (label : Label)
         → IsCollection hs
-        → edited (Relabel label label) hs ≡ hs }
+        → edited_alone (Relabel label label) hs ≡ hs }
 {}

@@ -2,7 +2,8 @@ use Rattle.std.proofs.Common.{◌-◌, List, length, ◌++◌, ◌∷◌, [], ap
 use Rattle.s2ix_bag.specs.declared.pair.Entry.{Entry}
 use Rattle.std.specs.List.{slice_get}
 use Rattle.s2ix_bag.specs.Change.{changed}
-use Rattle.s2ix_edit.specs.History.{State, history_of, holding, one_on}
+use Rattle.s2ix_edit.specs.History.{State, history_of, holding}
+use Rattle.s2ix_edit.specs.Steps.{one_on}
 use Rattle.s2ix_edit.proofs.Led.{store_restored}
 use Rattle.s2ix_edit.proofs.Places.{Redoes, history_redone, same_last, stands_redone}
 use Rattle.s2ix_edit.proofs.store.Store.redo.Goals.{After-move_last-number}

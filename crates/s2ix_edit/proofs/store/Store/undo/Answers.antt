@@ -2,7 +2,8 @@ use Rattle.std.proofs.Common.{◌-◌, List, length, ◌++◌, ◌∷◌, [], ap
 use Rattle.s2ix_bag.specs.declared.pair.Entry.{Entry}
 use Rattle.std.specs.List.{slice_get}
 use Rattle.s2ix_bag.specs.Change.{changed, inverse_of}
-use Rattle.s2ix_edit.specs.History.{State, history_of, holding, one_back}
+use Rattle.s2ix_edit.specs.History.{State, history_of, holding}
+use Rattle.s2ix_edit.specs.Steps.{one_back}
 use Rattle.s2ix_edit.proofs.Led.{bag_restored}
 use Rattle.s2ix_edit.proofs.Places.{Undoes, history_undone, same_last, stands_undone}
 use Rattle.s2ix_edit.proofs.store.Store.undo.Goals.{After-move_last-number}
