@@ -22,10 +22,10 @@ use Rattle.s2ix_edit.proofs.Taken.{between_changed, not_mismatched}
 changes_on : (bag : Contents) (ess : List (List Entry)) → IsBag bag → CanGoOn bag ess → changes_from bag.held (later bag.held ess) ≡ ess
 changes_on bag [] b on = refl
 changes_on bag (es ∷ rest) b on =
-    let next = made_is_bag bag es b on.0 (taken_from_none bag es on.1) in
+    let next = made_is_bag bag es b on.0 (taken_from_none bag es on.2) in
     ap₂ (λ (x : List Entry) (xs : List (List Entry)). x ∷ xs)
-    (between_changed bag es b.rises on.0 (not_mismatched bag es on.1))
-    (changes_on (holding bag (changed bag.held es)) rest next on.2)
+    (between_changed bag es b.rises on.0 (not_mismatched bag es on.2))
+    (changes_on (holding bag (changed bag.held es)) rest next on.3)
 
 reverse_cons : (es : List Entry) (older : List (List Entry)) → reverse (es ∷ older) ≡ reverse older ++ es ∷ []
 reverse_cons es older = reverse-append (es ∷ []) older
@@ -43,10 +43,10 @@ changes_back : (bag : Contents) (ess : List (List Entry)) (rest : List Collectio
 changes_back bag [] rest b back = refl
 changes_back bag (es ∷ older) rest b back =
     let prev = holding bag (changed bag.held (inverse_of es)) in
-    let prev_is = made_is_bag bag (inverse_of es) b (inverse_keeps es back.0) (taken_from_none bag (inverse_of es) back.1) in
+    let prev_is = made_is_bag bag (inverse_of es) b (inverse_keeps es back.0) (taken_from_none bag (inverse_of es) back.2) in
     ap changes_along (append_assoc (earlier prev.held older) (prev.held ∷ []) (bag.held ∷ rest))
-    ∙ changes_back prev older (bag.held ∷ rest) prev_is back.2
-    ∙ ap (λ x. reverse older ++ x ∷ changes_from bag.held rest) (change_back bag es b back.0 back.1)
+    ∙ changes_back prev older (bag.held ∷ rest) prev_is back.3
+    ∙ ap (λ x. reverse older ++ x ∷ changes_from bag.held rest) (change_back bag es b back.0 back.2)
     ∙ sym (append_assoc (reverse older) (es ∷ []) (changes_from bag.held rest))
     ∙ ap (λ xs. xs ++ changes_from bag.held rest) (sym (reverse_cons es older))
 
@@ -60,17 +60,17 @@ changes_of_history s st =
 within_on : (bag : Contents) (ess : List (List Entry)) → IsBag bag → CanGoOn bag ess → All (λ hs. IsBag (holding bag hs)) (later bag.held ess)
 within_on bag [] b on = All-nil (λ (hs : Collection). IsBag (holding bag hs))
 within_on bag (es ∷ rest) b on =
-    let next = made_is_bag bag es b on.0 (taken_from_none bag es on.1) in
+    let next = made_is_bag bag es b on.0 (taken_from_none bag es on.2) in
     All-cons (λ (hs : Collection). IsBag (holding bag hs)) (changed bag.held es) (later (changed bag.held es) rest) next
-    (within_on (holding bag (changed bag.held es)) rest next on.2)
+    (within_on (holding bag (changed bag.held es)) rest next on.3)
 
 within_back : (bag : Contents) (ess : List (List Entry)) → IsBag bag → CanGoBack bag ess → All (λ hs. IsBag (holding bag hs)) (earlier bag.held ess)
 within_back bag [] b back = All-nil (λ (hs : Collection). IsBag (holding bag hs))
 within_back bag (es ∷ older) b back =
     let Fits : Collection → Type 0 = λ hs. IsBag (holding bag hs) in
-    let prev_is = made_is_bag bag (inverse_of es) b (inverse_keeps es back.0) (taken_from_none bag (inverse_of es) back.1) in
+    let prev_is = made_is_bag bag (inverse_of es) b (inverse_keeps es back.0) (taken_from_none bag (inverse_of es) back.2) in
     All-append Fits (earlier (changed bag.held (inverse_of es)) older) (changed bag.held (inverse_of es) ∷ [])
-    (within_back (holding bag (changed bag.held (inverse_of es))) older prev_is back.2)
+    (within_back (holding bag (changed bag.held (inverse_of es))) older prev_is back.3)
     (All-cons Fits (changed bag.held (inverse_of es)) [] prev_is (All-nil Fits))
 
 pub history_within : (s : State) → IsStore s → All (λ hs. IsBag (holding s.bag hs)) (history_of s).collections

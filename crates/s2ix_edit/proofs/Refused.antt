@@ -83,6 +83,11 @@ planned_refusal bag edit es b plans =
     ∙ ap (λ hs. first_of_three (length es == 0) high (many hs)) (sym plans.result)
     ∙ entries_by_three bag es
 
+-- entries that are not refused are some
+pub some_entries : (bag : Contents) (es : List Entry) → entries_refusal bag es ≡ None → 0 < length es
+some_entries bag [] none = let clash : ◌≡◌ {A = Option EditError} (Some NoChange) None = none in cc
+some_entries bag (e ∷ es) none = omega arith
+
 -- ---- a count above the limit
 
 no_entries : (es : List Entry) → (length es == 0) ≡ true → es ≡ []

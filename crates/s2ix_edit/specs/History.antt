@@ -1,5 +1,5 @@
 -- The history that a store holds, and how each of its calls moves it.
-use Rattle.std.specs.Prelude.{◌≡◌, ℕ, ◌+◌, ◌-◌, ◌≤◌, Option, Some, None, List, [], ◌∷◌, ◌++◌, length, take, reverse, slice_get}
+use Rattle.std.specs.Prelude.{◌≡◌, ℕ, ◌+◌, ◌-◌, ◌<◌, ◌≤◌, Option, Some, None, List, [], ◌∷◌, ◌++◌, length, take, reverse, slice_get}
 use Rattle.s2ix_bag.specs.declared.pair.Entry.{Entry}
 use Rattle.s2ix_bag.specs.Apply.{apply_refusal}
 use Rattle.s2ix_bag.specs.Change.{change_between, changed, inverse_of, IsChangeList}
@@ -93,15 +93,16 @@ redo_size s = elim (last_undone s) [ Some es ↦ length es | None ↦ 0 ]
 abbrev pub CanGoBack : Contents → List (List Entry) → Type 0
 CanGoBack bag [] = Unit {0}
 CanGoBack bag (es ∷ older) =
-    IsChangeList es × (apply_refusal bag (inverse_of es) ≡ None) × CanGoBack (holding bag (changed bag.held (inverse_of es))) older
+    IsChangeList es × (0 < length es) × (apply_refusal bag (inverse_of es) ≡ None) × CanGoBack (holding bag (changed bag.held (inverse_of es))) older
 
 -- changes that can be done to a bag one after the other
 abbrev pub CanGoOn : Contents → List (List Entry) → Type 0
 CanGoOn bag [] = Unit {0}
 CanGoOn bag (es ∷ rest) =
-    IsChangeList es × (apply_refusal bag es ≡ None) × CanGoOn (holding bag (changed bag.held es)) rest
+    IsChangeList es × (0 < length es) × (apply_refusal bag es ≡ None) × CanGoOn (holding bag (changed bag.held es)) rest
 
--- a store stands at one place of a history: each recorded change leads from one bag within the limits to the next
+-- a store stands at one place of a history: each recorded change has entries and leads from one bag within the limits
+-- to the next
 pub record IsStore (s : State) : Type 0 where
   pub bag : IsBag s.bag
   pub back : CanGoBack s.bag (reverse s.done)
