@@ -1,9 +1,9 @@
 -- The collections of a store's history.
-use Rattle.std.proofs.Common.{◌≡◌, ◌+◌, List, [], ◌∷◌, ◌++◌, All, get_or, length, reverse, Some, None, refl, sym, ap, ap₂, ◌∙◌, arith}
+use Rattle.std.proofs.Common.{◌≡◌, ◌+◌, ◌<◌, List, [], ◌∷◌, ◌++◌, All, get_or, length, reverse, Some, None, refl, sym, ap, ap₂, ◌∙◌, subst, arith}
 use Rattle.std.specs.List.{slice_get}
 use Rattle.std.proofs.lemmas.List.{append_assoc, length-append, length-reverse, reverse-append, reverse-reverse}
 use Rattle.std.proofs.Math.Seq.{get_or-append_seam}
-use Rattle.std.proofs.lemmas.List.Elements.{All-nil, All-cons, All-append}
+use Rattle.std.proofs.lemmas.List.Elements.{All-nil, All-cons, All-append, All-head, All-tail}
 use Rattle.std.proofs.lemmas.Option.{slice_get_read}
 use Rattle.s2ix_bag.specs.declared.pair.Entry.{Entry}
 use Rattle.s2ix_bag.specs.Apply.{apply_refusal}
@@ -79,6 +79,38 @@ history_within s st =
     All-append Fits (earlier s.bag.held (reverse s.done)) (s.bag.held ∷ later s.bag.held (reverse s.undone))
     (within_back s.bag (reverse s.done) st.bag st.back)
     (All-cons Fits s.bag.held (later s.bag.held (reverse s.undone)) st.bag (within_on s.bag (reverse s.undone) st.bag st.on))
+
+-- ---- each change has entries
+
+abbrev HasEntries : List Entry → Type 0
+HasEntries es = 0 < length es
+
+some_on : (bag : Contents) (ess : List (List Entry)) → CanGoOn bag ess → All HasEntries ess
+some_on bag [] on = All-nil HasEntries
+some_on bag (es ∷ rest) on =
+    All-cons HasEntries es rest on.1 (some_on (holding bag (changed bag.held es)) rest on.3)
+
+some_back : (bag : Contents) (ess : List (List Entry)) → CanGoBack bag ess → All HasEntries ess
+some_back bag [] back = All-nil HasEntries
+some_back bag (es ∷ older) back =
+    All-cons HasEntries es older back.1 (some_back (holding bag (changed bag.held (inverse_of es))) older back.3)
+
+some_reversed : (ess : List (List Entry)) → All HasEntries ess → All HasEntries (reverse ess)
+some_reversed [] some = some
+some_reversed (es ∷ rest) some =
+    subst (λ (xs : List (List Entry)). All HasEntries xs) (sym (reverse_cons es rest))
+    (All-append HasEntries (reverse rest) (es ∷ []) (some_reversed rest (All-tail HasEntries es rest some))
+    (All-cons HasEntries es [] (All-head HasEntries es rest some) (All-nil HasEntries)))
+
+some_back_again : (ess : List (List Entry)) → All HasEntries (reverse ess) → All HasEntries ess
+some_back_again ess some =
+    subst (λ (xs : List (List Entry)). All HasEntries xs) (reverse-reverse ess) (some_reversed (reverse ess) some)
+
+pub changes_have_entries : (s : State) → IsStore s → All (λ es. 0 < length es) (s.done ++ s.undone)
+changes_have_entries s st =
+    All-append HasEntries s.done s.undone
+    (some_back_again s.done (some_back s.bag (reverse s.done) st.back))
+    (some_back_again s.undone (some_on s.bag (reverse s.undone) st.on))
 
 -- ---- the cursor
 

@@ -11,7 +11,7 @@ use Rattle.s2ix_edit.proofs.Taken.{changed_back, not_mismatched}
 use Rattle.s2ix_edit.proofs.Undone.{front_of, undo_of_last}
 
 -- a list that is not empty ends in its last element
-ends_in_last : (ess : List (List Entry)) → ess ≢ [] → ess ≡ take (length ess - 1) ess ++ get_or ess (length ess - 1) [] ∷ []
+pub ends_in_last : (ess : List (List Entry)) → ess ≢ [] → ess ≡ take (length ess - 1) ess ++ get_or ess (length ess - 1) [] ∷ []
 ends_in_last [] some = absurd (some refl)
 ends_in_last (es ∷ rest) some =
     let ess = es ∷ rest in

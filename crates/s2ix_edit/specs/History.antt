@@ -89,6 +89,10 @@ after_redo s = elim (last_undone s) [ Some es ↦ after_redo_of s es | None ↦ 
 abbrev pub redo_size : State → ℕ
 redo_size s = elim (last_undone s) [ Some es ↦ length es | None ↦ 0 ]
 
+-- the store after its changes are forgotten
+abbrev pub after_forget : State → State
+after_forget s = record { bag = s.bag; done = []; undone = [] }
+
 -- changes, the newest first, that can be taken back from a bag one after the other
 abbrev pub CanGoBack : Contents → List (List Entry) → Type 0
 CanGoBack bag [] = Unit {0}

@@ -1,6 +1,6 @@
 //! What holds of edits, undos and histories, whatever code runs.
 
-ghost use Rattle.std.specs.Prelude.{◌≡◌, ◌≢◌, ℕ, ◌+◌, ◌-◌, Some, [], ◌∷◌, ◌++◌, length, reverse, slice_get, All, List, Contains};
+ghost use Rattle.std.specs.Prelude.{◌≡◌, ◌≢◌, ℕ, ◌+◌, ◌-◌, Some, ◌<◌, [], ◌∷◌, ◌++◌, length, reverse, slice_get, take, All, List, Contains};
 ghost use Rattle.s2id_core.specs.declared.cell_id.CellId.{CellId};
 ghost use Rattle.s2id_union.specs.Region.{IsNormal};
 ghost use Rattle.s2ix_bag.specs.declared.label.Label.{Label};
@@ -11,9 +11,8 @@ ghost use Rattle.s2ix_bag.specs.Pair.{rank_of};
 ghost use Rattle.s2ix_edit.specs.declared.edit.Edit.{Edit};
 ghost use Rattle.s2ix_edit.specs.declared.edit.Edit.TheVariants.{Add, AddUnion, Remove, DropLabel, Relabel};
 ghost use Rattle.s2ix_edit.specs.Edit.{edited, edited_alone, pair_of};
-ghost use Rattle.s2ix_edit.specs.History.{State, IsStore, after_edit, after_redo, after_undo, change_of, history_of, holding};
-ghost use Rattle.s2ix_edit.specs.Plan.{starting_at};
-ghost use Rattle.s2ix_edit.specs.Steps.{History, at_cursor, changes_along};
+ghost use Rattle.s2ix_edit.specs.History.{State, IsStore, after_edit, after_forget, after_redo, after_undo, change_of, history_of, holding};
+ghost use Rattle.s2ix_edit.specs.Steps.{History, at_cursor, changes_along, forgotten, one_back, one_on, with_next};
 ghost use Rattle.s2ix_table.specs.Table.{Run, IsRangeTable};
 
 /// What an edit makes of the collection at the cursor of a history is what it makes of that collection alone; of a
@@ -91,12 +90,13 @@ pub fn steps_keep_limits()
     ensures edit { (s : State) (edit : Edit) → (after_edit s edit).bag.limits ≡ s.bag.limits }
     ensures undo { (s : State) → (after_undo s).bag.limits ≡ s.bag.limits }
     ensures redo { (s : State) → (after_redo s).bag.limits ≡ s.bag.limits }
-    ensures forget { (s : State) → (starting_at s.bag).bag.limits ≡ s.bag.limits }
+    ensures forget { (s : State) → (after_forget s).bag.limits ≡ s.bag.limits }
 {}
 
 /// A store stands at one place of its history: the bag holds the collection at the cursor, each collection is
 /// within the limits, and the changes between neighbouring collections are those that were done and then,
-/// the last undone first, those that were undone. So it stands at the history's start where nothing was done, and
+/// the last undone first, those that were undone, each of them with entries; so those that were done are the changes
+/// up to the cursor. It stands at the history's start where nothing was done, and
 /// at its end where nothing was undone.
 pub fn store_stands_in_history()
     ensures place { (s : State)
@@ -109,6 +109,29 @@ pub fn store_stands_in_history()
     ensures changes { (s : State)
         → IsStore s
         → changes_along (history_of s).collections ≡ s.done ++ reverse s.undone }
+    ensures done { (s : State)
+        → IsStore s
+        → s.done ≡ take (history_of s).cursor (changes_along (history_of s).collections) }
+    ensures entries { (s : State)
+        → IsStore s
+        → All (λ es. 0 < length es) (s.done ++ s.undone) }
+{}
+
+/// Each step of a store is the step of its history: an edit goes on to the edited collection, undo goes back by one,
+/// redo on by one, and forget keeps the collection at the cursor alone.
+pub fn steps_follow_the_history()
+    ensures edit { (s : State) (edit : Edit)
+        → IsStore s
+        → history_of (after_edit s edit) ≡ with_next (history_of s) (edited (history_of s) edit) }
+    ensures undo { (s : State)
+        → IsStore s
+        → s.done ≢ []
+        → history_of (after_undo s) ≡ one_back (history_of s) }
+    ensures redo { (s : State)
+        → IsStore s
+        → s.undone ≢ []
+        → history_of (after_redo s) ≡ one_on (history_of s) }
+    ensures forget { (s : State) → history_of (after_forget s) ≡ forgotten (history_of s) }
 {}
 
 /// `AddUnion` adds one copy under the label for each cell, and leaves every other count.
