@@ -54,35 +54,39 @@ pub fn change_lists_differences()
 /// An edit and then an undo lead back: the bag and the changes that led to it are as they were, and the edit's change
 /// can be done again.
 pub fn undo_takes_edit_back()
-    ensures { (s : State) (edit : Edit)
-        → IsStore s
-        → after_undo (after_edit s edit)
-        ≡ record { bag = s.bag; done = s.done; undone = change_of s edit ∷ [] } }
-{}
-
-/// An edit and then an undo restore the bag, that is the same pairs with their counts; so they restore its range table,
-/// since two equal bags have one.
-pub fn undo_restores_the_table()
     ensures bag { (s : State) (edit : Edit)
         → IsStore s
         → (after_undo (after_edit s edit)).bag ≡ s.bag }
-    ensures table { (s : State) (edit : Edit) (before after : List Run)
+    ensures done { (s : State) (edit : Edit)
+        → IsStore s
+        → (after_undo (after_edit s edit)).done ≡ s.done }
+    ensures undone { (s : State) (edit : Edit)
+        → IsStore s
+        → (after_undo (after_edit s edit)).undone ≡ change_of s edit ∷ [] }
+{}
+
+/// An edit and then an undo restore the range table too, since they restore the bag, and two equal bags have one.
+pub fn undo_restores_the_table()
+    ensures { (s : State) (edit : Edit) (before after : List Run)
         → IsStore s
         → IsRangeTable s.bag.held before
         → IsRangeTable (after_undo (after_edit s edit)).bag.held after
         → after ≡ before }
 {}
 
-/// An undo and a redo lead back to where the store stood, whichever of them comes first.
+/// An undo and a redo lead back to where the store stood, whichever of them comes first: to its bag, to what was done
+/// and to what was undone.
 pub fn undo_and_redo_lead_back()
     ensures redo_after_undo { (s : State)
         → IsStore s
         → s.done ≢ []
-        → after_redo (after_undo s) ≡ s }
+        → let back = after_redo (after_undo s) in
+        (back.bag ≡ s.bag) × (back.done ≡ s.done) × (back.undone ≡ s.undone) }
     ensures undo_after_redo { (s : State)
         → IsStore s
         → s.undone ≢ []
-        → after_undo (after_redo s) ≡ s }
+        → let back = after_undo (after_redo s) in
+        (back.bag ≡ s.bag) × (back.done ≡ s.done) × (back.undone ≡ s.undone) }
 {}
 
 /// No step changes the limits.

@@ -1,4 +1,4 @@
-ghost use Rattle.std.specs.Prelude.{◌≡◌, ◌≢◌, ℕ, ◌↔◌, ◌<◌, [], length, None, IfOk, IfErr, OnOk, OnErr};
+ghost use Rattle.std.specs.Prelude.{◌≡◌, ◌≢◌, ℕ, ◌↔◌, ◌<◌, [], ◌∷◌, length, None, IfOk, IfErr, OnOk, OnErr};
 ghost use Rattle.s2ix_bag.specs.Apply.{first_mismatch};
 ghost use Rattle.s2ix_bag.specs.declared.pair.Pair.{Pair};
 ghost use Rattle.s2ix_bag.specs.Change.{counts_at, difference_of};
@@ -6,7 +6,7 @@ ghost use Rattle.s2ix_bag.specs.Collection.{count_in};
 ghost use Rattle.s2ix_bag.specs.Limits.{changes_limit};
 ghost use Rattle.s2ix_bag.specs.Pair.{rank_of};
 ghost use Rattle.s2ix_edit.specs.Edit.{edited};
-ghost use Rattle.s2ix_edit.specs.History.{State, IsStore, after_edit, after_redo, after_undo, change_of, history_of, redo_size, undo_size};
+ghost use Rattle.s2ix_edit.specs.History.{State, IsStore, after_edit, after_forget, after_redo, after_undo, change_of, history_of, redo_size, undo_size};
 ghost use Rattle.s2ix_edit.specs.Plan.{entries_refusal, recorded, starting_at};
 ghost use Rattle.s2ix_edit.specs.Refusals.{edit_refusal, IsEditRefusal};
 ghost use Rattle.s2ix_edit.specs.Steps.{alone, forgotten, one_back, one_on, with_next};
@@ -132,7 +132,8 @@ impl Store {
         ensures restores { OnOk result ((s : State) (edit : Edit)
             → IsStore s
             → self.old ≡ after_edit s edit
-            → self.new.bag ≡ s.bag) }
+            → (self.new.bag ≡ s.bag) × (self.new.done ≡ s.done)
+            × (self.new.undone ≡ change_of s edit ∷ [])) }
         ensures nothing { (result ≡ Err UndoError.NothingToUndo) ↔ (self.old.done ≡ []) }
         ensures unchanged { OnErr result (self.new ≡ self.old) }
     {
@@ -161,7 +162,7 @@ impl Store {
             → IsStore s
             → s.done ≢ []
             → self.old ≡ after_undo s
-            → self.new ≡ s) }
+            → (self.new.bag ≡ s.bag) × (self.new.done ≡ s.done) × (self.new.undone ≡ s.undone)) }
         ensures nothing { (result ≡ Err RedoError.NothingToRedo) ↔ (self.old.undone ≡ []) }
         ensures unchanged { OnErr result (self.new ≡ self.old) }
     {
@@ -179,7 +180,7 @@ impl Store {
 
     /// Keeps the collection and lets all changes go: nothing is left to undo or redo. It takes no memory.
     pub fn forget(&mut self)
-        ensures state { self.new ≡ starting_at self.old.bag }
+        ensures state { self.new ≡ after_forget self.old }
         ensures history { history_of self.new ≡ forgotten (history_of self.old) }
     {
         self.done.clear();
