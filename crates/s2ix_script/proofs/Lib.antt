@@ -1,3 +1,4 @@
 pub mod ScriptLines
 pub mod ScriptNumbers
 mod CellFields
+mod WantedMemory
