@@ -9,7 +9,7 @@ use Rattle.s2ix_script.specs.declared.command.Move.{Move}
 use Rattle.s2ix_script.specs.declared.command.Move.TheVariants as move
 use Rattle.s2ix_script.specs.declared.command.Query.{Query}
 use Rattle.s2ix_script.specs.declared.command.Query.TheVariants as query
-use Rattle.s2ix_script.specs.Meaning.{gathers, meaning_of}
+use Rattle.s2ix_script.specs.Meaning.{is_on_union, meaning_of}
 use Rattle.s2ix_cli.specs.declared.outcome.RunFault.{RunFault}
 use Rattle.s2ix_cli.specs.declared.outcome.RunFault.TheVariants.{Read, Write, OutOfMemory, ReaderTooLong}
 use Rattle.s2ix_cli.specs.Script.{after, carried}
@@ -38,15 +38,15 @@ abbrev pub CommandWants : State → Command → Type 0
 CommandWants s (command.Move asked) = MoveWants s asked
 CommandWants s (command.Query asked) = QueryWants asked
 
--- a line of this meaning, when it is carried out
+-- a line of this meaning: while the union of its command is made, or when the command is carried out
 abbrev pub MeaningWants : State → Result (Option Command) LineFault → Type 0
 MeaningWants s (Ok None) = ⊥
-MeaningWants s (Ok (Some c)) = CommandWants s c
+MeaningWants s (Ok (Some c)) = (is_on_union c ≡ true) ⊎ CommandWants s c
 MeaningWants s (Err fault) = ⊥
 
--- a line: while its cells are gathered, or when it is carried out
+-- a line
 abbrev pub LineWants : State → List ℕ → Type 0
-LineWants s line = (gathers line ≡ true) ⊎ MeaningWants s (meaning_of line)
+LineWants s line = MeaningWants s (meaning_of line)
 
 -- a line of those to be carried out wanted memory: the store stands after the lines before it
 pub record WantsAmong (stop : Bool) (lines : List (List ℕ)) (old new : State) : Type 0 where
