@@ -1,6 +1,6 @@
 -- What a script comes to: its lines one after the other.
 use Rattle.std.specs.Prelude.{◌≡◌, ℕ, ◌+◌, ◌-◌, ◌^◌, ◌≤◌, ◌⊎◌, ◌==◌, ◌&&◌, min, if◌then◌else◌, Bool, Option, List, [], ◌∷◌, ◌++◌, take, length, count_by}
-use Rattle.std.specs.Io.KnownBytes.{Appends, IsAtEnd}
+use Rattle.std.specs.Io.KnownBytes.{Keeps, Appends, IsAtEnd}
 use Rattle.s2ix_edit.specs.History.{State}
 use Rattle.s2ix_text.specs.Puts.{AppendsFront}
 use Rattle.s2ix_cli.specs.declared.outcome.RunEnd.{RunEnd}
@@ -46,6 +46,11 @@ pub record Finishes (stop : Bool) (input : List ℕ) (old new : State) (before b
   pub output : Appends before behind (output_of old (carried stop old (lines_of input)))
   pub lines : told.lines ≡ min (counted_in old (carried stop old (lines_of input))) MOST
   pub refused : told.refused ≡ min (refused_in old (carried stop old (lines_of input))) MOST
+
+-- such a run that then flushed its sink: `written` had taken the whole output, and a flush led from it to the last state
+abbrev pub FinishesFlushed : {K : Type 0} → (K → Option (List ℕ)) → (K → K → Type 0) → Bool → List ℕ → State → State → K → K → RunEnd → Type 0
+FinishesFlushed {K} taken flushes stop input old new before behind told =
+    (written : K) × Finishes stop input old new (taken before) (taken written) told × flushes written behind × Keeps (taken written) (taken behind)
 
 -- a run that a fault ended: for one number m the store stands after the first m of the lines to be carried out,
 -- whose ends were read, and a front of their output went out

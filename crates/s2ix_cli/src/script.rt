@@ -1,10 +1,11 @@
 //! A run: the lines of a script, one after the other.
-ghost use Rattle.std.specs.Prelude.{◌≡◌, ◌≢◌, ◌⊎◌, ℕ, ◌+◌, ◌-◌, ◌^◌, ◌<◌, List, length, Err, IfOk, IfErr, OnErr};
+ghost use Rattle.std.specs.Prelude.{◌≡◌, ◌≢◌, ◌⊎◌, ℕ, ◌+◌, ◌-◌, ◌^◌, ◌<◌, List, length, Err, IfOk, IfErr, OnOk, OnErr};
 ghost use Rattle.std.specs.Io.KnownBytes.{Consumes, IsAtEnd};
 ghost use Rattle.s2ix_cli.specs.Carry.{StopsAmong};
 ghost use Rattle.s2ix_cli.specs.Faults.{source_faults, sink_faults, IsPatient};
 ghost use Rattle.s2ix_script.specs.Lines.{lines_of};
-ghost use Rattle.s2ix_cli.specs.Script.{Finishes, StopsAfter};
+ghost use Rattle.s2ix_text.specs.Pieces.{ReadsToEnd};
+ghost use Rattle.s2ix_cli.specs.Script.{Finishes, FinishesFlushed, StopsAfter};
 ghost use Rattle.s2ix_cli.specs.Wants.{IsWantOnlyIf, WantsAmong};
 
 use crate::carry::carry_out;
@@ -34,7 +35,8 @@ pub fn run<S: Source, K: Sink>(
     requires sink_counts { K.fault_count sink.old < 2 ^ 64 - 1 }
     ensures finished { IfOk result (λ told. (input : List ℕ) × Consumes (S.left source.old) (S.left source.new) input
         × IsAtEnd (S.left source.new)
-        × Finishes options.stop input store.old store.new (K.taken sink.old) (K.taken sink.new) told) }
+        × FinishesFlushed K.taken K.flushes options.stop input store.old store.new sink.old sink.new told) }
+    ensures in_turns { OnOk result (ReadsToEnd S.gives options.turns source.old source.new) }
     ensures stopped { OnErr result ((input : List ℕ) × Consumes (S.left source.old) (S.left source.new) input
         × StopsAfter options.stop input (S.left source.new) store.old store.new (K.taken sink.old) (K.taken sink.new)) }
     ensures memory { IfErr result (IsWantOnlyIf ((store.new ≡ store.old)
