@@ -1,5 +1,6 @@
 -- Where a line may want memory.
 use Rattle.std.specs.Prelude.{◌≡◌, ◌≢◌, ◌⊎◌, ℕ, Bool, true, Option, Some, None, Result, Ok, Err, List, [], ◌∷◌, ◌++◌}
+use Rattle.std.specs.Io.KnownBytes.{Appends}
 use Rattle.s2ix_edit.specs.History.{State}
 use Rattle.s2ix_edit.specs.Refusals.{MayWantMemory, edit_refusal}
 use Rattle.s2ix_script.specs.declared.command.Command.{Command}
@@ -11,8 +12,8 @@ use Rattle.s2ix_script.specs.declared.command.Query.{Query}
 use Rattle.s2ix_script.specs.declared.command.Query.TheVariants as query
 use Rattle.s2ix_script.specs.Meaning.{is_on_union, meaning_of}
 use Rattle.s2ix_cli.specs.declared.outcome.RunFault.{RunFault}
-use Rattle.s2ix_cli.specs.declared.outcome.RunFault.TheVariants.{Read, Write, OutOfMemory, ReaderTooLong}
-use Rattle.s2ix_cli.specs.Script.{after, carried}
+use Rattle.s2ix_cli.specs.declared.outcome.RunFault.TheVariants.{OutOfMemory}
+use Rattle.s2ix_cli.specs.Script.{after, carried, output_of}
 
 -- a move: an edit unless it is refused before its change is made, and an undo or a redo of a change that there is
 abbrev pub MoveWants : State → Move → Type 0
@@ -48,18 +49,16 @@ MeaningWants s (Err fault) = ⊥
 abbrev pub LineWants : State → List ℕ → Type 0
 LineWants s line = MeaningWants s (meaning_of line)
 
--- a line of those to be carried out wanted memory: the store stands after the lines before it
-pub record WantsAmong (stop : Bool) (lines : List (List ℕ)) (old new : State) : Type 0 where
+-- a line of those to be carried out wanted memory: the store stands after the lines before it, whose whole output went out
+pub record WantsAmong (stop : Bool) (lines : List (List ℕ)) (old new : State) (before behind : Option (List ℕ)) : Type 0 where
   pub done : List (List ℕ)
   pub line : List ℕ
   pub rest : List (List ℕ)
   pub are_carried : carried stop old lines ≡ done ++ line ∷ rest
   pub store : new ≡ after old done
+  pub output : Appends before behind (output_of old done)
   pub wants : LineWants new line
 
 -- the fault is want of memory only where this holds
 abbrev pub IsWantOnlyIf : Type 0 → RunFault → Type 0
-IsWantOnlyIf wants OutOfMemory = wants
-IsWantOnlyIf wants Read = Unit {0}
-IsWantOnlyIf wants Write = Unit {0}
-IsWantOnlyIf wants ReaderTooLong = Unit {0}
+IsWantOnlyIf wants fault = fault ≡ OutOfMemory → wants

@@ -1,10 +1,10 @@
 //! Sources and sinks in memory, for tests: they move a stated number of bytes a call, and fail once, at a stated call. Beside them
 //! stand a reader and writers of std's that never do what they are asked.
-ghost use Rattle.std.specs.Prelude.{◌≡◌, ◌↔◌, ◌+◌, ◌-◌, ◌^◌, ◌<◌, Some, Ok, [], max, IsErr, IsTrue};
+ghost use Rattle.std.specs.Prelude.{◌≡◌, ◌↔◌, ◌+◌, ◌-◌, ◌^◌, ◌<◌, Some, Ok, [], max, OnOk, IsErr, IsTrue, vec_len};
 ghost use Rattle.std.specs.Io.KnownBytes.{Keeps};
 ghost use Rattle.s2ix_text.specs.Faults.{write_faults};
 ghost use Rattle.s2ix_text.specs.Pieces.{Gave};
-ghost use Rattle.s2ix_tests.specs.Devices.{flush_fails, piece_len_of, put_len_of, sink_fault_at, source_fault_at};
+ghost use Rattle.s2ix_tests.specs.Devices.{flush_fails, flushed_len_of, piece_len_of, put_len_of, sink_fault_at, source_fault_at};
 
 use s2ix_text::{ReadFault, Sink, Source, WriteFault};
 use std::alloc::Global;
@@ -68,6 +68,7 @@ impl Source for SliceSource<'_> {
 #[derive(Drop)]
 pub struct KeepingSink {
     kept: Vec<u8>,
+    flushed_len: usize,
     put_len: usize,
     calls_to_fault: u64,
     is_flush_failing: bool,
@@ -79,6 +80,7 @@ impl KeepingSink {
     /// fails where `is_flush_failing`. Calls count from 1: at 0 none fails.
     pub fn new(alloc: Global, put_len: usize, fault_at: u64, is_flush_failing: bool) -> KeepingSink
         ensures taken { ⟦<KeepingSink as Sink>⟧.taken result ≡ Some [] }
+        ensures flushed { flushed_len_of result ≡ 0 }
         ensures faults { ⟦<KeepingSink as Sink>⟧.fault_count result ≡ 0 }
         ensures put_len { put_len_of result ≡ max put_len 1 }
         ensures fault_at { sink_fault_at result ≡ fault_at }
@@ -86,11 +88,19 @@ impl KeepingSink {
     {
         KeepingSink {
             kept: Vec::new(alloc),
+            flushed_len: 0,
             put_len: put_len.max(1),
             calls_to_fault: fault_at,
             is_flush_failing,
             faults: 0,
         }
+    }
+
+    /// How many bytes the sink had taken at its last `flush` that succeeded, and 0 before the first.
+    pub fn flushed_len(&self) -> usize
+        ensures { result ≡ flushed_len_of self.now }
+    {
+        self.flushed_len
     }
 
     /// What the sink took so far.
@@ -103,6 +113,8 @@ impl KeepingSink {
 
 impl Sink for KeepingSink {
     ghost taken = { λ s. Some s.kept.items };
+
+    ghost flushes = { λ old new. (new.kept ≡ old.kept) × (new.flushed_len ≡ vec_len old.kept) };
 
     ghost fault_count = { λ s. s.faults };
 
@@ -120,6 +132,7 @@ impl Sink for KeepingSink {
     fn flush(&mut self) -> Result<(), WriteFault>
         requires { ⟦<KeepingSink as Sink>⟧.fault_count self.old < 2 ^ 64 - 1 }
         ensures bytes { Keeps (⟦<KeepingSink as Sink>⟧.taken self.old) (⟦<KeepingSink as Sink>⟧.taken self.new) }
+        ensures call { OnOk result (⟦<KeepingSink as Sink>⟧.flushes self.old self.new) }
         ensures faults { ⟦<KeepingSink as Sink>⟧.fault_count self.new ≡ ⟦<KeepingSink as Sink>⟧.fault_count self.old + write_faults result }
         ensures fails { IsErr result ↔ IsTrue (flush_fails self.old) }
     {
@@ -127,6 +140,7 @@ impl Sink for KeepingSink {
             self.faults += 1;
             return Err(WriteFault);
         }
+        self.flushed_len = self.kept.len();
         Ok(())
     }
 
