@@ -1,9 +1,14 @@
 //! What holds of cell numbers and tokens, whatever code runs.
 
-ghost use Rattle.std.specs.Prelude.{◌≡◌, ◌↔◌, ℕ, ◌+◌, ◌-◌, ◌*◌, ◌^◌, ◌<◌, ◌≤◌, List, length, All};
-ghost use Rattle.s2id_core.specs.Path.{Path, IsPath, number_of, path_at, digits_from};
+ghost use Rattle.std.specs.Prelude.{◌≡◌, ◌↔◌, ℕ, ◌==◌, ◌+◌, ◌-◌, ◌*◌, ◌^◌, ◌<◌, ◌≤◌, List, [], length, All};
+ghost use Rattle.std.specs.Ordering.{nat_cmp};
+ghost use Rattle.s2id_core.specs.declared.cell_id.CellId.{CellId};
+ghost use Rattle.s2id_core.specs.CellId.{raw_of};
+ghost use Rattle.s2id_core.specs.Path.{Path, IsPath, number_of, path_at, digits_from, last_leaf};
 ghost use Rattle.s2id_core.specs.Cell.{IsCellNumber};
 ghost use Rattle.s2id_core.specs.Token.{Spells, canonical_token, IsCanonicalText};
+
+use crate::cell_id::{CellId, LEAF_END};
 
 /// A number is a cell's exactly where it is the number of some path.
 pub fn cells_are_paths()
@@ -40,4 +45,18 @@ pub fn one_canonical_text()
         → IsCellNumber n
         → Spells text n
         → (IsCanonicalText text ↔ (text ≡ canonical_token n)) }
+{}
+
+/// Cells are compared by their numbers: in order, by `<` and its kin, and for equality.
+pub fn cells_compare_by_number()
+    ensures order { (a b : CellId) → ⟦<CellId as Ord>⟧.cmp a b ≡ nat_cmp (raw_of a) (raw_of b) }
+    ensures less { (a b : CellId)
+        → ⟦<CellId as PartialOrd>⟧.partial_cmp a b ≡ Some (nat_cmp (raw_of a) (raw_of b)) }
+    ensures equal { (a b : CellId) → ⟦<CellId as PartialEq>⟧.eq a b ≡ (raw_of a == raw_of b) }
+{}
+
+/// `LEAF_END` is the leaf number that would come next after that of the last leaf, which is the last of face 5.
+pub fn leaf_end_follows_last_leaf()
+    ensures next { LEAF_END ≡ number_of (last_leaf (record { face = 5; digits = [] })) + 2 }
+    ensures value { LEAF_END ≡ 6 * 2 ^ 61 + 1 }
 {}

@@ -1,7 +1,10 @@
 -- Cells that share a side, by their squares.
 use Rattle.std.proofs.Common.{◌≡◌, ℕ, ◌*◌, ◌^◌, ◌<◌, ◌≤◌, length, sym, ◌∙◌, ap, refl, arith, subst}
-use Rattle.s2id_core.specs.Path.{Path, IsPath, place_of}
-use Rattle.s2id_core.proofs.Numbers.{place_below}
+use Rattle.s2id_core.specs.declared.cell_id.CellId.{CellId}
+use Rattle.s2id_core.specs.CellId.{path_of}
+use Rattle.s2id_core.specs.Path.{Path, IsPath, place_of, number_of}
+use Rattle.s2id_core.proofs.Cells.{same_cell}
+use Rattle.s2id_core.proofs.Numbers.{path_of_cell, place_below}
 use Rattle.s2id_core.proofs.Levels.{same_place}
 use Rattle.s2id_cube.specs.declared.face_ij.FaceIj.{FaceIj}
 use Rattle.s2id_cube.specs.Square.{square_of}
@@ -23,6 +26,26 @@ one_path p q hp hq long face i j =
     let below_q : place_of q < 6 * 4 ^ k = subst (λ x. place_of q < 6 * 4 ^ x) (sym long) (place_below q hq) in
     same_place p q hp hq long
     (one_place k (place_of p) (place_of q) (place_below p hp) below_q (sym (ap (λ (s : FaceIj). s.face) sp) ∙ face ∙ ap (λ (s : FaceIj). s.face) sq) (sym (ap (λ (s : FaceIj). s.i) sp) ∙ i ∙ ap (λ (s : FaceIj). s.i) sq) (sym (ap (λ (s : FaceIj). s.j) sp) ∙ j ∙ ap (λ (s : FaceIj). s.j) sq))
+
+-- the square of a cell
+pub square_taken : (a : CellId) → let s = square_of (path_of a) in (s.face < 6) × (s.level ≤ 30) × (s.i < 2 ^ s.level) × (s.j < 2 ^ s.level)
+square_taken a =
+    let path = path_of_cell a.raw a.valid in
+    let is = IsSquare-square_of (path_of a) path in
+    let level : length (path_of a).digits ≡ (square_of (path_of a)).level = sym is.level in
+    let most = path.at_most in (
+      is.face,
+      omega arith,
+      subst (λ k. (square_of (path_of a)).i < 2 ^ k) level is.i,
+      subst (λ k. (square_of (path_of a)).j < 2 ^ k) level is.j,
+    )
+
+pub one_cell : (a b : CellId) → let s = square_of (path_of a) in let t = square_of (path_of b) in s.face ≡ t.face → s.i ≡ t.i → s.j ≡ t.j → s.level ≡ t.level → a ≡ b
+one_cell a b face i j level =
+    let p = path_of_cell a.raw a.valid in
+    let q = path_of_cell b.raw b.valid in
+    let long : length (path_of a).digits ≡ length (path_of b).digits = sym (IsSquare-square_of (path_of a) p).level ∙ level ∙ (IsSquare-square_of (path_of b) q).level in
+    same_cell a b (sym a.valid.2 ∙ ap number_of (one_path (path_of a) (path_of b) p q long face i j) ∙ b.valid.2)
 
 pub square_at_level : (p q : Path) → IsPath q → length p.digits ≡ length q.digits → IsSquare (length p.digits) (square_of q)
 square_at_level p q hq long = subst (λ k. IsSquare k (square_of q)) (sym long) (IsSquare-square_of q hq)

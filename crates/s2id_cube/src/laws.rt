@@ -1,8 +1,23 @@
 //! What holds of squares and shared edges, whatever code runs.
 
-ghost use Rattle.std.specs.Prelude.{◌≡◌, ℕ, ◌+◌, ◌*◌, ◌%◌, ◌^◌, ◌<◌, length};
+ghost use Rattle.std.specs.Prelude.{◌≡◌, ℕ, ◌+◌, ◌*◌, ◌%◌, ◌^◌, ◌<◌, ◌≤◌, length};
+ghost use Rattle.s2id_core.specs.declared.cell_id.CellId.{CellId};
+ghost use Rattle.s2id_core.specs.CellId.{path_of};
 ghost use Rattle.s2id_core.specs.Path.{Path, IsPath, place_of};
 ghost use Rattle.s2id_cube.specs.Edge.{SharesSide, ShareEdge};
+ghost use Rattle.s2id_cube.specs.Square.{square_of};
+
+/// A cell's square is one that `from_face_ij` takes, and its face, column, row and level tell the cell: so
+/// `from_face_ij` of what `to_face_ij` gives is the cell again.
+pub fn square_tells_cell()
+    ensures taken { (a : CellId)
+        → let s = square_of (path_of a) in
+        (s.face < 6) × (s.level ≤ 30) × (s.i < 2 ^ s.level) × (s.j < 2 ^ s.level) }
+    ensures one { (a b : CellId)
+        → let s = square_of (path_of a) in
+        let t = square_of (path_of b) in
+        s.face ≡ t.face → s.i ≡ t.i → s.j ≡ t.j → s.level ≡ t.level → a ≡ b }
+{}
 
 /// The curve is one closed loop: a cell and the next cell of its level along the curve share an edge, at every level.
 pub fn next_cell_shares_edge()

@@ -7,6 +7,8 @@ mod Greatest
 pub mod Searching
 mod Sweeping
 mod Made
+mod Largest
 pub mod NormalForm
+mod Forms
 mod Joining
 mod Counting

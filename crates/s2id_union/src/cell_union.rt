@@ -1,9 +1,9 @@
-ghost use Rattle.std.specs.Prelude.{◌≡◌, ◌↔◌, ◌<◌, ◌≤◌, ◌⊎◌, IsTrue, IfOk, IfErr, OnOk, List, length};
+ghost use Rattle.std.specs.Prelude.{◌≡◌, ◌↔◌, ◌<◌, ◌≤◌, ◌⊎◌, ◌&&◌, ◌||◌, not, nat_le, nat_lt, IsTrue, IfOk, IfErr, OnOk, List, length};
 ghost use Rattle.s2id_core.specs.CellId.{path_of};
 ghost use Rattle.s2id_core.specs.Path.{Path, number_of};
 ghost use Rattle.s2id_core.specs.Leaves.{IsLeafPath};
 ghost use Rattle.s2id_union.specs.Region.{InRegion, IsNormal, HaveSameRegion, HasAllOf, Meets, IsLeafList};
-ghost use Rattle.s2id_union.specs.NormalForm.{normal_form};
+ghost use Rattle.s2id_union.specs.NormalForm.{normal_form, cells_where, is_covered};
 ghost use Rattle.s2id_union.specs.Range.{IsLeafRange, IsRangeRefusal};
 
 use crate::count::counted;
@@ -38,11 +38,14 @@ impl Model for CellUnion {
 impl CellUnion {
     /// The leaves from the number `start` up to and without `limit` (S2's `FromBeginEnd()`). Leaf numbers are odd;
     /// equal bounds give the empty union. `BadRange` where a bound is even, or not
-    /// `1 <= start <= limit <= LEAF_END`. O(cells made), at most about 360.
+    /// `1 <= start <= limit <= LEAF_END`. O(cells made): at most 184, three of each level 1 to 30 at either end of the
+    /// run and four whole faces between.
     pub fn from_leaves(alloc: Global, start: u64, limit: u64) -> Result<CellUnion, RangeError>
         ensures leaves { IfOk result (λ union. (leaf : Path) → IsLeafPath leaf → InRegion union leaf
             ↔ ((start ≤ number_of leaf) × (number_of leaf < limit))) }
         ensures normal { IfOk result IsNormal }
+        ensures form { IfOk result (λ union.
+            union ≡ cells_where (λ q. nat_le start q && nat_lt q limit)) }
         ensures accepted { OnOk result (IsLeafRange start limit) }
         ensures refused { IfErr result (λ error. IsRangeRefusal error start limit) }
     {
@@ -93,6 +96,8 @@ impl CellUnion {
         ensures leaves { IfOk result (λ union. (leaf : Path) → IsLeafPath leaf → InRegion union leaf
             ↔ (InRegion self.now leaf ⊎ InRegion other.now leaf)) }
         ensures normal { IfOk result IsNormal }
+        ensures form { IfOk result (λ union.
+            union ≡ cells_where (λ q. is_covered self.now q || is_covered other.now q)) }
     {
         let first = self.cells();
         let second = other.cells();
@@ -106,6 +111,8 @@ impl CellUnion {
         ensures leaves { IfOk result (λ union. (leaf : Path) → IsLeafPath leaf → InRegion union leaf
             ↔ (InRegion self.now leaf × InRegion other.now leaf)) }
         ensures normal { IfOk result IsNormal }
+        ensures form { IfOk result (λ union.
+            union ≡ cells_where (λ q. is_covered self.now q && is_covered other.now q)) }
     {
         let first = self.cells();
         let second = other.cells();
@@ -119,6 +126,8 @@ impl CellUnion {
         ensures leaves { IfOk result (λ union. (leaf : Path) → IsLeafPath leaf → InRegion union leaf
             ↔ (InRegion self.now leaf × (InRegion other.now leaf → ⊥))) }
         ensures normal { IfOk result IsNormal }
+        ensures form { IfOk result (λ union.
+            union ≡ cells_where (λ q. is_covered self.now q && not (is_covered other.now q))) }
     {
         let first = self.cells();
         let second = other.cells();

@@ -1,9 +1,11 @@
 //! Laws on regions: functions that do nothing, and whose contracts are the laws.
 
-ghost use Rattle.std.specs.Prelude.{◌≡◌, List};
+ghost use Rattle.std.specs.Prelude.{◌≡◌, ◌↔◌, ℕ, ◌+◌, Bool, IsTrue, List};
 ghost use Rattle.s2id_core.specs.declared.cell_id.CellId.{CellId};
-ghost use Rattle.s2id_union.specs.NormalForm.{normal_form};
-ghost use Rattle.s2id_union.specs.Region.{IsNormal, HaveSameRegion};
+ghost use Rattle.s2id_core.specs.Leaves.{IsLeafPath};
+ghost use Rattle.s2id_core.specs.Path.{Path, number_of};
+ghost use Rattle.s2id_union.specs.NormalForm.{normal_form, cells_where};
+ghost use Rattle.s2id_union.specs.Region.{InRegion, IsNormal, HaveSameRegion};
 
 /// Two normal lists with the same region are equal.
 pub fn one_normal_list()
@@ -17,4 +19,14 @@ pub fn normal_form_is_normal()
     ensures region { (cells : List CellId) → HaveSameRegion (normal_form cells) cells }
     ensures itself { (cells : List CellId) → IsNormal cells → normal_form cells ≡ cells }
     ensures same { (xs ys : List CellId) → HaveSameRegion xs ys → normal_form xs ≡ normal_form ys }
+{}
+
+/// The largest cells all of whose numbers pass a test are a normal list, and it has each leaf whose two numbers pass:
+/// its own, which is odd, and the one behind it.
+pub fn cells_where_is_normal()
+    ensures normal { (passes : ℕ → Bool) → IsNormal (cells_where passes) }
+    ensures leaves { (passes : ℕ → Bool) (leaf : Path)
+        → IsLeafPath leaf
+        → InRegion (cells_where passes) leaf
+        ↔ (IsTrue (passes (number_of leaf)) × IsTrue (passes (number_of leaf + 1))) }
 {}

@@ -2,6 +2,9 @@
 //! standard output.
 #![tactic(auto)]
 
+ghost use Rattle.std.specs.Prelude.{◌≡◌, ◌≢◌, ◌<◌, IfOk, IfErr};
+ghost use Rattle.std.specs.Process.{exit_status};
+
 use s2ix_bag::Limits;
 use s2ix_cli::{RunEnd, RunFault, RunOptions};
 use s2ix_edit::Store;
@@ -12,15 +15,20 @@ use std::process::ExitCode;
 /// How many pieces of input the program reads at most.
 const TURNS: u64 = 4_294_967_296;
 
-/// The exit status of a run: 0 where each line was accepted, 1 where one was refused, 3 after a fault of a device,
-/// and 4 for want of memory.
-fn status(ended: &Result<RunEnd, RunFault>) -> u8 {
-    match ended {
-        Ok(end) if end.refused == 0 => 0,
+/// The exit status of a run: 0 where no line was refused, 1 where one was, 3 after a fault of a device and where the input had more
+/// pieces than are read, and 4 for want of memory.
+fn status(ended: &Result<RunEnd, RunFault>) -> ExitCode
+    ensures accepted { IfOk ended.now (λ told. told.refused ≡ 0 → exit_status result ≡ 0) }
+    ensures refused { IfOk ended.now (λ told. 0 < told.refused → exit_status result ≡ 1) }
+    ensures device { IfErr ended.now (λ fault. fault ≢ RunFault.OutOfMemory → exit_status result ≡ 3) }
+    ensures memory { IfErr ended.now (λ fault. fault ≡ RunFault.OutOfMemory → exit_status result ≡ 4) }
+{
+    ExitCode::from(match ended {
+        Ok(told) if told.refused == 0 => 0,
         Ok(_) => 1,
         Err(RunFault::OutOfMemory) => 4,
         Err(RunFault::Read | RunFault::Write | RunFault::ReaderTooLong) => 3,
-    }
+    })
 }
 
 /// Runs the script on standard input.
@@ -41,5 +49,5 @@ fn main(rt: HostRuntime) -> ExitCode {
     if let Err(fault) = &ended {
         let _ = eprintln!(rt; "s2ix: {fault}");
     }
-    ExitCode::from(status(&ended))
+    status(&ended)
 }

@@ -1,19 +1,19 @@
 -- How far a run has come: the lines that are done, and those that are left.
-use Rattle.std.proofs.Common.{◌≡◌, ℕ, ◌+◌, ◌&&◌, inl, inr, min, Bool, true, false, if◌then◌else◌, Option, List, [], ◌∷◌, ◌++◌, refl, sym, ap, ◌∙◌, subst, length, take, append_assoc, append-nil, length-append, arith}
+use Rattle.std.proofs.Common.{◌≡◌, ℕ, zero, suc, ◌≤◌, ◌+◌, ◌-◌, ◌&&◌, inl, inr, min, Bool, true, false, if◌then◌else◌, Option, List, [], ◌∷◌, ◌++◌, refl, sym, ap, ◌∙◌, subst, length, take, append_assoc, append-nil, length-append, arith}
 use Rattle.std.specs.Io.KnownBytes.{Appends, Keeps, IsAtEnd}
 use Rattle.std.proofs.Math.Seq.{take-append_seam}
 use Rattle.std.proofs.KnownBytes.{Appends-nil, Appends-trans, Appends-kept}
 use Rattle.s2ix_edit.specs.History.{State}
-use Rattle.s2ix_io.specs.Puts.{AppendsFront}
-use Rattle.s2ix_io.proofs.Fronts.{AppendsFront-all, AppendsFront-after}
+use Rattle.s2ix_io.specs.Puts.{AppendsFront, IsFront}
+use Rattle.s2ix_io.proofs.Fronts.{IsFront-nil, IsFront-refl, IsFront-append, IsFront-after}
 use Rattle.s2ix_cli.specs.declared.outcome.LineOutcome.{LineOutcome}
 use Rattle.s2ix_cli.specs.declared.outcome.RunEnd.{RunEnd}
 use Rattle.s2ix_cli.specs.declared.outcome.RunFault.{RunFault}
 use Rattle.s2ix_cli.specs.declared.outcome.RunFault.TheVariants.{Read, Write, OutOfMemory, ReaderTooLong}
-use Rattle.s2ix_cli.specs.Carry.{is_counted, is_refused, Takes, StopsAt, StopsAmong}
+use Rattle.s2ix_cli.specs.Carry.{is_counted, is_refused, Takes, StopsAt}
 use Rattle.s2ix_script.specs.Lines.{lines_of}
-use Rattle.s2ix_cli.specs.Script.{after, output_of, counted_in, refused_in, carried, MOST, Finishes, StopsAfter}
-use Rattle.s2ix_cli.specs.Step.{step_of}
+use Rattle.s2ix_cli.specs.Script.{after, output_of, counted_in, refused_in, carried, MOST, Finishes, StopsAmong, StopsAfter}
+use Rattle.s2ix_cli.specs.Step.{Step, step_of}
 use Rattle.s2ix_cli.specs.Wants.{IsWantOnlyIf, LineWants, WantsAmong}
 
 -- ---- lines and then one more
@@ -28,6 +28,13 @@ output_of-more : (s : State) (done : List (List ℕ)) (line : List ℕ) → outp
 output_of-more s [] line = append-nil _
 output_of-more s (x ∷ done) line =
     ap (λ l. (step_of s x).answer ++ l) (output_of-more (step_of s x).after done line) ∙ sym (append_assoc (step_of s x).answer (output_of (step_of s x).after done) _)
+
+-- what fewer of some lines print is a front of what more of them print
+output_of-take : (s : State) (lines : List (List ℕ)) (k n : ℕ) → k ≤ n → IsFront (output_of s (take k lines)) (output_of s (take n lines))
+output_of-take s lines zero n h = IsFront-nil _
+output_of-take s lines (suc k) zero h = absurd (omega arith)
+output_of-take s [] (suc k) (suc n) h = IsFront-nil _
+output_of-take s (line ∷ lines) (suc k) (suc n) h = IsFront-after (step_of s line).answer _ _ (output_of-take (step_of s line).after lines k n (omega arith))
 
 -- how many of them count
 counted_in-more : (s : State) (done : List (List ℕ)) (line : List ℕ) → counted_in s (done ++ line ∷ []) ≡ counted_in s done + (if (step_of (after s done) line).is_counted then 1 else 0)
@@ -114,90 +121,108 @@ Finishes-reached stop input left old new before behind told r e =
       refused = r.refused ∙ ap (λ l. min (refused_in old l) MOST) all;
     }
 
--- these lines were carried out, and a front of their output went out
-StopsAmong-done : (stop : Bool) (whole done left : List (List ℕ)) (old new : State) (before behind : Option (List ℕ)) → carried stop old whole ≡ done ++ left
-    → new ≡ after old done → AppendsFront before behind (output_of old done) → StopsAmong stop whole old new before behind
-StopsAmong-done stop whole done left old new before behind e store output =
+-- these lines were carried out, and their whole output went out
+StopsAmong-done : (fault : RunFault) (stop : Bool) (whole done left : List (List ℕ)) (old new : State) (before behind : Option (List ℕ)) → carried stop old whole ≡ done ++ left
+    → new ≡ after old done → Appends before behind (output_of old done) → StopsAmong fault stop whole old new before behind
+StopsAmong-done fault stop whole done left old new before behind e store output =
     let first : take (length done) (carried stop old whole) ≡ done = ap (take (length done)) e ∙ take-append_seam done left in
+    let appends = subst (λ l. Appends before behind (output_of old l)) (sym first) output in
     record {
       m = length done;
       within = omega (arith, ap length e, length-append done left);
       store = store ∙ ap (after old) (sym first);
-      output = subst (λ l. AppendsFront before behind (output_of old l)) (sym first) output;
+      output = record {
+        front = output_of old (take (length done) (carried stop old whole));
+        has_least = output_of-take old (carried stop old whole) (length done - 1) (length done) (omega arith);
+        is_front = IsFront-refl _;
+        appends = appends;
+      };
+      whole = λ _. appends;
+    }
+
+-- the sink failed in the answer of the line behind those that are done
+StopsAmong-cut : (stop : Bool) (whole done more : List (List ℕ)) (line : List ℕ) (old new : State) (before mid behind : Option (List ℕ)) → carried stop old whole ≡ done ++ line ∷ more
+    → new ≡ (step_of (after old done) line).after → Appends before mid (output_of old done) → AppendsFront mid behind (step_of (after old done) line).answer
+    → StopsAmong Write stop whole old new before behind
+StopsAmong-cut stop whole done more line old new before mid behind e store output cut =
+    let split = e ∙ sym (append_assoc done (line ∷ []) more) in
+    let count : length (done ++ line ∷ []) ≡ length done + 1 = length-append done (line ∷ []) in
+    let first : take (length done + 1) (carried stop old whole) ≡ done ++ line ∷ [] =
+    ap (take (length done + 1)) split ∙ subst (λ n. take n ((done ++ line ∷ []) ++ more) ≡ done ++ line ∷ []) count (take-append_seam (done ++ line ∷ []) more) in
+    let least : take (length done + 1 - 1) (carried stop old whole) ≡ done =
+    subst (λ n. take n (carried stop old whole) ≡ done) (omega arith) (ap (take (length done)) e ∙ take-append_seam done (line ∷ more)) in
+    record {
+      m = length done + 1;
+      within = omega (arith, ap length split, length-append (done ++ line ∷ []) more, count);
+      store = store ∙ sym (after-more old done line) ∙ ap (after old) (sym first);
+      output = record {
+        front = output_of old done ++ cut.front;
+        has_least = subst (λ l. IsFront (output_of old l) (output_of old done ++ cut.front)) (sym least) (IsFront-append (output_of old done) cut.front);
+        is_front = subst (IsFront (output_of old done ++ cut.front)) (sym (output_of-more old done line) ∙ ap (output_of old) (sym first)) (IsFront-after (output_of old done) cut.front (step_of (after old done) line).answer cut.is_front);
+        appends = Appends-trans before mid behind (output_of old done) cut.front output cut.appends;
+      };
+      whole = λ other. absurd (other refl);
     }
 
 -- a fault ended the line behind those that are done
 pub StopsAmong-reached : (stop : Bool) (whole left rest : List (List ℕ)) (line : List ℕ) (old now new : State) (before mid behind : Option (List ℕ)) (told : RunEnd) (fault : RunFault)
     → Reached stop whole left old now before mid told → left ≡ line ∷ rest → StopsAt (step_of now line) now new mid behind fault
-    → StopsAmong stop whole old new before behind
+    → StopsAmong fault stop whole old new before behind
 StopsAmong-reached stop whole left rest line old now new before mid behind told Read r e at = absurd at
 StopsAmong-reached stop whole left rest line old now new before mid behind told ReaderTooLong r e at = absurd at
 StopsAmong-reached stop whole left rest line old now new before mid behind told OutOfMemory r e at =
-    StopsAmong-done stop whole r.done (carried stop now left) old new before behind r.goes_on (at.0 ∙ r.store)
-    (AppendsFront-all before behind (output_of old r.done) (Appends-kept before mid behind (output_of old r.done) r.output at.1))
+    StopsAmong-done OutOfMemory stop whole r.done (carried stop now left) old new before behind r.goes_on (at.0 ∙ r.store)
+    (Appends-kept before mid behind (output_of old r.done) r.output at.1)
 StopsAmong-reached stop whole left rest line old now new before mid behind told Write r e at =
-    let more = if stop && (step_of now line).is_refused then [] else carried stop (step_of now line).after rest in
     let here : step_of now line ≡ step_of (after old r.done) line = ap (λ s. step_of s line) r.store in
-    StopsAmong-done stop whole (r.done ++ line ∷ []) more old new before behind
-    (r.goes_on ∙ ap (λ l. r.done ++ carried stop now l) e ∙ sym (append_assoc r.done (line ∷ []) more))
-    (at.0 ∙ ap (λ x. x.after) here ∙ sym (after-more old r.done line))
-    (subst (AppendsFront before behind) (ap (λ x. output_of old r.done ++ x.answer) here ∙ sym (output_of-more old r.done line))
-    (AppendsFront-after before mid behind (output_of old r.done) (step_of now line).answer r.output at.1))
+    StopsAmong-cut stop whole r.done (if stop && (step_of now line).is_refused then [] else carried stop (step_of now line).after rest) line old new before mid behind
+    (r.goes_on ∙ ap (λ l. r.done ++ carried stop now l) e)
+    (at.0 ∙ ap (λ x. x.after) here)
+    r.output
+    (subst (λ (x : Step). AppendsFront mid behind x.answer) here at.1)
 
 -- a line wanted memory behind those that are done
 pub WantsAmong-reached : (stop : Bool) (whole left rest : List (List ℕ)) (line : List ℕ) (old now new : State) (before mid behind : Option (List ℕ)) (told : RunEnd) (fault : RunFault)
     → Reached stop whole left old now before mid told → left ≡ line ∷ rest → StopsAt (step_of now line) now new mid behind fault → IsWantOnlyIf (LineWants now line) fault
-    → IsWantOnlyIf (WantsAmong stop whole old new) fault
-WantsAmong-reached stop whole left rest line old now new before mid behind told OutOfMemory r e at wants =
+    → IsWantOnlyIf (WantsAmong stop whole old new before behind) fault
+WantsAmong-reached stop whole left rest line old now new before mid behind told fault r e at wants is =
+    let kept : (new ≡ now) × Keeps mid behind = subst (StopsAt (step_of now line) now new mid behind) is at in
     record {
       done = r.done;
       line = line;
       rest = if stop && (step_of now line).is_refused then [] else carried stop (step_of now line).after rest;
       are_carried = r.goes_on ∙ ap (λ l. r.done ++ carried stop now l) e;
-      store = at.0 ∙ r.store;
-      wants = subst (λ s. LineWants s line) (sym at.0) wants;
+      store = kept.0 ∙ r.store;
+      output = Appends-kept before mid behind (output_of old r.done) r.output kept.1;
+      wants = subst (λ s. LineWants s line) (sym kept.0) (wants is);
     }
-WantsAmong-reached stop whole left rest line old now new before mid behind told Read r e at wants = tt
-WantsAmong-reached stop whole left rest line old now new before mid behind told Write r e at wants = tt
-WantsAmong-reached stop whole left rest line old now new before mid behind told ReaderTooLong r e at wants = tt
-
--- a weaker condition holds where the stronger one does
-pub IsWantOnlyIf-weaker : {P Q : Type 0} (fault : RunFault) → (P → Q) → IsWantOnlyIf P fault → IsWantOnlyIf Q fault
-IsWantOnlyIf-weaker OutOfMemory f p = f p
-IsWantOnlyIf-weaker Read f p = tt
-IsWantOnlyIf-weaker Write f p = tt
-IsWantOnlyIf-weaker ReaderTooLong f p = tt
-
--- a condition that holds
-pub IsWantOnlyIf-held : {P : Type 0} (fault : RunFault) → P → IsWantOnlyIf P fault
-IsWantOnlyIf-held OutOfMemory p = p
-IsWantOnlyIf-held Read p = tt
-IsWantOnlyIf-held Write p = tt
-IsWantOnlyIf-held ReaderTooLong p = tt
 
 -- ---- the whole run
 
 -- a run of which no line was carried out
-pub StopsAfter-nothing : (stop : Bool) (input : List ℕ) (left : Option (List ℕ)) (s : State) (out : Option (List ℕ)) → StopsAfter stop input left s s out out
-StopsAfter-nothing stop input left s out =
-    record { m = 0; within = omega arith; ended = inl (omega arith); store = refl; output = AppendsFront-all out out [] (Appends-nil out) }
+pub StopsAfter-nothing : (fault : RunFault) (stop : Bool) (input : List ℕ) (left : Option (List ℕ)) (s : State) (out : Option (List ℕ)) → StopsAfter fault stop input left s s out out
+StopsAfter-nothing fault stop input left s out =
+    record {
+      among = record {
+        m = 0;
+        within = omega arith;
+        store = refl;
+        output = record { front = []; has_least = IsFront-nil []; is_front = IsFront-nil []; appends = Appends-nil out };
+        whole = λ _. Appends-nil out;
+      };
+      ended = inl (omega arith);
+    }
 
 -- a run that stopped among the lines of an input that was read to its end
-pub StopsAfter-among : (stop : Bool) (input : List ℕ) (left : Option (List ℕ)) (old new : State) (before behind : Option (List ℕ)) → IsAtEnd left
-    → StopsAmong stop (lines_of input) old new before behind → StopsAfter stop input left old new before behind
-StopsAfter-among stop input left old new before behind end a = record { m = a.m; within = a.within; ended = inr end; store = a.store; output = a.output }
+pub StopsAfter-among : (fault : RunFault) (stop : Bool) (input : List ℕ) (left : Option (List ℕ)) (old new : State) (before behind : Option (List ℕ)) → IsAtEnd left
+    → StopsAmong fault stop (lines_of input) old new before behind → StopsAfter fault stop input left old new before behind
+StopsAfter-among fault stop input left old new before behind end a = record { among = a; ended = inr end }
 
 -- a run that was carried out whole and stopped behind its last line
-pub StopsAfter-finished : (stop : Bool) (input : List ℕ) (left : Option (List ℕ)) (old new : State) (before mid behind : Option (List ℕ)) (told : RunEnd) → IsAtEnd left
-    → Finishes stop input old new before mid told → Keeps mid behind → StopsAfter stop input left old new before behind
-StopsAfter-finished stop input left old new before mid behind told end f keeps =
+pub StopsAfter-finished : (fault : RunFault) (stop : Bool) (input : List ℕ) (left : Option (List ℕ)) (old new : State) (before mid behind : Option (List ℕ)) (told : RunEnd) → IsAtEnd left
+    → Finishes stop input old new before mid told → Keeps mid behind → StopsAfter fault stop input left old new before behind
+StopsAfter-finished fault stop input left old new before mid behind told end f keeps =
     let lines = carried stop old (lines_of input) in
-    StopsAfter-among stop input left old new before behind end
-    (StopsAmong-done stop (lines_of input) lines [] old new before behind (sym (append-nil lines)) f.store
-    (AppendsFront-all before behind (output_of old lines) (Appends-kept before mid behind (output_of old lines) f.output keeps)))
-
--- a run that was carried out whole, and whose sink was flushed
-pub Finishes-flushed : (stop : Bool) (input : List ℕ) (old new : State) (before mid behind : Option (List ℕ)) (told : RunEnd)
-    → Finishes stop input old new before mid told → Keeps mid behind → Finishes stop input old new before behind told
-Finishes-flushed stop input old new before mid behind told f keeps =
-    record { store = f.store; output = Appends-kept before mid behind _ f.output keeps; lines = f.lines; refused = f.refused }
+    StopsAfter-among fault stop input left old new before behind end
+    (StopsAmong-done fault stop (lines_of input) lines [] old new before behind (sym (append-nil lines)) f.store
+    (Appends-kept before mid behind (output_of old lines) f.output keeps))

@@ -1,5 +1,5 @@
--- What carrying lines out comes to.
-use Rattle.std.specs.Prelude.{◌≡◌, ℕ, ◌≤◌, Bool, true, false, Option, Result, Ok, Err, List, length, take}
+-- What carrying a line out comes to.
+use Rattle.std.specs.Prelude.{◌≡◌, ℕ, Bool, true, false, Option, Result, Ok, Err, List}
 use Rattle.std.specs.Io.KnownBytes.{Appends, Keeps}
 use Rattle.s2ix_edit.specs.History.{State}
 use Rattle.s2ix_io.specs.Puts.{AppendsFront}
@@ -7,7 +7,6 @@ use Rattle.s2ix_cli.specs.declared.outcome.LineOutcome.{LineOutcome}
 use Rattle.s2ix_cli.specs.declared.outcome.LineOutcome.TheVariants.{PassedOver, Accepted, Refused}
 use Rattle.s2ix_cli.specs.declared.outcome.RunFault.{RunFault}
 use Rattle.s2ix_cli.specs.declared.outcome.RunFault.TheVariants.{Read, Write, OutOfMemory, ReaderTooLong}
-use Rattle.s2ix_cli.specs.Script.{after, output_of, carried}
 use Rattle.s2ix_cli.specs.Step.{Step}
 
 -- whether a line counts
@@ -41,11 +40,3 @@ StopsAt step old new before behind ReaderTooLong = ⊥
 abbrev pub Carries : Step → State → State → Option (List ℕ) → Option (List ℕ) → Result LineOutcome RunFault → Type 0
 Carries step old new before behind (Ok outcome) = Takes step new before behind outcome
 Carries step old new before behind (Err fault) = StopsAt step old new before behind fault
-
--- lines that a fault cut short: for one number m the store stands after the first m of those to be carried out,
--- and a front of their output went out
-pub record StopsAmong (stop : Bool) (lines : List (List ℕ)) (old new : State) (before behind : Option (List ℕ)) : Type 0 where
-  pub m : ℕ
-  pub within : m ≤ length (carried stop old lines)
-  pub store : new ≡ after old (take m (carried stop old lines))
-  pub output : AppendsFront before behind (output_of old (take m (carried stop old lines)))

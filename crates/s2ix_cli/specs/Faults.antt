@@ -1,5 +1,5 @@
 -- What the answer of a run tells of its devices.
-use Rattle.std.specs.Prelude.{ℕ, Result, Ok, Err}
+use Rattle.std.specs.Prelude.{◌≡◌, ℕ, Result, Ok, Err}
 use Rattle.s2ix_io.specs.Pieces.{ReadsOn}
 use Rattle.s2ix_cli.specs.declared.outcome.RunFault.{RunFault}
 use Rattle.s2ix_cli.specs.declared.outcome.RunFault.TheVariants.{Read, Write, OutOfMemory, ReaderTooLong}
@@ -22,7 +22,4 @@ sink_faults (Err ReaderTooLong) = 0
 
 -- the reader is called too long only where exactly `turns` pieces were read and none was the end
 abbrev pub IsPatient : {S : Type 0} → (S → ℕ → S → Type 0) → RunFault → ℕ → S → S → Type 0
-IsPatient gives ReaderTooLong turns old new = ReadsOn gives turns old new
-IsPatient gives Read turns old new = Unit {0}
-IsPatient gives Write turns old new = Unit {0}
-IsPatient gives OutOfMemory turns old new = Unit {0}
+IsPatient gives fault turns old new = fault ≡ ReaderTooLong → ReadsOn gives turns old new

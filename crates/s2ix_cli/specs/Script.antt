@@ -1,9 +1,11 @@
 -- What a script comes to: its lines one after the other.
-use Rattle.std.specs.Prelude.{◌≡◌, ℕ, ◌+◌, ◌-◌, ◌^◌, ◌≤◌, ◌⊎◌, ◌==◌, ◌&&◌, min, if◌then◌else◌, Bool, Option, List, [], ◌∷◌, ◌++◌, take, length, count_by}
-use Rattle.std.specs.Io.KnownBytes.{Appends, IsAtEnd}
+use Rattle.std.specs.Prelude.{◌≡◌, ◌≢◌, ℕ, ◌+◌, ◌-◌, ◌^◌, ◌≤◌, ◌⊎◌, ◌==◌, ◌&&◌, min, if◌then◌else◌, Bool, Option, List, [], ◌∷◌, ◌++◌, take, length, count_by}
+use Rattle.std.specs.Io.KnownBytes.{Keeps, Appends, IsAtEnd}
 use Rattle.s2ix_edit.specs.History.{State}
-use Rattle.s2ix_io.specs.Puts.{AppendsFront}
+use Rattle.s2ix_io.specs.Puts.{AppendsBetween}
 use Rattle.s2ix_cli.specs.declared.outcome.RunEnd.{RunEnd}
+use Rattle.s2ix_cli.specs.declared.outcome.RunFault.{RunFault}
+use Rattle.s2ix_cli.specs.declared.outcome.RunFault.TheVariants.{Write}
 use Rattle.s2ix_script.specs.Lines.{lines_of}
 use Rattle.s2ix_cli.specs.Step.{step_of}
 
@@ -47,11 +49,21 @@ pub record Finishes (stop : Bool) (input : List ℕ) (old new : State) (before b
   pub lines : told.lines ≡ min (counted_in old (carried stop old (lines_of input))) MOST
   pub refused : told.refused ≡ min (refused_in old (carried stop old (lines_of input))) MOST
 
--- a run that a fault ended: for one number m the store stands after the first m of the lines to be carried out,
--- whose ends were read, and a front of their output went out
-pub record StopsAfter (stop : Bool) (input : List ℕ) (left : Option (List ℕ)) (old new : State) (before behind : Option (List ℕ)) : Type 0 where
+-- such a run that then flushed its sink: `written` had taken the whole output, and a flush led from it to the last state
+abbrev pub FinishesFlushed : {K : Type 0} → (K → Option (List ℕ)) → (K → K → Type 0) → Bool → List ℕ → State → State → K → K → RunEnd → Type 0
+FinishesFlushed {K} taken flushes stop input old new before behind told =
+    (written : K) × Finishes stop input old new (taken before) (taken written) told × flushes written behind × Keeps (taken written) (taken behind)
+
+-- lines that a fault cut short: for one number m the store stands after the first m of those to be carried out. What went out is a
+-- front of their output that has the output of all but the last of them; where the sink did not fail, it is the whole
+pub record StopsAmong (fault : RunFault) (stop : Bool) (lines : List (List ℕ)) (old new : State) (before behind : Option (List ℕ)) : Type 0 where
   pub m : ℕ
-  pub within : m ≤ length (carried stop old (lines_of input))
-  pub ended : (m ≤ feeds_in input) ⊎ IsAtEnd left
-  pub store : new ≡ after old (take m (carried stop old (lines_of input)))
-  pub output : AppendsFront before behind (output_of old (take m (carried stop old (lines_of input))))
+  pub within : m ≤ length (carried stop old lines)
+  pub store : new ≡ after old (take m (carried stop old lines))
+  pub output : AppendsBetween before behind (output_of old (take (m - 1) (carried stop old lines))) (output_of old (take m (carried stop old lines)))
+  pub whole : fault ≢ Write → Appends before behind (output_of old (take m (carried stop old lines)))
+
+-- a run that a fault ended among its lines, where the ends of those that the store stands after were read
+pub record StopsAfter (fault : RunFault) (stop : Bool) (input : List ℕ) (left : Option (List ℕ)) (old new : State) (before behind : Option (List ℕ)) : Type 0 where
+  pub among : StopsAmong fault stop (lines_of input) old new before behind
+  pub ended : (among.m ≤ feeds_in input) ⊎ IsAtEnd left

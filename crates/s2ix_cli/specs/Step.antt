@@ -11,8 +11,7 @@ use Rattle.s2id_cube.specs.Neighbor.{neighbor_number}
 use Rattle.s2id_cube.specs.Square.{square_of}
 use Rattle.s2ix_edit.specs.declared.edit.Edit.{Edit}
 use Rattle.s2ix_edit.specs.declared.errors.EditError.{EditError}
-use Rattle.s2ix_edit.specs.History.{State, after_edit, after_undo, after_redo, change_of, last_done, last_undone, undo_size, redo_size}
-use Rattle.s2ix_edit.specs.Plan.{starting_at}
+use Rattle.s2ix_edit.specs.History.{State, after_edit, after_forget, after_undo, after_redo, change_of, last_done, last_undone, undo_size, redo_size}
 use Rattle.s2ix_edit.specs.Refusals.{edit_refusal}
 use Rattle.s2ix_text.specs.Dump.{dump_text}
 use Rattle.s2ix_table.specs.Contents.{contents_at}
@@ -126,7 +125,7 @@ abbrev pub move_step : State → Move → Step
 move_step s (move.Edit edit) = edit_step s edit
 move_step s move.Undo = undo_step s
 move_step s move.Redo = redo_step s
-move_step s move.Forget = accepted (starting_at s.bag) 0
+move_step s move.Forget = accepted (after_forget s) 0
 
 -- what a command comes to
 abbrev pub command_step : State → Command → Step

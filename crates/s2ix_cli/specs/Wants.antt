@@ -1,5 +1,6 @@
 -- Where a line may want memory.
 use Rattle.std.specs.Prelude.{◌≡◌, ◌≢◌, ◌⊎◌, ℕ, Bool, true, Option, Some, None, Result, Ok, Err, List, [], ◌∷◌, ◌++◌}
+use Rattle.std.specs.Io.KnownBytes.{Appends}
 use Rattle.s2ix_edit.specs.History.{State}
 use Rattle.s2ix_edit.specs.Refusals.{MayWantMemory, edit_refusal}
 use Rattle.s2ix_script.specs.declared.command.Command.{Command}
@@ -9,10 +10,10 @@ use Rattle.s2ix_script.specs.declared.command.Move.{Move}
 use Rattle.s2ix_script.specs.declared.command.Move.TheVariants as move
 use Rattle.s2ix_script.specs.declared.command.Query.{Query}
 use Rattle.s2ix_script.specs.declared.command.Query.TheVariants as query
-use Rattle.s2ix_script.specs.Meaning.{gathers, meaning_of}
+use Rattle.s2ix_script.specs.Meaning.{is_on_union, meaning_of}
 use Rattle.s2ix_cli.specs.declared.outcome.RunFault.{RunFault}
-use Rattle.s2ix_cli.specs.declared.outcome.RunFault.TheVariants.{Read, Write, OutOfMemory, ReaderTooLong}
-use Rattle.s2ix_cli.specs.Script.{after, carried}
+use Rattle.s2ix_cli.specs.declared.outcome.RunFault.TheVariants.{OutOfMemory}
+use Rattle.s2ix_cli.specs.Script.{after, carried, output_of}
 
 -- a move: an edit unless it is refused before its change is made, and an undo or a redo of a change that there is
 abbrev pub MoveWants : State → Move → Type 0
@@ -38,28 +39,26 @@ abbrev pub CommandWants : State → Command → Type 0
 CommandWants s (command.Move asked) = MoveWants s asked
 CommandWants s (command.Query asked) = QueryWants asked
 
--- a line of this meaning, when it is carried out
+-- a line of this meaning: while the union of its command is made, or when the command is carried out
 abbrev pub MeaningWants : State → Result (Option Command) LineFault → Type 0
 MeaningWants s (Ok None) = ⊥
-MeaningWants s (Ok (Some c)) = CommandWants s c
+MeaningWants s (Ok (Some c)) = (is_on_union c ≡ true) ⊎ CommandWants s c
 MeaningWants s (Err fault) = ⊥
 
--- a line: while its cells are gathered, or when it is carried out
+-- a line
 abbrev pub LineWants : State → List ℕ → Type 0
-LineWants s line = (gathers line ≡ true) ⊎ MeaningWants s (meaning_of line)
+LineWants s line = MeaningWants s (meaning_of line)
 
--- a line of those to be carried out wanted memory: the store stands after the lines before it
-pub record WantsAmong (stop : Bool) (lines : List (List ℕ)) (old new : State) : Type 0 where
+-- a line of those to be carried out wanted memory: the store stands after the lines before it, whose whole output went out
+pub record WantsAmong (stop : Bool) (lines : List (List ℕ)) (old new : State) (before behind : Option (List ℕ)) : Type 0 where
   pub done : List (List ℕ)
   pub line : List ℕ
   pub rest : List (List ℕ)
   pub are_carried : carried stop old lines ≡ done ++ line ∷ rest
   pub store : new ≡ after old done
+  pub output : Appends before behind (output_of old done)
   pub wants : LineWants new line
 
 -- the fault is want of memory only where this holds
 abbrev pub IsWantOnlyIf : Type 0 → RunFault → Type 0
-IsWantOnlyIf wants OutOfMemory = wants
-IsWantOnlyIf wants Read = Unit {0}
-IsWantOnlyIf wants Write = Unit {0}
-IsWantOnlyIf wants ReaderTooLong = Unit {0}
+IsWantOnlyIf wants fault = fault ≡ OutOfMemory → wants

@@ -15,7 +15,7 @@ use s2ix_io::Sink;
 use std::alloc::Global;
 
 // Carries a line out, and prints its answer.
-#[tactic(auto, unfolding(crate::specs::Step::step_of))]
+#[tactic(auto, using(crate::proofs::WantedMemory::line_wants), unfolding(crate::specs::Step::step_of))]
 pub(crate) fn carry_out<K: Sink>(
     alloc: Global,
     store: &mut Store,

@@ -1,7 +1,8 @@
 //! Reading a source whole.
-ghost use Rattle.std.specs.Prelude.{◌≡◌, ◌≢◌, ℕ, ◌+◌, ◌-◌, ◌^◌, ◌<◌, List, Err, IfOk, IfErr, OnErr};
+ghost use Rattle.std.specs.Prelude.{◌≡◌, ◌≢◌, ℕ, ◌+◌, ◌-◌, ◌^◌, ◌<◌, List, Err, IfOk, IfErr, OnOk, OnErr};
 ghost use Rattle.std.specs.Io.KnownBytes.{Consumes, IsAtEnd};
 ghost use Rattle.s2ix_cli.specs.Faults.{source_faults, IsPatient};
+ghost use Rattle.s2ix_io.specs.Pieces.{ReadsToEnd};
 
 use crate::outcome::RunFault;
 use s2ix_io::Source;
@@ -17,6 +18,7 @@ const PIECE: usize = 4096;
 pub fn read_whole<S: Source>(alloc: Global, source: &mut S, turns: u64) -> Result<Vec<u8>, RunFault>
     requires { S.fault_count source.old < 2 ^ 64 - 1 }
     ensures whole { IfOk result (λ text. Consumes (S.left source.old) (S.left source.new) text.items × IsAtEnd (S.left source.new)) }
+    ensures in_turns { OnOk result (ReadsToEnd S.gives turns source.old source.new) }
     ensures stopped { OnErr result ((input : List ℕ) × Consumes (S.left source.old) (S.left source.new) input) }
     ensures too_long { IfErr result (λ fault. IsPatient S.gives fault turns source.old source.new) }
     ensures no_write { result ≢ Err RunFault.Write }

@@ -1,10 +1,10 @@
 //! A run: the lines of a script, one after the other.
-ghost use Rattle.std.specs.Prelude.{◌≡◌, ◌≢◌, ◌⊎◌, ℕ, ◌+◌, ◌-◌, ◌^◌, ◌<◌, List, length, Err, IfOk, IfErr, OnErr};
-ghost use Rattle.std.specs.Io.KnownBytes.{Consumes, IsAtEnd};
-ghost use Rattle.s2ix_cli.specs.Carry.{StopsAmong};
+ghost use Rattle.std.specs.Prelude.{◌≡◌, ◌≢◌, ◌⊎◌, ℕ, ◌+◌, ◌-◌, ◌^◌, ◌<◌, List, length, Err, IfOk, IfErr, OnOk};
+ghost use Rattle.std.specs.Io.KnownBytes.{Keeps, Consumes, IsAtEnd};
 ghost use Rattle.s2ix_cli.specs.Faults.{source_faults, sink_faults, IsPatient};
 ghost use Rattle.s2ix_script.specs.Lines.{lines_of};
-ghost use Rattle.s2ix_cli.specs.Script.{Finishes, StopsAfter};
+ghost use Rattle.s2ix_io.specs.Pieces.{ReadsToEnd};
+ghost use Rattle.s2ix_cli.specs.Script.{Finishes, FinishesFlushed, StopsAfter, StopsAmong};
 ghost use Rattle.s2ix_cli.specs.Wants.{IsWantOnlyIf, WantsAmong};
 
 use crate::carry::carry_out;
@@ -34,12 +34,13 @@ pub fn run<S: Source, K: Sink>(
     requires sink_counts { K.fault_count sink.old < 2 ^ 64 - 1 }
     ensures finished { IfOk result (λ told. (input : List ℕ) × Consumes (S.left source.old) (S.left source.new) input
         × IsAtEnd (S.left source.new)
-        × Finishes options.stop input store.old store.new (K.taken sink.old) (K.taken sink.new) told) }
-    ensures stopped { OnErr result ((input : List ℕ) × Consumes (S.left source.old) (S.left source.new) input
-        × StopsAfter options.stop input (S.left source.new) store.old store.new (K.taken sink.old) (K.taken sink.new)) }
-    ensures memory { IfErr result (IsWantOnlyIf ((store.new ≡ store.old)
+        × FinishesFlushed K.taken K.flushes options.stop input store.old store.new sink.old sink.new told) }
+    ensures in_turns { OnOk result (ReadsToEnd S.gives options.turns source.old source.new) }
+    ensures stopped { IfErr result (λ fault. (input : List ℕ) × Consumes (S.left source.old) (S.left source.new) input
+        × StopsAfter fault options.stop input (S.left source.new) store.old store.new (K.taken sink.old) (K.taken sink.new)) }
+    ensures memory { IfErr result (IsWantOnlyIf (((store.new ≡ store.old) × Keeps (K.taken sink.old) (K.taken sink.new))
         ⊎ ((input : List ℕ) × Consumes (S.left source.old) (S.left source.new) input
-        × WantsAmong options.stop (lines_of input) store.old store.new))) }
+        × WantsAmong options.stop (lines_of input) store.old store.new (K.taken sink.old) (K.taken sink.new)))) }
     ensures too_long { IfErr result (λ fault. IsPatient S.gives fault options.turns source.old source.new) }
     ensures source_faults { S.fault_count source.new ≡ S.fault_count source.old + source_faults result }
     ensures sink_faults { K.fault_count sink.new ≡ K.fault_count sink.old + sink_faults result }
@@ -60,8 +61,8 @@ fn carry_lines<K: Sink>(
 ) -> Result<RunEnd, RunFault>
     requires { K.fault_count sink.old < 2 ^ 64 - 1 }
     ensures finished { IfOk result (λ told. Finishes stop text.now store.old store.new (K.taken sink.old) (K.taken sink.new) told) }
-    ensures stopped { OnErr result (StopsAmong stop (lines_of text.now) store.old store.new (K.taken sink.old) (K.taken sink.new)) }
-    ensures memory { IfErr result (IsWantOnlyIf (WantsAmong stop (lines_of text.now) store.old store.new)) }
+    ensures stopped { IfErr result (λ fault. StopsAmong fault stop (lines_of text.now) store.old store.new (K.taken sink.old) (K.taken sink.new)) }
+    ensures memory { IfErr result (IsWantOnlyIf (WantsAmong stop (lines_of text.now) store.old store.new (K.taken sink.old) (K.taken sink.new))) }
     ensures no_read { result ≢ Err RunFault.Read }
     ensures no_turns { result ≢ Err RunFault.ReaderTooLong }
     ensures faults { K.fault_count sink.new ≡ K.fault_count sink.old + sink_faults result }

@@ -1,5 +1,7 @@
 pub mod Along
 mod Dropped
+pub mod Edited
+pub mod Followed
 pub mod Led
 mod Moved
 pub mod Places

@@ -7,8 +7,9 @@ use Rattle.s2ix_bag.specs.Apply.{apply_refusal, first_mismatch}
 use Rattle.s2ix_bag.specs.Change.{changed, inverse_of, IsChangeList}
 use Rattle.s2ix_bag.specs.Collection.{Collection, Contents, IsBag, IsCollection}
 use Rattle.s2ix_bag.specs.Limits.{changes_limit}
-use Rattle.s2ix_edit.specs.History.{State, History, IsStore, CanGoBack, CanGoOn, earlier, later, history_of, forgotten, alone, holding, one_back, one_on, with_next}
+use Rattle.s2ix_edit.specs.History.{State, IsStore, CanGoBack, CanGoOn, earlier, later, history_of, holding}
 use Rattle.s2ix_edit.specs.Plan.{recorded}
+use Rattle.s2ix_edit.specs.Steps.{History, alone, forgotten, one_back, one_on}
 use Rattle.s2ix_bag.proofs.Inverse.{inverse-inverse, inverse_keeps}
 use Rattle.s2ix_edit.proofs.Taken.{changed_back, not_mismatched, takes_back}
 use Rattle.std.specs.List.{slice_get}
@@ -32,34 +33,28 @@ take_through xs ys x n e = ap (λ k. take (k + 1) (xs ++ x ∷ ys)) (sym e) ∙ 
 -- ---- planned entries recorded
 
 -- the history goes on to the changed collection
-collections_recorded : (hs new : Collection) (es : List Entry) (done : List (List Entry)) (rest : List Collection) → changed new (inverse_of es) ≡ hs → earlier new (reverse (done ++ es ∷ [])) ++ new ∷ [] ≡ take (length done + 1) (earlier hs (reverse done) ++ hs ∷ rest) ++ new ∷ []
+pub collections_recorded : (hs new : Collection) (es : List Entry) (done : List (List Entry)) (rest : List Collection) → changed new (inverse_of es) ≡ hs → earlier new (reverse (done ++ es ∷ [])) ++ new ∷ [] ≡ take (length done + 1) (earlier hs (reverse done) ++ hs ∷ rest) ++ new ∷ []
 collections_recorded hs new es done rest back =
     ap (λ xs. earlier new xs ++ new ∷ []) (reverse_push done es)
     ∙ ap (λ k. (earlier k (reverse done) ++ k ∷ []) ++ new ∷ []) back
     ∙ ap (λ xs. xs ++ new ∷ []) (sym (take_through (earlier hs (reverse done)) rest hs (length done) (length-earlier hs (reverse done) ∙ length-reverse done)))
 
-pub history_recorded : (s : State) (es : List Entry) → IsCollection s.bag.held → IsChangeList es → first_mismatch s.bag es ≡ None → history_of (recorded s es) ≡ with_next (history_of s) (changed s.bag.held es)
-history_recorded s es c rises matches =
-    ap₂ (λ (collections : List Collection) (cursor : ℕ). let h : History = record { collections = collections; cursor = cursor } in h)
-    (collections_recorded s.bag.held (changed s.bag.held es) es s.done (later s.bag.held (reverse s.undone)) (changed_back s.bag es c rises matches))
-    (length-append s.done (es ∷ []))
-
 -- a bag that a change made can go back over it, and on as before
-back_over : (bag : Contents) (done : List (List Entry)) (es : List Entry) → IsBag bag → CanGoBack bag (reverse done) → IsChangeList es → apply_refusal bag es ≡ None → CanGoBack (holding bag (changed bag.held es)) (reverse (done ++ es ∷ []))
-back_over bag done es b back rises taken =
+back_over : (bag : Contents) (done : List (List Entry)) (es : List Entry) → IsBag bag → CanGoBack bag (reverse done) → IsChangeList es → 0 < length es → apply_refusal bag es ≡ None → CanGoBack (holding bag (changed bag.held es)) (reverse (done ++ es ∷ []))
+back_over bag done es b back rises some taken =
     let Back : List (List Entry) → Type 0 = λ xs. CanGoBack (holding bag (changed bag.held es)) xs in
     let Older : Collection → Type 0 = λ hs. CanGoBack (holding bag hs) (reverse done) in
     subst Back (sym (reverse_push done es))
-    (rises, takes_back bag es b rises taken, subst Older (sym (changed_back bag es b.rises rises (not_mismatched bag es taken))) back)
+    (rises, some, takes_back bag es b rises taken, subst Older (sym (changed_back bag es b.rises rises (not_mismatched bag es taken))) back)
 
 -- the store stands at the changed bag, with one more change behind it
-pub stands_recorded : (s after : State) (es : List Entry) → after ≡ recorded s es → IsStore s → length s.done < changes_limit s.bag.limits → IsChangeList es → apply_refusal s.bag es ≡ None → IsBag after.bag → IsStore after
-stands_recorded s after es is st room rises taken b =
+pub stands_recorded : (s after : State) (es : List Entry) → after ≡ recorded s es → IsStore s → length s.done < changes_limit s.bag.limits → IsChangeList es → 0 < length es → apply_refusal s.bag es ≡ None → IsBag after.bag → IsStore after
+stands_recorded s after es is st room rises some taken b =
     let Stands : State → Type 0 = λ t. IsStore t in
     let Bag : Contents → Type 0 = λ bag. IsBag bag in
     subst Stands (sym is) (record {
       bag = subst Bag (ap (λ (t : State). t.bag) is) b;
-      back = back_over s.bag s.done es st.bag st.back rises taken;
+      back = back_over s.bag s.done es st.bag st.back rises some taken;
       on = tt;
       room = omega (arith, length-append s.done (es ∷ []));
     })
@@ -102,17 +97,17 @@ taken_again bag es b rises taken =
 pub stands_undone : (s after : State) (es : List Entry) → IsStore s → Undoes s after es → IsBag after.bag → IsStore after
 stands_undone s after es st u b =
     let back = goes_back s after.done es st u.done in
-    let matches = not_mismatched s.bag (inverse_of es) back.1 in
+    let matches = not_mismatched s.bag (inverse_of es) back.2 in
     let Back : Contents → Type 0 = λ bag. CanGoBack bag (reverse after.done) in
     let On : Contents → Type 0 = λ bag. CanGoOn bag (es ∷ reverse s.undone) in
     let OnList : List (List Entry) → Type 0 = λ xs. CanGoOn after.bag xs in
     let Later : Collection → Type 0 = λ hs. CanGoOn (holding s.bag hs) (reverse s.undone) in
     record {
       bag = b;
-      back = subst Back (sym u.bag) back.2;
+      back = subst Back (sym u.bag) back.3;
       on = subst OnList (sym (ap reverse u.undone ∙ reverse_push s.undone es))
           (subst On (sym u.bag)
-          (back.0, taken_again s.bag es st.bag back.0 back.1, subst Later (sym (forth_again s.bag es st.bag.rises back.0 matches)) st.on));
+          (back.0, back.1, taken_again s.bag es st.bag back.0 back.2, subst Later (sym (forth_again s.bag es st.bag.rises back.0 matches)) st.on));
       room =
           let few = st.room in
           let limits = ap (λ (bag : Contents). changes_limit bag.limits) u.bag in
@@ -122,7 +117,7 @@ stands_undone s after es st u b =
 pub history_undone : (s after : State) (es : List Entry) → IsStore s → Undoes s after es → history_of after ≡ one_back (history_of s)
 history_undone s after es st u =
     let back = goes_back s after.done es st u.done in
-    let matches = not_mismatched s.bag (inverse_of es) back.1 in
+    let matches = not_mismatched s.bag (inverse_of es) back.2 in
     let prev = changed s.bag.held (inverse_of es) in
     let held_is : after.bag.held ≡ prev = ap (λ (bag : Contents). bag.held) u.bag in
     ap₂ (λ (collections : List Collection) (cursor : ℕ). let h : History = record { collections = collections; cursor = cursor } in h)
@@ -154,8 +149,8 @@ stands_redone s after es st r b =
     let On : Contents → Type 0 = λ bag. CanGoOn bag (reverse after.undone) in
     record {
       bag = b;
-      back = subst BackList (sym r.done) (subst Back (sym r.bag) (back_over s.bag s.done es st.bag st.back on.0 on.1));
-      on = subst On (sym r.bag) on.2;
+      back = subst BackList (sym r.done) (subst Back (sym r.bag) (back_over s.bag s.done es st.bag st.back on.0 on.1 on.2));
+      on = subst On (sym r.bag) on.3;
       room =
           let few = st.room in
           let limits = ap (λ (bag : Contents). changes_limit bag.limits) r.bag in
@@ -168,7 +163,7 @@ undoes_redo s after es st r =
     let on = goes_on s after.undone es st r.undone in
     record {
       bag = sym (ap (λ bag. holding bag (changed bag.held (inverse_of es))) r.bag
-          ∙ ap (λ hs. holding s.bag hs) (changed_back s.bag es st.bag.rises on.0 (not_mismatched s.bag es on.1)));
+          ∙ ap (λ hs. holding s.bag hs) (changed_back s.bag es st.bag.rises on.0 (not_mismatched s.bag es on.2)));
       done = r.done;
       undone = r.undone;
     }

@@ -10,7 +10,7 @@ use Rattle.s2ix_bag.specs.Change.{changed, IsChangeList}
 use Rattle.s2ix_bag.specs.Collection.{Collection, Contents, IsBag, count_in, set_count}
 use Rattle.s2ix_edit.specs.declared.edit.Edit.{Edit}
 use Rattle.s2ix_edit.specs.declared.edit.Edit.TheVariants.{Add, Remove}
-use Rattle.s2ix_edit.specs.Edit.{edited}
+use Rattle.s2ix_edit.specs.Edit.{edited_alone}
 use Rattle.s2ix_edit.specs.Plan.{Makes, Plans, one_entry}
 use Rattle.s2ix_edit.specs.Refusals.{lacks_label, takes_too_many}
 use Rattle.s2ix_bag.proofs.Collections.{set_count_in}
@@ -53,7 +53,7 @@ one_changes hs p m n same =
     (cases_eq m n)
 
 -- an edit that sets one count is carried out by the entry of that pair
-pub one_plans : (bag : Contents) (edit : Edit) (p : Pair) (n : ℕ) → IsBag bag → lacks_label edit bag.held ≡ false → takes_too_many edit bag.held ≡ false → edited edit bag.held ≡ set_count p n bag.held → Plans bag edit (one_entry p (count_in bag.held p) n)
+pub one_plans : (bag : Contents) (edit : Edit) (p : Pair) (n : ℕ) → IsBag bag → lacks_label edit bag.held ≡ false → takes_too_many edit bag.held ≡ false → edited_alone edit bag.held ≡ set_count p n bag.held → Plans bag edit (one_entry p (count_in bag.held p) n)
 one_plans bag edit p n b known allowed makes = record {
   known = known;
   allowed = allowed;
@@ -77,7 +77,7 @@ remove_plans bag p copies before after es b is_before le is_after is =
     subst Carries (sym (is ∙ ap (λ m. one_entry p m after) is_before ∙ ap (λ n. one_entry p (count_in bag.held p) n) (omega arith))) own
 
 -- entries that make the edited collection carry the edit out
-pub plans_from_makes : (bag : Contents) (edit : Edit) (es : List Entry) → lacks_label edit bag.held ≡ false → takes_too_many edit bag.held ≡ false → Makes bag (edited edit bag.held) es → Plans bag edit es
+pub plans_from_makes : (bag : Contents) (edit : Edit) (es : List Entry) → lacks_label edit bag.held ≡ false → takes_too_many edit bag.held ≡ false → Makes bag (edited_alone edit bag.held) es → Plans bag edit es
 plans_from_makes bag edit es known allowed makes = record {
   known = known;
   allowed = allowed;

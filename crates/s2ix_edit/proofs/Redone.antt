@@ -11,7 +11,7 @@ use Rattle.s2ix_edit.proofs.Taken.{changed_back, not_mismatched}
 use Rattle.s2ix_edit.proofs.Undone.{front_of, undo_of_last}
 
 -- a list that is not empty ends in its last element
-ends_in_last : (ess : List (List Entry)) → ess ≢ [] → ess ≡ take (length ess - 1) ess ++ get_or ess (length ess - 1) [] ∷ []
+pub ends_in_last : (ess : List (List Entry)) → ess ≢ [] → ess ≡ take (length ess - 1) ess ++ get_or ess (length ess - 1) [] ∷ []
 ends_in_last [] some = absurd (some refl)
 ends_in_last (es ∷ rest) some =
     let ess = es ∷ rest in
@@ -30,7 +30,7 @@ redo_of_undo s st some =
     let es = get_or s.done (length s.done - 1) [] in
     let is = ends_in_last s.done some in
     let back = goes_back s front es st is in
-    let forth = forth_again s.bag es st.bag.rises back.0 (not_mismatched s.bag (inverse_of es) back.1) in
+    let forth = forth_again s.bag es st.bag.rises back.0 (not_mismatched s.bag (inverse_of es) back.2) in
     ap after_redo (undo_of_last s front es is)
     ∙ redo_of_last (after_undo_of s es) s.undone es refl
     ∙ ap (λ hs. let t : State = record { bag = holding s.bag hs; done = front ++ es ∷ []; undone = take (length (s.undone ++ es ∷ []) - 1) (s.undone ++ es ∷ []) } in t) forth
@@ -42,7 +42,7 @@ undo_of_redo s st some =
     let es = get_or s.undone (length s.undone - 1) [] in
     let is = ends_in_last s.undone some in
     let on = goes_on s front es st is in
-    let back = changed_back s.bag es st.bag.rises on.0 (not_mismatched s.bag es on.1) in
+    let back = changed_back s.bag es st.bag.rises on.0 (not_mismatched s.bag es on.2) in
     ap after_undo (redo_of_last s front es is)
     ∙ undo_of_last (after_redo_of s es) s.done es refl
     ∙ ap (λ hs. let t : State = record { bag = holding s.bag hs; done = take (length (s.done ++ es ∷ []) - 1) (s.done ++ es ∷ []); undone = front ++ es ∷ [] } in t) back

@@ -12,21 +12,29 @@ use Rattle.s2ix_edit.specs.declared.edit.Edit.{Edit}
 use Rattle.s2ix_edit.specs.declared.edit.Edit.TheVariants.{Add}
 use Rattle.s2ix_edit.specs.declared.errors.EditError.{EditError}
 use Rattle.s2ix_edit.specs.declared.errors.EditError.TheVariants.{JournalFull, NoSuchLabel, NotHeld, NoChange, TooManyCopies, TooManyPairs, OutOfMemory}
-use Rattle.s2ix_edit.specs.Edit.{edited}
-use Rattle.s2ix_edit.specs.History.{State, IsStore, after_edit, holding}
+use Rattle.s2ix_edit.specs.Edit.{edited_alone}
+use Rattle.s2ix_edit.specs.History.{State, IsStore, after_edit, change_of, holding}
 use Rattle.s2ix_edit.specs.Plan.{Plans, entries_refusal, recorded, starting_at}
 use Rattle.s2ix_edit.specs.Refusals.{edit_refusal, has_count_above, lacks_label, takes_too_many, IsEditRefusal, IsPlanFailure, MayWantMemory}
 use Rattle.s2ix_edit.proofs.Taken.{above_from_count, any_above_changed, between_changed, none_above}
-use Rattle.s2ix_edit.proofs.Undone.{edited_is_collection}
+use Rattle.s2ix_edit.proofs.Edited.{edited_held, edited_is_collection}
 use Rattle.s2ix_bag.proofs.Collections.{count_in-set_count_same}
 use Rattle.s2ix_bag.proofs.Differences.{changed_between}
 use Rattle.s2ix_bag.specs.Pair.{rank_of}
 
+-- the refusals after that of a full journal, of an edit that makes this collection
+refusal_with_room : Contents → Edit → Collection → Option EditError
+refusal_with_room bag edit new =
+    cond (lacks_label edit bag.held) (Some NoSuchLabel) (cond (takes_too_many edit bag.held) (Some NotHeld)
+    (cond (length (change_between bag.held new) == 0) (Some NoChange) (cond (has_count_above (count_limit bag.limits) new) (Some TooManyCopies)
+    (cond (ltb (pairs_limit bag.limits) (length new)) (Some TooManyPairs) None))))
+
 -- with room in the journal the refusal is that of a store with no history
 pub with_room : (s : State) (edit : Edit) → length s.done < changes_limit s.bag.limits → edit_refusal s edit ≡ edit_refusal (starting_at s.bag) edit
+unfolding refusal_with_room
 with_room s edit room =
     let fresh : length (starting_at s.bag).done < changes_limit (starting_at s.bag).bag.limits = omega (arith, room) in
-    cond-false _ _ _ (lt-leb _ _ room) ∙ sym (cond-false _ _ _ (lt-leb _ _ fresh))
+    cond-false _ _ _ (lt-leb _ _ room) ∙ ap (refusal_with_room s.bag edit) (edited_held s edit) ∙ sym (cond-false _ _ _ (lt-leb _ _ fresh))
 
 -- a store with no history has room in its journal
 starts_with_room : (bag : Contents) → length (starting_at bag).done < changes_limit bag.limits
@@ -41,21 +49,21 @@ first_of_three same high many =
 is_high : Contents → Collection → Bool
 is_high bag hs = has_count_above (count_limit bag.limits) hs
 
-later_refusal : (bag : Contents) (edit : Edit) → lacks_label edit bag.held ≡ false → takes_too_many edit bag.held ≡ false → edit_refusal (starting_at bag) edit ≡ first_of_three (length (change_between bag.held (edited edit bag.held)) == 0) (is_high bag (edited edit bag.held)) (ltb (pairs_limit bag.limits) (length (edited edit bag.held)))
+later_refusal : (bag : Contents) (edit : Edit) → lacks_label edit bag.held ≡ false → takes_too_many edit bag.held ≡ false → edit_refusal (starting_at bag) edit ≡ first_of_three (length (change_between bag.held (edited_alone edit bag.held)) == 0) (is_high bag (edited_alone edit bag.held)) (ltb (pairs_limit bag.limits) (length (edited_alone edit bag.held)))
 unfolding first_of_three is_high
 later_refusal bag edit known allowed =
     cond-false _ _ _ (lt-leb _ _ (starts_with_room bag)) ∙ cond-false _ _ _ known ∙ cond-false _ _ _ allowed
 
 -- ---- the refusals of planned entries
 
-any_high : (bag : Contents) (edit : Edit) (es : List Entry) → IsBag bag → Plans bag edit es → is_high bag (edited edit bag.held) ≡ list_any (λ e. ltb (count_limit bag.limits) e.after) es
+any_high : (bag : Contents) (edit : Edit) (es : List Entry) → IsBag bag → Plans bag edit es → is_high bag (edited_alone edit bag.held) ≡ list_any (λ e. ltb (count_limit bag.limits) e.after) es
 unfolding is_high
 any_high bag edit es b plans =
     ap (λ hs. has_count_above (count_limit bag.limits) hs) (sym plans.result)
     ∙ any_above_changed (count_limit bag.limits) bag.held es b.rises plans.rises b.small
 
--- the change that an edit records is its plan
-pub planned_change : (bag : Contents) (edit : Edit) (es : List Entry) → IsBag bag → Plans bag edit es → change_between bag.held (edited edit bag.held) ≡ es
+-- the change that an edit of the collection alone records is its plan
+planned_change : (bag : Contents) (edit : Edit) (es : List Entry) → IsBag bag → Plans bag edit es → change_between bag.held (edited_alone edit bag.held) ≡ es
 planned_change bag edit es b plans =
     ap (λ hs. change_between bag.held hs) (sym plans.result)
     ∙ between_changed bag es b.rises plans.rises plans.matches
@@ -70,10 +78,15 @@ planned_refusal bag edit es b plans =
     let many : Collection → Bool = λ hs. ltb (pairs_limit bag.limits) (length hs) in
     let high : Bool = list_any (λ (e : Entry). ltb (count_limit bag.limits) e.after) es in
     later_refusal bag edit plans.known plans.allowed
-    ∙ ap (λ (ds : List Entry). first_of_three (length ds == 0) (is_high bag (edited edit bag.held)) (many (edited edit bag.held))) (planned_change bag edit es b plans)
-    ∙ ap (λ t. first_of_three (length es == 0) t (many (edited edit bag.held))) (any_high bag edit es b plans)
+    ∙ ap (λ (ds : List Entry). first_of_three (length ds == 0) (is_high bag (edited_alone edit bag.held)) (many (edited_alone edit bag.held))) (planned_change bag edit es b plans)
+    ∙ ap (λ t. first_of_three (length es == 0) t (many (edited_alone edit bag.held))) (any_high bag edit es b plans)
     ∙ ap (λ hs. first_of_three (length es == 0) high (many hs)) (sym plans.result)
     ∙ entries_by_three bag es
+
+-- entries that are not refused are some
+pub some_entries : (bag : Contents) (es : List Entry) → entries_refusal bag es ≡ None → 0 < length es
+some_entries bag [] none = let clash : ◌≡◌ {A = Option EditError} (Some NoChange) None = none in cc
+some_entries bag (e ∷ es) none = omega arith
 
 -- ---- a count above the limit
 
@@ -93,12 +106,12 @@ changes_some bag new b is high =
     (cases_Bool (length (change_between bag.held new) == 0))
 
 -- an edit that makes a count above the limit is refused for its copies
-too_high : (bag : Contents) (edit : Edit) → IsBag bag → lacks_label edit bag.held ≡ false → takes_too_many edit bag.held ≡ false → has_count_above (count_limit bag.limits) (edited edit bag.held) ≡ true → edit_refusal (starting_at bag) edit ≡ Some TooManyCopies
+too_high : (bag : Contents) (edit : Edit) → IsBag bag → lacks_label edit bag.held ≡ false → takes_too_many edit bag.held ≡ false → has_count_above (count_limit bag.limits) (edited_alone edit bag.held) ≡ true → edit_refusal (starting_at bag) edit ≡ Some TooManyCopies
 unfolding first_of_three is_high
 too_high bag edit b known allowed high =
-    let many : Bool = ltb (pairs_limit bag.limits) (length (edited edit bag.held)) in
+    let many : Bool = ltb (pairs_limit bag.limits) (length (edited_alone edit bag.held)) in
     later_refusal bag edit known allowed
-    ∙ ap (λ t. first_of_three t (is_high bag (edited edit bag.held)) many) (changes_some bag (edited edit bag.held) b (edited_is_collection edit bag.held b.rises) high)
+    ∙ ap (λ t. first_of_three t (is_high bag (edited_alone edit bag.held)) many) (changes_some bag (edited_alone edit bag.held) b (edited_is_collection edit bag.held b.rises) high)
     ∙ ap (λ t. first_of_three false t many) high
 
 -- a sum above every limit is refused for its copies
@@ -107,7 +120,7 @@ sum_too_high bag p copies before b is_before high =
     let range = bag.limits.in_range in
     let sum = count_in-set_count_same p (count_in bag.held p + copies) bag.held b.rises in
     too_high bag (Add p copies) b refl refl
-    (above_from_count (count_limit bag.limits) (edited (Add p copies) bag.held) (rank_of p) (omega (arith, range, sum, is_before, high)))
+    (above_from_count (count_limit bag.limits) (edited_alone (Add p copies) bag.held) (rank_of p) (omega (arith, range, sum, is_before, high)))
 
 -- want of memory may come in place of what is found while the change is made
 may_want : (same high many : Bool) → MayWantMemory (first_of_three same high many)
@@ -122,7 +135,7 @@ memory_wanted bag edit known allowed =
     subst MayWantMemory (sym (later_refusal bag edit known allowed)) (may_want _ _ _)
 
 -- why no entries are planned is why the edit is refused
-pub failed_plan : (bag : Contents) (edit : Edit) (error : EditError) → IsBag bag → lacks_label edit bag.held ≡ false → takes_too_many edit bag.held ≡ false → IsPlanFailure bag (edited edit bag.held) error → IsEditRefusal error (edit_refusal (starting_at bag) edit)
+pub failed_plan : (bag : Contents) (edit : Edit) (error : EditError) → IsBag bag → lacks_label edit bag.held ≡ false → takes_too_many edit bag.held ≡ false → IsPlanFailure bag (edited_alone edit bag.held) error → IsEditRefusal error (edit_refusal (starting_at bag) edit)
 failed_plan bag edit JournalFull b known allowed failed = absurd failed
 failed_plan bag edit NoSuchLabel b known allowed failed = absurd failed
 failed_plan bag edit NotHeld b known allowed failed = absurd failed
@@ -131,11 +144,16 @@ failed_plan bag edit TooManyCopies b known allowed failed = too_high bag edit b 
 failed_plan bag edit TooManyPairs b known allowed failed = absurd failed
 failed_plan bag edit OutOfMemory b known allowed failed = memory_wanted bag edit known allowed
 
+-- the change that a store records of an edit is its plan
+pub change_planned : (s : State) (edit : Edit) (es : List Entry) → IsBag s.bag → Plans s.bag edit es → change_of s edit ≡ es
+change_planned s edit es b plans =
+    ap (λ hs. change_between s.bag.held hs) (edited_held s edit) ∙ planned_change s.bag edit es b plans
+
 -- an edit makes what its planned entries make
 pub planned_state : (s : State) (edit : Edit) (es : List Entry) → IsBag s.bag → Plans s.bag edit es → recorded s es ≡ after_edit s edit
 planned_state s edit es b plans =
     ap₂ (λ (hs : Collection) (ds : List Entry). let after : State = record { bag = holding s.bag hs; done = s.done ++ ds ∷ []; undone = [] } in after)
-    plans.result (sym (planned_change s.bag edit es b plans))
+    (plans.result ∙ sym (edited_held s edit)) (sym (change_planned s edit es b plans))
 
 -- the refusal of an edit, read off its planned entries or off a store with no history
 pub refusal_of_entries : (s : State) (edit : Edit) (es : List Entry) → IsStore s → length s.done < changes_limit s.bag.limits → Plans s.bag edit es → entries_refusal s.bag es ≡ edit_refusal s edit

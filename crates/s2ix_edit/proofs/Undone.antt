@@ -4,26 +4,13 @@ use Rattle.std.specs.List.{slice_get}
 use Rattle.std.proofs.lemmas.List.{length-append}
 use Rattle.std.proofs.Math.Seq.{take-append_seam}
 use Rattle.s2ix_bag.specs.declared.pair.Entry.{Entry}
-use Rattle.s2ix_bag.specs.Collection.{Collection, IsCollection, count_in}
-use Rattle.s2ix_bag.proofs.Collections.{set_keeps}
+use Rattle.s2ix_bag.specs.Collection.{Collection}
 use Rattle.s2ix_bag.proofs.Inverse.{changed_inverse_between}
 use Rattle.s2ix_edit.specs.declared.edit.Edit.{Edit}
-use Rattle.s2ix_edit.specs.declared.edit.Edit.TheVariants.{Add, AddUnion, Remove, DropLabel, Relabel}
-use Rattle.s2ix_bag.specs.OfLabel.{held_of}
 use Rattle.s2ix_edit.specs.Edit.{edited}
-use Rattle.s2ix_edit.specs.History.{State, IsStore, after_edit, after_undo, after_undo_of, change_of, holding}
-use Rattle.s2ix_edit.proofs.Dropped.{without_keeps}
-use Rattle.s2ix_edit.proofs.Moved.{all_moved_keeps}
+use Rattle.s2ix_edit.specs.History.{State, IsStore, after_edit, after_undo, after_undo_of, change_of, history_of, holding}
+use Rattle.s2ix_edit.proofs.Edited.{held_edited_is_collection}
 use Rattle.s2ix_edit.proofs.Places.{slice_get_last}
-use Rattle.s2ix_edit.proofs.Raised.{with_each_keeps}
-
--- an edited collection is a collection
-pub edited_is_collection : (edit : Edit) (hs : Collection) → IsCollection hs → IsCollection (edited edit hs)
-edited_is_collection (Add pair copies) hs is = set_keeps pair (count_in hs pair + copies) hs is
-edited_is_collection (AddUnion cells label) hs is = with_each_keeps label cells hs is
-edited_is_collection (Remove pair copies) hs is = set_keeps pair (count_in hs pair - copies) hs is
-edited_is_collection (DropLabel label) hs is = without_keeps label hs is
-edited_is_collection (Relabel source target) hs is = all_moved_keeps target (held_of source hs) hs is
 
 -- an undo takes back the last change that was done
 pub undo_of_last : (s : State) (done : List (List Entry)) (es : List Entry) → s.done ≡ done ++ es ∷ [] → after_undo s ≡ after_undo_of s es
@@ -41,5 +28,5 @@ pub undo_of_edit : (s : State) (edit : Edit) → IsStore s → after_undo (after
 undo_of_edit s edit st =
     undo_of_last (after_edit s edit) s.done (change_of s edit) refl
     ∙ ap₂ (λ (hs : Collection) (done : List (List Entry)). let t : State = record { bag = holding s.bag hs; done = done; undone = change_of s edit ∷ [] } in t)
-    (changed_inverse_between s.bag.held (edited edit s.bag.held) st.bag.rises (edited_is_collection edit s.bag.held st.bag.rises))
+    (changed_inverse_between s.bag.held (edited (history_of s) edit) st.bag.rises (held_edited_is_collection s edit st.bag.rises))
     (front_of s.done (change_of s edit))

@@ -1,4 +1,4 @@
--- What an edit makes of a collection.
+-- What an edit makes of a collection with its history.
 use Rattle.std.specs.Prelude.{ℕ, ◌+◌, ◌-◌, ◌==◌, Bool, not, List, [], ◌∷◌}
 use Rattle.std.specs.List.{filter}
 use Rattle.s2id_core.specs.declared.cell_id.CellId.{CellId}
@@ -10,6 +10,7 @@ use Rattle.s2ix_bag.specs.Collection.{Collection, count_in, set_count}
 use Rattle.s2ix_bag.specs.OfLabel.{held_of}
 use Rattle.s2ix_edit.specs.declared.edit.Edit.{Edit}
 use Rattle.s2ix_edit.specs.declared.edit.Edit.TheVariants.{Add, AddUnion, Remove, DropLabel, Relabel}
+use Rattle.s2ix_edit.specs.Steps.{History, alone, at_cursor}
 
 -- the pair of a cell under a label
 abbrev pub pair_of : CellId → Label → Pair
@@ -41,12 +42,16 @@ abbrev pub all_moved : Label → List Held → Collection → Collection
 all_moved target [] hs = hs
 all_moved target (h ∷ rest) hs = all_moved target rest (moved target h hs)
 
--- the collection after the edit: `Add` adds copies to the pair's count, `AddUnion` one copy under the label for each
--- cell, `Remove` takes copies from the pair's count, `DropLabel` takes the label's pairs away, and `Relabel` moves
--- the copies of each pair of `source` to the same cell's pair of `target`
-abbrev pub edited : Edit → Collection → Collection
-edited (Add pair copies) hs = with_more pair copies hs
-edited (AddUnion cells label) hs = with_each label cells hs
-edited (Remove pair copies) hs = set_count pair (count_in hs pair - copies) hs
-edited (DropLabel label) hs = without label hs
-edited (Relabel source target) hs = all_moved target (held_of source hs) hs
+-- the collection after the edit of the one at the cursor: `Add` adds copies to the pair's count, `AddUnion` one copy
+-- under the label for each cell, `Remove` takes copies from the pair's count, `DropLabel` takes the label's pairs away,
+-- and `Relabel` moves the copies of each pair of `source` to the same cell's pair of `target`
+abbrev pub edited : History → Edit → Collection
+edited h (Add pair copies) = with_more pair copies (at_cursor h)
+edited h (AddUnion cells label) = with_each label cells (at_cursor h)
+edited h (Remove pair copies) = set_count pair (count_in (at_cursor h) pair - copies) (at_cursor h)
+edited h (DropLabel label) = without label (at_cursor h)
+edited h (Relabel source target) = all_moved target (held_of source (at_cursor h)) (at_cursor h)
+
+-- the collection after the edit of one that stands alone
+abbrev pub edited_alone : Edit → Collection → Collection
+edited_alone edit hs = edited (alone hs) edit

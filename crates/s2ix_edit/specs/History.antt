@@ -1,5 +1,5 @@
--- Histories: whole collections in the order in which they were reached, and where a store stands among them.
-use Rattle.std.specs.Prelude.{◌≡◌, ℕ, ◌+◌, ◌-◌, ◌≤◌, Option, Some, None, List, [], ◌∷◌, ◌++◌, length, take, drop, reverse, slice_get}
+-- The history that a store holds, and how each of its calls moves it.
+use Rattle.std.specs.Prelude.{◌≡◌, ℕ, ◌+◌, ◌-◌, ◌<◌, ◌≤◌, Option, Some, None, List, [], ◌∷◌, ◌++◌, length, take, reverse, slice_get}
 use Rattle.s2ix_bag.specs.declared.pair.Entry.{Entry}
 use Rattle.s2ix_bag.specs.Apply.{apply_refusal}
 use Rattle.s2ix_bag.specs.Change.{change_between, changed, inverse_of, IsChangeList}
@@ -7,11 +7,7 @@ use Rattle.s2ix_bag.specs.Collection.{Collection, Contents, IsBag}
 use Rattle.s2ix_bag.specs.Limits.{changes_limit}
 use Rattle.s2ix_edit.specs.declared.edit.Edit.{Edit}
 use Rattle.s2ix_edit.specs.Edit.{edited}
-
--- a non-empty list of collections, and the place of the one that holds now
-pub record History : Type 0 where
-  pub collections : List Collection
-  pub cursor : ℕ
+use Rattle.s2ix_edit.specs.Steps.{History}
 
 -- what contracts see of a store: its bag, the changes that led to it, the oldest first, and those that were
 -- undone, the last undone at the end
@@ -37,48 +33,18 @@ history_of s = record {
   cursor = length s.done;
 }
 
--- the changes from this collection to the next, and so on
-abbrev pub changes_from : Collection → List Collection → List (List Entry)
-changes_from hs [] = []
-changes_from hs (next ∷ rest) = change_between hs next ∷ changes_from next rest
-
--- the changes between neighbouring collections
-abbrev pub changes_along : List Collection → List (List Entry)
-changes_along [] = []
-changes_along (hs ∷ rest) = changes_from hs rest
-
--- the history after an edit: what lies behind the cursor is cut, and the cursor moves on to the new collection
-abbrev pub with_next : History → Collection → History
-with_next h hs = record { collections = take (h.cursor + 1) h.collections ++ hs ∷ []; cursor = h.cursor + 1 }
-
--- the history after an undo: the cursor moves back
-abbrev pub one_back : History → History
-one_back h = record { collections = h.collections; cursor = h.cursor - 1 }
-
--- the history after a redo: the cursor moves on
-abbrev pub one_on : History → History
-one_on h = record { collections = h.collections; cursor = h.cursor + 1 }
-
--- the history of one collection and no other
-abbrev pub alone : Collection → History
-alone hs = record { collections = hs ∷ []; cursor = 0 }
-
--- the history after it is forgotten: the cursor's collection and no other
-abbrev pub forgotten : History → History
-forgotten h = record { collections = take 1 (drop h.cursor h.collections); cursor = 0 }
-
 -- a bag with another collection
 abbrev pub holding : Contents → Collection → Contents
 holding bag hs = record { limits = bag.limits; held = hs }
 
 -- the change that an edit records
 abbrev pub change_of : State → Edit → List Entry
-change_of s edit = change_between s.bag.held (edited edit s.bag.held)
+change_of s edit = change_between s.bag.held (edited (history_of s) edit)
 
 -- the store after an accepted edit
 abbrev pub after_edit : State → Edit → State
 after_edit s edit = record {
-  bag = holding s.bag (edited edit s.bag.held);
+  bag = holding s.bag (edited (history_of s) edit);
   done = s.done ++ change_of s edit ∷ [];
   undone = [];
 }
@@ -123,19 +89,24 @@ after_redo s = elim (last_undone s) [ Some es ↦ after_redo_of s es | None ↦ 
 abbrev pub redo_size : State → ℕ
 redo_size s = elim (last_undone s) [ Some es ↦ length es | None ↦ 0 ]
 
+-- the store after its changes are forgotten
+abbrev pub after_forget : State → State
+after_forget s = record { bag = s.bag; done = []; undone = [] }
+
 -- changes, the newest first, that can be taken back from a bag one after the other
 abbrev pub CanGoBack : Contents → List (List Entry) → Type 0
 CanGoBack bag [] = Unit {0}
 CanGoBack bag (es ∷ older) =
-    IsChangeList es × (apply_refusal bag (inverse_of es) ≡ None) × CanGoBack (holding bag (changed bag.held (inverse_of es))) older
+    IsChangeList es × (0 < length es) × (apply_refusal bag (inverse_of es) ≡ None) × CanGoBack (holding bag (changed bag.held (inverse_of es))) older
 
 -- changes that can be done to a bag one after the other
 abbrev pub CanGoOn : Contents → List (List Entry) → Type 0
 CanGoOn bag [] = Unit {0}
 CanGoOn bag (es ∷ rest) =
-    IsChangeList es × (apply_refusal bag es ≡ None) × CanGoOn (holding bag (changed bag.held es)) rest
+    IsChangeList es × (0 < length es) × (apply_refusal bag es ≡ None) × CanGoOn (holding bag (changed bag.held es)) rest
 
--- a store stands at one place of a history: each recorded change leads from one bag within the limits to the next
+-- a store stands at one place of a history: each recorded change has entries and leads from one bag within the limits
+-- to the next
 pub record IsStore (s : State) : Type 0 where
   pub bag : IsBag s.bag
   pub back : CanGoBack s.bag (reverse s.done)

@@ -12,7 +12,7 @@ use Rattle.s2ix_bag.specs.Limits.{pairs_limit, count_limit}
 use Rattle.s2ix_edit.specs.declared.edit.Edit.{Edit}
 use Rattle.s2ix_edit.specs.declared.errors.EditError.{EditError}
 use Rattle.s2ix_edit.specs.declared.errors.EditError.TheVariants.{NoChange, TooManyCopies, TooManyPairs}
-use Rattle.s2ix_edit.specs.Edit.{edited}
+use Rattle.s2ix_edit.specs.Edit.{edited_alone}
 use Rattle.s2ix_edit.specs.History.{State, holding}
 use Rattle.s2ix_edit.specs.Refusals.{lacks_label, takes_too_many}
 
@@ -38,7 +38,7 @@ pub record Plans (bag : Contents) (edit : Edit) (es : List Entry) : Type 0 where
   pub allowed : takes_too_many edit bag.held ≡ false
   pub rises : IsChangeList es
   pub matches : first_mismatch bag es ≡ None
-  pub result : changed bag.held es ≡ edited edit bag.held
+  pub result : changed bag.held es ≡ edited_alone edit bag.held
 
 -- why a store refuses planned entries, memory aside: none of them, else a count after above the limit, else more
 -- distinct pairs than the limit; `None` where it takes them

@@ -10,7 +10,7 @@ use Rattle.s2ix_edit.specs.declared.edit.Edit.TheVariants.{Add, AddUnion, Remove
 use Rattle.s2ix_edit.specs.declared.errors.EditError.{EditError}
 use Rattle.s2ix_edit.specs.declared.errors.EditError.TheVariants.{JournalFull, NoSuchLabel, NotHeld, NoChange, TooManyCopies, TooManyPairs, OutOfMemory}
 use Rattle.s2ix_edit.specs.Edit.{edited}
-use Rattle.s2ix_edit.specs.History.{State, change_of}
+use Rattle.s2ix_edit.specs.History.{State, change_of, history_of}
 
 -- whether no pair of the label is held
 abbrev pub holds_none : Label → Collection → Bool
@@ -42,8 +42,8 @@ stands s edit JournalFull = nat_le (changes_limit s.bag.limits) (length s.done)
 stands s edit NoSuchLabel = lacks_label edit s.bag.held
 stands s edit NotHeld = takes_too_many edit s.bag.held
 stands s edit NoChange = length (change_of s edit) == 0
-stands s edit TooManyCopies = has_count_above (count_limit s.bag.limits) (edited edit s.bag.held)
-stands s edit TooManyPairs = nat_lt (pairs_limit s.bag.limits) (length (edited edit s.bag.held))
+stands s edit TooManyCopies = has_count_above (count_limit s.bag.limits) (edited (history_of s) edit)
+stands s edit TooManyPairs = nat_lt (pairs_limit s.bag.limits) (length (edited (history_of s) edit))
 stands s edit OutOfMemory = false
 
 -- the refusals, memory aside, in the order in which they decide

@@ -1,14 +1,15 @@
-ghost use Rattle.std.specs.Prelude.{◌≡◌, ◌≢◌, ℕ, ◌↔◌, ◌<◌, [], length, None, IfOk, IfErr, OnOk, OnErr};
+ghost use Rattle.std.specs.Prelude.{◌≡◌, ◌≢◌, ℕ, ◌↔◌, ◌<◌, [], ◌∷◌, length, None, IfOk, IfErr, OnOk, OnErr};
 ghost use Rattle.s2ix_bag.specs.Apply.{first_mismatch};
 ghost use Rattle.s2ix_bag.specs.declared.pair.Pair.{Pair};
-ghost use Rattle.s2ix_bag.specs.Change.{changed, counts_at, difference_of};
+ghost use Rattle.s2ix_bag.specs.Change.{counts_at, difference_of};
 ghost use Rattle.s2ix_bag.specs.Collection.{count_in};
 ghost use Rattle.s2ix_bag.specs.Limits.{changes_limit};
 ghost use Rattle.s2ix_bag.specs.Pair.{rank_of};
 ghost use Rattle.s2ix_edit.specs.Edit.{edited};
-ghost use Rattle.s2ix_edit.specs.History.{State, IsStore, after_edit, after_redo, after_undo, alone, change_of, forgotten, history_of, one_back, one_on, redo_size, undo_size, with_next};
+ghost use Rattle.s2ix_edit.specs.History.{State, IsStore, after_edit, after_forget, after_redo, after_undo, change_of, history_of, redo_size, undo_size};
 ghost use Rattle.s2ix_edit.specs.Plan.{entries_refusal, recorded, starting_at};
 ghost use Rattle.s2ix_edit.specs.Refusals.{edit_refusal, IsEditRefusal};
+ghost use Rattle.s2ix_edit.specs.Steps.{alone, forgotten, one_back, one_on, with_next};
 ghost use Rattle.s2ix_table.specs.Table.{IsRangeTable};
 
 use crate::edit::Edit;
@@ -83,7 +84,7 @@ impl Store {
     pub fn edit(&mut self, edit: &Edit) -> Result<usize, EditError>
         ensures state { OnOk result (self.new ≡ after_edit self.old edit.now) }
         ensures history { OnOk result (history_of self.new
-            ≡ with_next (history_of self.old) (edited edit.now self.old.bag.held)) }
+            ≡ with_next (history_of self.old) (edited (history_of self.old) edit.now)) }
         ensures number { IfOk result (λ n. n ≡ length (change_of self.old edit.now)) }
         ensures records { OnOk result ((pair : Pair)
             → counts_at (change_of self.old edit.now) (rank_of pair)
@@ -105,8 +106,6 @@ impl Store {
         requires room { length self.old.done < changes_limit self.old.bag.limits }
         requires matches { first_mismatch self.old.bag change ≡ None }
         ensures state { OnOk result (self.new ≡ recorded self.old change) }
-        ensures history { OnOk result (history_of self.new
-            ≡ with_next (history_of self.old) (changed self.old.bag.held change)) }
         ensures number { IfOk result (λ n. n ≡ length change) }
         ensures accepted { OnOk result (entries_refusal self.old.bag change ≡ None) }
         ensures refused { IfErr result (λ error.
@@ -133,7 +132,8 @@ impl Store {
         ensures restores { OnOk result ((s : State) (edit : Edit)
             → IsStore s
             → self.old ≡ after_edit s edit
-            → self.new.bag ≡ s.bag) }
+            → (self.new.bag ≡ s.bag) × (self.new.done ≡ s.done)
+            × (self.new.undone ≡ change_of s edit ∷ [])) }
         ensures nothing { (result ≡ Err UndoError.NothingToUndo) ↔ (self.old.done ≡ []) }
         ensures unchanged { OnErr result (self.new ≡ self.old) }
     {
@@ -162,7 +162,7 @@ impl Store {
             → IsStore s
             → s.done ≢ []
             → self.old ≡ after_undo s
-            → self.new ≡ s) }
+            → (self.new.bag ≡ s.bag) × (self.new.done ≡ s.done) × (self.new.undone ≡ s.undone)) }
         ensures nothing { (result ≡ Err RedoError.NothingToRedo) ↔ (self.old.undone ≡ []) }
         ensures unchanged { OnErr result (self.new ≡ self.old) }
     {
@@ -180,7 +180,7 @@ impl Store {
 
     /// Keeps the collection and lets all changes go: nothing is left to undo or redo. It takes no memory.
     pub fn forget(&mut self)
-        ensures state { self.new ≡ starting_at self.old.bag }
+        ensures state { self.new ≡ after_forget self.old }
         ensures history { history_of self.new ≡ forgotten (history_of self.old) }
     {
         self.done.clear();

@@ -22,3 +22,7 @@ sink_fault_at sink = sink.calls_to_fault
 -- whether the sink's `flush` fails
 abbrev pub flush_fails : KeepingSink → Bool
 flush_fails sink = sink.is_flush_failing
+
+-- how many bytes the sink had taken at its last flush
+abbrev pub flushed_len_of : KeepingSink → ℕ
+flushed_len_of sink = sink.flushed_len

@@ -10,3 +10,8 @@ Gave old n new = (bytes : List ℕ) × Consumes old new bytes × (length bytes �
 abbrev pub ReadsOn : {S : Type 0} → (S → ℕ → S → Type 0) → ℕ → S → S → Type 0
 ReadsOn gives zero old new = old ≡ new
 ReadsOn {S} gives (suc pieces) old new = (mid : S) × ReadsOn gives pieces old mid × (n : ℕ) × (0 < n) × gives mid n new
+
+-- from the first state of a source to the second fewer than `turns` pieces were read, each with a byte at least, and then the one
+-- that was the end
+abbrev pub ReadsToEnd : {S : Type 0} → (S → ℕ → S → Type 0) → ℕ → S → S → Type 0
+ReadsToEnd {S} gives turns old new = (pieces : ℕ) × (pieces < turns) × (mid : S) × ReadsOn gives pieces old mid × gives mid 0 new

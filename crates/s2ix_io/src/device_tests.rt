@@ -84,7 +84,9 @@ fn all_bytes_go_out_over_short_puts(rt: HostRuntime) {
         Ok(())
     );
     assert_eq!(rt; sink.kept(), b"hello world\n".as_slice());
+    assert_eq!(rt; sink.flushed_len(), 0);
     assert_eq!(rt; sink.flush(), Ok(()));
+    assert_eq!(rt; sink.flushed_len(), 12);
     assert_eq!(rt; sink.faults(), 0);
 }
 

@@ -1,7 +1,7 @@
-ghost use Rattle.std.specs.Prelude.{◌≡◌, ◌↔◌, ◌+◌, ◌-◌, ◌^◌, ◌<◌, Some, [], max, IsErr, IsTrue};
+ghost use Rattle.std.specs.Prelude.{◌≡◌, ◌↔◌, ◌+◌, ◌-◌, ◌^◌, ◌<◌, Some, [], max, OnOk, IsErr, IsTrue, vec_len};
 ghost use Rattle.std.specs.Io.KnownBytes.{Keeps};
 ghost use Rattle.s2ix_io.specs.Faults.{write_faults};
-ghost use Rattle.s2ix_io.specs.Devices.{flush_fails, put_len_of, sink_fault_at};
+ghost use Rattle.s2ix_io.specs.Devices.{flush_fails, flushed_len_of, put_len_of, sink_fault_at};
 
 use crate::{Sink, WriteFault};
 use std::alloc::Global;
@@ -10,6 +10,7 @@ use std::alloc::Global;
 #[derive(Drop)]
 pub struct KeepingSink {
     kept: Vec<u8>,
+    flushed_len: usize,
     put_len: usize,
     calls_to_fault: u64,
     is_flush_failing: bool,
@@ -21,6 +22,7 @@ impl KeepingSink {
     /// fails where `is_flush_failing`. Calls count from 1: at 0 none fails.
     pub fn new(alloc: Global, put_len: usize, fault_at: u64, is_flush_failing: bool) -> KeepingSink
         ensures taken { ⟦<KeepingSink as Sink>⟧.taken result ≡ Some [] }
+        ensures flushed { flushed_len_of result ≡ 0 }
         ensures faults { ⟦<KeepingSink as Sink>⟧.fault_count result ≡ 0 }
         ensures put_len { put_len_of result ≡ max put_len 1 }
         ensures fault_at { sink_fault_at result ≡ fault_at }
@@ -28,11 +30,19 @@ impl KeepingSink {
     {
         KeepingSink {
             kept: Vec::new(alloc),
+            flushed_len: 0,
             put_len: put_len.max(1),
             calls_to_fault: fault_at,
             is_flush_failing,
             faults: 0,
         }
+    }
+
+    /// How many bytes the sink had taken at its last `flush` that succeeded, and 0 before the first.
+    pub fn flushed_len(&self) -> usize
+        ensures { result ≡ flushed_len_of self.now }
+    {
+        self.flushed_len
     }
 
     /// What the sink took so far.
@@ -45,6 +55,8 @@ impl KeepingSink {
 
 impl Sink for KeepingSink {
     ghost taken = { λ s. Some s.kept.items };
+
+    ghost flushes = { λ old new. (new.kept ≡ old.kept) × (new.flushed_len ≡ vec_len old.kept) };
 
     ghost fault_count = { λ s. s.faults };
 
@@ -62,6 +74,7 @@ impl Sink for KeepingSink {
     fn flush(&mut self) -> Result<(), WriteFault>
         requires { ⟦<KeepingSink as Sink>⟧.fault_count self.old < 2 ^ 64 - 1 }
         ensures bytes { Keeps (⟦<KeepingSink as Sink>⟧.taken self.old) (⟦<KeepingSink as Sink>⟧.taken self.new) }
+        ensures call { OnOk result (⟦<KeepingSink as Sink>⟧.flushes self.old self.new) }
         ensures faults { ⟦<KeepingSink as Sink>⟧.fault_count self.new ≡ ⟦<KeepingSink as Sink>⟧.fault_count self.old + write_faults result }
         ensures fails { IsErr result ↔ IsTrue (flush_fails self.old) }
     {
@@ -69,6 +82,7 @@ impl Sink for KeepingSink {
             self.faults += 1;
             return Err(WriteFault);
         }
+        self.flushed_len = self.kept.len();
         Ok(())
     }
 

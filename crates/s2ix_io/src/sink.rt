@@ -1,4 +1,4 @@
-ghost use Rattle.std.specs.Prelude.{◌≡◌, ℕ, ◌+◌, ◌-◌, ◌^◌, ◌<◌, ◌≤◌, List, length, take, IfOk, MatchResult};
+ghost use Rattle.std.specs.Prelude.{◌≡◌, ℕ, ◌+◌, ◌-◌, ◌^◌, ◌<◌, ◌≤◌, List, length, take, IfOk, OnOk, MatchResult};
 ghost use Rattle.std.specs.declared.option.Option.{Option};
 ghost use Rattle.std.specs.Io.KnownBytes.{Keeps, Appends};
 ghost use Rattle.s2ix_io.specs.Faults.{write_faults};
@@ -14,6 +14,9 @@ pub struct WriteFault;
 pub trait Sink {
     // The bytes that the sink took so far, where they are known.
     ghost taken: { Self → Option (List ℕ) };
+
+    // A call of `flush` that succeeded may lead from the first state of the sink to the second.
+    ghost flushes: { Self → Self → Type 0 };
 
     // How many calls of `put` and `flush` have failed so far.
     ghost fault_count: { Self → ℕ };
@@ -34,6 +37,7 @@ pub trait Sink {
     fn flush(&mut self) -> Result<(), WriteFault>
         requires { fault_count self.old < 2 ^ 64 - 1 }
         ensures bytes { Keeps (taken self.old) (taken self.new) }
+        ensures call { OnOk result (flushes self.old self.new) }
         ensures faults { fault_count self.new ≡ fault_count self.old + write_faults result };
 
     /// How many calls of `put` and `flush` have failed so far.

@@ -1,4 +1,5 @@
 ghost use Rattle.std.specs.Prelude.{◌≡◌};
+ghost use Rattle.std.specs.Io.KnownBytes.{Keeps};
 ghost use Rattle.s2ix_io.specs.Adapters.{writer_of, writer_faults};
 
 use super::{Sink, WriteFault};
@@ -24,6 +25,8 @@ impl<W: Write> ToWrite<W> {
 
 impl<W: Write> Sink for ToWrite<W> {
     ghost taken = { λ s. W.contents (writer_of s) };
+
+    ghost flushes = { λ old new. Keeps (W.contents (writer_of old)) (W.contents (writer_of new)) };
 
     ghost fault_count = { writer_faults };
 

@@ -1,3 +1,5 @@
 pub mod ScriptLines
 pub mod ScriptNumbers
 mod CellFields
+mod WantedMemory
+pub mod FieldLaws

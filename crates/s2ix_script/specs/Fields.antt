@@ -1,17 +1,30 @@
 -- The fields of a line, and what they write.
-use Rattle.std.specs.Prelude.{ℕ, ◌&&◌, nat_lt, nat_le, if◌then◌else◌, Option, Some, None, List, length}
+use Rattle.std.specs.Prelude.{◌≡◌, ℕ, true, false, All, ◌&&◌, nat_lt, nat_le, if◌then◌else◌, Option, Some, None, List, [], ◌∷◌, ◌++◌, length}
 use Rattle.std.specs.Char.{is_whitespace, is_ascii_digit}
 use Rattle.std.specs.List.{list_all}
 use Rattle.std.specs.Option.{option_and_then}
 use Rattle.std.specs.Str.Parse.{digits_value}
 use Rattle.bstr.specs.Fields.{fields_acc}
-use Rattle.bstr.specs.Utf8.{pieces, spans_from}
+use Rattle.bstr.specs.Utf8.{lossy_chars, pieces, spans_from}
 use Rattle.s2ix_bag.specs.declared.label.Label.{Label}
 use Rattle.s2ix_bag.specs.Label.{label_numbered}
 
 -- the fields of a line: what stands between runs of white space; bytes that are no UTF-8 separate nothing
 unfoldable pub fields_of : List ℕ → List (List ℕ)
 fields_of line = fields_acc is_whitespace line None (spans_from 0 (pieces line))
+
+-- a text whose characters are all white space
+abbrev pub IsBlank : List ℕ → Type 0
+IsBlank text = All (λ c. is_whitespace c ≡ true) (lossy_chars text)
+
+-- a text none of whose characters is
+abbrev pub HasNoWhiteSpace : List ℕ → Type 0
+HasNoWhiteSpace text = All (λ c. is_whitespace c ≡ false) (lossy_chars text)
+
+-- fields stand in a line in their order, each behind the one before it, with nothing but white space around them
+abbrev pub StandInOrder : List (List ℕ) → List ℕ → Type 0
+StandInOrder [] line = IsBlank line
+StandInOrder (field ∷ fields) line = (before : List ℕ) × (behind : List ℕ) × (line ≡ before ++ (field ++ behind)) × IsBlank before × StandInOrder fields behind
 
 -- the number that 1 to 10 decimal digits write; leading zeros are accepted
 unfoldable pub script_number : List ℕ → Option ℕ

@@ -1,6 +1,5 @@
 -- What a line of a script asks for.
-use Rattle.std.specs.Prelude.{◌≡◌, ℕ, ◌==◌, ◌&&◌, nat_lt, if◌then◌else◌, Bool, true, false, codes, Option, Some, None, Result, Ok, Err, List, [], ◌∷◌, length, slice_index}
-use Rattle.std.specs.Option.{is_some}
+use Rattle.std.specs.Prelude.{◌≡◌, ℕ, ◌==◌, nat_lt, if◌then◌else◌, Bool, true, false, codes, Option, Some, None, Result, Ok, Err, List, [], ◌∷◌, length, slice_index}
 use Rattle.std.specs.Str.{bytes_eq}
 use Rattle.s2id_core.specs.declared.cell_id.CellId.{CellId}
 use Rattle.s2id_core.specs.Spelled.{cell_spelled}
@@ -175,38 +174,29 @@ meaning_of line = if nat_lt LONGEST (length line) then Err LineTooLong else mean
 
 -- ---- where memory may be wanted
 
--- whether cells are gathered for the fields TOKEN..: from the first on, where it names a cell
-abbrev pub gathers_target : List (List ℕ) → Bool
-gathers_target [] = false
-gathers_target (token ∷ tokens) = is_some (cell_spelled token)
+-- whether a command is on a union of cells
+abbrev pub is_on_union : Command → Bool
+is_on_union (command.Move (move.Edit (AddUnion union label))) = true
+is_on_union (command.Query (query.Meet target)) = true
+is_on_union (command.Query (query.Labels target)) = true
+is_on_union other = false
 
--- and for the fields LABEL TOKEN.., where the first names a label
-abbrev pub gathers_union : List (List ℕ) → Bool
-gathers_union [] = false
-gathers_union (label ∷ tokens) = is_some (label_spelled label) && gathers_target tokens
+-- whether a line asks for such a command
+abbrev pub asks_on_union : Option Command → Bool
+asks_on_union None = false
+asks_on_union (Some c) = is_on_union c
 
--- whether a command gathers cells
-abbrev pub gathers_for : List ℕ → List (List ℕ) → Bool
-gathers_for word fields =
-    if bytes_eq word (codes "addunion") then gathers_union fields
-    else (if bytes_eq word (codes "meet") then gathers_target fields
-    else (if bytes_eq word (codes "labels") then gathers_target fields else false))
+-- whether there is a meaning, and this holds of it
+abbrev pub is_ok_with : {A : Type 0} → (A → Bool) → Result A LineFault → Bool
+is_ok_with wants (Ok asked) = wants asked
+is_ok_with wants (Err fault) = false
 
--- whether the fields of a line gather cells
-abbrev pub gathers_by_fields : List (List ℕ) → Bool
-gathers_by_fields [] = false
-gathers_by_fields (word ∷ fields) = gathers_for word fields
+-- the error is the fault of the meaning, or memory was wanted for a meaning that may want it
+abbrev pub IsFault : {A : Type 0} → (A → Bool) → LineError → Result A LineFault → Type 0
+IsFault wants (Fault fault) meaning = meaning ≡ Err fault
+IsFault wants OutOfMemory meaning = is_ok_with wants meaning ≡ true
 
--- whether a line gathers cells
-unfoldable pub gathers : List ℕ → Bool
-gathers line = if nat_lt LONGEST (length line) then false else gathers_by_fields (fields_of line)
-
--- the error is the fault of the meaning, or memory was wanted where cells are gathered
-abbrev pub IsFault : {A : Type 0} → LineError → Bool → Result A LineFault → Type 0
-IsFault (Fault fault) gathers meaning = meaning ≡ Err fault
-IsFault OutOfMemory gathers meaning = gathers ≡ true
-
--- the answer is the meaning, or memory was wanted where cells are gathered
-abbrev pub Means : {A : Type 0} → Result A LineError → Bool → Result A LineFault → Type 0
-Means (Ok asked) gathers meaning = meaning ≡ Ok asked
-Means (Err error) gathers meaning = IsFault error gathers meaning
+-- the answer is the meaning, or memory was wanted for a meaning that may want it
+abbrev pub Means : {A : Type 0} → (A → Bool) → Result A LineError → Result A LineFault → Type 0
+Means wants (Ok asked) meaning = meaning ≡ Ok asked
+Means wants (Err error) meaning = IsFault wants error meaning

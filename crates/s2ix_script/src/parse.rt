@@ -1,8 +1,8 @@
 //! What a line of a script asks for.
-ghost use Rattle.std.specs.Prelude.{◌≡◌, Ok, ◌∷◌, MatchResult};
-ghost use Rattle.std.specs.Option.{is_some};
+ghost use Rattle.std.specs.Prelude.{◌≡◌, ◌==◌, slice_index, Ok, None, ◌∷◌, true, MatchResult};
+ghost use Rattle.std.specs.Result.{result_err};
 ghost use Rattle.s2id_core.specs.Spelled.{cell_spelled};
-ghost use Rattle.s2ix_script.specs.Meaning.{IsFault, Means, add_union_asked as add_union_of_fields, bare as bare_of, cell_asked as cell_of, cell_with, cells_named as cells_of, command_asked as command_of, gathers, gathers_by_fields, gathers_for, gathers_target, gathers_union, label_asked as label_of, labels_asked as labels_of, meaning_of, meaning_of_fields as meaning_by_fields, pair_asked as pair_of, plain_asked as plain_of, target_asked as target_of, union_named as union_of};
+ghost use Rattle.s2ix_script.specs.Meaning.{IsFault, Means, add_union_asked as add_union_of_fields, asks_on_union, bare as bare_of, cell_asked as cell_of, cell_with, cells_named as cells_of, command_asked as command_of, is_on_union, label_asked as label_of, labels_asked as labels_of, meaning_of, meaning_of_fields as meaning_by_fields, pair_asked as pair_of, plain_asked as plain_of, target_asked as target_of, union_named as union_of};
 
 use crate::command::{Command, LineError, LineFault, Move, Query};
 use crate::numbers::{copies_spelled, label_spelled};
@@ -18,13 +18,14 @@ pub const LONGEST_LINE: usize = 65536;
 
 /// What a line asks for: nothing where it has no field, or its first field begins with `#`. The line comes
 /// without its line feed. Its fields are what stands between runs of Unicode's white space; bytes that are no
-/// UTF-8 separate nothing. O(n) for n bytes; a list of cells is normalised. Memory is taken for such a list alone, from its first cell on.
+/// UTF-8 separate nothing. O(n) for n bytes; a list of cells is normalised. Memory is taken for such a list alone, and only
+/// where the line asks for something.
 ///
 /// The first of these faults that applies is answered: too long, no command, a number of fields that does not
 /// fit the command, then the first unfit field from the left.
-#[tactic(auto, unfolding(crate::specs::Meaning::meaning_of, crate::specs::Meaning::gathers, crate::specs::Fields::fields_of))]
+#[tactic(auto, unfolding(crate::specs::Meaning::meaning_of, crate::specs::Fields::fields_of))]
 pub fn meaning(alloc: Global, line: &[u8]) -> Result<Option<Command>, LineError>
-    ensures { Means result (gathers line.now) (meaning_of line.now) }
+    ensures { Means asks_on_union result (meaning_of line.now) }
 {
     if line.len() > LONGEST_LINE {
         return Err(LineError::Fault(LineFault::LineTooLong));
@@ -33,18 +34,30 @@ pub fn meaning(alloc: Global, line: &[u8]) -> Result<Option<Command>, LineError>
 }
 
 // What the fields of a line ask for.
+#[tactic(auto, using(crate::proofs::WantedMemory::line_fault))]
 fn meaning_of_fields(alloc: Global, mut fields: Fields<'_>) -> Result<Option<Command>, LineError>
-    ensures { Means result (gathers_by_fields fields.entry) (meaning_by_fields fields.entry) }
+    ensures { Means asks_on_union result (meaning_by_fields fields.entry) }
 {
-    match fields.next() {
-        None | Some([b'#', ..]) => Ok(None),
-        Some(word) => Ok(Some(command_asked(alloc, word, fields)?)),
+    let Some(word) = fields.next() else {
+        return Ok(None);
+    };
+    if is_comment(word) {
+        return Ok(None);
     }
+    Ok(Some(command_asked(alloc, word, fields)?))
+}
+
+// Whether a line with this first field is a comment.
+fn is_comment(word: &[u8]) -> bool
+    ensures { result ≡ (slice_index word.now 0 == 35) }
+{
+    matches!(word, [b'#', ..])
 }
 
 // The command that a word and the fields behind it ask for.
+#[tactic(auto, using(crate::proofs::WantedMemory::wanting))]
 fn command_asked(alloc: Global, word: &[u8], fields: Fields<'_>) -> Result<Command, LineError>
-    ensures { Means result (gathers_for word.now fields.entry) (command_of word.now fields.entry) }
+    ensures { Means is_on_union result (command_of word.now fields.entry) }
 {
     if word == b"addunion".as_slice() {
         add_union_asked(alloc, fields)
@@ -153,8 +166,9 @@ fn labels_asked(mut fields: Fields<'_>) -> Result<(Label, Label), LineFault>
 }
 
 // The command that adds the cells that the fields LABEL TOKEN.. name, of which one token at least stands there.
+#[tactic(auto, using(crate::proofs::WantedMemory::wanting))]
 fn add_union_asked(alloc: Global, mut fields: Fields<'_>) -> Result<Command, LineError>
-    ensures { Means result (gathers_union fields.entry) (add_union_of_fields fields.entry) }
+    ensures { Means is_on_union result (add_union_of_fields fields.entry) }
 {
     let Some(label) = fields.next() else {
         return Err(LineError::Fault(LineFault::BadArguments));
@@ -169,7 +183,7 @@ fn add_union_asked(alloc: Global, mut fields: Fields<'_>) -> Result<Command, Lin
 
 // The normal union of the cells that the fields TOKEN.. name, of which one at least stands there.
 fn target_asked(alloc: Global, mut fields: Fields<'_>) -> Result<CellUnion, LineError>
-    ensures { Means result (gathers_target fields.entry) (target_of fields.entry) }
+    ensures { Means (λ _. true) result (target_of fields.entry) }
 {
     let Some(first) = fields.next() else {
         return Err(LineError::Fault(LineFault::BadArguments));
@@ -177,21 +191,44 @@ fn target_asked(alloc: Global, mut fields: Fields<'_>) -> Result<CellUnion, Line
     union_named(alloc, first, fields)
 }
 
-// The normal union of the cells that the fields TOKEN.. name, the first of them and the rest.
+// The normal union of the cells that the fields TOKEN.. name, the first of them and the rest. Each is read before
+// room is made for any.
+#[tactic(auto, using(crate::proofs::WantedMemory::wanting))]
 fn union_named(alloc: Global, first: &[u8], rest: Fields<'_>) -> Result<CellUnion, LineError>
-    ensures { Means result (is_some (cell_spelled first.now)) (union_of (first.now ∷ rest.entry)) }
+    ensures { Means (λ _. true) result (union_of (first.now ∷ rest.entry)) }
 {
-    let cells = cells_named(alloc, first, rest)?;
+    let count = cells_counted(first, rest.clone().map_err(|_| OutOfMemory)?)?;
+    let cells = cells_gathered(alloc, first, rest, count)?;
     Ok(CellUnion::normalise(alloc, &cells)?)
 }
 
-// The cells that the fields TOKEN.. name, the first of them and the rest.
-fn cells_named(alloc: Global, first: &[u8], rest: Fields<'_>) -> Result<Vec<CellId>, LineError>
+// How many fields TOKEN.. there are, the first of them and the rest, where each names a cell.
+fn cells_counted(first: &[u8], rest: Fields<'_>) -> Result<usize, LineFault>
+    ensures { result_err result ≡ result_err (cells_of (first.now ∷ rest.entry)) }
+{
+    cell_named(first)?;
+    let mut count: usize = 1;
+    'tokens: for token in rest {
+        cell_named(token)?;
+        count = count.saturating_add(1);
+    }
+    Ok(count)
+}
+
+// The cells that the fields TOKEN.. name, the first of them and the rest. Room is made for so many at once.
+#[tactic(auto, using(crate::proofs::WantedMemory::wanting))]
+fn cells_gathered(
+    alloc: Global,
+    first: &[u8],
+    rest: Fields<'_>,
+    count: usize,
+) -> Result<Vec<CellId>, LineError>
+    requires { result_err (cells_of (first.now ∷ rest)) ≡ None }
     ensures { MatchResult result
         (λ cells. cells_of (first.now ∷ rest.entry) ≡ Ok cells.items)
-        (λ error. IsFault error (is_some (cell_spelled first.now)) (cells_of (first.now ∷ rest.entry))) }
+        (λ error. IsFault (λ _. true) error (cells_of (first.now ∷ rest.entry))) }
 {
-    let mut cells = Vec::new(alloc);
+    let mut cells = Vec::with_capacity(alloc, count).map_err(|_| OutOfMemory)?;
     cells.push(cell_named(first)?).map_err(|_| OutOfMemory)?;
     'tokens: for token in rest {
         cells.push(cell_named(token)?).map_err(|_| OutOfMemory)?;

@@ -1,5 +1,5 @@
 -- The steps by which a table is built of all that is held.
-use Rattle.std.proofs.Common.{◌≡◌, ℕ, zero, suc, ◌%◌, ◌<◌, ◌≤◌, ◌⊎◌, inl, inr, List, [], ◌∷◌, ◌++◌, length, get_or, drop, refl, sym, ◌∙◌, ap, arith, subst, leb, true, false, Contains}
+use Rattle.std.proofs.Common.{◌≡◌, ℕ, zero, suc, ◌+◌, ◌-◌, ◌%◌, ◌≢◌, ◌<◌, ◌≤◌, ◌⊎◌, inl, inr, List, [], ◌∷◌, ◌++◌, length, get_or, drop, refl, sym, ◌∙◌, ap, arith, subst, leb, true, false, Contains}
 use Rattle.std.proofs.lemmas.Bool.{cases_lt, leb-true, leb-false}
 use Rattle.std.specs.List.Sorted.{IsNonDecreasingBy}
 use Rattle.std.proofs.lemmas.List.{map-append, length-map, length-drop, get_or-map, get_or_past}
@@ -74,30 +74,44 @@ pub record IsBuilt (hs : Collection) (rows : List CopiedRow) (at : ℕ) : Type 0
   pub begins : 1 ≤ at
   pub within : at ≤ leaf_end
   pub odd : at % 2 ≡ 1
-  pub is_bound : 1 < at → at < leaf_end → IsBound hs at
+  pub changes : (q : ℕ) → 1 ≤ q → q + 2 ≡ at → at < leaf_end → contents_at q hs ≢ contents_at at hs
 
 pub built_none : (hs : Collection) → IsBuilt hs [] 1
-built_none hs = record { table = refl; begins = omega arith; within = omega arith; odd = refl; is_bound = λ a b. absurd (omega arith) }
+built_none hs = record { table = refl; begins = omega arith; within = omega arith; odd = refl; changes = λ q a b. absurd (omega arith) }
 
-pub built_more : (hs : Collection) (rows : List CopiedRow) (at limit : ℕ) (row : CopiedRow) → IsBuilt hs rows at → at < leaf_end → IsNextBound hs at limit → row.start ≡ at → row.limit ≡ limit → row.contents.items ≡ contents_at at hs → IsBuilt hs (rows ++ row ∷ []) limit
-built_more hs rows at limit row built lt next start ends contents =
+-- a row from a leaf on, as long as the contents stay
+pub record IsWholeRow (hs : Collection) (at : ℕ) (row : CopiedRow) : Type 0 where
+  pub start : row.start ≡ at
+  pub rises : at < row.limit
+  pub within : row.limit ≤ leaf_end
+  pub odd : row.limit % 2 ≡ 1
+  pub shared : (q : ℕ) → at ≤ q → q < row.limit → contents_at q hs ≡ row.contents.items
+  pub maximal : row.limit < leaf_end → contents_at row.limit hs ≢ row.contents.items
+
+pub built_more : (hs : Collection) (rows : List CopiedRow) (at : ℕ) (row : CopiedRow) → IsBuilt hs rows at → at < leaf_end → IsWholeRow hs at row → IsBuilt hs (rows ++ row ∷ []) row.limit
+built_more hs rows at row built lt whole =
     let a = built.begins in
     let o = built.odd in
-    let b = next.above in
-    let run : IsRunFrom hs at (run_of row) = record {
-      start = start;
-      odd = o;
-      rises = omega arith;
-      shared = λ q odd le l. stays_between hs at limit q next le (omega arith) ∙ sym contents;
-    } in
-    let table = table_push hs 1 (runs_of rows) at (run_of row) built.table run (λ q le two same. changes_at hs q at (omega arith) two (built.is_bound (omega arith) lt) same) in
+    let b = whole.rises in
+    let p = whole.odd in
+    let run : IsRunFrom hs at (run_of row) = record { start = whole.start; odd = o; rises = b; shared = λ q odd le l. whole.shared q le l } in
+    let table = table_push hs 1 (runs_of rows) at (run_of row) built.table run (λ q le two. built.changes q le two lt) in
     record {
-      table = subst (λ n. IsTable hs 1 (runs_of (rows ++ row ∷ [])) n) ends (subst (λ rs. IsTable hs 1 rs row.limit) (sym (map-append run_of rows (row ∷ []))) table);
+      table = subst (λ rs. IsTable hs 1 rs row.limit) (sym (map-append run_of rows (row ∷ []))) table;
       begins = omega arith;
-      within = next.within;
-      odd = next.odd;
-      is_bound = λ above below. next.is_bound below;
+      within = whole.within;
+      odd = p;
+      changes = λ q le two below same. whole.maximal below (sym same ∙ whole.shared q (omega arith) (omega arith));
     }
+
+-- up to the next bound contents stay, and there they change
+pub bound_changes : (hs : Collection) (at limit : ℕ) → at % 2 ≡ 1 → IsNextBound hs at limit → limit < leaf_end → contents_at limit hs ≢ contents_at at hs
+bound_changes hs at limit odd next below same =
+    let a = next.above in
+    let o = next.odd in
+    let last : ℕ = limit - 2 in
+    let two : last + 2 ≡ limit = omega arith in
+    changes_at hs last limit (omega arith) two (next.is_bound below) (stays_between hs at limit last next (omega arith) (omega arith) ∙ sym same)
 
 pub built_end : (hs : Collection) (rows : List CopiedRow) (at : ℕ) → IsBuilt hs rows at → leaf_end ≤ at → IsRangeTable hs (runs_of rows)
 built_end hs rows at built le =

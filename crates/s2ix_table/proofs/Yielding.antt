@@ -1,8 +1,12 @@
 -- Iterators whose state shows what is left.
-use Rattle.std.proofs.Common.{◌≡◌, ◌<◌, List, length, get_or, Option, Some, None, subst}
+use Rattle.std.proofs.Common.{◌≡◌, ◌<◌, ℕ, List, length, get_or, Option, Some, None, ap, subst}
 use Rattle.std.specs.Iterator.{AlwaysYields, Yields, YieldsFirst}
 use Rattle.std.proofs.lemmas.Iterator.{YieldsList}
-use Rattle.std.proofs.lemmas.Iterator.Consumers.{YieldsList-from_first, YieldsList-turn, YieldsList-end, YieldsList-at}
+use Rattle.std.proofs.lemmas.Iterator.Consumers.{YieldsList-from_first, YieldsList-from_shown, YieldsList-turn, YieldsList-end, YieldsList-at}
+use Rattle.s2ix_table.specs.declared.iter.RangeIter.{RangeIter}
+use Rattle.s2ix_table.specs.declared.row.RangeRow.{RangeRow}
+use Rattle.s2ix_table.specs.Iterators.{StepsOn, ranges_left}
+use Rattle.s2ix_table.specs.Table.{Run}
 
 pub yields_rest : {S A : Type 0} (rest : S → List A) (s : S) (xs : List A) → rest s ≡ xs → AlwaysYields (YieldsFirst rest) (λ x. x) s xs
 yields_rest {S} {A} rest s xs e = (YieldsList-from_first (λ (x : A). x) rest {s = s} xs e).runs
@@ -21,3 +25,9 @@ pub yields_end : {S A : Type 0} (rest : S → List A) (given s t u : S) (all don
 yields_end {S} {A} rest given s t u all done r gives same took is step =
     let road : YieldsList (YieldsFirst rest) (λ (y : A). y) given all = record { runs = gives } in
     (YieldsList-end (YieldsList-at same road) done t took r u is step).1
+
+-- the iterator over ranges gives what it has left
+pub yields_ranges : {T : Type 0} (runs : T → List Run) (it : RangeIter T) (rows : List (ℕ × RangeRow)) → ranges_left runs it ≡ rows → AlwaysYields (StepsOn runs) (λ row. row) it rows
+yields_ranges {T} runs it rows e =
+    let all = YieldsList-from_shown (StepsOn runs) (λ (row : ℕ × RangeRow). row) (ranges_left runs) (λ s t step. ap length step.yields.0) (λ s row t step. step.yields) it in
+    subst (AlwaysYields (StepsOn runs) (λ (row : ℕ × RangeRow). row) it) e all.runs

@@ -1,5 +1,6 @@
 -- What the iterators have still to give.
-use Rattle.std.specs.Prelude.{◌≡◌, ℕ, ◌+◌, List, [], ◌∷◌, drop}
+use Rattle.std.specs.Prelude.{◌≡◌, ℕ, ◌+◌, Option, List, [], ◌∷◌, drop}
+use Rattle.std.specs.Iterator.{YieldsFirst}
 use Rattle.s2ix_table.specs.declared.iter.RangeIter.{RangeIter}
 use Rattle.s2ix_table.specs.declared.row.RangeRow.{RangeRow}
 use Rattle.s2ix_table.specs.Table.{Run}
@@ -21,3 +22,8 @@ ranges_left runs it = numbered_rows it.next (drop it.next (runs it.table.now))
 pub record IsAtRange {T : Type 0} (runs : T → List Run) (table : T) (it : RangeIter T) (k : ℕ) : Type 0 where
   pub same : it.table.now ≡ table
   pub left : ranges_left runs it ≡ numbered_rows k (drop k (runs table))
+
+-- a call gave the first of the bounds that were left and left the others, or `None` where none were left; the table stays the same
+pub record StepsOn {T : Type 0} (runs : T → List Run) (old : RangeIter T) (answer : Option (ℕ × RangeRow)) (new : RangeIter T) : Type 0 where
+  pub yields : YieldsFirst (ranges_left runs) old answer new
+  pub same : table_of new ≡ table_of old

@@ -1,6 +1,7 @@
-ghost use Rattle.std.specs.Prelude.{◌≡◌, IfOk, drop};
+ghost use Rattle.std.specs.Prelude.{◌≡◌, ◌≢◌, ℕ, ◌%◌, ◌<◌, ◌≤◌, IfOk, drop, length};
 ghost use Rattle.s2ix_bag.specs.Collection.{IsCollection};
-ghost use Rattle.s2ix_table.specs.Table.{run_at, IsRangeTable};
+ghost use Rattle.s2ix_table.specs.Contents.{contents_at};
+ghost use Rattle.s2ix_table.specs.Table.{run_at, leaf_end, IsRangeTable};
 ghost use Rattle.s2ix_table.specs.Copied.{runs_of, IsCollection-prop};
 
 use crate::copied_row::CopiedRow;
@@ -10,15 +11,20 @@ use crate::table::RangeTable;
 use s2id_core::{CellId, LEAF_END, OutOfMemory};
 use s2ix_bag::{Bag, Held};
 use std::alloc::Global;
+use std::snapshot::Snapshot;
 
 /// A range table that keeps a list of its own for each range. Building takes O(r * n) for r ranges and n pairs, and what it takes to
 /// put the pairs over one leaf in order: nothing for the labels of one cell, at worst m * m moves for m pairs of nested cells.
-#[derive(Debug, Drop)]
+#[derive(Drop)]
+#[derive_where(Debug)]
 pub struct CopiedTable {
-    held: Vec<Held>,
     rows: Vec<CopiedRow>,
-    ghost rises: { IsCollection held.items } by { IsCollection-prop 0 held.items },
-    ghost table: { IsRangeTable held.items (runs_of rows.items) },
+    // what the table was built of: clauses alone read it, and it has no bytes
+    #[derive_where(skip)]
+    held: Snapshot<Vec<Held>>,
+    ghost rises: { IsCollection held.value.items } by { IsCollection-prop 0 held.value.items },
+    ghost table: { IsRangeTable held.value.items (runs_of rows.items) },
+    ghost few: { length held.value.items ≤ 1000000 },
 }
 
 /// A pair of a range's list, by the range and its place in that list.
@@ -31,7 +37,7 @@ pub struct CopiedPlace {
 impl RangeTable for CopiedTable {
     type Place = CopiedPlace;
 
-    ghost pairs = { λ t. t.held.items };
+    ghost pairs = { λ t. t.held.value.items };
 
     ghost runs = { λ t. runs_of t.rows.items };
 
@@ -41,10 +47,13 @@ impl RangeTable for CopiedTable {
 
     ghost is_table = { λ t. t.table };
 
+    ghost few = { λ t. t.few };
+
     fn build(alloc: Global, bag: &Bag) -> Result<Self, OutOfMemory> {
         let held = held_pairs(alloc, bag)?;
         let rows = rows_over(alloc, held.as_slice())?;
-        Ok(CopiedTable { held, rows })
+        let held = Snapshot::of(&held);
+        Ok(CopiedTable { rows, held })
     }
 
     fn range_count(&self) -> usize {
@@ -93,6 +102,7 @@ impl RangeTable for CopiedTable {
 fn held_pairs(alloc: Global, bag: &Bag) -> Result<Vec<Held>, OutOfMemory>
     ensures list { IfOk result (λ held. held.items ≡ bag.now.held) }
     ensures rises { IfOk result (λ held. IsCollection held.items) }
+    ensures few { IfOk result (λ held. length held.items ≤ 1000000) }
 {
     let len = bag.len();
     let mut held = Vec::with_capacity(alloc, len)?;
@@ -102,7 +112,7 @@ fn held_pairs(alloc: Global, bag: &Bag) -> Result<Vec<Held>, OutOfMemory>
     Ok(held)
 }
 
-// The runs of leaves over which the same pairs lie, each from where one ended up to the next bound of a cell.
+// The runs of leaves over which the same pairs lie, each from where one ended up to where the next begins.
 fn rows_over(alloc: Global, held: &[Held]) -> Result<Vec<CopiedRow>, OutOfMemory>
     requires { IsCollection held.now }
     ensures { IfOk result (λ rows. IsRangeTable held.now (runs_of rows.items)) }
@@ -110,14 +120,28 @@ fn rows_over(alloc: Global, held: &[Held]) -> Result<Vec<CopiedRow>, OutOfMemory
     let mut rows = Vec::new(alloc);
     let mut at = 1;
     while at < LEAF_END {
-        let limit = next_bound(held, at);
-        let contents = contents_over(alloc, held, at)?;
-        rows.push(CopiedRow {
-            start: at,
-            limit,
-            contents,
-        })?;
-        at = limit;
+        let row = row_from(alloc, held, at)?;
+        at = row.limit;
+        rows.push(row)?;
     }
     Ok(rows)
+}
+
+// The run from a leaf on, up to the next bound of a cell. O(n), and the moves of the insertions.
+fn row_from(alloc: Global, held: &[Held], at: u64) -> Result<CopiedRow, OutOfMemory>
+    requires rises { IsCollection held.now }
+    requires odd { at % 2 ≡ 1 }
+    requires within { at < leaf_end }
+    ensures start { IfOk result (λ row. row.start ≡ at) }
+    ensures limit { IfOk result (λ row. (at < row.limit) × (row.limit ≤ leaf_end) × (row.limit % 2 ≡ 1)) }
+    ensures shared { IfOk result (λ row. (q : ℕ) → at ≤ q → q < row.limit → contents_at q held.now ≡ row.contents.items) }
+    ensures maximal { IfOk result (λ row. row.limit < leaf_end → contents_at row.limit held.now ≢ row.contents.items) }
+{
+    let limit = next_bound(held, at);
+    let contents = contents_over(alloc, held, at)?;
+    Ok(CopiedRow {
+        start: at,
+        limit,
+        contents,
+    })
 }

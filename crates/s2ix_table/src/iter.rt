@@ -40,11 +40,11 @@ impl<'a, T: RangeTable> RangeIter<'a, T> {
 }
 
 impl<T: RangeTable> Iterator for RangeIter<'_, T> {
-    ghost use Rattle.s2ix_table.specs.Iterators.{ranges_left};
+    ghost use Rattle.s2ix_table.specs.Iterators.{StepsOn, ranges_left};
 
     type Item = (usize, RangeRow);
 
-    ghost next_gives = { YieldsFirst (ranges_left T.runs) };
+    ghost next_gives = { StepsOn T.runs };
 
     ghost remaining = { item_count (ranges_left T.runs) };
 

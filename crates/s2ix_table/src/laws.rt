@@ -1,15 +1,18 @@
 //! What the definitions that the contracts cite say, in other words. Each function is a law: it does nothing, and
 //! its contract is the fact.
-ghost use Rattle.std.specs.Prelude.{◌≡◌, List};
+ghost use Rattle.std.specs.Prelude.{◌≡◌, ℕ, ◌≤◌, Bool, true, List, length};
 ghost use Rattle.s2id_core.specs.declared.cell_id.CellId.{CellId};
 ghost use Rattle.s2id_union.specs.Region.{HaveSameRegion};
 ghost use Rattle.s2ix_bag.specs.Collection.{Collection};
 ghost use Rattle.s2ix_bag.specs.declared.label.Label.{Label};
+ghost use Rattle.s2ix_table.specs.Calls.{CallsOn};
 ghost use Rattle.s2ix_table.specs.LabelList.{label_list};
 ghost use Rattle.s2ix_table.specs.Meeting.{IsLabelList, meeting_of};
 ghost use Rattle.s2ix_table.specs.RangeList.{range_table};
 ghost use Rattle.s2ix_table.specs.Table.{Run, IsRangeTable};
 ghost use Rattle.s2ix_table.specs.Laws.{ContentsAreOfTheLeaf, OneListOfContents, OneRangeTable, MeetingListIsTheTargets, OneMeetingList, OneLabelList};
+
+use s2ix_bag::Held;
 
 /// The contents that are read from a leaf's number are the held pairs whose cells have the leaf, in order.
 pub fn contents_are_of_the_leaf()
@@ -56,4 +59,10 @@ pub fn label_list_is_the_meetings()
 /// Targets with one region meet the same pairs in the same order.
 pub fn same_region_meets_the_same()
     ensures { (xs ys : List CellId) (held : Collection) → HaveSameRegion xs ys → meeting_of xs held ≡ meeting_of ys held }
+{}
+
+/// A closure is called on at most as many pairs as a list has, and on all of them where every answer was true.
+pub fn calls_are_of_the_list<F: FnMut(Held) -> bool>()
+    ensures most { (f last : F) (pairs : Collection) (calls : ℕ) (whole : Bool) → CallsOn F.step f pairs calls whole last → calls ≤ length pairs }
+    ensures whole { (f last : F) (pairs : Collection) (calls : ℕ) → CallsOn F.step f pairs calls true last → calls ≡ length pairs }
 {}

@@ -1,8 +1,12 @@
 //! What the tests of this crate share.
-ghost use Rattle.std.specs.Prelude.{◌<◌};
+ghost use Rattle.std.specs.Prelude.{◌≡◌, ◌<◌, ℕ, Some};
+ghost use Rattle.s2id_core.specs.CellId.{level_of, raw_of};
 ghost use Rattle.s2ix_bag.specs.declared.pair.Held.{Held};
+ghost use Rattle.s2ix_table.specs.Table.{IsFound, run_at};
 
 use crate::copied::CopiedTable;
+use crate::iter::ranges;
+use crate::row::RangeRow;
 use crate::table::RangeTable;
 use s2id_core::CellId;
 use s2id_union::CellUnion;
@@ -63,4 +67,17 @@ pub fn visited<T: RangeTable, F: FnMut(Held) -> bool>(
     requires { (state : F) (held : Held) → F.pre state held }
 {
     table.visit(target, f)
+}
+
+/// The range that has a leaf, given by an iterator that gave another one before.
+pub fn sought<T: RangeTable>(table: &T, leaf: CellId) -> Option<(usize, RangeRow)>
+    requires { level_of leaf ≡ 30 }
+    ensures { (k : ℕ)
+        × IsFound (T.runs table.now) k (raw_of leaf)
+        × (result ≡ Some (k, record { start = (run_at (T.runs table.now) k).start; limit = (run_at (T.runs table.now) k).limit })) }
+{
+    let mut rows = ranges(table);
+    rows.next();
+    rows.seek(leaf);
+    rows.next()
 }

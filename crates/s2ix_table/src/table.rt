@@ -72,6 +72,9 @@ pub trait RangeTable: Sized {
     // the runs are the range table of the pairs
     ghost is_table: { (table : Self) → IsRangeTable (pairs table) (runs table) };
 
+    // the pairs are at most as many as the widest limits let a bag hold
+    ghost few: { (table : Self) → length (pairs table) ≤ 1000000 };
+
     /// Calls `f` on each pair of the target's meeting list, in order, up to and with the first call that answers false;
     /// whether every call answered true (S2's `VisitIntersectingCells()`). Takes no memory; `f` need only be callable on
     /// the pairs of the list. O(k + r + t log n) for k pairs over the r ranges that the target meets, t cells of it and n ranges.

@@ -1,7 +1,7 @@
 //! Worked tables, and what they answer.
 use crate::iter::{chain_at, contents, ranges};
 use crate::row::RangeRow;
-use crate::samples::{cell_of, held_of, table_of, union_of, visited};
+use crate::samples::{cell_of, held_of, sought, table_of, union_of, visited};
 use crate::table::RangeTable;
 use s2id_core::CellId;
 use std::test::Fail;
@@ -52,6 +52,31 @@ fn nested_cells_make_three_ranges(rt: HostRuntime) -> Result<(), Fail> {
     from_leaf.seek(leaf);
     let (k, row) = from_leaf.next().expect(&rt, "a range");
     assert_eq!(rt; (k, row.start), (1, 0x0800000000000001));
+    Ok(())
+}
+
+#[test]
+fn seek_follows_next(rt: HostRuntime) -> Result<(), Fail> {
+    let outer = held_of(&rt, b"1", 7, 1);
+    let inner = held_of(&rt, b"04", 9, 1);
+    let table = table_of(&rt, rt.alloc(), [outer, inner].as_slice())?;
+    let leaf = CellId::from_raw(0xbfffffffffffffff).expect(&rt, "the last leaf");
+    assert_eq!(rt; leaf.level(), 30);
+    let (k, row) = sought(&table, leaf).expect(&rt, "the last range");
+    assert_eq!(rt;
+        (k, row.start, row.limit),
+        (2, 0x2000000000000001, 0xc000000000000001)
+    );
+    let mut rows = ranges(&table);
+    for k in 0..3_usize {
+        let (place, _) = rows.next().expect(&rt, "a range");
+        assert_eq!(rt; place, k);
+    }
+    assert!(rt; rows.next().is_none());
+    rows.seek(leaf);
+    let (k, row) = rows.next().expect(&rt, "the last range again");
+    assert_eq!(rt; (k, row.start), (2, 0x2000000000000001));
+    assert!(rt; rows.next().is_none());
     Ok(())
 }
 

@@ -74,12 +74,24 @@ fn a_failing_put_ends_a_run(rt: HostRuntime) -> Result<(), Fail> {
 }
 
 #[test]
+fn a_run_flushes_behind_its_last_answer(rt: HostRuntime) -> Result<(), Fail> {
+    let mut source = SliceSource::new(b"dump\n", ALL, 0);
+    let mut sink = KeepingSink::new(rt.alloc(), ALL, 0, false);
+    let outcome = run_over_empty(rt.alloc(), &mut source, &mut sink, 2)?;
+    assert!(rt; outcome.is_ok());
+    assert_eq!(rt; sink.kept(), DUMP);
+    assert_eq!(rt; sink.flushed_len(), DUMP.len());
+    Ok(())
+}
+
+#[test]
 fn a_failing_flush_is_a_fault_of_the_run(rt: HostRuntime) -> Result<(), Fail> {
     let mut source = SliceSource::new(b"dump\n", ALL, 0);
     let mut sink = KeepingSink::new(rt.alloc(), ALL, 0, true);
     let outcome = run_over_empty(rt.alloc(), &mut source, &mut sink, 100)?;
     assert_eq!(rt; outcome, Err(RunFault::Write));
     assert_eq!(rt; sink.kept(), DUMP);
+    assert_eq!(rt; sink.flushed_len(), 0);
     Ok(())
 }
 

@@ -58,6 +58,22 @@ fn the_first_fault_is_answered(rt: HostRuntime) {
 }
 
 #[test]
+fn the_first_unfit_field_of_a_list_is_answered(rt: HostRuntime) {
+    for (line, fault) in [
+        (b"meet 04 X".as_slice(), LineFault::BadToken),
+        (b"meet X 04".as_slice(), LineFault::BadToken),
+        (b"labels X".as_slice(), LineFault::BadToken),
+        (b"labels 04 04 04 x".as_slice(), LineFault::BadToken),
+        (b"addunion 5 04 X".as_slice(), LineFault::BadToken),
+        (b"addunion 5 X 04".as_slice(), LineFault::BadToken),
+        (b"addunion x 04".as_slice(), LineFault::BadLabel),
+        (b"addunion x y".as_slice(), LineFault::BadLabel),
+    ] {
+        assert!(rt; fault_of(rt.alloc(), line) == Some(fault));
+    }
+}
+
+#[test]
 fn white_space_is_that_of_unicode(rt: HostRuntime) {
     for line in [
         b"undo\r".as_slice(),

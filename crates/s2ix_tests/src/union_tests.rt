@@ -1,5 +1,5 @@
 // Unions of cells, with answers worked out by hand.
-use s2id_core::{CellId, OutOfMemory};
+use s2id_core::{CellId, LEAF_END, OutOfMemory};
 use s2id_union::{CellUnion, RangeError};
 use std::alloc::Global;
 use std::process::Abort;
@@ -23,6 +23,8 @@ fn runs_are_the_fewest_cells(rt: HostRuntime) -> Result<(), Fail> {
     );
     let none = CellUnion::from_leaves(rt.alloc(), 1, 1)?;
     assert_eq!(rt; none.cells().len(), 0);
+    let most = CellUnion::from_leaves(rt.alloc(), 3, LEAF_END - 2)?;
+    assert_eq!(rt; most.cells().len(), 184);
     Ok(())
 }
 

@@ -65,26 +65,34 @@ hex_graphic c h = ⊎_elim (λ digit. omega (arith, digit)) (λ letter. omega (a
 pub token_graphic : (n : ℕ) → All IsGraphic (canonical_token n)
 token_graphic n = λ k d within. hex_graphic _ (lower-canonical_token n k d within)
 
+-- ---- lines of pairs
+
+-- a text that begins with a pair's token and label tells the pair, and what stands behind it
+pub cut_pair : (p q : Pair) (t u r s : List ℕ) → (canonical_token (raw_of p.cell) ++ 32 ∷ (decimal (value_of p.label) ++ 32 ∷ t)) ++ r ≡ (canonical_token (raw_of q.cell) ++ 32 ∷ (decimal (value_of q.label) ++ 32 ∷ u)) ++ s
+    → (p ≡ q) × (t ++ r ≡ u ++ s)
+cut_pair p q t u r s same =
+    let pl : value_of p.label ≤ 2147483647 = p.label.in_range in
+    let ql : value_of q.label ≤ 2147483647 = q.label.in_range in
+    let token = cut_field 32 (canonical_token (raw_of p.cell)) (canonical_token (raw_of q.cell)) _ _ r s (omega arith) (token_graphic _) (token_graphic _) same in
+    let label = cut_field 32 (decimal (value_of p.label)) (decimal (value_of q.label)) t u r s (omega arith) (decimal_graphic _ (omega arith)) (decimal_graphic _ (omega arith)) token.1 in
+    let cells = one_token (raw_of p.cell) (raw_of q.cell) p.cell.valid q.cell.valid token.0 in
+    let labels = decimal_injective (value_of p.label) (value_of q.label) (omega arith) (omega arith) label.0 in
+    (same_pair p q (ap₂ (λ (c v : ℕ). c * 2147483648 + v) cells labels), label.1)
+
 -- ---- lines of entries
 
-same_entry : (e f : Entry) → raw_of e.pair.cell ≡ raw_of f.pair.cell → value_of e.pair.label ≡ value_of f.pair.label → e.before ≡ f.before → e.after ≡ f.after → e ≡ f
-same_entry e f cells labels befores afters =
-    let pairs : e.pair ≡ f.pair = same_pair e.pair f.pair (ap₂ (λ (c v : ℕ). c * 2147483648 + v) cells labels) in
+same_entry : (e f : Entry) → e.pair ≡ f.pair → e.before ≡ f.before → e.after ≡ f.after → e ≡ f
+same_entry e f pairs befores afters =
     ap (λ (p : Pair). let made : Entry = record { pair = p; before = e.before; after = e.after } in made) pairs
     ∙ ap₂ (λ (b a : ℕ). let made : Entry = record { pair = f.pair; before = b; after = a } in made) befores afters
 
 one_line : (e f : Entry) (r s : List ℕ) → e.before ≤ 65535 → e.after ≤ 65535 → f.before ≤ 65535 → f.after ≤ 65535 → entry_line e ++ r ≡ entry_line f ++ s → (e ≡ f) × (r ≡ s)
 unfolding entry_line
 one_line e f r s eb ea fb fa same =
-    let el : value_of e.pair.label ≤ 2147483647 = e.pair.label.in_range in
-    let fl : value_of f.pair.label ≤ 2147483647 = f.pair.label.in_range in
-    let token = cut_field 32 (canonical_token (raw_of e.pair.cell)) (canonical_token (raw_of f.pair.cell)) _ _ r s (omega arith) (token_graphic _) (token_graphic _) same in
-    let label = cut_field 32 (decimal (value_of e.pair.label)) (decimal (value_of f.pair.label)) _ _ r s (omega arith) (decimal_graphic _ (omega arith)) (decimal_graphic _ (omega arith)) token.1 in
-    let before = cut_field 32 (decimal e.before) (decimal f.before) _ _ r s (omega arith) (decimal_graphic _ (omega arith)) (decimal_graphic _ (omega arith)) label.1 in
+    let pair = cut_pair e.pair f.pair _ _ r s same in
+    let before = cut_field 32 (decimal e.before) (decimal f.before) _ _ r s (omega arith) (decimal_graphic _ (omega arith)) (decimal_graphic _ (omega arith)) pair.1 in
     let after = cut_field 10 (decimal e.after) (decimal f.after) [] [] r s (omega arith) (decimal_graphic _ (omega arith)) (decimal_graphic _ (omega arith)) before.1 in (
-      same_entry e f
-          (one_token (raw_of e.pair.cell) (raw_of f.pair.cell) e.pair.cell.valid f.pair.cell.valid token.0)
-          (decimal_injective (value_of e.pair.label) (value_of f.pair.label) (omega arith) (omega arith) label.0)
+      same_entry e f pair.0
           (decimal_injective e.before f.before (omega arith) (omega arith) before.0)
           (decimal_injective e.after f.after (omega arith) (omega arith) after.0),
       after.1,

@@ -1,5 +1,5 @@
 -- The dump of a collection.
-use Rattle.std.specs.Prelude.{ℕ, codes, decimal, List, [], ◌∷◌, ◌++◌, length, flat_map}
+use Rattle.std.specs.Prelude.{ℕ, ◌^◌, ◌<◌, codes, decimal, List, [], ◌∷◌, ◌++◌, length, flat_map}
 use Rattle.std.specs.List.{concat}
 use Rattle.s2id_core.specs.CellId.{raw_of}
 use Rattle.s2id_core.specs.Token.{canonical_token}
@@ -18,3 +18,7 @@ end_line hs = concat (codes "end " ∷ decimal (length hs) ∷ codes " " ∷ dec
 -- the one dump of a collection: its header, a line for each held pair, and the end line
 unfoldable pub dump_text : Collection → List ℕ
 dump_text hs = codes "s2ix 1\n" ++ (flat_map pair_line hs ++ end_line hs)
+
+-- a held pair with a count that a `u32` holds, as each pair that a bag holds has
+abbrev pub HasSmallCount : Held → Type 0
+HasSmallCount h = h.count < 2 ^ 32

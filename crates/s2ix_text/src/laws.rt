@@ -1,6 +1,12 @@
 //! What the definitions of texts that the contracts cite say, in other words. Each function is a law: it does nothing,
 //! and its contract is the fact.
-ghost use Rattle.s2ix_text.specs.Laws.{JournalsTellListsApart};
+ghost use Rattle.s2ix_text.specs.Laws.{DumpsTellBagsApart, DumpsTellCollectionsApart, JournalsTellListsApart};
+
+/// Two collections with one dump are one; so two bags with one dump hold the same.
+pub fn dumps_tell_collections_apart()
+    ensures collections { DumpsTellCollectionsApart }
+    ensures bags { DumpsTellBagsApart }
+{}
 
 /// Two lists of writable changes with one journal are one.
 pub fn journals_tell_lists_apart()

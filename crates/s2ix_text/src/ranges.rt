@@ -12,8 +12,7 @@ use s2id_core::{CellId, sixteen_digits};
 use s2ix_io::{Sink, WriteFault, put_all, put_parts};
 use s2ix_table::{RangeRow, RangeTable, chain_at, contents};
 
-/// Writes what lies over a leaf as a list of pairs, innermost cell first, the labels of one cell rising. The table holds fewer
-/// than 2^64 pairs, as that of every bag does.
+/// Writes what lies over a leaf as a list of pairs, innermost cell first, the labels of one cell rising.
 ///
 /// It takes no memory and does not flush. At the first fault of the sink it ends, when a front of the list went out. O(log n + m)
 /// for n ranges and m pairs over the leaf. This project's own.
@@ -24,7 +23,6 @@ pub fn write_contents<T: RangeTable, K: Sink>(
 ) -> Result<(), WriteFault>
     requires counts { K.fault_count sink.old < 2 ^ 64 - 1 }
     requires leaf { level_of leaf ≡ 30 }
-    requires few { length (T.pairs table.now) < 2 ^ 64 }
     ensures puts { Puts (K.taken sink.old) (K.taken sink.new) result (list_text held_line (contents_at (raw_of leaf) (T.pairs table.now))) }
     ensures faults { K.fault_count sink.new ≡ K.fault_count sink.old + write_faults result }
 {

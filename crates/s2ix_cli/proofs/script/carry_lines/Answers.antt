@@ -26,7 +26,7 @@ returns-then-is_refused-clause-finished g c =
 pub returns-in_err-outcome-clause-stopped : goal.returns-in_err-outcome-clause-stopped
 returns-in_err-outcome-clause-stopped g c =
     let p = err_from_is_err_and c.from_residual.result c.from_residual.ensures.1 in
-    rw p.1 (StopsAmong-reached _ _ _ _ _ _ _ _ _ _ _ _ _ c.lines.invariant.0 c.in-Some.ensures.steps c.in_err-outcome.ensures.carries)
+    rw (p.1, p.2) (StopsAmong-reached _ _ _ _ _ _ _ _ _ _ _ _ _ c.lines.invariant.0 c.in-Some.ensures.steps c.in_err-outcome.ensures.carries)
 
 pub returns-in_err-outcome-clause-memory : goal.returns-in_err-outcome-clause-memory
 returns-in_err-outcome-clause-memory g c =

@@ -1,4 +1,4 @@
-use Rattle.std.proofs.Common.{sym, subst, refl, arith}
+use Rattle.std.proofs.Common.{sym, subst, arith}
 use Rattle.s2ix_table.proofs.Building.{IsBuilt, built_none, built_more, built_end}
 use Rattle.s2ix_table.proofs.copied.rows_over.Goals as goal
 
@@ -7,10 +7,17 @@ loop-at-init c = subst (λ rows. IsBuilt c.args.held.now rows 1) (sym c.new-rows
 
 pub loop-at-preserved : goal.loop-at-preserved
 loop-at-preserved c =
-    let at = c.loop-at.at in
-    let limit = c.next_bound-limit.result in
-    subst (λ rows. IsBuilt c.args.held.now rows limit) (sym c.in_ok-push.ensures.items)
-    (built_more c.args.held.now c.loop-at.rows.items at limit (record { start = at; limit = limit; contents = c.in_ok-contents.contents }) c.loop-at.invariant (omega arith) c.next_bound-limit.ensures refl refl c.in_ok-contents.ensures)
+    let row = c.in_ok-row.row in
+    let own = c.in_ok-row.ensures in
+    subst (λ rows. IsBuilt c.args.held.now rows row.limit) (sym c.in_ok-push.ensures.items)
+    (built_more c.args.held.now c.loop-at.rows.items c.loop-at.at row c.loop-at.invariant (omega arith) (record {
+      start = own.start;
+      rises = own.limit.0;
+      within = own.limit.1;
+      odd = own.limit.2;
+      shared = own.shared;
+      maximal = own.maximal;
+    }))
 
 pub returns : goal.returns
 returns c = built_end c.args.held.now c.loop-at.rows.items c.loop-at.at c.loop-at.invariant (omega arith)

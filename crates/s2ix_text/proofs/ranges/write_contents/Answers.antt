@@ -18,7 +18,7 @@ overflow_add-count g c =
     let turn = yields_turn (λ (it : ChainIter g.row.T.Denot g.row.T-Place.Denot g.T.RangeTable). from_place (g.T.RangeTable.chain it.table.now) it.next) _ _ _ c.next.new.self all c.loop-held.yielded _ c.in-Some.held c.chain_at-held-items.ensures c.into_iter-held-iterator.ensures.into_iter_gives c.loop-held.yielded_by c.in-Some.is c.next.ensures.steps in
     let less : length c.loop-held.yielded < length all = turn.0 in
     let within = length_contents (raw_of c.args.leaf) (g.T.RangeTable.pairs c.args.table.now) in
-    let few = c.requires.few in
+    let few = g.met.T.RangeTable.few c.args.table.now in
     let is = c.loop-held.invariant.2 in
     omega arith
 

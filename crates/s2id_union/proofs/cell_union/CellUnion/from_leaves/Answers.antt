@@ -1,3 +1,4 @@
+use Rattle.s2id_union.proofs.Forms.{run_form}
 use Rattle.s2id_union.proofs.Made.{normal_from_added, run_leaves}
 use Rattle.s2id_union.proofs.cell_union.CellUnion.from_leaves.Goals as goal
 
@@ -9,3 +10,6 @@ returns-clause-leaves c = run_leaves _ _ _ _ c.new-cells.ensures.items c.in_ok-a
 
 pub returns-clause-normal : goal.returns-clause-normal
 returns-clause-normal c = normal_from_added _ _ _ _ c.in_ok-add_run.ensures
+
+pub returns-clause-form : goal.returns-clause-form
+returns-clause-form c = run_form _ _ _ _ c.new-cells.ensures.items c.in_ok-add_run.ensures

@@ -2,11 +2,12 @@ use Rattle.std.proofs.Common.{◌<◌, length, Option, sym, ap, ◌∙◌, subst
 use Rattle.std.proofs.lemmas.Result.{IfErr-weaker, IfOk-weaker, on_ok_weaker, err_from_is_err_and}
 use Rattle.s2ix_bag.specs.Limits.{changes_limit}
 use Rattle.s2ix_edit.specs.declared.errors.EditError.{EditError}
-use Rattle.s2ix_edit.specs.History.{State, IsStore}
+use Rattle.s2ix_edit.specs.History.{State, IsStore, history_of}
 use Rattle.s2ix_edit.specs.Plan.{Plans, starting_at}
 use Rattle.s2ix_edit.specs.Refusals.{edit_refusal, IsEditRefusal}
+use Rattle.s2ix_edit.proofs.Followed.{history_edited}
 use Rattle.s2ix_edit.proofs.Led.{counts_recorded}
-use Rattle.s2ix_edit.proofs.Refused.{planned_change, planned_state, refusal_of_entries, with_room}
+use Rattle.s2ix_edit.proofs.Refused.{change_planned, planned_state, refusal_of_entries, with_room}
 use Rattle.s2ix_edit.proofs.store.Store.edit.Goals.{After-planned, In_ok-change}
 use Rattle.s2ix_edit.proofs.store.Store.edit.Goals as goal
 
@@ -44,11 +45,21 @@ returns-clause-state c =
     let a = (goal.at-returns-clause-state c).After-planned in
     on_ok_weaker c.record_change.result (λ is. is ∙ planned_state c.args.self.now c.args.edit.now c.in_ok-change.change (stood a).bag (plan d)) c.record_change.ensures.state
 
+pub returns-clause-history : goal.returns-clause-history
+returns-clause-history c =
+    let d = (goal.at-returns-clause-history c).In_ok-change in
+    let a = (goal.at-returns-clause-history c).After-planned in
+    on_ok_weaker c.record_change.result
+    (λ is.
+    ap history_of (is ∙ planned_state c.args.self.now c.args.edit.now c.in_ok-change.change (stood a).bag (plan d))
+    ∙ history_edited c.args.self.now c.args.edit.now (stood a))
+    c.record_change.ensures.state
+
 pub returns-clause-number : goal.returns-clause-number
 returns-clause-number c =
     let d = (goal.at-returns-clause-number c).In_ok-change in
     let a = (goal.at-returns-clause-number c).After-planned in
-    IfOk-weaker c.record_change.result _ _ (λ n is. is ∙ ap length (sym (planned_change c.args.self.now.bag c.args.edit.now c.in_ok-change.change (stood a).bag (plan d)))) c.record_change.ensures.number
+    IfOk-weaker c.record_change.result _ _ (λ n is. is ∙ ap length (sym (change_planned c.args.self.now c.args.edit.now c.in_ok-change.change (stood a).bag (plan d)))) c.record_change.ensures.number
 
 pub returns-clause-accepted : goal.returns-clause-accepted
 returns-clause-accepted c =

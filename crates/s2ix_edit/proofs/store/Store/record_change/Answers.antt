@@ -1,9 +1,10 @@
 use Rattle.std.proofs.Common.{◌≡◌, sym, ap, ◌∙◌, subst, arith}
 use Rattle.std.proofs.lemmas.Grind.{common_steps}
 use Rattle.s2ix_bag.specs.Apply.{apply_refusal}
-use Rattle.s2ix_edit.specs.History.{State, IsStore, history_of}
+use Rattle.s2ix_edit.specs.History.{State, IsStore}
 use Rattle.s2ix_edit.specs.Plan.{recorded}
-use Rattle.s2ix_edit.proofs.Places.{history_recorded, stands_recorded}
+use Rattle.s2ix_edit.proofs.Places.{stands_recorded}
+use Rattle.s2ix_edit.proofs.Refused.{some_entries}
 use Rattle.s2ix_edit.proofs.store.Store.record_change.Goals.{After-clear}
 use Rattle.s2ix_edit.proofs.store.Store.record_change.Goals as goal
 
@@ -18,9 +19,4 @@ pub invariant_of-self-2 : goal.invariant_of-self-2
 invariant_of-self-2 c =
     let d = (goal.at.invariant_of-self-2 c).After-clear in
     let taken = ap (λ (s : State). apply_refusal s.bag c.args.change) (sym c.self.view_is) ∙ c.in_ok-bag.ensures.fits in
-    (stands_recorded c.args.self.now _ c.args.change (is_recorded d) (stood d) c.requires.room c.entries-number.ensures.rises taken c.in_ok-bag.ensures.within, c.in_ok-table.ensures)
-
-pub returns-clause-history : goal.returns-clause-history
-returns-clause-history c =
-    let d = (goal.at.returns-clause-history c).After-clear in
-    ap history_of (is_recorded d) ∙ history_recorded c.args.self.now c.args.change (stood d).bag.rises c.entries-number.ensures.rises c.requires.matches
+    (stands_recorded c.args.self.now _ c.args.change (is_recorded d) (stood d) c.requires.room c.entries-number.ensures.rises (some_entries c.self.inside.bag c.args.change c.in_ok-bag.ensures.accepted) taken c.in_ok-bag.ensures.within, c.in_ok-table.ensures)

@@ -2,8 +2,9 @@ use Rattle.std.proofs.Common.{◌-◌, List, length, ◌++◌, ◌∷◌, [], ap
 use Rattle.s2ix_bag.specs.declared.pair.Entry.{Entry}
 use Rattle.std.specs.List.{slice_get}
 use Rattle.s2ix_bag.specs.Change.{changed}
-use Rattle.s2ix_edit.specs.History.{State, history_of, holding, one_on}
-use Rattle.s2ix_edit.proofs.Led.{store_restored}
+use Rattle.s2ix_edit.specs.History.{State, history_of, holding}
+use Rattle.s2ix_edit.specs.Steps.{one_on}
+use Rattle.s2ix_edit.proofs.Led.{undo_taken_back}
 use Rattle.s2ix_edit.proofs.Places.{Redoes, history_redone, same_last, stands_redone}
 use Rattle.s2ix_edit.proofs.store.Store.redo.Goals.{After-move_last-number}
 use Rattle.s2ix_edit.proofs.store.Store.redo.Goals as goal
@@ -35,4 +36,4 @@ returns-clause-history c =
 pub returns-clause-restores : goal.returns-clause-restores
 returns-clause-restores c =
     λ s st some is.
-    store_restored s _ _ _ st some (c.self.view_is ∙ is) (last_done_again (goal.at.returns-clause-restores c).After-move_last-number)
+    undo_taken_back s _ _ _ st some (c.self.view_is ∙ is) (last_done_again (goal.at.returns-clause-restores c).After-move_last-number)

@@ -2,8 +2,9 @@ use Rattle.std.proofs.Common.{◌-◌, List, length, ◌++◌, ◌∷◌, [], ap
 use Rattle.s2ix_bag.specs.declared.pair.Entry.{Entry}
 use Rattle.std.specs.List.{slice_get}
 use Rattle.s2ix_bag.specs.Change.{changed, inverse_of}
-use Rattle.s2ix_edit.specs.History.{State, history_of, holding, one_back}
-use Rattle.s2ix_edit.proofs.Led.{bag_restored}
+use Rattle.s2ix_edit.specs.History.{State, history_of, holding}
+use Rattle.s2ix_edit.specs.Steps.{one_back}
+use Rattle.s2ix_edit.proofs.Led.{edit_taken_back}
 use Rattle.s2ix_edit.proofs.Places.{Undoes, history_undone, same_last, stands_undone}
 use Rattle.s2ix_edit.proofs.store.Store.undo.Goals.{After-move_last-number}
 use Rattle.s2ix_edit.proofs.store.Store.undo.Goals as goal
@@ -34,4 +35,4 @@ returns-clause-history c =
 pub returns-clause-restores : goal.returns-clause-restores
 returns-clause-restores c =
     λ s edit st is.
-    bag_restored s _ _ edit _ st (c.self.view_is ∙ is) (last_taken_back (goal.at.returns-clause-restores c).After-move_last-number)
+    edit_taken_back s _ _ edit _ st (c.self.view_is ∙ is) (last_taken_back (goal.at.returns-clause-restores c).After-move_last-number)

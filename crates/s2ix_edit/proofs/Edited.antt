@@ -1,0 +1,47 @@
+-- What an edit makes of the collection that a store holds.
+use Rattle.std.proofs.Common.{◌≡◌, ◌+◌, ◌-◌, [], ◌∷◌, ◌++◌, length, reverse, get_or, refl, sym, ap, ◌∙◌, subst}
+use Rattle.std.proofs.lemmas.List.{length-reverse}
+use Rattle.std.proofs.Math.Seq.{get_or-append_seam}
+use Rattle.s2ix_bag.specs.Collection.{Collection, IsCollection, count_in}
+use Rattle.s2ix_bag.specs.OfLabel.{held_of}
+use Rattle.s2ix_bag.proofs.Collections.{set_keeps}
+use Rattle.s2ix_edit.specs.declared.edit.Edit.{Edit}
+use Rattle.s2ix_edit.specs.declared.edit.Edit.TheVariants.{Add, AddUnion, Remove, DropLabel, Relabel}
+use Rattle.s2ix_edit.specs.Edit.{edited, edited_alone}
+use Rattle.s2ix_edit.specs.History.{State, earlier, history_of, later}
+use Rattle.s2ix_edit.specs.Steps.{History, at_cursor}
+use Rattle.s2ix_edit.proofs.Dropped.{without_keeps}
+use Rattle.s2ix_edit.proofs.Moved.{all_moved_keeps}
+use Rattle.s2ix_edit.proofs.Places.{length-earlier}
+use Rattle.s2ix_edit.proofs.Raised.{with_each_keeps}
+
+-- the collection at the cursor is the store's
+pub held_at_cursor : (s : State) → at_cursor (history_of s) ≡ s.bag.held
+held_at_cursor s =
+    let before = earlier s.bag.held (reverse s.done) in
+    let after = later s.bag.held (reverse s.undone) in
+    let place = length-earlier s.bag.held (reverse s.done) ∙ length-reverse s.done in
+    ap (λ k. get_or (before ++ s.bag.held ∷ after) k []) (sym place) ∙ get_or-append_seam before s.bag.held after []
+
+-- an edit reads the collection at the cursor and no other
+pub edited_at_cursor : (h : History) (edit : Edit) → edited h edit ≡ edited_alone edit (at_cursor h)
+edited_at_cursor h (Add pair copies) = refl
+edited_at_cursor h (AddUnion cells label) = refl
+edited_at_cursor h (Remove pair copies) = refl
+edited_at_cursor h (DropLabel label) = refl
+edited_at_cursor h (Relabel source target) = refl
+
+pub edited_held : (s : State) (edit : Edit) → edited (history_of s) edit ≡ edited_alone edit s.bag.held
+edited_held s edit = edited_at_cursor (history_of s) edit ∙ ap (λ hs. edited_alone edit hs) (held_at_cursor s)
+
+-- an edited collection is a collection
+pub edited_is_collection : (edit : Edit) (hs : Collection) → IsCollection hs → IsCollection (edited_alone edit hs)
+edited_is_collection (Add pair copies) hs is = set_keeps pair (count_in hs pair + copies) hs is
+edited_is_collection (AddUnion cells label) hs is = with_each_keeps label cells hs is
+edited_is_collection (Remove pair copies) hs is = set_keeps pair (count_in hs pair - copies) hs is
+edited_is_collection (DropLabel label) hs is = without_keeps label hs is
+edited_is_collection (Relabel source target) hs is = all_moved_keeps target (held_of source hs) hs is
+
+pub held_edited_is_collection : (s : State) (edit : Edit) → IsCollection s.bag.held → IsCollection (edited (history_of s) edit)
+held_edited_is_collection s edit is =
+    subst IsCollection (sym (edited_held s edit)) (edited_is_collection edit s.bag.held is)

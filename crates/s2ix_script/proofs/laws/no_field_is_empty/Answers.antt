@@ -1,0 +1,5 @@
+use Rattle.s2ix_script.proofs.FieldLaws.{no_empty, stand}
+use Rattle.s2ix_script.proofs.laws.no_field_is_empty.Goals as goal
+
+pub returns : goal.returns
+returns c = λ line. no_empty _ line (stand line)
