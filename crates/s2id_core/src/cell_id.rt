@@ -88,33 +88,3 @@ impl CellId {
         }
     }
 }
-
-#[cfg(test)]
-mod tests {
-    use super::*;
-    use std::test::Fail;
-
-    #[test]
-    fn from_raw_takes_cells_alone(rt: HostRuntime) {
-        let face = CellId::from_raw(0x1000000000000000).expect(&rt, "a face cell");
-        assert_eq!(rt; face.raw(), 0x1000000000000000);
-        assert!(rt; CellId::from_raw(0).is_none());
-        assert!(rt; CellId::from_raw(0x2000000000000000).is_none());
-        assert!(rt; CellId::from_raw(LEAF_END).is_none());
-    }
-
-    #[test]
-    fn face_level_and_lowest_bit(rt: HostRuntime) -> Result<(), Fail> {
-        let cell = CellId::from_token(b"1d")?;
-        assert_eq!(rt; cell.face(), 0);
-        assert_eq!(rt; cell.level(), 2);
-        assert_eq!(rt; cell.lsb(), 0x0100000000000000);
-        assert!(rt; !cell.is_leaf());
-        let leaf = CellId::from_token(b"bfffffffffffffff")?;
-        assert_eq!(rt; leaf.face(), 5);
-        assert_eq!(rt; leaf.level(), 30);
-        assert_eq!(rt; leaf.lsb(), 1);
-        assert!(rt; leaf.is_leaf());
-        Ok(())
-    }
-}

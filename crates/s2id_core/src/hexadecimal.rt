@@ -24,15 +24,3 @@ fn lower_digit(digit: u8) -> u8
 {
     DIGITS[digit as usize]
 }
-
-#[cfg(test)]
-mod tests {
-    use super::*;
-
-    #[test]
-    fn digits_of_bounds(rt: HostRuntime) {
-        assert_eq!(rt; sixteen_digits(1), *b"0000000000000001");
-        assert_eq!(rt; sixteen_digits(0xc000000000000001), *b"c000000000000001");
-        assert_eq!(rt; sixteen_digits(0x0123456789abcdef), *b"0123456789abcdef");
-    }
-}

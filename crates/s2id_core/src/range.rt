@@ -75,30 +75,3 @@ impl CellId {
         self.lsb() - 1
     }
 }
-
-#[cfg(test)]
-mod tests {
-    use super::*;
-    use std::test::Fail;
-
-    #[test]
-    fn range_of_a_child(rt: HostRuntime) -> Result<(), Fail> {
-        let cell = CellId::from_token(b"04")?;
-        assert_eq!(rt; cell.range_min(), CellId::from_token(b"0000000000000001")?);
-        assert_eq!(rt; cell.range_max(), CellId::from_token(b"07ffffffffffffff")?);
-        Ok(())
-    }
-
-    #[test]
-    fn faces_contain_their_cells(rt: HostRuntime) -> Result<(), Fail> {
-        let face = CellId::from_token(b"1")?;
-        let child = CellId::from_token(b"04")?;
-        let other = CellId::from_token(b"1d")?;
-        assert!(rt; face.contains(child));
-        assert!(rt; face.contains(face));
-        assert!(rt; !child.contains(face));
-        assert!(rt; child.intersects(face));
-        assert!(rt; !child.intersects(other));
-        Ok(())
-    }
-}

@@ -2,8 +2,6 @@
 #![tactic(auto)]
 
 mod borders;
-#[cfg(test)]
-mod comparison;
 mod error;
 mod face_ij;
 pub mod laws;

@@ -30,15 +30,3 @@ impl Label {
         self.value
     }
 }
-
-#[cfg(test)]
-mod tests {
-    use super::*;
-
-    #[test]
-    fn labels_have_31_bits(rt: HostRuntime) {
-        let greatest = Label::new(2147483647).expect(&rt, "the greatest label");
-        assert_eq!(rt; greatest.get(), 2147483647);
-        assert!(rt; Label::new(2147483648).is_none());
-    }
-}

@@ -15,8 +15,6 @@ mod label_iter;
 pub mod laws;
 mod limits;
 mod pair;
-#[cfg(test)]
-mod samples;
 mod search;
 
 pub use bag::Bag;

@@ -71,32 +71,3 @@ impl Default for Limits {
         }
     }
 }
-
-#[cfg(test)]
-mod tests {
-    use super::*;
-
-    #[test]
-    fn limits_are_within_their_ranges(rt: HostRuntime) {
-        let widest = Limits::new(1_000_000, 65_535, 100_000).expect(&rt, "the widest limits");
-        assert_eq!(rt;
-            (widest.pairs(), widest.count(), widest.changes()),
-            (1_000_000, 65_535, 100_000)
-        );
-        assert_eq!(rt; Limits::default(), widest);
-        assert!(rt; Limits::new(1, 1, 1).is_some());
-        for (pairs, count, changes) in [
-            (0, 1, 1),
-            (1, 0, 1),
-            (1, 1, 0),
-            (1_000_001, 1, 1),
-            (1, 65_536, 1),
-            (1, 1, 100_001),
-        ] {
-            assert!(rt;
-                Limits::new(pairs, count, changes).is_none(),
-                "{pairs} {count} {changes}"
-            );
-        }
-    }
-}

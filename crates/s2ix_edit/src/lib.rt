@@ -7,19 +7,13 @@
 #![tactic(auto)]
 
 mod edit;
-#[cfg(test)]
-mod edit_tests;
 mod errors;
 pub mod laws;
-#[cfg(test)]
-mod move_tests;
 mod plan;
 mod raise;
 mod relabel;
 mod steps;
 mod store;
-#[cfg(test)]
-mod table_tests;
 
 pub use edit::Edit;
 pub use errors::{EditError, RedoError, UndoError};

@@ -13,13 +13,9 @@ pub mod laws;
 mod met;
 mod pairs;
 mod row;
-#[cfg(test)]
-mod samples;
 mod span;
 mod table;
 mod walk;
-#[cfg(test)]
-mod worked;
 
 pub use copied::{CopiedPlace, CopiedTable};
 pub use iter::{ChainIter, RangeIter, chain_at, contents, ranges};

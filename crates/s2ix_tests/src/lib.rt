@@ -6,11 +6,7 @@ mod fault_tests;
 #[cfg(test)]
 mod history_tests;
 #[cfg(test)]
-mod journal_tests;
-#[cfg(test)]
 mod line_tests;
-#[cfg(test)]
-mod list_tests;
 #[cfg(test)]
 mod meaning_tests;
 #[cfg(test)]
@@ -18,20 +14,10 @@ mod model;
 #[cfg(test)]
 mod model_tests;
 #[cfg(test)]
-mod plain;
-#[cfg(test)]
 mod query_tests;
-#[cfg(test)]
-mod random;
 #[cfg(test)]
 mod reading_tests;
 #[cfg(test)]
 mod script_tests;
 #[cfg(test)]
 mod scripts;
-#[cfg(test)]
-mod store_tests;
-#[cfg(test)]
-mod table_tests;
-#[cfg(test)]
-mod union_tests;

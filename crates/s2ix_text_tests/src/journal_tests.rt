@@ -1,9 +1,8 @@
 // Journals by their call, with no script.
-use s2ix_io::KeepingSink;
 use s2id_core::CellId;
 use s2ix_bag::{Bag, Change, Label, Limits, Pair};
 use s2ix_edit::{Edit, Store};
-use s2ix_io::{Sink, WriteFault};
+use s2ix_io::{KeepingSink, Sink, WriteFault};
 use s2ix_text::write_journal;
 use std::alloc::Global;
 use std::test::Fail;

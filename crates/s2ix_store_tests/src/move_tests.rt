@@ -1,23 +1,8 @@
 //! Undo, redo and forget, call by call.
-use crate::edit::Edit;
-use crate::errors::{EditError, RedoError, UndoError};
-use crate::store::Store;
-use s2id_core::CellId;
-use s2ix_bag::{Entry, Label, Limits, Pair};
-use std::process::Abort;
+use crate::samples::{adding, pair_of, store_of};
+use s2ix_bag::Entry;
+use s2ix_edit::{EditError, RedoError, Store, UndoError};
 use std::test::Fail;
-
-fn pair_of(rt: &impl Abort, cell: u64, label: u32) -> Pair {
-    Pair {
-        cell: CellId::from_raw(cell).expect(rt, "a cell"),
-        label: Label::new(label).expect(rt, "a label"),
-    }
-}
-
-/// The limits of a store that holds at most this many changes.
-fn with_changes(rt: &impl Abort, changes: u32) -> Limits {
-    Limits::new(1_000_000, 65_535, changes).expect(rt, "limits in their ranges")
-}
 
 /// How many changes can be undone and redone.
 fn kept(store: &Store) -> (usize, usize) {
@@ -26,15 +11,9 @@ fn kept(store: &Store) -> (usize, usize) {
 
 #[test]
 fn redo_is_refused_after_an_edit(rt: HostRuntime) -> Result<(), Fail> {
-    let mut store = Store::new(rt.alloc(), with_changes(&rt, 100_000))?;
-    let first = Edit::Add {
-        pair: pair_of(&rt, 0x1000000000000000, 1),
-        copies: 1,
-    };
-    let second = Edit::Add {
-        pair: pair_of(&rt, 0x3000000000000000, 1),
-        copies: 1,
-    };
+    let mut store = store_of(&rt, rt.alloc(), 1_000_000, 65_535, 100_000)?;
+    let first = adding(pair_of(&rt, 0x1000000000000000, 1), 1);
+    let second = adding(pair_of(&rt, 0x3000000000000000, 1), 1);
     assert_eq!(rt; store.undo(), Err(UndoError::NothingToUndo));
     assert_eq!(rt; store.redo(), Err(RedoError::NothingToRedo));
     assert_eq!(rt; store.edit(&first), Ok(1));
@@ -47,17 +26,11 @@ fn redo_is_refused_after_an_edit(rt: HostRuntime) -> Result<(), Fail> {
 
 #[test]
 fn redo_leads_back_over_two_undos(rt: HostRuntime) -> Result<(), Fail> {
-    let mut store = Store::new(rt.alloc(), with_changes(&rt, 2))?;
+    let mut store = store_of(&rt, rt.alloc(), 1_000_000, 65_535, 2)?;
     let nine = pair_of(&rt, 0x0400000000000000, 9);
     let three = pair_of(&rt, 0x0400000000000000, 3);
-    let add_nine = Edit::Add {
-        pair: nine,
-        copies: 2,
-    };
-    let add_three = Edit::Add {
-        pair: three,
-        copies: 1,
-    };
+    let add_nine = adding(nine, 2);
+    let add_three = adding(three, 1);
     assert_eq!(rt; store.edit(&add_nine), Ok(1));
     assert_eq!(rt; store.edit(&add_three), Ok(1));
     assert_eq!(rt; store.undo(), Ok(1));
@@ -85,15 +58,9 @@ fn redo_leads_back_over_two_undos(rt: HostRuntime) -> Result<(), Fail> {
 fn a_store_starts_from_its_bag(rt: HostRuntime) -> Result<(), Fail> {
     let first = pair_of(&rt, 0x1000000000000000, 1);
     let second = pair_of(&rt, 0x3000000000000000, 1);
-    let mut other = Store::new(rt.alloc(), with_changes(&rt, 7))?;
-    let add_first = Edit::Add {
-        pair: first,
-        copies: 2,
-    };
-    let add_second = Edit::Add {
-        pair: second,
-        copies: 5,
-    };
+    let mut other = store_of(&rt, rt.alloc(), 1_000_000, 65_535, 7)?;
+    let add_first = adding(first, 2);
+    let add_second = adding(second, 5);
     assert_eq!(rt; other.edit(&add_first), Ok(1));
     assert_eq!(rt; other.edit(&add_second), Ok(1));
     let bag = other.bag().copied(rt.alloc())?;
@@ -111,17 +78,11 @@ fn a_store_starts_from_its_bag(rt: HostRuntime) -> Result<(), Fail> {
 
 #[test]
 fn forget_keeps_the_collection_alone(rt: HostRuntime) -> Result<(), Fail> {
-    let mut store = Store::new(rt.alloc(), with_changes(&rt, 2))?;
+    let mut store = store_of(&rt, rt.alloc(), 1_000_000, 65_535, 2)?;
     let first = pair_of(&rt, 0x1000000000000000, 1);
     let second = pair_of(&rt, 0x3000000000000000, 1);
-    let add_first = Edit::Add {
-        pair: first,
-        copies: 1,
-    };
-    let add_second = Edit::Add {
-        pair: second,
-        copies: 1,
-    };
+    let add_first = adding(first, 1);
+    let add_second = adding(second, 1);
     assert_eq!(rt; store.edit(&add_first), Ok(1));
     assert_eq!(rt; store.edit(&add_second), Ok(1));
     assert_eq!(rt; store.undo(), Ok(1));

@@ -1,25 +1,12 @@
 //! What the edits of unions and of whole labels do and refuse, on stores with ample memory.
 
-use crate::{Edit, EditError, Store};
-use s2id_core::CellId;
+use crate::samples::{adding, cell_of, label_of, pair_of, store_of};
 use s2id_union::CellUnion;
-use s2ix_bag::{Entry, Label, Limits, Pair};
+use s2ix_bag::{Entry, Pair};
+use s2ix_edit::{Edit, EditError};
 use std::alloc::Global;
 use std::process::Abort;
 use std::test::Fail;
-
-fn cell_of(rt: &impl Abort, number: u64) -> CellId {
-    CellId::from_raw(number).expect(rt, "a cell")
-}
-
-fn label_of(rt: &impl Abort, number: u32) -> Label {
-    Label::new(number).expect(rt, "a label")
-}
-
-fn store_within(rt: &impl Abort, alloc: Global, pairs: u32, count: u32) -> Result<Store, Fail> {
-    let limits = Limits::new(pairs, count, 100_000).expect(rt, "limits");
-    Ok(Store::new(alloc, limits)?)
-}
 
 /// The union of the cells with the tokens 04 and 3.
 fn union_of_two(rt: &impl Abort, alloc: Global) -> Result<CellUnion, Fail> {
@@ -32,7 +19,7 @@ fn union_of_two(rt: &impl Abort, alloc: Global) -> Result<CellUnion, Fail> {
 
 #[test]
 fn a_union_adds_a_copy_of_each_cell(rt: HostRuntime) -> Result<(), Fail> {
-    let mut store = store_within(&rt, rt.alloc(), 2, 2)?;
+    let mut store = store_of(&rt, rt.alloc(), 2, 2, 100_000)?;
     let label = label_of(&rt, 9);
     let low = Pair {
         cell: cell_of(&rt, 0x0400000000000000),
@@ -74,7 +61,7 @@ fn a_union_adds_a_copy_of_each_cell(rt: HostRuntime) -> Result<(), Fail> {
 
 #[test]
 fn a_label_is_dropped_whole(rt: HostRuntime) -> Result<(), Fail> {
-    let mut store = store_within(&rt, rt.alloc(), 1_000_000, 65_535)?;
+    let mut store = store_of(&rt, rt.alloc(), 1_000_000, 65_535, 100_000)?;
     let label = label_of(&rt, 9);
     let drop = Edit::DropLabel { label };
     assert_eq!(rt; store.edit(&drop), Err(EditError::NoSuchLabel));
@@ -87,13 +74,7 @@ fn a_label_is_dropped_whole(rt: HostRuntime) -> Result<(), Fail> {
         cell: cell_of(&rt, 0x0400000000000000),
         label: label_of(&rt, 7),
     };
-    assert_eq!(rt;
-        store.edit(&Edit::Add {
-            pair: kept,
-            copies: 3
-        }),
-        Ok(1)
-    );
+    assert_eq!(rt; store.edit(&adding(kept, 3)), Ok(1));
     assert_eq!(rt; store.edit(&drop), Ok(2));
     assert_eq!(rt; store.bag().len(), 1);
     assert_eq!(rt; store.bag().count(kept), 3);
@@ -105,26 +86,14 @@ fn a_label_is_dropped_whole(rt: HostRuntime) -> Result<(), Fail> {
 
 #[test]
 fn copies_move_to_another_label(rt: HostRuntime) -> Result<(), Fail> {
-    let mut store = store_within(&rt, rt.alloc(), 1_000_000, 65_535)?;
+    let mut store = store_of(&rt, rt.alloc(), 1_000_000, 65_535, 100_000)?;
     let nine = label_of(&rt, 9);
     let three = label_of(&rt, 3);
     let cell = cell_of(&rt, 0x0400000000000000);
     let source = Pair { cell, label: nine };
     let target = Pair { cell, label: three };
-    assert_eq!(rt;
-        store.edit(&Edit::Add {
-            pair: source,
-            copies: 2
-        }),
-        Ok(1)
-    );
-    assert_eq!(rt;
-        store.edit(&Edit::Add {
-            pair: target,
-            copies: 1
-        }),
-        Ok(1)
-    );
+    assert_eq!(rt; store.edit(&adding(source, 2)), Ok(1));
+    assert_eq!(rt; store.edit(&adding(target, 1)), Ok(1));
     let relabel = Edit::Relabel {
         source: nine,
         target: three,
@@ -165,7 +134,7 @@ fn copies_move_to_another_label(rt: HostRuntime) -> Result<(), Fail> {
 
 #[test]
 fn a_label_that_is_not_held_is_refused_first(rt: HostRuntime) -> Result<(), Fail> {
-    let mut store = store_within(&rt, rt.alloc(), 1_000_000, 3)?;
+    let mut store = store_of(&rt, rt.alloc(), 1_000_000, 3, 100_000)?;
     let nine = label_of(&rt, 9);
     let three = label_of(&rt, 3);
     let same = Edit::Relabel {
@@ -175,10 +144,7 @@ fn a_label_that_is_not_held_is_refused_first(rt: HostRuntime) -> Result<(), Fail
     assert_eq!(rt; store.edit(&same), Err(EditError::NoSuchLabel));
     let cell = cell_of(&rt, 0x0400000000000000);
     for label in [nine, three] {
-        let edit = Edit::Add {
-            pair: Pair { cell, label },
-            copies: 2,
-        };
+        let edit = adding(Pair { cell, label }, 2);
         assert_eq!(rt; store.edit(&edit), Ok(1));
     }
     assert_eq!(rt; store.edit(&same), Err(EditError::NoChange));

@@ -1,8 +1,7 @@
 //! Squares and neighbours against a plain search over the points of the cube.
 
-use crate::face_ij::{from_face_ij, to_face_ij};
-use crate::neighbors::edge_neighbors;
 use s2id_core::CellId;
+use s2id_cube::{edge_neighbors, from_face_ij, to_face_ij};
 use std::alloc::Global;
 use std::process::Abort;
 use std::test::Fail;

@@ -1,9 +1,7 @@
 //! Worked tables, and what they answer.
-use crate::iter::{chain_at, contents, ranges};
-use crate::row::RangeRow;
-use crate::samples::{cell_of, held_of, sought, table_of, union_of, visited};
-use crate::table::RangeTable;
+use crate::samples::{all_held, cell_of, held_of, sought, table_of, union_of, visited};
 use s2id_core::CellId;
+use s2ix_table::{RangeRow, RangeTable, chain_at, contents, ranges};
 use std::test::Fail;
 
 #[test]
@@ -105,43 +103,40 @@ fn places_lead_outwards(rt: HostRuntime) -> Result<(), Fail> {
 }
 
 #[test]
-fn target_meets_an_outer_cell(rt: HostRuntime) -> Result<(), Fail> {
-    let outer = held_of(&rt, b"1", 7, 1);
-    let inner = held_of(&rt, b"04", 9, 1);
-    let table = table_of(&rt, rt.alloc(), [outer, inner].as_slice())?;
-    let target = union_of(&rt, rt.alloc(), b"0c", b"0c")?;
-    let met = table.meeting(rt.alloc(), &target)?;
-    assert_eq!(rt; met.as_slice(), [outer].as_slice());
-    Ok(())
-}
-
-#[test]
-fn meeting_lists_are_in_order(rt: HostRuntime) -> Result<(), Fail> {
-    let face = held_of(&rt, b"1", 7, 1);
-    let first = held_of(&rt, b"04", 9, 1);
-    let last = held_of(&rt, b"1c", 2, 1);
-    let table = table_of(&rt, rt.alloc(), [face, first, last].as_slice())?;
-    let target = union_of(&rt, rt.alloc(), b"1c", b"04")?;
-    let met = table.meeting(rt.alloc(), &target)?;
-    assert_eq!(rt; met.as_slice(), [first, face, last].as_slice());
-    let labels = table.labels(rt.alloc(), &target)?;
-    assert_eq!(rt;
-        labels.as_slice(),
-        [last.pair.label, face.pair.label, first.pair.label].as_slice()
-    );
-    Ok(())
-}
-
-#[test]
-fn meeting_lists_go_over_gaps(rt: HostRuntime) -> Result<(), Fail> {
-    let first = held_of(&rt, b"04", 9, 1);
-    let face = held_of(&rt, b"5", 3, 1);
-    let before = held_of(&rt, b"44", 6, 1);
-    let second = held_of(&rt, b"4c", 1, 1);
-    let table = table_of(&rt, rt.alloc(), [first, face, before, second].as_slice())?;
-    let target = union_of(&rt, rt.alloc(), b"04", b"4c")?;
-    let met = table.meeting(rt.alloc(), &target)?;
-    assert_eq!(rt; met.as_slice(), [first, second, face].as_slice());
+fn meeting_lists_rise_by_their_first_shared_leaf(rt: HostRuntime) -> Result<(), Fail> {
+    for (pairs, target, met, labels) in [
+        (
+            [(b"1".as_slice(), 7), (b"04", 9)].as_slice(),
+            [b"0c".as_slice()].as_slice(),
+            [(b"1".as_slice(), 7)].as_slice(),
+            [7].as_slice(),
+        ),
+        (
+            &[(b"1", 7), (b"04", 9), (b"1c", 2)],
+            &[b"1c", b"04"],
+            &[(b"04", 9), (b"1", 7), (b"1c", 2)],
+            &[2, 7, 9],
+        ),
+        (
+            &[(b"04", 9), (b"5", 3), (b"44", 6), (b"4c", 1)],
+            &[b"04", b"4c"],
+            &[(b"04", 9), (b"4c", 1), (b"5", 3)],
+            &[1, 3, 9],
+        ),
+    ] {
+        let table = table_of(&rt, rt.alloc(), &all_held(&rt, rt.alloc(), pairs)?)?;
+        let target = union_of(&rt, rt.alloc(), target)?;
+        let list = table.meeting(rt.alloc(), &target)?;
+        let wanted = all_held(&rt, rt.alloc(), met)?;
+        assert_eq!(rt; list.as_slice(), wanted.as_slice());
+        let found = table.labels(rt.alloc(), &target)?;
+        assert!(rt;
+            found
+                .iter()
+                .map(|label| label.get())
+                .eq(labels.iter().copied())
+        );
+    }
     Ok(())
 }
 
@@ -151,7 +146,7 @@ fn visit_ends_at_the_first_false(rt: HostRuntime) -> Result<(), Fail> {
     let first = held_of(&rt, b"04", 9, 1);
     let last = held_of(&rt, b"1c", 2, 1);
     let table = table_of(&rt, rt.alloc(), [face, first, last].as_slice())?;
-    let target = union_of(&rt, rt.alloc(), b"1c", b"04")?;
+    let target = union_of(&rt, rt.alloc(), &[b"1c", b"04"])?;
     let mut given = None;
     let mut refused = None;
     let whole = visited(

@@ -1,32 +1,24 @@
 //! The range table of a store, step by step.
-use crate::{Edit, Store};
-use s2id_core::CellId;
+use crate::samples::{adding, cell_of, pair_of};
 use s2id_union::CellUnion;
-use s2ix_bag::{Label, Limits, Pair};
+use s2ix_bag::Limits;
+use s2ix_edit::Store;
 use s2ix_table::{RangeTable, ranges};
-use std::process::Abort;
 use std::test::Fail;
-
-fn cell_of(rt: &impl Abort, number: u64) -> CellId {
-    CellId::from_raw(number).expect(rt, "a cell")
-}
-
-/// Adds the pair of a cell and a label once.
-fn adding(rt: &impl Abort, cell: u64, label: u32) -> Edit {
-    let pair = Pair {
-        cell: cell_of(rt, cell),
-        label: Label::new(label).expect(rt, "a label"),
-    };
-    Edit::Add { pair, copies: 1 }
-}
 
 #[test]
 fn the_table_follows_the_bag(rt: HostRuntime) -> Result<(), Fail> {
     let mut store = Store::new(rt.alloc(), Limits::default())?;
     assert_eq!(rt; store.table().range_count(), 1);
-    assert_eq!(rt; store.edit(&adding(&rt, 0x1000000000000000, 7)), Ok(1));
+    assert_eq!(rt;
+        store.edit(&adding(pair_of(&rt, 0x1000000000000000, 7), 1)),
+        Ok(1)
+    );
     assert_eq!(rt; store.table().range_count(), 2);
-    assert_eq!(rt; store.edit(&adding(&rt, 0x0400000000000000, 9)), Ok(1));
+    assert_eq!(rt;
+        store.edit(&adding(pair_of(&rt, 0x0400000000000000, 9), 1)),
+        Ok(1)
+    );
     assert_eq!(rt; store.table().range_count(), 3);
     assert_eq!(rt; store.undo(), Ok(1));
     assert_eq!(rt; store.table().range_count(), 2);
@@ -42,8 +34,14 @@ fn the_table_follows_the_bag(rt: HostRuntime) -> Result<(), Fail> {
 #[test]
 fn the_table_has_what_the_bag_holds(rt: HostRuntime) -> Result<(), Fail> {
     let mut store = Store::new(rt.alloc(), Limits::default())?;
-    assert_eq!(rt; store.edit(&adding(&rt, 0x1000000000000000, 7)), Ok(1));
-    assert_eq!(rt; store.edit(&adding(&rt, 0x0400000000000000, 9)), Ok(1));
+    assert_eq!(rt;
+        store.edit(&adding(pair_of(&rt, 0x1000000000000000, 7), 1)),
+        Ok(1)
+    );
+    assert_eq!(rt;
+        store.edit(&adding(pair_of(&rt, 0x0400000000000000, 9), 1)),
+        Ok(1)
+    );
     let mut limits = Vec::new(rt.alloc());
     for (_, row) in ranges(store.table()) {
         limits.push(row.limit)?;

@@ -1,9 +1,8 @@
 // Lists of pairs, labels and entries, contents of leaves and ranges of tables, by their calls with no script.
-use s2ix_io::KeepingSink;
 use s2id_core::CellId;
 use s2ix_bag::{Entry, Held, Label, Limits, Pair};
 use s2ix_edit::{Edit, Store};
-use s2ix_io::{Sink, WriteFault};
+use s2ix_io::{KeepingSink, Sink, WriteFault};
 use s2ix_text::{Line, write_contents, write_list, write_ranges};
 use std::alloc::Global;
 use std::test::Fail;

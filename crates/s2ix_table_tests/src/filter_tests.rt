@@ -1,23 +1,15 @@
-// Tables of random nested cells, compared with a plain filter of the pairs, and worked tables.
-ghost use Rattle.s2ix_bag.specs.declared.pair.Held.{Held};
-
+// Tables of random nested cells, compared with a plain filter of the pairs.
 use crate::plain;
 use crate::random::Random;
+use crate::samples::visited;
 use s2id_core::CellId;
 use s2id_union::CellUnion;
 use s2ix_bag::{Bag, Held, Label, Limits, Pair};
 use s2ix_edit::{Edit, Store};
-use s2ix_table::{ChainIter, CopiedTable, RangeRow, RangeTable, chain_at, contents, ranges};
+use s2ix_table::{ChainIter, CopiedTable, RangeTable, chain_at, contents, ranges};
 use std::alloc::Global;
 use std::process::Abort;
 use std::test::Fail;
-
-// A visit by a closure that may always be called.
-fn visited<F: FnMut(Held) -> bool>(table: &CopiedTable, target: &CellUnion, f: &mut F) -> bool
-    requires { (state : F) (held : Held) → F.pre state held }
-{
-    table.visit(target, f)
-}
 
 // The pairs that a chain gives.
 fn collected(alloc: Global, chain: ChainIter<'_, CopiedTable>) -> Result<Vec<Held>, Fail> {
@@ -158,117 +150,6 @@ fn tables_answer_as_a_filter_does(rt: HostRuntime) -> Result<(), Fail> {
                 )?;
             }
         }
-    }
-    Ok(())
-}
-
-// The cells of some tokens.
-fn cells_of(alloc: Global, tokens: &[&[u8]]) -> Result<Vec<CellId>, Fail> {
-    let mut cells = Vec::new(alloc);
-    for token in tokens {
-        cells.push(CellId::from_token(token)?)?;
-    }
-    Ok(cells)
-}
-
-// The pairs of some tokens and labels, held once each.
-fn held_of(alloc: Global, pairs: &[(&[u8], u32)]) -> Result<Vec<Held>, Fail> {
-    let mut list = Vec::new(alloc);
-    for &(token, label) in pairs {
-        let pair = Pair {
-            cell: CellId::from_token(token)?,
-            label: Label::new(label).ok_or("no label")?,
-        };
-        list.push(Held { pair, count: 1 })?;
-    }
-    Ok(list)
-}
-
-// The table of pairs that differ, each held once.
-fn table_of(alloc: Global, pairs: &[Held]) -> Result<CopiedTable, Fail> {
-    let mut store = Store::new(alloc, Limits::default())?;
-    for held in pairs {
-        store.edit(&Edit::Add {
-            pair: held.pair,
-            copies: 1,
-        })?;
-    }
-    Ok(CopiedTable::build(alloc, store.bag())?)
-}
-
-#[test]
-fn nested_cells_make_ranges(rt: HostRuntime) -> Result<(), Fail> {
-    let alloc = rt.alloc();
-    let pairs = held_of(alloc, &[(b"04", 9), (b"1", 7)])?;
-    let table = table_of(alloc, pairs.as_slice())?;
-    let mut rows = Vec::new(alloc);
-    for (k, row) in ranges(&table) {
-        assert!(rt; k < table.range_count());
-        rows.push((
-            row.start,
-            row.limit,
-            collected(alloc, contents(&table, k))?.len(),
-        ))?;
-    }
-    assert_eq!(rt;
-        rows.as_slice(),
-        [
-            (1, 0x0800000000000001, 2),
-            (0x0800000000000001, 0x2000000000000001, 1),
-            (0x2000000000000001, 0xc000000000000001, 0),
-        ]
-        .as_slice()
-    );
-    assert!(rt; 0 < table.range_count());
-    let over = collected(alloc, contents(&table, 0))?;
-    assert_eq!(rt; over.as_slice(), pairs.as_slice());
-    Ok(())
-}
-
-#[test]
-fn no_pair_makes_one_range(rt: HostRuntime) -> Result<(), Fail> {
-    let table = table_of(rt.alloc(), [].as_slice())?;
-    let mut rows = Vec::new(rt.alloc());
-    for (_, row) in ranges(&table) {
-        rows.push(row)?;
-    }
-    let all = RangeRow {
-        start: 1,
-        limit: 0xc000000000000001,
-    };
-    assert_eq!(rt; rows.as_slice(), [all].as_slice());
-    assert_eq!(rt; table.range_count(), 1);
-    assert_eq!(rt; collected(rt.alloc(), contents(&table, 0))?.len(), 0);
-    Ok(())
-}
-
-#[test]
-fn meeting_lists_rise_by_their_first_shared_leaf(rt: HostRuntime) -> Result<(), Fail> {
-    let alloc = rt.alloc();
-    for (pairs, tokens, met) in [
-        (
-            [(b"1".as_slice(), 7), (b"04", 9)].as_slice(),
-            [b"0c".as_slice()].as_slice(),
-            [(b"1".as_slice(), 7)].as_slice(),
-        ),
-        (
-            &[(b"1", 7), (b"04", 9), (b"1c", 2)],
-            &[b"1c", b"04"],
-            &[(b"04", 9), (b"1", 7), (b"1c", 2)],
-        ),
-        (
-            &[(b"04", 9), (b"5", 3), (b"44", 6), (b"4c", 1)],
-            &[b"04", b"4c"],
-            &[(b"04", 9), (b"4c", 1), (b"5", 3)],
-        ),
-    ] {
-        let table = table_of(alloc, held_of(alloc, pairs)?.as_slice())?;
-        let cells = cells_of(alloc, tokens)?;
-        let target = CellUnion::normalise(alloc, cells.as_slice())?;
-        let list = table.meeting(alloc, &target)?;
-        let wanted = held_of(alloc, met)?;
-        assert_eq!(rt; list.as_slice(), wanted.as_slice());
-        check_visit(&rt, &table, &target, wanted.as_slice(), 2);
     }
     Ok(())
 }

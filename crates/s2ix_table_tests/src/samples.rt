@@ -4,13 +4,10 @@ ghost use Rattle.s2id_core.specs.CellId.{level_of, raw_of};
 ghost use Rattle.s2ix_bag.specs.declared.pair.Held.{Held};
 ghost use Rattle.s2ix_table.specs.Table.{IsFound, run_at};
 
-use crate::copied::CopiedTable;
-use crate::iter::ranges;
-use crate::row::RangeRow;
-use crate::table::RangeTable;
 use s2id_core::CellId;
 use s2id_union::CellUnion;
 use s2ix_bag::{Bag, Change, Entry, Held, Label, Limits, Pair};
+use s2ix_table::{CopiedTable, RangeRow, RangeTable, ranges};
 use std::alloc::Global;
 use std::process::Abort;
 use std::test::Fail;
@@ -31,15 +28,22 @@ pub fn held_of(rt: &impl Abort, token: &[u8], label: u32, count: u32) -> Held {
     }
 }
 
-/// The union of the cells of two tokens.
-pub fn union_of(
-    rt: &impl Abort,
-    alloc: Global,
-    first: &[u8],
-    second: &[u8],
-) -> Result<CellUnion, Fail> {
-    let cells = [cell_of(rt, first), cell_of(rt, second)];
-    Ok(CellUnion::normalise(alloc, cells.as_slice())?)
+/// Held pairs, once each, by the tokens of their cells.
+pub fn all_held(rt: &impl Abort, alloc: Global, pairs: &[(&[u8], u32)]) -> Result<Vec<Held>, Fail> {
+    let mut list = Vec::new(alloc);
+    for &(token, label) in pairs {
+        list.push(held_of(rt, token, label, 1))?;
+    }
+    Ok(list)
+}
+
+/// The union of the cells of some tokens.
+pub fn union_of(rt: &impl Abort, alloc: Global, tokens: &[&[u8]]) -> Result<CellUnion, Fail> {
+    let mut cells = Vec::new(alloc);
+    for token in tokens {
+        cells.push(cell_of(rt, token))?;
+    }
+    Ok(CellUnion::normalise(alloc, &cells)?)
 }
 
 /// The table of pairs that differ.

@@ -1,0 +1,19 @@
+//! Tests of bags and stores: counts, limits, changes, edits, undo and redo, and the table that follows.
+#![tactic(auto)]
+
+#[cfg(test)]
+mod bag_tests;
+#[cfg(test)]
+mod change_tests;
+#[cfg(test)]
+mod edit_tests;
+#[cfg(test)]
+mod limit_tests;
+#[cfg(test)]
+mod move_tests;
+#[cfg(test)]
+mod samples;
+#[cfg(test)]
+mod store_tests;
+#[cfg(test)]
+mod table_tests;

@@ -1,0 +1,33 @@
+// Labels and limits, and their ranges.
+use s2ix_bag::{Label, Limits};
+
+#[test]
+fn labels_have_31_bits(rt: HostRuntime) {
+    let greatest = Label::new(2147483647).expect(&rt, "the greatest label");
+    assert_eq!(rt; greatest.get(), 2147483647);
+    assert!(rt; Label::new(2147483648).is_none());
+}
+
+#[test]
+fn limits_are_within_their_ranges(rt: HostRuntime) {
+    let widest = Limits::new(1_000_000, 65_535, 100_000).expect(&rt, "the widest limits");
+    assert_eq!(rt;
+        (widest.pairs(), widest.count(), widest.changes()),
+        (1_000_000, 65_535, 100_000)
+    );
+    assert_eq!(rt; Limits::default(), widest);
+    assert!(rt; Limits::new(1, 1, 1).is_some());
+    for (pairs, count, changes) in [
+        (0, 1, 1),
+        (1, 0, 1),
+        (1, 1, 0),
+        (1_000_001, 1, 1),
+        (1, 65_536, 1),
+        (1, 1, 100_001),
+    ] {
+        assert!(rt;
+            Limits::new(pairs, count, changes).is_none(),
+            "{pairs} {count} {changes}"
+        );
+    }
+}

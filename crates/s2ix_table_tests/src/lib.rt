@@ -1,0 +1,13 @@
+//! Tests of range tables: worked ones, and random ones beside a plain filter of their pairs.
+#![tactic(auto)]
+
+#[cfg(test)]
+mod filter_tests;
+#[cfg(test)]
+mod plain;
+#[cfg(test)]
+mod random;
+#[cfg(test)]
+mod samples;
+#[cfg(test)]
+mod worked_tests;
