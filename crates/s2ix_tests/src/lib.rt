@@ -2,6 +2,8 @@
 #![tactic(auto)]
 
 #[cfg(test)]
+mod adapter_tests;
+#[cfg(test)]
 mod cases;
 #[cfg(test)]
 mod device_tests;
