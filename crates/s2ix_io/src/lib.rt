@@ -3,6 +3,8 @@
 //! a whole text.
 #![tactic(auto)]
 
+#[cfg(test)]
+mod adapter_tests;
 mod broken;
 #[cfg(test)]
 mod device_tests;

@@ -1,0 +1,7 @@
+//! Tests of the lines of scripts, and of what they ask for.
+#![tactic(auto)]
+
+#[cfg(test)]
+mod line_tests;
+#[cfg(test)]
+mod meaning_tests;
