@@ -1,5 +1,5 @@
 // What the adapters ask of std's readers and writers: no contract speaks of it, since std's traits have no relation for a call.
-use s2ix_text::{FromRead, ReadFault, Sink, Source, ToWrite, WriteFault};
+use crate::{FromRead, ReadFault, Sink, Source, ToWrite, WriteFault};
 use std::alloc::{AllocError, Global};
 use std::io;
 use std::io::{ErrorKind, Read, Write};
