@@ -1,9 +1,9 @@
 // Long scripts of a fixed generator, with what a plain model answers to them.
-use s2ix_io::{KeepingSink, SliceSource};
 use crate::model::{Answer, Cell, Model, Row, token};
 use s2ix_bag::Limits;
 use s2ix_cli::{RunOptions, run};
 use s2ix_edit::Store;
+use s2ix_io::{KeepingSink, SliceSource};
 use std::alloc::Global;
 use std::process::Abort;
 use std::test::Fail;

@@ -1,11 +1,10 @@
 // Runs of `dump` over an empty store that a device ends.
 ghost use Rattle.std.specs.Prelude.{◌-◌, ◌^◌, ◌<◌};
 
-use s2ix_io::{KeepingSink, SliceSource, TakesNone};
 use s2ix_bag::Limits;
 use s2ix_cli::{RunEnd, RunFault, RunOptions, run};
 use s2ix_edit::Store;
-use s2ix_io::{Sink, Source, ToWrite};
+use s2ix_io::{KeepingSink, Sink, SliceSource, Source, TakesNone, ToWrite};
 use std::alloc::Global;
 use std::test::Fail;
 

@@ -1,7 +1,6 @@
 // Sources that are read whole.
-use s2ix_io::SliceSource;
 use s2ix_cli::{RunFault, read_whole};
-use s2ix_io::Source;
+use s2ix_io::{SliceSource, Source};
 
 #[test]
 fn all_pieces_are_read(rt: HostRuntime) {

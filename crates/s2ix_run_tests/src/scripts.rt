@@ -1,8 +1,8 @@
 // Scripts with what runs of them print, and runs that are compared with it.
-use s2ix_io::{KeepingSink, SliceSource};
 use s2ix_bag::Limits;
 use s2ix_cli::{RunOptions, run};
 use s2ix_edit::Store;
+use s2ix_io::{KeepingSink, SliceSource};
 use std::alloc::Global;
 use std::process::Abort;
 use std::test::Fail;

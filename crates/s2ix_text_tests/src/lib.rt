@@ -7,3 +7,5 @@ mod dump_tests;
 mod journal_tests;
 #[cfg(test)]
 mod list_tests;
+#[cfg(test)]
+mod samples;

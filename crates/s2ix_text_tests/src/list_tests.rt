@@ -1,28 +1,13 @@
 // Lists of pairs, labels and entries, contents of leaves and ranges of tables, by their calls with no script.
+use crate::samples::{pair_of, store_of};
 use s2id_core::CellId;
-use s2ix_bag::{Entry, Held, Label, Limits, Pair};
-use s2ix_edit::{Edit, Store};
+use s2ix_bag::{Entry, Held, Label};
 use s2ix_io::{KeepingSink, Sink, WriteFault};
 use s2ix_text::{Line, write_contents, write_list, write_ranges};
-use std::alloc::Global;
 use std::test::Fail;
 
-fn pair_of(token: &[u8], label: u32) -> Result<Pair, Fail> {
-    Ok(Pair {
-        cell: CellId::from_token(token)?,
-        label: Label::new(label).ok_or("a label is out of its range")?,
-    })
-}
-
-// The store of a face under label 7, and of a cell in it under label 9, twice.
-fn nested_store(alloc: Global) -> Result<Store, Fail> {
-    let mut store = Store::new(alloc, Limits::default())?;
-    for (token, label, copies) in [(b"1".as_slice(), 7, 1), (b"04".as_slice(), 9, 2)] {
-        let pair = pair_of(token, label)?;
-        store.edit(&Edit::Add { pair, copies })?;
-    }
-    Ok(store)
-}
+// A face under label 7, and a cell in it under label 9, twice.
+const NESTED: [(&[u8], u32, u32); 2] = [(b"1", 7, 1), (b"04", 9, 2)];
 
 #[test]
 fn a_list_has_its_items_and_their_number(rt: HostRuntime) -> Result<(), Fail> {
@@ -73,7 +58,7 @@ fn an_empty_list_is_its_end(rt: HostRuntime) -> Result<(), Fail> {
 
 #[test]
 fn tables_are_written(rt: HostRuntime) -> Result<(), Fail> {
-    let store = nested_store(rt.alloc())?;
+    let store = store_of(rt.alloc(), &NESTED)?;
     let leaf = CellId::from_token(b"0000000000000001")?;
     assert!(rt; leaf.is_leaf());
     let mut sink = KeepingSink::new(rt.alloc(), 5, 0, false);
@@ -93,7 +78,7 @@ fn tables_are_written(rt: HostRuntime) -> Result<(), Fail> {
 
 #[test]
 fn a_fault_ends_a_list(rt: HostRuntime) -> Result<(), Fail> {
-    let store = nested_store(rt.alloc())?;
+    let store = store_of(rt.alloc(), &NESTED)?;
     let mut sink = KeepingSink::new(rt.alloc(), 9, 3, false);
     assert_eq!(rt; write_ranges(store.table(), &mut sink), Err(WriteFault));
     assert_eq!(rt; sink.kept(), b"0000000000000001".as_slice());
