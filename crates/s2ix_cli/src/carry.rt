@@ -10,8 +10,8 @@ use crate::moves::{Refusal, moved};
 use crate::outcome::{LineOutcome, RunFault};
 use crate::query::answer_query;
 use s2ix_edit::Store;
-use s2ix_script::{Command, LineError, Move, meaning};
 use s2ix_io::Sink;
+use s2ix_script::{Command, LineError, Move, meaning};
 use std::alloc::Global;
 
 // Carries a line out, and prints its answer.

@@ -10,9 +10,9 @@ use crate::outcome::{LineOutcome, RunFault};
 use s2id_core::CellId;
 use s2id_cube::to_face_ij;
 use s2ix_edit::Store;
+use s2ix_io::Sink;
 use s2ix_script::Query;
 use s2ix_table::RangeTable;
-use s2ix_io::Sink;
 use s2ix_text::{write_contents, write_dump, write_journal, write_list, write_ranges};
 use std::alloc::Global;
 

@@ -11,8 +11,8 @@ use crate::carry::carry_out;
 use crate::outcome::{RunEnd, RunFault, RunOptions};
 use crate::reading::read_whole;
 use s2ix_edit::Store;
-use s2ix_script::Lines;
 use s2ix_io::{Sink, Source};
+use s2ix_script::Lines;
 use std::alloc::Global;
 
 /// Carries out the lines of a script over a store, and writes their answers: all of them, or with `stop` up to and with the first that
