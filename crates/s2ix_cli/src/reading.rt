@@ -2,7 +2,8 @@
 ghost use Rattle.std.specs.Prelude.{◌≡◌, ◌≢◌, ℕ, ◌+◌, ◌-◌, ◌^◌, ◌<◌, List, Err, IfOk, IfErr, OnOk, OnErr};
 ghost use Rattle.std.specs.Io.KnownBytes.{Consumes, IsAtEnd};
 ghost use Rattle.s2ix_cli.specs.Faults.{source_faults, IsPatient};
-ghost use Rattle.s2ix_io.specs.Pieces.{ReadsToEnd};
+ghost use Rattle.s2ix_io.specs.Pieces.{ReadsToEnd, ReadsWithin};
+ghost use Rattle.s2ix_cli.specs.Wants.{IsWantOnlyIf};
 
 use crate::outcome::RunFault;
 use s2ix_io::Source;
@@ -20,6 +21,7 @@ pub fn read_whole<S: Source>(alloc: Global, source: &mut S, turns: u64) -> Resul
     ensures whole { IfOk result (λ text. Consumes (S.left source.old) (S.left source.new) text.items × IsAtEnd (S.left source.new)) }
     ensures in_turns { OnOk result (ReadsToEnd S.gives turns source.old source.new) }
     ensures stopped { OnErr result ((input : List ℕ) × Consumes (S.left source.old) (S.left source.new) input) }
+    ensures memory { IfErr result (IsWantOnlyIf (ReadsWithin S.gives turns source.old source.new)) }
     ensures too_long { IfErr result (λ fault. IsPatient S.gives fault turns source.old source.new) }
     ensures no_write { result ≢ Err RunFault.Write }
     ensures faults { S.fault_count source.new ≡ S.fault_count source.old + source_faults result }

@@ -3,7 +3,7 @@ ghost use Rattle.std.specs.Prelude.{◌≡◌, ◌≢◌, ◌⊎◌, ℕ, ◌+�
 ghost use Rattle.std.specs.Io.KnownBytes.{Keeps, Consumes, IsAtEnd};
 ghost use Rattle.s2ix_cli.specs.Faults.{source_faults, sink_faults, IsPatient};
 ghost use Rattle.s2ix_script.specs.Lines.{lines_of};
-ghost use Rattle.s2ix_io.specs.Pieces.{ReadsToEnd};
+ghost use Rattle.s2ix_io.specs.Pieces.{ReadsToEnd, ReadsWithin};
 ghost use Rattle.s2ix_cli.specs.Script.{Finishes, FinishesFlushed, StopsAfter, StopsAmong};
 ghost use Rattle.s2ix_cli.specs.Wants.{IsWantOnlyIf, WantsAmong};
 
@@ -39,7 +39,8 @@ pub fn run<S: Source, K: Sink>(
     ensures in_turns { OnOk result (ReadsToEnd S.gives options.turns source.old source.new) }
     ensures stopped { IfErr result (λ fault. (input : List ℕ) × Consumes (S.left source.old) (S.left source.new) input
         × StopsAfter fault options.stop input (S.left source.new) store.old store.new (K.taken sink.old) (K.taken sink.new)) }
-    ensures memory { IfErr result (IsWantOnlyIf (((store.new ≡ store.old) × Keeps (K.taken sink.old) (K.taken sink.new))
+    ensures memory { IfErr result (IsWantOnlyIf ((ReadsWithin S.gives options.turns source.old source.new
+        × (store.new ≡ store.old) × Keeps (K.taken sink.old) (K.taken sink.new))
         ⊎ ((input : List ℕ) × Consumes (S.left source.old) (S.left source.new) input
         × WantsAmong options.stop (lines_of input) store.old store.new (K.taken sink.old) (K.taken sink.new)))) }
     ensures too_long { IfErr result (λ fault. IsPatient S.gives fault options.turns source.old source.new) }

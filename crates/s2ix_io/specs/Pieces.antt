@@ -1,5 +1,5 @@
 -- Pieces that a source gave, one after the other.
-use Rattle.std.specs.Prelude.{◌≡◌, ℕ, zero, suc, ◌<◌, Option, List, length}
+use Rattle.std.specs.Prelude.{◌≡◌, ℕ, zero, suc, ◌<◌, ◌≤◌, Option, List, length}
 use Rattle.std.specs.Io.KnownBytes.{Consumes}
 
 -- between the two states so many bytes were read, of those that are known
@@ -10,6 +10,10 @@ Gave old n new = (bytes : List ℕ) × Consumes old new bytes × (length bytes �
 abbrev pub ReadsOn : {S : Type 0} → (S → ℕ → S → Type 0) → ℕ → S → S → Type 0
 ReadsOn gives zero old new = old ≡ new
 ReadsOn {S} gives (suc pieces) old new = (mid : S) × ReadsOn gives pieces old mid × (n : ℕ) × (0 < n) × gives mid n new
+
+-- from the first state of a source to the second at most `turns` pieces were read, and none was the end
+abbrev pub ReadsWithin : {S : Type 0} → (S → ℕ → S → Type 0) → ℕ → S → S → Type 0
+ReadsWithin gives turns old new = (pieces : ℕ) × (pieces ≤ turns) × ReadsOn gives pieces old new
 
 -- from the first state of a source to the second fewer than `turns` pieces were read, each with a byte at least, and then the one
 -- that was the end

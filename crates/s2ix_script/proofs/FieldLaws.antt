@@ -9,7 +9,7 @@ use Rattle.bstr.specs.Text.{part}
 use Rattle.bstr.specs.Utf8.{decoded, decoded_by, lossy_chars, or_replacement, pieces, spans_from}
 use Rattle.bstr.proofs.lemmas.FieldLemmas.{fields-skip, fields-start, fields-stop, fields-more, fields-nil, fields-last}
 use Rattle.bstr.proofs.lemmas.PieceLemmas.{decoded_by-cut, lossy_chars-nil, lossy_chars-step, piece-bounds, spans-first, spans-nil}
-use Rattle.s2ix_script.specs.Fields.{HasNoWhiteSpace, IsBlank, StandInOrder, fields_of}
+use Rattle.s2ix_script.specs.Fields.{HasNoWhiteSpace, IsBlank, StandApart, fields_of}
 
 -- ---- a front of some bytes that is whole pieces
 
@@ -75,24 +75,28 @@ part_behind i j hay le =
 parts_behind : (i j k : ℕ) (hay : List ℕ) → i ≤ j → j ≤ k → drop i hay ≡ part i j hay ++ (part j k hay ++ drop k hay)
 parts_behind i j k hay first second = part_behind i j hay first ∙ ap (λ rest. part i j hay ++ rest) (part_behind j k hay second)
 
--- fields stand in a line: before and behind each is white space, and in it none
-abbrev pub Stand : List (List ℕ) → List ℕ → Type 0
-Stand [] line = IsBlank line
-Stand (field ∷ fields) line = (before : List ℕ) × (behind : List ℕ) × (line ≡ before ++ (field ++ behind)) × IsBlank before × (0 < length field) × HasNoWhiteSpace field × Stand fields behind
+-- fields stand in a line: before and behind each is white space, so many bytes of it at least before the first and one before each
+-- other one, and in it none
+abbrev pub Stand : ℕ → List (List ℕ) → List ℕ → Type 0
+Stand least [] line = IsBlank line
+Stand least (field ∷ fields) line =
+    (before : List ℕ) × (behind : List ℕ) × (line ≡ before ++ (field ++ behind)) × IsBlank before × (least ≤ length before) × (0 < length field) × HasNoWhiteSpace field × Stand 1 fields behind
 
 -- a stretch is no longer than what it is cut from
 part_fits : (i j : ℕ) (hay : List ℕ) → j ≤ length hay → j - i ≤ length (drop i hay)
 part_fits i j hay le = omega (arith, length-drop i hay)
 
 -- one field more
-stand_more : (hay : List ℕ) (fields : List (List ℕ)) (from a b m n : ℕ) → from ≤ a → a < b → b ≤ length hay → AreAlike is_whitespace true m (a - from) (drop from hay)
-    → AreAlike is_whitespace false n (b - a) (drop a hay) → Stand fields (drop b hay) → Stand (part a b hay ∷ fields) (drop from hay)
-stand_more hay fields from a b m n before some within blank word later =
-    let long : length (part a b hay) ≡ b - a = length-take-le (b - a) (drop a hay) (part_fits a b hay within) in (
+stand_more : (hay : List ℕ) (fields : List (List ℕ)) (least from a b m n : ℕ) → from + least ≤ a → a < b → b ≤ length hay → AreAlike is_whitespace true m (a - from) (drop from hay)
+    → AreAlike is_whitespace false n (b - a) (drop a hay) → Stand 1 fields (drop b hay) → Stand least (part a b hay ∷ fields) (drop from hay)
+stand_more hay fields least from a b m n before some within blank word later =
+    let long : length (part a b hay) ≡ b - a = length-take-le (b - a) (drop a hay) (part_fits a b hay within) in
+    let wide : length (part from a hay) ≡ a - from = length-take-le (a - from) (drop from hay) (part_fits from a hay (omega arith)) in (
       part from a hay,
       drop b hay,
-      parts_behind from a b hay before (omega arith),
+      parts_behind from a b hay (omega arith) (omega arith),
       alike_chars is_whitespace true m (a - from) (drop from hay) (part_fits from a hay (omega arith)) blank,
+      omega arith,
       omega arith,
       alike_chars is_whitespace false n (b - a) (drop a hay) (part_fits a b hay within) word,
       later,
@@ -112,14 +116,14 @@ blank_nothing rest e = subst IsBlank e (subst (All (λ c. is_whitespace c ≡ tr
 -- what is left of a line from an index on: behind white space, and within a field
 abbrev Rest : List ℕ → ℕ → List (ℕ × ℕ × ℕ) → Type 0
 Rest hay off spans =
-    ((from m : ℕ) → from ≤ off → AreAlike is_whitespace true m (off - from) (drop from hay) → Stand (fields_acc is_whitespace hay None spans) (drop from hay))
-    × ((from a m n : ℕ) → from ≤ a → a < off → AreAlike is_whitespace true m (a - from) (drop from hay) → AreAlike is_whitespace false n (off - a) (drop a hay)
-    → Stand (fields_acc is_whitespace hay (Some (a, off)) spans) (drop from hay))
+    ((least from m : ℕ) → from + least ≤ off → AreAlike is_whitespace true m (off - from) (drop from hay) → Stand least (fields_acc is_whitespace hay None spans) (drop from hay))
+    × ((least from a m n : ℕ) → from + least ≤ a → a < off → AreAlike is_whitespace true m (a - from) (drop from hay) → AreAlike is_whitespace false n (off - a) (drop a hay)
+    → Stand least (fields_acc is_whitespace hay (Some (a, off)) spans) (drop from hay))
 
 rest_end : (hay : List ℕ) (off : ℕ) → off ≡ length hay → [] ≡ drop off hay → Rest hay off []
 rest_end hay off end none = (
-  λ from m le blank. subst (λ fs. Stand fs (drop from hay)) (sym (fields-nil is_whitespace hay)) (stand_end hay from off m le end blank),
-  λ from a m n le some blank word. subst (λ fs. Stand fs (drop from hay)) (sym (fields-last is_whitespace hay a off)) (stand_more hay [] from a off m n le some (omega arith) blank word (blank_nothing _ none)),
+  λ least from m le blank. subst (λ fs. Stand least fs (drop from hay)) (sym (fields-nil is_whitespace hay)) (stand_end hay from off m (omega arith) end blank),
+  λ least from a m n le some blank word. subst (λ fs. Stand least fs (drop from hay)) (sym (fields-last is_whitespace hay a off)) (stand_more hay [] least from a off m n le some (omega arith) blank word (blank_nothing _ none)),
 )
 
 -- one piece more behind what is alike
@@ -137,19 +141,19 @@ rest_step hay bs off spans true is some same rest =
     let span : ℕ × ℕ × ℕ = (off, off + (decoded bs).size, or_replacement (decoded bs).char) in
     let bounds = piece-bounds bs some in
     let long : length bs ≡ length hay - off = ap length is ∙ length-drop off hay in (
-      λ from m le blank. subst (λ fs. Stand fs (drop from hay)) (sym (fields-skip is_whitespace hay span spans same))
-          (rest.0 from (suc m) (omega arith) (alike_next true hay bs m from off is some le same blank)),
-      λ from a m n le inside blank word. subst (λ fs. Stand fs (drop from hay)) (sym (fields-stop is_whitespace hay span spans a off same))
-          (stand_more hay _ from a off m n le inside (omega arith) blank word
-          (rest.0 off 1 (omega arith) (alike_next true hay bs 0 off off is some (omega arith) same (omega arith)))),
+      λ least from m le blank. subst (λ fs. Stand least fs (drop from hay)) (sym (fields-skip is_whitespace hay span spans same))
+          (rest.0 least from (suc m) (omega arith) (alike_next true hay bs m from off is some (omega arith) same blank)),
+      λ least from a m n le inside blank word. subst (λ fs. Stand least fs (drop from hay)) (sym (fields-stop is_whitespace hay span spans a off same))
+          (stand_more hay _ least from a off m n le inside (omega arith) blank word
+          (rest.0 1 off 1 (omega arith) (alike_next true hay bs 0 off off is some (omega arith) same (omega arith)))),
     )
 rest_step hay bs off spans false is some same rest =
     let span : ℕ × ℕ × ℕ = (off, off + (decoded bs).size, or_replacement (decoded bs).char) in
     let bounds = piece-bounds bs some in (
-      λ from m le blank. subst (λ fs. Stand fs (drop from hay)) (sym (fields-start is_whitespace hay span spans same))
-          (rest.1 from off m 1 le (omega arith) blank (alike_next false hay bs 0 off off is some (omega arith) same (omega arith))),
-      λ from a m n le inside blank word. subst (λ fs. Stand fs (drop from hay)) (sym (fields-more is_whitespace hay span spans a off same))
-          (rest.1 from a m (suc n) le (omega arith) blank (alike_next false hay bs n a off is some (omega arith) same word)),
+      λ least from m le blank. subst (λ fs. Stand least fs (drop from hay)) (sym (fields-start is_whitespace hay span spans same))
+          (rest.1 least from off m 1 le (omega arith) blank (alike_next false hay bs 0 off off is some (omega arith) same (omega arith))),
+      λ least from a m n le inside blank word. subst (λ fs. Stand least fs (drop from hay)) (sym (fields-more is_whitespace hay span spans a off same))
+          (rest.1 least from a m (suc n) le (omega arith) blank (alike_next false hay bs n a off is some (omega arith) same word)),
     )
 
 rest_of : (fuel : ℕ) (hay bs : List ℕ) (off : ℕ) → length bs ≤ fuel → off ≤ length hay → bs ≡ drop off hay → Rest hay off (spans_from off (pieces bs))
@@ -168,20 +172,20 @@ rest_of (suc fuel) hay (x ∷ xs) off few within is =
     subst (Rest hay off) (sym (spans-first bs off (omega arith))) (rest_step hay bs off _ _ is (omega arith) refl later)
 
 -- the fields of a line stand in it
-pub stand : (line : List ℕ) → Stand (fields_of line) line
+pub stand : (line : List ℕ) → Stand 0 (fields_of line) line
 unfolding fields_of
-stand line = (rest_of (length line) line line 0 (omega arith) (omega arith) refl).0 0 0 (omega arith) (omega arith)
+stand line = (rest_of (length line) line line 0 (omega arith) (omega arith) refl).0 0 0 0 (omega arith) (omega arith)
 
 -- ---- what that says
 
-pub no_empty : (fields : List (List ℕ)) (line : List ℕ) → Stand fields line → All (λ field. field ≢ []) fields
-no_empty [] line s = All-nil _
-no_empty (field ∷ fields) line s = All-cons (λ xs. xs ≢ []) field fields (λ e. let some : 0 < length field = s.4 in let none : length field ≡ 0 = ap length e in absurd (omega arith)) (no_empty fields s.1 s.6)
+pub no_empty : (least : ℕ) (fields : List (List ℕ)) (line : List ℕ) → Stand least fields line → All (λ field. field ≢ []) fields
+no_empty least [] line s = All-nil _
+no_empty least (field ∷ fields) line s = All-cons (λ xs. xs ≢ []) field fields (λ e. let some : 0 < length field = s.5 in let none : length field ≡ 0 = ap length e in absurd (omega arith)) (no_empty 1 fields s.1 s.7)
 
-pub no_white_space : (fields : List (List ℕ)) (line : List ℕ) → Stand fields line → All HasNoWhiteSpace fields
-no_white_space [] line s = All-nil _
-no_white_space (field ∷ fields) line s = All-cons HasNoWhiteSpace field fields s.5 (no_white_space fields s.1 s.6)
+pub no_white_space : (least : ℕ) (fields : List (List ℕ)) (line : List ℕ) → Stand least fields line → All HasNoWhiteSpace fields
+no_white_space least [] line s = All-nil _
+no_white_space least (field ∷ fields) line s = All-cons HasNoWhiteSpace field fields s.6 (no_white_space 1 fields s.1 s.7)
 
-pub in_order : (fields : List (List ℕ)) (line : List ℕ) → Stand fields line → StandInOrder fields line
-in_order [] line s = s
-in_order (field ∷ fields) line s = (s.0, s.1, s.2, s.3, in_order fields s.1 s.6)
+pub apart : (least : ℕ) (fields : List (List ℕ)) (line : List ℕ) → Stand least fields line → StandApart least fields line
+apart least [] line s = s
+apart least (field ∷ fields) line s = (s.0, s.1, s.2, s.3, s.4, apart 1 fields s.1 s.7)

@@ -1,5 +1,5 @@
 -- The fields of a line, and what they write.
-use Rattle.std.specs.Prelude.{◌≡◌, ℕ, true, false, All, ◌&&◌, nat_lt, nat_le, if◌then◌else◌, Option, Some, None, List, [], ◌∷◌, ◌++◌, length}
+use Rattle.std.specs.Prelude.{◌≡◌, ◌≤◌, ℕ, true, false, All, ◌&&◌, nat_lt, nat_le, if◌then◌else◌, Option, Some, None, List, [], ◌∷◌, ◌++◌, length}
 use Rattle.std.specs.Char.{is_whitespace, is_ascii_digit}
 use Rattle.std.specs.List.{list_all}
 use Rattle.std.specs.Option.{option_and_then}
@@ -21,10 +21,16 @@ IsBlank text = All (λ c. is_whitespace c ≡ true) (lossy_chars text)
 abbrev pub HasNoWhiteSpace : List ℕ → Type 0
 HasNoWhiteSpace text = All (λ c. is_whitespace c ≡ false) (lossy_chars text)
 
--- fields stand in a line in their order, each behind the one before it, with nothing but white space around them
+-- fields stand in a line in their order: before the first are `least` bytes of white space or more, before each other one some, and
+-- behind the last is nothing else
+abbrev pub StandApart : ℕ → List (List ℕ) → List ℕ → Type 0
+StandApart least [] line = IsBlank line
+StandApart least (field ∷ fields) line =
+    (before : List ℕ) × (behind : List ℕ) × (line ≡ before ++ (field ++ behind)) × IsBlank before × (least ≤ length before) × StandApart 1 fields behind
+
+-- the same, with white space before the first or none
 abbrev pub StandInOrder : List (List ℕ) → List ℕ → Type 0
-StandInOrder [] line = IsBlank line
-StandInOrder (field ∷ fields) line = (before : List ℕ) × (behind : List ℕ) × (line ≡ before ++ (field ++ behind)) × IsBlank before × StandInOrder fields behind
+StandInOrder fields line = StandApart 0 fields line
 
 -- the number that 1 to 10 decimal digits write; leading zeros are accepted
 unfoldable pub script_number : List ℕ → Option ℕ

@@ -12,8 +12,8 @@ pub fn no_field_has_white_space()
     ensures { (line : List ℕ) → All HasNoWhiteSpace (fields_of line) }
 {}
 
-/// The fields stand in the line in their order, each behind the one before it, and around them is nothing but white
-/// space.
+/// The fields stand in the line in their order, with white space between each two of them, and around them is nothing
+/// else.
 pub fn fields_stand_in_order()
     ensures { (line : List ℕ) → StandInOrder (fields_of line) line }
 {}

@@ -24,4 +24,4 @@ returns-in_err-flush-clause-stopped g c =
 pub returns-in_err-input-clause-memory : goal.returns-in_err-input-clause-memory
 returns-in_err-input-clause-memory g c =
     let p = err_from_is_err_and c.from_residual.result c.from_residual.ensures.1 in
-    rw p.1 (λ _. inl (refl, Keeps-refl (g.K.Sink.taken c.args.sink.now)))
+    rw p.1 (λ wanted. inl (c.in_err-input.ensures.memory wanted, refl, Keeps-refl (g.K.Sink.taken c.args.sink.now)))
