@@ -1,5 +1,5 @@
 -- A fault while the input was read stops the run before its first line; one while the sink was flushed behind its last.
-use Rattle.std.proofs.Common.{inl, refl, sym, subst}
+use Rattle.std.proofs.Common.{inl, refl, sym, subst, ◌∙◌}
 use Rattle.std.specs.Io.KnownBytes.{Consumes}
 use Rattle.std.proofs.KnownBytes.{Keeps-refl}
 use Rattle.std.proofs.lemmas.Result.{err_from_is_err_and}
@@ -24,4 +24,4 @@ returns-in_err-flush-clause-stopped g c =
 pub returns-in_err-input-clause-memory : goal.returns-in_err-input-clause-memory
 returns-in_err-input-clause-memory g c =
     let p = err_from_is_err_and c.from_residual.result c.from_residual.ensures.1 in
-    rw p.1 (λ wanted. inl (c.in_err-input.ensures.memory wanted, refl, Keeps-refl (g.K.Sink.taken c.args.sink.now)))
+    rw p.1 (λ wanted. inl (c.in_err-input.ensures.memory (sym p.2 ∙ wanted), refl, Keeps-refl (g.K.Sink.taken c.args.sink.now)))
