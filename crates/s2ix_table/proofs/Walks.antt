@@ -20,17 +20,6 @@ use Rattle.s2ix_table.proofs.Meetings.{IsStep, step_meets, front_here, front_sto
 
 -- ---- the cells of the target
 
-pub passed_more : (target : List CellId) (k seen : ℕ) (x : CellId) → k < length target → x ≡ get_or target k x → end_of x ≤ seen → ArePassed target k seen → ArePassed target (k + 1) seen
-passed_more target k seen x lt is ends passed j d less within =
-    elim (cases_lt j k) [
-      | inl before ↦ passed j d before within
-      | inr ge ↦
-          (let here : j ≡ k = omega arith in
-          let e = ap (λ (y : CellId). end_of y) (is ∙ get_or_default target k x d lt) in
-          let f = ap (λ i. end_of (get_or target i d)) here in
-          omega arith)
-    ]
-
 pub passed_later : (target : List CellId) (k seen next : ℕ) → seen ≤ next → ArePassed target k seen → ArePassed target k next
 passed_later target k seen next le passed j d less within = let p = passed j d less within in omega arith
 
@@ -179,18 +168,6 @@ walk_past {P} chain target hs runs range limit end x walk a leads is_limit is_en
         place = leads.place;
       };
     }
-
--- ---- the walk
-
-pub walk_none : (target : List CellId) (q : ℕ) → 1 ≤ q → q + 2 ≡ 1 → Covers target q
-walk_none target q some e = absurd (omega arith)
-
-pub found_first : (hs : Collection) (runs : List Run) → IsRangeTable hs runs → IsFound runs 0 1
-found_first hs runs t =
-    let some = t.some in
-    let first = t.first in
-    let rises = t.rises 0 some in
-    record { within = some; start = omega arith; limit = omega arith }
 
 -- ---- the chain at hand
 
