@@ -10,7 +10,8 @@ use Rattle.s2ix_bag.specs.Collection.{Collection}
 use Rattle.s2ix_table.specs.declared.copied_row.CopiedRow.{CopiedRow}
 use Rattle.s2ix_table.specs.Contents.{contents_at}
 use Rattle.s2ix_table.specs.Copied.{run_of, runs_of}
-use Rattle.s2ix_table.specs.Table.{Run, run_at, leaf_end, IsNextBound, IsBound, IsTableOver, IsRangeTable, IsFound}
+use Rattle.s2ix_table.specs.Table.{Run, run_at, leaf_end, IsTableOver, IsRangeTable, IsFound}
+use Rattle.s2ix_table.specs.Filter.{IsNextBound, IsBound}
 use Rattle.s2ix_table.proofs.Over.{span_of}
 use Rattle.s2ix_table.proofs.Runs.{IsTable, IsRunFrom, changes_at, stays_between, table_push, places_from_table}
 

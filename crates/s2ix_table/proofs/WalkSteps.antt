@@ -9,10 +9,10 @@ use Rattle.s2id_union.specs.Covers.{Covers, IsChain}
 use Rattle.s2ix_bag.specs.Collection.{Collection}
 use Rattle.s2ix_bag.specs.declared.pair.Held.{Held}
 use Rattle.s2ix_table.specs.Meeting.{meeting_from}
-use Rattle.s2ix_table.specs.Places.{from_place, LeadsTo, front_from}
+use Rattle.s2ix_table.specs.Places.{from_place, LeadsTo}
 use Rattle.s2ix_table.specs.Table.{Run, run_at, leaf_end, IsRangeTable, IsFound}
-use Rattle.s2ix_table.specs.Walk.{left_of, ArePassed, IsWalk}
-use Rattle.s2ix_table.specs.declared.walk.Walk.{Walk}
+use Rattle.s2ix_table.specs.WalkState.{left_of, ArePassed, IsWalkState, front_from}
+use Rattle.s2ix_table.specs.declared.walk_state.WalkState.{WalkState}
 use Rattle.s2ix_table.proofs.Over.{IsOver, in_contents, contents_has}
 use Rattle.s2ix_table.proofs.Runs.{places_fit}
 use Rattle.s2ix_table.proofs.Building.{limits_rise}
@@ -115,11 +115,11 @@ abbrev pub GoesOn : ℕ → ℕ → ℕ → ℕ × ℕ → Type 0
 GoesOn range limit end to = ((limit ≤ end) × (to ≡ (range + 1, limit))) ⊎ ((end < limit) × (to ≡ (range, end)))
 
 -- a walk goes on behind a range, with the chain of that range at hand
-pub record IsPast {P : Type 0} (chain : P → Collection) (target : List CellId) (hs : Collection) (runs : List Run) (walk : Walk P) : Type 0 where
+pub record IsPast {P : Type 0} (chain : P → Collection) (target : List CellId) (hs : Collection) (runs : List Run) (walk : WalkState P) : Type 0 where
   pub left : meeting_from target walk.from hs ≡ left_of chain target hs walk
-  pub next : IsWalk chain target runs walk
+  pub next : IsWalkState chain target runs walk
 
-pub walk_past : {P : Type 0} (chain : P → Collection) (target : List CellId) (hs : Collection) (runs : List Run) (range limit end : ℕ) (x : CellId) (walk : Walk P) → IsAt target hs runs walk.cell walk.from range x → LeadsTo chain walk.place (run_at runs range).contents → limit ≡ (run_at runs range).limit → end ≡ end_of x → GoesOn range limit end (walk.range, walk.seen) → IsPast chain target hs runs walk
+pub walk_past : {P : Type 0} (chain : P → Collection) (target : List CellId) (hs : Collection) (runs : List Run) (range limit end : ℕ) (x : CellId) (walk : WalkState P) → IsAt target hs runs walk.cell walk.from range x → LeadsTo chain walk.place (run_at runs range).contents → limit ≡ (run_at runs range).limit → end ≡ end_of x → GoesOn range limit end (walk.range, walk.seen) → IsPast chain target hs runs walk
 walk_past {P} chain target hs runs range limit end x walk a leads is_limit is_end on =
     let s = span (raw_of x) x.valid in
     let s1 = s.odd in
