@@ -1,14 +1,13 @@
 -- Changes whose counts before are those of a collection.
-use Rattle.std.proofs.Common.{◌≡◌, ◌≢◌, ℕ, ◌+◌, ◌≤◌, List, [], ◌∷◌, Option, Some, None, refl, sym, ap, ◌∙◌, ⊎_elim, arith}
+use Rattle.std.proofs.Common.{◌≡◌, ℕ, ◌+◌, ◌≤◌, List, [], ◌∷◌, Option, Some, None, refl, sym, ap, ◌∙◌, ⊎_elim, arith}
 use Rattle.std.proofs.lemmas.Bool.{cases_eq}
 use Rattle.std.proofs.lemmas.Option.{some_pair_parts}
 use Rattle.s2ix_bag.specs.Apply.{AreBefore}
 use Rattle.s2ix_bag.specs.Collection.{Collection, IsCollection, count_at, count_in, set_count}
 use Rattle.s2ix_bag.specs.Change.{IsChangeList, IsChangeListFrom, counts_at, difference_of, count_after, changed, change_between, inverse_of}
 use Rattle.s2ix_bag.specs.Pair.{rank_of}
-use Rattle.s2ix_bag.specs.declared.pair.Pair.{Pair}
 use Rattle.s2ix_bag.specs.declared.pair.Entry.{Entry}
-use Rattle.s2ix_bag.proofs.Collections.{count_set_other, set_count_in}
+use Rattle.s2ix_bag.proofs.Collections.{count_set_other}
 use Rattle.s2ix_bag.proofs.Changes.{counts_head, counts_tail, counts_differ, changed_keeps, count_changed}
 use Rattle.s2ix_bag.proofs.Differences.{no_difference, some_difference, only_change}
 use Rattle.s2ix_bag.proofs.Inverse.{changed_inverse_between}
@@ -53,21 +52,6 @@ change_between-changed hs es hs_is es_is befores =
     (λ p.
     has_counts 0 hs es (rank_of p) (counts_at es (rank_of p)) es_is befores refl
     ∙ ap (λ c. difference_of (count_in hs p) c) (sym (count_changed 0 hs es (rank_of p) hs_is es_is))))
-
--- the change to the collection itself has no entry
-pub change_between-same : (hs : Collection) → IsCollection hs → change_between hs hs ≡ []
-change_between-same hs hs_is = change_between-changed hs [] hs_is tt tt
-
--- the change to a collection with another count of one pair has one entry
-pub change_between-set_count : (p : Pair) (n : ℕ) (hs : Collection) → IsCollection hs → count_in hs p ≢ n → change_between hs (set_count p n hs) ≡ record { pair = p; before = count_in hs p; after = n } ∷ []
-change_between-set_count p n hs hs_is ne =
-    change_between-changed hs (record { pair = p; before = count_in hs p; after = n } ∷ []) hs_is (omega arith, ne, tt) (refl, tt)
-
--- and none where the count is what it was
-pub change_between-set_count_same : (p : Pair) (n : ℕ) (hs : Collection) → IsCollection hs → count_in hs p ≡ n → change_between hs (set_count p n hs) ≡ []
-change_between-set_count_same p n hs hs_is same =
-    ap (λ c. change_between hs (set_count p c hs)) (sym same) ∙ ap (λ ks. change_between hs ks) (set_count_in p hs hs_is)
-    ∙ change_between-same hs hs_is
 
 -- a change that a collection takes, and then its inverse, give the first collection
 pub changed_inverse : (hs : Collection) (es : List Entry) → IsCollection hs → IsChangeList es → AreBefore hs es → changed (changed hs es) (inverse_of es) ≡ hs

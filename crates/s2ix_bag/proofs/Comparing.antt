@@ -3,7 +3,7 @@ use Rattle.std.proofs.Common.{◌≡◌, ℕ, ◌+◌, ◌<◌, List, [], ◌∷
 use Rattle.std.proofs.lemmas.Bool.{cases_eq, cond-true, cond-false}
 use Rattle.std.proofs.lemmas.List.{drop_more, drop_all, append_assoc, take-append-drop}
 use Rattle.s2ix_bag.specs.Collection.{Collection, IsCollection, IsCollectionFrom, AreBelow, count_at, count_in, past}
-use Rattle.s2ix_bag.specs.Change.{counts_at, difference_of, change_between, entry_with, gone}
+use Rattle.s2ix_bag.specs.Change.{counts_at, difference_of, change_between, entry_with, removal_of}
 use Rattle.s2ix_bag.specs.Pair.{rank_of}
 use Rattle.s2ix_bag.specs.declared.pair.Pair.{Pair}
 use Rattle.s2ix_bag.specs.declared.pair.Held.{Held}
@@ -55,16 +55,16 @@ first_entry p before after old new hs ks old_is new_is hs_is ks_is old_p new_p o
     (cases_eq before after)
 
 -- a first pair that is held no more
-between_gone : (h : Held) (hs ks : Collection) → IsCollection (h ∷ hs) → IsCollectionFrom (rank_of h.pair + 1) ks → change_between (h ∷ hs) ks ≡ gone h ∷ change_between hs ks
-between_gone h hs ks hs_is ks_is =
+between_removal : (h : Held) (hs ks : Collection) → IsCollection (h ∷ hs) → IsCollectionFrom (rank_of h.pair + 1) ks → change_between (h ∷ hs) ks ≡ removal_of h ∷ change_between hs ks
+between_removal h hs ks hs_is ks_is =
     first_entry h.pair h.count 0 (h ∷ hs) ks hs ks hs_is (from_lower 0 (rank_of h.pair + 1) ks (omega arith) ks_is) hs_is.2 ks_is (count_head h hs (rank_of h.pair) refl) (count_below (rank_of h.pair + 1) ks (rank_of h.pair) ks_is (omega arith)) (λ k ne. count_tail h hs k ne) (λ k ne. refl)
     ∙ entry_some h.pair h.count 0 (change_between hs ks) (λ none. omega (arith, none, hs_is.1))
 
-between_gone_all : (fs hs ks : Collection) (m n : ℕ) → AreBelow n fs → IsCollectionFrom m (fs ++ hs) → IsCollectionFrom n ks → change_between (fs ++ hs) ks ≡ map gone fs ++ change_between hs ks
-between_gone_all [] hs ks m n below all_is ks_is = refl
-between_gone_all (f ∷ fs) hs ks m n below all_is ks_is =
-    between_gone f (fs ++ hs) ks (omega arith, all_is.1, all_is.2) (from_lower (rank_of f.pair + 1) n ks (omega (arith, below.0)) ks_is)
-    ∙ ap (λ x. gone f ∷ x) (between_gone_all fs hs ks (rank_of f.pair + 1) n below.1 all_is.2 ks_is)
+between_removal_all : (fs hs ks : Collection) (m n : ℕ) → AreBelow n fs → IsCollectionFrom m (fs ++ hs) → IsCollectionFrom n ks → change_between (fs ++ hs) ks ≡ map removal_of fs ++ change_between hs ks
+between_removal_all [] hs ks m n below all_is ks_is = refl
+between_removal_all (f ∷ fs) hs ks m n below all_is ks_is =
+    between_removal f (fs ++ hs) ks (omega arith, all_is.1, all_is.2) (from_lower (rank_of f.pair + 1) n ks (omega (arith, below.0)) ks_is)
+    ∙ ap (λ x. removal_of f ∷ x) (between_removal_all fs hs ks (rank_of f.pair + 1) n below.1 all_is.2 ks_is)
 
 -- the first pair of the new collection, with the old one from it on
 between_first : (hs : Collection) (k : Held) (ks : Collection) → IsCollectionFrom (rank_of k.pair) hs → IsCollection (k ∷ ks) → change_between hs (k ∷ ks) ≡ entry_with k.pair (count_in hs k.pair) k.count (change_between (past hs (rank_of k.pair)) ks)
@@ -78,7 +78,7 @@ pub record Comparing (old new : Collection) (out : List Entry) (rest : Collectio
   pub rises : IsCollection rest
   pub made : out ++ change_between rest (drop i new) ≡ change_between old new
 
-pub comparing_step : (old new : Collection) (out : List Entry) (rest : Collection) (i n : ℕ) (k : Held) → i < length new → k ≡ get_or new i k → IsCollection new → Comparing old new out rest i → AreBelow (rank_of k.pair) (take n rest) → IsCollectionFrom (rank_of k.pair) (drop n rest) → Comparing old new ((out ++ map gone (take n rest)) ++ entry_with k.pair (count_in (drop n rest) k.pair) k.count []) (past (drop n rest) (rank_of k.pair)) (i + 1)
+pub comparing_step : (old new : Collection) (out : List Entry) (rest : Collection) (i n : ℕ) (k : Held) → i < length new → k ≡ get_or new i k → IsCollection new → Comparing old new out rest i → AreBelow (rank_of k.pair) (take n rest) → IsCollectionFrom (rank_of k.pair) (drop n rest) → Comparing old new ((out ++ map removal_of (take n rest)) ++ entry_with k.pair (count_in (drop n rest) k.pair) k.count []) (past (drop n rest) (rank_of k.pair)) (i + 1)
 comparing_step old new out rest i n k within is new_is was below from_pair =
     let split : drop i new ≡ k ∷ drop (i + 1) new = drop_more new i k within ∙ ap (λ x. x ∷ drop (i + 1) new) (sym is) in
     let Rises : Collection → Type 0 = λ xs. IsCollection xs in
@@ -88,23 +88,23 @@ comparing_step old new out rest i n k within is new_is was below from_pair =
     let tail = past (drop n rest) (rank_of k.pair) in
     let put = entry_with k.pair (count_in (drop n rest) k.pair) k.count [] in
     let own_rises : IsCollectionFrom (rank_of k.pair) (k ∷ left) = (omega arith, left_is.1, left_is.2) in
-    let this : change_between rest (k ∷ left) ≡ map gone front ++ (put ++ change_between tail left) =
+    let this : change_between rest (k ∷ left) ≡ map removal_of front ++ (put ++ change_between tail left) =
     ap (λ x. change_between x (k ∷ left)) (sym (take-append-drop n rest))
-    ∙ between_gone_all front (drop n rest) (k ∷ left) 0 (rank_of k.pair) below (subst Rises (sym (take-append-drop n rest)) was.rises) own_rises
-    ∙ ap (λ x. map gone front ++ x) (between_first (drop n rest) k left from_pair left_is
+    ∙ between_removal_all front (drop n rest) (k ∷ left) 0 (rank_of k.pair) below (subst Rises (sym (take-append-drop n rest)) was.rises) own_rises
+    ∙ ap (λ x. map removal_of front ++ x) (between_first (drop n rest) k left from_pair left_is
     ∙ entry_with_append k.pair (count_in (drop n rest) k.pair) k.count (change_between tail left)) in
     record {
       rises = from_lower 0 (rank_of k.pair + 1) tail (omega arith) (past_rises (rank_of k.pair) (drop n rest) from_pair);
-      made = append_assoc (out ++ map gone front) put (change_between tail left) ∙ append_assoc out (map gone front) (put ++ change_between tail left)
+      made = append_assoc (out ++ map removal_of front) put (change_between tail left) ∙ append_assoc out (map removal_of front) (put ++ change_between tail left)
           ∙ ap (λ x. out ++ x) (sym this) ∙ ap (λ xs. out ++ change_between rest xs) (sym split) ∙ was.made;
     }
 
-between_nothing : (hs : Collection) (m : ℕ) → IsCollectionFrom m hs → change_between hs [] ≡ map gone hs
+between_nothing : (hs : Collection) (m : ℕ) → IsCollectionFrom m hs → change_between hs [] ≡ map removal_of hs
 between_nothing [] m hs_is = refl
 between_nothing (h ∷ hs) m hs_is =
-    between_gone h hs [] (omega arith, hs_is.1, hs_is.2) tt ∙ ap (λ x. gone h ∷ x) (between_nothing hs (rank_of h.pair + 1) hs_is.2)
+    between_removal h hs [] (omega arith, hs_is.1, hs_is.2) tt ∙ ap (λ x. removal_of h ∷ x) (between_nothing hs (rank_of h.pair + 1) hs_is.2)
 
-pub comparing_end : (old new : Collection) (out : List Entry) (rest : Collection) (i : ℕ) → i ≡ length new → Comparing old new out rest i → out ++ map gone rest ≡ change_between old new
+pub comparing_end : (old new : Collection) (out : List Entry) (rest : Collection) (i : ℕ) → i ≡ length new → Comparing old new out rest i → out ++ map removal_of rest ≡ change_between old new
 comparing_end old new out rest i all was =
     let none : drop i new ≡ [] = drop_all i new (omega (arith, all)) in
     ap (λ x. out ++ x) (sym (between_nothing rest 0 was.rises)) ∙ ap (λ xs. out ++ change_between rest xs) (sym none) ∙ was.made

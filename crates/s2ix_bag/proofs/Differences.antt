@@ -34,10 +34,19 @@ differences_is n old new (h ∷ hs) hs_is =
     (λ ne. subst Rises (sym (cond-false _ _ _ (ne_eqb _ _ ne))) (hs_is.0, ne, rest))
     (cases_eq (count_at old (rank_of h.pair)) (count_at new (rank_of h.pair)))
 
+-- a pair's own difference is no other pair's
+counts_differences_tail : (old new : Collection) (h : Held) (hs : Collection) (k : ℕ) → (rank_of h.pair ≡ k → ⊥) → counts_at (differences old new (h ∷ hs)) k ≡ counts_at (differences old new hs) k
+counts_differences_tail old new h hs k other =
+    ⊎_elim
+    (λ same. ap (λ es. counts_at es k) (differences_same old new h hs same))
+    (λ ne.
+    ap (λ es. counts_at es k) (cond-false _ _ _ (ne_eqb _ _ ne))
+    ∙ counts_tail (record { pair = h.pair; before = count_at old (rank_of h.pair); after = count_at new (rank_of h.pair) }) (differences old new hs) k other)
+    (cases_eq (count_at old (rank_of h.pair)) (count_at new (rank_of h.pair)))
+
 counts_differences : (n : ℕ) (old new hs : Collection) (k : ℕ) → IsCollectionFrom n hs → 0 < count_at hs k → counts_at (differences old new hs) k ≡ difference_of (count_at old k) (count_at new k)
 counts_differences n old new [] k hs_is held = absurd (omega arith)
 counts_differences n old new (h ∷ hs) k hs_is held =
-    let found = counts_at (differences old new (h ∷ hs)) k in
     ⊎_elim
     (λ here. ⊎_elim
     (λ same.
@@ -52,28 +61,16 @@ counts_differences n old new (h ∷ hs) k hs_is held =
     ∙ ap (λ i. difference_of (count_at old i) (count_at new i)) here)
     (cases_eq (count_at old (rank_of h.pair)) (count_at new (rank_of h.pair))))
     (λ other.
-    let rest = counts_differences (rank_of h.pair + 1) old new hs k hs_is.2 (omega (arith, held, count_tail h hs k other)) in
-    ⊎_elim
-    (λ same. ap (λ es. counts_at es k) (differences_same old new h hs same) ∙ rest)
-    (λ ne.
-    ap (λ es. counts_at es k) (cond-false _ _ _ (ne_eqb _ _ ne))
-    ∙ counts_tail (record { pair = h.pair; before = count_at old (rank_of h.pair); after = count_at new (rank_of h.pair) }) (differences old new hs) k other
-    ∙ rest)
-    (cases_eq (count_at old (rank_of h.pair)) (count_at new (rank_of h.pair))))
+    counts_differences_tail old new h hs k other
+    ∙ counts_differences (rank_of h.pair + 1) old new hs k hs_is.2 (omega (arith, held, count_tail h hs k other)))
     (cases_eq (rank_of h.pair) k)
 
 counts_differences_none : (old new hs : Collection) (k : ℕ) → (n : ℕ) → IsCollectionFrom n hs → count_at hs k ≡ 0 → counts_at (differences old new hs) k ≡ None
 counts_differences_none old new [] k n hs_is none = refl
 counts_differences_none old new (h ∷ hs) k n hs_is none =
     let other : rank_of h.pair ≡ k → ⊥ = λ here. omega (arith, none, count_head h hs k here, hs_is.1) in
-    let rest = counts_differences_none old new hs k (rank_of h.pair + 1) hs_is.2 (sym (count_tail h hs k other) ∙ none) in
-    ⊎_elim
-    (λ same. ap (λ es. counts_at es k) (differences_same old new h hs same) ∙ rest)
-    (λ ne.
-    ap (λ es. counts_at es k) (cond-false _ _ _ (ne_eqb _ _ ne))
-    ∙ counts_tail (record { pair = h.pair; before = count_at old (rank_of h.pair); after = count_at new (rank_of h.pair) }) (differences old new hs) k other
-    ∙ rest)
-    (cases_eq (count_at old (rank_of h.pair)) (count_at new (rank_of h.pair)))
+    counts_differences_tail old new h hs k other
+    ∙ counts_differences_none old new hs k (rank_of h.pair + 1) hs_is.2 (sym (count_tail h hs k other) ∙ none)
 
 -- ---- the pairs of two collections
 

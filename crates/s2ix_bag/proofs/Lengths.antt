@@ -45,35 +45,35 @@ length_set m p n (h ∷ hs) hs_is =
     (cases_order (rank_of p) (rank_of h.pair))
 
 -- how many entries have a pair that is not held before
-abbrev pub gained : List Entry → ℕ
-gained [] = 0
-gained (e ∷ es) = cond (e.before == 0) (1 + gained es) (gained es)
+abbrev pub gains : List Entry → ℕ
+gains [] = 0
+gains (e ∷ es) = cond (e.before == 0) (1 + gains es) (gains es)
 
 -- how many entries have a pair that is not held after
-abbrev pub lost : List Entry → ℕ
-lost [] = 0
-lost (e ∷ es) = cond (e.after == 0) (1 + lost es) (lost es)
+abbrev pub losses : List Entry → ℕ
+losses [] = 0
+losses (e ∷ es) = cond (e.after == 0) (1 + losses es) (losses es)
 
-pub gained-count_by : (es : List Entry) → gained es ≡ count_by (λ e. e.before == 0) es
-gained-count_by es = is_count_by gained (λ e. e.before == 0) refl (λ _ _. refl) es
+pub gains-count_by : (es : List Entry) → gains es ≡ count_by (λ e. e.before == 0) es
+gains-count_by es = is_count_by gains (λ e. e.before == 0) refl (λ _ _. refl) es
 
-pub lost-count_by : (es : List Entry) → lost es ≡ count_by (λ e. e.after == 0) es
-lost-count_by es = is_count_by lost (λ e. e.after == 0) refl (λ _ _. refl) es
+pub losses-count_by : (es : List Entry) → losses es ≡ count_by (λ e. e.after == 0) es
+losses-count_by es = is_count_by losses (λ e. e.after == 0) refl (λ _ _. refl) es
 
 one_more : (n m : ℕ) → cond (n == 0) (1 + m) m + one_if_held n ≡ m + 1
 one_more zero m = omega arith
 one_more (suc n) m = omega (arith, cond-false (suc n == 0) (1 + m) m (ne_eqb (suc n) 0 (suc-ne-zero n)))
 
 -- a change adds the pairs that are not held before, and takes off those that are not held after
-pub length-changed_from : (n : ℕ) (hs : Collection) (es : List Entry) → IsCollection hs → IsChangeListFrom n es → AreBefore hs es → length (changed hs es) + lost es ≡ length hs + gained es
+pub length-changed_from : (n : ℕ) (hs : Collection) (es : List Entry) → IsCollection hs → IsChangeListFrom n es → AreBefore hs es → length (changed hs es) + losses es ≡ length hs + gains es
 length-changed_from n hs [] hs_is es_is before = refl
 length-changed_from n hs (e ∷ es) hs_is es_is before =
     let rest = length-changed_from (rank_of e.pair + 1) (set_count e.pair e.after hs) es (set_keeps e.pair e.after hs hs_is) es_is.2 (before_rest n hs e es es_is before) in
     let first = length_set 0 e.pair e.after hs hs_is in
     let same_count = ap one_if_held before.0 in
-    omega (arith, rest, first, same_count, one_more e.before (gained es), one_more e.after (lost es))
+    omega (arith, rest, first, same_count, one_more e.before (gains es), one_more e.after (losses es))
 
-pub length-changed : (hs : Collection) (es : List Entry) → IsCollection hs → IsChangeList es → AreBefore hs es → length (changed hs es) + lost es ≡ length hs + gained es
+pub length-changed : (hs : Collection) (es : List Entry) → IsCollection hs → IsChangeList es → AreBefore hs es → length (changed hs es) + losses es ≡ length hs + gains es
 length-changed hs es hs_is es_is before = length-changed_from 0 hs es hs_is es_is before
 
 -- ---- counts within a limit

@@ -50,8 +50,8 @@ entry_with pair before after es =
     if before == after then es else record { pair = pair; before = before; after = after } ∷ es
 
 -- the entry of a pair that is held no more
-abbrev pub gone : Held → Entry
-gone h = record { pair = h.pair; before = h.count; after = 0 }
+abbrev pub removal_of : Held → Entry
+removal_of h = record { pair = h.pair; before = h.count; after = 0 }
 
 -- an entry with its two counts exchanged
 abbrev pub exchanged : Entry → Entry

@@ -28,14 +28,14 @@ pub fn first_mismatch(held: &[Held], entries: &[Entry]) -> Option<usize>
 }
 
 /// How many entries have a pair that is not held before.
-fn gained(entries: &[Entry]) -> usize
+fn gains(entries: &[Entry]) -> usize
     ensures { result ≡ count_by (λ e. e.before == 0) entries.now }
 {
     entries.iter().filter(|e| e.before == 0).count()
 }
 
 /// How many entries have a pair that is not held after.
-fn lost(entries: &[Entry]) -> usize
+fn losses(entries: &[Entry]) -> usize
     ensures { result ≡ count_by (λ e. e.after == 0) entries.now }
 {
     entries.iter().filter(|e| e.after == 0).count()
@@ -48,7 +48,7 @@ pub fn length_after(held: &[Held], entries: &[Entry]) -> usize
     requires before { AreBefore held.now entries.now }
     ensures { result ≡ length (changed held.now entries.now) }
 {
-    held.len() + gained(entries) - lost(entries)
+    held.len() + gains(entries) - losses(entries)
 }
 
 /// Whether a count after is above the limit. O(m).
@@ -87,7 +87,7 @@ fn push_held(out: &mut Vec<Held>, pair: Pair, count: u32) -> Result<(), AllocErr
 }
 
 /// What a change that has the right counts before makes of the held pairs, in one growth. O(n + m).
-pub fn merged(alloc: Global, held: &[Held], entries: &[Entry]) -> Result<Vec<Held>, AllocError>
+pub fn merge(alloc: Global, held: &[Held], entries: &[Entry]) -> Result<Vec<Held>, AllocError>
     requires held_rise { IsCollection held.now }
     requires entries_rise { IsChangeList entries.now }
     requires before { AreBefore held.now entries.now }

@@ -4,7 +4,7 @@ ghost use Rattle.s2ix_bag.specs.Change.{changed};
 ghost use Rattle.s2ix_bag.specs.Collection.{Contents, IsBag, copies_in, count_in};
 ghost use Rattle.s2ix_bag.specs.OfLabel.{held_of};
 
-use crate::apply::{merged, refusal};
+use crate::apply::{merge, refusal};
 use crate::change::Change;
 use crate::errors::ApplyError;
 use crate::label::Label;
@@ -137,7 +137,7 @@ impl Bag {
         if let Some(error) = refusal(self.limits, held, entries) {
             return Err(error);
         }
-        let held = merged(alloc, held, entries)?;
+        let held = merge(alloc, held, entries)?;
         Ok(Bag {
             limits: self.limits,
             held,

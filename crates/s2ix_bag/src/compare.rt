@@ -1,5 +1,5 @@
 ghost use Rattle.std.specs.Prelude.{◌≡◌, ◌++◌, [], map, IfOk, OnOk};
-ghost use Rattle.s2ix_bag.specs.Change.{change_between, entry_with, gone, inverse_of};
+ghost use Rattle.s2ix_bag.specs.Change.{change_between, entry_with, removal_of, inverse_of};
 ghost use Rattle.s2ix_bag.specs.Collection.{IsCollection};
 
 use crate::pair::{Entry, Held, Pair};
@@ -7,8 +7,8 @@ use crate::search::{count_first, next_from, past_pair};
 use std::alloc::{AllocError, Global};
 
 /// Appends an entry for each held pair, which is held no more.
-fn push_gone(out: &mut Vec<Entry>, held: &[Held]) -> Result<(), AllocError>
-    ensures { OnOk result (out.new.items ≡ out.old.items ++ map gone held.now) }
+fn push_removals(out: &mut Vec<Entry>, held: &[Held]) -> Result<(), AllocError>
+    ensures { OnOk result (out.new.items ≡ out.old.items ++ map removal_of held.now) }
 {
     for h in held {
         out.push(Entry {
@@ -49,7 +49,7 @@ pub fn differences(alloc: Global, old: &[Held], new: &[Held]) -> Result<Vec<Entr
     let mut rest = old;
     for held in new {
         let (smaller, from_pair) = rest.split_at(next_from(rest, held.pair));
-        push_gone(&mut out, smaller)?;
+        push_removals(&mut out, smaller)?;
         push_difference(
             &mut out,
             held.pair,
@@ -58,7 +58,7 @@ pub fn differences(alloc: Global, old: &[Held], new: &[Held]) -> Result<Vec<Entr
         )?;
         rest = past_pair(from_pair, held.pair);
     }
-    push_gone(&mut out, rest)?;
+    push_removals(&mut out, rest)?;
     Ok(out)
 }
 

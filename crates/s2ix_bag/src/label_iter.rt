@@ -9,7 +9,7 @@ use std::marker::Model;
 /// The pairs that a bag holds with one label, with their counts, by rising cell; made by
 /// [`Bag::of_label`](crate::Bag::of_label). Contracts see the list of those still to come. It goes over all that
 /// the bag holds: O(n) from the first to the end, for n pairs held with any label. This project's own.
-#[derive(Debug, Drop)]
+#[derive(Clone, Debug, Drop)]
 pub struct LabelIter<'a> {
     label: Label,
     rest: &'a [Held],

@@ -9,14 +9,14 @@ pub struct Pair {
 }
 
 /// A pair that a collection holds, with its count. This project's own: S2 gives each copy of a pair by itself.
-#[derive(Clone, Copy, Debug, PartialEq, Eq)]
+#[derive(Clone, Copy, Debug, PartialEq, Eq, Hash)]
 pub struct Held {
     pub pair: Pair,
     pub count: u32,
 }
 
 /// A pair in a change, with its counts before and after; 0 is the count of a pair that is not held.
-#[derive(Clone, Copy, Debug, PartialEq, Eq)]
+#[derive(Clone, Copy, Debug, PartialEq, Eq, Hash)]
 pub struct Entry {
     pub pair: Pair,
     pub before: u32,

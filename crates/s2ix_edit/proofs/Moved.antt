@@ -11,7 +11,7 @@ use Rattle.s2ix_bag.specs.declared.pair.Pair.{Pair}
 use Rattle.s2ix_bag.specs.declared.pair.Held.{Held}
 use Rattle.s2ix_bag.specs.declared.pair.Entry.{Entry}
 use Rattle.s2ix_bag.specs.Apply.{AreBefore}
-use Rattle.s2ix_bag.specs.Change.{changed, gone, IsChangeListFrom}
+use Rattle.s2ix_bag.specs.Change.{changed, removal_of, IsChangeListFrom}
 use Rattle.s2ix_bag.specs.Collection.{Collection, Contents, IsBag, IsCollection, IsCollectionFrom, count_at, count_in, set_count}
 use Rattle.s2ix_bag.specs.Label.{value_of}
 use Rattle.s2ix_bag.specs.Limits.{count_limit}
@@ -104,11 +104,11 @@ gains hs target h = record { pair = pair_of h.pair.cell target; before = count_i
 abbrev pub move_entries : Collection → Label → Held → List Entry
 move_entries hs target h = moving_entries h (gains hs target h)
 
-source_first : (hs : Collection) (target : Label) (h : Held) → value_of h.pair.label < value_of target → move_entries hs target h ≡ gone h ∷ gains hs target h ∷ []
-source_first hs target h lt = cond-true (ltb (value_of h.pair.label) (value_of target)) (gone h ∷ gains hs target h ∷ []) (gains hs target h ∷ gone h ∷ []) (lt-ltb _ _ lt)
+source_first : (hs : Collection) (target : Label) (h : Held) → value_of h.pair.label < value_of target → move_entries hs target h ≡ removal_of h ∷ gains hs target h ∷ []
+source_first hs target h lt = cond-true (ltb (value_of h.pair.label) (value_of target)) (removal_of h ∷ gains hs target h ∷ []) (gains hs target h ∷ removal_of h ∷ []) (lt-ltb _ _ lt)
 
-target_first : (hs : Collection) (target : Label) (h : Held) → value_of target ≤ value_of h.pair.label → move_entries hs target h ≡ gains hs target h ∷ gone h ∷ []
-target_first hs target h le = cond-false (ltb (value_of h.pair.label) (value_of target)) (gone h ∷ gains hs target h ∷ []) (gains hs target h ∷ gone h ∷ []) (le-ltb _ _ le)
+target_first : (hs : Collection) (target : Label) (h : Held) → value_of target ≤ value_of h.pair.label → move_entries hs target h ≡ gains hs target h ∷ removal_of h ∷ []
+target_first hs target h le = cond-false (ltb (value_of h.pair.label) (value_of target)) (removal_of h ∷ gains hs target h ∷ []) (gains hs target h ∷ removal_of h ∷ []) (le-ltb _ _ le)
 
 abbrev pub moves : Collection → Label → List Held → List Entry
 moves hs target rest = flat_map (move_entries hs target) rest

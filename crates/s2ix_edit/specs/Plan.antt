@@ -5,7 +5,7 @@ use Rattle.s2ix_bag.specs.declared.pair.Entry.{Entry}
 use Rattle.s2ix_bag.specs.declared.pair.Held.{Held}
 use Rattle.s2ix_bag.specs.declared.pair.Pair.{Pair}
 use Rattle.s2ix_bag.specs.Apply.{first_mismatch}
-use Rattle.s2ix_bag.specs.Change.{changed, gone, IsChangeList}
+use Rattle.s2ix_bag.specs.Change.{changed, removal_of, IsChangeList}
 use Rattle.s2ix_bag.specs.Label.{value_of}
 use Rattle.s2ix_bag.specs.Collection.{Collection, Contents}
 use Rattle.s2ix_bag.specs.Limits.{pairs_limit, count_limit}
@@ -51,7 +51,7 @@ entries_refusal bag es =
 -- the entries of a held pair that goes and of one that gains its copies, in the order of their labels
 abbrev pub moving_entries : Held → Entry → List Entry
 moving_entries h gaining =
-    if nat_lt (value_of h.pair.label) (value_of gaining.pair.label) then gone h ∷ gaining ∷ [] else gaining ∷ gone h ∷ []
+    if nat_lt (value_of h.pair.label) (value_of gaining.pair.label) then removal_of h ∷ gaining ∷ [] else gaining ∷ removal_of h ∷ []
 
 -- the store after planned entries: its bag has the counts after, and they are the last change that was done
 abbrev pub recorded : State → List Entry → State

@@ -1,7 +1,7 @@
 //! What takes all pairs of a label away, or moves their copies to another label.
 
 ghost use Rattle.std.specs.Prelude.{◌≡◌, ◌≢◌, ◌++◌, map, OnOk, IfOk, IfErr};
-ghost use Rattle.s2ix_bag.specs.Change.{gone};
+ghost use Rattle.s2ix_bag.specs.Change.{removal_of};
 ghost use Rattle.s2ix_bag.specs.Collection.{IsBag};
 ghost use Rattle.s2ix_bag.specs.Label.{value_of};
 ghost use Rattle.s2ix_bag.specs.OfLabel.{held_of};
@@ -38,7 +38,7 @@ pub fn with_dropped(alloc: Global, bag: &Bag, label: Label) -> Result<Change, Ed
 
 /// The entries that take all pairs of a label away.
 fn all_leaving(alloc: Global, bag: &Bag, label: Label) -> Result<Vec<Entry>, OutOfMemory>
-    ensures { IfOk result (λ entries. entries.items ≡ map gone (held_of label bag.now.held)) }
+    ensures { IfOk result (λ entries. entries.items ≡ map removal_of (held_of label bag.now.held)) }
 {
     let entries: Vec<Entry> = bag.of_label(label).map(leaving).collect(alloc)?;
     Ok(entries)
@@ -96,7 +96,7 @@ fn moving(alloc: Global, bag: &Bag, source: Label, target: Label) -> Result<Chan
 
 /// The entry of a held pair that goes.
 fn leaving(held: Held) -> Entry
-    ensures { result ≡ gone held }
+    ensures { result ≡ removal_of held }
 {
     Entry {
         pair: held.pair,

@@ -4,28 +4,18 @@ use Rattle.std.proofs.lemmas.Bool.{cases_lt, leb-true, leb-false}
 use Rattle.std.specs.List.Sorted.{IsNonDecreasingBy}
 use Rattle.std.proofs.lemmas.List.{map-append, length-map, length-drop, get_or-map, get_or_past}
 use Rattle.std.proofs.lemmas.List.Elements.{Contains-append_left, Contains-push, Contains-push_cases}
-use Rattle.s2id_union.proofs.Lists.{none_in_nil}
 use Rattle.s2id_core.specs.CellId.{first_of, end_of}
 use Rattle.s2ix_bag.specs.declared.pair.Held.{Held}
 use Rattle.s2ix_bag.specs.Collection.{Collection}
 use Rattle.s2ix_table.specs.declared.copied_row.CopiedRow.{CopiedRow}
 use Rattle.s2ix_table.specs.Contents.{contents_at}
 use Rattle.s2ix_table.specs.Copied.{run_of, runs_of}
-use Rattle.s2ix_table.specs.Table.{Run, run_at, leaf_end, IsNextBound, IsBound, IsTableOver, IsRangeTable, IsFound}
+use Rattle.s2ix_table.specs.Table.{Run, run_at, leaf_end, IsTableOver, IsRangeTable, IsFound}
+use Rattle.s2ix_table.specs.Filter.{IsNextBound, IsBound}
 use Rattle.s2ix_table.proofs.Over.{span_of}
 use Rattle.s2ix_table.proofs.Runs.{IsTable, IsRunFrom, changes_at, stays_between, table_push, places_from_table}
 
 -- ---- the next bound
-
-pub next_none : (at : ℕ) → at < leaf_end → IsNextBound [] at leaf_end
-next_none at lt = record {
-  above = lt;
-  within = omega arith;
-  odd = refl;
-  no_first = λ h held. absurd (none_in_nil h held);
-  no_end = λ h held. absurd (none_in_nil h held);
-  is_bound = λ l. absurd (omega arith);
-}
 
 -- the lesser of a limit and a bound above a leaf
 pub record IsNearer (at limit bound result : ℕ) : Type 0 where

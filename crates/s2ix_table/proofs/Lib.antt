@@ -1,11 +1,11 @@
 pub mod InOrder
 pub mod Over
 pub mod Runs
-pub mod Shared
+pub mod FirstShared
 pub mod Meetings
 pub mod Building
 pub mod Leads
-pub mod Walks
+pub mod WalkSteps
 pub mod Visits
 pub mod Rising
 pub mod Lists

@@ -23,7 +23,7 @@ use Rattle.s2ix_table.specs.Table.{leaf_end}
 use Rattle.s2ix_table.proofs.InOrder.{in_chosen, chosen_has}
 use Rattle.s2ix_table.proofs.Over.{IsOver, over-true, in_contents, contents_has, level_at_most, level_by_key, nested_over, depth_bound, span_of}
 use Rattle.s2ix_table.proofs.Rising.{same_rising, AreApart, strictly_chosen, chosen_more_in, chosen_more_out, strict_pairs}
-use Rattle.s2ix_table.proofs.Shared.{shared_le, shared_is}
+use Rattle.s2ix_table.proofs.FirstShared.{shared_le, shared_is}
 
 -- ---- order by depth
 

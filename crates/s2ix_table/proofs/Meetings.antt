@@ -13,10 +13,10 @@ use Rattle.s2ix_table.specs.InOrder.{inserted, chosen}
 use Rattle.s2ix_table.specs.Contents.{covers, depth_key, contents_at}
 use Rattle.s2ix_table.specs.Table.{leaf_end}
 use Rattle.s2ix_table.specs.Meeting.{first_shared, meeting_key, is_met_from, meeting_from}
-use Rattle.s2ix_table.specs.Places.{front_from}
+use Rattle.s2ix_table.specs.WalkState.{front_from}
 use Rattle.s2ix_table.proofs.InOrder.{every_chosen, every_weaker, chosen_in, chosen_out, chosen_none}
 use Rattle.s2ix_table.proofs.Over.{IsOver, span_of, over-true, covers-from, every_content, contents_in, contents_out, nested_over, depth_bound}
-use Rattle.s2ix_table.proofs.Shared.{shared_le, shared_is}
+use Rattle.s2ix_table.proofs.FirstShared.{shared_le, shared_is}
 
 -- ---- the front of a chain
 

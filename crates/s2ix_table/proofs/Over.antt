@@ -9,7 +9,8 @@ use Rattle.s2id_core.proofs.Nested.{span, nested_by_level}
 use Rattle.s2ix_bag.specs.Label.{value_of}
 use Rattle.s2ix_bag.specs.declared.pair.Held.{Held}
 use Rattle.s2ix_bag.specs.Collection.{Collection}
-use Rattle.s2ix_table.specs.InOrder.{inserted, Rises}
+use Rattle.s2ix_table.specs.InOrder.{inserted}
+use Rattle.s2ix_table.specs.Filter.{Rises}
 use Rattle.s2ix_table.specs.Contents.{covers, depth_key, contents_at}
 use Rattle.s2ix_table.proofs.InOrder.{every_chosen, in_chosen, chosen_has, chosen_in, chosen_out, rises_chosen, length_chosen}
 

@@ -8,7 +8,8 @@ use Rattle.s2ix_bag.specs.Collection.{Collection}
 use Rattle.s2ix_table.specs.Contents.{contents_at}
 use Rattle.s2ix_table.specs.Once.{put_once}
 use Rattle.s2ix_table.specs.RangeList.{bounds_of, runs_between, range_table}
-use Rattle.s2ix_table.specs.Table.{Run, leaf_end, IsBound, IsNextBound, IsRangeTable}
+use Rattle.s2ix_table.specs.Table.{Run, leaf_end, IsRangeTable}
+use Rattle.s2ix_table.specs.Filter.{IsBound, IsNextBound}
 use Rattle.s2ix_table.proofs.Once.{RisesOnce, in_put, put_has, rises_put}
 use Rattle.s2ix_table.proofs.Over.{span_of}
 use Rattle.s2ix_table.proofs.Runs.{IsTable, Changes, changes_at, stays_between, places_from_table, table_from_places, same_table}

@@ -5,7 +5,8 @@ use Rattle.std.proofs.lemmas.Bool.Decides.{nat_tests}
 use Rattle.s2id_core.specs.CellId.{first_of, end_of}
 use Rattle.s2ix_bag.specs.Collection.{Collection}
 use Rattle.s2ix_table.specs.Contents.{covers, depth_key, contents_at}
-use Rattle.s2ix_table.specs.Table.{Run, run_at, IsTableOver, IsNextBound, IsBound}
+use Rattle.s2ix_table.specs.Table.{Run, run_at, IsTableOver}
+use Rattle.s2ix_table.specs.Filter.{IsNextBound, IsBound}
 use Rattle.s2ix_table.proofs.InOrder.{chosen_agree}
 use Rattle.s2ix_table.proofs.Over.{span_of, in_contents, contents_has}
 

@@ -4,7 +4,8 @@ pub mod Table
 pub mod Meeting
 pub mod Copied
 pub mod Places
-pub mod Walk
+pub mod Filter
+pub mod WalkState
 pub mod Iterators
 pub mod Calls
 pub mod Laws

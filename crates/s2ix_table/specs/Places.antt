@@ -1,6 +1,5 @@
 -- Places: where a table keeps a chain of held pairs, from the innermost outwards.
-use Rattle.std.specs.Prelude.{◌≡◌, ℕ, ◌<◌, nat_le, if◌then◌else◌, Option, Some, None, [], ◌∷◌, length}
-use Rattle.s2id_core.specs.CellId.{first_of}
+use Rattle.std.specs.Prelude.{◌≡◌, ◌<◌, Option, Some, None, [], length}
 use Rattle.s2ix_bag.specs.Collection.{Collection}
 
 -- a place of a table: its chain is not empty
@@ -16,8 +15,3 @@ from_place chain (Some place) = chain place
 pub record LeadsTo {P : Type 0} (chain : P → Collection) (answer : Option P) (pairs : Collection) : Type 0 where
   pub pairs_are : from_place chain answer ≡ pairs
   pub place : (p : P) → answer ≡ Some p → IsPlace chain p
-
--- the pairs of a chain up to the first whose cell begins before a leaf
-unfoldable pub front_from : ℕ → Collection → Collection
-front_from from [] = []
-front_from from (h ∷ hs) = if nat_le from (first_of h.pair.cell) then h ∷ front_from from hs else []

@@ -1,7 +1,5 @@
 -- The range table of a collection.
-use Rattle.std.specs.Prelude.{◌≡◌, ◌≢◌, ◌⊎◌, ℕ, ◌+◌, ◌%◌, ◌<◌, ◌≤◌, List, [], length, slice_index_or, Contains}
-use Rattle.s2id_core.specs.CellId.{first_of, end_of}
-use Rattle.s2ix_bag.specs.declared.pair.Held.{Held}
+use Rattle.std.specs.Prelude.{◌≡◌, ◌≢◌, ℕ, ◌+◌, ◌%◌, ◌<◌, ◌≤◌, List, [], length, slice_index_or}
 use Rattle.s2ix_bag.specs.Collection.{Collection}
 use Rattle.s2ix_table.specs.Contents.{contents_at}
 
@@ -33,21 +31,6 @@ pub record IsTableOver (held : Collection) (from to : ℕ) (runs : List Run) : T
 -- the range table: the maximal runs of leaves with equal contents, from the first leaf of face 0 to the last of face 5
 abbrev pub IsRangeTable : Collection → List Run → Type 0
 IsRangeTable held runs = IsTableOver held 1 leaf_end runs
-
--- ---- where a run ends
-
--- a cell that is held begins or ends at a leaf number
-abbrev pub IsBound : Collection → ℕ → Type 0
-IsBound held b = (h : Held) × Contains held h × ((first_of h.pair.cell ≡ b) ⊎ (end_of h.pair.cell ≡ b))
-
--- the least bound above a leaf, or the end of the leaves
-pub record IsNextBound (held : Collection) (at limit : ℕ) : Type 0 where
-  pub above : at < limit
-  pub within : limit ≤ leaf_end
-  pub odd : limit % 2 ≡ 1
-  pub no_first : (h : Held) → Contains held h → at < first_of h.pair.cell → limit ≤ first_of h.pair.cell
-  pub no_end : (h : Held) → Contains held h → at < end_of h.pair.cell → limit ≤ end_of h.pair.cell
-  pub is_bound : limit < leaf_end → IsBound held limit
 
 -- ---- the range that has a leaf
 

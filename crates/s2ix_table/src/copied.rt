@@ -28,7 +28,7 @@ pub struct CopiedTable {
 }
 
 /// A pair of a range's list, by the range and its place in that list.
-#[derive(Clone, Copy, Debug, PartialEq, Eq)]
+#[derive(Clone, Copy, Debug, PartialEq, Eq, Hash)]
 pub struct CopiedPlace {
     range: usize,
     at: usize,

@@ -13,6 +13,7 @@ use s2ix_bag::Held;
 
 /// The ranges of a table with their places, in order (S2's `RangeIterator`).
 #[derive(Drop)]
+#[derive_where(Clone)]
 pub struct RangeIter<'a, T> {
     table: &'a T,
     next: usize,

@@ -15,7 +15,7 @@ mod pairs;
 mod row;
 mod span;
 mod table;
-mod walk;
+mod walk_state;
 
 pub use copied::{CopiedPlace, CopiedTable};
 pub use iter::{ChainIter, RangeIter, chain_at, contents, ranges};

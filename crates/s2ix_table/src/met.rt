@@ -4,12 +4,12 @@ ghost use Rattle.s2id_core.specs.declared.cell_id.CellId.{CellId};
 ghost use Rattle.s2id_core.specs.CellId.{end_of};
 ghost use Rattle.s2id_union.specs.Covers.{IsChain};
 ghost use Rattle.s2ix_table.specs.Meeting.{meeting_from, meeting_of};
-ghost use Rattle.s2ix_table.specs.Walk.{left_of, IsWalk, ArePassed};
+ghost use Rattle.s2ix_table.specs.WalkState.{left_of, IsWalkState, ArePassed};
 
 use crate::pairs::{new_pair, range_from};
 use crate::span::limit_of;
 use crate::table::RangeTable;
-use crate::walk::Walk;
+use crate::walk_state::WalkState;
 use s2id_core::CellId;
 use s2ix_bag::Held;
 
@@ -17,16 +17,16 @@ use s2ix_bag::Held;
 #[derive(Clone, Copy)]
 pub(crate) struct Met<P> {
     pub(crate) held: Held,
-    pub(crate) after: Walk<P>,
+    pub(crate) after: WalkState<P>,
 }
 
 // The walk that has seen nothing yet.
-pub(crate) fn walk_of<T: RangeTable>(table: &T, cells: &[CellId]) -> Walk<T::Place>
-    ensures walk { IsWalk (T.chain table.now) cells.now (T.runs table.now) result }
+pub(crate) fn walk_of<T: RangeTable>(table: &T, cells: &[CellId]) -> WalkState<T::Place>
+    ensures walk { IsWalkState (T.chain table.now) cells.now (T.runs table.now) result }
     ensures left { left_of (T.chain table.now) cells.now (T.pairs table.now) result
         ≡ meeting_of cells.now (T.pairs table.now) }
 {
-    Walk {
+    WalkState {
         cell: 0,
         range: 0,
         seen: 1,
@@ -39,19 +39,19 @@ pub(crate) fn walk_of<T: RangeTable>(table: &T, cells: &[CellId]) -> Walk<T::Pla
 pub(crate) fn next_met<T: RangeTable>(
     table: &T,
     cells: &[CellId],
-    walk: Walk<T::Place>,
+    walk: WalkState<T::Place>,
 ) -> Option<Met<T::Place>>
     requires chain { IsChain cells.now }
-    requires walk { IsWalk (T.chain table.now) cells.now (T.runs table.now) walk }
+    requires walk { IsWalkState (T.chain table.now) cells.now (T.runs table.now) walk }
     ensures ends { result ≡ None → left_of (T.chain table.now) cells.now (T.pairs table.now) walk ≡ [] }
     ensures gives { IfSome result (λ met. left_of (T.chain table.now) cells.now (T.pairs table.now) walk
         ≡ met.held ∷ left_of (T.chain table.now) cells.now (T.pairs table.now) met.after) }
-    ensures after { IfSome result (λ met. IsWalk (T.chain table.now) cells.now (T.runs table.now) met.after) }
+    ensures after { IfSome result (λ met. IsWalkState (T.chain table.now) cells.now (T.runs table.now) met.after) }
 {
     let mut at = walk;
     loop {
         if let Some(link) = new_pair(table, at.from, at.place) {
-            let after = Walk {
+            let after = WalkState {
                 place: link.outer,
                 ..at
             };
@@ -60,23 +60,23 @@ pub(crate) fn next_met<T: RangeTable>(
                 after,
             });
         }
-        at = moved_on(table, cells, at)?;
+        at = advance(table, cells, at)?;
     }
 }
 
 // The walk at the next range that the target meets, with the chain of that range at hand, or `None` where the target
 // has no leaf left.
-fn moved_on<T: RangeTable>(
+fn advance<T: RangeTable>(
     table: &T,
     cells: &[CellId],
-    walk: Walk<T::Place>,
-) -> Option<Walk<T::Place>>
+    walk: WalkState<T::Place>,
+) -> Option<WalkState<T::Place>>
     requires chain { IsChain cells.now }
-    requires walk { IsWalk (T.chain table.now) cells.now (T.runs table.now) walk }
+    requires walk { IsWalkState (T.chain table.now) cells.now (T.runs table.now) walk }
     ensures ends { result ≡ None → meeting_from cells.now walk.seen (T.pairs table.now) ≡ [] }
     ensures left { IfSome result (λ next. meeting_from cells.now walk.seen (T.pairs table.now)
         ≡ left_of (T.chain table.now) cells.now (T.pairs table.now) next) }
-    ensures next { IfSome result (λ next. IsWalk (T.chain table.now) cells.now (T.runs table.now) next) }
+    ensures next { IfSome result (λ next. IsWalkState (T.chain table.now) cells.now (T.runs table.now) next) }
     ensures rises { IfSome result (λ next. walk.seen < next.seen) }
 {
     let cell = first_beyond(cells, walk.cell, walk.seen);
@@ -94,7 +94,7 @@ fn moved_on<T: RangeTable>(
     };
     let from = walk.seen;
     let place = table.first(range);
-    Some(Walk {
+    Some(WalkState {
         cell,
         range: next,
         seen,

@@ -1,7 +1,8 @@
 // The chains that a walk goes along, and the ranges that it stands at.
 ghost use Rattle.std.specs.Prelude.{◌≡◌, ◌<◌, ◌∷◌, [], Some, None, IfSome, max};
 ghost use Rattle.s2id_core.specs.CellId.{first_of, end_of};
-ghost use Rattle.s2ix_table.specs.Places.{IsPlace, from_place, front_from};
+ghost use Rattle.s2ix_table.specs.Places.{IsPlace, from_place};
+ghost use Rattle.s2ix_table.specs.WalkState.{front_from};
 ghost use Rattle.s2ix_table.specs.Table.{IsFound, leaf_end};
 
 use crate::span::start_of;

@@ -1,5 +1,5 @@
 /// A run of leaves that the same pairs lie over (S2's `RangeNode`).
-#[derive(Clone, Copy, Debug, PartialEq, Eq)]
+#[derive(Clone, Copy, Debug, PartialEq, Eq, Hash)]
 pub struct RangeRow {
     /// The number of the first leaf.
     pub start: u64,

@@ -1,10 +1,10 @@
 use Rattle.std.proofs.Common.{◌≡◌, ◌-◌}
-use Rattle.s2ix_table.specs.Walk.{left_of, IsWalk}
+use Rattle.s2ix_table.specs.WalkState.{left_of, IsWalkState}
 use Rattle.s2ix_table.proofs.met.next_met.Given as goal
 
 abbrev pub invariant-loop-link : goal.invariant-loop-link
 invariant-loop-link g l =
-    IsWalk (g.T.RangeTable.chain l.table) l.cells (g.T.RangeTable.runs l.table) l.at
+    IsWalkState (g.T.RangeTable.chain l.table) l.cells (g.T.RangeTable.runs l.table) l.at
     × (left_of (g.T.RangeTable.chain l.table) l.cells (g.T.RangeTable.pairs l.table) l.at ≡ left_of (g.T.RangeTable.chain l.table) l.cells (g.T.RangeTable.pairs l.table) l.fn.walk)
 
 abbrev pub decreases-loop-link : goal.decreases-loop-link

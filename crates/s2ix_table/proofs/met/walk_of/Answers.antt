@@ -1,5 +1,5 @@
 use Rattle.std.proofs.Common.{refl}
-use Rattle.s2ix_table.specs.Places.{front_from}
+use Rattle.s2ix_table.specs.WalkState.{front_from}
 use Rattle.s2ix_table.proofs.met.walk_of.Goals as goal
 
 pub returns-clause-left : goal.returns-clause-left

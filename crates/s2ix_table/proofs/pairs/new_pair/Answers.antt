@@ -1,5 +1,5 @@
 use Rattle.std.proofs.Common.{drop, arith}
-use Rattle.s2ix_table.proofs.Walks.{new_none, new_stop, new_more}
+use Rattle.s2ix_table.proofs.WalkSteps.{new_none, new_stop, new_more}
 use Rattle.s2ix_table.proofs.pairs.new_pair.Goals as goal
 
 pub returns-in_err-place-clause-ends : goal.returns-in_err-place-clause-ends

@@ -6,8 +6,8 @@ use Rattle.s2ix_bag.specs.declared.pair.Entry.{Entry}
 use Rattle.s2ix_bag.proofs.Refusals.{taken_from_none, made_is_bag}
 use Rattle.s2ix_bag.proofs.bag.Bag.applied.Goals as goal
 
-pub merged-requires-clause-before : goal.merged-requires-clause-before
-merged-requires-clause-before c =
+pub merge-requires-clause-before : goal.merge-requires-clause-before
+merge-requires-clause-before c =
     (taken_from_none (record { limits = c.self.inside.limits; held = c.as_slice-held.result.now }) c.entries-entries.result.now (sym c.refusal.ensures ∙ c.in_default.is)).before
 
 pub invariant_of-result : goal.invariant_of-result

@@ -2,7 +2,7 @@ use Rattle.std.proofs.Common.{◌≡◌, ◌+◌, true, false, sym, ap, ◌∙�
 use Rattle.s2id_union.proofs.Searching.{chain_from_normal}
 use Rattle.s2id_union.specs.Region.{IsNormal}
 use Rattle.s2ix_table.specs.Meeting.{meeting_of}
-use Rattle.s2ix_table.specs.Walk.{left_of}
+use Rattle.s2ix_table.specs.WalkState.{left_of}
 use Rattle.s2ix_table.proofs.Visits.{may_same, visits_same, no_call, last_call, one_call}
 use Rattle.s2ix_table.proofs.table.RangeTable.visit.Goals as goal
 

@@ -3,7 +3,7 @@ use Rattle.std.proofs.Common.{◌+◌, ◌++◌, [], sym, ap, ◌∙◌, subst�
 use Rattle.s2ix_bag.specs.Collection.{Collection, held_with, past}
 use Rattle.s2ix_bag.specs.Pair.{rank_of}
 use Rattle.s2ix_bag.proofs.Walks.{Merging, merging_step}
-use Rattle.s2ix_bag.proofs.apply.merged.Goals as goal
+use Rattle.s2ix_bag.proofs.apply.merge.Goals as goal
 
 pub loop-entry-preserved : goal.loop-entry-preserved
 loop-entry-preserved c =

@@ -9,27 +9,16 @@ use Rattle.s2id_union.specs.Covers.{Covers, IsChain}
 use Rattle.s2ix_bag.specs.Collection.{Collection}
 use Rattle.s2ix_bag.specs.declared.pair.Held.{Held}
 use Rattle.s2ix_table.specs.Meeting.{meeting_from}
-use Rattle.s2ix_table.specs.Places.{from_place, LeadsTo, front_from}
+use Rattle.s2ix_table.specs.Places.{from_place, LeadsTo}
 use Rattle.s2ix_table.specs.Table.{Run, run_at, leaf_end, IsRangeTable, IsFound}
-use Rattle.s2ix_table.specs.Walk.{left_of, ArePassed, IsWalk}
-use Rattle.s2ix_table.specs.declared.walk.Walk.{Walk}
+use Rattle.s2ix_table.specs.WalkState.{left_of, ArePassed, IsWalkState, front_from}
+use Rattle.s2ix_table.specs.declared.walk_state.WalkState.{WalkState}
 use Rattle.s2ix_table.proofs.Over.{IsOver, in_contents, contents_has}
 use Rattle.s2ix_table.proofs.Runs.{places_fit}
 use Rattle.s2ix_table.proofs.Building.{limits_rise}
 use Rattle.s2ix_table.proofs.Meetings.{IsStep, step_meets, front_here, front_stops}
 
 -- ---- the cells of the target
-
-pub passed_more : (target : List CellId) (k seen : ℕ) (x : CellId) → k < length target → x ≡ get_or target k x → end_of x ≤ seen → ArePassed target k seen → ArePassed target (k + 1) seen
-passed_more target k seen x lt is ends passed j d less within =
-    elim (cases_lt j k) [
-      | inl before ↦ passed j d before within
-      | inr ge ↦
-          (let here : j ≡ k = omega arith in
-          let e = ap (λ (y : CellId). end_of y) (is ∙ get_or_default target k x d lt) in
-          let f = ap (λ i. end_of (get_or target i d)) here in
-          omega arith)
-    ]
 
 pub passed_later : (target : List CellId) (k seen next : ℕ) → seen ≤ next → ArePassed target k seen → ArePassed target k next
 passed_later target k seen next le passed j d less within = let p = passed j d less within in omega arith
@@ -126,11 +115,11 @@ abbrev pub GoesOn : ℕ → ℕ → ℕ → ℕ × ℕ → Type 0
 GoesOn range limit end to = ((limit ≤ end) × (to ≡ (range + 1, limit))) ⊎ ((end < limit) × (to ≡ (range, end)))
 
 -- a walk goes on behind a range, with the chain of that range at hand
-pub record IsPast {P : Type 0} (chain : P → Collection) (target : List CellId) (hs : Collection) (runs : List Run) (walk : Walk P) : Type 0 where
+pub record IsPast {P : Type 0} (chain : P → Collection) (target : List CellId) (hs : Collection) (runs : List Run) (walk : WalkState P) : Type 0 where
   pub left : meeting_from target walk.from hs ≡ left_of chain target hs walk
-  pub next : IsWalk chain target runs walk
+  pub next : IsWalkState chain target runs walk
 
-pub walk_past : {P : Type 0} (chain : P → Collection) (target : List CellId) (hs : Collection) (runs : List Run) (range limit end : ℕ) (x : CellId) (walk : Walk P) → IsAt target hs runs walk.cell walk.from range x → LeadsTo chain walk.place (run_at runs range).contents → limit ≡ (run_at runs range).limit → end ≡ end_of x → GoesOn range limit end (walk.range, walk.seen) → IsPast chain target hs runs walk
+pub walk_past : {P : Type 0} (chain : P → Collection) (target : List CellId) (hs : Collection) (runs : List Run) (range limit end : ℕ) (x : CellId) (walk : WalkState P) → IsAt target hs runs walk.cell walk.from range x → LeadsTo chain walk.place (run_at runs range).contents → limit ≡ (run_at runs range).limit → end ≡ end_of x → GoesOn range limit end (walk.range, walk.seen) → IsPast chain target hs runs walk
 walk_past {P} chain target hs runs range limit end x walk a leads is_limit is_end on =
     let s = span (raw_of x) x.valid in
     let s1 = s.odd in
@@ -179,18 +168,6 @@ walk_past {P} chain target hs runs range limit end x walk a leads is_limit is_en
         place = leads.place;
       };
     }
-
--- ---- the walk
-
-pub walk_none : (target : List CellId) (q : ℕ) → 1 ≤ q → q + 2 ≡ 1 → Covers target q
-walk_none target q some e = absurd (omega arith)
-
-pub found_first : (hs : Collection) (runs : List Run) → IsRangeTable hs runs → IsFound runs 0 1
-found_first hs runs t =
-    let some = t.some in
-    let first = t.first in
-    let rises = t.rises 0 some in
-    record { within = some; start = omega arith; limit = omega arith }
 
 -- ---- the chain at hand
 

@@ -4,7 +4,7 @@
 // `range` the range that has `seen`, and `place` what is left of the chain at hand: of it those pairs are new whose
 // cells begin at `from` or later.
 #[derive(Clone, Copy)]
-pub(crate) struct Walk<P> {
+pub(crate) struct WalkState<P> {
     pub(crate) cell: usize,
     pub(crate) range: usize,
     pub(crate) seen: u64,

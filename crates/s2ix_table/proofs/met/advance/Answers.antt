@@ -2,10 +2,10 @@ use Rattle.std.proofs.Common.{ap, inl, inr, rules, arith}
 use Rattle.s2id_core.specs.declared.cell_id.CellId.{CellId}
 use Rattle.s2id_core.specs.CellId.{end_of}
 use Rattle.s2ix_table.proofs.Meetings.{none_meets}
-use Rattle.s2ix_table.proofs.Walks.{IsPast, passed_all, range_fits, walk_past}
-use Rattle.s2ix_table.proofs.met.moved_on.Given.{Over}
-use Rattle.s2ix_table.proofs.met.moved_on.Goals as goal
-use Rattle.s2ix_table.proofs.met.moved_on.Goals.{After-first-place, then-row-end, else-row-end}
+use Rattle.s2ix_table.proofs.WalkSteps.{IsPast, passed_all, range_fits, walk_past}
+use Rattle.s2ix_table.proofs.met.advance.Given.{Over}
+use Rattle.s2ix_table.proofs.met.advance.Goals as goal
+use Rattle.s2ix_table.proofs.met.advance.Goals.{After-first-place, then-row-end, else-row-end}
 
 pub returns-then-cell-cells-clause-ends : goal.returns-then-cell-cells-clause-ends
 returns-then-cell-cells-clause-ends g c e =
@@ -19,8 +19,8 @@ overflow_add-next g c =
     search (rules, fits)
 
 -- the walk behind the range at hand
-moved : (g : Over) (c : goal.After-first-place g) → IsPast (g.T.RangeTable.chain c.args.table.now) c.args.cells.now (g.T.RangeTable.pairs c.args.table.now) (g.T.RangeTable.runs c.args.table.now) (record { cell = c.first_beyond-cell.result; range = c.if-row-end.next.0; seen = c.if-row-end.next.1; from = c.args.walk.seen; place = c.first-place.result })
-moved g c =
+step_past : (g : Over) (c : goal.After-first-place g) → IsPast (g.T.RangeTable.chain c.args.table.now) c.args.cells.now (g.T.RangeTable.pairs c.args.table.now) (g.T.RangeTable.runs c.args.table.now) (record { cell = c.first_beyond-cell.result; range = c.if-row-end.next.0; seen = c.if-row-end.next.1; from = c.args.walk.seen; place = c.first-place.result })
+step_past g c =
     let t = c.args.table.now in
     let x = c.index-cells-cell.result in
     let within = c.if-cell-cells.false in
@@ -42,7 +42,7 @@ moved g c =
     ])
 
 pub returns-clause-left : goal.returns-clause-left
-returns-clause-left g c = (moved g (goal.at.returns-clause-left g c).After-first-place).left
+returns-clause-left g c = (step_past g (goal.at.returns-clause-left g c).After-first-place).left
 
 pub returns-clause-next : goal.returns-clause-next
-returns-clause-next g c = (moved g (goal.at.returns-clause-next g c).After-first-place).next
+returns-clause-next g c = (step_past g (goal.at.returns-clause-next g c).After-first-place).next
