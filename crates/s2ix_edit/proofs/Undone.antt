@@ -8,7 +8,7 @@ use Rattle.s2ix_bag.specs.Collection.{Collection}
 use Rattle.s2ix_bag.proofs.Inverse.{changed_inverse_between}
 use Rattle.s2ix_edit.specs.declared.edit.Edit.{Edit}
 use Rattle.s2ix_edit.specs.Edit.{edited}
-use Rattle.s2ix_edit.specs.History.{State, IsStore, after_edit, after_undo, after_undo_of, change_of, history_of, holding}
+use Rattle.s2ix_edit.specs.State.{State, IsStore, after_edit, after_undo, after_undo_of, change_of, history_of, holding}
 use Rattle.s2ix_edit.proofs.Edited.{held_edited_is_collection}
 use Rattle.s2ix_edit.proofs.Places.{slice_get_last}
 
