@@ -1,6 +1,5 @@
 -- One copy more for each cell of a rising list.
-use Rattle.std.proofs.Common.{◌≡◌, ◌≢◌, ℕ, zero, suc, ◌+◌, ◌*◌, ◌<◌, ◌≤◌, true, List, [], ◌∷◌, ◌++◌, length, take, AllPairs, Contains, map, get_or, refl, sym, ap, ◌∙◌, subst, arith}
-use Rattle.std.proofs.lemmas.List.{map-append, take_more}
+use Rattle.std.proofs.Common.{◌≡◌, ◌≢◌, ℕ, zero, suc, ◌+◌, ◌*◌, ◌<◌, ◌≤◌, true, List, [], ◌∷◌, length, AllPairs, Contains, map, get_or, refl, sym, ap, ◌∙◌, subst, arith}
 use Rattle.s2id_core.specs.declared.cell_id.CellId.{CellId}
 use Rattle.s2id_core.specs.CellId.{raw_of}
 use Rattle.s2ix_bag.specs.declared.label.Label.{Label}
@@ -115,9 +114,3 @@ addition_above bag label cs c b pairs has high =
     let range = bag.limits.in_range in
     let sum = with_each_same label cs bag.held c b.rises pairs has in
     above_from_count (count_limit bag.limits) (with_each label cs bag.held) (rank_of (pair_of c label)) (omega (arith, range, sum, high))
-
--- one cell more
-pub addition_step : (hs : Collection) (label : Label) (cs : List CellId) (i : ℕ) (c : CellId) → i < length cs → c ≡ get_or cs i c → map (addition hs label) (take (i + 1) cs) ≡ map (addition hs label) (take i cs) ++ addition hs label c ∷ []
-addition_step hs label cs i c lt is =
-    ap (λ xs. map (addition hs label) xs) (take_more cs i c lt ∙ ap (λ x. take i cs ++ x ∷ []) (sym is))
-    ∙ map-append (addition hs label) (take i cs) (c ∷ [])

@@ -1,5 +1,5 @@
 -- Which refusal of an edit stands first.
-use Rattle.std.proofs.Common.{◌≡◌, ℕ, ◌+◌, ◌<◌, ◌≤◌, ◌==◌, Bool, true, false, cond, ltb, List, [], ◌∷◌, length, Option, Some, None, refl, subst, ⊎_elim, sym, ap, ap₂, ◌++◌, ◌∙◌, arith}
+use Rattle.std.proofs.Common.{◌≡◌, ℕ, ◌+◌, ◌<◌, ◌≤◌, ◌==◌, Bool, true, false, cond, ltb, List, [], ◌∷◌, length, Option, Some, None, refl, ⊎_elim, sym, ap, ap₂, ◌++◌, ◌∙◌, arith}
 use Rattle.std.proofs.lemmas.Bool.{cases_Bool, cond-false, eqb-true}
 use borrow.Author.Tests.{lt-leb}
 use Rattle.std.specs.List.{list_any}
@@ -15,7 +15,7 @@ use Rattle.s2ix_edit.specs.declared.errors.EditError.TheVariants.{NoSuchLabel, N
 use Rattle.s2ix_edit.specs.Edit.{edited_alone}
 use Rattle.s2ix_edit.specs.State.{State, IsStore, after_edit, change_of, holding}
 use Rattle.s2ix_edit.specs.Plan.{Plans, after_record, entries_refusal, starting_at}
-use Rattle.s2ix_edit.specs.Refusals.{edit_refusal, has_count_above, lacks_label, takes_too_many, MayWantMemory}
+use Rattle.s2ix_edit.specs.Refusals.{edit_refusal, has_count_above, lacks_label, takes_too_many}
 use Rattle.s2ix_edit.proofs.Taken.{above_from_count, any_above_changed, between_changed, none_above}
 use Rattle.s2ix_edit.proofs.Edited.{edited_held, edited_is_collection}
 use Rattle.s2ix_bag.proofs.Collections.{count_in-set_count_same}
@@ -121,18 +121,6 @@ sum_too_high bag p copies before b is_before high =
     let sum = count_in-set_count_same p (count_in bag.held p + copies) bag.held b.rises in
     too_high bag (Add p copies) b refl refl
     (above_from_count (count_limit bag.limits) (edited_alone (Add p copies) bag.held) (rank_of p) (omega (arith, range, sum, is_before, high)))
-
--- want of memory may come in place of what is found while the change is made
-may_want : (same high many : Bool) → MayWantMemory (first_of_three same high many)
-unfolding first_of_three
-may_want true high many = tt
-may_want false true many = tt
-may_want false false true = tt
-may_want false false false = tt
-
-pub memory_wanted : (bag : Contents) (edit : Edit) → lacks_label edit bag.held ≡ false → takes_too_many edit bag.held ≡ false → MayWantMemory (edit_refusal (starting_at bag) edit)
-memory_wanted bag edit known allowed =
-    subst MayWantMemory (sym (later_refusal bag edit known allowed)) (may_want _ _ _)
 
 -- the change that a store records of an edit is its plan
 pub change_planned : (s : State) (edit : Edit) (es : List Entry) → IsBag s.bag → Plans s.bag edit es → change_of s edit ≡ es

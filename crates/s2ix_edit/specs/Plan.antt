@@ -7,7 +7,7 @@ use Rattle.s2ix_bag.specs.declared.pair.Pair.{Pair}
 use Rattle.s2ix_bag.specs.Apply.{first_mismatch}
 use Rattle.s2ix_bag.specs.Change.{changed, gone, IsChangeList}
 use Rattle.s2ix_bag.specs.Label.{value_of}
-use Rattle.s2ix_bag.specs.Collection.{Collection, Contents}
+use Rattle.s2ix_bag.specs.Collection.{Contents}
 use Rattle.s2ix_bag.specs.Limits.{pairs_limit, count_limit}
 use Rattle.s2ix_edit.specs.declared.edit.Edit.{Edit}
 use Rattle.s2ix_edit.specs.declared.errors.EditError.{EditError}
