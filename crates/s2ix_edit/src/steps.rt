@@ -4,9 +4,9 @@ ghost use Rattle.std.specs.Prelude.{◌≡◌, ◌<◌, None, IfOk, IfErr, OnOk,
 ghost use Rattle.s2ix_bag.specs.Apply.{apply_refusal, first_mismatch};
 ghost use Rattle.s2ix_bag.specs.Change.{changed};
 ghost use Rattle.s2ix_bag.specs.Collection.{IsBag};
-ghost use Rattle.s2ix_edit.specs.State.{holding};
 ghost use Rattle.s2ix_edit.specs.Plan.{entries_refusal, IsShifted};
 ghost use Rattle.s2ix_edit.specs.Refusals.{IsEditRefusal};
+ghost use Rattle.s2ix_edit.specs.State.{holding};
 
 use crate::errors::EditError;
 use s2id_core::OutOfMemory;

@@ -6,10 +6,10 @@ ghost use Rattle.s2ix_bag.specs.Collection.{count_in};
 ghost use Rattle.s2ix_bag.specs.Limits.{changes_limit};
 ghost use Rattle.s2ix_bag.specs.Pair.{rank_of};
 ghost use Rattle.s2ix_edit.specs.Edit.{edited};
-ghost use Rattle.s2ix_edit.specs.State.{State, IsStore, after_edit, after_forget, after_redo, after_undo, change_of, history_of, redo_size, undo_size};
+ghost use Rattle.s2ix_edit.specs.History.{alone, forgotten, one_back, one_on, with_next};
 ghost use Rattle.s2ix_edit.specs.Plan.{after_record, entries_refusal, starting_at};
 ghost use Rattle.s2ix_edit.specs.Refusals.{edit_refusal, IsEditRefusal};
-ghost use Rattle.s2ix_edit.specs.History.{alone, forgotten, one_back, one_on, with_next};
+ghost use Rattle.s2ix_edit.specs.State.{State, IsStore, after_edit, after_forget, after_redo, after_undo, change_of, history_of, redo_size, undo_size};
 ghost use Rattle.s2ix_table.specs.Table.{IsRangeTable};
 
 use crate::edit::Edit;
@@ -122,7 +122,7 @@ impl Store {
         Ok(number)
     }
 
-    /// Takes the last change back, and answers how many pairs it had. The change moves to the end of `undone`.
+    /// Takes the last change back, and answers how many pairs it had. The change goes to the end of `undone`.
     /// `NothingToUndo` is tested first; after it only memory can be wanting. O(n + m) for n pairs held and m in
     /// the change, and the table of the new bag: O(r * n) for its r ranges.
     pub fn undo(&mut self) -> Result<usize, UndoError>
@@ -150,7 +150,7 @@ impl Store {
         Ok(number)
     }
 
-    /// Does the last undone change again, and answers how many pairs it has. The change moves back to the end of
+    /// Does the last undone change again, and answers how many pairs it has. The change goes back to the end of
     /// `done`. `NothingToRedo` is tested first; after it only memory can be wanting, and the journal is never
     /// full: an undo keeps the room of its change. O(n + m) for n pairs held and m in the change, and the table of
     /// the new bag: O(r * n) for its r ranges.
