@@ -3,7 +3,7 @@ use Rattle.std.proofs.Common.{◌≡◌, ℕ, zero, suc, ◌≤◌, ◌+◌, ◌
 use Rattle.std.specs.Io.KnownBytes.{Appends, Keeps, IsAtEnd}
 use Rattle.std.proofs.Math.Seq.{take-append_seam}
 use Rattle.std.proofs.KnownBytes.{Appends-nil, Appends-trans, Appends-kept}
-use Rattle.s2ix_edit.specs.History.{State}
+use Rattle.s2ix_edit.specs.State.{State}
 use Rattle.s2ix_io.specs.Puts.{AppendsFront, IsFront}
 use Rattle.s2ix_io.proofs.Fronts.{IsFront-nil, IsFront-refl, IsFront-append, IsFront-after}
 use Rattle.s2ix_cli.specs.declared.outcome.LineOutcome.{LineOutcome}

@@ -5,7 +5,7 @@ use Rattle.std.proofs.lemmas.Option.{slice_get-get_or}
 use Rattle.s2ix_edit.specs.declared.edit.Edit.{Edit}
 use Rattle.s2ix_edit.specs.declared.errors.EditError.{EditError}
 use Rattle.s2ix_edit.specs.declared.errors.EditError.TheVariants.{JournalFull, NoSuchLabel, NotHeld, NoChange, TooManyCopies, TooManyPairs, OutOfMemory}
-use Rattle.s2ix_edit.specs.History.{State, after_edit, after_undo, after_redo, change_of, undo_size, redo_size}
+use Rattle.s2ix_edit.specs.State.{State, after_edit, after_undo, after_redo, change_of, undo_size, redo_size}
 use Rattle.s2ix_edit.specs.Refusals.{edit_refusal, IsEditRefusal}
 use Rattle.s2ix_edit.specs.declared.errors.RedoError.{RedoError}
 use Rattle.s2ix_edit.specs.declared.errors.RedoError.TheVariants.{NothingToRedo}

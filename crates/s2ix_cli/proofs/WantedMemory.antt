@@ -1,6 +1,6 @@
 -- Where reading a line wanted memory, the line may want it.
 use Rattle.std.proofs.Common.{◌≡◌, true, inl, Result, Ok, Err, Option, Some, None}
-use Rattle.s2ix_edit.specs.History.{State}
+use Rattle.s2ix_edit.specs.State.{State}
 use Rattle.s2ix_script.specs.declared.command.Command.{Command}
 use Rattle.s2ix_script.specs.declared.command.LineFault.{LineFault}
 use Rattle.s2ix_script.specs.Meaning.{asks_on_union, is_ok_with}

@@ -1,7 +1,7 @@
 -- What carrying a line out comes to.
 use Rattle.std.specs.Prelude.{◌≡◌, ℕ, Bool, true, false, Option, Result, Ok, Err, List}
 use Rattle.std.specs.Io.KnownBytes.{Appends, Keeps}
-use Rattle.s2ix_edit.specs.History.{State}
+use Rattle.s2ix_edit.specs.State.{State}
 use Rattle.s2ix_io.specs.Puts.{AppendsFront}
 use Rattle.s2ix_cli.specs.declared.outcome.LineOutcome.{LineOutcome}
 use Rattle.s2ix_cli.specs.declared.outcome.LineOutcome.TheVariants.{PassedOver, Accepted, Refused}

@@ -6,7 +6,7 @@ use Rattle.s2ix_edit.specs.declared.errors.RedoError.{RedoError}
 use Rattle.s2ix_edit.specs.declared.errors.RedoError.TheVariants as redo
 use Rattle.s2ix_edit.specs.declared.errors.UndoError.{UndoError}
 use Rattle.s2ix_edit.specs.declared.errors.UndoError.TheVariants as undo
-use Rattle.s2ix_edit.specs.History.{State}
+use Rattle.s2ix_edit.specs.State.{State}
 use Rattle.s2ix_script.specs.declared.command.Move.{Move}
 use Rattle.s2ix_script.specs.Names.{edit_error_name}
 use Rattle.s2ix_cli.specs.declared.moves.Refusal.{Refusal}

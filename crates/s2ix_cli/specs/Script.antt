@@ -1,7 +1,7 @@
 -- What a script comes to: its lines one after the other.
 use Rattle.std.specs.Prelude.{◌≡◌, ◌≢◌, ℕ, ◌+◌, ◌-◌, ◌^◌, ◌≤◌, ◌⊎◌, ◌==◌, ◌&&◌, min, if◌then◌else◌, Bool, Option, List, [], ◌∷◌, ◌++◌, take, length, count_by}
 use Rattle.std.specs.Io.KnownBytes.{Keeps, Appends, IsAtEnd}
-use Rattle.s2ix_edit.specs.History.{State}
+use Rattle.s2ix_edit.specs.State.{State}
 use Rattle.s2ix_io.specs.Puts.{AppendsBetween}
 use Rattle.s2ix_cli.specs.declared.outcome.RunEnd.{RunEnd}
 use Rattle.s2ix_cli.specs.declared.outcome.RunFault.{RunFault}

@@ -11,7 +11,7 @@ use Rattle.s2id_cube.specs.Neighbor.{neighbor_number}
 use Rattle.s2id_cube.specs.Square.{square_of}
 use Rattle.s2ix_edit.specs.declared.edit.Edit.{Edit}
 use Rattle.s2ix_edit.specs.declared.errors.EditError.{EditError}
-use Rattle.s2ix_edit.specs.History.{State, after_edit, after_forget, after_undo, after_redo, change_of, last_done, last_undone, undo_size, redo_size}
+use Rattle.s2ix_edit.specs.State.{State, after_edit, after_forget, after_undo, after_redo, change_of, last_done, last_undone, undo_size, redo_size}
 use Rattle.s2ix_edit.specs.Refusals.{edit_refusal}
 use Rattle.s2ix_text.specs.Dump.{dump_text}
 use Rattle.s2ix_table.specs.Contents.{contents_at}

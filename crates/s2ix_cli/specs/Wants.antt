@@ -1,7 +1,7 @@
 -- Where a line may want memory.
 use Rattle.std.specs.Prelude.{◌≡◌, ◌≢◌, ◌⊎◌, ℕ, Bool, true, Option, Some, None, Result, Ok, Err, List, [], ◌∷◌, ◌++◌}
 use Rattle.std.specs.Io.KnownBytes.{Appends}
-use Rattle.s2ix_edit.specs.History.{State}
+use Rattle.s2ix_edit.specs.State.{State}
 use Rattle.s2ix_edit.specs.Refusals.{MayWantMemory, edit_refusal}
 use Rattle.s2ix_script.specs.declared.command.Command.{Command}
 use Rattle.s2ix_script.specs.declared.command.Command.TheVariants as command

@@ -11,8 +11,8 @@ use Rattle.s2ix_bag.specs.Change.{change_between, changed, inverse_of, IsChangeL
 use Rattle.s2ix_bag.specs.Collection.{Collection, Contents, IsBag}
 use Rattle.s2ix_bag.proofs.Inverse.{inverse_keeps}
 use Rattle.s2ix_bag.proofs.Refusals.{made_is_bag, taken_from_none}
-use Rattle.s2ix_edit.specs.History.{State, IsStore, CanGoBack, CanGoOn, earlier, history_of, holding, later}
-use Rattle.s2ix_edit.specs.Steps.{changes_along, changes_from}
+use Rattle.s2ix_edit.specs.State.{State, IsStore, CanGoBack, CanGoOn, earlier, history_of, holding, later}
+use Rattle.s2ix_edit.specs.History.{changes_along, changes_from}
 use Rattle.s2ix_edit.proofs.Places.{forth_again, length-earlier, taken_again}
 use Rattle.s2ix_edit.proofs.Taken.{between_changed, not_mismatched}
 

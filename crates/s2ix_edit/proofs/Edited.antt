@@ -1,5 +1,5 @@
 -- What an edit makes of the collection that a store holds.
-use Rattle.std.proofs.Common.{◌≡◌, ◌+◌, ◌-◌, [], ◌∷◌, ◌++◌, length, reverse, get_or, refl, sym, ap, ◌∙◌, subst}
+use Rattle.std.proofs.Common.{◌≡◌, ◌+◌, ◌-◌, [], ◌∷◌, ◌++◌, reverse, get_or, refl, sym, ap, ◌∙◌, subst}
 use Rattle.std.proofs.lemmas.List.{length-reverse}
 use Rattle.std.proofs.Math.Seq.{get_or-append_seam}
 use Rattle.s2ix_bag.specs.Collection.{Collection, IsCollection, count_in}
@@ -8,12 +8,12 @@ use Rattle.s2ix_bag.proofs.Collections.{set_keeps}
 use Rattle.s2ix_edit.specs.declared.edit.Edit.{Edit}
 use Rattle.s2ix_edit.specs.declared.edit.Edit.TheVariants.{Add, AddUnion, Remove, DropLabel, Relabel}
 use Rattle.s2ix_edit.specs.Edit.{edited, edited_alone}
-use Rattle.s2ix_edit.specs.History.{State, earlier, history_of, later}
-use Rattle.s2ix_edit.specs.Steps.{History, at_cursor}
-use Rattle.s2ix_edit.proofs.Dropped.{without_keeps}
-use Rattle.s2ix_edit.proofs.Moved.{all_moved_keeps}
+use Rattle.s2ix_edit.specs.State.{State, earlier, history_of, later}
+use Rattle.s2ix_edit.specs.History.{History, at_cursor}
+use Rattle.s2ix_edit.proofs.DropLabel.{without_keeps}
+use Rattle.s2ix_edit.proofs.Relabel.{with_all_moved_keeps}
 use Rattle.s2ix_edit.proofs.Places.{length-earlier}
-use Rattle.s2ix_edit.proofs.Raised.{with_each_keeps}
+use Rattle.s2ix_edit.proofs.AddUnion.{with_each_keeps}
 
 -- the collection at the cursor is the store's
 pub held_at_cursor : (s : State) → at_cursor (history_of s) ≡ s.bag.held
@@ -40,7 +40,7 @@ edited_is_collection (Add pair copies) hs is = set_keeps pair (count_in hs pair 
 edited_is_collection (AddUnion cells label) hs is = with_each_keeps label cells hs is
 edited_is_collection (Remove pair copies) hs is = set_keeps pair (count_in hs pair - copies) hs is
 edited_is_collection (DropLabel label) hs is = without_keeps label hs is
-edited_is_collection (Relabel source target) hs is = all_moved_keeps target (held_of source hs) hs is
+edited_is_collection (Relabel source target) hs is = with_all_moved_keeps target (held_of source hs) hs is
 
 pub held_edited_is_collection : (s : State) (edit : Edit) → IsCollection s.bag.held → IsCollection (edited (history_of s) edit)
 held_edited_is_collection s edit is =

@@ -7,8 +7,8 @@ use Rattle.s2ix_bag.proofs.Inverse.{changed_inverse_between}
 use Rattle.s2ix_bag.proofs.Refusals.{made_is_bag, taken_from_none}
 use Rattle.s2ix_edit.specs.declared.edit.Edit.{Edit}
 use Rattle.s2ix_edit.specs.Edit.{edited}
-use Rattle.s2ix_edit.specs.History.{State, IsStore, after_edit, after_forget, after_redo, after_redo_of, after_undo, after_undo_of, change_of, history_of, later}
-use Rattle.s2ix_edit.specs.Steps.{History, changes_along, forgotten, one_back, one_on, with_next}
+use Rattle.s2ix_edit.specs.State.{State, IsStore, after_edit, after_forget, after_redo, after_redo_of, after_undo, after_undo_of, change_of, history_of, later}
+use Rattle.s2ix_edit.specs.History.{History, changes_along, forgotten, one_back, one_on, with_next}
 use Rattle.s2ix_edit.proofs.Along.{changes_of_history}
 use Rattle.s2ix_edit.proofs.Edited.{held_edited_is_collection}
 use Rattle.s2ix_edit.proofs.Places.{collections_recorded, goes_on, history_forgotten, history_redone, history_undone}

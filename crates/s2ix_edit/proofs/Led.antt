@@ -8,7 +8,7 @@ use Rattle.s2ix_bag.specs.Pair.{rank_of}
 use Rattle.s2ix_bag.proofs.Differences.{counts_between}
 use Rattle.s2ix_edit.specs.declared.edit.Edit.{Edit}
 use Rattle.s2ix_edit.specs.Edit.{edited}
-use Rattle.s2ix_edit.specs.History.{State, IsStore, after_edit, after_redo, after_redo_of, after_undo, after_undo_of, change_of, history_of}
+use Rattle.s2ix_edit.specs.State.{State, IsStore, after_edit, after_redo, after_redo_of, after_undo, after_undo_of, change_of, history_of}
 use Rattle.s2ix_edit.proofs.Edited.{held_edited_is_collection}
 use Rattle.s2ix_edit.proofs.Places.{Redoes, Undoes}
 use Rattle.s2ix_edit.proofs.Redone.{redo_of_last, redo_of_undo}

@@ -1,13 +1,13 @@
+pub mod AddUnion
 pub mod Along
-mod Dropped
+mod DropLabel
 pub mod Edited
 pub mod Followed
 pub mod Led
-mod Moved
 pub mod Places
 mod Plans
-pub mod Raised
 pub mod Redone
 mod Refused
+mod Relabel
 pub mod Taken
 pub mod Undone

@@ -7,9 +7,9 @@ use Rattle.s2ix_bag.specs.Apply.{apply_refusal, first_mismatch}
 use Rattle.s2ix_bag.specs.Change.{changed, inverse_of, IsChangeList}
 use Rattle.s2ix_bag.specs.Collection.{Collection, Contents, IsBag, IsCollection}
 use Rattle.s2ix_bag.specs.Limits.{changes_limit}
-use Rattle.s2ix_edit.specs.History.{State, IsStore, CanGoBack, CanGoOn, earlier, later, history_of, holding}
-use Rattle.s2ix_edit.specs.Plan.{recorded}
-use Rattle.s2ix_edit.specs.Steps.{History, alone, forgotten, one_back, one_on}
+use Rattle.s2ix_edit.specs.State.{State, IsStore, CanGoBack, CanGoOn, earlier, later, history_of, holding}
+use Rattle.s2ix_edit.specs.Plan.{after_record}
+use Rattle.s2ix_edit.specs.History.{History, alone, forgotten, one_back, one_on}
 use Rattle.s2ix_bag.proofs.Inverse.{inverse-inverse, inverse_keeps}
 use Rattle.s2ix_edit.proofs.Taken.{changed_back, not_mismatched, takes_back}
 use Rattle.std.specs.List.{slice_get}
@@ -48,7 +48,7 @@ back_over bag done es b back rises some taken =
     (rises, some, takes_back bag es b rises taken, subst Older (sym (changed_back bag es b.rises rises (not_mismatched bag es taken))) back)
 
 -- the store stands at the changed bag, with one more change behind it
-pub stands_recorded : (s after : State) (es : List Entry) → after ≡ recorded s es → IsStore s → length s.done < changes_limit s.bag.limits → IsChangeList es → 0 < length es → apply_refusal s.bag es ≡ None → IsBag after.bag → IsStore after
+pub stands_recorded : (s after : State) (es : List Entry) → after ≡ after_record s es → IsStore s → length s.done < changes_limit s.bag.limits → IsChangeList es → 0 < length es → apply_refusal s.bag es ≡ None → IsBag after.bag → IsStore after
 stands_recorded s after es is st room rises some taken b =
     let Stands : State → Type 0 = λ t. IsStore t in
     let Bag : Contents → Type 0 = λ bag. IsBag bag in

@@ -11,9 +11,15 @@ use Rattle.s2ix_bag.specs.Collection.{Collection, Contents, IsBag, count_in, set
 use Rattle.s2ix_edit.specs.declared.edit.Edit.{Edit}
 use Rattle.s2ix_edit.specs.declared.edit.Edit.TheVariants.{Add, Remove}
 use Rattle.s2ix_edit.specs.Edit.{edited_alone}
-use Rattle.s2ix_edit.specs.Plan.{Makes, Plans, one_entry}
+use Rattle.s2ix_edit.specs.Plan.{Plans, one_entry}
 use Rattle.s2ix_edit.specs.Refusals.{lacks_label, takes_too_many}
 use Rattle.s2ix_bag.proofs.Collections.{set_count_in}
+
+-- the entries make this collection of the bag's: the counts before are the bag's, and those after the collection's
+pub record Makes (bag : Contents) (new : Collection) (es : List Entry) : Type 0 where
+  pub rises : IsChangeList es
+  pub matches : first_mismatch bag es ≡ None
+  pub result : changed bag.held es ≡ new
 
 -- ---- the entries of one pair
 

@@ -5,7 +5,7 @@ use Rattle.std.proofs.lemmas.List.{take_more}
 use Rattle.std.proofs.Math.Seq.{take-length}
 use Rattle.s2ix_bag.specs.declared.pair.Entry.{Entry}
 use Rattle.s2ix_bag.specs.Change.{inverse_of}
-use Rattle.s2ix_edit.specs.History.{State, IsStore, after_redo, after_redo_of, after_undo, after_undo_of, holding, last_done, last_undone}
+use Rattle.s2ix_edit.specs.State.{State, IsStore, after_redo, after_redo_of, after_undo, after_undo_of, holding, last_done, last_undone}
 use Rattle.s2ix_edit.proofs.Places.{forth_again, goes_back, goes_on, slice_get_last}
 use Rattle.s2ix_edit.proofs.Taken.{changed_back, not_mismatched}
 use Rattle.s2ix_edit.proofs.Undone.{front_of, undo_of_last}

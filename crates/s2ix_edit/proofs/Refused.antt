@@ -1,5 +1,5 @@
 -- Which refusal of an edit stands first.
-use Rattle.std.proofs.Common.{◌≡◌, ℕ, ◌+◌, ◌<◌, ◌≤◌, ◌==◌, Bool, true, false, cond, ltb, List, [], ◌∷◌, length, Option, Some, None, refl, subst, ⊎_elim, sym, ap, ap₂, ◌++◌, ◌∙◌, arith}
+use Rattle.std.proofs.Common.{◌≡◌, ℕ, ◌+◌, ◌<◌, ◌≤◌, ◌==◌, Bool, true, false, cond, ltb, List, [], ◌∷◌, length, Option, Some, None, refl, ⊎_elim, sym, ap, ap₂, ◌++◌, ◌∙◌, arith}
 use Rattle.std.proofs.lemmas.Bool.{cases_Bool, cond-false, eqb-true}
 use borrow.Author.Tests.{lt-leb}
 use Rattle.std.specs.List.{list_any}
@@ -11,11 +11,11 @@ use Rattle.s2ix_bag.specs.Limits.{pairs_limit, count_limit, changes_limit}
 use Rattle.s2ix_edit.specs.declared.edit.Edit.{Edit}
 use Rattle.s2ix_edit.specs.declared.edit.Edit.TheVariants.{Add}
 use Rattle.s2ix_edit.specs.declared.errors.EditError.{EditError}
-use Rattle.s2ix_edit.specs.declared.errors.EditError.TheVariants.{JournalFull, NoSuchLabel, NotHeld, NoChange, TooManyCopies, TooManyPairs, OutOfMemory}
+use Rattle.s2ix_edit.specs.declared.errors.EditError.TheVariants.{NoSuchLabel, NotHeld, NoChange, TooManyCopies, TooManyPairs}
 use Rattle.s2ix_edit.specs.Edit.{edited_alone}
-use Rattle.s2ix_edit.specs.History.{State, IsStore, after_edit, change_of, holding}
-use Rattle.s2ix_edit.specs.Plan.{Plans, entries_refusal, recorded, starting_at}
-use Rattle.s2ix_edit.specs.Refusals.{edit_refusal, has_count_above, lacks_label, takes_too_many, IsEditRefusal, IsPlanFailure, MayWantMemory}
+use Rattle.s2ix_edit.specs.State.{State, IsStore, after_edit, change_of, holding}
+use Rattle.s2ix_edit.specs.Plan.{Plans, after_record, entries_refusal, starting_at}
+use Rattle.s2ix_edit.specs.Refusals.{edit_refusal, has_count_above, lacks_label, takes_too_many}
 use Rattle.s2ix_edit.proofs.Taken.{above_from_count, any_above_changed, between_changed, none_above}
 use Rattle.s2ix_edit.proofs.Edited.{edited_held, edited_is_collection}
 use Rattle.s2ix_bag.proofs.Collections.{count_in-set_count_same}
@@ -106,7 +106,7 @@ changes_some bag new b is high =
     (cases_Bool (length (change_between bag.held new) == 0))
 
 -- an edit that makes a count above the limit is refused for its copies
-too_high : (bag : Contents) (edit : Edit) → IsBag bag → lacks_label edit bag.held ≡ false → takes_too_many edit bag.held ≡ false → has_count_above (count_limit bag.limits) (edited_alone edit bag.held) ≡ true → edit_refusal (starting_at bag) edit ≡ Some TooManyCopies
+pub too_high : (bag : Contents) (edit : Edit) → IsBag bag → lacks_label edit bag.held ≡ false → takes_too_many edit bag.held ≡ false → has_count_above (count_limit bag.limits) (edited_alone edit bag.held) ≡ true → edit_refusal (starting_at bag) edit ≡ Some TooManyCopies
 unfolding first_of_three is_high
 too_high bag edit b known allowed high =
     let many : Bool = ltb (pairs_limit bag.limits) (length (edited_alone edit bag.held)) in
@@ -122,35 +122,13 @@ sum_too_high bag p copies before b is_before high =
     too_high bag (Add p copies) b refl refl
     (above_from_count (count_limit bag.limits) (edited_alone (Add p copies) bag.held) (rank_of p) (omega (arith, range, sum, is_before, high)))
 
--- want of memory may come in place of what is found while the change is made
-may_want : (same high many : Bool) → MayWantMemory (first_of_three same high many)
-unfolding first_of_three
-may_want true high many = tt
-may_want false true many = tt
-may_want false false true = tt
-may_want false false false = tt
-
-memory_wanted : (bag : Contents) (edit : Edit) → lacks_label edit bag.held ≡ false → takes_too_many edit bag.held ≡ false → MayWantMemory (edit_refusal (starting_at bag) edit)
-memory_wanted bag edit known allowed =
-    subst MayWantMemory (sym (later_refusal bag edit known allowed)) (may_want _ _ _)
-
--- why no entries are planned is why the edit is refused
-pub failed_plan : (bag : Contents) (edit : Edit) (error : EditError) → IsBag bag → lacks_label edit bag.held ≡ false → takes_too_many edit bag.held ≡ false → IsPlanFailure bag (edited_alone edit bag.held) error → IsEditRefusal error (edit_refusal (starting_at bag) edit)
-failed_plan bag edit JournalFull b known allowed failed = absurd failed
-failed_plan bag edit NoSuchLabel b known allowed failed = absurd failed
-failed_plan bag edit NotHeld b known allowed failed = absurd failed
-failed_plan bag edit NoChange b known allowed failed = absurd failed
-failed_plan bag edit TooManyCopies b known allowed failed = too_high bag edit b known allowed failed
-failed_plan bag edit TooManyPairs b known allowed failed = absurd failed
-failed_plan bag edit OutOfMemory b known allowed failed = memory_wanted bag edit known allowed
-
 -- the change that a store records of an edit is its plan
 pub change_planned : (s : State) (edit : Edit) (es : List Entry) → IsBag s.bag → Plans s.bag edit es → change_of s edit ≡ es
 change_planned s edit es b plans =
     ap (λ hs. change_between s.bag.held hs) (edited_held s edit) ∙ planned_change s.bag edit es b plans
 
 -- an edit makes what its planned entries make
-pub planned_state : (s : State) (edit : Edit) (es : List Entry) → IsBag s.bag → Plans s.bag edit es → recorded s es ≡ after_edit s edit
+pub planned_state : (s : State) (edit : Edit) (es : List Entry) → IsBag s.bag → Plans s.bag edit es → after_record s es ≡ after_edit s edit
 planned_state s edit es b plans =
     ap₂ (λ (hs : Collection) (ds : List Entry). let after : State = record { bag = holding s.bag hs; done = s.done ++ ds ∷ []; undone = [] } in after)
     (plans.result ∙ sym (edited_held s edit)) (sym (change_planned s edit es b plans))

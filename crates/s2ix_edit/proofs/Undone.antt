@@ -1,5 +1,5 @@
 -- An edit, and then an undo.
-use Rattle.std.proofs.Common.{◌≡◌, ◌+◌, ◌-◌, List, [], ◌∷◌, ◌++◌, length, take, Option, Some, None, refl, ap, ap₂, ◌∙◌, arith}
+use Rattle.std.proofs.Common.{◌≡◌, ◌-◌, List, [], ◌∷◌, ◌++◌, length, take, Option, Some, None, refl, ap, ap₂, ◌∙◌, arith}
 use Rattle.std.specs.List.{slice_get}
 use Rattle.std.proofs.lemmas.List.{length-append}
 use Rattle.std.proofs.Math.Seq.{take-append_seam}
@@ -8,7 +8,7 @@ use Rattle.s2ix_bag.specs.Collection.{Collection}
 use Rattle.s2ix_bag.proofs.Inverse.{changed_inverse_between}
 use Rattle.s2ix_edit.specs.declared.edit.Edit.{Edit}
 use Rattle.s2ix_edit.specs.Edit.{edited}
-use Rattle.s2ix_edit.specs.History.{State, IsStore, after_edit, after_undo, after_undo_of, change_of, history_of, holding}
+use Rattle.s2ix_edit.specs.State.{State, IsStore, after_edit, after_undo, after_undo_of, change_of, history_of, holding}
 use Rattle.s2ix_edit.proofs.Edited.{held_edited_is_collection}
 use Rattle.s2ix_edit.proofs.Places.{slice_get_last}
 

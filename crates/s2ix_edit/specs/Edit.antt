@@ -10,7 +10,7 @@ use Rattle.s2ix_bag.specs.Collection.{Collection, count_in, set_count}
 use Rattle.s2ix_bag.specs.OfLabel.{held_of}
 use Rattle.s2ix_edit.specs.declared.edit.Edit.{Edit}
 use Rattle.s2ix_edit.specs.declared.edit.Edit.TheVariants.{Add, AddUnion, Remove, DropLabel, Relabel}
-use Rattle.s2ix_edit.specs.Steps.{History, alone, at_cursor}
+use Rattle.s2ix_edit.specs.History.{History, alone, at_cursor}
 
 -- the pair of a cell under a label
 abbrev pub pair_of : CellId → Label → Pair
@@ -34,13 +34,13 @@ with_each label [] hs = hs
 with_each label (c ∷ cs) hs = with_each label cs (with_more (pair_of c label) 1 hs)
 
 -- the collection with the copies of one held pair moved to the target's pair of its cell
-abbrev pub moved : Label → Held → Collection → Collection
-moved target h hs = with_more (pair_of h.pair.cell target) h.count (set_count h.pair 0 hs)
+abbrev pub with_moved : Label → Held → Collection → Collection
+with_moved target h hs = with_more (pair_of h.pair.cell target) h.count (set_count h.pair 0 hs)
 
 -- the collection with the copies of each of the held pairs moved so
-abbrev pub all_moved : Label → List Held → Collection → Collection
-all_moved target [] hs = hs
-all_moved target (h ∷ rest) hs = all_moved target rest (moved target h hs)
+abbrev pub with_all_moved : Label → List Held → Collection → Collection
+with_all_moved target [] hs = hs
+with_all_moved target (h ∷ rest) hs = with_all_moved target rest (with_moved target h hs)
 
 -- the collection after the edit of the one at the cursor: `Add` adds copies to the pair's count, `AddUnion` one copy
 -- under the label for each cell, `Remove` takes copies from the pair's count, `DropLabel` takes the label's pairs away,
@@ -50,7 +50,7 @@ edited h (Add pair copies) = with_more pair copies (at_cursor h)
 edited h (AddUnion cells label) = with_each label cells (at_cursor h)
 edited h (Remove pair copies) = set_count pair (count_in (at_cursor h) pair - copies) (at_cursor h)
 edited h (DropLabel label) = without label (at_cursor h)
-edited h (Relabel source target) = all_moved target (held_of source (at_cursor h)) (at_cursor h)
+edited h (Relabel source target) = with_all_moved target (held_of source (at_cursor h)) (at_cursor h)
 
 -- the collection after the edit of one that stands alone
 abbrev pub edited_alone : Edit → Collection → Collection

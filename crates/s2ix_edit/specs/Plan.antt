@@ -7,13 +7,13 @@ use Rattle.s2ix_bag.specs.declared.pair.Pair.{Pair}
 use Rattle.s2ix_bag.specs.Apply.{first_mismatch}
 use Rattle.s2ix_bag.specs.Change.{changed, removal_of, IsChangeList}
 use Rattle.s2ix_bag.specs.Label.{value_of}
-use Rattle.s2ix_bag.specs.Collection.{Collection, Contents}
+use Rattle.s2ix_bag.specs.Collection.{Contents}
 use Rattle.s2ix_bag.specs.Limits.{pairs_limit, count_limit}
 use Rattle.s2ix_edit.specs.declared.edit.Edit.{Edit}
 use Rattle.s2ix_edit.specs.declared.errors.EditError.{EditError}
 use Rattle.s2ix_edit.specs.declared.errors.EditError.TheVariants.{NoChange, TooManyCopies, TooManyPairs}
 use Rattle.s2ix_edit.specs.Edit.{edited_alone}
-use Rattle.s2ix_edit.specs.History.{State, holding}
+use Rattle.s2ix_edit.specs.State.{State, holding}
 use Rattle.s2ix_edit.specs.Refusals.{lacks_label, takes_too_many}
 
 -- a store that stands at a bag and has no history
@@ -24,12 +24,6 @@ starting_at bag = record { bag = bag; done = []; undone = [] }
 abbrev pub one_entry : Pair → ℕ → ℕ → List Entry
 one_entry pair before after =
     if before == after then [] else record { pair = pair; before = before; after = after } ∷ []
-
--- the entries make this collection of the bag's: the counts before are the bag's, and those after the collection's
-pub record Makes (bag : Contents) (new : Collection) (es : List Entry) : Type 0 where
-  pub rises : IsChangeList es
-  pub matches : first_mismatch bag es ≡ None
-  pub result : changed bag.held es ≡ new
 
 -- the entries carry the edit out: its label is held, it takes no more than is held, the counts before are the bag's,
 -- and the counts after make the edited collection
@@ -49,20 +43,20 @@ entries_refusal bag es =
     else (if nat_lt (pairs_limit bag.limits) (length (changed bag.held es)) then Some TooManyPairs else None))
 
 -- the entries of a held pair that goes and of one that gains its copies, in the order of their labels
-abbrev pub moving_entries : Held → Entry → List Entry
-moving_entries h gaining =
-    if nat_lt (value_of h.pair.label) (value_of gaining.pair.label) then removal_of h ∷ gaining ∷ [] else gaining ∷ removal_of h ∷ []
+abbrev pub move_entries : Held → Entry → List Entry
+move_entries h gain =
+    if nat_lt (value_of h.pair.label) (value_of gain.pair.label) then removal_of h ∷ gain ∷ [] else gain ∷ removal_of h ∷ []
 
 -- the store after planned entries: its bag has the counts after, and they are the last change that was done
-abbrev pub recorded : State → List Entry → State
-recorded s es = record {
+abbrev pub after_record : State → List Entry → State
+after_record s es = record {
   bag = holding s.bag (changed s.bag.held es);
   done = s.done ++ es ∷ [];
   undone = [];
 }
 
--- the last change of one list has moved to the end of the other, and has this many entries
-pub record IsMoved (from to from_after to_after : List (List Entry)) (number : ℕ) : Type 0 where
+-- the last change of one list is now at the end of the other, and has this many entries
+pub record IsShifted (from to from_after to_after : List (List Entry)) (number : ℕ) : Type 0 where
   pub last : List Entry
   pub taken : from ≡ from_after ++ last ∷ []
   pub put : to_after ≡ to ++ last ∷ []

@@ -1,16 +1,18 @@
 -- Where an edit is refused.
-use Rattle.std.specs.Prelude.{◌≡◌, ℕ, ◌==◌, nat_lt, nat_le, Bool, true, false, Option, Some, None, List, [], ◌∷◌, length, find}
+use Rattle.std.specs.Prelude.{◌≡◌, ℕ, ◌==◌, nat_lt, nat_le, Bool, false, Option, Some, None, List, [], ◌∷◌, length, find}
 use Rattle.std.specs.List.{list_any}
 use Rattle.s2ix_bag.specs.declared.label.Label.{Label}
-use Rattle.s2ix_bag.specs.Collection.{Collection, Contents, count_in}
+use Rattle.s2ix_bag.specs.Collection.{Collection, count_in}
 use Rattle.s2ix_bag.specs.Limits.{pairs_limit, count_limit, changes_limit}
 use Rattle.s2ix_bag.specs.OfLabel.{held_of}
 use Rattle.s2ix_edit.specs.declared.edit.Edit.{Edit}
 use Rattle.s2ix_edit.specs.declared.edit.Edit.TheVariants.{Add, AddUnion, Remove, DropLabel, Relabel}
 use Rattle.s2ix_edit.specs.declared.errors.EditError.{EditError}
 use Rattle.s2ix_edit.specs.declared.errors.EditError.TheVariants.{JournalFull, NoSuchLabel, NotHeld, NoChange, TooManyCopies, TooManyPairs, OutOfMemory}
+use Rattle.s2ix_edit.specs.declared.errors.PlanError.{PlanError}
+use Rattle.s2ix_edit.specs.declared.errors.PlanError.TheVariants.{NoSuchLabel as LacksLabel, NotHeld as LacksCopies, TooManyCopies as PassesLimits, OutOfMemory as WantsMemory}
 use Rattle.s2ix_edit.specs.Edit.{edited}
-use Rattle.s2ix_edit.specs.History.{State, change_of, history_of}
+use Rattle.s2ix_edit.specs.State.{State, change_of, history_of}
 
 -- whether no pair of the label is held
 abbrev pub holds_none : Label → Collection → Bool
@@ -75,12 +77,9 @@ IsEditRefusal TooManyCopies refusal = refusal ≡ Some TooManyCopies
 IsEditRefusal TooManyPairs refusal = refusal ≡ Some TooManyPairs
 IsEditRefusal OutOfMemory refusal = MayWantMemory refusal
 
--- why no entries are planned that make a collection: a count of it would pass the limit, or memory was wanted
-abbrev pub IsPlanFailure : Contents → Collection → EditError → Type 0
-IsPlanFailure bag new JournalFull = ⊥
-IsPlanFailure bag new NoSuchLabel = ⊥
-IsPlanFailure bag new NotHeld = ⊥
-IsPlanFailure bag new NoChange = ⊥
-IsPlanFailure bag new TooManyCopies = has_count_above (count_limit bag.limits) new ≡ true
-IsPlanFailure bag new TooManyPairs = ⊥
-IsPlanFailure bag new OutOfMemory = Unit {0}
+-- what an edit is refused for where it has no plan
+abbrev pub edit_error : PlanError → EditError
+edit_error LacksLabel = NoSuchLabel
+edit_error LacksCopies = NotHeld
+edit_error PassesLimits = TooManyCopies
+edit_error WantsMemory = OutOfMemory

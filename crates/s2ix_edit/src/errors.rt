@@ -1,5 +1,5 @@
 use s2id_core::OutOfMemory;
-use std::alloc::AllocError;
+use std::alloc::{AllocError, AllocFailed};
 use thiserror::Error;
 
 /// Why an edit was refused. Where several refusals stand, the first of this list is answered; `OutOfMemory`
@@ -37,6 +37,68 @@ impl From<OutOfMemory> for EditError {
 
     fn from(_: OutOfMemory) -> Self {
         EditError::OutOfMemory
+    }
+}
+
+impl<T: Drop> From<AllocFailed<T>> for EditError {
+    ghost use Rattle.std.specs.Prelude.{◌≡◌};
+    ghost use Rattle.s2ix_edit.specs.declared.errors.EditError.TheVariants.{OutOfMemory};
+
+    ghost from_gives = { λ _ error. error ≡ OutOfMemory };
+
+    fn from(_: AllocFailed<T>) -> Self {
+        EditError::OutOfMemory
+    }
+}
+
+impl From<PlanError> for EditError {
+    ghost use Rattle.std.specs.Prelude.{◌≡◌};
+    ghost use Rattle.s2ix_edit.specs.Refusals.{edit_error};
+
+    ghost from_gives = { λ reason error. error ≡ edit_error reason };
+
+    fn from(reason: PlanError) -> Self {
+        match reason {
+            PlanError::NoSuchLabel => EditError::NoSuchLabel,
+            PlanError::NotHeld => EditError::NotHeld,
+            PlanError::TooManyCopies => EditError::TooManyCopies,
+            PlanError::OutOfMemory => EditError::OutOfMemory,
+        }
+    }
+}
+
+/// Why an edit has no plan: the cases of [`EditError`] that are found before any limit is looked at.
+#[derive(Clone, Copy, Debug, PartialEq, Eq)]
+pub enum PlanError {
+    /// No pair of the label is held.
+    NoSuchLabel,
+    /// Fewer copies are held than the edit takes.
+    NotHeld,
+    /// A count would pass every limit.
+    TooManyCopies,
+    /// A growth was refused.
+    OutOfMemory,
+}
+
+impl From<AllocError> for PlanError {
+    ghost use Rattle.std.specs.Prelude.{◌≡◌};
+    ghost use Rattle.s2ix_edit.specs.declared.errors.PlanError.TheVariants.{OutOfMemory};
+
+    ghost from_gives = { λ _ error. error ≡ OutOfMemory };
+
+    fn from(_: AllocError) -> Self {
+        PlanError::OutOfMemory
+    }
+}
+
+impl<T: Drop> From<AllocFailed<T>> for PlanError {
+    ghost use Rattle.std.specs.Prelude.{◌≡◌};
+    ghost use Rattle.s2ix_edit.specs.declared.errors.PlanError.TheVariants.{OutOfMemory};
+
+    ghost from_gives = { λ _ error. error ≡ OutOfMemory };
+
+    fn from(_: AllocFailed<T>) -> Self {
+        PlanError::OutOfMemory
     }
 }
 

@@ -11,8 +11,8 @@ ghost use Rattle.s2ix_bag.specs.Pair.{rank_of};
 ghost use Rattle.s2ix_edit.specs.declared.edit.Edit.{Edit};
 ghost use Rattle.s2ix_edit.specs.declared.edit.Edit.TheVariants.{Add, AddUnion, Remove, DropLabel, Relabel};
 ghost use Rattle.s2ix_edit.specs.Edit.{edited, edited_alone, pair_of};
-ghost use Rattle.s2ix_edit.specs.History.{State, IsStore, after_edit, after_forget, after_redo, after_undo, change_of, history_of, holding};
-ghost use Rattle.s2ix_edit.specs.Steps.{History, at_cursor, changes_along, forgotten, one_back, one_on, with_next};
+ghost use Rattle.s2ix_edit.specs.History.{History, at_cursor, changes_along, forgotten, one_back, one_on, with_next};
+ghost use Rattle.s2ix_edit.specs.State.{State, IsStore, after_edit, after_forget, after_redo, after_undo, change_of, history_of, holding};
 ghost use Rattle.s2ix_table.specs.Table.{Run, IsRangeTable};
 
 /// What an edit makes of the collection at the cursor of a history is what it makes of that collection alone; of a

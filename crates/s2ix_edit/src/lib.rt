@@ -7,11 +7,9 @@
 #![tactic(auto)]
 
 mod edit;
+mod edits;
 mod errors;
 pub mod laws;
-mod plan;
-mod raise;
-mod relabel;
 mod steps;
 mod store;
 

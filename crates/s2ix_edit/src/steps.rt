@@ -1,12 +1,12 @@
-//! What edits, undos and redos are made of: a bag after a change, and a change moved from one list to the other.
+//! What edits, undos and redos are made of: a bag after a change, and a change shifted from one list to the other.
 
 ghost use Rattle.std.specs.Prelude.{◌≡◌, ◌<◌, None, IfOk, IfErr, OnOk, vec_len, vec_capacity};
 ghost use Rattle.s2ix_bag.specs.Apply.{apply_refusal, first_mismatch};
 ghost use Rattle.s2ix_bag.specs.Change.{changed};
 ghost use Rattle.s2ix_bag.specs.Collection.{IsBag};
-ghost use Rattle.s2ix_edit.specs.History.{holding};
-ghost use Rattle.s2ix_edit.specs.Plan.{entries_refusal, IsMoved};
+ghost use Rattle.s2ix_edit.specs.Plan.{entries_refusal, IsShifted};
 ghost use Rattle.s2ix_edit.specs.Refusals.{IsEditRefusal};
+ghost use Rattle.s2ix_edit.specs.State.{holding};
 
 use crate::errors::EditError;
 use s2id_core::OutOfMemory;
@@ -14,7 +14,7 @@ use s2ix_bag::{ApplyError, Bag, Change};
 use std::alloc::Global;
 
 /// The bag that planned entries make, or why a store refuses them.
-pub fn bag_after(alloc: Global, bag: &Bag, change: &Change) -> Result<Bag, EditError>
+pub fn apply_planned(alloc: Global, bag: &Bag, change: &Change) -> Result<Bag, EditError>
     requires { first_mismatch bag.now change.now ≡ None }
     ensures made { IfOk result (λ after.
         after ≡ holding bag.now (changed bag.now.held change.now)) }
@@ -37,7 +37,7 @@ pub fn bag_after(alloc: Global, bag: &Bag, change: &Change) -> Result<Bag, EditE
 }
 
 /// The bag that a recorded change makes: only memory can be wanting.
-pub fn bag_moved(alloc: Global, bag: &Bag, change: &Change) -> Result<Bag, OutOfMemory>
+pub fn apply_recorded(alloc: Global, bag: &Bag, change: &Change) -> Result<Bag, OutOfMemory>
     requires { apply_refusal bag.now change.now ≡ None }
     ensures made { IfOk result (λ after.
         after ≡ holding bag.now (changed bag.now.held change.now)) }
@@ -52,12 +52,12 @@ pub fn bag_moved(alloc: Global, bag: &Bag, change: &Change) -> Result<Bag, OutOf
     }
 }
 
-/// Moves the last change of one list to the end of the other, and answers how many pairs it has. It takes no
+/// Shifts the last change of one list to the end of the other, and answers how many pairs it has. It takes no
 /// memory.
-pub fn move_last(from: &mut Vec<Change>, to: &mut Vec<Change>) -> usize
+pub fn shift_last(from: &mut Vec<Change>, to: &mut Vec<Change>) -> usize
     requires some { 0 < vec_len from.old }
     requires room { vec_len to.old < vec_capacity to.old }
-    ensures moved { IsMoved from.old.items to.old.items from.new.items to.new.items result }
+    ensures shifted { IsShifted from.old.items to.old.items from.new.items to.new.items result }
 {
     let Some(change) = from.pop() else {
         unreachable!()

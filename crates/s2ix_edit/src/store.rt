@@ -6,16 +6,16 @@ ghost use Rattle.s2ix_bag.specs.Collection.{count_in};
 ghost use Rattle.s2ix_bag.specs.Limits.{changes_limit};
 ghost use Rattle.s2ix_bag.specs.Pair.{rank_of};
 ghost use Rattle.s2ix_edit.specs.Edit.{edited};
-ghost use Rattle.s2ix_edit.specs.History.{State, IsStore, after_edit, after_forget, after_redo, after_undo, change_of, history_of, redo_size, undo_size};
-ghost use Rattle.s2ix_edit.specs.Plan.{entries_refusal, recorded, starting_at};
+ghost use Rattle.s2ix_edit.specs.History.{alone, forgotten, one_back, one_on, with_next};
+ghost use Rattle.s2ix_edit.specs.Plan.{after_record, entries_refusal, starting_at};
 ghost use Rattle.s2ix_edit.specs.Refusals.{edit_refusal, IsEditRefusal};
-ghost use Rattle.s2ix_edit.specs.Steps.{alone, forgotten, one_back, one_on, with_next};
+ghost use Rattle.s2ix_edit.specs.State.{State, IsStore, after_edit, after_forget, after_redo, after_undo, change_of, history_of, redo_size, undo_size};
 ghost use Rattle.s2ix_table.specs.Table.{IsRangeTable};
 
 use crate::edit::Edit;
+use crate::edits;
 use crate::errors::{EditError, RedoError, UndoError};
-use crate::plan::planned;
-use crate::steps::{bag_after, bag_moved, move_last};
+use crate::steps::{apply_planned, apply_recorded, shift_last};
 use s2id_core::OutOfMemory;
 use s2ix_bag::{Bag, Change, Limits};
 use s2ix_table::{CopiedTable, RangeTable};
@@ -38,7 +38,7 @@ pub struct Store {
 
 impl Model for Store {
     ghost use Rattle.std.specs.Prelude.{◌≡◌};
-    ghost use Rattle.s2ix_edit.specs.History.{State, IsStore};
+    ghost use Rattle.s2ix_edit.specs.State.{State, IsStore};
 
     ghost Value = { State };
 
@@ -97,7 +97,7 @@ impl Store {
         if self.done.len() >= self.bag.limits().changes() as usize {
             return Err(EditError::JournalFull);
         }
-        let change = planned(self.alloc, &self.bag, edit)?;
+        let change = edits::plan(self.alloc, &self.bag, edit)?;
         self.record_change(change)
     }
 
@@ -105,7 +105,7 @@ impl Store {
     fn record_change(&mut self, change: Change) -> Result<usize, EditError>
         requires room { length self.old.done < changes_limit self.old.bag.limits }
         requires matches { first_mismatch self.old.bag change ≡ None }
-        ensures state { OnOk result (self.new ≡ recorded self.old change) }
+        ensures state { OnOk result (self.new ≡ after_record self.old change) }
         ensures number { IfOk result (λ n. n ≡ length change) }
         ensures accepted { OnOk result (entries_refusal self.old.bag change ≡ None) }
         ensures refused { IfErr result (λ error.
@@ -113,16 +113,16 @@ impl Store {
         ensures unchanged { OnErr result (self.new ≡ self.old) }
     {
         let number = change.entries().len();
-        let bag = bag_after(self.alloc, &self.bag, &change)?;
+        let bag = apply_planned(self.alloc, &self.bag, &change)?;
         let table = StoreTable::build(self.alloc, &bag)?;
-        self.done.push(change).map_err(|_| EditError::OutOfMemory)?;
+        self.done.push(change)?;
         self.undone.clear();
         self.bag = bag;
         self.table = table;
         Ok(number)
     }
 
-    /// Takes the last change back, and answers how many pairs it had. The change moves to the end of `undone`.
+    /// Takes the last change back, and answers how many pairs it had. The change goes to the end of `undone`.
     /// `NothingToUndo` is tested first; after it only memory can be wanting. O(n + m) for n pairs held and m in
     /// the change, and the table of the new bag: O(r * n) for its r ranges.
     pub fn undo(&mut self) -> Result<usize, UndoError>
@@ -141,16 +141,16 @@ impl Store {
             return Err(UndoError::NothingToUndo);
         };
         let inverse = last.inverse(self.alloc)?;
-        let bag = bag_moved(self.alloc, &self.bag, &inverse)?;
+        let bag = apply_recorded(self.alloc, &self.bag, &inverse)?;
         let table = StoreTable::build(self.alloc, &bag)?;
         self.undone.reserve(1)?;
-        let number = move_last(&mut self.done, &mut self.undone);
+        let number = shift_last(&mut self.done, &mut self.undone);
         self.bag = bag;
         self.table = table;
         Ok(number)
     }
 
-    /// Does the last undone change again, and answers how many pairs it has. The change moves back to the end of
+    /// Does the last undone change again, and answers how many pairs it has. The change goes back to the end of
     /// `done`. `NothingToRedo` is tested first; after it only memory can be wanting, and the journal is never
     /// full: an undo keeps the room of its change. O(n + m) for n pairs held and m in the change, and the table of
     /// the new bag: O(r * n) for its r ranges.
@@ -169,10 +169,10 @@ impl Store {
         let Some(last) = self.undone.last() else {
             return Err(RedoError::NothingToRedo);
         };
-        let bag = bag_moved(self.alloc, &self.bag, last)?;
+        let bag = apply_recorded(self.alloc, &self.bag, last)?;
         let table = StoreTable::build(self.alloc, &bag)?;
         self.done.reserve(1)?;
-        let number = move_last(&mut self.undone, &mut self.done);
+        let number = shift_last(&mut self.undone, &mut self.done);
         self.bag = bag;
         self.table = table;
         Ok(number)

@@ -3,7 +3,7 @@ use Rattle.s2ix_bag.specs.declared.pair.Pair.{Pair}
 use Rattle.s2ix_bag.specs.Pair.{rank_of}
 use Rattle.s2ix_bag.proofs.Pairs.{same_pair}
 use Rattle.s2ix_edit.specs.Edit.{pair_of}
-use Rattle.s2ix_edit.proofs.Raised.{with_each_other, with_each_same}
+use Rattle.s2ix_edit.proofs.AddUnion.{with_each_other, with_each_same}
 use Rattle.s2ix_edit.proofs.laws.add_union_adds_a_copy_each.Goals as goal
 
 pub returns-clause-cells : goal.returns-clause-cells

@@ -1,4 +1,4 @@
-use Rattle.s2ix_edit.specs.History.{after_redo, after_undo}
+use Rattle.s2ix_edit.specs.State.{after_redo, after_undo}
 use Rattle.s2ix_edit.proofs.Led.{same_parts}
 use Rattle.s2ix_edit.proofs.Redone.{redo_of_undo, undo_of_redo}
 use Rattle.s2ix_edit.proofs.laws.undo_and_redo_lead_back.Goals as goal

@@ -1,5 +1,5 @@
 use Rattle.std.proofs.Common.{ap}
-use Rattle.s2ix_edit.specs.History.{State, after_edit, after_undo}
+use Rattle.s2ix_edit.specs.State.{State, after_edit, after_undo}
 use Rattle.s2ix_edit.proofs.Led.{same_tables}
 use Rattle.s2ix_edit.proofs.Undone.{undo_of_edit}
 use Rattle.s2ix_edit.proofs.laws.undo_restores_the_table.Goals as goal

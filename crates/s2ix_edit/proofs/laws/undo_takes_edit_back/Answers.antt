@@ -1,5 +1,5 @@
 use Rattle.std.proofs.Common.{ap}
-use Rattle.s2ix_edit.specs.History.{State}
+use Rattle.s2ix_edit.specs.State.{State}
 use Rattle.s2ix_edit.proofs.Undone.{undo_of_edit}
 use Rattle.s2ix_edit.proofs.laws.undo_takes_edit_back.Goals as goal
 

@@ -1,6 +1,6 @@
 use Rattle.std.proofs.Common.{◌≡◌, ap, ◌∙◌, arith}
 use Rattle.std.proofs.lemmas.Grind.{common_steps}
-use Rattle.s2ix_edit.specs.History.{State, after_forget, history_of}
+use Rattle.s2ix_edit.specs.State.{State, after_forget, history_of}
 use Rattle.s2ix_edit.proofs.Followed.{history_after_forget}
 use Rattle.s2ix_edit.proofs.store.Store.forget.Goals as goal
 

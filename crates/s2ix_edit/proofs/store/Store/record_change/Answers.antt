@@ -1,15 +1,15 @@
 use Rattle.std.proofs.Common.{◌≡◌, sym, ap, ◌∙◌, subst, arith}
 use Rattle.std.proofs.lemmas.Grind.{common_steps}
 use Rattle.s2ix_bag.specs.Apply.{apply_refusal}
-use Rattle.s2ix_edit.specs.History.{State, IsStore}
-use Rattle.s2ix_edit.specs.Plan.{recorded}
+use Rattle.s2ix_edit.specs.State.{State, IsStore}
+use Rattle.s2ix_edit.specs.Plan.{after_record}
 use Rattle.s2ix_edit.proofs.Places.{stands_recorded}
 use Rattle.s2ix_edit.proofs.Refused.{some_entries}
 use Rattle.s2ix_edit.proofs.store.Store.record_change.Goals.{After-clear}
 use Rattle.s2ix_edit.proofs.store.Store.record_change.Goals as goal
 
 is_recorded : (c : After-clear) →
-    record { bag = c.in_ok-bag.bag; done = c.push.new.self.items; undone = c.clear.new.self.items } ≡ recorded c.args.self.now c.args.change
+    record { bag = c.in_ok-bag.bag; done = c.push.new.self.items; undone = c.clear.new.self.items } ≡ after_record c.args.self.now c.args.change
 is_recorded c = grind (arith, common_steps)
 
 stood : (c : After-clear) → IsStore c.args.self.now

@@ -1,13 +1,14 @@
-use Rattle.std.proofs.Common.{List, ◌++◌, ◌∷◌, [], sym, ap, ◌∙◌, subst, arith}
+use Rattle.std.proofs.Common.{List, ◌++◌, ◌∷◌, [], refl, sym, ap, ◌∙◌, subst, arith}
 use Rattle.std.proofs.lemmas.List.{append_assoc, append-nil}
 use Rattle.s2ix_bag.specs.declared.pair.Held.{Held}
 use Rattle.s2ix_bag.specs.declared.pair.Entry.{Entry}
 use Rattle.s2ix_bag.specs.Change.{IsChangeList}
-use Rattle.s2ix_bag.specs.OfLabel.{held_of}
-use Rattle.s2ix_edit.specs.Edit.{all_moved}
-use Rattle.s2ix_edit.specs.Plan.{Makes}
-use Rattle.s2ix_edit.proofs.Moved.{moves, moves_make, moves_more, sum_above}
-use Rattle.s2ix_edit.proofs.relabel.moving.Goals as goal
+use Rattle.s2ix_edit.specs.declared.edit.Edit.TheVariants.{Relabel}
+use Rattle.s2ix_edit.specs.Plan.{Plans}
+use Rattle.s2ix_edit.proofs.Plans.{plans_from_makes}
+use Rattle.s2ix_edit.proofs.Refused.{too_high}
+use Rattle.s2ix_edit.proofs.Relabel.{moves, moves_make, moves_more, sum_above}
+use Rattle.s2ix_edit.proofs.edits.relabel.plan_moves.Goals as goal
 
 pub loop-held-init : goal.loop-held-init
 loop-held-init c = (
@@ -15,11 +16,13 @@ loop-held-init c = (
   c.into_iter-held-iterator.ensures.into_iter_gives ∙ c.of_label-held-items.ensures.list,
 )
 
-pub returns-in_default-clause-failed : goal.returns-in_default-clause-failed
-returns-in_default-clause-failed c =
-    sum_above c.args.bag.now c.args.source c.args.target c.loop-held.yielded c.in-Some.held c.next.new.self c.of_label-held-items.ensures.within c.requires.apart
+pub returns-in_default-clause-refused : goal.returns-in_default-clause-refused
+returns-in_default-clause-refused c =
+    let within = c.of_label-held-items.ensures.within in
+    too_high c.args.bag.now (Relabel c.args.source c.args.target) within c.requires.held refl
+    (sum_above c.args.bag.now c.args.source c.args.target c.loop-held.yielded c.in-Some.held c.next.new.self within c.requires.apart
     (ap (λ (ks : List Held). c.loop-held.yielded ++ ks) (sym c.in-Some.ensures.steps) ∙ c.loop-held.invariant.1)
-    (omega (arith, c.count-before.ensures.count, c.in_default.ensures))
+    (omega (arith, c.count-before.ensures.count, c.in_default.ensures)))
 
 pub loop-held-preserved : goal.loop-held-preserved
 loop-held-preserved c = (
@@ -36,10 +39,10 @@ from_vec-requires c =
     subst Rises (sym (c.loop-held.invariant.0 ∙ ap (λ ks. moves c.args.bag.now.held c.args.target ks) all))
     (moves_make c.args.bag.now c.args.source c.args.target c.of_label-held-items.ensures.within.rises c.requires.apart).rises
 
-pub returns-clause-makes : goal.returns-clause-makes
-returns-clause-makes c =
-    let hs = c.args.bag.now.held in
-    let Made : List Entry → Type 0 = λ es. Makes c.args.bag.now (all_moved c.args.target (held_of c.args.source hs) hs) es in
+pub returns-clause-plan : goal.returns-clause-plan
+returns-clause-plan c =
+    let edit = Relabel c.args.source c.args.target in
+    let Planned : List Entry → Type 0 = λ es. Plans c.args.bag.now edit es in
     let all = sym (append-nil c.loop-held.yielded) ∙ ap (λ (ks : List Held). c.loop-held.yielded ++ ks) (sym c.in-None.ensures.steps.0) ∙ c.loop-held.invariant.1 in
-    subst Made (sym (c.from_vec.ensures ∙ c.loop-held.invariant.0 ∙ ap (λ ks. moves hs c.args.target ks) all))
-    (moves_make c.args.bag.now c.args.source c.args.target c.of_label-held-items.ensures.within.rises c.requires.apart)
+    subst Planned (sym (c.from_vec.ensures ∙ c.loop-held.invariant.0 ∙ ap (λ ks. moves c.args.bag.now.held c.args.target ks) all))
+    (plans_from_makes c.args.bag.now edit _ c.requires.held refl (moves_make c.args.bag.now c.args.source c.args.target c.of_label-held-items.ensures.within.rises c.requires.apart))

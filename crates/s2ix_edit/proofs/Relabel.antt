@@ -22,11 +22,12 @@ use Rattle.s2ix_bag.proofs.Collections.{count_set_other, count_set_same, same_co
 use Rattle.s2ix_bag.proofs.Counts.{count_head, count_tail}
 use Rattle.s2ix_bag.proofs.OfLabel.{count_of_own, held_of_head, held_of_tail}
 use Rattle.s2ix_bag.proofs.Refusals.{no_mismatch}
-use Rattle.s2ix_edit.specs.Edit.{all_moved, moved, pair_of}
-use Rattle.s2ix_edit.specs.Plan.{Makes, moving_entries}
+use Rattle.s2ix_edit.specs.Edit.{with_all_moved, with_moved, pair_of}
+use Rattle.s2ix_edit.specs.Plan.{move_entries}
+use Rattle.s2ix_edit.proofs.Plans.{Makes}
 use Rattle.s2ix_edit.specs.Refusals.{has_count_above}
 use Rattle.s2ix_edit.proofs.Taken.{above_from_count}
-use Rattle.s2ix_edit.proofs.Dropped.{same_value}
+use Rattle.s2ix_edit.proofs.DropLabel.{same_value}
 
 -- ---- the counts of two pairs set
 
@@ -101,17 +102,17 @@ part_below hs v m (h ∷ rest) k part lt =
 abbrev pub gains : Collection → Label → Held → Entry
 gains hs target h = record { pair = pair_of h.pair.cell target; before = count_in hs (pair_of h.pair.cell target); after = count_in hs (pair_of h.pair.cell target) + h.count }
 
-abbrev pub move_entries : Collection → Label → Held → List Entry
-move_entries hs target h = moving_entries h (gains hs target h)
+abbrev pub move_of : Collection → Label → Held → List Entry
+move_of hs target h = move_entries h (gains hs target h)
 
-source_first : (hs : Collection) (target : Label) (h : Held) → value_of h.pair.label < value_of target → move_entries hs target h ≡ removal_of h ∷ gains hs target h ∷ []
+source_first : (hs : Collection) (target : Label) (h : Held) → value_of h.pair.label < value_of target → move_of hs target h ≡ removal_of h ∷ gains hs target h ∷ []
 source_first hs target h lt = cond-true (ltb (value_of h.pair.label) (value_of target)) (removal_of h ∷ gains hs target h ∷ []) (gains hs target h ∷ removal_of h ∷ []) (lt-ltb _ _ lt)
 
-target_first : (hs : Collection) (target : Label) (h : Held) → value_of target ≤ value_of h.pair.label → move_entries hs target h ≡ gains hs target h ∷ removal_of h ∷ []
+target_first : (hs : Collection) (target : Label) (h : Held) → value_of target ≤ value_of h.pair.label → move_of hs target h ≡ gains hs target h ∷ removal_of h ∷ []
 target_first hs target h le = cond-false (ltb (value_of h.pair.label) (value_of target)) (removal_of h ∷ gains hs target h ∷ []) (gains hs target h ∷ removal_of h ∷ []) (le-ltb _ _ le)
 
 abbrev pub moves : Collection → Label → List Held → List Entry
-moves hs target rest = flat_map (move_entries hs target) rest
+moves hs target rest = flat_map (move_of hs target) rest
 
 moves_rise : (hs : Collection) (v : ℕ) (target : Label) (m : ℕ) (rest : List Held) → ArePart hs v m rest → v ≢ value_of target → IsChangeListFrom (m * 2147483648) (moves hs target rest)
 moves_rise hs v target m [] part apart = tt
@@ -153,18 +154,18 @@ moves_before hs v target m (h ∷ rest) part =
     (λ le. subst Right (sym (target_first hs target h le)) (refl, (sym part.3, later)))
     (cases_lt (value_of h.pair.label) (value_of target))
 
-moved_keeps : (target : Label) (h : Held) (hs : Collection) → IsCollection hs → IsCollection (moved target h hs)
-moved_keeps target h hs is =
+with_moved_keeps : (target : Label) (h : Held) (hs : Collection) → IsCollection hs → IsCollection (with_moved target h hs)
+with_moved_keeps target h hs is =
     set_keeps (pair_of h.pair.cell target) (count_in (set_count h.pair 0 hs) (pair_of h.pair.cell target) + h.count) (set_count h.pair 0 hs)
     (set_keeps h.pair 0 hs is)
 
 -- a pair that is neither the one nor the other keeps its count
-moved_other : (target : Label) (h : Held) (hs : Collection) (k : ℕ) → rank_of h.pair ≢ k → rank_of (pair_of h.pair.cell target) ≢ k → count_at (moved target h hs) k ≡ count_at hs k
-moved_other target h hs k not_source not_target =
+with_moved_other : (target : Label) (h : Held) (hs : Collection) (k : ℕ) → rank_of h.pair ≢ k → rank_of (pair_of h.pair.cell target) ≢ k → count_at (with_moved target h hs) k ≡ count_at hs k
+with_moved_other target h hs k not_source not_target =
     count_set_other (pair_of h.pair.cell target) (count_in (set_count h.pair 0 hs) (pair_of h.pair.cell target) + h.count) (set_count h.pair 0 hs) k not_target
     ∙ count_set_other h.pair 0 hs k not_source
 
-moves_change : (hs ks : Collection) (v : ℕ) (target : Label) (m : ℕ) (rest : List Held) → ArePart hs v m rest → v ≢ value_of target → IsCollection ks → ((k : ℕ) → m * 2147483648 ≤ k → count_at hs k ≡ count_at ks k) → changed ks (moves hs target rest) ≡ all_moved target rest ks
+moves_change : (hs ks : Collection) (v : ℕ) (target : Label) (m : ℕ) (rest : List Held) → ArePart hs v m rest → v ≢ value_of target → IsCollection ks → ((k : ℕ) → m * 2147483648 ≤ k → count_at hs k ≡ count_at ks k) → changed ks (moves hs target rest) ≡ with_all_moved target rest ks
 moves_change hs ks v target m [] part apart is same = refl
 moves_change hs ks v target m (h ∷ rest) part apart is same =
     let own_range = h.pair.label.in_range in
@@ -174,10 +175,10 @@ moves_change hs ks v target m (h ∷ rest) part apart is same =
     let n = count_in hs q + h.count in
     let two : rank_of p ≢ rank_of q = λ e. apart (sym part.1 ∙ same_value p q e) in
     let here : count_in hs q ≡ count_in ks q = same (rank_of q) (omega (arith, part.0)) in
-    let step : set_count q n (set_count p 0 ks) ≡ moved target h ks =
+    let step : set_count q n (set_count p 0 ks) ≡ with_moved target h ks =
     ap (λ x. set_count q (x + h.count) (set_count p 0 ks)) (here ∙ sym (count_set_other p 0 ks (rank_of q) two)) in
-    let later = moves_change hs (moved target h ks) v target (raw_of h.pair.cell + 1) rest part.4 apart (moved_keeps target h ks is)
-    (λ k le. same k (omega (arith, le, part.0)) ∙ sym (moved_other target h ks k (λ e. omega (arith, e, le, own_range)) (λ e. omega (arith, e, le, range)))) in
+    let later = moves_change hs (with_moved target h ks) v target (raw_of h.pair.cell + 1) rest part.4 apart (with_moved_keeps target h ks is)
+    (λ k le. same k (omega (arith, le, part.0)) ∙ sym (with_moved_other target h ks k (λ e. omega (arith, e, le, own_range)) (λ e. omega (arith, e, le, range)))) in
     ⊎_elim
     (λ lt. ap (λ es. changed ks (es ++ moves hs target rest)) (source_first hs target h lt)
     ∙ ap (λ xs. changed xs (moves hs target rest)) step ∙ later)
@@ -186,7 +187,7 @@ moves_change hs ks v target m (h ∷ rest) part apart is same =
     (cases_lt (value_of h.pair.label) (value_of target))
 
 -- the entries of all moves make the collection with the copies moved
-pub moves_make : (bag : Contents) (source target : Label) → IsCollection bag.held → value_of source ≢ value_of target → Makes bag (all_moved target (held_of source bag.held) bag.held) (moves bag.held target (held_of source bag.held))
+pub moves_make : (bag : Contents) (source target : Label) → IsCollection bag.held → value_of source ≢ value_of target → Makes bag (with_all_moved target (held_of source bag.held) bag.held) (moves bag.held target (held_of source bag.held))
 moves_make bag source target is apart =
     let hs = bag.held in
     let part = part_of hs source is in
@@ -199,7 +200,7 @@ moves_make bag source target is apart =
 
 -- ---- moved to the label itself
 
-moved_to_own : (target : Label) (h : Held) (hs : Collection) → IsCollection hs → value_of h.pair.label ≡ value_of target → count_in hs h.pair ≡ h.count → moved target h hs ≡ hs
+moved_to_own : (target : Label) (h : Held) (hs : Collection) → IsCollection hs → value_of h.pair.label ≡ value_of target → count_in hs h.pair ≡ h.count → with_moved target h hs ≡ hs
 moved_to_own target h hs is own counted =
     let p = h.pair in
     let q = pair_of h.pair.cell target in
@@ -207,55 +208,55 @@ moved_to_own target h hs is own counted =
     let less_is = set_keeps p 0 hs is in
     let one : rank_of p ≡ rank_of q = omega (arith, own) in
     let none : count_in less q ≡ 0 = ap (λ k. count_at less k) (sym one) ∙ count_set_same 0 p 0 hs is in
-    same_collection (moved target h hs) hs (moved_keeps target h hs is) is
+    same_collection (with_moved target h hs) hs (with_moved_keeps target h hs is) is
     (λ r. ⊎_elim
     (λ at.
-    let put = ap (λ k. count_at (moved target h hs) k) (sym at) ∙ count_set_same 0 q (count_in less q + h.count) less less_is in
+    let put = ap (λ k. count_at (with_moved target h hs) k) (sym at) ∙ count_set_same 0 q (count_in less q + h.count) less less_is in
     let was = ap (λ k. count_at hs k) (one ∙ at) in
     omega (arith, put, none, counted, was))
-    (λ other. moved_other target h hs (rank_of r) (λ e. other (sym one ∙ e)) other)
+    (λ other. with_moved_other target h hs (rank_of r) (λ e. other (sym one ∙ e)) other)
     (cases_eq (rank_of q) (rank_of r)))
 
-all_to_own : (target : Label) (m : ℕ) (rest : List Held) (hs : Collection) → IsCollection hs → ArePart hs (value_of target) m rest → all_moved target rest hs ≡ hs
+all_to_own : (target : Label) (m : ℕ) (rest : List Held) (hs : Collection) → IsCollection hs → ArePart hs (value_of target) m rest → with_all_moved target rest hs ≡ hs
 all_to_own target m [] hs is part = refl
 all_to_own target m (h ∷ rest) hs is part =
-    ap (λ ks. all_moved target rest ks) (moved_to_own target h hs is part.1 part.3)
+    ap (λ ks. with_all_moved target rest ks) (moved_to_own target h hs is part.1 part.3)
     ∙ all_to_own target (raw_of h.pair.cell + 1) rest hs is part.4
 
 -- the copies of a label moved to the label itself stay
-pub moved_to_itself : (source target : Label) (hs : Collection) → IsCollection hs → value_of source ≡ value_of target → all_moved target (held_of source hs) hs ≡ hs
+pub moved_to_itself : (source target : Label) (hs : Collection) → IsCollection hs → value_of source ≡ value_of target → with_all_moved target (held_of source hs) hs ≡ hs
 moved_to_itself source target hs is own =
     let Part : ℕ → Type 0 = λ v. ArePart hs v 0 (held_of source hs) in
     all_to_own target 0 (held_of source hs) hs is (subst Part own (part_of hs source is))
 
 -- ---- the counts
 
-pub all_moved_keeps : (target : Label) (rest : List Held) (hs : Collection) → IsCollection hs → IsCollection (all_moved target rest hs)
-all_moved_keeps target [] hs is = is
-all_moved_keeps target (h ∷ rest) hs is = all_moved_keeps target rest (moved target h hs) (moved_keeps target h hs is)
+pub with_all_moved_keeps : (target : Label) (rest : List Held) (hs : Collection) → IsCollection hs → IsCollection (with_all_moved target rest hs)
+with_all_moved_keeps target [] hs is = is
+with_all_moved_keeps target (h ∷ rest) hs is = with_all_moved_keeps target rest (with_moved target h hs) (with_moved_keeps target h hs is)
 
-others_stay : (hs : Collection) (v : ℕ) (target : Label) (m : ℕ) (rest : List Held) (ks : Collection) (p : Pair) → ArePart hs v m rest → value_of p.label ≢ v → value_of p.label ≢ value_of target → count_in (all_moved target rest ks) p ≡ count_in ks p
+others_stay : (hs : Collection) (v : ℕ) (target : Label) (m : ℕ) (rest : List Held) (ks : Collection) (p : Pair) → ArePart hs v m rest → value_of p.label ≢ v → value_of p.label ≢ value_of target → count_in (with_all_moved target rest ks) p ≡ count_in ks p
 others_stay hs v target m [] ks p part not_source not_target = refl
 others_stay hs v target m (h ∷ rest) ks p part not_source not_target =
-    others_stay hs v target (raw_of h.pair.cell + 1) rest (moved target h ks) p part.4 not_source not_target
-    ∙ moved_other target h ks (rank_of p) (λ e. not_source (sym (same_value h.pair p e) ∙ part.1)) (λ e. not_target (sym (same_value (pair_of h.pair.cell target) p e)))
+    others_stay hs v target (raw_of h.pair.cell + 1) rest (with_moved target h ks) p part.4 not_source not_target
+    ∙ with_moved_other target h ks (rank_of p) (λ e. not_source (sym (same_value h.pair p e) ∙ part.1)) (λ e. not_target (sym (same_value (pair_of h.pair.cell target) p e)))
 
-source_goes : (hs : Collection) (v : ℕ) (target : Label) (m : ℕ) (rest : List Held) (ks : Collection) (p : Pair) → ArePart hs v m rest → IsCollection ks → v ≢ value_of target → value_of p.label ≡ v → count_at rest (rank_of p) ≡ count_in ks p → count_in (all_moved target rest ks) p ≡ 0
+source_goes : (hs : Collection) (v : ℕ) (target : Label) (m : ℕ) (rest : List Held) (ks : Collection) (p : Pair) → ArePart hs v m rest → IsCollection ks → v ≢ value_of target → value_of p.label ≡ v → count_at rest (rank_of p) ≡ count_in ks p → count_in (with_all_moved target rest ks) p ≡ 0
 source_goes hs v target m [] ks p part is apart own counted = sym counted
 source_goes hs v target m (h ∷ rest) ks p part is apart own counted =
     let q = pair_of h.pair.cell target in
     let range = p.label.in_range in
     let not_q : rank_of q ≢ rank_of p = λ e. apart (sym own ∙ sym (same_value q p e)) in
-    source_goes hs v target (raw_of h.pair.cell + 1) rest (moved target h ks) p part.4 (moved_keeps target h ks is) apart own
+    source_goes hs v target (raw_of h.pair.cell + 1) rest (with_moved target h ks) p part.4 (with_moved_keeps target h ks is) apart own
     (⊎_elim
     (λ here.
     part_below hs v (raw_of h.pair.cell + 1) rest (rank_of p) part.4 (let own_range = h.pair.label.in_range in omega (arith, here, own_range))
     ∙ sym (count_set_other q (count_in (set_count h.pair 0 ks) q + h.count) (set_count h.pair 0 ks) (rank_of p) not_q
     ∙ ap (λ k. count_at (set_count h.pair 0 ks) k) (sym here) ∙ count_set_same 0 h.pair 0 ks is))
-    (λ other. sym (count_tail h rest (rank_of p) other) ∙ counted ∙ sym (moved_other target h ks (rank_of p) other not_q))
+    (λ other. sym (count_tail h rest (rank_of p) other) ∙ counted ∙ sym (with_moved_other target h ks (rank_of p) other not_q))
     (cases_eq (rank_of h.pair) (rank_of p)))
 
-target_gains : (hs : Collection) (source target : Label) (m : ℕ) (rest : List Held) (ks : Collection) (c : CellId) → ArePart hs (value_of source) m rest → IsCollection ks → value_of source ≢ value_of target → count_in (all_moved target rest ks) (pair_of c target) ≡ count_in ks (pair_of c target) + count_at rest (rank_of (pair_of c source))
+target_gains : (hs : Collection) (source target : Label) (m : ℕ) (rest : List Held) (ks : Collection) (c : CellId) → ArePart hs (value_of source) m rest → IsCollection ks → value_of source ≢ value_of target → count_in (with_all_moved target rest ks) (pair_of c target) ≡ count_in ks (pair_of c target) + count_at rest (rank_of (pair_of c source))
 target_gains hs source target m [] ks c part is apart = omega arith
 target_gains hs source target m (h ∷ rest) ks c part is apart =
     let p = pair_of c source in
@@ -263,33 +264,33 @@ target_gains hs source target m (h ∷ rest) ks c part is apart =
     let r = pair_of h.pair.cell target in
     let range = source.in_range in
     let less = set_count h.pair 0 ks in
-    let later = target_gains hs source target (raw_of h.pair.cell + 1) rest (moved target h ks) c part.4 (moved_keeps target h ks is) apart in
+    let later = target_gains hs source target (raw_of h.pair.cell + 1) rest (with_moved target h ks) c part.4 (with_moved_keeps target h ks is) apart in
     let not_q : rank_of h.pair ≢ rank_of q = λ e. apart (sym part.1 ∙ same_value h.pair q e) in
     ⊎_elim
     (λ here.
     let at_q : rank_of r ≡ rank_of q = omega (arith, here, part.1) in
     let none = part_below hs (value_of source) (raw_of h.pair.cell + 1) rest (rank_of p) part.4 (omega (arith, here, part.1, range)) in
-    let first : count_in (moved target h ks) q ≡ count_in less r + h.count =
-    ap (λ k. count_at (moved target h ks) k) (sym at_q) ∙ count_set_same 0 r (count_in less r + h.count) less (set_keeps h.pair 0 ks is) in
+    let first : count_in (with_moved target h ks) q ≡ count_in less r + h.count =
+    ap (λ k. count_at (with_moved target h ks) k) (sym at_q) ∙ count_set_same 0 r (count_in less r + h.count) less (set_keeps h.pair 0 ks is) in
     let second : count_in less r ≡ count_in ks q = ap (λ k. count_at less k) at_q ∙ count_set_other h.pair 0 ks (rank_of q) not_q in
     omega (arith, later, none, first, second, count_head h rest (rank_of p) here))
     (λ other.
-    let kept = moved_other target h ks (rank_of q) not_q (λ e. other (omega (arith, e, part.1))) in
+    let kept = with_moved_other target h ks (rank_of q) not_q (λ e. other (omega (arith, e, part.1))) in
     omega (arith, later, kept, count_tail h rest (rank_of p) other))
     (cases_eq (rank_of h.pair) (rank_of p))
 
 -- a pair of neither label keeps its count
-pub relabelled_other : (source target : Label) (hs : Collection) (p : Pair) → IsCollection hs → value_of p.label ≢ value_of source → value_of p.label ≢ value_of target → count_in (all_moved target (held_of source hs) hs) p ≡ count_in hs p
+pub relabelled_other : (source target : Label) (hs : Collection) (p : Pair) → IsCollection hs → value_of p.label ≢ value_of source → value_of p.label ≢ value_of target → count_in (with_all_moved target (held_of source hs) hs) p ≡ count_in hs p
 relabelled_other source target hs p is not_source not_target =
     others_stay hs (value_of source) target 0 (held_of source hs) hs p (part_of hs source is) not_source not_target
 
 -- the source's pairs have none
-pub relabelled_source : (source target : Label) (hs : Collection) (p : Pair) → IsCollection hs → value_of source ≢ value_of target → value_of p.label ≡ value_of source → count_in (all_moved target (held_of source hs) hs) p ≡ 0
+pub relabelled_source : (source target : Label) (hs : Collection) (p : Pair) → IsCollection hs → value_of source ≢ value_of target → value_of p.label ≡ value_of source → count_in (with_all_moved target (held_of source hs) hs) p ≡ 0
 relabelled_source source target hs p is apart own =
     source_goes hs (value_of source) target 0 (held_of source hs) hs p (part_of hs source is) is apart own (count_of_own source hs p own)
 
 -- the target's pairs have the sums
-pub relabelled_target : (source target : Label) (hs : Collection) (c : CellId) → IsCollection hs → value_of source ≢ value_of target → count_in (all_moved target (held_of source hs) hs) (pair_of c target) ≡ count_in hs (pair_of c target) + count_in hs (pair_of c source)
+pub relabelled_target : (source target : Label) (hs : Collection) (c : CellId) → IsCollection hs → value_of source ≢ value_of target → count_in (with_all_moved target (held_of source hs) hs) (pair_of c target) ≡ count_in hs (pair_of c target) + count_in hs (pair_of c source)
 relabelled_target source target hs c is apart =
     target_gains hs source target 0 (held_of source hs) hs c (part_of hs source is) is apart
     ∙ ap (λ n. count_in hs (pair_of c target) + n) (count_of_own source hs (pair_of c source) refl)
@@ -297,16 +298,16 @@ relabelled_target source target hs c is apart =
 -- ---- one held pair more
 
 -- with the entries of one held pair more
-pub moves_more : (hs : Collection) (target : Label) (front : List Held) (h : Held) (before after : ℕ) (es new : List Entry) → es ≡ moves hs target front → before ≡ count_in hs (pair_of h.pair.cell target) → before + h.count ≡ after → new ≡ es ++ moving_entries h (record { pair = pair_of h.pair.cell target; before = before; after = after }) → new ≡ moves hs target (front ++ h ∷ [])
+pub moves_more : (hs : Collection) (target : Label) (front : List Held) (h : Held) (before after : ℕ) (es new : List Entry) → es ≡ moves hs target front → before ≡ count_in hs (pair_of h.pair.cell target) → before + h.count ≡ after → new ≡ es ++ move_entries h (record { pair = pair_of h.pair.cell target; before = before; after = after }) → new ≡ moves hs target (front ++ h ∷ [])
 moves_more hs target front h before after es new es_is is_before is_after is =
-    let entry : Entry → List Entry = λ e. moving_entries h e in
+    let entry : Entry → List Entry = λ e. move_entries h e in
     let own : record { pair = pair_of h.pair.cell target; before = before; after = after } ≡ gains hs target h =
     ap₂ (λ (b a : ℕ). let e : Entry = record { pair = pair_of h.pair.cell target; before = b; after = a } in e) is_before (omega (arith, is_before, is_after)) in
-    is ∙ ap₂ (λ (xs ys : List Entry). xs ++ ys) es_is (ap entry own ∙ sym (append-nil (move_entries hs target h)))
-    ∙ sym (flat_map-append (move_entries hs target) front (h ∷ []))
+    is ∙ ap₂ (λ (xs ys : List Entry). xs ++ ys) es_is (ap entry own ∙ sym (append-nil (move_of hs target h)))
+    ∙ sym (flat_map-append (move_of hs target) front (h ∷ []))
 
 -- a sum above every limit is a count above the limit
-pub sum_above : (bag : Contents) (source target : Label) (front : List Held) (h : Held) (rest : List Held) → IsBag bag → value_of source ≢ value_of target → front ++ h ∷ rest ≡ held_of source bag.held → 4294967296 ≤ count_in bag.held (pair_of h.pair.cell target) + h.count → has_count_above (count_limit bag.limits) (all_moved target (held_of source bag.held) bag.held) ≡ true
+pub sum_above : (bag : Contents) (source target : Label) (front : List Held) (h : Held) (rest : List Held) → IsBag bag → value_of source ≢ value_of target → front ++ h ∷ rest ≡ held_of source bag.held → 4294967296 ≤ count_in bag.held (pair_of h.pair.cell target) + h.count → has_count_above (count_limit bag.limits) (with_all_moved target (held_of source bag.held) bag.held) ≡ true
 sum_above bag source target front h rest b apart is high =
     let hs = bag.held in
     let Part : List Held → Type 0 = λ ks. ArePart hs (value_of source) 0 ks in
@@ -315,5 +316,5 @@ sum_above bag source target front h rest b apart is high =
     let counted = ap (λ k. count_at hs k) one in
     let sum = relabelled_target source target hs h.pair.cell b.rises apart in
     let range = bag.limits.in_range in
-    above_from_count (count_limit bag.limits) (all_moved target (held_of source hs) hs) (rank_of (pair_of h.pair.cell target))
+    above_from_count (count_limit bag.limits) (with_all_moved target (held_of source hs) hs) (rank_of (pair_of h.pair.cell target))
     (omega (arith, range, sum, counted, own.1, high))

@@ -1,6 +1,5 @@
 -- One copy more for each cell of a rising list.
-use Rattle.std.proofs.Common.{◌≡◌, ◌≢◌, ℕ, zero, suc, ◌+◌, ◌*◌, ◌<◌, ◌≤◌, true, List, [], ◌∷◌, ◌++◌, length, take, AllPairs, Contains, map, get_or, refl, sym, ap, ◌∙◌, subst, arith}
-use Rattle.std.proofs.lemmas.List.{map-append, take_more}
+use Rattle.std.proofs.Common.{◌≡◌, ◌≢◌, ℕ, zero, suc, ◌+◌, ◌*◌, ◌<◌, ◌≤◌, true, List, [], ◌∷◌, length, AllPairs, Contains, map, get_or, refl, sym, ap, ◌∙◌, subst, arith}
 use Rattle.s2id_core.specs.declared.cell_id.CellId.{CellId}
 use Rattle.s2id_core.specs.CellId.{raw_of}
 use Rattle.s2ix_bag.specs.declared.label.Label.{Label}
@@ -14,13 +13,13 @@ use Rattle.s2ix_bag.proofs.Changes.{change_lower}
 use Rattle.s2ix_bag.proofs.Collections.{count_set_other, count_set_same, set_keeps}
 use Rattle.s2ix_bag.proofs.Refusals.{no_mismatch}
 use Rattle.s2ix_edit.specs.Edit.{pair_of, with_each, with_more}
-use Rattle.s2ix_edit.specs.Plan.{Makes}
+use Rattle.s2ix_edit.proofs.Plans.{Makes}
 use Rattle.s2ix_edit.specs.Refusals.{has_count_above}
 use Rattle.s2ix_edit.proofs.Taken.{above_from_count}
 
 -- the entry that gives one cell a copy more
-abbrev pub raised : Collection → Label → CellId → Entry
-raised hs label c = record { pair = pair_of c label; before = count_in hs (pair_of c label); after = count_in hs (pair_of c label) + 1 }
+abbrev pub addition : Collection → Label → CellId → Entry
+addition hs label c = record { pair = pair_of c label; before = count_in hs (pair_of c label); after = count_in hs (pair_of c label) + 1 }
 
 -- cells that rise strictly from a number on
 abbrev pub RiseFrom : ℕ → List CellId → Type 0
@@ -38,38 +37,38 @@ rise_from n (c ∷ cs) pairs low = (
 pub rises_from_zero : (cs : List CellId) → AllPairs (λ a b. raw_of a < raw_of b) cs → RiseFrom 0 cs
 rises_from_zero cs pairs = rise_from 0 cs pairs (λ k d within. omega arith)
 
-raised_rises : (n : ℕ) (hs : Collection) (label : Label) (cs : List CellId) → RiseFrom n cs → IsChangeListFrom (n * 2147483648) (map (raised hs label) cs)
-raised_rises n hs label [] rise = tt
-raised_rises n hs label (c ∷ cs) rise = (
+additions_rise : (n : ℕ) (hs : Collection) (label : Label) (cs : List CellId) → RiseFrom n cs → IsChangeListFrom (n * 2147483648) (map (addition hs label) cs)
+additions_rise n hs label [] rise = tt
+additions_rise n hs label (c ∷ cs) rise = (
   omega (arith, rise.0),
   (λ e. omega (arith, e)),
-  change_lower (rank_of (pair_of c label) + 1) ((raw_of c + 1) * 2147483648) (map (raised hs label) cs)
+  change_lower (rank_of (pair_of c label) + 1) ((raw_of c + 1) * 2147483648) (map (addition hs label) cs)
       (let range = label.in_range in omega (arith, range))
-      (raised_rises (raw_of c + 1) hs label cs rise.1),
+      (additions_rise (raw_of c + 1) hs label cs rise.1),
 )
 
-raised_before : (hs : Collection) (label : Label) (cs : List CellId) → AreBefore hs (map (raised hs label) cs)
-raised_before hs label [] = tt
-raised_before hs label (c ∷ cs) = (refl, raised_before hs label cs)
+additions_before : (hs : Collection) (label : Label) (cs : List CellId) → AreBefore hs (map (addition hs label) cs)
+additions_before hs label [] = tt
+additions_before hs label (c ∷ cs) = (refl, additions_before hs label cs)
 
-raised_changes : (n : ℕ) (hs ks : Collection) (label : Label) (cs : List CellId) → RiseFrom n cs → ((k : ℕ) → n * 2147483648 ≤ k → count_at hs k ≡ count_at ks k) → changed ks (map (raised hs label) cs) ≡ with_each label cs ks
-raised_changes n hs ks label [] rise same = refl
-raised_changes n hs ks label (c ∷ cs) rise same =
+additions_change : (n : ℕ) (hs ks : Collection) (label : Label) (cs : List CellId) → RiseFrom n cs → ((k : ℕ) → n * 2147483648 ≤ k → count_at hs k ≡ count_at ks k) → changed ks (map (addition hs label) cs) ≡ with_each label cs ks
+additions_change n hs ks label [] rise same = refl
+additions_change n hs ks label (c ∷ cs) rise same =
     let range = label.in_range in
     let p = pair_of c label in
     let here : count_in hs p ≡ count_in ks p = same (rank_of p) (omega (arith, rise.0)) in
-    ap (λ m. changed (set_count p (m + 1) ks) (map (raised hs label) cs)) here
-    ∙ raised_changes (raw_of c + 1) hs (with_more p 1 ks) label cs rise.1
+    ap (λ m. changed (set_count p (m + 1) ks) (map (addition hs label) cs)) here
+    ∙ additions_change (raw_of c + 1) hs (with_more p 1 ks) label cs rise.1
     (λ k le. same k (omega (arith, rise.0, le)) ∙ sym (count_set_other p (count_in ks p + 1) ks k (λ e. omega (arith, e, le, range))))
 
 -- the entries of the cells make the collection with one copy more for each
-pub raised_makes : (bag : Contents) (label : Label) (cs : List CellId) → AllPairs (λ a b. raw_of a < raw_of b) cs → Makes bag (with_each label cs bag.held) (map (raised bag.held label) cs)
-raised_makes bag label cs pairs =
+pub additions_make : (bag : Contents) (label : Label) (cs : List CellId) → AllPairs (λ a b. raw_of a < raw_of b) cs → Makes bag (with_each label cs bag.held) (map (addition bag.held label) cs)
+additions_make bag label cs pairs =
     let rise = rises_from_zero cs pairs in
     record {
-      rises = change_lower 0 (0 * 2147483648) (map (raised bag.held label) cs) (omega arith) (raised_rises 0 bag.held label cs rise);
-      matches = no_mismatch bag.held (map (raised bag.held label) cs) (raised_before bag.held label cs);
-      result = raised_changes 0 bag.held bag.held label cs rise (λ k le. refl);
+      rises = change_lower 0 (0 * 2147483648) (map (addition bag.held label) cs) (omega arith) (additions_rise 0 bag.held label cs rise);
+      matches = no_mismatch bag.held (map (addition bag.held label) cs) (additions_before bag.held label cs);
+      result = additions_change 0 bag.held bag.held label cs rise (λ k le. refl);
     }
 
 -- ---- the counts
@@ -110,14 +109,8 @@ pub with_each_same : (label : Label) (cs : List CellId) (hs : Collection) (c : C
 with_each_same label cs hs c is pairs has = each_at 0 label cs hs c has.0 is (rises_from_zero cs pairs) has.1 has.2
 
 -- a sum above every limit is a count above the limit
-pub raised_above : (bag : Contents) (label : Label) (cs : List CellId) (c : CellId) → IsBag bag → AllPairs (λ a b. raw_of a < raw_of b) cs → Contains cs c → 4294967296 ≤ count_in bag.held (pair_of c label) + 1 → has_count_above (count_limit bag.limits) (with_each label cs bag.held) ≡ true
-raised_above bag label cs c b pairs has high =
+pub addition_above : (bag : Contents) (label : Label) (cs : List CellId) (c : CellId) → IsBag bag → AllPairs (λ a b. raw_of a < raw_of b) cs → Contains cs c → 4294967296 ≤ count_in bag.held (pair_of c label) + 1 → has_count_above (count_limit bag.limits) (with_each label cs bag.held) ≡ true
+addition_above bag label cs c b pairs has high =
     let range = bag.limits.in_range in
     let sum = with_each_same label cs bag.held c b.rises pairs has in
     above_from_count (count_limit bag.limits) (with_each label cs bag.held) (rank_of (pair_of c label)) (omega (arith, range, sum, high))
-
--- one cell more
-pub raised_step : (hs : Collection) (label : Label) (cs : List CellId) (i : ℕ) (c : CellId) → i < length cs → c ≡ get_or cs i c → map (raised hs label) (take (i + 1) cs) ≡ map (raised hs label) (take i cs) ++ raised hs label c ∷ []
-raised_step hs label cs i c lt is =
-    ap (λ xs. map (raised hs label) xs) (take_more cs i c lt ∙ ap (λ x. take i cs ++ x ∷ []) (sym is))
-    ∙ map-append (raised hs label) (take i cs) (c ∷ [])

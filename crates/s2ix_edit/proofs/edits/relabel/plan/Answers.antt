@@ -1,11 +1,9 @@
 use Rattle.std.proofs.Common.{List, refl, sym, ◌∙◌, subst}
-use Rattle.std.proofs.lemmas.Result.{IfErr-weaker}
 use Rattle.s2ix_bag.specs.declared.pair.Entry.{Entry}
 use Rattle.s2ix_edit.specs.declared.edit.Edit.TheVariants.{Relabel}
 use Rattle.s2ix_edit.specs.Plan.{Plans}
-use Rattle.s2ix_edit.proofs.Moved.{moved_to_itself}
-use Rattle.s2ix_edit.proofs.Refused.{failed_plan}
-use Rattle.s2ix_edit.proofs.relabel.with_relabelled.Goals as goal
+use Rattle.s2ix_edit.proofs.Relabel.{moved_to_itself}
+use Rattle.s2ix_edit.proofs.edits.relabel.plan.Goals as goal
 
 pub returns-then-get-clause-plan : goal.returns-then-get-clause-plan
 returns-then-get-clause-plan c =
@@ -19,9 +17,3 @@ returns-then-get-clause-plan c =
       matches = refl;
       result = sym (moved_to_itself c.args.source c.args.target c.args.bag.now.held c.lacks_label.ensures.within.rises one);
     })
-
-pub returns-clause-refused : goal.returns-clause-refused
-returns-clause-refused c =
-    IfErr-weaker c.moving.result _ _
-    (λ error failed. failed_plan c.args.bag.now (Relabel c.args.source c.args.target) error c.moving.ensures.within (sym c.lacks_label.ensures.lacks ∙ c.if-lacks_label.false) refl failed)
-    c.moving.ensures.failed

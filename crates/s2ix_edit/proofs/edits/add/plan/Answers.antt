@@ -1,7 +1,7 @@
 use Rattle.std.proofs.Common.{arith}
 use Rattle.s2ix_edit.proofs.Plans.{add_plans}
 use Rattle.s2ix_edit.proofs.Refused.{sum_too_high}
-use Rattle.s2ix_edit.proofs.plan.with_added.Goals as goal
+use Rattle.s2ix_edit.proofs.edits.add.plan.Goals as goal
 
 pub returns-in_default-clause-refused : goal.returns-in_default-clause-refused
 returns-in_default-clause-refused c =
@@ -11,4 +11,4 @@ returns-in_default-clause-refused c =
 
 pub returns-clause-plan : goal.returns-clause-plan
 returns-clause-plan c =
-    add_plans c.args.bag.now c.args.pair c.args.copies _ _ c.in_ok-change.change c.count-before.ensures.within c.count-before.ensures.count (omega (arith, c.in-Some.ensures)) c.in_ok-change.ensures
+    add_plans c.args.bag.now c.args.pair c.args.copies _ _ _ c.count-before.ensures.within c.count-before.ensures.count (omega (arith, c.in-Some.ensures)) c.in_ok-one_pair.ensures

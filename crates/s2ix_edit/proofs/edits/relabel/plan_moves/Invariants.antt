@@ -1,7 +1,7 @@
 use Rattle.std.proofs.Common.{◌≡◌, ◌++◌}
 use Rattle.s2ix_bag.specs.OfLabel.{held_of}
-use Rattle.s2ix_edit.proofs.Moved.{moves}
-use Rattle.s2ix_edit.proofs.relabel.moving.Given as goal
+use Rattle.s2ix_edit.proofs.Relabel.{moves}
+use Rattle.s2ix_edit.proofs.edits.relabel.plan_moves.Given as goal
 
 abbrev pub invariant-loop-held : goal.invariant-loop-held
 invariant-loop-held l =

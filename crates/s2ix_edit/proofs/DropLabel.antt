@@ -16,7 +16,7 @@ use Rattle.s2ix_bag.proofs.Changes.{changed_at, changed_passes}
 use Rattle.s2ix_bag.proofs.Counts.{count_head, count_tail, from_lower}
 use Rattle.s2ix_bag.proofs.Refusals.{no_mismatch}
 use Rattle.s2ix_edit.specs.Edit.{is_of, without}
-use Rattle.s2ix_edit.specs.Plan.{Makes}
+use Rattle.s2ix_edit.proofs.Plans.{Makes}
 
 -- ---- a part of a collection
 

@@ -1,0 +1,70 @@
+ghost use Rattle.std.specs.Prelude.{◌≡◌, ◌≢◌, ◌++◌, false, OnOk, IfOk, IfErr};
+ghost use Rattle.s2ix_bag.specs.Label.{value_of};
+ghost use Rattle.s2ix_edit.specs.Plan.{Plans, move_entries, starting_at};
+ghost use Rattle.s2ix_edit.specs.Refusals.{edit_error, edit_refusal, holds_none, IsEditRefusal};
+
+use crate::edit::Edit;
+use crate::edits::shared::{lacks_label, removal};
+use crate::errors::PlanError;
+use s2ix_bag::{Bag, Change, Entry, Held, Label, Pair};
+use std::alloc::{AllocError, Global};
+
+/// The change that moves all copies of `source` to `target`. O(n + m log n) for n pairs held, m of them of
+/// `source`.
+pub fn plan(alloc: Global, bag: &Bag, source: Label, target: Label) -> Result<Change, PlanError>
+    ensures plan { IfOk result (Plans bag.now (Edit.Relabel source target)) }
+    ensures refused { IfErr result (λ error.
+        IsEditRefusal (edit_error error) (edit_refusal (starting_at bag.now) (Edit.Relabel source target))) }
+{
+    if lacks_label(bag, source) {
+        return Err(PlanError::NoSuchLabel);
+    }
+    if source.get() == target.get() {
+        return Ok(Change::from_vec(Vec::new(alloc)));
+    }
+    plan_moves(alloc, bag, source, target)
+}
+
+/// The change that moves all copies of one label that is held to another. A sum that no `u32` holds is above every
+/// limit.
+fn plan_moves(alloc: Global, bag: &Bag, source: Label, target: Label) -> Result<Change, PlanError>
+    requires held { holds_none source bag.now.held ≡ false }
+    requires apart { value_of source ≢ value_of target }
+    ensures plan { IfOk result (Plans bag.now (Edit.Relabel source target)) }
+    ensures refused { IfErr result (λ error.
+        IsEditRefusal (edit_error error) (edit_refusal (starting_at bag.now) (Edit.Relabel source target))) }
+{
+    let mut entries = Vec::new(alloc);
+    for held in bag.of_label(source) {
+        let pair = Pair {
+            cell: held.pair.cell,
+            label: target,
+        };
+        let before = bag.count(pair);
+        let Some(after) = before.checked_add(held.count) else {
+            return Err(PlanError::TooManyCopies);
+        };
+        let gain = Entry {
+            pair,
+            before,
+            after,
+        };
+        push_move(&mut entries, held, gain)?;
+    }
+    Ok(Change::from_vec(entries))
+}
+
+/// Appends, in the order of their pairs, the entry that takes a held pair away and the one that gives its copies to
+/// another pair.
+fn push_move(entries: &mut Vec<Entry>, held: Held, gain: Entry) -> Result<(), AllocError>
+    ensures { OnOk result (entries.new.items ≡ entries.old.items ++ move_entries held gain) }
+{
+    let (first, second) = if held.pair.label.get() < gain.pair.label.get() {
+        (removal(held), gain)
+    } else {
+        (gain, removal(held))
+    };
+    entries.push(first)?;
+    entries.push(second)?;
+    Ok(())
+}

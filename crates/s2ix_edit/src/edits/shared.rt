@@ -1,0 +1,45 @@
+//! What several edits share.
+
+ghost use Rattle.std.specs.Prelude.{◌≡◌, IfOk};
+ghost use Rattle.s2ix_bag.specs.Change.{removal_of};
+ghost use Rattle.s2ix_bag.specs.Collection.{IsBag};
+ghost use Rattle.s2ix_edit.specs.Plan.{one_entry};
+ghost use Rattle.s2ix_edit.specs.Refusals.{holds_none};
+
+use s2ix_bag::{Bag, Change, Entry, Held, Label, Pair};
+use std::alloc::{AllocError, Global};
+
+/// The change of one pair's count: no entry where the count stays.
+pub fn one_pair(alloc: Global, pair: Pair, before: u32, after: u32) -> Result<Change, AllocError>
+    ensures { IfOk result (λ change. change ≡ one_entry pair before after) }
+{
+    let mut entries = Vec::new(alloc);
+    if before != after {
+        let entry = Entry {
+            pair,
+            before,
+            after,
+        };
+        entries.push(entry)?;
+    }
+    Ok(Change::from_vec(entries))
+}
+
+/// Whether no pair of the label is held. O(n).
+pub fn lacks_label(bag: &Bag, label: Label) -> bool
+    ensures lacks { result ≡ holds_none label bag.now.held }
+    ensures within { IsBag bag.now }
+{
+    bag.of_label(label).next().is_none()
+}
+
+/// The entry that takes a held pair away.
+pub fn removal(held: Held) -> Entry
+    ensures { result ≡ removal_of held }
+{
+    Entry {
+        pair: held.pair,
+        before: held.count,
+        after: 0,
+    }
+}
