@@ -46,7 +46,7 @@ pub(crate) fn add_run(cells: &mut Vec<CellId>, start: u64, limit: u64) -> Result
     while at < limit {
         let cell = greatest_at(at, limit);
         cells.push(cell)?;
-        at = cell.range_max().raw() + 2;
+        at = cell.span_end();
     }
     Ok(())
 }

@@ -2,7 +2,6 @@
 
 ghost use Rattle.std.specs.Prelude.{◌≡◌, ◌+◌, ◌%◌, ◌<◌, ◌≤◌, ◌↔◌, ℕ, IsTrue, IfOk, length, slice_index_or};
 ghost use Rattle.s2id_core.specs.declared.cell_id.CellId.{CellId};
-ghost use Rattle.s2id_core.specs.CellId.{end_of};
 ghost use Rattle.s2id_union.specs.Covers.{Covers, IsChain, IsAhead, IsReached, IsConstant};
 ghost use Rattle.s2id_union.specs.Region.{IsNormal};
 ghost use Rattle.s2id_union.specs.Operation.{Keeps};
@@ -54,7 +53,7 @@ fn stretch_at(cells: &[CellId], k: usize, at: u64) -> Stretch
             end: LEAF_END,
         };
     }
-    let first = cells[k].range_min().raw();
+    let first = cells[k].span_start();
     if at < first {
         Stretch {
             inside: false,
@@ -63,7 +62,7 @@ fn stretch_at(cells: &[CellId], k: usize, at: u64) -> Stretch
     } else {
         Stretch {
             inside: true,
-            end: cells[k].range_max().raw() + 2,
+            end: cells[k].span_end(),
         }
     }
 }
@@ -76,7 +75,7 @@ fn advanced(cells: &[CellId], k: usize, at: u64, end: u64) -> usize
     requires reached { IsReached cells.now k end }
     ensures { IsAhead cells.now result end }
 {
-    if k < cells.len() && cells[k].range_max().raw() + 2 <= end {
+    if k < cells.len() && cells[k].span_end() <= end {
         k + 1
     } else {
         k
