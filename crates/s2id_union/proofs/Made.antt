@@ -4,7 +4,8 @@ use Rattle.s2id_core.specs.declared.cell_id.CellId.{CellId}
 use Rattle.s2id_core.specs.Path.{Path, number_of}
 use Rattle.s2id_core.specs.Leaves.{IsLeafPath}
 use Rattle.s2id_union.specs.Region.{InRegion, IsNormal}
-use Rattle.s2id_union.specs.Covers.{Covers, IsAdded}
+use Rattle.s2id_union.specs.Covers.{Covers}
+use Rattle.s2id_union.specs.Loops.{IsAdded}
 use Rattle.s2id_union.specs.declared.sweep.Operation.{Operation}
 use Rattle.s2id_union.specs.declared.sweep.Operation.TheVariants.{Union, Intersection, Difference}
 use Rattle.s2id_union.specs.Operation.{Keeps}

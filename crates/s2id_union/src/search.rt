@@ -3,7 +3,8 @@
 ghost use Rattle.std.specs.Prelude.{◌≤◌, ◌↔◌, IsTrue, length};
 ghost use Rattle.s2id_core.specs.CellId.{path_of};
 ghost use Rattle.s2id_union.specs.Region.{IsNormal, HasAllOf, Meets};
-ghost use Rattle.s2id_union.specs.Covers.{IsAhead, IsChain};
+ghost use Rattle.s2id_union.specs.Covers.{IsChain};
+ghost use Rattle.s2id_union.specs.Loops.{IsAhead};
 
 use s2id_core::CellId;
 

@@ -2,7 +2,9 @@
 
 ghost use Rattle.std.specs.Prelude.{◌≡◌, ◌+◌, ◌%◌, ◌<◌, ◌≤◌, ◌↔◌, ℕ, IsTrue, IfOk, length, slice_index_or};
 ghost use Rattle.s2id_core.specs.declared.cell_id.CellId.{CellId};
-ghost use Rattle.s2id_union.specs.Covers.{Covers, IsChain, IsAhead, IsReached, IsConstant};
+ghost use Rattle.s2id_core.specs.Span.{leaf_end};
+ghost use Rattle.s2id_union.specs.Covers.{Covers, IsChain};
+ghost use Rattle.s2id_union.specs.Loops.{IsAhead, IsReached, IsConstant};
 ghost use Rattle.s2id_union.specs.Region.{IsNormal};
 ghost use Rattle.s2id_union.specs.Operation.{Keeps};
 
@@ -40,9 +42,9 @@ struct Stretch {
 fn stretch_at(cells: &[CellId], k: usize, at: u64) -> Stretch
     requires chain { IsChain cells.now }
     requires ahead { IsAhead cells.now k at }
-    requires on_curve { at < 13835058055282163713 }
+    requires on_curve { at < leaf_end }
     ensures rises { at < result.end }
-    ensures on_curve { result.end ≤ 13835058055282163713 }
+    ensures on_curve { result.end ≤ leaf_end }
     ensures odd { result.end % 2 ≡ 1 }
     ensures reached { IsReached cells.now k result.end }
     ensures constant { IsConstant cells.now at result.end result.inside }
