@@ -53,8 +53,8 @@ ancestor_by_place r n k cell_r cell_n h level place =
     let p = path_at n in
     same_place (path_at r) (ancestor k p) (path_of_cell r cell_r) (IsPath-ancestor k p (path_of_cell n cell_n) h) (level ∙ sym (length-ancestor k p h)) place
 
-pub own_place : (n m : ℕ) → m ≡ place_of (ancestor (length (path_at n).digits) (path_at n)) → m ≡ place_of (path_at n)
-own_place n m e = e ∙ ap place_of (ancestor_itself (path_at n))
+pub own_place : (n k m : ℕ) → k ≡ length (path_at n).digits → m ≡ place_of (ancestor k (path_at n)) → m ≡ place_of (path_at n)
+own_place n k m level e = e ∙ ap (λ j. place_of (ancestor j (path_at n))) level ∙ ap place_of (ancestor_itself (path_at n))
 
 pub child_by_place : (r n d : ℕ) → IsCellNumber r → IsCellNumber n → length (path_at n).digits < 30 → d < 4 → length (path_at r).digits ≡ length (path_at n).digits + 1 → place_of (path_at r) ≡ 4 * place_of (path_at n) + d → path_at r ≡ child d (path_at n)
 child_by_place r n d cell_r cell_n finer small level place =

@@ -207,11 +207,6 @@ canonical_only text n cell spells canonical =
 pub one_canonical : (text : List ℕ) (n : ℕ) → IsCellNumber n → Spells text n → (IsCanonicalText text ↔ (text ≡ canonical_token n))
 one_canonical text n cell spells = (canonical_only text n cell spells, λ e. subst IsCanonicalText (sym e) (canonical_is_canonical n cell))
 
--- a printed token is 1 to 16 bytes, each one of `0` to `9` and `a` to `f`
-pub token_bytes : (n : ℕ) → IsCellNumber n → (0 < length (canonical_token n)) × (length (canonical_token n) ≤ 16) × All IsLowerHex (canonical_token n)
-token_bytes n cell =
-    let long = length-canonical_token n (omega arith) (omega arith) in (long.1, long.2, lower-canonical_token n)
-
 -- two cells that print one token have one number
 pub one_token : (m n : ℕ) → IsCellNumber m → IsCellNumber n → canonical_token m ≡ canonical_token n → m ≡ n
 one_token m n a b e =

@@ -6,8 +6,7 @@ pub mod Levels
 pub mod Bits
 pub mod Spans
 pub mod Nested
-pub mod Children
-mod Ancestry
+pub mod Ancestry
 mod PathTexts
 mod Digits
 pub mod Printing

@@ -1,12 +1,11 @@
 -- Runs of cell numbers: what crates above need of cells, with no power in sight.
 use Rattle.std.proofs.Common.{◌≡◌, ◌↔◌, ℕ, ◌+◌, ◌-◌, ◌*◌, ◌/◌, ◌%◌, suc, ◌^◌, ◌<◌, ◌≤◌, ◌⊎◌, inl, inr, Bool, IsTrue, length, sym, ◌∙◌, ap, arith}
-use Rattle.std.proofs.Math.Nat.{le-mul_of_pos_right}
 use Rattle.std.proofs.lemmas.Bool.{cases_lt}
 use Rattle.s2id_core.specs.Path.{Path, number_of, place_of, path_at, first_leaf, last_leaf}
 use Rattle.s2id_core.specs.Leaves.{IsLeafPath, IsLeafOf, IsWithin, Contains, Overlap}
-use Rattle.s2id_core.specs.Span.{first_at, end_at, IsNested}
+use Rattle.s2id_core.specs.Span.{first_at, end_at, leaf_end, IsNested}
 use Rattle.s2id_core.specs.Cell.{IsCellNumber}
-use Rattle.s2id_core.proofs.Powers.{four_pos, four_step, level_from_width, width_split, none_inside}
+use Rattle.s2id_core.proofs.Powers.{four_pos, four_step, width_split, none_inside}
 use Rattle.s2id_core.proofs.Places.{number_by_place, length-last_digits}
 use Rattle.s2id_core.proofs.Numbers.{path_of_cell, number-path_at, path_of_place, path_by_place}
 use Rattle.s2id_core.proofs.Levels.{below_from_within, same_place}
@@ -42,27 +41,6 @@ first_by_width n cell = let number = (run n cell).number in let first = (run n c
 pub end_by_width : (n : ℕ) → IsCellNumber n → end_at n ≡ n + 4 ^ (30 - length (path_at n).digits) + 1
 end_by_width n cell = let number = (run n cell).number in let last = (run n cell).last in omega arith
 
--- cells of one level have runs of one width, and a finer level has the narrower
-pub narrower_by_level : (a b : ℕ) → IsCellNumber a → IsCellNumber b → length (path_at a).digits ≤ length (path_at b).digits → first_at a + end_at b ≤ end_at a + first_at b
-narrower_by_level a b cell_a cell_b level =
-    let most = (path_of_cell b cell_b).at_most in
-    let split = width_split (length (path_at a).digits) (length (path_at b).digits) level most in
-    let pos = four_pos (length (path_at b).digits - length (path_at a).digits) in
-    let wide : width (path_at b) ≤ width (path_at b) * 4 ^ (length (path_at b).digits - length (path_at a).digits) = le-mul_of_pos_right (width (path_at b)) pos in
-    let e1 = (run a cell_a).first in
-    let e2 = (run a cell_a).last in
-    let e3 = (run b cell_b).first in
-    let e4 = (run b cell_b).last in
-    omega arith
-
-pub level_by_narrower : (a b : ℕ) → IsCellNumber a → IsCellNumber b → first_at a + end_at b ≤ end_at a + first_at b → length (path_at a).digits ≤ length (path_at b).digits
-level_by_narrower a b cell_a cell_b h =
-    let e1 = (run a cell_a).first in
-    let e2 = (run a cell_a).last in
-    let e3 = (run b cell_b).first in
-    let e4 = (run b cell_b).last in
-    level_from_width (length (path_at a).digits) (length (path_at b).digits) (path_of_cell a cell_a).at_most (path_of_cell b cell_b).at_most (omega arith)
-
 -- a leaf's run is its own number
 pub leaf_span : (n : ℕ) → IsCellNumber n → length (path_at n).digits ≡ 30 → (first_at n ≡ n) × (end_at n ≡ n + 2)
 leaf_span n cell deep =
@@ -76,7 +54,7 @@ leaf_span n cell deep =
 pub record IsSpan (n : ℕ) : Type 0 where
   pub begins : 1 ≤ first_at n
   pub odd : first_at n % 2 ≡ 1
-  pub ends : end_at n ≤ 13835058055282163713
+  pub ends : end_at n ≤ leaf_end
   pub odd_end : end_at n % 2 ≡ 1
   pub middle : first_at n + end_at n ≡ 2 * n + 2
   pub from : first_at n ≤ n
@@ -188,7 +166,7 @@ leaf_from_span l n cell deep from to =
     leaf_from_place l (path_at n) (path_of_cell n cell) deep (omega arith) (omega arith)
 
 -- each odd number below `LEAF_END` is a leaf's
-pub leaf_of_odd : (n : ℕ) → n % 2 ≡ 1 → n < 13835058055282163713 → IsCellNumber n × IsLeafPath (path_at n)
+pub leaf_of_odd : (n : ℕ) → n % 2 ≡ 1 → n < leaf_end → IsCellNumber n × IsLeafPath (path_at n)
 leaf_of_odd n odd below =
     let whole : n ≡ (2 * (n / 2) + 1) * 4 ^ 0 = omega arith in
     let number = number-path_at (n / 2) 0 n (omega arith) whole in

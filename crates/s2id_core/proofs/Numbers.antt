@@ -140,7 +140,3 @@ path_of_cell n cell = record {
 
 pub cell_of_path : (p : Path) → IsPath p → IsCellNumber (number_of p)
 cell_of_path p h = (number_below p h, number_above p, ap number_of (path_at-number p h))
-
--- a cell's number lies above 0 and below `LEAF_END`, which is 6 * 2 ^ 61 + 1
-pub cell_bounds : (n : ℕ) → IsCellNumber n → (0 < n) × (n < 13835058055282163713) × (n < 2 ^ 64)
-cell_bounds n cell = (omega arith, omega arith, omega arith)

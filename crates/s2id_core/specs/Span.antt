@@ -10,6 +10,10 @@ first_at n = number_of (first_leaf (path_at n))
 unfoldable pub end_at : ℕ → ℕ
 end_at n = number_of (last_leaf (path_at n)) + 2
 
+-- the leaf number after that of the last leaf of face 5, which the code names `LEAF_END`
+abbrev pub leaf_end : ℕ
+leaf_end = 13835058055282163713
+
 -- the run of one cell's number lies in that of another's
 pub record IsNested (inner outer : ℕ) : Type 0 where
   pub from : first_at outer ≤ first_at inner

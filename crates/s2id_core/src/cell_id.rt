@@ -66,8 +66,8 @@ impl CellId {
         self.raw % 2 == 1
     }
 
-    // Which cell of a level, counted along the whole curve, this cell lies in.
-    pub(crate) fn place_at(self, level: u8) -> u64
+    /// Which cell of a level, counted from 0 along the whole curve, this cell lies in. This project's own.
+    pub fn place_at(self, level: u8) -> u64
         requires { level ≤ level_of self }
         ensures place { result ≡ place_of (ancestor level (path_of self)) }
         ensures bound { result < 6 * 4 ^ level }
@@ -76,8 +76,8 @@ impl CellId {
         self.raw >> (61 - 2 * level)
     }
 
-    // The cell at a place of a level, counted along the whole curve.
-    pub(crate) fn at_place(level: u8, place: u64) -> CellId
+    /// The cell of a level at a place, counted from 0 along the whole curve. This project's own.
+    pub fn at_place(level: u8, place: u64) -> CellId
         requires fine { level ≤ 30 }
         requires within { place < 6 * 4 ^ level }
         ensures level { level_of result ≡ level }

@@ -15,7 +15,7 @@ impl CellId {
         ensures path { path_of result ≡ first_leaf (path_of self) }
         ensures number { raw_of result ≡ first_of self }
     {
-        CellId::at_place(30, (self.raw() - self.reach()) / 2)
+        CellId::at_place(30, self.span_start() / 2)
     }
 
     /// The cell's last leaf along the curve (S2's `range_max()`).
@@ -23,7 +23,22 @@ impl CellId {
         ensures path { path_of result ≡ last_leaf (path_of self) }
         ensures number { raw_of result + 2 ≡ end_of self }
     {
-        CellId::at_place(30, (self.raw() + self.reach()) / 2)
+        CellId::at_place(30, self.span_end() / 2 - 1)
+    }
+
+    /// The number of the cell's first leaf, with which its span begins. This project's own.
+    pub fn span_start(self) -> u64
+        ensures { result ≡ first_of self }
+    {
+        self.raw() - self.reach()
+    }
+
+    /// The leaf number after that of the cell's last leaf, with which its span ends: `LEAF_END` for the last cells of
+    /// face 5. This project's own.
+    pub fn span_end(self) -> u64
+        ensures { result ≡ end_of self }
+    {
+        self.raw() + self.reach() + 2
     }
 
     /// Whether each leaf of the other cell is one of this cell's (S2's `contains()`).

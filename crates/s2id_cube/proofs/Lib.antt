@@ -1,7 +1,6 @@
 mod Cases
 mod Quadrants
 pub mod Squares
-mod CellPlaces
 pub mod Grid
 mod Beside
 pub mod Sides

@@ -10,7 +10,7 @@ use Rattle.s2id_core.proofs.Levels.{length-ancestor, IsPath-ancestor, place_of-a
 use Rattle.s2id_cube.specs.declared.face_ij.FaceIj.{FaceIj}
 use Rattle.s2id_cube.specs.Square.{quadrant, quarter, whole_face, square_of}
 use Rattle.s2id_cube.proofs.Quadrants.{positions, quadrant_below, position_below, quadrant_of_position}
-use Rattle.s2id_cube.proofs.CellPlaces.{cell_number_at, level_number_at, place_number_at}
+use Rattle.s2id_core.proofs.Bits.{cell_at_place, level_at_place, place_at_place}
 use Rattle.s2id_cube.specs.Neighbor.{number_at}
 use Rattle.s2id_cube.proofs.Squares.{square_at, square_at_more, square_of_place, IsSquare-square_at}
 use Rattle.s2id_cube.proofs.Shared.{one_path}
@@ -121,9 +121,9 @@ cell_of_square k f i j most hf hi hj =
     let r = place_of_square k f i j hf hi hj in
     let n = number_at k r.place in
     let p = path_at n in
-    let path = path_of_cell n (cell_number_at k r.place most r.below) in
-    let long : length p.digits ≡ k = level_number_at k r.place n most refl in
-    let same : square_of p ≡ square_at k r.place = square_of_place p path ∙ ap₂ square_at long (place_number_at k r.place n most refl) in
+    let path = path_of_cell n (cell_at_place k r.place n most r.below refl) in
+    let long : length p.digits ≡ k = level_at_place k r.place n most refl in
+    let same : square_of p ≡ square_at k r.place = square_of_place p path ∙ ap₂ square_at long (place_at_place k r.place n most refl) in
     record { path = p; is_path = path; long = long; square = subst (λ t. IsAt t f i j) (sym same) r.square }
 
 -- ---- quotients and runs of columns

@@ -14,7 +14,7 @@ use Rattle.s2id_cube.specs.Point.{Point}
 use Rattle.s2id_cube.specs.Edge.{side_start, side_end, AreOneSide, SharesSide}
 use Rattle.s2id_cube.specs.Neighbor.{is_point, are_one_side, is_same_side, is_side_of, number_at, passing_below, is_over, neighbor_number}
 use Rattle.s2id_cube.proofs.Cases.{four}
-use Rattle.s2id_cube.proofs.CellPlaces.{cell_number_at, level_number_at, place_number_at}
+use Rattle.s2id_core.proofs.Bits.{cell_at_place, level_at_place, place_at_place}
 use Rattle.s2id_cube.proofs.Sides.{point_is}
 use Rattle.s2id_cube.proofs.Shared.{one_neighbor}
 
@@ -124,8 +124,8 @@ neighbor_number-is m p n hm hp cell shares =
     only : (x : ℕ) → x < 6 * 4 ^ k → is_over m p x ≡ true → x ≡ place
     only x lt e =
         let r = path_at (number_at k x) in
-        let hr = path_of_cell (number_at k x) (cell_number_at k x hp.at_most lt) in
-        let level = level_number_at k x (number_at k x) hp.at_most refl in
-        let at = place_number_at k x (number_at k x) hp.at_most refl in
+        let hr = path_of_cell (number_at k x) (cell_at_place k x (number_at k x) hp.at_most lt refl) in
+        let level = level_at_place k x (number_at k x) hp.at_most refl in
+        let at = place_at_place k x (number_at k x) hp.at_most refl in
         let over = (over_place m p r x hp hr refl at (sym level)).0 e in
         sym at ∙ ap place_of (one_neighbor m p r q hm hp hr hq over shares)

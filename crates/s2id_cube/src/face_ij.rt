@@ -2,7 +2,6 @@ ghost use Rattle.std.specs.Prelude.{◌≡◌, ◌↔◌, ℕ, ◌+◌, ◌*◌,
 ghost use Rattle.s2id_core.specs.CellId.{path_of};
 ghost use Rattle.s2id_cube.specs.Square.{square_of, quarter, whole_face, quadrant, turned};
 
-use crate::place::{cell_at, place_in_level};
 use s2id_core::CellId;
 
 /// A cell as a square of its level's grid on its face.
@@ -34,7 +33,7 @@ pub fn to_face_ij(cell: CellId) -> FaceIj
     ensures { result ≡ square_of (path_of cell) }
 {
     let level = cell.level();
-    let place = place_in_level(cell);
+    let place = cell.place_at(level);
     let mut square = face_square(cell.face());
     for step in 0..level {
         let position = (place >> (2 * (level - 1 - step)) as u32) % 4;
@@ -78,7 +77,7 @@ fn cell_of_square(face: u8, i: u32, j: u32, level: u8) -> CellId
         place = 4 * place + position as u64;
         orientation ^= FLIPS[position as usize];
     }
-    cell_at(level, place)
+    CellId::at_place(level, place)
 }
 
 fn face_square(face: u8) -> FaceIj

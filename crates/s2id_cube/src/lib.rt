@@ -6,7 +6,6 @@ mod error;
 mod face_ij;
 pub mod laws;
 mod neighbors;
-mod place;
 
 pub use borders::border;
 pub use error::BorderError;

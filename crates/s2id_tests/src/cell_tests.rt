@@ -35,6 +35,26 @@ fn range_of_a_child(rt: HostRuntime) -> Result<(), Fail> {
 }
 
 #[test]
+fn span_of_a_child(rt: HostRuntime) -> Result<(), Fail> {
+    let cell = CellId::from_token(b"04")?;
+    assert_eq!(rt; cell.span_start(), 1);
+    assert_eq!(rt; cell.span_end(), 0x0800000000000001);
+    let last = CellId::from_token(b"bfffffffffffffff")?;
+    assert_eq!(rt; last.span_end(), LEAF_END);
+    Ok(())
+}
+
+#[test]
+fn places_along_the_curve(rt: HostRuntime) -> Result<(), Fail> {
+    let cell = CellId::from_token(b"1d")?;
+    assert_eq!(rt; cell.place_at(2), 14);
+    assert_eq!(rt; cell.place_at(1), 3);
+    assert_eq!(rt; CellId::at_place(2, 14), cell);
+    assert_eq!(rt; CellId::at_place(0, 5), CellId::from_token(b"b")?);
+    Ok(())
+}
+
+#[test]
 fn faces_contain_their_cells(rt: HostRuntime) -> Result<(), Fail> {
     let face = CellId::from_token(b"1")?;
     let child = CellId::from_token(b"04")?;

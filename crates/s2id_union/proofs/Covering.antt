@@ -7,7 +7,8 @@ use Rattle.s2id_core.specs.Leaves.{IsLeafPath}
 use Rattle.s2id_core.proofs.Nested.{span, span_from_leaf, leaf_from_span}
 use Rattle.std.proofs.lemmas.List.Elements.{Contains-append_left, Contains-push, Contains-push_cases}
 use Rattle.s2id_union.specs.Region.{InRegion}
-use Rattle.s2id_union.specs.Covers.{Covers, InRun}
+use Rattle.s2id_union.specs.Covers.{Covers}
+use Rattle.s2id_union.specs.Loops.{InRun}
 use Rattle.s2id_union.proofs.Lists.{none_in_nil}
 
 pub region_from_covers : (cells : List CellId) (l : Path) → IsLeafPath l → Covers cells (number_of l) → InRegion cells l

@@ -4,7 +4,8 @@ use mathlib.Core.Path.{fun_ext}
 use Rattle.std.specs.Prelude.{◌&&◌, ◌||◌, nat_le, nat_lt}
 use Rattle.std.proofs.lemmas.Bool.{cases_Bool, and_parts, and_from, or_cases, or_left, or_right, not-true, not_from_false, both_ways, false_from_ne_true, leb-true, ltb-true, le-leb, lt-ltb}
 use Rattle.s2id_core.specs.declared.cell_id.CellId.{CellId}
-use Rattle.s2id_union.specs.Covers.{Covers, IsAdded}
+use Rattle.s2id_union.specs.Covers.{Covers}
+use Rattle.s2id_union.specs.Loops.{IsAdded}
 use Rattle.s2id_union.specs.NormalForm.{is_covered, cells_where, normal_form}
 use Rattle.s2id_union.specs.Operation.{Keeps}
 use Rattle.s2id_union.specs.Region.{IsNormal}

@@ -14,7 +14,7 @@ use Rattle.s2id_core.proofs.Places.{length-last_digits}
 use Rattle.s2id_core.proofs.Numbers.{number-path_at, path_by_place}
 use Rattle.s2id_core.proofs.Spans.{width, start}
 use Rattle.s2id_core.proofs.Nested.{run}
-use Rattle.s2id_union.specs.Covers.{IsGreatest, IsLeast}
+use Rattle.s2id_union.specs.Loops.{IsGreatest, IsLeast}
 use lib.Count.{under}
 
 turn : (a b : ℕ) → a * (2 * b) ≡ 2 * (a * b)

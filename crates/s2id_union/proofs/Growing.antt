@@ -1,5 +1,5 @@
 -- A list that grows by the greatest cells of a run of leaves.
-use Rattle.std.proofs.Common.{◌≡◌, ◌↔◌, ℕ, ◌+◌, ◌%◌, ◌<◌, ◌≤◌, ◌⊎◌, inl, inr, List, [], ◌∷◌, ◌++◌, get_or, sym, ap, arith, subst}
+use Rattle.std.proofs.Common.{◌≡◌, ◌↔◌, ℕ, ◌+◌, ◌%◌, ◌<◌, ◌≤◌, ◌⊎◌, inl, inr, List, [], ◌∷◌, ◌++◌, Contains, get_or, sym, ap, arith, subst}
 use Rattle.std.proofs.lemmas.Bool.{cases_lt}
 use Rattle.std.proofs.lemmas.List.Elements.{Contains-get_or, Contains-push_cases}
 use Rattle.std.proofs.lemmas.List.Quantifiers.{all_pairs_push}
@@ -8,9 +8,17 @@ use Rattle.s2id_core.specs.CellId.{raw_of, first_of, end_of}
 use Rattle.s2id_core.specs.Cell.{IsCellNumber}
 use Rattle.s2id_core.specs.Span.{first_at, end_at}
 use Rattle.s2id_core.proofs.Nested.{span, nested_from_crossing_spans, same_span}
-use Rattle.s2id_union.specs.Covers.{Covers, InRun, IsMaximal, IsGrown, IsGrowing, IsGreatest, IsAdded}
+use Rattle.s2id_union.specs.Covers.{Covers, IsChain}
+use Rattle.s2id_union.specs.Loops.{InRun, IsMaximal, IsGrown, IsGreatest}
 use Rattle.s2id_union.proofs.Lists.{none_in_nil}
 use Rattle.s2id_union.proofs.Covering.{covers_push_left, covers_push_right, covers_push_cases}
+
+-- as `IsGrown`, while the run from `start` to `limit` is being added to `old`, up to `at`
+pub record IsGrowing (old cells : List CellId) (start limit at : ℕ) : Type 0 where
+  pub chain : IsChain cells
+  pub below : (c : CellId) → Contains cells c → end_of c ≤ at
+  pub maximal : (c : CellId) → Contains cells c → IsMaximal (λ q. Covers old q ⊎ InRun start limit q) (limit + 1) (raw_of c)
+  pub covers : (q : ℕ) → Covers cells q ↔ (Covers old q ⊎ InRun start at q)
 
 pub grown_nil : (free : ℕ) → IsGrown [] free
 grown_nil free = record {
@@ -104,18 +112,6 @@ growing_step old cells start limit at h from to c g =
               ])
         ],
       );
-    }
-
-pub growing_end : (old cells : List CellId) (start limit at : ℕ) → IsGrowing old cells start limit at → at ≡ limit → IsAdded old cells start limit
-growing_end old cells start limit at h e =
-    let covers : (q : ℕ) → Covers cells q ↔ (Covers old q ⊎ InRun start limit q) = subst (λ x. (q : ℕ) → Covers cells q ↔ (Covers old q ⊎ InRun start x q)) e h.covers in
-    record {
-      grown = record {
-        chain = h.chain;
-        below = λ c held. let b = h.below c held in omega arith;
-        maximal = λ c held b cell nest all. h.maximal c held b cell nest (λ q f t low. (covers q).0 (all q f t low));
-      };
-      covers = covers;
     }
 
 -- what the loop does with one cell

@@ -8,10 +8,17 @@ use Rattle.s2id_core.specs.declared.cell_id.CellId.{CellId}
 use Rattle.s2id_core.specs.CellId.{raw_of, first_of, end_of}
 use Rattle.s2id_core.proofs.Nested.{span}
 use Rattle.s2id_union.specs.Region.{IsNormal}
-use Rattle.s2id_union.specs.Covers.{Covers, InRun, IsAdded, IsJoined}
+use Rattle.s2id_union.specs.Covers.{Covers}
+use Rattle.s2id_union.specs.Loops.{InRun, IsGrown, IsAdded}
 use Rattle.s2id_union.proofs.Covering.{covers_nil, covers_push_left, covers_push_right, covers_push_cases}
 use Rattle.s2id_union.proofs.Growing.{grown_nil, grown_later}
 use Rattle.s2id_union.proofs.Normal.{normal_from_grown}
+
+-- what the first k cells of a list cover, as the cells so far and the open run from `run` to `at`
+pub record IsJoined (sorted cells : List CellId) (k run at : ℕ) : Type 0 where
+  pub grown : IsGrown cells run
+  pub covers : (q : ℕ) → (Covers cells q ⊎ InRun run at q) ↔ Covers (take k sorted) q
+  pub ahead : (j : ℕ) (d : CellId) → k ≤ j → j < length sorted → run ≤ first_of (get_or sorted j d)
 
 -- one more cell of the list
 more : (sorted : List CellId) (k : ℕ) (x : CellId) → k < length sorted → x ≡ get_or sorted k x → (q : ℕ) → Covers (take (k + 1) sorted) q ↔ (Covers (take k sorted) q ⊎ InRun (first_of x) (end_of x) q)

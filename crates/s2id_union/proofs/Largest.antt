@@ -18,7 +18,8 @@ use Rattle.s2id_core.proofs.Levels.{length-ancestor, IsPath-ancestor, ancestor-a
 use Rattle.s2id_core.proofs.Nested.{span, leaf_span, nested_from_within, within_from_nested, nested_from_crossing_spans, level_from_nested, same_from_level}
 use Rattle.s2id_core.proofs.Numbers.{path_of_cell, cell_of_path, path_at-number}
 use Rattle.s2id_core.proofs.Spelled.{numbered, numbered-raw}
-use Rattle.s2id_union.specs.Covers.{Covers, IsMaximal, IsGrown}
+use Rattle.s2id_union.specs.Covers.{Covers}
+use Rattle.s2id_union.specs.Loops.{IsMaximal, IsGrown}
 use Rattle.s2id_union.specs.NormalForm.{lies_whole, parent_of, is_largest, cells_below, cells_where}
 use Rattle.s2id_union.specs.Region.{InRegion, IsNormal}
 use Rattle.s2id_union.proofs.Covering.{region_from_covers, covers_from_region}

@@ -1,20 +1,17 @@
 -- A list that is made of runs, as a set of leaves.
-use Rattle.std.proofs.Common.{◌≡◌, ◌↔◌, ℕ, ◌+◌, ◌<◌, ◌≤◌, ◌⊎◌, inl, inr, List, [], subst, sym}
+use Rattle.std.proofs.Common.{◌≡◌, ◌↔◌, ℕ, ◌+◌, ◌<◌, ◌≤◌, ◌⊎◌, inl, inr, List, [], subst}
 use Rattle.s2id_core.specs.declared.cell_id.CellId.{CellId}
 use Rattle.s2id_core.specs.Path.{Path, number_of}
 use Rattle.s2id_core.specs.Leaves.{IsLeafPath}
 use Rattle.s2id_union.specs.Region.{InRegion, IsNormal}
-use Rattle.s2id_union.specs.Covers.{Covers, IsGrown, IsAdded}
+use Rattle.s2id_union.specs.Covers.{Covers}
+use Rattle.s2id_union.specs.Loops.{IsAdded}
 use Rattle.s2id_union.specs.declared.sweep.Operation.{Operation}
 use Rattle.s2id_union.specs.declared.sweep.Operation.TheVariants.{Union, Intersection, Difference}
 use Rattle.s2id_union.specs.Operation.{Keeps}
 use Rattle.s2id_union.proofs.Sweeping.{keeps_same}
 use Rattle.s2id_union.proofs.Covering.{region_from_covers, covers_from_region, covers_nil}
-use Rattle.s2id_union.proofs.Growing.{grown_nil}
 use Rattle.s2id_union.proofs.Normal.{normal_from_grown}
-
-pub grown_empty : (cells : List CellId) (free : ℕ) → cells ≡ [] → IsGrown cells free
-grown_empty cells free e = subst (λ xs. IsGrown xs free) (sym e) (grown_nil free)
 
 pub normal_from_added : (old cells : List CellId) (start limit : ℕ) → IsAdded old cells start limit → IsNormal cells
 normal_from_added old cells start limit h = normal_from_grown cells (limit + 1) h.grown

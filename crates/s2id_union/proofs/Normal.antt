@@ -14,7 +14,8 @@ use Rattle.s2id_core.proofs.Levels.{place_of-more}
 use Rattle.s2id_core.proofs.Spans.{width, start}
 use Rattle.s2id_core.proofs.Nested.{run, span, nested_from_within}
 use Rattle.s2id_union.specs.Region.{IsNormal}
-use Rattle.s2id_union.specs.Covers.{Covers, IsGrown}
+use Rattle.s2id_union.specs.Covers.{Covers}
+use Rattle.s2id_union.specs.Loops.{IsGrown}
 use Rattle.s2id_union.proofs.Lists.{pair_cases}
 use Rattle.s2id_union.proofs.Unique.{child_level, child_within}
 

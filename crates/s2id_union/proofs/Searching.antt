@@ -10,7 +10,8 @@ use Rattle.s2id_core.proofs.Numbers.{path_of_cell}
 use Rattle.s2id_core.proofs.Spans.{leaves_iff_within}
 use Rattle.s2id_core.proofs.Nested.{span, span_from_leaf, nested_from_within, within_from_nested, nested_from_crossing_spans}
 use Rattle.s2id_union.specs.Region.{IsNormal, HasAllOf, Meets}
-use Rattle.s2id_union.specs.Covers.{IsChain, IsAhead}
+use Rattle.s2id_union.specs.Covers.{IsChain}
+use Rattle.s2id_union.specs.Loops.{IsAhead}
 use Rattle.s2id_union.proofs.Unique.{around_from_all}
 
 -- the cells of a normal list stand one behind the other

@@ -1,5 +1,5 @@
 -- One sweep over two chains of cells.
-use Rattle.std.proofs.Common.{◌≡◌, ◌↔◌, ℕ, ◌+◌, ◌%◌, ◌<◌, ◌≤◌, inl, inr, Bool, true, false, IsTrue, List, [], length, get_or, sym, ◌∙◌, ap, refl, arith, subst}
+use Rattle.std.proofs.Common.{◌≡◌, ◌↔◌, ℕ, ◌+◌, ◌%◌, ◌<◌, ◌≤◌, ◌⊎◌, inl, inr, Bool, true, false, IsTrue, List, [], length, get_or, sym, ◌∙◌, ap, refl, arith, subst}
 use Rattle.std.proofs.lemmas.Bool.{cases_lt, false≢true}
 use Rattle.std.proofs.lemmas.List.{get_or_default}
 use Rattle.s2id_core.specs.declared.cell_id.CellId.{CellId}
@@ -7,13 +7,19 @@ use Rattle.s2id_core.specs.CellId.{raw_of, first_of, end_of}
 use Rattle.s2id_core.proofs.Nested.{span}
 use Rattle.s2id_union.specs.declared.sweep.Operation.{Operation}
 use Rattle.s2id_union.specs.declared.sweep.Operation.TheVariants.{Union, Intersection, Difference}
-use Rattle.s2id_union.specs.Operation.{Keeps, IsSwept}
+use Rattle.s2id_union.specs.Operation.{Keeps}
+use Rattle.s2id_union.specs.Loops.{InRun, IsGrown, IsAdded, IsAhead, IsReached, IsConstant}
 use Rattle.s2id_union.specs.Region.{IsNormal}
-use Rattle.s2id_union.specs.Covers.{Covers, IsChain, IsAdded, IsAhead, IsReached, IsConstant}
+use Rattle.s2id_union.specs.Covers.{Covers, IsChain}
 use Rattle.s2id_union.proofs.Covering.{covers_nil, covers_bounds}
 use Rattle.s2id_union.proofs.Growing.{grown_nil, grown_later}
 use Rattle.s2id_union.proofs.Normal.{normal_from_grown}
 use Rattle.s2id_union.proofs.Searching.{ends_rise, ends_from, ends_to, ahead_start}
+
+-- what the operation keeps below `at`: the cells so far, and the open run from `run` on
+pub record IsSwept (o : Operation) (xs ys cells : List CellId) (run at : ℕ) : Type 0 where
+  pub grown : IsGrown cells run
+  pub covers : (q : ℕ) → (Covers cells q ⊎ InRun run at q) ↔ ((q < at) × Keeps o (Covers xs q) (Covers ys q))
 
 -- a covering cell, by its index
 record CoversAt (cells : List CellId) (q : ℕ) : Type 0 where

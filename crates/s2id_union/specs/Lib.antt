@@ -3,3 +3,4 @@ pub mod NormalForm
 pub mod Covers
 pub mod Range
 pub mod Operation
+pub mod Loops

@@ -1,5 +1,6 @@
 -- Which runs of leaf numbers there are.
 use Rattle.std.specs.Prelude.{◌≡◌, ℕ, ◌%◌, ◌≤◌}
+use Rattle.s2id_core.specs.Span.{leaf_end}
 use Rattle.s2id_union.specs.declared.error.RangeError.{RangeError}
 use Rattle.s2id_union.specs.declared.error.RangeError.TheVariants.{BadRange, OutOfMemory}
 
@@ -9,7 +10,7 @@ pub record IsLeafRange (start limit : ℕ) : Type 0 where
   pub odd_limit : limit % 2 ≡ 1
   pub positive : 1 ≤ start
   pub rises : start ≤ limit
-  pub on_curve : limit ≤ 13835058055282163713
+  pub on_curve : limit ≤ leaf_end
 
 -- when each refusal is answered
 abbrev pub IsRangeRefusal : RangeError → ℕ → ℕ → Type 0

@@ -13,8 +13,8 @@ pub(crate) fn counted(cells: &[CellId]) -> u64
 {
     let mut count = 0;
     for cell in cells {
-        let end = cell.range_max().raw() + 2;
-        let first = cell.range_min().raw();
+        let end = cell.span_end();
+        let first = cell.span_start();
         count += (end - first) / 2;
     }
     count

@@ -15,7 +15,7 @@ fn sort_by_first(cells: &mut [CellId])
     ensures permutation { IsPermutation cells.old cells.new }
     ensures sorted { IsNonDecreasingBy (λ c. first_of c) cells.new }
 {
-    cells.sort_unstable_by_key(|cell| cell.range_min().raw());
+    cells.sort_unstable_by_key(|cell| cell.span_start());
 }
 
 // The normal list with the region of cells in the order of their first leaves. O(n) steps, and the cells emitted.
@@ -28,8 +28,8 @@ fn joined(alloc: Global, sorted: &[CellId]) -> Result<Vec<CellId>, OutOfMemory>
     let mut run = 1;
     let mut at = 1;
     for cell in sorted {
-        let first = cell.range_min().raw();
-        let end = cell.range_max().raw() + 2;
+        let first = cell.span_start();
+        let end = cell.span_end();
         if at < first {
             add_run(&mut cells, run, at)?;
             run = first;

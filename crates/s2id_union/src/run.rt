@@ -2,7 +2,8 @@
 
 ghost use Rattle.std.specs.Prelude.{◌≡◌, ◌%◌, ◌<◌, ◌≤◌, IfOk};
 ghost use Rattle.s2id_core.specs.CellId.{raw_of};
-ghost use Rattle.s2id_union.specs.Covers.{IsGreatest, IsGrown, IsAdded, IsLeast};
+ghost use Rattle.s2id_core.specs.Span.{leaf_end};
+ghost use Rattle.s2id_union.specs.Loops.{IsGreatest, IsGrown, IsAdded, IsLeast};
 
 use s2id_core::{CellId, OutOfMemory};
 
@@ -20,7 +21,7 @@ fn greatest_at(at: u64, limit: u64) -> CellId
     requires odd { at % 2 ≡ 1 }
     requires odd_limit { limit % 2 ≡ 1 }
     requires some { at < limit }
-    requires on_curve { limit ≤ 13835058055282163713 }
+    requires on_curve { limit ≤ leaf_end }
     ensures { IsGreatest (raw_of result) at limit }
 {
     let zeros = (at - 1).trailing_zeros();
@@ -39,14 +40,14 @@ pub(crate) fn add_run(cells: &mut Vec<CellId>, start: u64, limit: u64) -> Result
     requires odd { start % 2 ≡ 1 }
     requires odd_limit { limit % 2 ≡ 1 }
     requires rises { start ≤ limit }
-    requires on_curve { limit ≤ 13835058055282163713 }
+    requires on_curve { limit ≤ leaf_end }
     ensures { IfOk result (λ _. IsAdded cells.old.items cells.new.items start limit) }
 {
     let mut at = start;
     while at < limit {
         let cell = greatest_at(at, limit);
         cells.push(cell)?;
-        at = cell.range_max().raw() + 2;
+        at = cell.span_end();
     }
     Ok(())
 }

@@ -3,7 +3,8 @@
 ghost use Rattle.std.specs.Prelude.{◌≤◌, ◌↔◌, IsTrue, length};
 ghost use Rattle.s2id_core.specs.CellId.{path_of};
 ghost use Rattle.s2id_union.specs.Region.{IsNormal, HasAllOf, Meets};
-ghost use Rattle.s2id_union.specs.Covers.{IsAhead, IsChain};
+ghost use Rattle.s2id_union.specs.Covers.{IsChain};
+ghost use Rattle.s2id_union.specs.Loops.{IsAhead};
 
 use s2id_core::CellId;
 
@@ -17,7 +18,7 @@ fn passed(cells: &[CellId], at: u64) -> usize
     let mut high = cells.len();
     while low < high {
         let middle = low + (high - low) / 2;
-        if cells[middle].range_max().raw() + 2 <= at {
+        if cells[middle].span_end() <= at {
             low = middle + 1;
         } else {
             high = middle;
@@ -31,7 +32,7 @@ pub(crate) fn has_all(cells: &[CellId], cell: CellId) -> bool
     requires { IsNormal cells.now }
     ensures { IsTrue result ↔ HasAllOf cells.now (path_of cell) }
 {
-    let k = passed(cells, cell.range_min().raw());
+    let k = passed(cells, cell.span_start());
     k < cells.len() && cells[k].contains(cell)
 }
 
@@ -40,6 +41,6 @@ pub(crate) fn meets(cells: &[CellId], cell: CellId) -> bool
     requires { IsNormal cells.now }
     ensures { IsTrue result ↔ Meets cells.now (path_of cell) }
 {
-    let k = passed(cells, cell.range_min().raw());
+    let k = passed(cells, cell.span_start());
     k < cells.len() && cells[k].intersects(cell)
 }

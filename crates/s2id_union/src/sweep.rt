@@ -2,8 +2,9 @@
 
 ghost use Rattle.std.specs.Prelude.{◌≡◌, ◌+◌, ◌%◌, ◌<◌, ◌≤◌, ◌↔◌, ℕ, IsTrue, IfOk, length, slice_index_or};
 ghost use Rattle.s2id_core.specs.declared.cell_id.CellId.{CellId};
-ghost use Rattle.s2id_core.specs.CellId.{end_of};
-ghost use Rattle.s2id_union.specs.Covers.{Covers, IsChain, IsAhead, IsReached, IsConstant};
+ghost use Rattle.s2id_core.specs.Span.{leaf_end};
+ghost use Rattle.s2id_union.specs.Covers.{Covers, IsChain};
+ghost use Rattle.s2id_union.specs.Loops.{IsAhead, IsReached, IsConstant};
 ghost use Rattle.s2id_union.specs.Region.{IsNormal};
 ghost use Rattle.s2id_union.specs.Operation.{Keeps};
 
@@ -41,9 +42,9 @@ struct Stretch {
 fn stretch_at(cells: &[CellId], k: usize, at: u64) -> Stretch
     requires chain { IsChain cells.now }
     requires ahead { IsAhead cells.now k at }
-    requires on_curve { at < 13835058055282163713 }
+    requires on_curve { at < leaf_end }
     ensures rises { at < result.end }
-    ensures on_curve { result.end ≤ 13835058055282163713 }
+    ensures on_curve { result.end ≤ leaf_end }
     ensures odd { result.end % 2 ≡ 1 }
     ensures reached { IsReached cells.now k result.end }
     ensures constant { IsConstant cells.now at result.end result.inside }
@@ -54,7 +55,7 @@ fn stretch_at(cells: &[CellId], k: usize, at: u64) -> Stretch
             end: LEAF_END,
         };
     }
-    let first = cells[k].range_min().raw();
+    let first = cells[k].span_start();
     if at < first {
         Stretch {
             inside: false,
@@ -63,7 +64,7 @@ fn stretch_at(cells: &[CellId], k: usize, at: u64) -> Stretch
     } else {
         Stretch {
             inside: true,
-            end: cells[k].range_max().raw() + 2,
+            end: cells[k].span_end(),
         }
     }
 }
@@ -76,7 +77,7 @@ fn advanced(cells: &[CellId], k: usize, at: u64, end: u64) -> usize
     requires reached { IsReached cells.now k end }
     ensures { IsAhead cells.now result end }
 {
-    if k < cells.len() && cells[k].range_max().raw() + 2 <= end {
+    if k < cells.len() && cells[k].span_end() <= end {
         k + 1
     } else {
         k

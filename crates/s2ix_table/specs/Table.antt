@@ -1,5 +1,6 @@
 -- The range table of a collection.
 use Rattle.std.specs.Prelude.{◌≡◌, ◌≢◌, ℕ, ◌+◌, ◌%◌, ◌<◌, ◌≤◌, List, [], length, slice_index_or}
+pub use Rattle.s2id_core.specs.Span.{leaf_end}
 use Rattle.s2ix_bag.specs.Collection.{Collection}
 use Rattle.s2ix_table.specs.Contents.{contents_at}
 
@@ -8,10 +9,6 @@ pub record Run : Type 0 where
   pub start : ℕ
   pub limit : ℕ
   pub contents : Collection
-
--- the number after that of the last leaf of face 5
-abbrev pub leaf_end : ℕ
-leaf_end = 13835058055282163713
 
 -- the run at a place
 abbrev pub run_at : List Run → ℕ → Run

@@ -10,14 +10,14 @@ use s2ix_bag::Held;
 pub(crate) fn start_of(cell: CellId) -> u64
     ensures { result ≡ first_of cell }
 {
-    cell.range_min().raw()
+    cell.span_start()
 }
 
 // The leaf number after that of a cell's last leaf.
 pub(crate) fn limit_of(cell: CellId) -> u64
     ensures { result ≡ end_of cell }
 {
-    cell.range_max().raw() + 2
+    cell.span_end()
 }
 
 // Whether the cell of a pair has a leaf.

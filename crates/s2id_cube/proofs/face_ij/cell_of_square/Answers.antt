@@ -38,5 +38,5 @@ loop-step-preserved c =
 
 pub returns : goal.returns
 returns c =
-    let s = led_square (path_of c.cell_at.result) (path_of_cell c.cell_at.result.raw c.cell_at.result.valid) c.args.face c.args.i c.args.j c.args.level c.loop-step.step c.loop-step.place c.loop-step.orientation c.cell_at.ensures.level c.cell_at.ensures.place (omega arith) c.loop-step.invariant in
+    let s = led_square (path_of c.at_place.result) (path_of_cell c.at_place.result.raw c.at_place.result.valid) c.args.face c.args.i c.args.j c.args.level c.loop-step.step c.loop-step.place c.loop-step.orientation c.at_place.ensures.level c.at_place.ensures.place (omega arith) c.loop-step.invariant in
     record { face = s.at_face; i = s.at_i; j = s.at_j; level = s.at_level }

@@ -1,6 +1,6 @@
-use Rattle.std.proofs.Common.{◌≡◌, ◌+◌, get_or, sym, ◌∙◌, ap, arith}
+use Rattle.std.proofs.Common.{get_or, sym, ap, arith}
 use Rattle.s2id_core.specs.declared.cell_id.CellId.{CellId}
-use Rattle.s2id_core.specs.CellId.{raw_of, first_of, end_of}
+use Rattle.s2id_core.specs.CellId.{raw_of, first_of}
 use Rattle.s2id_core.proofs.Nested.{span}
 use Rattle.s2id_union.proofs.Searching.{chain_from_normal}
 use Rattle.s2id_union.proofs.Counting.{total-none, total_more, next_bound, cell_width, counted}
@@ -15,8 +15,8 @@ loop-cell-init c = (
 pub overflow_add-count : goal.overflow_add-count
 overflow_add-count c =
     let x = c.cell-item.result in
-    let first : c.raw-first.result ≡ first_of x = c.raw-first.ensures ∙ c.range_min.ensures.number in
-    let end : c.raw-end.result + 2 ≡ end_of x = ap (λ n. n + 2) c.raw-end.ensures ∙ c.range_max.ensures.number in
+    let first = c.span_start-first.ensures in
+    let end = c.span_end-end.ensures in
     let bound = c.loop-cell.invariant.1 c.loop-cell.cell-index x (omega arith) c.loop-cell-test.true in
     let is = ap (λ (y : CellId). first_of y) c.cell-item.is in
     let w = cell_width x in
@@ -30,8 +30,8 @@ loop-cell-preserved c =
     let x = c.cell-item.result in
     let k = c.loop-cell.cell-index in
     let l = c.loop-cell-test.true in
-    let first : c.raw-first.result ≡ first_of x = c.raw-first.ensures ∙ c.range_min.ensures.number in
-    let end : c.raw-end.result + 2 ≡ end_of x = ap (λ n. n + 2) c.raw-end.ensures ∙ c.range_max.ensures.number in
+    let first = c.span_start-first.ensures in
+    let end = c.span_end-end.ensures in
     let more = total_more cells k x l c.cell-item.is in
     let bound = c.loop-cell.invariant.1 k x (omega arith) l in
     let is = ap (λ (y : CellId). first_of y) c.cell-item.is in
@@ -47,7 +47,7 @@ returns c =
 pub overflow_sub-count : goal.overflow_sub-count
 overflow_sub-count c =
     let x = c.cell-item.result in
-    let first : c.raw-first.result ≡ first_of x = c.raw-first.ensures ∙ c.range_min.ensures.number in
-    let end : c.raw-end.result + 2 ≡ end_of x = ap (λ n. n + 2) c.raw-end.ensures ∙ c.range_max.ensures.number in
+    let first = c.span_start-first.ensures in
+    let end = c.span_end-end.ensures in
     let w = (cell_width x).0 in
     omega arith

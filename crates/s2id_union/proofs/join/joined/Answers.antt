@@ -1,5 +1,4 @@
-use Rattle.std.proofs.Common.{◌≡◌, ◌+◌, inl, inr, sym, ◌∙◌, ap, refl, arith}
-use Rattle.s2id_core.specs.CellId.{first_of, end_of}
+use Rattle.std.proofs.Common.{inl, inr, sym, ◌∙◌, ap, refl, arith}
 use Rattle.s2id_union.proofs.Joining.{joined_start, joined_next_gap, joined_next_touch, joined_end}
 use Rattle.s2id_union.proofs.join.joined.Goals as goal
 use Rattle.s2id_union.proofs.join.joined.Goals.{then-at-first+in_ok-add_run, else-at-first+then-at-end, else-at-first+else-at-end}
@@ -11,8 +10,8 @@ loop-cell-init c =
 pub loop-cell-preserved : goal.loop-cell-preserved
 loop-cell-preserved c =
     let x = c.cell-item.result in
-    let first : c.raw-first.result ≡ first_of x = c.raw-first.ensures ∙ c.range_min.ensures.number in
-    let end : c.raw-end.result + 2 ≡ end_of x = ap (λ n. n + 2) c.raw-end.ensures ∙ c.range_max.ensures.number in
+    let first = c.span_start-first.ensures in
+    let end = c.span_end-end.ensures in
     let l = c.loop-cell-test.true in
     let inv = c.loop-cell.invariant in
     elim c.if-at-first.branch [

@@ -1,5 +1,5 @@
 use Rattle.std.proofs.Common.{◌≡◌, ◌%◌, ◌≤◌}
-use Rattle.s2id_union.specs.Covers.{IsJoined}
+use Rattle.s2id_union.proofs.Joining.{IsJoined}
 use Rattle.s2id_union.proofs.join.joined.Given as goal
 
 abbrev pub invariant-loop-cell : goal.invariant-loop-cell

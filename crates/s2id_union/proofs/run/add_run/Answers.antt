@@ -1,4 +1,4 @@
-use Rattle.std.proofs.Common.{◌+◌, ◌∙◌, ap, arith}
+use Rattle.std.proofs.Common.{arith}
 use Rattle.s2id_core.specs.CellId.{raw_of}
 use Rattle.s2id_core.proofs.Nested.{span}
 use Rattle.s2id_union.proofs.Growing.{growing_next}
@@ -12,9 +12,9 @@ loop-at-smaller c =
     let s2 = s.to in
     let g1 = c.greatest_at-cell.ensures.begins in
     let g2 = c.greatest_at-cell.ensures.ends in
-    omega (arith, c.range_max.ensures.number, c.raw-at.ensures, c.loop-at-test.true)
+    omega (arith, c.span_end-at.ensures, c.loop-at-test.true)
 
 pub loop-at-preserved : goal.loop-at-preserved
 loop-at-preserved c =
     let cell = c.greatest_at-cell.result in
-    growing_next _ _ _ _ _ _ _ c.loop-at.invariant.0 c.loop-at.invariant.1 c.loop-at-test.true cell c.greatest_at-cell.ensures c.in_ok-push.ensures.items (ap (λ x. x + 2) c.raw-at.ensures ∙ c.range_max.ensures.number)
+    growing_next _ _ _ _ _ _ _ c.loop-at.invariant.0 c.loop-at.invariant.1 c.loop-at-test.true cell c.greatest_at-cell.ensures c.in_ok-push.ensures.items c.span_end-at.ensures

@@ -1,5 +1,5 @@
 use Rattle.std.proofs.Common.{◌≡◌, ◌-◌, ◌%◌, ◌≤◌}
-use Rattle.s2id_union.specs.Covers.{IsGrowing}
+use Rattle.s2id_union.proofs.Growing.{IsGrowing}
 use Rattle.s2id_union.proofs.run.add_run.Given as goal
 
 abbrev pub invariant-loop-at : goal.invariant-loop-at

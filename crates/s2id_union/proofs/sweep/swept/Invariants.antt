@@ -1,6 +1,6 @@
 use Rattle.std.proofs.Common.{◌≡◌, ◌-◌, ◌%◌, ◌≤◌}
-use Rattle.s2id_union.specs.Covers.{IsAhead}
-use Rattle.s2id_union.specs.Operation.{IsSwept}
+use Rattle.s2id_union.specs.Loops.{IsAhead}
+use Rattle.s2id_union.proofs.Sweeping.{IsSwept}
 use Rattle.s2id_union.proofs.sweep.swept.Given as goal
 
 abbrev pub invariant-loop-at : goal.invariant-loop-at

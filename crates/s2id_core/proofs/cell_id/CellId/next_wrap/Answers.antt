@@ -1,5 +1,5 @@
-use Rattle.std.proofs.Common.{◌≡◌, ◌+◌, ◌*◌, ◌%◌, ◌^◌, ap₂, ◌∙◌, subst, arith}
-use Rattle.s2id_core.specs.Path.{place_of, path_at, ancestor}
+use Rattle.std.proofs.Common.{◌≡◌, ◌+◌, ◌*◌, ◌%◌, ◌^◌, ap₂, ◌∙◌, arith}
+use Rattle.s2id_core.specs.Path.{place_of, path_at}
 use Rattle.s2id_core.proofs.Powers.{four_pos}
 use Rattle.s2id_core.proofs.Ancestry.{own_place, whole_curve, next_place, wrapped_place}
 use Rattle.s2id_core.proofs.cell_id.CellId.next_wrap.Goals as goal
@@ -20,7 +20,7 @@ returns-clause-place c =
     let m = c.place_at-next.result in
     let level = c.level-level.ensures.level in
     let whole = whole_curve k (omega arith) in
-    let own : m ≡ place_of (path_at n.raw) = own_place n.raw m (subst (λ x. m ≡ place_of (ancestor x (path_at n.raw))) level c.place_at-next.ensures.place) in
+    let own : m ≡ place_of (path_at n.raw) = own_place n.raw k m level c.place_at-next.ensures.place in
     let bound = c.place_at-next.ensures.bound in
     let next : c.if-next-level.at_place ≡ (m + 1) % (6 * 4 ^ k) = elim c.if-next-level.branch [ then-next-level w ↦ w.at_place-is ∙ wrapped_place m (6 * 4 ^ k) (omega arith) | else-next-level w ↦ w.at_place-is ∙ next_place m (6 * 4 ^ k) bound (omega arith) ] in
     c.at_place.ensures.place ∙ next ∙ ap₂ (λ x y. (x + 1) % (6 * 4 ^ y)) own level
