@@ -1,6 +1,5 @@
 // What the adapters ask of std's readers and writers: no contract speaks of it, since std's traits have no relation for a call.
 use crate::{FromRead, ReadFault, Sink, Source, ToWrite, WriteFault};
-use std::alloc::{AllocError, Global};
 use std::io;
 use std::io::{ErrorKind, Read, Write};
 
@@ -52,37 +51,35 @@ impl Read for CountingReader<'_> {
     }
 }
 
-// A writer that keeps what it takes, counts its calls, and fails at one of each kind. It takes none of what comes while it is full.
-#[derive(Drop)]
+// A writer that counts its calls and the bytes that it takes, and fails at one call of each kind. It takes at most `put_len` bytes a call.
+#[derive(Clone, Copy)]
 struct CountingWriter {
-    kept: Vec<u8>,
+    taken: usize,
+    put_len: usize,
     writes: Calls,
     flushes: Calls,
-    is_full: bool,
-}
-
-impl CountingWriter {
-    fn new(alloc: Global, fault_at: u64, kind: ErrorKind, is_full: bool) -> CountingWriter {
-        CountingWriter {
-            kept: Vec::new(alloc),
-            writes: Calls::new(fault_at, kind),
-            flushes: Calls::new(fault_at, kind),
-            is_full,
-        }
-    }
 }
 
 impl Write for CountingWriter {
     fn write(&mut self, buf: &[u8]) -> io::Result<usize> {
         self.writes.next()?;
-        if self.is_full {
-            return Ok(0);
-        }
-        self.kept.write(buf)
+        let count = buf.len().min(self.put_len);
+        self.taken = self.taken.saturating_add(count);
+        Ok(count)
     }
 
     fn flush(&mut self) -> io::Result<()> {
         self.flushes.next()
+    }
+}
+
+// A writer none of whose bytes is taken yet.
+fn writer_of(put_len: usize, fault_at: u64, kind: ErrorKind) -> CountingWriter {
+    CountingWriter {
+        taken: 0,
+        put_len,
+        writes: Calls::new(fault_at, kind),
+        flushes: Calls::new(fault_at, kind),
     }
 }
 
@@ -95,54 +92,53 @@ fn each_piece_is_one_read(rt: HostRuntime) {
         };
         let mut source = FromRead::new(&mut reader);
         let mut buf = [0; 3];
-        assert_eq!(rt; source.piece(&mut buf), Ok(3), "before {kind}");
-        assert_eq!(rt; source.piece(&mut buf), Err(ReadFault), "{kind}");
-        assert_eq!(rt; source.piece(&mut buf), Ok(2), "after {kind}");
-        assert_eq!(rt; source.piece(&mut buf), Ok(0), "the end after {kind}");
-        assert_eq!(rt; source.faults(), 1, "{kind}");
+        for piece in [Ok(3), Err(ReadFault), Ok(2), Ok(0)] {
+            assert!(rt; source.faults() < 2);
+            assert_eq!(rt; source.piece(&mut buf), piece);
+        }
+        assert_eq!(rt; source.faults(), 1);
         drop(source);
-        assert_eq!(rt; reader.reads.count, 4, "{kind}");
+        assert_eq!(rt; reader.reads.count, 4);
     }
 }
 
+// The puts that a writer of so many bytes a call is asked for, with what comes of them.
+const PUTS: [(&[u8], Result<usize, WriteFault>); 3] = [
+    (b"he", Ok(2)),
+    (b"ha", Err(WriteFault)),
+    (b"llo", Ok(3)),
+];
+
 #[test]
-fn each_put_is_one_write(rt: HostRuntime) {
+fn each_put_is_one_write_and_each_flush_one_flush(rt: HostRuntime) {
     for kind in KINDS {
-        let mut writer = CountingWriter::new(rt.alloc(), 2, kind, false);
+        let mut writer = writer_of(9, 2, kind);
         let mut sink = ToWrite::new(&mut writer);
-        assert_eq!(rt; sink.put(b"he"), Ok(2), "before {kind}");
-        assert_eq!(rt; sink.put(b"ha"), Err(WriteFault), "{kind}");
-        assert_eq!(rt; sink.put(b"llo"), Ok(3), "after {kind}");
-        assert_eq!(rt; sink.faults(), 1, "{kind}");
+        for (bytes, put) in PUTS {
+            assert!(rt; sink.faults() < 2);
+            assert_eq!(rt; sink.put(bytes), put);
+        }
+        assert_eq!(rt; sink.faults(), 1);
+        for flushed in [Ok(()), Err(WriteFault), Ok(())] {
+            assert!(rt; sink.faults() < 3);
+            assert_eq!(rt; sink.flush(), flushed);
+        }
+        assert_eq!(rt; sink.faults(), 2);
         drop(sink);
-        assert_eq!(rt; writer.writes.count, 3, "{kind}");
-        assert_eq!(rt; writer.flushes.count, 0, "{kind}");
-        assert_eq!(rt; writer.kept.as_slice(), b"hello".as_slice(), "{kind}");
+        assert_eq!(rt; (writer.writes.count, writer.flushes.count), (3, 3));
+        assert_eq!(rt; writer.taken, 5);
     }
 }
 
 #[test]
 fn a_put_of_which_none_is_taken_is_a_fault(rt: HostRuntime) {
-    let mut writer = CountingWriter::new(rt.alloc(), 0, ErrorKind::WriteZero, true);
+    let mut writer = writer_of(0, 0, ErrorKind::WriteZero);
     let mut sink = ToWrite::new(&mut writer);
-    assert_eq!(rt; sink.put(b"hello"), Err(WriteFault));
-    assert_eq!(rt; sink.put(b"hello"), Err(WriteFault));
+    for _ in 0..2 {
+        assert!(rt; sink.faults() < 2);
+        assert_eq!(rt; sink.put(b"hello"), Err(WriteFault));
+    }
     assert_eq!(rt; sink.faults(), 2);
     drop(sink);
     assert_eq!(rt; writer.writes.count, 2);
-}
-
-#[test]
-fn each_flush_is_passed_on_once(rt: HostRuntime) {
-    for kind in KINDS {
-        let mut writer = CountingWriter::new(rt.alloc(), 2, kind, false);
-        let mut sink = ToWrite::new(&mut writer);
-        assert_eq!(rt; sink.flush(), Ok(()), "before {kind}");
-        assert_eq!(rt; sink.flush(), Err(WriteFault), "{kind}");
-        assert_eq!(rt; sink.flush(), Ok(()), "after {kind}");
-        assert_eq!(rt; sink.faults(), 1, "{kind}");
-        drop(sink);
-        assert_eq!(rt; writer.flushes.count, 3, "{kind}");
-        assert_eq!(rt; writer.writes.count, 0, "{kind}");
-    }
 }

@@ -1,371 +1,310 @@
 //! A plain model of an editable collection: it keeps each collection of its history whole, and answers and prints by itself.
-//! Its cells are those of levels 0 to 2 on faces 0 and 1.
-use s2ix_bag::Limits;
-use std::alloc::Global;
-use std::test::Fail;
+//! Its cells are those of levels 0 to 2 on faces 0 and 1. Only the first byte of such a cell's number is not 0, so that byte names it.
+use std::alloc::{AllocError, Global};
 
-// How many cells of level 2 there are on faces 0 and 1.
-const FINEST: u64 = 32;
+// The limits of the model: pairs of a collection, copies of a pair, changes of a history.
+pub(crate) const PAIRS: u32 = 12;
 
-// A cell: the `index`-th of its level along the curve.
-#[derive(Clone, Copy)]
-pub(crate) struct Cell {
-    pub level: u32,
-    pub index: u64,
-}
+pub(crate) const COPIES: u32 = 5;
 
-impl Cell {
-    // The cell's number: it stands in the middle of the level's `index`-th span of numbers.
-    pub(crate) fn number(self) -> u64 {
-        let half_span = match self.level {
-            0 => 0x1000000000000000,
-            1 => 0x0400000000000000,
-            _ => 0x0100000000000000,
-        };
-        self.index
-            .wrapping_mul(2)
-            .wrapping_add(1)
-            .wrapping_mul(half_span)
-    }
+pub(crate) const CHANGES: u32 = 40;
 
-    // Whether the `index`-th cell of level 2 lies in this one.
-    fn covers(self, index: u64) -> bool {
-        let around = match self.level {
-            0 => index / 16,
-            1 => index / 4,
-            _ => index,
-        };
-        around == self.index
+// A collection: the copies of each pair. A pair stands at four times its cell's byte, and so much further as its label's place tells.
+// So the pairs of a collection rise by cell, then by label.
+pub(crate) type Counts = [u32; 256];
+
+// How many pairs changed, or the name of the refusal.
+pub(crate) type Answer = Result<u32, &'static str>;
+
+// The label of a place from 0 to 3.
+pub(crate) fn label_at(place: u8) -> u32 {
+    match place {
+        0 => 1,
+        1 => 2,
+        2 => 30,
+        _ => 2147483647,
     }
 }
 
-// The normal union of cells, in no order.
-fn normal_union(alloc: Global, cells: &[Cell]) -> Result<Vec<Cell>, Fail> {
-    let mut covered = Vec::new(alloc);
-    for index in 0..FINEST {
-        if cells.iter().any(|cell| cell.covers(index)) {
-            covered.push(Cell { level: 2, index })?;
-        }
-    }
-    let joined = joined_siblings(alloc, &covered, 2)?;
-    joined_siblings(alloc, &joined, 1)
-}
-
-// The cells with the parent in place of any four siblings of the level.
-fn joined_siblings(alloc: Global, cells: &[Cell], level: u32) -> Result<Vec<Cell>, Fail> {
-    let mut joined = Vec::new(alloc);
-    for cell in cells {
-        let parent = cell.index / 4;
-        let siblings = cells
-            .iter()
-            .filter(|other| other.level == level && other.index / 4 == parent)
-            .count();
-        if cell.level != level || siblings < 4 {
-            joined.push(*cell)?;
-        } else if cell.index % 4 == 0 {
-            joined.push(Cell {
-                level: level.saturating_sub(1),
-                index: parent,
-            })?;
-        }
-    }
-    Ok(joined)
-}
-
-// The copies of a pair that are held; of a pair without a row there are none.
-#[derive(Clone, Copy)]
-pub(crate) struct Row {
-    pub cell: u64,
-    pub label: u32,
-    pub count: u32,
-}
-
-impl Row {
-    // Whether the row's pair comes before the other's.
-    fn is_before(self, other: Row) -> bool {
-        self.cell < other.cell || self.cell == other.cell && self.label < other.label
-    }
-}
-
-// How many copies of a pair the rows hold.
-fn count_in(rows: &[Row], cell: u64, label: u32) -> u32 {
-    for row in rows {
-        if row.cell == cell && row.label == label {
-            return row.count;
-        }
-    }
-    0
-}
-
-// The rows with this one for its pair, or with none where its count is 0.
-fn with_row(alloc: Global, rows: &[Row], row: Row) -> Result<Vec<Row>, Fail> {
-    let mut changed = Vec::new(alloc);
-    for other in rows {
-        if other.is_before(row) {
-            changed.push(*other)?;
-        }
-    }
-    if row.count > 0 {
-        changed.push(row)?;
-    }
-    for other in rows {
-        if row.is_before(*other) {
-            changed.push(*other)?;
-        }
-    }
-    Ok(changed)
-}
-
-// The rows with so many copies more of the row's pair as the row has.
-fn with_more(alloc: Global, rows: &[Row], more: Row) -> Result<Vec<Row>, Fail> {
-    let held = count_in(rows, more.cell, more.label);
-    let row = Row {
-        count: held.saturating_add(more.count),
-        ..more
-    };
-    with_row(alloc, rows, row)
+// The pair of a cell's byte and a label's place.
+fn pair_of(cell: u8, label: u8) -> u8 {
+    cell.wrapping_mul(4).wrapping_add(label)
 }
 
 // How many pairs have another count in the second collection than in the first.
-fn differences(first: &[Row], second: &[Row]) -> u32 {
+fn differences(first: &Counts, second: &Counts) -> u32 {
     let mut number: u32 = 0;
-    for row in first {
-        if count_in(second, row.cell, row.label) != row.count {
-            number = number.saturating_add(1);
-        }
-    }
-    for row in second {
-        if count_in(first, row.cell, row.label) == 0 {
+    for pair in 0..256 {
+        if first[pair] != second[pair] {
             number = number.saturating_add(1);
         }
     }
     number
 }
 
-// What a line answers.
-#[derive(Clone, Copy)]
-pub(crate) enum Answer {
-    Accepted(u32),
-    Refused(&'static str),
+// The answer to a step from one collection to another.
+fn answer_to(held: &Counts, next: &Counts) -> Answer {
+    let mut pairs: u32 = 0;
+    let mut most = 0;
+    for &count in next {
+        if count > 0 {
+            pairs = pairs.saturating_add(1);
+        }
+        if count > most {
+            most = count;
+        }
+    }
+    let number = differences(held, next);
+    if number == 0 {
+        Err("NoChange")
+    } else if most > COPIES {
+        Err("TooManyCopies")
+    } else if pairs > PAIRS {
+        Err("TooManyPairs")
+    } else {
+        Ok(number)
+    }
 }
 
-// A history of whole collections, each with its rows rising by cell, then by label.
+pub(crate) fn add(counts: &mut Counts, pair: u8, copies: u32) {
+    let place = usize::from(pair);
+    counts[place] = counts[place].saturating_add(copies);
+}
+
+// Whether so many were held, and are now taken away.
+pub(crate) fn remove(counts: &mut Counts, pair: u8, copies: u32) -> bool {
+    let place = usize::from(pair);
+    let is_held = counts[place] >= copies;
+    counts[place] = counts[place].saturating_sub(copies);
+    is_held
+}
+
+// Whether a label was held. Its copies move to the target, where there is one.
+pub(crate) fn take_label(counts: &mut Counts, label: u8, target: Option<u8>) -> bool {
+    let mut is_held = false;
+    for cell in 0..64u8 {
+        let place = usize::from(pair_of(cell, label));
+        let copies = counts[place];
+        is_held = is_held || copies > 0;
+        counts[place] = 0;
+        if let Some(target) = target {
+            add(counts, pair_of(cell, target), copies);
+        }
+    }
+    is_held
+}
+
+// The cells that have children here, by their bytes, the smaller ones first, with the distance from their middle to their inner children.
+const PARENTS: [(u8, u8); 10] = [
+    (4, 1),
+    (12, 1),
+    (20, 1),
+    (28, 1),
+    (36, 1),
+    (44, 1),
+    (52, 1),
+    (60, 1),
+    (16, 4),
+    (48, 4),
+];
+
+// Puts a parent in the place of its four children.
+fn join(cells: &mut [bool; 256], parent: u8, distance: u8) {
+    let outer = distance.wrapping_mul(3);
+    let children = [
+        usize::from(parent.wrapping_sub(outer)),
+        usize::from(parent.wrapping_sub(distance)),
+        usize::from(parent.wrapping_add(distance)),
+        usize::from(parent.wrapping_add(outer)),
+    ];
+    if cells[children[0]] && cells[children[1]] && cells[children[2]] && cells[children[3]] {
+        for child in children {
+            cells[child] = false;
+        }
+        cells[usize::from(parent)] = true;
+    }
+}
+
+// Whether a cell of level 2 lies in a cell: its byte is nearer to the cell's than the lowest bit of the cell's is worth.
+fn covers(cell: u8, finest: u8) -> bool {
+    let lowest = cell & cell.wrapping_neg();
+    cell.abs_diff(finest) < lowest
+}
+
+// Adds a copy of each cell of the normal union of some cells.
+pub(crate) fn add_union(counts: &mut Counts, cells: &[u8], label: u8) {
+    let mut normal = [false; 256];
+    for &cell in cells {
+        for half in 0..32u8 {
+            let finest = half.wrapping_mul(2).wrapping_add(1);
+            if covers(cell, finest) {
+                normal[usize::from(finest)] = true;
+            }
+        }
+    }
+    for (parent, distance) in PARENTS {
+        join(&mut normal, parent, distance);
+    }
+    for cell in 0..64u8 {
+        if normal[usize::from(cell)] {
+            add(counts, pair_of(cell, label), 1);
+        }
+    }
+}
+
+// A history of whole collections.
 #[derive(Drop)]
 pub(crate) struct Model {
-    limits: Limits,
-    collections: Vec<Vec<Row>>,
+    collections: Vec<Counts>,
     // The place of the collection that is held.
     cursor: usize,
 }
 
 impl Model {
-    pub(crate) fn new(alloc: Global, limits: Limits) -> Result<Model, Fail> {
+    pub(crate) fn new(alloc: Global) -> Result<Model, AllocError> {
         let mut collections = Vec::new(alloc);
-        collections.push(Vec::new(alloc))?;
+        collections.push([0; 256])?;
         Ok(Model {
-            limits,
             collections,
             cursor: 0,
         })
     }
 
     // The collection at a place; there is nothing beyond the ends.
-    fn rows_at(&self, place: usize) -> &[Row] {
+    fn at(&self, place: usize) -> Counts {
         match self.collections.get(place) {
-            Some(rows) => rows.as_slice(),
-            None => &[],
+            Some(counts) => *counts,
+            None => [0; 256],
         }
     }
 
-    pub(crate) fn held(&self) -> &[Row] {
-        self.rows_at(self.cursor)
+    pub(crate) fn held(&self) -> Counts {
+        self.at(self.cursor)
     }
 
-    fn is_journal_full(&self) -> bool {
-        self.cursor >= self.limits.changes() as usize
-    }
-
-    fn holds_label(&self, label: u32) -> bool {
-        self.held().iter().any(|row| row.label == label)
-    }
-
-    // Makes this the next collection, unless it is the one that is held or passes a limit.
-    fn go_on_to(&mut self, next: Vec<Row>) -> Result<Answer, Fail> {
-        let number = differences(self.held(), &next);
-        if number == 0 {
-            return Ok(Answer::Refused("NoChange"));
-        }
-        if next.iter().any(|row| row.count > self.limits.count()) {
-            return Ok(Answer::Refused("TooManyCopies"));
-        }
-        if next.len() > self.limits.pairs() as usize {
-            return Ok(Answer::Refused("TooManyPairs"));
-        }
-        self.cursor = self.cursor.saturating_add(1);
-        self.collections.truncate(self.cursor);
-        self.collections.push(next)?;
-        Ok(Answer::Accepted(number))
-    }
-
-    pub(crate) fn add(&mut self, alloc: Global, more: Row) -> Result<Answer, Fail> {
-        if self.is_journal_full() {
-            return Ok(Answer::Refused("JournalFull"));
-        }
-        let next = with_more(alloc, self.held(), more)?;
-        self.go_on_to(next)
-    }
-
-    pub(crate) fn remove(&mut self, alloc: Global, fewer: Row) -> Result<Answer, Fail> {
-        if self.is_journal_full() {
-            return Ok(Answer::Refused("JournalFull"));
-        }
-        let held = count_in(self.held(), fewer.cell, fewer.label);
-        let Some(count) = held.checked_sub(fewer.count) else {
-            return Ok(Answer::Refused("NotHeld"));
-        };
-        let next = with_row(alloc, self.held(), Row { count, ..fewer })?;
-        self.go_on_to(next)
-    }
-
-    pub(crate) fn add_union(
+    // Makes this the next collection. A full history is refused first, then for a reason of the edit's own.
+    pub(crate) fn go_on_to(
         &mut self,
-        alloc: Global,
-        cells: &[Cell],
-        label: u32,
-    ) -> Result<Answer, Fail> {
-        if self.is_journal_full() {
-            return Ok(Answer::Refused("JournalFull"));
+        next: &Counts,
+        refusal: Option<&'static str>,
+    ) -> Result<Answer, AllocError> {
+        if self.cursor >= CHANGES as usize {
+            return Ok(Err("JournalFull"));
         }
-        let mut next = Vec::from_slice(alloc, self.held())?;
-        for cell in &normal_union(alloc, cells)? {
-            let more = Row {
-                cell: cell.number(),
-                label,
-                count: 1,
-            };
-            next = with_more(alloc, &next, more)?;
+        if let Some(name) = refusal {
+            return Ok(Err(name));
         }
-        self.go_on_to(next)
+        let answer = answer_to(&self.held(), next);
+        if answer.is_ok() {
+            self.cursor = self.cursor.saturating_add(1);
+            self.collections.truncate(self.cursor);
+            self.collections.push(*next)?;
+        }
+        Ok(answer)
     }
 
-    pub(crate) fn drop_label(&mut self, alloc: Global, label: u32) -> Result<Answer, Fail> {
-        if self.is_journal_full() {
-            return Ok(Answer::Refused("JournalFull"));
+    // Holds the collection of another place, where there is one.
+    fn move_to(&mut self, place: usize, refusal: &'static str) -> Answer {
+        if place >= self.collections.len() {
+            return Err(refusal);
         }
-        if !self.holds_label(label) {
-            return Ok(Answer::Refused("NoSuchLabel"));
-        }
-        let mut next = Vec::new(alloc);
-        for row in self.held() {
-            if row.label != label {
-                next.push(*row)?;
-            }
-        }
-        self.go_on_to(next)
-    }
-
-    pub(crate) fn relabel(
-        &mut self,
-        alloc: Global,
-        source: u32,
-        target: u32,
-    ) -> Result<Answer, Fail> {
-        if self.is_journal_full() {
-            return Ok(Answer::Refused("JournalFull"));
-        }
-        if !self.holds_label(source) {
-            return Ok(Answer::Refused("NoSuchLabel"));
-        }
-        let mut next = Vec::from_slice(alloc, self.held())?;
-        for row in self.held() {
-            if row.label == source {
-                next = with_row(alloc, &next, Row { count: 0, ..*row })?;
-                let more = Row {
-                    label: target,
-                    ..*row
-                };
-                next = with_more(alloc, &next, more)?;
-            }
-        }
-        self.go_on_to(next)
+        let number = differences(&self.held(), &self.at(place));
+        self.cursor = place;
+        Ok(number)
     }
 
     pub(crate) fn undo(&mut self) -> Answer {
-        let Some(place) = self.cursor.checked_sub(1) else {
-            return Answer::Refused("NothingToUndo");
-        };
-        let number = differences(self.held(), self.rows_at(place));
-        self.cursor = place;
-        Answer::Accepted(number)
+        self.move_to(self.cursor.wrapping_sub(1), "NothingToUndo")
     }
 
     pub(crate) fn redo(&mut self) -> Answer {
-        let place = self.cursor.saturating_add(1);
-        if place >= self.collections.len() {
-            return Answer::Refused("NothingToRedo");
-        }
-        let number = differences(self.held(), self.rows_at(place));
-        self.cursor = place;
-        Answer::Accepted(number)
+        self.move_to(self.cursor.wrapping_add(1), "NothingToRedo")
     }
 
-    pub(crate) fn forget(&mut self, alloc: Global) -> Result<Answer, Fail> {
-        let held = Vec::from_slice(alloc, self.held())?;
+    pub(crate) fn forget(&mut self) -> Result<Answer, AllocError> {
+        let held = self.held();
         self.collections.clear();
         self.collections.push(held)?;
         self.cursor = 0;
-        Ok(Answer::Accepted(0))
+        Ok(Ok(0))
     }
 
-    pub(crate) fn write_dump(&self, alloc: Global, out: &mut String) -> Result<(), Fail> {
-        let mut copies: u64 = 0;
-        writeln!(out, "s2ix 1")?;
-        for row in self.held() {
-            let token = token(alloc, row.cell)?;
-            writeln!(out, "{token} {} {}", row.label, row.count)?;
-            copies = copies.saturating_add(u64::from(row.count));
+    pub(crate) fn put_dump(&self, out: &mut String) -> Result<(), AllocError> {
+        let held = self.held();
+        let mut pairs: u32 = 0;
+        let mut copies: u32 = 0;
+        out.push_str("s2ix 1\n")?;
+        for pair in 0..=255u8 {
+            let count = held[usize::from(pair)];
+            if count > 0 {
+                put_pair(out, pair)?;
+                put_number(out, count)?;
+                out.push_str("\n")?;
+                pairs = pairs.saturating_add(1);
+                copies = copies.saturating_add(count);
+            }
         }
-        writeln!(out, "end {} {copies}", self.held().len())?;
-        Ok(())
+        out.push_str("end")?;
+        put_number(out, pairs)?;
+        put_number(out, copies)?;
+        out.push_str("\n")
     }
 
-    pub(crate) fn write_journal(&self, alloc: Global, out: &mut String) -> Result<(), Fail> {
-        writeln!(out, "s2ix-journal 1")?;
+    pub(crate) fn put_journal(&self, out: &mut String) -> Result<(), AllocError> {
+        let mut changes: u32 = 0;
+        out.push_str("s2ix-journal 1\n")?;
         for place in 0..self.cursor {
-            let before = self.rows_at(place);
-            let after = self.rows_at(place.saturating_add(1));
-            writeln!(out, "change {}", differences(before, after))?;
-            write_entries(alloc, before, after, out)?;
+            put_change(out, &self.at(place), &self.at(place.wrapping_add(1)))?;
+            changes = changes.saturating_add(1);
         }
-        writeln!(out, "end {}", self.cursor)?;
-        Ok(())
+        out.push_str("end")?;
+        put_number(out, changes)?;
+        out.push_str("\n")
     }
 }
 
-// Writes a line for each pair whose counts differ, pairs rising.
-fn write_entries(
-    alloc: Global,
-    before: &[Row],
-    after: &[Row],
-    out: &mut String,
-) -> Result<(), Fail> {
-    let mut all = Vec::from_slice(alloc, before)?;
-    for row in after {
-        all = with_row(alloc, &all, *row)?;
-    }
-    for row in &all {
-        let old = count_in(before, row.cell, row.label);
-        let new = count_in(after, row.cell, row.label);
+// Writes a change as a journal does, pairs rising.
+fn put_change(out: &mut String, before: &Counts, after: &Counts) -> Result<(), AllocError> {
+    out.push_str("change")?;
+    put_number(out, differences(before, after))?;
+    out.push_str("\n")?;
+    for pair in 0..=255u8 {
+        let (old, new) = (before[usize::from(pair)], after[usize::from(pair)]);
         if old != new {
-            let token = token(alloc, row.cell)?;
-            writeln!(out, "{token} {} {old} {new}", row.label)?;
+            put_pair(out, pair)?;
+            put_number(out, old)?;
+            put_number(out, new)?;
+            out.push_str("\n")?;
         }
     }
     Ok(())
 }
 
-// A cell's number in hexadecimal digits, without the zeros at its end.
-pub(crate) fn token(alloc: Global, number: u64) -> Result<String, Fail> {
-    let digits = format!(in alloc; "{number:016x}")?;
-    Ok(String::from_str(alloc, digits.trim_end_matches('0'))?)
+// Writes a pair as its token and its label.
+fn put_pair(out: &mut String, pair: u8) -> Result<(), AllocError> {
+    put_token(out, pair / 4)?;
+    put_number(out, label_at(pair % 4))
+}
+
+// Writes a cell's byte without the zeros at its end.
+pub(crate) fn put_token(out: &mut String, cell: u8) -> Result<(), AllocError> {
+    out.push_str(LOWER[usize::from(cell / 16)])?;
+    if cell % 16 > 0 {
+        out.push_str(LOWER[usize::from(cell % 16)])?;
+    }
+    Ok(())
+}
+
+// The hexadecimal digits, in either case.
+pub(crate) const LOWER: [&str; 16] = [
+    "0", "1", "2", "3", "4", "5", "6", "7", "8", "9", "a", "b", "c", "d", "e", "f",
+];
+
+pub(crate) const UPPER: [&str; 16] = [
+    "0", "1", "2", "3", "4", "5", "6", "7", "8", "9", "A", "B", "C", "D", "E", "F",
+];
+
+// Writes a number behind a space.
+pub(crate) fn put_number(out: &mut String, number: u32) -> Result<(), AllocError> {
+    write!(out, " {number}")
 }

@@ -1,10 +1,13 @@
 // Long scripts of a fixed generator, with what a plain model answers to them.
-use crate::model::{Answer, Cell, Model, Row, token};
+use crate::model::{
+    Answer, CHANGES, COPIES, Counts, LOWER, Model, PAIRS, UPPER, add, add_union, label_at,
+    put_number, put_token, remove, take_label,
+};
 use s2ix_bag::Limits;
 use s2ix_cli::{RunOptions, run};
 use s2ix_edit::Store;
 use s2ix_io::{KeepingSink, SliceSource};
-use std::alloc::Global;
+use std::alloc::{AllocError, Global};
 use std::process::Abort;
 use std::test::Fail;
 
@@ -15,79 +18,42 @@ struct Chance {
 }
 
 impl Chance {
-    // A number below a bound that is not 0.
-    fn below(&mut self, bound: u32) -> u32 {
+    // A number below a bound.
+    fn below(&mut self, bound: u8) -> u8 {
         self.state = self
             .state
             .wrapping_mul(6364136223846793005)
             .wrapping_add(1442695040888963407);
-        let drawn = (self.state >> 33).checked_rem(u64::from(bound));
-        u32::try_from(drawn.unwrap_or(0)).unwrap_or(0)
+        let drawn = (self.state >> 32) as u32 as u64;
+        (drawn.wrapping_mul(bound as u64) >> 32) as u8
     }
 
-    fn label(&mut self) -> u32 {
-        match self.below(4) {
-            0 => 1,
-            1 => 2,
-            2 => 30,
-            _ => 2147483647,
+    // The byte of a cell of a level from 0 to 2 on face 0 or 1.
+    fn cell(&mut self) -> u8 {
+        match self.below(3) {
+            0 => self.below(2).wrapping_mul(32).wrapping_add(16),
+            1 => self.below(8).wrapping_mul(8).wrapping_add(4),
+            _ => self.below(32).wrapping_mul(2).wrapping_add(1),
         }
     }
 
-    // A cell of a level from 0 to 2 on face 0 or 1.
-    fn cell(&mut self) -> Cell {
-        let level = self.below(3);
-        let cells = match level {
-            0 => 2,
-            1 => 8,
-            _ => 32,
-        };
-        Cell {
-            level,
-            index: u64::from(self.below(cells)),
-        }
-    }
-
-    // The cells of a union: two to five of any place, or four siblings, at times with the siblings of their parent.
-    fn cells(&mut self, alloc: Global) -> Result<Vec<Cell>, Fail> {
-        let mut cells = Vec::new(alloc);
+    // A pair: two times in three the next one that is held, where any is.
+    fn pair(&mut self, held: &Counts) -> u8 {
+        let drawn = self.cell().wrapping_mul(4).wrapping_add(self.below(4));
         if self.below(3) > 0 {
-            for _ in 0..self.below(4).saturating_add(2) {
-                cells.push(self.cell())?;
-            }
-            return Ok(cells);
-        }
-        let face = u64::from(self.below(2));
-        for child in 0..4u64 {
-            cells.push(Cell {
-                level: 2,
-                index: face.wrapping_mul(16).wrapping_add(child),
-            })?;
-        }
-        if self.below(2) == 0 {
-            for child in 1..4u64 {
-                cells.push(Cell {
-                    level: 1,
-                    index: face.wrapping_mul(4).wrapping_add(child),
-                })?;
+            for further in 0..=255u8 {
+                let pair = drawn.wrapping_add(further);
+                if held[usize::from(pair)] > 0 {
+                    return pair;
+                }
             }
         }
-        Ok(cells)
-    }
-
-    // From one to three copies of a pair: two times in three of one that is held, where any is.
-    fn copies(&mut self, held: &[Row]) -> Row {
-        let count = self.below(3).saturating_add(1);
-        let place = self.below(u32::try_from(held.len()).unwrap_or(0));
-        let is_any = self.below(3) == 0;
-        let cell = self.cell().number();
-        let label = self.label();
-        match held.get(place as usize) {
-            Some(row) if !is_any => Row { count, ..*row },
-            _ => Row { cell, label, count },
-        }
+        drawn
     }
 }
+
+// The cells of level 2 that lie in the first of level 1 on each of the two faces, with the other three of level 1 there.
+const SIBLINGS: [[u8; 7]; 2] = [[1, 3, 5, 7, 12, 20, 28], [33, 35, 37, 39, 44, 52, 60]];
 
 // A script as it is written, with what a run of it is to come to.
 #[derive(Drop)]
@@ -101,10 +67,10 @@ struct Record {
 }
 
 impl Record {
-    fn new(alloc: Global, seed: u64, limits: Limits) -> Result<Record, Fail> {
+    fn new(alloc: Global, seed: u64) -> Result<Record, AllocError> {
         Ok(Record {
             chance: Chance { state: seed },
-            model: Model::new(alloc, limits)?,
+            model: Model::new(alloc)?,
             script: String::new(alloc),
             output: String::new(alloc),
             lines: 0,
@@ -112,155 +78,167 @@ impl Record {
         })
     }
 
-    // Takes an answer down, and tells whether the line was accepted.
-    fn take(&mut self, answer: Answer) -> Result<bool, Fail> {
+    // Ends a line, takes its answer down, and tells whether it was accepted.
+    fn take(&mut self, answer: Answer) -> Result<bool, AllocError> {
+        self.script.push_str("\n")?;
         self.lines = self.lines.saturating_add(1);
         match answer {
-            Answer::Accepted(number) => {
-                writeln!(self.output, "ok {number}")?;
-                Ok(true)
+            Ok(number) => {
+                self.output.push_str("ok")?;
+                put_number(&mut self.output, number)?;
             }
-            Answer::Refused(name) => {
+            Err(name) => {
                 self.refused = self.refused.saturating_add(1);
-                writeln!(self.output, "no {name}")?;
-                Ok(false)
+                self.output.push_str("no ")?;
+                self.output.push_str(name)?;
             }
         }
+        self.output.push_str("\n")?;
+        Ok(answer.is_ok())
     }
 
-    // Writes a token: as a dump does, or with all its digits in either case.
-    fn spell(&mut self, alloc: Global, number: u64) -> Result<(), Fail> {
-        match self.chance.below(3) {
-            0 => write!(self.script, " {number:016x}")?,
-            1 => write!(self.script, " {number:016X}")?,
-            _ => {
-                let token = token(alloc, number)?;
-                write!(self.script, " {token}")?
+    // Writes a cell: as a dump does, or with all its digits in either case.
+    fn spell(&mut self, cell: u8) -> Result<(), AllocError> {
+        self.script.push_str(" ")?;
+        let drawn = self.chance.below(3);
+        if drawn == 0 {
+            return put_token(&mut self.script, cell);
+        }
+        let digits = if drawn == 1 { LOWER } else { UPPER };
+        self.script.push_str(digits[usize::from(cell / 16)])?;
+        self.script.push_str(digits[usize::from(cell % 16)])?;
+        self.script.push_str("00000000000000")
+    }
+
+    // Draws a label's place, and writes the label.
+    fn label(&mut self) -> Result<u8, AllocError> {
+        let place = self.chance.below(4);
+        put_number(&mut self.script, label_at(place))?;
+        Ok(place)
+    }
+
+    // Adds or removes from one to three copies of a pair. One copy is left out of the line at times.
+    fn copies(&mut self, is_add: bool) -> Result<bool, AllocError> {
+        let mut next = self.model.held();
+        let pair = self.chance.pair(&next);
+        let copies = u32::from(self.chance.below(3)).saturating_add(1);
+        self.script.push_str(if is_add { "add" } else { "remove" })?;
+        self.spell(pair / 4)?;
+        put_number(&mut self.script, label_at(pair % 4))?;
+        if copies != 1 || self.chance.below(2) == 0 {
+            put_number(&mut self.script, copies)?;
+        }
+        let mut refusal = None;
+        if is_add {
+            add(&mut next, pair, copies);
+        } else if !remove(&mut next, pair, copies) {
+            refusal = Some("NotHeld");
+        }
+        let answer = self.model.go_on_to(&next, refusal)?;
+        self.take(answer)
+    }
+
+    // Adds two to five cells of any place, or four siblings, at times with the siblings of their parent.
+    fn union(&mut self) -> Result<bool, AllocError> {
+        let mut next = self.model.held();
+        self.script.push_str("addunion")?;
+        let label = self.label()?;
+        let mut cells = SIBLINGS[usize::from(self.chance.below(2)) % 2];
+        let mut number = if self.chance.below(2) == 0 { 4 } else { 7 };
+        if self.chance.below(3) > 0 {
+            number = usize::from(self.chance.below(4)).wrapping_add(2);
+            for place in 0..7 {
+                cells[place] = self.chance.cell();
             }
         }
-        Ok(())
-    }
-
-    // Writes the fields of copies; one copy is left out at times.
-    fn spell_copies(&mut self, alloc: Global, row: Row) -> Result<(), Fail> {
-        self.spell(alloc, row.cell)?;
-        write!(self.script, " {}", row.label)?;
-        if row.count != 1 || self.chance.below(2) == 0 {
-            write!(self.script, " {}", row.count)?;
+        let cells = cells.get(..number).unwrap_or(&[]);
+        for &cell in cells {
+            self.spell(cell)?;
         }
-        writeln!(self.script)?;
-        Ok(())
-    }
-
-    fn add(&mut self, alloc: Global) -> Result<bool, Fail> {
-        let more = self.chance.copies(self.model.held());
-        write!(self.script, "add")?;
-        self.spell_copies(alloc, more)?;
-        let answer = self.model.add(alloc, more)?;
+        add_union(&mut next, cells, label);
+        let answer = self.model.go_on_to(&next, None)?;
         self.take(answer)
     }
 
-    fn remove(&mut self, alloc: Global) -> Result<bool, Fail> {
-        let fewer = self.chance.copies(self.model.held());
-        write!(self.script, "remove")?;
-        self.spell_copies(alloc, fewer)?;
-        let answer = self.model.remove(alloc, fewer)?;
+    // Drops a label, or moves its copies to another one.
+    fn take_label(&mut self, is_drop: bool) -> Result<bool, AllocError> {
+        let mut next = self.model.held();
+        self.script
+            .push_str(if is_drop { "drop" } else { "relabel" })?;
+        let label = self.label()?;
+        let target = if is_drop { None } else { Some(self.label()?) };
+        let is_held = take_label(&mut next, label, target);
+        let refusal = if is_held { None } else { Some("NoSuchLabel") };
+        let answer = self.model.go_on_to(&next, refusal)?;
         self.take(answer)
     }
 
-    fn add_union(&mut self, alloc: Global) -> Result<bool, Fail> {
-        let label = self.chance.label();
-        let cells = self.chance.cells(alloc)?;
-        write!(self.script, "addunion {label}")?;
-        for cell in &cells {
-            self.spell(alloc, cell.number())?;
-        }
-        writeln!(self.script)?;
-        let answer = self.model.add_union(alloc, &cells, label)?;
-        self.take(answer)
-    }
-
-    fn drop_label(&mut self, alloc: Global) -> Result<bool, Fail> {
-        let label = self.chance.label();
-        writeln!(self.script, "drop {label}")?;
-        let answer = self.model.drop_label(alloc, label)?;
-        self.take(answer)
-    }
-
-    fn relabel(&mut self, alloc: Global) -> Result<bool, Fail> {
-        let source = self.chance.label();
-        let target = self.chance.label();
-        writeln!(self.script, "relabel {source} {target}")?;
-        let answer = self.model.relabel(alloc, source, target)?;
-        self.take(answer)
-    }
-
-    fn undo(&mut self) -> Result<bool, Fail> {
-        writeln!(self.script, "undo")?;
+    fn undo(&mut self) -> Result<bool, AllocError> {
+        self.script.push_str("undo")?;
         let answer = self.model.undo();
         self.take(answer)
     }
 
-    fn redo(&mut self) -> Result<bool, Fail> {
-        writeln!(self.script, "redo")?;
+    fn redo(&mut self) -> Result<bool, AllocError> {
+        self.script.push_str("redo")?;
         let answer = self.model.redo();
         self.take(answer)
     }
 
-    fn forget(&mut self, alloc: Global) -> Result<bool, Fail> {
-        writeln!(self.script, "forget")?;
-        let answer = self.model.forget(alloc)?;
+    fn forget(&mut self) -> Result<bool, AllocError> {
+        self.script.push_str("forget")?;
+        let answer = self.model.forget()?;
         self.take(answer)
     }
 
-    fn dump(&mut self, alloc: Global) -> Result<bool, Fail> {
-        writeln!(self.script, "dump")?;
-        self.model.write_dump(alloc, &mut self.output)?;
+    fn dump(&mut self) -> Result<bool, AllocError> {
+        self.script.push_str("dump\n")?;
         self.lines = self.lines.saturating_add(1);
+        self.model.put_dump(&mut self.output)?;
         Ok(true)
     }
 
-    fn journal(&mut self, alloc: Global) -> Result<bool, Fail> {
-        writeln!(self.script, "journal")?;
-        self.model.write_journal(alloc, &mut self.output)?;
+    fn journal(&mut self) -> Result<bool, AllocError> {
+        self.script.push_str("journal\n")?;
         self.lines = self.lines.saturating_add(1);
+        self.model.put_journal(&mut self.output)?;
         Ok(true)
     }
 
     // Any line.
-    fn step(&mut self, alloc: Global) -> Result<bool, Fail> {
+    fn step(&mut self) -> Result<bool, AllocError> {
         match self.chance.below(64) {
-            0..=20 => self.add(alloc),
-            21..=32 => self.remove(alloc),
-            33..=40 => self.add_union(alloc),
-            41..=43 => self.drop_label(alloc),
-            44..=47 => self.relabel(alloc),
+            0..=20 => self.copies(true),
+            21..=32 => self.copies(false),
+            33..=40 => self.union(),
+            41..=43 => self.take_label(true),
+            44..=47 => self.take_label(false),
             48..=53 => self.undo(),
             54..=57 => self.redo(),
-            58..=62 => self.dump(alloc),
-            _ => self.journal(alloc),
+            58..=62 => self.dump(),
+            _ => self.journal(),
         }
     }
 
     // Any lines; then back to the beginning and on to the end, each with a dump; then back by some, or forget.
-    fn round(&mut self, alloc: Global, steps: u32) -> Result<(), Fail> {
+    fn round(&mut self, steps: u32) -> Result<(), AllocError> {
         for _ in 0..steps {
-            self.step(alloc)?;
+            self.step()?;
         }
         for _ in 0..LONGEST {
             if !self.undo()? {
                 break;
             }
         }
-        self.dump(alloc)?;
+        self.dump()?;
         for _ in 0..LONGEST {
             if !self.redo()? {
                 break;
             }
         }
-        self.dump(alloc)?;
+        self.dump()?;
         if self.chance.below(3) == 0 {
-            self.forget(alloc)?;
+            self.forget()?;
         }
         for _ in 0..self.chance.below(30) {
             self.undo()?;
@@ -271,14 +249,6 @@ impl Record {
 
 // More lines than lead from one end of a history to the other.
 const LONGEST: u32 = 50;
-
-// Fails at the first line of the output that is not the one that is wanted.
-fn check_lines(rt: &impl Abort, found: &str, wanted: &str, seed: u64) {
-    for (place, (line, other)) in found.lines().zip(wanted.lines()).enumerate() {
-        assert_eq!(rt; line, other, "seed {seed}, after {place} lines");
-    }
-    assert_eq!(rt; found.len(), wanted.len(), "seed {seed}");
-}
 
 // Each way in which a line of the scripts may be refused.
 const NAMES: [&str; 8] = [
@@ -293,13 +263,8 @@ const NAMES: [&str; 8] = [
 ];
 
 // Runs the script of a record over an empty store.
-fn check(
-    rt: &impl Abort,
-    alloc: Global,
-    record: &Record,
-    limits: Limits,
-    seed: u64,
-) -> Result<(), Fail> {
+fn check(rt: &impl Abort, alloc: Global, record: &Record, seed: u64) -> Result<(), Fail> {
+    let limits = Limits::new(PAIRS, COPIES, CHANGES).ok_or("a limit is out of its range")?;
     let mut store = Store::new(alloc, limits)?;
     let mut source = SliceSource::new(record.script.as_bytes(), 1000, 0);
     let mut sink = KeepingSink::new(alloc, 1000, 0, false);
@@ -308,7 +273,7 @@ fn check(
         turns: u64::MAX,
     };
     let end = run(alloc, &mut source, &mut sink, &mut store, options)?;
-    check_lines(rt, std::str::from_utf8(sink.kept())?, &record.output, seed);
+    assert_eq!(rt; sink.kept(), record.output.as_bytes(), "seed {seed}");
     assert_eq!(rt; end.lines, record.lines, "seed {seed}");
     assert_eq!(rt; end.refused, record.refused, "seed {seed}");
     Ok(())
@@ -316,16 +281,15 @@ fn check(
 
 #[test]
 fn long_scripts_answer_as_the_model_does(rt: HostRuntime) -> Result<(), Fail> {
-    let limits = Limits::new(12, 5, 40).ok_or("a limit is out of its range")?;
     for seed in [1, 2, 3] {
-        let mut record = Record::new(rt.alloc(), seed, limits)?;
+        let mut record = Record::new(rt.alloc(), seed)?;
         for _ in 0..8 {
-            record.round(rt.alloc(), 80)?;
+            record.round(80)?;
         }
         for name in NAMES {
             assert!(rt; record.output.contains(name), "seed {seed} has no {name}");
         }
-        check(&rt, rt.alloc(), &record, limits, seed)?;
+        check(&rt, rt.alloc(), &record, seed)?;
     }
     Ok(())
 }

@@ -2,42 +2,27 @@
 use s2ix_cli::{RunFault, read_whole};
 use s2ix_io::{SliceSource, Source};
 
-#[test]
-fn all_pieces_are_read(rt: HostRuntime) {
-    let mut source = SliceSource::new(b"undo\ndump\n", 3, 0);
-    let text = read_whole(rt.alloc(), &mut source, 5);
-    assert!(rt; matches!(&text, Ok(text) if text.as_slice() == b"undo\ndump\n".as_slice()));
-    assert_eq!(rt; source.faults(), 0);
-}
+// Texts that come in pieces of 3 bytes, with the piece that fails, how many pieces may be read, what ends the reading, and how many
+// faults the source counts.
+const READINGS: [(&[u8], u64, u64, Option<RunFault>, u64); 5] = [
+    (b"undo\ndump\n", 0, 5, None, 0),
+    (b"", 0, 1, None, 0),
+    (b"undo\ndump\n", 3, 5, Some(RunFault::Read), 1),
+    (b"undo\ndump\n", 0, 4, Some(RunFault::ReaderTooLong), 0),
+    (b"undo\ndump\n", 0, 0, Some(RunFault::ReaderTooLong), 0),
+];
 
 #[test]
-fn an_empty_source_is_read_by_one_piece(rt: HostRuntime) {
-    let mut source = SliceSource::new(b"", 3, 0);
-    let text = read_whole(rt.alloc(), &mut source, 1);
-    assert!(rt; matches!(&text, Ok(text) if text.is_empty()));
-}
-
-#[test]
-fn a_fault_in_mid_stream_ends_the_reading(rt: HostRuntime) {
-    let mut source = SliceSource::new(b"undo\ndump\n", 3, 3);
-    assert!(rt; matches!(read_whole(rt.alloc(), &mut source, 5), Err(RunFault::Read)));
-    assert_eq!(rt; source.faults(), 1);
-}
-
-#[test]
-fn a_source_may_be_too_long(rt: HostRuntime) {
-    let mut source = SliceSource::new(b"undo\ndump\n", 3, 0);
-    assert!(rt;
-        matches!(
-            read_whole(rt.alloc(), &mut source, 4),
-            Err(RunFault::ReaderTooLong)
-        )
-    );
-    assert!(rt;
-        matches!(
-            read_whole(rt.alloc(), &mut source, 0),
-            Err(RunFault::ReaderTooLong)
-        )
-    );
-    assert_eq!(rt; source.faults(), 0);
+fn a_source_is_read_to_its_end(rt: HostRuntime) {
+    for (text, fault_at, turns, ended_by, faults) in READINGS {
+        let mut source = SliceSource::new(text, 3, fault_at);
+        match read_whole(rt.alloc(), &mut source, turns) {
+            Ok(read) => {
+                assert_eq!(rt; ended_by, None);
+                assert_eq!(rt; read.as_slice(), text);
+            }
+            Err(fault) => assert_eq!(rt; ended_by, Some(fault)),
+        }
+        assert_eq!(rt; source.faults(), faults);
+    }
 }

@@ -14,112 +14,104 @@ fn fault_of(alloc: Global, line: &[u8]) -> Option<LineFault> {
     }
 }
 
+// Lines without fields, and comments.
+const NOTHING: [&[u8]; 5] = [b"", b" \t\r", b"# note", b"#undo", b"\xc2\xa0 #"];
+
 #[test]
 fn a_line_without_fields_and_a_comment_ask_for_nothing(rt: HostRuntime) {
-    for line in [
-        b"".as_slice(),
-        b" \t\r".as_slice(),
-        b"# note".as_slice(),
-        b"#undo".as_slice(),
-        b"\xc2\xa0 #".as_slice(),
-    ] {
+    for line in NOTHING {
         assert!(rt; matches!(meaning(rt.alloc(), line), Ok(None)));
     }
 }
 
+// Lines with the first of their faults.
+const FAULTS: [(&[u8], LineFault); 56] = [
+    // no command, or not as many fields as the command has
+    (b"ADD 04 9", LineFault::BadCommand),
+    (b"addd 04 9", LineFault::BadCommand),
+    (b"04", LineFault::BadCommand),
+    (b"add X", LineFault::BadArguments),
+    (b"add", LineFault::BadArguments),
+    (b"remove 04 9 1 1", LineFault::BadArguments),
+    (b"undo 1", LineFault::BadArguments),
+    (b"dump #", LineFault::BadArguments),
+    (b"drop", LineFault::BadArguments),
+    (b"drop 9 9", LineFault::BadArguments),
+    (b"relabel x", LineFault::BadArguments),
+    (b"relabel 9 9 9", LineFault::BadArguments),
+    (b"addunion", LineFault::BadArguments),
+    (b"addunion x", LineFault::BadArguments),
+    (b"redo 1", LineFault::BadArguments),
+    (b"forget 1", LineFault::BadArguments),
+    (b"journal 1", LineFault::BadArguments),
+    (b"at", LineFault::BadArguments),
+    (b"at x x", LineFault::BadArguments),
+    (b"meet", LineFault::BadArguments),
+    (b"labels", LineFault::BadArguments),
+    (b"ranges 1", LineFault::BadArguments),
+    // the first unfit field of a list
+    (b"meet 04 X", LineFault::BadToken),
+    (b"meet X 04", LineFault::BadToken),
+    (b"labels X", LineFault::BadToken),
+    (b"labels 04 04 04 x", LineFault::BadToken),
+    (b"addunion 5 04 X", LineFault::BadToken),
+    (b"addunion 5 X 04", LineFault::BadToken),
+    (b"addunion x 04", LineFault::BadLabel),
+    (b"addunion x y", LineFault::BadLabel),
+    // the first unfit field from the left
+    (b"add 00 x x", LineFault::BadToken),
+    (b"add X 9", LineFault::BadToken),
+    (b"add 04 x x", LineFault::BadLabel),
+    (b"add 04 9\xff", LineFault::BadLabel),
+    (b"add 04 00000000009", LineFault::BadLabel),
+    (b"add 04 2147483648", LineFault::BadLabel),
+    (b"add 04 9999999999", LineFault::BadLabel),
+    (b"add 04 -1", LineFault::BadLabel),
+    (b"add 04 +1", LineFault::BadLabel),
+    (b"add 04 9 0", LineFault::BadCount),
+    (b"add 04 9 65536", LineFault::BadCount),
+    (b"remove 04 9 x", LineFault::BadCount),
+    (b"drop x", LineFault::BadLabel),
+    (b"relabel x 9", LineFault::BadLabel),
+    (b"relabel 9 x", LineFault::BadLabel),
+    (b"addunion 9 y 04", LineFault::BadToken),
+    (b"addunion 9 04 2", LineFault::BadToken),
+    (b"at x", LineFault::BadToken),
+    (b"meet 04 2", LineFault::BadToken),
+    (b"labels x 04", LineFault::BadToken),
+    // U+00A0 separates
+    (b"undo\xc2\xa0x", LineFault::BadArguments),
+    // a byte before U+00A0 is a field
+    (b"undo \xf0\xc2\xa0", LineFault::BadArguments),
+    // and belongs to the field before it
+    (b"undo\xf0\xc2\xa0", LineFault::BadCommand),
+    // U+200B does not separate
+    (b"undo\xe2\x80\x8b", LineFault::BadCommand),
+    // U+001C does not separate
+    (b"undo\x1c", LineFault::BadCommand),
+    // a byte that is no UTF-8 does not separate
+    (b"undo\xa0", LineFault::BadCommand),
+];
+
 #[test]
 fn the_first_fault_is_answered(rt: HostRuntime) {
-    for (line, fault) in [
-        (b"ADD 04 9".as_slice(), LineFault::BadCommand),
-        (b"addd 04 9".as_slice(), LineFault::BadCommand),
-        (b"04".as_slice(), LineFault::BadCommand),
-        (b"add X".as_slice(), LineFault::BadArguments),
-        (b"add".as_slice(), LineFault::BadArguments),
-        (b"remove 04 9 1 1".as_slice(), LineFault::BadArguments),
-        (b"undo 1".as_slice(), LineFault::BadArguments),
-        (b"dump #".as_slice(), LineFault::BadArguments),
-        (b"drop".as_slice(), LineFault::BadArguments),
-        (b"drop 9 9".as_slice(), LineFault::BadArguments),
-        (b"relabel x".as_slice(), LineFault::BadArguments),
-        (b"relabel 9 9 9".as_slice(), LineFault::BadArguments),
-        (b"addunion".as_slice(), LineFault::BadArguments),
-        (b"addunion x".as_slice(), LineFault::BadArguments),
-        (b"redo 1".as_slice(), LineFault::BadArguments),
-        (b"forget 1".as_slice(), LineFault::BadArguments),
-        (b"journal 1".as_slice(), LineFault::BadArguments),
-        (b"at".as_slice(), LineFault::BadArguments),
-        (b"at x x".as_slice(), LineFault::BadArguments),
-        (b"meet".as_slice(), LineFault::BadArguments),
-        (b"labels".as_slice(), LineFault::BadArguments),
-        (b"ranges 1".as_slice(), LineFault::BadArguments),
-    ] {
-        assert!(rt; fault_of(rt.alloc(), line) == Some(fault));
+    for (line, fault) in FAULTS {
+        assert_eq!(rt; fault_of(rt.alloc(), line), Some(fault), "{line:?}");
     }
 }
 
-#[test]
-fn the_first_unfit_field_of_a_list_is_answered(rt: HostRuntime) {
-    for (line, fault) in [
-        (b"meet 04 X".as_slice(), LineFault::BadToken),
-        (b"meet X 04".as_slice(), LineFault::BadToken),
-        (b"labels X".as_slice(), LineFault::BadToken),
-        (b"labels 04 04 04 x".as_slice(), LineFault::BadToken),
-        (b"addunion 5 04 X".as_slice(), LineFault::BadToken),
-        (b"addunion 5 X 04".as_slice(), LineFault::BadToken),
-        (b"addunion x 04".as_slice(), LineFault::BadLabel),
-        (b"addunion x y".as_slice(), LineFault::BadLabel),
-    ] {
-        assert!(rt; fault_of(rt.alloc(), line) == Some(fault));
-    }
-}
+// One field, between white space of Unicode.
+const UNDO: [&[u8]; 3] = [b"undo\r", b"\tundo\x0b", b"\xc2\x85undo\xe2\x80\x83"];
 
 #[test]
 fn white_space_is_that_of_unicode(rt: HostRuntime) {
-    for line in [
-        b"undo\r".as_slice(),
-        b"\tundo\x0b".as_slice(),
-        b"\xc2\x85undo\xe2\x80\x83".as_slice(),
-    ] {
+    for line in UNDO {
         assert!(rt;
             matches!(
                 meaning(rt.alloc(), line),
                 Ok(Some(Command::Move(Move::Undo)))
             )
         );
-    }
-    for (line, fault, why) in [
-        (
-            b"undo\xc2\xa0x".as_slice(),
-            LineFault::BadArguments,
-            "U+00A0 separates",
-        ),
-        (
-            b"undo \xf0\xc2\xa0".as_slice(),
-            LineFault::BadArguments,
-            "a byte before U+00A0 is a field",
-        ),
-        (
-            b"undo\xf0\xc2\xa0".as_slice(),
-            LineFault::BadCommand,
-            "and belongs to the field before it",
-        ),
-        (
-            b"undo\xe2\x80\x8b".as_slice(),
-            LineFault::BadCommand,
-            "U+200B does not separate",
-        ),
-        (
-            b"undo\x1c".as_slice(),
-            LineFault::BadCommand,
-            "U+001C does not separate",
-        ),
-        (
-            b"undo\xa0".as_slice(),
-            LineFault::BadCommand,
-            "a byte that is no UTF-8 does not separate",
-        ),
-    ] {
-        assert_eq!(rt; fault_of(rt.alloc(), line), Some(fault), "{why}");
     }
 }
 
@@ -137,57 +129,32 @@ fn pair_04(label: u32) -> Result<Pair, Fail> {
     })
 }
 
-#[test]
-fn fields_name_a_pair_and_copies(rt: HostRuntime) -> Result<(), Fail> {
-    for (line, label, copies) in [
-        (b"add 04 9".as_slice(), 9, 1),
-        (b"add 04 9\r".as_slice(), 9, 1),
-        (b"add\xc2\xa004\xc2\xa09".as_slice(), 9, 1),
-        (b"add 04 0000000009".as_slice(), 9, 1),
-        (b"add 04 9 0000000001".as_slice(), 9, 1),
-        (b"add 04 9 65535".as_slice(), 9, 65535),
-        (b"add 04 2147483647".as_slice(), 2147483647, 1),
-    ] {
-        let asked = meaning(rt.alloc(), line);
-        let wanted = pair_04(label)?;
-        assert!(rt;
-            matches!(
-                asked,
-                Ok(Some(Command::Move(Move::Edit(Edit::Add { pair, copies: asked_copies }))))
-                    if pair == wanted && asked_copies == copies
-            )
-        );
+// Lines that add copies of the cell 04, with the label and how many.
+const ADDED: [(&[u8], u32, u32); 7] = [
+    (b"add 04 9", 9, 1),
+    (b"add 04 9\r", 9, 1),
+    (b"add\xc2\xa004\xc2\xa09", 9, 1),
+    (b"add 04 0000000009", 9, 1),
+    (b"add 04 9 0000000001", 9, 1),
+    (b"add 04 9 65535", 9, 65535),
+    (b"add 04 2147483647", 2147483647, 1),
+];
+
+// The pair and the copies that a line asks to add.
+fn added_by(alloc: Global, line: &[u8]) -> Option<(Pair, u32)> {
+    match meaning(alloc, line) {
+        Ok(Some(Command::Move(Move::Edit(Edit::Add { pair, copies })))) => Some((pair, copies)),
+        _ => None,
     }
-    Ok(())
 }
 
 #[test]
-fn the_first_unfit_field_decides(rt: HostRuntime) {
-    for (line, fault) in [
-        (b"add 00 x x".as_slice(), LineFault::BadToken),
-        (b"add X 9".as_slice(), LineFault::BadToken),
-        (b"add 04 x x".as_slice(), LineFault::BadLabel),
-        (b"add 04 9\xff".as_slice(), LineFault::BadLabel),
-        (b"add 04 00000000009".as_slice(), LineFault::BadLabel),
-        (b"add 04 2147483648".as_slice(), LineFault::BadLabel),
-        (b"add 04 9999999999".as_slice(), LineFault::BadLabel),
-        (b"add 04 -1".as_slice(), LineFault::BadLabel),
-        (b"add 04 +1".as_slice(), LineFault::BadLabel),
-        (b"add 04 9 0".as_slice(), LineFault::BadCount),
-        (b"add 04 9 65536".as_slice(), LineFault::BadCount),
-        (b"remove 04 9 x".as_slice(), LineFault::BadCount),
-        (b"drop x".as_slice(), LineFault::BadLabel),
-        (b"relabel x 9".as_slice(), LineFault::BadLabel),
-        (b"relabel 9 x".as_slice(), LineFault::BadLabel),
-        (b"addunion x y".as_slice(), LineFault::BadLabel),
-        (b"addunion 9 y 04".as_slice(), LineFault::BadToken),
-        (b"addunion 9 04 2".as_slice(), LineFault::BadToken),
-        (b"at x".as_slice(), LineFault::BadToken),
-        (b"meet 04 2".as_slice(), LineFault::BadToken),
-        (b"labels x 04".as_slice(), LineFault::BadToken),
-    ] {
-        assert!(rt; fault_of(rt.alloc(), line) == Some(fault));
+fn fields_name_a_pair_and_copies(rt: HostRuntime) -> Result<(), Fail> {
+    for (line, label, copies) in ADDED {
+        let wanted = pair_04(label)?;
+        assert_eq!(rt; added_by(rt.alloc(), line), Some((wanted, copies)));
     }
+    Ok(())
 }
 
 #[test]

@@ -5,22 +5,33 @@ use s2ix_io::{KeepingSink, Sink, WriteFault};
 use s2ix_text::write_journal;
 use std::test::Fail;
 
+// Collections of pairs that differ, each with its count.
+const COLLECTIONS: [&[(&[u8], u32, u32)]; 4] = [
+    &[],
+    &[(b"04", 9, 2)],
+    &[(b"04", 9, 2), (b"04", 3, 1)],
+    &[(b"04", 3, 3)],
+];
+
+// The journal that leads from each collection to the next.
+const JOURNAL: &[u8] =
+    b"s2ix-journal 1\nchange 1\n04 9 0 2\nchange 1\n04 3 0 1\nchange 2\n04 3 1 3\n04 9 2 0\nend 3\n";
+
 #[test]
 fn a_journal_lists_the_changes_from_the_oldest(rt: HostRuntime) -> Result<(), Fail> {
-    let empty = store_of(rt.alloc(), &[])?;
-    let first = store_of(rt.alloc(), &[(b"04", 9, 2)])?;
-    let second = store_of(rt.alloc(), &[(b"04", 9, 2), (b"04", 3, 1)])?;
-    let third = store_of(rt.alloc(), &[(b"04", 3, 3)])?;
-    let changes = [
-        Change::between(rt.alloc(), empty.bag(), first.bag())?,
-        Change::between(rt.alloc(), first.bag(), second.bag())?,
-        Change::between(rt.alloc(), second.bag(), third.bag())?,
-    ];
+    let mut store = store_of(rt.alloc(), COLLECTIONS[0])?;
+    let mut changes = Vec::new(rt.alloc());
+    for pairs in COLLECTIONS {
+        let next = store_of(rt.alloc(), pairs)?;
+        let change = Change::between(rt.alloc(), store.bag(), next.bag())?;
+        if !change.entries().is_empty() {
+            changes.push(change)?;
+        }
+        store = next;
+    }
     let mut sink = KeepingSink::new(rt.alloc(), 3, 0, false);
     assert_eq!(rt; write_journal(&changes, &mut sink), Ok(()));
-    let text =
-        b"s2ix-journal 1\nchange 1\n04 9 0 2\nchange 1\n04 3 0 1\nchange 2\n04 3 1 3\n04 9 2 0\nend 3\n";
-    assert_eq!(rt; sink.kept(), text.as_slice());
+    assert_eq!(rt; sink.kept(), JOURNAL);
     Ok(())
 }
 
