@@ -1,4 +1,4 @@
-// Journals by their call, with no script.
+// Journals by their call, with no script. Their sinks fail at a flush: writers leave it to their caller.
 use crate::samples::store_of;
 use s2ix_bag::Change;
 use s2ix_io::{KeepingSink, Sink, WriteFault};
@@ -29,15 +29,16 @@ fn a_journal_lists_the_changes_from_the_oldest(rt: HostRuntime) -> Result<(), Fa
         }
         store = next;
     }
-    let mut sink = KeepingSink::new(rt.alloc(), 3, 0, false);
+    let mut sink = KeepingSink::new(rt.alloc(), 3, 0, true);
     assert_eq!(rt; write_journal(&changes, &mut sink), Ok(()));
     assert_eq!(rt; sink.kept(), JOURNAL);
+    assert_eq!(rt; sink.faults(), 0);
     Ok(())
 }
 
 #[test]
 fn a_journal_of_no_change_has_two_lines(rt: HostRuntime) {
-    let mut sink = KeepingSink::new(rt.alloc(), 9, 0, false);
+    let mut sink = KeepingSink::new(rt.alloc(), 9, 0, true);
     assert_eq!(rt; write_journal(&[], &mut sink), Ok(()));
     assert_eq!(rt; sink.kept(), b"s2ix-journal 1\nend 0\n".as_slice());
 }

@@ -1,4 +1,4 @@
-// Lists of pairs, labels and entries, contents of leaves and ranges of tables, by their calls with no script.
+// Lists of pairs, labels and entries, contents of leaves and ranges of tables, by their calls with no script. Their sinks fail at a flush: writers leave it to their caller.
 use crate::samples::{pair_of, store_of};
 use s2id_core::CellId;
 use s2ix_bag::{Entry, Held, Label};
@@ -13,7 +13,7 @@ const NESTED: [(&[u8], u32, u32); 2] = [(b"1", 7, 1), (b"04", 9, 2)];
 fn a_list_has_its_items_and_their_number(rt: HostRuntime) -> Result<(), Fail> {
     let inner = pair_of(b"04", 9)?;
     let outer = pair_of(b"1", 7)?;
-    let mut sink = KeepingSink::new(rt.alloc(), 3, 0, false);
+    let mut sink = KeepingSink::new(rt.alloc(), 3, 0, true);
     let pairs = [
         Held {
             pair: inner,
@@ -36,23 +36,26 @@ fn a_list_has_its_items_and_their_number(rt: HostRuntime) -> Result<(), Fail> {
         sink.kept(),
         b"04:9:2\n1:7:1\nend 2\n7\n9\nend 2\n04 9 2 0\nend 1\n".as_slice()
     );
+    assert_eq!(rt; sink.faults(), 0);
     Ok(())
 }
 
 #[test]
 fn an_item_is_a_line(rt: HostRuntime) -> Result<(), Fail> {
-    let mut sink = KeepingSink::new(rt.alloc(), 9, 0, false);
+    let mut sink = KeepingSink::new(rt.alloc(), 9, 0, true);
     assert_eq!(rt; pair_of(b"04", 9)?.label.write_line(&mut sink), Ok(()));
     assert_eq!(rt; sink.kept(), b"9\n".as_slice());
+    assert_eq!(rt; sink.faults(), 0);
     Ok(())
 }
 
 #[test]
 fn an_empty_list_is_its_end(rt: HostRuntime) -> Result<(), Fail> {
-    let mut sink = KeepingSink::new(rt.alloc(), 9, 0, false);
+    let mut sink = KeepingSink::new(rt.alloc(), 9, 0, true);
     let none: [Label; 0] = [];
     assert_eq!(rt; write_list(&none, &mut sink), Ok(()));
     assert_eq!(rt; sink.kept(), b"end 0\n".as_slice());
+    assert_eq!(rt; sink.faults(), 0);
     Ok(())
 }
 
@@ -61,7 +64,7 @@ fn tables_are_written(rt: HostRuntime) -> Result<(), Fail> {
     let store = store_of(rt.alloc(), &NESTED)?;
     let leaf = CellId::from_token(b"0000000000000001")?;
     assert!(rt; leaf.is_leaf());
-    let mut sink = KeepingSink::new(rt.alloc(), 5, 0, false);
+    let mut sink = KeepingSink::new(rt.alloc(), 5, 0, true);
     assert_eq!(rt; write_contents(store.table(), leaf, &mut sink), Ok(()));
     assert_eq!(rt; write_ranges(store.table(), &mut sink), Ok(()));
     assert_eq!(rt;
@@ -73,6 +76,7 @@ fn tables_are_written(rt: HostRuntime) -> Result<(), Fail> {
           end 3\n"
             .as_slice()
     );
+    assert_eq!(rt; sink.faults(), 0);
     Ok(())
 }
 
