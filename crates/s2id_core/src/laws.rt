@@ -47,7 +47,7 @@ pub fn one_canonical_text()
         → (IsCanonicalText text ↔ (text ≡ canonical_token n)) }
 {}
 
-/// Cells are compared by their numbers: in order, by `<` and its kin, and for equality.
+/// Cells are compared by their numbers: in order, by `partial_cmp`, which `<` and its kin ask, and for equality.
 pub fn cells_compare_by_number()
     ensures order { (a b : CellId) → ⟦<CellId as Ord>⟧.cmp a b ≡ nat_cmp (raw_of a) (raw_of b) }
     ensures less { (a b : CellId)
@@ -55,8 +55,9 @@ pub fn cells_compare_by_number()
     ensures equal { (a b : CellId) → ⟦<CellId as PartialEq>⟧.eq a b ≡ (raw_of a == raw_of b) }
 {}
 
-/// `LEAF_END` is the leaf number that would come next after that of the last leaf, which is the last of face 5.
+/// `LEAF_END` is the leaf number that would come next after that of the last leaf, which is the last of face 5. No cell has it.
 pub fn leaf_end_follows_last_leaf()
     ensures next { LEAF_END ≡ number_of (last_leaf (record { face = 5; digits = [] })) + 2 }
     ensures value { LEAF_END ≡ 6 * 2 ^ 61 + 1 }
+    ensures none { IsCellNumber LEAF_END → ⊥ }
 {}
