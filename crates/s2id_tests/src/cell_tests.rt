@@ -47,6 +47,7 @@ fn span_of_a_child(rt: HostRuntime) -> Result<(), Fail> {
 #[test]
 fn places_along_the_curve(rt: HostRuntime) -> Result<(), Fail> {
     let cell = CellId::from_token(b"1d")?;
+    assert_eq!(rt; cell.level(), 2);
     assert_eq!(rt; cell.place_at(2), 14);
     assert_eq!(rt; cell.place_at(1), 3);
     assert_eq!(rt; CellId::at_place(2, 14), cell);
