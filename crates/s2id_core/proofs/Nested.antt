@@ -1,4 +1,4 @@
--- Runs of cell numbers: what crates above need of cells, with no power in sight.
+-- Spans of cell numbers: what crates above need of cells, with no power in sight.
 use Rattle.std.proofs.Common.{◌≡◌, ◌↔◌, ℕ, ◌+◌, ◌-◌, ◌*◌, ◌/◌, ◌%◌, suc, ◌^◌, ◌<◌, ◌≤◌, ◌⊎◌, inl, inr, Bool, IsTrue, length, sym, ◌∙◌, ap, arith}
 use Rattle.std.proofs.lemmas.Bool.{cases_lt}
 use Rattle.s2id_core.specs.Path.{Path, number_of, place_of, path_at, first_leaf, last_leaf}
@@ -9,17 +9,17 @@ use Rattle.s2id_core.proofs.Powers.{four_pos, four_step, width_split, none_insid
 use Rattle.s2id_core.proofs.Places.{number_by_place, length-last_digits}
 use Rattle.s2id_core.proofs.Numbers.{path_of_cell, number-path_at, path_of_place, path_by_place}
 use Rattle.s2id_core.proofs.Levels.{below_from_within, same_place}
-use Rattle.s2id_core.proofs.Spans.{width, start, start_below, within_from_run, run_from_within, finer_within, nested_from_crossing, leaf_of_first, leaf_of_last, place_of-first_leaf, place_of-last_leaf, number_of_leaf, place_from_leaf, leaf_from_place, leaves_iff_within, overlap_from_within, nested_from_overlap}
+use Rattle.s2id_core.proofs.Spans.{width, start, start_below, within_from_span, span_from_within, finer_within, nested_from_crossing, leaf_of_first, leaf_of_last, place_of-first_leaf, place_of-last_leaf, number_of_leaf, place_from_leaf, leaf_from_place, leaves_iff_within, overlap_from_within, nested_from_overlap}
 
--- a cell's number, and its run, by its place
-pub record Run (n : ℕ) : Type 0 where
+-- a cell's number, and its span, by its place
+pub record ByWidth (n : ℕ) : Type 0 where
   pub number : n ≡ 2 * start (path_at n) + width (path_at n)
   pub first : first_at n ≡ 2 * start (path_at n) + 1
   pub last : end_at n ≡ 2 * start (path_at n) + 2 * width (path_at n) + 1
 
-pub run : (n : ℕ) → IsCellNumber n → Run n
+pub by_width : (n : ℕ) → IsCellNumber n → ByWidth n
 unfolding first_at end_at
-run n cell =
+by_width n cell =
     let p = path_at n in
     let path = path_of_cell n cell in
     let first = number_of_leaf (first_leaf p) (leaf_of_first p path).deep in
@@ -36,21 +36,21 @@ run n cell =
     turn m w = omega arith
 
 pub first_by_width : (n : ℕ) → IsCellNumber n → first_at n + 4 ^ (30 - length (path_at n).digits) ≡ n + 1
-first_by_width n cell = let number = (run n cell).number in let first = (run n cell).first in omega arith
+first_by_width n cell = let number = (by_width n cell).number in let first = (by_width n cell).first in omega arith
 
 pub end_by_width : (n : ℕ) → IsCellNumber n → end_at n ≡ n + 4 ^ (30 - length (path_at n).digits) + 1
-end_by_width n cell = let number = (run n cell).number in let last = (run n cell).last in omega arith
+end_by_width n cell = let number = (by_width n cell).number in let last = (by_width n cell).last in omega arith
 
--- a leaf's run is its own number
+-- a leaf's span is its own number
 pub leaf_span : (n : ℕ) → IsCellNumber n → length (path_at n).digits ≡ 30 → (first_at n ≡ n) × (end_at n ≡ n + 2)
 leaf_span n cell deep =
     let one : width (path_at n) ≡ 4 ^ 0 = ap (λ x. 4 ^ x) (let e : 30 - length (path_at n).digits ≡ 0 = omega arith in e) in
-    let number = (run n cell).number in
-    let first = (run n cell).first in
-    let last = (run n cell).last in
+    let number = (by_width n cell).number in
+    let first = (by_width n cell).first in
+    let last = (by_width n cell).last in
     (omega arith, omega arith)
 
--- what a run is: it begins and ends at odd numbers, lies between 1 and `LEAF_END`, and has the cell's number in its middle
+-- what a span is: it begins and ends at odd numbers, lies between 1 and `LEAF_END`, and has the cell's number in its middle
 pub record IsSpan (n : ℕ) : Type 0 where
   pub begins : 1 ≤ first_at n
   pub odd : first_at n % 2 ≡ 1
@@ -62,7 +62,7 @@ pub record IsSpan (n : ℕ) : Type 0 where
 
 pub span : (n : ℕ) → IsCellNumber n → IsSpan n
 span n cell =
-    let r = run n cell in
+    let r = by_width n cell in
     let number = r.number in
     let first = r.first in
     let last = r.last in
@@ -82,37 +82,37 @@ span n cell =
 
 pub within_from_nested : (a b : ℕ) → IsCellNumber a → IsCellNumber b → IsNested a b → IsWithin (path_at a) (path_at b)
 within_from_nested a b cell_a cell_b h =
-    let ra = run a cell_a in
-    let rb = run b cell_b in
+    let ra = by_width a cell_a in
+    let rb = by_width b cell_b in
     let from = h.from in
     let to = h.to in
     let e1 = ra.first in
     let e2 = ra.last in
     let e3 = rb.first in
     let e4 = rb.last in
-    within_from_run (path_at a) (path_at b) (path_of_cell a cell_a) (path_of_cell b cell_b) (omega arith) (omega arith)
+    within_from_span (path_at a) (path_at b) (path_of_cell a cell_a) (path_of_cell b cell_b) (omega arith) (omega arith)
 
 pub nested_from_within : (a b : ℕ) → IsCellNumber a → IsCellNumber b → IsWithin (path_at a) (path_at b) → IsNested a b
 nested_from_within a b cell_a cell_b w =
-    let inside = run_from_within (path_at a) (path_at b) (path_of_cell a cell_a) (path_of_cell b cell_b) w in
+    let inside = span_from_within (path_at a) (path_at b) (path_of_cell a cell_a) (path_of_cell b cell_b) w in
     let from = inside.0 in
     let to = inside.1 in
-    let e1 = (run a cell_a).first in
-    let e2 = (run a cell_a).last in
-    let e3 = (run b cell_b).first in
-    let e4 = (run b cell_b).last in
+    let e1 = (by_width a cell_a).first in
+    let e2 = (by_width a cell_a).last in
+    let e3 = (by_width b cell_b).first in
+    let e4 = (by_width b cell_b).last in
     record { from = omega arith; to = omega arith }
 
--- of two cells whose runs cross, one is nested in the other
+-- of two cells whose spans cross, one is nested in the other
 pub nested_from_crossing_spans : (a b : ℕ) → IsCellNumber a → IsCellNumber b → first_at a < end_at b → first_at b < end_at a → IsNested a b ⊎ IsNested b a
 nested_from_crossing_spans a b cell_a cell_b low high =
-    let e1 = (run a cell_a).first in
-    let e2 = (run a cell_a).last in
-    let e3 = (run b cell_b).first in
-    let e4 = (run b cell_b).last in
+    let e1 = (by_width a cell_a).first in
+    let e2 = (by_width a cell_a).last in
+    let e3 = (by_width b cell_b).first in
+    let e4 = (by_width b cell_b).last in
     elim (nested_from_crossing (path_at a) (path_at b) (path_of_cell a cell_a) (path_of_cell b cell_b) (omega arith) (omega arith)) [ inl w ↦ inl (nested_from_within a b cell_a cell_b w) | inr w ↦ inr (nested_from_within b a cell_b cell_a w) ]
 
--- cells with one run are one
+-- cells with one span are one
 pub same_span : (a b : ℕ) → IsCellNumber a → IsCellNumber b → first_at a ≡ first_at b → end_at a ≡ end_at b → a ≡ b
 same_span a b cell_a cell_b e f =
     let m = (span a cell_a).middle in
@@ -126,10 +126,10 @@ level_from_nested a b cell_a cell_b h = (below_from_within (path_at a) (path_at 
 -- of two cells that cross, the one of the finer level, or of the same, is nested in the other
 pub nested_by_level : (a b : ℕ) → IsCellNumber a → IsCellNumber b → first_at a < end_at b → first_at b < end_at a → length (path_at b).digits ≤ length (path_at a).digits → IsNested a b
 nested_by_level a b cell_a cell_b low high level =
-    let e1 = (run a cell_a).first in
-    let e2 = (run a cell_a).last in
-    let e3 = (run b cell_b).first in
-    let e4 = (run b cell_b).last in
+    let e1 = (by_width a cell_a).first in
+    let e2 = (by_width a cell_a).last in
+    let e3 = (by_width b cell_b).first in
+    let e4 = (by_width b cell_b).last in
     nested_from_within a b cell_a cell_b (finer_within (path_at a) (path_at b) (path_of_cell a cell_a) (path_of_cell b cell_b) level (omega arith) (omega arith))
 
 pub same_from_level : (a b : ℕ) → IsCellNumber a → IsCellNumber b → IsNested a b → length (path_at a).digits ≡ length (path_at b).digits → a ≡ b
@@ -137,32 +137,32 @@ same_from_level a b cell_a cell_b h level =
     let from = h.from in
     let to = h.to in
     let wide : width (path_at a) ≡ width (path_at b) = ap (λ x. 4 ^ (30 - x)) level in
-    let e1 = (run a cell_a).first in
-    let e2 = (run a cell_a).last in
-    let e3 = (run b cell_b).first in
-    let e4 = (run b cell_b).last in
-    let n1 = (run a cell_a).number in
-    let n2 = (run b cell_b).number in
+    let e1 = (by_width a cell_a).first in
+    let e2 = (by_width a cell_a).last in
+    let e3 = (by_width b cell_b).first in
+    let e4 = (by_width b cell_b).last in
+    let n1 = (by_width a cell_a).number in
+    let n2 = (by_width b cell_b).number in
     omega arith
 
 -- ---- leaves
 
--- the leaves of a cell are the odd numbers of its run
+-- the leaves of a cell are the odd numbers of its span
 pub span_from_leaf : (l : Path) (n : ℕ) → IsCellNumber n → IsLeafOf l (path_at n) → (first_at n ≤ number_of l) × (number_of l < end_at n)
 span_from_leaf l n cell h =
     let at = place_from_leaf l (path_at n) (path_of_cell n cell) h in
     let from = at.0 in
     let to = at.1 in
     let number = number_of_leaf l h.deep in
-    let first = (run n cell).first in
-    let last = (run n cell).last in
+    let first = (by_width n cell).first in
+    let last = (by_width n cell).last in
     (omega arith, omega arith)
 
 pub leaf_from_span : (l : Path) (n : ℕ) → IsCellNumber n → IsLeafPath l → first_at n ≤ number_of l → number_of l < end_at n → IsLeafOf l (path_at n)
 leaf_from_span l n cell deep from to =
     let number = number_of_leaf l deep in
-    let first = (run n cell).first in
-    let last = (run n cell).last in
+    let first = (by_width n cell).first in
+    let last = (by_width n cell).last in
     leaf_from_place l (path_at n) (path_of_cell n cell) deep (omega arith) (omega arith)
 
 -- each odd number below `LEAF_END` is a leaf's
@@ -174,7 +174,7 @@ leaf_of_odd n odd below =
     let path : path_at n ≡ path_of_place 30 (n / 2) = path_by_place (n / 2) 0 n (omega arith) whole in
     (cell, record { path = path_of_cell n cell; deep = ap (λ (p : Path). length p.digits) path ∙ length-last_digits 30 (n / 2) })
 
--- the middle of a coarser cell's run lies between two cells of a finer level
+-- the middle of a coarser cell's span lies between two cells of a finer level
 middle_between : (a b : ℕ) → IsCellNumber a → IsCellNumber b → length (path_at a).digits < length (path_at b).digits → first_at b ≤ a → a + 2 ≤ end_at b → ⊥
 middle_between a b cell_a cell_b level from to =
     let p = path_at a in
@@ -182,9 +182,9 @@ middle_between a b cell_a cell_b level from to =
     let j = length q.digits - length p.digits - 1 in
     let most = (path_of_cell b cell_b).at_most in
     let wide : width p ≡ 4 * (4 ^ j * width q) = width_split (length p.digits) (length q.digits) (omega arith) most ∙ ap (λ x. 4 ^ x * width q) (let e : length q.digits - length p.digits ≡ suc j = omega arith in e) ∙ ap (λ x. x * width q) (four_step j) ∙ turn (4 ^ j) (width q) in
-    let number : a ≡ 2 * ((2 * place_of p + 1) * (2 * 4 ^ j) * width q) = (run a cell_a).number ∙ ap (λ x. 2 * (place_of p * x) + x) wide ∙ regroup (place_of p) (4 ^ j) (width q) in
-    let first = (run b cell_b).first in
-    let last = (run b cell_b).last in
+    let number : a ≡ 2 * ((2 * place_of p + 1) * (2 * 4 ^ j) * width q) = (by_width a cell_a).number ∙ ap (λ x. 2 * (place_of p * x) + x) wide ∙ regroup (place_of p) (4 ^ j) (width q) in
+    let first = (by_width b cell_b).first in
+    let last = (by_width b cell_b).last in
     none_inside (place_of q) ((2 * place_of p + 1) * (2 * 4 ^ j)) (width q) (omega arith) (omega arith)
   where
     turn : (x w : ℕ) → 4 * x * w ≡ 4 * (x * w)
@@ -193,7 +193,7 @@ middle_between a b cell_a cell_b level from to =
     regroup : (m x w : ℕ) → 2 * (m * (4 * (x * w))) + 4 * (x * w) ≡ 2 * ((2 * m + 1) * (2 * x) * w)
     regroup m x w = omega arith
 
--- ---- what the code compares: the middle of one run against the ends of the other
+-- ---- what the code compares: the middle of one span against the ends of the other
 
 pub nested_from_middle : (a b : ℕ) → IsCellNumber a → IsCellNumber b → first_at b ≤ a → a + 2 ≤ end_at b → IsNested a b
 nested_from_middle a b cell_a cell_b from to =
@@ -265,10 +265,10 @@ crossing a b r cell_a cell_b by =
 -- ---- first and last leaves, as the code finds them
 
 pub first_place : (n : ℕ) → IsCellNumber n → first_at n ≡ 2 * start (path_at n) + 1
-first_place n cell = (run n cell).first
+first_place n cell = (by_width n cell).first
 
 pub last_place : (n : ℕ) → IsCellNumber n → end_at n ≡ 2 * (start (path_at n) + width (path_at n)) + 1
-last_place n cell = let last = (run n cell).last in omega arith
+last_place n cell = let last = (by_width n cell).last in omega arith
 
 pub leaf_at_first : (r n : ℕ) → IsCellNumber r → IsCellNumber n → length (path_at r).digits ≡ 30 → place_of (path_at r) ≡ start (path_at n) → path_at r ≡ first_leaf (path_at n)
 leaf_at_first r n cell_r cell_n deep place =

@@ -84,8 +84,8 @@ pub width_split : (j k : ℕ) → j ≤ k → k ≤ 30 → 4 ^ (30 - j) ≡ 4 ^ 
 width_split j k hj hk = ap (λ x. 4 ^ x) (let e : 30 - j ≡ k - j + (30 - k) = omega arith in e) ∙ four_add (k - j) (30 - k)
 
 -- place q has d places of width w in it, and place p is one of them
-pub run_inside : (q p d w v : ℕ) → v ≡ d * w → q * d ≤ p → p < q * d + d → (q * v ≤ p * w) × (p * w + w ≤ q * v + v)
-run_inside q p d w v e from to =
+pub span_inside : (q p d w v : ℕ) → v ≡ d * w → q * d ≤ p → p < q * d + d → (q * v ≤ p * w) × (p * w + w ≤ q * v + v)
+span_inside q p d w v e from to =
     let low : q * d * w ≤ p * w = mul-le-mul_right w from in
     let high : (p + 1) * w ≤ (q * d + d) * w = mul-le-mul_right w (omega arith) in
     let qv : q * v ≡ q * d * w = ap (λ x. q * x) e ∙ turn q d w in

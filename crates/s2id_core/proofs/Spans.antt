@@ -1,16 +1,16 @@
--- Cells as runs of leaves: nested where one lies within the other, and apart where neither does.
+-- Cells as spans of leaves: nested where one lies within the other, and apart where neither does.
 use Rattle.std.proofs.Common.{◌≡◌, ◌↔◌, ℕ, ◌+◌, ◌-◌, ◌*◌, ◌^◌, ◌<◌, ◌≤◌, ◌⊎◌, inl, inr, ◌++◌, length, replicate, sym, ◌∙◌, ap, ap₂, refl, arith}
 use Rattle.std.proofs.lemmas.Bool.{cases_lt}
 use Rattle.std.proofs.lemmas.List.{length-append, length-replicate, take_at}
 use Rattle.std.proofs.lemmas.List.Elements.{All-append, All-replicate}
 use Rattle.s2id_core.specs.Path.{Path, IsPath, number_of, place_of, ancestor, first_leaf, last_leaf}
 use Rattle.s2id_core.specs.Leaves.{IsLeafPath, IsLeafOf, IsWithin, HasLeavesWithin, Overlap}
-use Rattle.s2id_core.proofs.Powers.{four_pos, four_split, level_from_width, width_split, run_inside, inside_from_crossing}
+use Rattle.s2id_core.proofs.Powers.{four_pos, four_split, level_from_width, width_split, span_inside, inside_from_crossing}
 use Rattle.s2id_core.proofs.Places.{number_by_place}
 use Rattle.s2id_core.proofs.Numbers.{place_below}
 use Rattle.s2id_core.proofs.Levels.{base_four-zeros, base_four-threes, place_of-more, ancestor-ancestor, below_from_within, within_from_below}
 
--- ---- a path's run, counted in leaves
+-- ---- a path's span, counted in leaves
 
 abbrev pub width : Path → ℕ
 width p = 4 ^ (30 - length p.digits)
@@ -21,7 +21,7 @@ start p = place_of p * width p
 pub start_below : (p : Path) → IsPath p → start p + width p ≤ 6 * 4 ^ 30
 start_below p h =
     let k = length p.digits in
-    let most = run_inside 0 (place_of p) (6 * 4 ^ k) (width p) (6 * 4 ^ 30) (whole k h.at_most) (omega arith) (let m = place_below p h in omega arith) in
+    let most = span_inside 0 (place_of p) (6 * 4 ^ k) (width p) (6 * 4 ^ 30) (whole k h.at_most) (omega arith) (let m = place_below p h in omega arith) in
     omega (arith, most.1)
   where
     turn : (a b : ℕ) → 6 * (a * b) ≡ 6 * a * b
@@ -32,24 +32,24 @@ start_below p h =
 
 -- ---- within, and crossing
 
-pub within_from_run : (p q : Path) → IsPath p → IsPath q → start q ≤ start p → start p + width p ≤ start q + width q → IsWithin p q
-within_from_run p q hp hq from to =
+pub within_from_span : (p q : Path) → IsPath p → IsPath q → start q ≤ start p → start p + width p ≤ start q + width q → IsWithin p q
+within_from_span p q hp hq from to =
     let pos = four_pos (30 - length p.digits) in
     let level = level_from_width (length q.digits) (length p.digits) hq.at_most hp.at_most (omega arith) in
     let at = inside_from_crossing (place_of q) (place_of p) (4 ^ (length p.digits - length q.digits)) (width p) (width q) (width_split (length q.digits) (length p.digits) level hp.at_most) (omega arith) (omega arith) in
     within_from_below p q hp hq (record { level = level; from = at.0; to = at.1 })
 
-pub run_from_within : (p q : Path) → IsPath p → IsPath q → IsWithin p q → (start q ≤ start p) × (start p + width p ≤ start q + width q)
-run_from_within p q hp hq w =
+pub span_from_within : (p q : Path) → IsPath p → IsPath q → IsWithin p q → (start q ≤ start p) × (start p + width p ≤ start q + width q)
+span_from_within p q hp hq w =
     let b = below_from_within p q hp w in
-    run_inside (place_of q) (place_of p) (4 ^ (length p.digits - length q.digits)) (width p) (width q) (width_split (length q.digits) (length p.digits) b.level hp.at_most) b.from b.to
+    span_inside (place_of q) (place_of p) (4 ^ (length p.digits - length q.digits)) (width p) (width q) (width_split (length q.digits) (length p.digits) b.level hp.at_most) b.from b.to
 
 pub finer_within : (p q : Path) → IsPath p → IsPath q → length q.digits ≤ length p.digits → start p < start q + width q → start q < start p + width p → IsWithin p q
 finer_within p q hp hq level low high =
     let at = inside_from_crossing (place_of q) (place_of p) (4 ^ (length p.digits - length q.digits)) (width p) (width q) (width_split (length q.digits) (length p.digits) level hp.at_most) low high in
     within_from_below p q hp hq (record { level = level; from = at.0; to = at.1 })
 
--- of two cells whose runs cross, one lies within the other
+-- of two cells whose spans cross, one lies within the other
 pub nested_from_crossing : (p q : Path) → IsPath p → IsPath q → start p < start q + width q → start q < start p + width p → IsWithin p q ⊎ IsWithin q p
 nested_from_crossing p q hp hq low high =
     elim (cases_lt (length p.digits) (length q.digits)) [ inl h ↦ inr (finer_within q p hq hp (omega arith) high low) | inr h ↦ inl (finer_within p q hp hq h low high) ]
@@ -93,7 +93,7 @@ place_of-last_leaf p =
     let long = ap (λ x. place_of p * 4 ^ x) (length-replicate {A = ℕ} k 3) in
     omega arith
 
--- a leaf's number, and its run of one
+-- a leaf's number, and its span of one
 pub number_of_leaf : (l : Path) → IsLeafPath l → number_of l ≡ 2 * place_of l + 1
 number_of_leaf l h =
     let deep = h.deep in
@@ -105,21 +105,21 @@ width_of_leaf l h = let deep = h.deep in ap (λ x. 4 ^ x) (let e : 30 - length l
 start_of_leaf : (l : Path) → IsLeafPath l → start l ≡ place_of l
 start_of_leaf l h = ap (λ x. place_of l * x) (width_of_leaf l h) ∙ (let e : place_of l * 1 ≡ place_of l = omega arith in e)
 
--- the leaves of a cell are those whose places lie in its run
+-- the leaves of a cell are those whose places lie in its span
 pub place_from_leaf : (l p : Path) → IsPath p → IsLeafOf l p → (start p ≤ place_of l) × (place_of l < start p + width p)
 place_from_leaf l p hp h =
-    let run = run_from_within l p h.deep.path hp h.within in
+    let ends = span_from_within l p h.deep.path hp h.within in
     let one = width_of_leaf l h.deep in
     let at = start_of_leaf l h.deep in
-    let from = run.0 in
-    let to = run.1 in
+    let from = ends.0 in
+    let to = ends.1 in
     (omega arith, omega arith)
 
 pub leaf_from_place : (l p : Path) → IsPath p → IsLeafPath l → start p ≤ place_of l → place_of l < start p + width p → IsLeafOf l p
 leaf_from_place l p hp deep from to =
     let one = width_of_leaf l deep in
     let at = start_of_leaf l deep in
-    record { deep = deep; within = within_from_run l p deep.path hp (omega arith) (omega arith) }
+    record { deep = deep; within = within_from_span l p deep.path hp (omega arith) (omega arith) }
 
 -- ---- containing and overlapping, by leaves
 
@@ -137,7 +137,7 @@ within_from_leaves p q hp hq leaves =
     let at_last = place_of-last_leaf p in
     let from = first.0 in
     let to = last.1 in
-    within_from_run p q hp hq (omega arith) (omega arith)
+    within_from_span p q hp hq (omega arith) (omega arith)
 
 pub leaves_iff_within : (p q : Path) → IsPath p → IsPath q → HasLeavesWithin p q ↔ IsWithin p q
 leaves_iff_within p q hp hq =

@@ -1,4 +1,4 @@
--- A cell as a run of leaf numbers, which are odd: from that of its first leaf up to, and without, an end.
+-- A cell as a span of leaf numbers, which are odd: from that of its first leaf up to, and without, an end.
 use Rattle.std.specs.Prelude.{ℕ, ◌+◌, ◌≤◌}
 use Rattle.s2id_core.specs.Path.{number_of, path_at, first_leaf, last_leaf}
 
@@ -14,7 +14,7 @@ end_at n = number_of (last_leaf (path_at n)) + 2
 abbrev pub leaf_end : ℕ
 leaf_end = 13835058055282163713
 
--- the run of one cell's number lies in that of another's
+-- the span of one cell's number lies in that of another's
 pub record IsNested (inner outer : ℕ) : Type 0 where
   pub from : first_at outer ≤ first_at inner
   pub to : end_at inner ≤ end_at outer

@@ -1,4 +1,4 @@
-// Cells as runs of leaves.
+// Cells as spans of leaves.
 
 ghost use Rattle.std.specs.Prelude.{◌≡◌, ◌↔◌, ◌+◌, ◌*◌, ◌^◌, ◌<◌, ◌≤◌, ◌⊎◌, IsTrue};
 
@@ -53,7 +53,7 @@ impl CellId {
     /// Whether the two cells share a leaf: then one contains the other (S2's `intersects()`).
     pub fn intersects(self, other: CellId) -> bool
         ensures leaves { IsTrue result ↔ Overlap (path_of self) (path_of other) }
-        ensures runs { IsTrue result
+        ensures spans { IsTrue result
             ↔ ((first_of self < end_of other) × (first_of other < end_of self)) }
         ensures nested { IsTrue result
             ↔ (IsNested (raw_of other) (raw_of self) ⊎ IsNested (raw_of self) (raw_of other)) }

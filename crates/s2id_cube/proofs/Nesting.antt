@@ -126,15 +126,15 @@ cell_of_square k f i j most hf hi hj =
     let same : square_of p ≡ square_at k r.place = square_of_place p path ∙ ap₂ square_at long (place_at_place k r.place n most refl) in
     record { path = p; is_path = path; long = long; square = subst (λ t. IsAt t f i j) (sym same) r.square }
 
--- ---- quotients and runs of columns
+-- ---- quotients and bounds of columns
 
-pub run_from_quotient : (w x a : ℕ) → 0 < w → x / w ≡ a → (a * w ≤ x) × (x < a * w + w)
-run_from_quotient w x a pos e =
+pub bounds_from_quotient : (w x a : ℕ) → 0 < w → x / w ≡ a → (a * w ≤ x) × (x < a * w + w)
+bounds_from_quotient w x a pos e =
     let split = div-add-mod' x w in
     let rest = mod_below x w pos in
     let same = ap (λ y. y * w) e in
     (omega arith, omega arith)
 
-pub quotient_from_run : (w x a : ℕ) → a * w ≤ x → x < a * w + w → x / w ≡ a
-quotient_from_run w x a from to =
+pub quotient_from_bounds : (w x a : ℕ) → a * w ≤ x → x < a * w + w → x / w ≡ a
+quotient_from_bounds w x a from to =
     ap (λ y. y / w) (let e : x ≡ a * w + (x - a * w) = omega arith in e) ∙ div-mul-add a w (x - a * w) (omega arith)

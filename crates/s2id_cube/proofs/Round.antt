@@ -12,7 +12,7 @@ use Rattle.s2id_cube.specs.Grid.{IsBeside, column_on, row_on}
 use Rattle.s2id_cube.specs.Border.{IsOnBorder, IsOverAt, IsOverSides}
 use Rattle.s2id_cube.proofs.Beside.{beside_moved}
 use Rattle.s2id_cube.proofs.Shared.{IsSquare-square_of, one_path, square_facts, shares_from_beside, at_side_second}
-use Rattle.s2id_cube.proofs.Nesting.{nested_path, within_of_square, cell_of_square, run_from_quotient, quotient_from_run}
+use Rattle.s2id_cube.proofs.Nesting.{nested_path, within_of_square, cell_of_square, bounds_from_quotient, quotient_from_bounds}
 use Rattle.s2id_cube.proofs.Perimeter.{InBlock, along_in_block, same_beside, over_is_outside, outside_is_over}
 
 -- ---- cells within a cell
@@ -27,8 +27,8 @@ block_fits i k d h =
 in_block : (p q : Path) (d : ℕ) → IsPath q → length q.digits ≡ length p.digits + d → IsWithin q p → let s = square_of p in let t = square_of q in (t.face ≡ s.face) × InBlock (s.i * 2 ^ d) (s.j * 2 ^ d) (2 ^ d) t.i t.j
 in_block p q d hq long within =
     let h = nested_path p q d hq long within in
-    let column = run_from_quotient (2 ^ d) (square_of q).i (square_of p).i (pow_pos d) h.column in
-    let row = run_from_quotient (2 ^ d) (square_of q).j (square_of p).j (pow_pos d) h.row in
+    let column = bounds_from_quotient (2 ^ d) (square_of q).i (square_of p).i (pow_pos d) h.column in
+    let row = bounds_from_quotient (2 ^ d) (square_of q).j (square_of p).j (pow_pos d) h.row in
     (h.face, record { left = column.0; right = column.1; down = row.0; up = row.1 })
 
 within_block : (p q : Path) (d : ℕ) → IsPath p → IsPath q → length q.digits ≡ length p.digits + d → let s = square_of p in let t = square_of q in t.face ≡ s.face → InBlock (s.i * 2 ^ d) (s.j * 2 ^ d) (2 ^ d) t.i t.j → IsWithin q p
@@ -36,8 +36,8 @@ within_block p q d hp hq long face k =
     within_of_square p q d hp hq long
     (record {
       face = face;
-      column = quotient_from_run (2 ^ d) (square_of q).i (square_of p).i k.left k.right;
-      row = quotient_from_run (2 ^ d) (square_of q).j (square_of p).j k.down k.up;
+      column = quotient_from_bounds (2 ^ d) (square_of q).i (square_of p).i k.left k.right;
+      row = quotient_from_bounds (2 ^ d) (square_of q).j (square_of p).j k.down k.up;
     })
 
 within_from_overlap : (p q : Path) → IsPath p → IsPath q → length p.digits ≤ length q.digits → Overlap p q → IsWithin q p

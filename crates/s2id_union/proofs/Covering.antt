@@ -8,7 +8,7 @@ use Rattle.s2id_core.proofs.Nested.{span, span_from_leaf, leaf_from_span}
 use Rattle.std.proofs.lemmas.List.Elements.{Contains-append_left, Contains-push, Contains-push_cases}
 use Rattle.s2id_union.specs.Region.{InRegion}
 use Rattle.s2id_union.specs.Covers.{Covers}
-use Rattle.s2id_union.specs.Loops.{InRun}
+use Rattle.s2id_union.specs.Loops.{InSpan}
 use Rattle.s2id_union.proofs.Lists.{none_in_nil}
 
 pub region_from_covers : (cells : List CellId) (l : Path) → IsLeafPath l → Covers cells (number_of l) → InRegion cells l
@@ -42,17 +42,17 @@ pub covers_push_right : (cells : List CellId) (c : CellId) (q : ℕ) → first_o
 covers_push_right cells c q from to =
     record { cell = c; held = Contains-push cells c; from = from; to = to }
 
-pub covers_push_cases : (cells : List CellId) (c : CellId) (q : ℕ) → Covers (cells ++ c ∷ []) q → Covers cells q ⊎ InRun (first_of c) (end_of c) q
+pub covers_push_cases : (cells : List CellId) (c : CellId) (q : ℕ) → Covers (cells ++ c ∷ []) q → Covers cells q ⊎ InSpan (first_of c) (end_of c) q
 covers_push_cases cells c q h =
     let from = h.from in
     let to = h.to in
     elim (Contains-push_cases cells c h.cell h.held) [
       | inl held ↦ inl (record { cell = h.cell; held = held; from = from; to = to })
-      | inr e ↦ inr (run e from to)
+      | inr e ↦ inr (in_span e from to)
     ]
   where
-    run : {d : CellId} → c ≡ d → first_of d ≤ q → q < end_of d → InRun (first_of c) (end_of c) q
-    run {d} e from to = record {
+    in_span : {d : CellId} → c ≡ d → first_of d ≤ q → q < end_of d → InSpan (first_of c) (end_of c) q
+    in_span {d} e from to = record {
       from = subst (λ (x : CellId). first_of x ≤ q) (sym e) from;
       to = subst (λ (x : CellId). q < end_of x) (sym e) to;
     }

@@ -62,14 +62,14 @@ pub swept_form : (o : Operation) (as_first as_second xs ys cells : List CellId) 
 swept_form o as_first as_second xs ys cells e f normal h =
     subst (λ x. cells ≡ cells_where (λ q. keeps_both o (is_covered x q) (is_covered as_second q))) e (subst (λ y. cells ≡ cells_where (λ q. keeps_both o (is_covered xs q) (is_covered y q))) f (operation_form o xs ys cells normal h))
 
--- ---- a run of leaves
+-- ---- a span of leaves
 
-pub run_form : (old cells : List CellId) (start limit : ℕ) → old ≡ [] → IsAdded old cells start limit → cells ≡ cells_where (λ q. nat_le start q && nat_lt q limit)
-run_form old cells start limit none h =
+pub span_form : (old cells : List CellId) (start limit : ℕ) → old ≡ [] → IsAdded old cells start limit → cells ≡ cells_where (λ q. nat_le start q && nat_lt q limit)
+span_form old cells start limit none h =
     form_by_test cells (λ q. nat_le start q && nat_lt q limit) (normal_from_added old cells start limit h) (λ q. (
       λ c. elim ((h.covers q).0 c) [
         | inl before ↦ absurd (covers_nil q (subst (λ xs. Covers xs q) none before))
-        | inr run ↦ and_from (nat_le start q) (nat_lt q limit) (le-leb start q run.from) (lt-ltb q limit run.to)
+        | inr span ↦ and_from (nat_le start q) (nat_lt q limit) (le-leb start q span.from) (lt-ltb q limit span.to)
       ],
       λ e.
           let both = and_parts (nat_le start q) (nat_lt q limit) e in

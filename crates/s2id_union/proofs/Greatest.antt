@@ -1,4 +1,4 @@
--- The greatest cell of a run of leaves, by zeros and width.
+-- The greatest cell of a span of leaves, by zeros and width.
 use Rattle.std.proofs.Common.{◌≡◌, ℕ, zero, suc, ◌+◌, ◌-◌, ◌*◌, ◌/◌, ◌%◌, ◌^◌, ◌<◌, ◌≤◌, inl, inr, length, sym, ◌∙◌, ap, refl, arith, subst}
 use Rattle.std.specs.Int.{w64, trailing_zeros}
 use Rattle.std.specs.Int.Count.{count_trailing_zeros}
@@ -13,7 +13,7 @@ use Rattle.s2id_core.proofs.Zeros.{odd_part}
 use Rattle.s2id_core.proofs.Places.{length-last_digits}
 use Rattle.s2id_core.proofs.Numbers.{number-path_at, path_by_place}
 use Rattle.s2id_core.proofs.Spans.{width, start}
-use Rattle.s2id_core.proofs.Nested.{run}
+use Rattle.s2id_core.proofs.Nested.{by_width}
 use Rattle.s2id_union.specs.Loops.{IsGreatest, IsLeast}
 use lib.Count.{under}
 
@@ -72,7 +72,7 @@ placed m h n le below e =
     let long : length (path_at n).digits ≡ 30 - h = ap (λ (p : Path). length p.digits) (path_by_place m h n le e) ∙ length-last_digits (30 - h) m in
     let split : n ≡ 2 * (m * 4 ^ h) + 4 ^ h = e ∙ spread m (4 ^ h) in
     let cell : IsCellNumber n = (below, omega arith, number) in
-    let r = run n cell in
+    let r = by_width n cell in
     let w : width (path_at n) ≡ 4 ^ h = ap (λ x. 4 ^ x) (let f : 30 - length (path_at n).digits ≡ h = omega arith in f) in
     let a = r.number in
     let b = r.first in
@@ -85,7 +85,7 @@ placed m h n le below e =
 -- the level of any cell that begins here and fits
 fits : (at limit zeros wide : ℕ) → at < limit → zeros ≡ trailing_zeros w64 (at - 1) → limit - at < 2 * 2 ^ wide → (b : ℕ) → IsCellNumber b → first_at b ≡ at → end_at b ≤ limit → (2 * (30 - length (path_at b).digits) + 1 ≤ zeros) × (2 * (30 - length (path_at b).digits) + 1 ≤ wide)
 fits at limit zeros wide some z w b cell begins ends =
-    let r = run b cell in
+    let r = by_width b cell in
     let k = 30 - length (path_at b).digits in
     let f = r.first in
     let l = r.last in
@@ -132,7 +132,7 @@ greatest_cell at limit wide fit odd odd_limit some on_curve w1 w2 least =
             let f = fits at limit (trailing_zeros w64 (at - 1)) wide some refl w2 b cell begins ends in
             let k = 30 - length (path_at b).digits in
             let le = least.greatest (2 * k + 1) f.0 f.1 (omega arith) in
-            let r = run b cell in
+            let r = by_width b cell in
             let rf = r.first in
             let rl = r.last in
             let narrow : 4 ^ k ≤ 4 ^ h = four_monotone k h (omega arith) in

@@ -1,4 +1,4 @@
--- A list that grows by the greatest cells of a run of leaves.
+-- A list that grows by the greatest cells of a span of leaves.
 use Rattle.std.proofs.Common.{◌≡◌, ◌↔◌, ℕ, ◌+◌, ◌%◌, ◌<◌, ◌≤◌, ◌⊎◌, inl, inr, List, [], ◌∷◌, ◌++◌, Contains, get_or, sym, ap, arith, subst}
 use Rattle.std.proofs.lemmas.Bool.{cases_lt}
 use Rattle.std.proofs.lemmas.List.Elements.{Contains-get_or, Contains-push_cases}
@@ -9,16 +9,16 @@ use Rattle.s2id_core.specs.Cell.{IsCellNumber}
 use Rattle.s2id_core.specs.Span.{first_at, end_at}
 use Rattle.s2id_core.proofs.Nested.{span, nested_from_crossing_spans, same_span}
 use Rattle.s2id_union.specs.Covers.{Covers, IsChain}
-use Rattle.s2id_union.specs.Loops.{InRun, IsMaximal, IsGrown, IsGreatest}
+use Rattle.s2id_union.specs.Loops.{InSpan, IsMaximal, IsGrown, IsGreatest}
 use Rattle.s2id_union.proofs.Lists.{none_in_nil}
 use Rattle.s2id_union.proofs.Covering.{covers_push_left, covers_push_right, covers_push_cases}
 
--- as `IsGrown`, while the run from `start` to `limit` is being added to `old`, up to `at`
+-- as `IsGrown`, while the span from `start` to `limit` is being added to `old`, up to `at`
 pub record IsGrowing (old cells : List CellId) (start limit at : ℕ) : Type 0 where
   pub chain : IsChain cells
   pub below : (c : CellId) → Contains cells c → end_of c ≤ at
-  pub maximal : (c : CellId) → Contains cells c → IsMaximal (λ q. Covers old q ⊎ InRun start limit q) (limit + 1) (raw_of c)
-  pub covers : (q : ℕ) → Covers cells q ↔ (Covers old q ⊎ InRun start at q)
+  pub maximal : (c : CellId) → Contains cells c → IsMaximal (λ q. Covers old q ⊎ InSpan start limit q) (limit + 1) (raw_of c)
+  pub covers : (q : ℕ) → Covers cells q ↔ (Covers old q ⊎ InSpan start at q)
 
 pub grown_nil : (free : ℕ) → IsGrown [] free
 grown_nil free = record {
@@ -35,7 +35,7 @@ grown_later cells free more h le = record {
 }
 
 -- it is maximal
-step_maximal : (old cells : List CellId) (start limit at : ℕ) → IsGrowing old cells start limit at → start ≤ at → at < limit → (c : ℕ) → IsCellNumber c → IsGreatest c at limit → IsMaximal (λ q. Covers old q ⊎ InRun start limit q) (limit + 1) c
+step_maximal : (old cells : List CellId) (start limit at : ℕ) → IsGrowing old cells start limit at → start ≤ at → at < limit → (c : ℕ) → IsCellNumber c → IsGreatest c at limit → IsMaximal (λ q. Covers old q ⊎ InSpan start limit q) (limit + 1) c
 step_maximal old cells start limit at h from to c cell_c g b cell_b nest all =
     let sc = span c cell_c in
     let sb = span b cell_b in
@@ -91,7 +91,7 @@ growing_step old cells start limit at h from to c g =
       ];
       maximal = λ x held. elim (Contains-push_cases cells c x held) [
         | inl old_one ↦ h.maximal x old_one
-        | inr e ↦ subst (λ (y : CellId). IsMaximal (λ q. Covers old q ⊎ InRun start limit q) (limit + 1) (raw_of y)) e (step_maximal old cells start limit at h from to (raw_of c) c.valid g)
+        | inr e ↦ subst (λ (y : CellId). IsMaximal (λ q. Covers old q ⊎ InSpan start limit q) (limit + 1) (raw_of y)) e (step_maximal old cells start limit at h from to (raw_of c) c.valid g)
       ];
       covers = λ q. (
         λ v. elim (covers_push_cases cells c q v) [

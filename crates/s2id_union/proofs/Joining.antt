@@ -1,4 +1,4 @@
--- Cells in the order of their first leaves, joined to runs.
+-- Cells in the order of their first leaves, joined to spans.
 use Rattle.std.proofs.Common.{◌≡◌, ◌↔◌, ℕ, ◌+◌, ◌%◌, ◌<◌, ◌≤◌, ◌⊎◌, inl, inr, List, [], ◌∷◌, ◌++◌, length, get_or, take, sym, ◌∙◌, ap, arith, subst}
 use Rattle.std.specs.List.Sorted.{IsNonDecreasingBy, IsPermutation}
 use Rattle.std.proofs.lemmas.Bool.{cases_lt}
@@ -9,22 +9,22 @@ use Rattle.s2id_core.specs.CellId.{raw_of, first_of, end_of}
 use Rattle.s2id_core.proofs.Nested.{span}
 use Rattle.s2id_union.specs.Region.{IsNormal}
 use Rattle.s2id_union.specs.Covers.{Covers}
-use Rattle.s2id_union.specs.Loops.{InRun, IsGrown, IsAdded}
+use Rattle.s2id_union.specs.Loops.{InSpan, IsGrown, IsAdded}
 use Rattle.s2id_union.proofs.Covering.{covers_nil, covers_push_left, covers_push_right, covers_push_cases}
 use Rattle.s2id_union.proofs.Growing.{grown_nil, grown_later}
 use Rattle.s2id_union.proofs.Normal.{normal_from_grown}
 
--- what the first k cells of a list cover, as the cells so far and the open run from `run` to `at`
-pub record IsJoined (sorted cells : List CellId) (k run at : ℕ) : Type 0 where
-  pub grown : IsGrown cells run
-  pub covers : (q : ℕ) → (Covers cells q ⊎ InRun run at q) ↔ Covers (take k sorted) q
-  pub ahead : (j : ℕ) (d : CellId) → k ≤ j → j < length sorted → run ≤ first_of (get_or sorted j d)
+-- what the first k cells of a list cover, as the cells so far and the open span from `start` to `at`
+pub record IsJoined (sorted cells : List CellId) (k start at : ℕ) : Type 0 where
+  pub grown : IsGrown cells start
+  pub covers : (q : ℕ) → (Covers cells q ⊎ InSpan start at q) ↔ Covers (take k sorted) q
+  pub ahead : (j : ℕ) (d : CellId) → k ≤ j → j < length sorted → start ≤ first_of (get_or sorted j d)
 
 -- one more cell of the list
-more : (sorted : List CellId) (k : ℕ) (x : CellId) → k < length sorted → x ≡ get_or sorted k x → (q : ℕ) → Covers (take (k + 1) sorted) q ↔ (Covers (take k sorted) q ⊎ InRun (first_of x) (end_of x) q)
+more : (sorted : List CellId) (k : ℕ) (x : CellId) → k < length sorted → x ≡ get_or sorted k x → (q : ℕ) → Covers (take (k + 1) sorted) q ↔ (Covers (take k sorted) q ⊎ InSpan (first_of x) (end_of x) q)
 more sorted k x l is q =
     let e : take (k + 1) sorted ≡ take k sorted ++ x ∷ [] = take_more sorted k x l ∙ ap (λ y. take k sorted ++ y ∷ []) (sym is) in
-    subst (λ xs. Covers xs q ↔ (Covers (take k sorted) q ⊎ InRun (first_of x) (end_of x) q)) (sym e) (
+    subst (λ xs. Covers xs q ↔ (Covers (take k sorted) q ⊎ InSpan (first_of x) (end_of x) q)) (sym e) (
       λ v. covers_push_cases (take k sorted) x q v,
       λ v. elim v [ inl c ↦ covers_push_left (take k sorted) x q c | inr r ↦ covers_push_right (take k sorted) x q r.from r.to ],
     )
@@ -39,8 +39,8 @@ joined_start sorted cells e = subst (λ xs. IsJoined sorted xs 0 1 1) (sym e) (r
   ahead = λ j d le l. (span (raw_of (get_or sorted j d)) (get_or sorted j d).valid).begins;
 })
 
-pub joined_gap : (sorted old cells : List CellId) (k run at : ℕ) → IsNonDecreasingBy (λ c. first_of c) sorted → IsJoined sorted old k run at → IsAdded old cells run at → (x : CellId) → k < length sorted → x ≡ get_or sorted k x → at < first_of x → IsJoined sorted cells (k + 1) (first_of x) (end_of x)
-joined_gap sorted old cells k run at rises h added x l is gap = record {
+pub joined_gap : (sorted old cells : List CellId) (k start at : ℕ) → IsNonDecreasingBy (λ c. first_of c) sorted → IsJoined sorted old k start at → IsAdded old cells start at → (x : CellId) → k < length sorted → x ≡ get_or sorted k x → at < first_of x → IsJoined sorted cells (k + 1) (first_of x) (end_of x)
+joined_gap sorted old cells k start at rises h added x l is gap = record {
   grown = grown_later cells (at + 1) (first_of x) added.grown (omega arith);
   covers = λ q. (
     λ v. elim v [
@@ -58,8 +58,8 @@ joined_gap sorted old cells k run at rises h added x l is gap = record {
       omega arith;
 }
 
-pub joined_touch : (sorted cells : List CellId) (k run at behind : ℕ) → IsJoined sorted cells k run at → run ≤ at → (x : CellId) → k < length sorted → x ≡ get_or sorted k x → first_of x ≤ at → at ≤ behind → end_of x ≤ behind → ((at ≡ behind) ⊎ (end_of x ≡ behind)) → IsJoined sorted cells (k + 1) run behind
-joined_touch sorted cells k run at behind h rise x l is touch longer whole which =
+pub joined_touch : (sorted cells : List CellId) (k start at behind : ℕ) → IsJoined sorted cells k start at → start ≤ at → (x : CellId) → k < length sorted → x ≡ get_or sorted k x → first_of x ≤ at → at ≤ behind → end_of x ≤ behind → ((at ≡ behind) ⊎ (end_of x ≡ behind)) → IsJoined sorted cells (k + 1) start behind
+joined_touch sorted cells k start at behind h rise x l is touch longer whole which =
     let begins = h.ahead k x (omega arith) l in
     let first = ap (λ (c : CellId). first_of c) is in
     record {
@@ -96,8 +96,8 @@ pub record IsJoinedWhole (sorted cells : List CellId) : Type 0 where
   pub normal : IsNormal cells
   pub covers : (q : ℕ) → Covers cells q ↔ Covers sorted q
 
-pub joined_end : (sorted old cells : List CellId) (k run at : ℕ) → length sorted ≤ k → IsJoined sorted old k run at → IsAdded old cells run at → IsJoinedWhole sorted cells
-joined_end sorted old cells k run at done h added = record {
+pub joined_end : (sorted old cells : List CellId) (k start at : ℕ) → length sorted ≤ k → IsJoined sorted old k start at → IsAdded old cells start at → IsJoinedWhole sorted cells
+joined_end sorted old cells k start at done h added = record {
   normal = normal_from_grown cells (at + 1) added.grown;
   covers = λ q.
       let all : Covers (take k sorted) q ↔ Covers sorted q = subst (λ xs. Covers (take k sorted) q ↔ Covers xs q) (take_all k sorted done) ((λ v. v), (λ v. v)) in (
@@ -115,29 +115,29 @@ covers_permutation xs ys p q = (
 
 -- ---- the loop's invariant as a whole
 
-pub joined_next_gap : (sorted old cells next : List CellId) (k run at run_next at_next : ℕ) → IsNonDecreasingBy (λ c. first_of c) sorted → IsJoined sorted old k run at → IsAdded old cells run at → (x : CellId) → k < length sorted → x ≡ get_or sorted k x → at < first_of x → next ≡ cells → run_next ≡ first_of x → at_next ≡ end_of x → IsJoined sorted next (k + 1) run_next at_next × (run_next ≤ at_next) × (at_next ≤ 13835058055282163713) × (at_next % 2 ≡ 1) × (run_next % 2 ≡ 1)
-joined_next_gap sorted old cells next k run at run_next at_next rises h added x l is gap e f g =
+pub joined_next_gap : (sorted old cells next : List CellId) (k start at start_next at_next : ℕ) → IsNonDecreasingBy (λ c. first_of c) sorted → IsJoined sorted old k start at → IsAdded old cells start at → (x : CellId) → k < length sorted → x ≡ get_or sorted k x → at < first_of x → next ≡ cells → start_next ≡ first_of x → at_next ≡ end_of x → IsJoined sorted next (k + 1) start_next at_next × (start_next ≤ at_next) × (at_next ≤ 13835058055282163713) × (at_next % 2 ≡ 1) × (start_next % 2 ≡ 1)
+joined_next_gap sorted old cells next k start at start_next at_next rises h added x l is gap e f g =
     let s = span (raw_of x) x.valid in
     let s1 = s.from in
     let s2 = s.to in
     let s3 = s.ends in
     let s4 = s.odd in
     let s5 = s.odd_end in
-    let j = joined_gap sorted old cells k run at rises h added x l is gap in (
-      subst (λ z. IsJoined sorted next (k + 1) run_next z) (sym g) (subst (λ z. IsJoined sorted next (k + 1) z (end_of x)) (sym f) (subst (λ zs. IsJoined sorted zs (k + 1) (first_of x) (end_of x)) (sym e) j)),
+    let j = joined_gap sorted old cells k start at rises h added x l is gap in (
+      subst (λ z. IsJoined sorted next (k + 1) start_next z) (sym g) (subst (λ z. IsJoined sorted next (k + 1) z (end_of x)) (sym f) (subst (λ zs. IsJoined sorted zs (k + 1) (first_of x) (end_of x)) (sym e) j)),
       omega arith,
       omega arith,
       omega arith,
       omega arith,
     )
 
-pub joined_next_touch : (sorted cells next : List CellId) (k run at run_next at_next : ℕ) → IsJoined sorted cells k run at → run ≤ at → at ≤ 13835058055282163713 → at % 2 ≡ 1 → run % 2 ≡ 1 → (x : CellId) → k < length sorted → x ≡ get_or sorted k x → first_of x ≤ at → at ≤ at_next → end_of x ≤ at_next → ((at ≡ at_next) ⊎ (end_of x ≡ at_next)) → next ≡ cells → run_next ≡ run → IsJoined sorted next (k + 1) run_next at_next × (run_next ≤ at_next) × (at_next ≤ 13835058055282163713) × (at_next % 2 ≡ 1) × (run_next % 2 ≡ 1)
-joined_next_touch sorted cells next k run at run_next at_next h rise most odd odd_run x l is touch longer whole which e f =
+pub joined_next_touch : (sorted cells next : List CellId) (k start at start_next at_next : ℕ) → IsJoined sorted cells k start at → start ≤ at → at ≤ 13835058055282163713 → at % 2 ≡ 1 → start % 2 ≡ 1 → (x : CellId) → k < length sorted → x ≡ get_or sorted k x → first_of x ≤ at → at ≤ at_next → end_of x ≤ at_next → ((at ≡ at_next) ⊎ (end_of x ≡ at_next)) → next ≡ cells → start_next ≡ start → IsJoined sorted next (k + 1) start_next at_next × (start_next ≤ at_next) × (at_next ≤ 13835058055282163713) × (at_next % 2 ≡ 1) × (start_next % 2 ≡ 1)
+joined_next_touch sorted cells next k start at start_next at_next h rise most odd odd_start x l is touch longer whole which e f =
     let s = span (raw_of x) x.valid in
     let s3 = s.ends in
     let s5 = s.odd_end in
-    let j = joined_touch sorted cells k run at at_next h rise x l is touch longer whole which in (
-      subst (λ z. IsJoined sorted next (k + 1) z at_next) (sym f) (subst (λ zs. IsJoined sorted zs (k + 1) run at_next) (sym e) j),
+    let j = joined_touch sorted cells k start at at_next h rise x l is touch longer whole which in (
+      subst (λ z. IsJoined sorted next (k + 1) z at_next) (sym f) (subst (λ zs. IsJoined sorted zs (k + 1) start at_next) (sym e) j),
       omega arith,
       elim which [ inl a ↦ omega arith | inr a ↦ omega arith ],
       elim which [ inl a ↦ omega arith | inr a ↦ omega arith ],

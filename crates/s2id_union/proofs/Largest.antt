@@ -29,7 +29,7 @@ use Rattle.s2id_union.proofs.Unique.{Rises}
 
 -- ---- what the tests say
 
--- each number of a cell's run passes
+-- each number of a cell's span passes
 abbrev pub IsWhole : (ℕ → Bool) → ℕ → Type 0
 IsWhole passes n = (q : ℕ) → first_at n ≤ q → q < end_at n → passes q ≡ true
 
@@ -226,7 +226,7 @@ largest_apart passes a b la lb less =
 largest_in : (passes : ℕ → Bool) (c : CellId) → Contains (cells_where passes) c → IsLargest passes c
 largest_in passes c held = All-contains (IsLargest passes) (cells_where passes) c (all_largest passes) held
 
--- a number lies in the run of a cell all of whose numbers pass
+-- a number lies in the span of a cell all of whose numbers pass
 pub record InWhole (passes : ℕ → Bool) (q : ℕ) : Type 0 where
   pub cell : CellId
   pub whole : IsWhole passes (raw_of cell)
@@ -260,15 +260,15 @@ where_normal passes = normal_from_grown (cells_where passes) 1383505805528216371
 
 -- ---- its leaves
 
--- a leaf is in the region exactly where both numbers of its run pass
+-- a leaf is in the region exactly where both numbers of its span pass
 pub where_region : (passes : ℕ → Bool) (leaf : Path) → IsLeafPath leaf → InRegion (cells_where passes) leaf ↔ ((passes (number_of leaf) ≡ true) × (passes (number_of leaf + 1) ≡ true))
 where_region passes leaf deep =
     let n = number_of leaf in
     let valid : IsCellNumber n = cell_of_path leaf deep.path in
     let itself : CellId = record { raw = n; valid = valid } in
-    let run = leaf_span n valid (ap (λ (p : Path). length p.digits) (path_at-number leaf deep.path) ∙ deep.deep) in
-    let first = run.0 in
-    let last = run.1 in
+    let ends = leaf_span n valid (ap (λ (p : Path). length p.digits) (path_at-number leaf deep.path) ∙ deep.deep) in
+    let first = ends.0 in
+    let last = ends.1 in
     let odd = (span n valid).odd in (
       λ i.
           let h = (covers_where passes n).0 (covers_from_region (cells_where passes) leaf i) in

@@ -1,4 +1,4 @@
--- A list that is made of runs, as a set of leaves.
+-- A list that is made of spans, as a set of leaves.
 use Rattle.std.proofs.Common.{◌≡◌, ◌↔◌, ℕ, ◌+◌, ◌<◌, ◌≤◌, ◌⊎◌, inl, inr, List, [], subst}
 use Rattle.s2id_core.specs.declared.cell_id.CellId.{CellId}
 use Rattle.s2id_core.specs.Path.{Path, number_of}
@@ -16,8 +16,8 @@ use Rattle.s2id_union.proofs.Normal.{normal_from_grown}
 pub normal_from_added : (old cells : List CellId) (start limit : ℕ) → IsAdded old cells start limit → IsNormal cells
 normal_from_added old cells start limit h = normal_from_grown cells (limit + 1) h.grown
 
-pub run_leaves : (old cells : List CellId) (start limit : ℕ) → old ≡ [] → IsAdded old cells start limit → (leaf : Path) → IsLeafPath leaf → InRegion cells leaf ↔ ((start ≤ number_of leaf) × (number_of leaf < limit))
-run_leaves old cells start limit none h leaf deep = (
+pub span_leaves : (old cells : List CellId) (start limit : ℕ) → old ≡ [] → IsAdded old cells start limit → (leaf : Path) → IsLeafPath leaf → InRegion cells leaf ↔ ((start ≤ number_of leaf) × (number_of leaf < limit))
+span_leaves old cells start limit none h leaf deep = (
   λ i. elim ((h.covers (number_of leaf)).0 (covers_from_region cells leaf i)) [
     | inl c ↦ absurd (covers_nil (number_of leaf) (subst (λ xs. Covers xs (number_of leaf)) none c))
     | inr r ↦ (r.from, r.to)

@@ -12,14 +12,14 @@ use Rattle.s2id_core.proofs.Numbers.{path_of_cell, cell_of_path, path_at-number}
 use Rattle.s2id_core.proofs.Powers.{four_step}
 use Rattle.s2id_core.proofs.Levels.{place_of-more}
 use Rattle.s2id_core.proofs.Spans.{width, start}
-use Rattle.s2id_core.proofs.Nested.{run, span, nested_from_within}
+use Rattle.s2id_core.proofs.Nested.{by_width, span, nested_from_within}
 use Rattle.s2id_union.specs.Region.{IsNormal}
 use Rattle.s2id_union.specs.Covers.{Covers}
 use Rattle.s2id_union.specs.Loops.{IsGrown}
 use Rattle.s2id_union.proofs.Lists.{pair_cases}
 use Rattle.s2id_union.proofs.Unique.{child_level, child_within}
 
--- ---- the runs of four children
+-- ---- the spans of four children
 
 quarter : (d : ℕ) (p : Path) → length p.digits < 30 → width p ≡ 4 * width (child d p)
 quarter d p h =
@@ -46,11 +46,11 @@ record IsQuarter (c b w d : ℕ) : Type 0 where
   first : first_at c ≡ first_at b + d * (2 * w)
   last : end_at c ≡ first_at c + 2 * w
 
-quarter_run : (c b d : ℕ) → IsCellNumber c → IsCellNumber b → length (path_at b).digits < 30 → path_at c ≡ child d (path_at b) → IsQuarter c b (width (child 0 (path_at b))) d
-quarter_run c b d cell_c cell_b level e =
+quarter_span : (c b d : ℕ) → IsCellNumber c → IsCellNumber b → length (path_at b).digits < 30 → path_at c ≡ child d (path_at b) → IsQuarter c b (width (child 0 (path_at b))) d
+quarter_span c b d cell_c cell_b level e =
     let p = path_at b in
-    let rc = run c cell_c in
-    let rb = run b cell_b in
+    let rc = by_width c cell_c in
+    let rb = by_width b cell_b in
     let f = rc.first in
     let l = rc.last in
     let fb = rb.first in
@@ -59,9 +59,9 @@ quarter_run c b d cell_c cell_b level e =
     let t : d * width (path_at c) ≡ d * width (child 0 p) = ap (λ x. d * x) w in
     record { first = omega arith; last = omega arith }
 
-whole_run : (b : ℕ) → IsCellNumber b → length (path_at b).digits < 30 → end_at b ≡ first_at b + 8 * width (child 0 (path_at b))
-whole_run b cell level =
-    let rb = run b cell in
+whole_span : (b : ℕ) → IsCellNumber b → length (path_at b).digits < 30 → end_at b ≡ first_at b + 8 * width (child 0 (path_at b))
+whole_span b cell level =
+    let rb = by_width b cell in
     let f = rb.first in
     let l = rb.last in
     let q = quarter 0 (path_at b) level in
@@ -74,7 +74,7 @@ HasChild cells d p = Any (λ c. path_of c ≡ child d p) cells
 
 covered_by : (cells : List CellId) (b d q : ℕ) → IsCellNumber b → length (path_at b).digits < 30 → HasChild cells d (path_at b) → first_at b + d * (2 * width (child 0 (path_at b))) ≤ q → q < first_at b + d * (2 * width (child 0 (path_at b))) + 2 * width (child 0 (path_at b)) → Covers cells q
 covered_by cells b d q cell level has from to =
-    let r = quarter_run (raw_of has.1) b d has.1.valid cell level has.4 in
+    let r = quarter_span (raw_of has.1) b d has.1.valid cell level has.4 in
     let f = r.first in
     let l = r.last in
     record { cell = has.1; held = (has.0, has.2, has.3); from = omega arith; to = omega arith }
@@ -82,7 +82,7 @@ covered_by cells b d q cell level has from to =
 all_covered : (cells : List CellId) (b : ℕ) → IsCellNumber b → length (path_at b).digits < 30 → ((d : ℕ) → d < 4 → HasChild cells d (path_at b)) → (q : ℕ) → first_at b ≤ q → q < end_at b → Covers cells q
 all_covered cells b cell level has q from to =
     let w = width (child 0 (path_at b)) in
-    let e = whole_run b cell level in
+    let e = whole_span b cell level in
     elim (cases_lt q (first_at b + 2 * w)) [
       | inl h ↦ covered_by cells b 0 q cell level (has 0 (omega arith)) (omega arith) (omega arith)
       | inr h ↦

@@ -8,7 +8,7 @@ use Rattle.s2id_core.proofs.Nested.{span}
 use Rattle.s2id_union.specs.declared.sweep.Operation.{Operation}
 use Rattle.s2id_union.specs.declared.sweep.Operation.TheVariants.{Union, Intersection, Difference}
 use Rattle.s2id_union.specs.Operation.{Keeps}
-use Rattle.s2id_union.specs.Loops.{InRun, IsGrown, IsAdded, IsAhead, IsReached, IsConstant}
+use Rattle.s2id_union.specs.Loops.{InSpan, IsGrown, IsAdded, IsAhead, IsReached, IsConstant}
 use Rattle.s2id_union.specs.Region.{IsNormal}
 use Rattle.s2id_union.specs.Covers.{Covers, IsChain}
 use Rattle.s2id_union.proofs.Covering.{covers_nil, covers_bounds}
@@ -16,10 +16,10 @@ use Rattle.s2id_union.proofs.Growing.{grown_nil, grown_later}
 use Rattle.s2id_union.proofs.Normal.{normal_from_grown}
 use Rattle.s2id_union.proofs.Searching.{ends_rise, ends_from, ends_to, ahead_start}
 
--- what the operation keeps below `at`: the cells so far, and the open run from `run` on
-pub record IsSwept (o : Operation) (xs ys cells : List CellId) (run at : ℕ) : Type 0 where
-  pub grown : IsGrown cells run
-  pub covers : (q : ℕ) → (Covers cells q ⊎ InRun run at q) ↔ ((q < at) × Keeps o (Covers xs q) (Covers ys q))
+-- what the operation keeps below `at`: the cells so far, and the open span from `start` on
+pub record IsSwept (o : Operation) (xs ys cells : List CellId) (start at : ℕ) : Type 0 where
+  pub grown : IsGrown cells start
+  pub covers : (q : ℕ) → (Covers cells q ⊎ InSpan start at q) ↔ ((q < at) × Keeps o (Covers xs q) (Covers ys q))
 
 -- a covering cell, by its index
 record CoversAt (cells : List CellId) (q : ℕ) : Type 0 where
@@ -40,7 +40,7 @@ by_index cells q h =
       to = subst (λ (x : CellId). q < end_of x) e h.to;
     }
 
--- a stretch up to its end, that lies in the list's runs or outside them
+-- a stretch up to its end, that lies in the list's spans or outside them
 pub record IsStretch (cells : List CellId) (k at end : ℕ) (inside : Bool) : Type 0 where
   pub rises : at < end
   pub on_curve : end ≤ 13835058055282163713
@@ -143,8 +143,8 @@ swept_start o xs ys = record {
 flip : {A B : Type 0} → A ↔ B → B ↔ A
 flip h = (h.1, h.0)
 
-pub swept_on : (o : Operation) (xs ys cells : List CellId) (run at end : ℕ) (x y : Bool) → IsSwept o xs ys cells run at → run ≤ at → at < end → IsConstant xs at end x → IsConstant ys at end y → Keeps o (IsTrue x) (IsTrue y) → IsSwept o xs ys cells run end
-swept_on o xs ys cells run at end x y h rises more cx cy keep = record {
+pub swept_on : (o : Operation) (xs ys cells : List CellId) (start at end : ℕ) (x y : Bool) → IsSwept o xs ys cells start at → start ≤ at → at < end → IsConstant xs at end x → IsConstant ys at end y → Keeps o (IsTrue x) (IsTrue y) → IsSwept o xs ys cells start end
+swept_on o xs ys cells start at end x y h rises more cx cy keep = record {
   grown = h.grown;
   covers = λ q. (
     λ v. elim v [
@@ -166,8 +166,8 @@ swept_on o xs ys cells run at end x y h rises more cx cy keep = record {
   );
 }
 
-pub swept_off : (o : Operation) (xs ys old cells : List CellId) (run at end : ℕ) (x y : Bool) → IsSwept o xs ys old run at → IsAdded old cells run at → at < end → IsConstant xs at end x → IsConstant ys at end y → (Keeps o (IsTrue x) (IsTrue y) → ⊥) → IsSwept o xs ys cells end end
-swept_off o xs ys old cells run at end x y h added more cx cy drop = record {
+pub swept_off : (o : Operation) (xs ys old cells : List CellId) (start at end : ℕ) (x y : Bool) → IsSwept o xs ys old start at → IsAdded old cells start at → at < end → IsConstant xs at end x → IsConstant ys at end y → (Keeps o (IsTrue x) (IsTrue y) → ⊥) → IsSwept o xs ys cells end end
+swept_off o xs ys old cells start at end x y h added more cx cy drop = record {
   grown = grown_later cells (at + 1) end added.grown (omega arith);
   covers = λ q. (
     λ v. elim v [
@@ -186,8 +186,8 @@ pub record IsWhole (o : Operation) (xs ys cells : List CellId) : Type 0 where
   pub normal : IsNormal cells
   pub covers : (q : ℕ) → Covers cells q ↔ Keeps o (Covers xs q) (Covers ys q)
 
-pub swept_end : (o : Operation) (xs ys old cells : List CellId) (run at : ℕ) → IsSwept o xs ys old run at → 13835058055282163713 ≤ at → IsAdded old cells run at → IsWhole o xs ys cells
-swept_end o xs ys old cells run at h done added = record {
+pub swept_end : (o : Operation) (xs ys old cells : List CellId) (start at : ℕ) → IsSwept o xs ys old start at → 13835058055282163713 ≤ at → IsAdded old cells start at → IsWhole o xs ys cells
+swept_end o xs ys old cells start at h done added = record {
   normal = normal_from_grown cells (at + 1) added.grown;
   covers = λ q. (
     λ v. ((h.covers q).0 ((added.covers q).0 v)).1,
@@ -209,10 +209,10 @@ swept_init o xs ys cells e =
       refl,
     )
 
-pub swept_next_on : (o : Operation) (xs ys cells : List CellId) (run at end ex ey i j : ℕ) (x y : Bool) → IsSwept o xs ys cells run at → run ≤ at → run % 2 ≡ 1 → at < end → end ≤ ex → end ≤ ey → ex ≤ 13835058055282163713 → end % 2 ≡ 1 → IsConstant xs at ex x → IsConstant ys at ey y → Keeps o (IsTrue x) (IsTrue y) → IsAhead xs i end → IsAhead ys j end → IsSwept o xs ys cells run end × IsAhead xs i end × IsAhead ys j end × (run ≤ end) × (end ≤ 13835058055282163713) × (end % 2 ≡ 1) × (run % 2 ≡ 1)
-swept_next_on o xs ys cells run at end ex ey i j x y h rises odd_run lt lx ly most odd cx cy keep ax ay =
-    (swept_on o xs ys cells run at end x y h rises lt (λ q a b. cx q a (omega arith)) (λ q a b. cy q a (omega arith)) keep, ax, ay, omega arith, omega arith, odd, odd_run)
+pub swept_next_on : (o : Operation) (xs ys cells : List CellId) (start at end ex ey i j : ℕ) (x y : Bool) → IsSwept o xs ys cells start at → start ≤ at → start % 2 ≡ 1 → at < end → end ≤ ex → end ≤ ey → ex ≤ 13835058055282163713 → end % 2 ≡ 1 → IsConstant xs at ex x → IsConstant ys at ey y → Keeps o (IsTrue x) (IsTrue y) → IsAhead xs i end → IsAhead ys j end → IsSwept o xs ys cells start end × IsAhead xs i end × IsAhead ys j end × (start ≤ end) × (end ≤ 13835058055282163713) × (end % 2 ≡ 1) × (start % 2 ≡ 1)
+swept_next_on o xs ys cells start at end ex ey i j x y h rises odd_start lt lx ly most odd cx cy keep ax ay =
+    (swept_on o xs ys cells start at end x y h rises lt (λ q a b. cx q a (omega arith)) (λ q a b. cy q a (omega arith)) keep, ax, ay, omega arith, omega arith, odd, odd_start)
 
-pub swept_next_off : (o : Operation) (xs ys old cells : List CellId) (run at end ex ey i j : ℕ) (x y : Bool) → IsSwept o xs ys old run at → IsAdded old cells run at → at < end → end ≤ ex → end ≤ ey → ex ≤ 13835058055282163713 → end % 2 ≡ 1 → IsConstant xs at ex x → IsConstant ys at ey y → (Keeps o (IsTrue x) (IsTrue y) → ⊥) → IsAhead xs i end → IsAhead ys j end → IsSwept o xs ys cells end end × IsAhead xs i end × IsAhead ys j end × (end ≤ end) × (end ≤ 13835058055282163713) × (end % 2 ≡ 1) × (end % 2 ≡ 1)
-swept_next_off o xs ys old cells run at end ex ey i j x y h added lt lx ly most odd cx cy drop ax ay =
-    (swept_off o xs ys old cells run at end x y h added lt (λ q a b. cx q a (omega arith)) (λ q a b. cy q a (omega arith)) drop, ax, ay, omega arith, omega arith, odd, odd)
+pub swept_next_off : (o : Operation) (xs ys old cells : List CellId) (start at end ex ey i j : ℕ) (x y : Bool) → IsSwept o xs ys old start at → IsAdded old cells start at → at < end → end ≤ ex → end ≤ ey → ex ≤ 13835058055282163713 → end % 2 ≡ 1 → IsConstant xs at ex x → IsConstant ys at ey y → (Keeps o (IsTrue x) (IsTrue y) → ⊥) → IsAhead xs i end → IsAhead ys j end → IsSwept o xs ys cells end end × IsAhead xs i end × IsAhead ys j end × (end ≤ end) × (end ≤ 13835058055282163713) × (end % 2 ≡ 1) × (end % 2 ≡ 1)
+swept_next_off o xs ys old cells start at end ex ey i j x y h added lt lx ly most odd cx cy drop ax ay =
+    (swept_off o xs ys old cells start at end x y h added lt (λ q a b. cx q a (omega arith)) (λ q a b. cy q a (omega arith)) drop, ax, ay, omega arith, omega arith, odd, odd)

@@ -3,7 +3,7 @@ use Rattle.std.specs.Prelude.{ℕ, ◌<◌, ◌≤◌, List, AllPairs, Contains}
 use Rattle.s2id_core.specs.declared.cell_id.CellId.{CellId}
 use Rattle.s2id_core.specs.CellId.{first_of, end_of}
 
--- a number lies in the run of one of the cells
+-- a number lies in the span of one of the cells
 pub record Covers (cells : List CellId) (q : ℕ) : Type 0 where
   pub cell : CellId
   pub held : Contains cells cell

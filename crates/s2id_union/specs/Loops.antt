@@ -7,7 +7,7 @@ use Rattle.s2id_core.specs.Span.{first_at, end_at, IsNested}
 use Rattle.s2id_union.specs.Covers.{Covers, IsChain}
 
 -- a number lies from `start` up to and without `limit`
-pub record InRun (start limit q : ℕ) : Type 0 where
+pub record InSpan (start limit q : ℕ) : Type 0 where
   pub from : start ≤ q
   pub to : q < limit
 
@@ -28,10 +28,10 @@ pub record IsGreatest (c at limit : ℕ) : Type 0 where
   pub ends : end_at c ≤ limit
   pub greatest : (b : ℕ) → IsCellNumber b → first_at b ≡ at → end_at b ≤ limit → end_at b ≤ end_at c
 
--- the whole run is added
+-- the whole span is added
 pub record IsAdded (old cells : List CellId) (start limit : ℕ) : Type 0 where
   pub grown : IsGrown cells (limit + 1)
-  pub covers : (q : ℕ) → Covers cells q ↔ (Covers old q ⊎ InRun start limit q)
+  pub covers : (q : ℕ) → Covers cells q ↔ (Covers old q ⊎ InSpan start limit q)
 
 -- the first k cells end by `at`, and the others behind it
 pub record IsAhead (cells : List CellId) (k at : ℕ) : Type 0 where
@@ -49,6 +49,6 @@ pub record IsLeast (least a b c : ℕ) : Type 0 where
 abbrev pub IsReached : List CellId → ℕ → ℕ → Type 0
 IsReached cells k end = (j : ℕ) (d : CellId) → k ≤ j → j < length cells → end ≤ end_of (slice_index_or cells j d)
 
--- the numbers from `at` up to and without `end` are all in the runs of the cells, or all outside them
+-- the numbers from `at` up to and without `end` are all in the spans of the cells, or all outside them
 abbrev pub IsConstant : List CellId → ℕ → ℕ → Bool → Type 0
 IsConstant cells at end inside = (q : ℕ) → at ≤ q → q < end → Covers cells q ↔ IsTrue inside

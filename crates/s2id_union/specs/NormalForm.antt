@@ -8,7 +8,7 @@ use Rattle.s2id_core.specs.Path.{number_of, ancestor}
 use Rattle.s2id_core.specs.Span.{first_at, end_at}
 use Rattle.s2id_core.specs.Spelled.{cell_numbered}
 
--- whether each number of a cell's run passes a test
+-- whether each number of a cell's span passes a test
 unfoldable pub lies_whole : (ℕ → Bool) → ℕ → Bool
 lies_whole passes n = list_all passes (range_with_len (first_at n) (end_at n - first_at n))
 
@@ -16,7 +16,7 @@ lies_whole passes n = list_all passes (range_with_len (first_at n) (end_at n - f
 unfoldable pub parent_of : CellId → ℕ
 parent_of cell = number_of (ancestor (level_of cell - 1) (path_of cell))
 
--- whether each number of a cell's run passes, and it is a face or has a parent of which that is not so
+-- whether each number of a cell's span passes, and it is a face or has a parent of which that is not so
 unfoldable pub is_largest : (ℕ → Bool) → CellId → Bool
 is_largest passes cell = lies_whole passes (raw_of cell) && (level_of cell == 0 || not (lies_whole passes (parent_of cell)))
 
@@ -28,7 +28,7 @@ cells_below limit = filter_map cell_numbered (range_with_len 0 limit)
 unfoldable pub cells_where : (ℕ → Bool) → List CellId
 cells_where passes = filter (is_largest passes) (cells_below (6 * 2 ^ 61))
 
--- whether a number lies in the run of one of the cells
+-- whether a number lies in the span of one of the cells
 unfoldable pub is_covered : List CellId → ℕ → Bool
 is_covered cells q = list_any (λ cell. nat_le (first_of cell) q && nat_lt q (end_of cell)) cells
 

@@ -1,4 +1,4 @@
--- Which runs of leaf numbers there are.
+-- Which spans of leaf numbers there are.
 use Rattle.std.specs.Prelude.{◌≡◌, ℕ, ◌%◌, ◌≤◌}
 use Rattle.s2id_core.specs.Span.{leaf_end}
 use Rattle.s2id_union.specs.declared.error.RangeError.{RangeError}

@@ -9,7 +9,7 @@ ghost use Rattle.s2id_union.specs.Range.{IsLeafRange, IsRangeRefusal};
 use crate::count::counted;
 use crate::error::RangeError;
 use crate::join::normal_list;
-use crate::run::add_run;
+use crate::span::add_span;
 use crate::search::{has_all, meets};
 use crate::sweep::{Operation, swept};
 use s2id_core::{CellId, LEAF_END, OutOfMemory};
@@ -39,7 +39,7 @@ impl CellUnion {
     /// The leaves from the number `start` up to and without `limit` (S2's `FromBeginEnd()`). Leaf numbers are odd;
     /// equal bounds give the empty union. `BadRange` where a bound is even, or not
     /// `1 <= start <= limit <= LEAF_END`. O(cells made): at most 184, three of each level 1 to 30 at either end of the
-    /// run and four whole faces between.
+    /// span and four whole faces between.
     pub fn from_leaves(alloc: Global, start: u64, limit: u64) -> Result<CellUnion, RangeError>
         ensures leaves { IfOk result (λ union. (leaf : Path) → IsLeafPath leaf → InRegion union leaf
             ↔ ((start ≤ number_of leaf) × (number_of leaf < limit))) }
@@ -53,7 +53,7 @@ impl CellUnion {
             return Err(RangeError::BadRange);
         }
         let mut cells = Vec::new(alloc);
-        add_run(&mut cells, start, limit)?;
+        add_span(&mut cells, start, limit)?;
         Ok(CellUnion { cells })
     }
 

@@ -3,11 +3,11 @@ ghost use Rattle.std.specs.Prelude.{◌≡◌};
 use s2id_core::OutOfMemory;
 use thiserror::Error;
 
-/// Why there is no union of a run of leaves. This project's own.
+/// Why there is no union of a span of leaves. This project's own.
 #[derive(Clone, Copy, Debug, PartialEq, Eq, Error)]
 pub enum RangeError {
     /// A bound is even, or not `1 <= start <= limit <= LEAF_END`.
-    #[error("no run of leaves")]
+    #[error("no span of leaves")]
     BadRange,
     /// A growth was refused.
     #[error("out of memory")]

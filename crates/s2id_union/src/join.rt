@@ -6,7 +6,7 @@ ghost use Rattle.s2id_core.specs.CellId.{first_of};
 ghost use Rattle.s2id_union.specs.Covers.{Covers};
 ghost use Rattle.s2id_union.specs.Region.{IsNormal};
 
-use crate::run::add_run;
+use crate::span::add_span;
 use s2id_core::{CellId, OutOfMemory};
 use std::alloc::Global;
 
@@ -25,20 +25,20 @@ fn joined(alloc: Global, sorted: &[CellId]) -> Result<Vec<CellId>, OutOfMemory>
     ensures covers { IfOk result (λ cells. (q : ℕ) → Covers cells.items q ↔ Covers sorted.now q) }
 {
     let mut cells = Vec::new(alloc);
-    let mut run = 1;
+    let mut start = 1;
     let mut at = 1;
     for cell in sorted {
         let first = cell.span_start();
         let end = cell.span_end();
         if at < first {
-            add_run(&mut cells, run, at)?;
-            run = first;
+            add_span(&mut cells, start, at)?;
+            start = first;
             at = end;
         } else if at < end {
             at = end;
         }
     }
-    add_run(&mut cells, run, at)?;
+    add_span(&mut cells, start, at)?;
     Ok(cells)
 }
 

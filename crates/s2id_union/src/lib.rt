@@ -6,7 +6,7 @@ mod count;
 mod error;
 mod join;
 pub mod laws;
-mod run;
+mod span;
 mod same;
 mod search;
 mod sweep;

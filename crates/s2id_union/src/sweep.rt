@@ -8,7 +8,7 @@ ghost use Rattle.s2id_union.specs.Loops.{IsAhead, IsReached, IsConstant};
 ghost use Rattle.s2id_union.specs.Region.{IsNormal};
 ghost use Rattle.s2id_union.specs.Operation.{Keeps};
 
-use crate::run::add_run;
+use crate::span::add_span;
 use s2id_core::{CellId, LEAF_END, OutOfMemory};
 use std::alloc::Global;
 
@@ -108,7 +108,7 @@ pub(crate) fn swept(
         ↔ Keeps operation (Covers first.now q) (Covers second.now q)) }
 {
     let mut cells = Vec::new(alloc);
-    let mut run = 1;
+    let mut start = 1;
     let mut at = 1;
     let mut i = 0;
     let mut j = 0;
@@ -120,11 +120,11 @@ pub(crate) fn swept(
         j = advanced(second, j, at, end);
         let kept = keeps(operation, of_first.inside, of_second.inside);
         if !kept {
-            add_run(&mut cells, run, at)?;
-            run = end;
+            add_span(&mut cells, start, at)?;
+            start = end;
         }
         at = end;
     }
-    add_run(&mut cells, run, at)?;
+    add_span(&mut cells, start, at)?;
     Ok(cells)
 }

@@ -5,7 +5,7 @@ use Rattle.std.proofs.lemmas.Bool.{cases_eq, cases_lt, cases_Bool, or_parts, con
 use Rattle.std.proofs.lemmas.List.Elements.{All-head, All-tail}
 use Rattle.std.proofs.lemmas.List.Sums.{sum_by-le}
 use Rattle.s2ix_bag.specs.Apply.{AreBefore, first_mismatch, apply_refusal}
-use Rattle.s2ix_bag.specs.Collection.{Collection, Contents, IsBag, count_at, count_in, copies_in}
+use Rattle.s2ix_bag.specs.Collection.{Collection, LimitedCollection, IsBag, count_at, count_in, copies_in}
 use Rattle.s2ix_bag.specs.Change.{IsChangeList, changed, change_between, counts_at, inverse_of}
 use Rattle.s2ix_bag.specs.Limits.{count_limit, pairs_limit}
 use Rattle.s2ix_bag.specs.Pair.{rank_of}
@@ -80,31 +80,31 @@ none_from_within c (e ∷ es) within =
 -- ---- a change that is taken
 
 -- what a bag takes: each count before is right, and what it makes is within the limits
-pub record IsTaken (bag : Contents) (es : List Entry) : Type 0 where
+pub record IsTaken (bag : LimitedCollection) (es : List Entry) : Type 0 where
   pub before : AreBefore bag.held es
   pub within : AreAfterWithin (count_limit bag.limits) es
   pub few : length (changed bag.held es) ≤ pairs_limit bag.limits
 
 -- the refusal, by the first mismatch
-refusal_at : Contents → List Entry → Option ℕ → Option ApplyError
+refusal_at : LimitedCollection → List Entry → Option ℕ → Option ApplyError
 refusal_at bag es (Some place) = Some (Mismatch place)
 refusal_at bag es None =
     cond (list_any (λ e. nat_lt (count_limit bag.limits) e.after) es) (Some TooManyCopies)
     (cond (nat_lt (pairs_limit bag.limits) (length (changed bag.held es))) (Some TooManyPairs) None)
 
-refusal_is : (bag : Contents) (es : List Entry) (mismatch : Option ℕ) → first_mismatch bag es ≡ mismatch → apply_refusal bag es ≡ refusal_at bag es mismatch
+refusal_is : (bag : LimitedCollection) (es : List Entry) (mismatch : Option ℕ) → first_mismatch bag es ≡ mismatch → apply_refusal bag es ≡ refusal_at bag es mismatch
 unfolding refusal_at
 refusal_is bag es mismatch is = ap (λ m. refusal_at bag es m) is
 
 -- a bag refuses nothing but what it can't take
-pub refusal_of_taken : (bag : Contents) (es : List Entry) → IsTaken bag es → apply_refusal bag es ≡ None
+pub refusal_of_taken : (bag : LimitedCollection) (es : List Entry) → IsTaken bag es → apply_refusal bag es ≡ None
 unfolding refusal_at
 refusal_of_taken bag es taken =
     refusal_is bag es None (no_mismatch bag.held es taken.before)
     ∙ cond-false _ _ _ (none_from_within (count_limit bag.limits) es taken.within)
     ∙ cond-false _ _ _ (le-ltb _ _ taken.few)
 
-taken_at : (bag : Contents) (es : List Entry) (mismatch : Option ℕ) → first_mismatch bag es ≡ mismatch → refusal_at bag es mismatch ≡ None → IsTaken bag es
+taken_at : (bag : LimitedCollection) (es : List Entry) (mismatch : Option ℕ) → first_mismatch bag es ≡ mismatch → refusal_at bag es mismatch ≡ None → IsTaken bag es
 unfolding refusal_at
 taken_at bag es (Some place) is none = cc
 taken_at bag es None is none =
@@ -123,12 +123,12 @@ taken_at bag es None is none =
     (cases_Bool (list_any (λ e. nat_lt (count_limit bag.limits) e.after) es))
 
 -- a bag takes a change that it does not refuse
-pub taken_from_none : (bag : Contents) (es : List Entry) → apply_refusal bag es ≡ None → IsTaken bag es
+pub taken_from_none : (bag : LimitedCollection) (es : List Entry) → apply_refusal bag es ≡ None → IsTaken bag es
 taken_from_none bag es none =
     taken_at bag es (first_mismatch bag es) refl (sym (refusal_is bag es (first_mismatch bag es) refl) ∙ none)
 
 -- what it makes of the change is a bag
-pub made_is_bag : (bag : Contents) (es : List Entry) → IsBag bag → IsChangeList es → IsTaken bag es → IsBag (record { limits = bag.limits; held = changed bag.held es })
+pub made_is_bag : (bag : LimitedCollection) (es : List Entry) → IsBag bag → IsChangeList es → IsTaken bag es → IsBag (record { limits = bag.limits; held = changed bag.held es })
 made_is_bag bag es is_bag es_is taken = record {
   rises = changed_keeps bag.held es is_bag.rises es_is;
   few = taken.few;
@@ -151,7 +151,7 @@ inverse_within c hs (e ∷ es) small befores =
     (omega (arith, befores.0, count_small c hs (rank_of e.pair) small), inverse_within c hs es small befores.1)
 
 -- what a bag makes of a change takes the inverse of that change
-pub inverse_taken : (bag : Contents) (es : List Entry) → IsBag bag → IsChangeList es → IsTaken bag es → IsTaken (record { limits = bag.limits; held = changed bag.held es }) (inverse_of es)
+pub inverse_taken : (bag : LimitedCollection) (es : List Entry) → IsBag bag → IsChangeList es → IsTaken bag es → IsTaken (record { limits = bag.limits; held = changed bag.held es }) (inverse_of es)
 inverse_taken bag es is_bag es_is taken =
     let hs = bag.held in
     let ks = changed bag.held es in
@@ -168,7 +168,7 @@ inverse_taken bag es is_bag es_is taken =
 -- ---- the sum of the counts
 
 -- it is at most as many times the greatest limit on a count as there may be pairs
-pub copies_bound : (bag : Contents) → IsBag bag → copies_in bag.held ≤ 65535000000
+pub copies_bound : (bag : LimitedCollection) → IsBag bag → copies_in bag.held ≤ 65535000000
 copies_bound bag is_bag =
     let pairs : length bag.held ≤ 1000000 = omega (arith, is_bag.few, bag.limits.in_range.1) in
     let count : count_limit bag.limits ≤ 65535 = bag.limits.in_range.3 in

@@ -5,11 +5,11 @@ use Rattle.s2ix_bag.specs.declared.pair.Entry.{Entry}
 use Rattle.s2ix_bag.specs.declared.errors.ApplyError.{ApplyError}
 use Rattle.s2ix_bag.specs.declared.errors.ApplyError.TheVariants.{Mismatch, TooManyCopies, TooManyPairs, OutOfMemory}
 use Rattle.s2ix_bag.specs.Limits.{pairs_limit, count_limit}
-use Rattle.s2ix_bag.specs.Collection.{Collection, Contents, count_in}
+use Rattle.s2ix_bag.specs.Collection.{Collection, LimitedCollection, count_in}
 use Rattle.s2ix_bag.specs.Change.{changed}
 
 -- the place of the first entry whose count before is not the bag's
-abbrev pub first_mismatch : Contents → List Entry → Option ℕ
+abbrev pub first_mismatch : LimitedCollection → List Entry → Option ℕ
 first_mismatch bag es = position (λ e. not (e.before == count_in bag.held e.pair)) es
 
 -- each count before is that of the collection
@@ -19,7 +19,7 @@ AreBefore hs (e ∷ es) = (e.before ≡ count_in hs e.pair) × AreBefore hs es
 
 -- why a bag refuses a change, memory aside: a count before that is not the bag's, else a count after above the
 -- limit, else more distinct pairs than the limit; `None` where it takes it
-abbrev pub apply_refusal : Contents → List Entry → Option ApplyError
+abbrev pub apply_refusal : LimitedCollection → List Entry → Option ApplyError
 apply_refusal bag es =
     elim (first_mismatch bag es) [
       | Some place ↦ Some (Mismatch place)

@@ -53,12 +53,12 @@ set_count pair count (h ∷ hs) =
     else (if rank_of pair == rank_of h.pair then held_with pair count hs else h ∷ set_count pair count hs)
 
 -- a collection with the limits that it stays within: what contracts see of a bag
-pub record Contents : Type 0 where
+pub record LimitedCollection : Type 0 where
   pub limits : Limits
   pub held : Collection
 
 -- a bag holds a collection within its limits
-pub record IsBag (bag : Contents) : Type 0 where
+pub record IsBag (bag : LimitedCollection) : Type 0 where
   pub rises : IsCollection bag.held
   pub few : length bag.held ≤ pairs_limit bag.limits
   pub small : All (λ h. h.count ≤ count_limit bag.limits) bag.held

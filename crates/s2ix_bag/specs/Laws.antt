@@ -3,7 +3,7 @@ use Rattle.std.specs.Prelude.{◌≡◌, ◌==◌, ◌<◌, ◌↔◌, ◌⊎◌
 use Rattle.s2id_core.specs.CellId.{raw_of}
 use Rattle.s2ix_bag.specs.Apply.{apply_refusal}
 use Rattle.s2ix_bag.specs.Change.{IsChangeList, counts_at, count_after, difference_of, changed, change_between, inverse_of}
-use Rattle.s2ix_bag.specs.Collection.{Collection, Contents, IsBag, IsCollection, count_in}
+use Rattle.s2ix_bag.specs.Collection.{Collection, LimitedCollection, IsBag, IsCollection, count_in}
 use Rattle.s2ix_bag.specs.Label.{value_of}
 use Rattle.s2ix_bag.specs.OfLabel.{held_of}
 use Rattle.s2ix_bag.specs.Pair.{rank_of}
@@ -66,7 +66,7 @@ ChangeLeadsThereAndBack =
 -- what a bag makes of a change that it doesn't refuse doesn't refuse the inverse, which gives the first bag
 abbrev pub InverseTakesBack : Type 0
 InverseTakesBack =
-    (bag : Contents) (es : List Entry) → IsBag bag → IsChangeList es → apply_refusal bag es ≡ None →
+    (bag : LimitedCollection) (es : List Entry) → IsBag bag → IsChangeList es → apply_refusal bag es ≡ None →
     (apply_refusal (record { limits = bag.limits; held = changed bag.held es }) (inverse_of es) ≡ None) × (changed (changed bag.held es) (inverse_of es) ≡ bag.held)
 
 -- what is held with a label is a collection, with the count of each pair of that label and of no other

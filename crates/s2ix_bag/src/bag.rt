@@ -1,7 +1,7 @@
 ghost use Rattle.std.specs.Prelude.{◌≡◌, ◌==◌, ℕ, ◌<◌, ◌≤◌, [], length, slice_get, Some, None, IfOk, IfErr, OnOk};
 ghost use Rattle.s2ix_bag.specs.Apply.{apply_refusal, IsApplyRefusal};
 ghost use Rattle.s2ix_bag.specs.Change.{changed};
-ghost use Rattle.s2ix_bag.specs.Collection.{Contents, IsBag, copies_in, count_in};
+ghost use Rattle.s2ix_bag.specs.Collection.{LimitedCollection, IsBag, copies_in, count_in};
 ghost use Rattle.s2ix_bag.specs.OfLabel.{held_of};
 
 use crate::apply::{merge, refusal};
@@ -25,9 +25,9 @@ pub struct Bag {
 }
 
 impl Model for Bag {
-    ghost use Rattle.s2ix_bag.specs.Collection.{Contents, IsBag};
+    ghost use Rattle.s2ix_bag.specs.Collection.{LimitedCollection, IsBag};
 
-    ghost Value = { Contents };
+    ghost Value = { LimitedCollection };
 
     ghost view = { λ b. record { limits = b.limits; held = b.held.items } };
 

@@ -19,7 +19,7 @@ use Rattle.s2ix_table.specs.LabelList.{label_list}
 use Rattle.s2ix_table.specs.Meeting.{meeting_of}
 use Rattle.s2ix_table.specs.RangeList.{range_table}
 use Rattle.s2ix_text.specs.Journal.{journal_text}
-use Rattle.s2ix_text.specs.Queries.{held_line, label_line, list_text, run_line}
+use Rattle.s2ix_text.specs.Queries.{held_line, label_line, list_text, range_line}
 use Rattle.s2ix_script.specs.declared.command.Command.{Command}
 use Rattle.s2ix_script.specs.declared.command.Command.TheVariants as command
 use Rattle.s2ix_script.specs.declared.command.LineFault.{LineFault}
@@ -113,7 +113,7 @@ abbrev pub query_step : State → Query → Step
 query_step s (query.At cell) = at_step s cell
 query_step s (query.Meet target) = shown s (list_text held_line (meeting_of target s.bag.held))
 query_step s (query.Labels target) = shown s (list_text label_line (label_list (meeting_of target s.bag.held)))
-query_step s query.Ranges = shown s (list_text run_line (range_table s.bag.held))
+query_step s query.Ranges = shown s (list_text range_line (range_table s.bag.held))
 query_step s (query.Path cell) = shown s (path_line cell)
 query_step s (query.Neighbors cell) = shown s (neighbors_line cell)
 query_step s (query.Face cell) = shown s (square_line (square_of (path_of cell)))

@@ -6,7 +6,7 @@ use Rattle.s2ix_bag.specs.declared.label.Label.{Label}
 use Rattle.s2ix_bag.specs.declared.pair.Entry.{Entry}
 use Rattle.s2ix_bag.specs.Apply.{AreBefore}
 use Rattle.s2ix_bag.specs.Change.{changed, IsChangeListFrom}
-use Rattle.s2ix_bag.specs.Collection.{Collection, Contents, IsBag, IsCollection, count_at, count_in, set_count}
+use Rattle.s2ix_bag.specs.Collection.{Collection, LimitedCollection, IsBag, IsCollection, count_at, count_in, set_count}
 use Rattle.s2ix_bag.specs.Limits.{count_limit}
 use Rattle.s2ix_bag.specs.Pair.{rank_of}
 use Rattle.s2ix_bag.proofs.Changes.{change_lower}
@@ -62,7 +62,7 @@ additions_change n hs ks label (c ∷ cs) rise same =
     (λ k le. same k (omega (arith, rise.0, le)) ∙ sym (count_set_other p (count_in ks p + 1) ks k (λ e. omega (arith, e, le, range))))
 
 -- the entries of the cells make the collection with one copy more for each
-pub additions_make : (bag : Contents) (label : Label) (cs : List CellId) → AllPairs (λ a b. raw_of a < raw_of b) cs → Makes bag (with_each label cs bag.held) (map (addition bag.held label) cs)
+pub additions_make : (bag : LimitedCollection) (label : Label) (cs : List CellId) → AllPairs (λ a b. raw_of a < raw_of b) cs → Makes bag (with_each label cs bag.held) (map (addition bag.held label) cs)
 additions_make bag label cs pairs =
     let rise = rises_from_zero cs pairs in
     record {
@@ -109,7 +109,7 @@ pub with_each_same : (label : Label) (cs : List CellId) (hs : Collection) (c : C
 with_each_same label cs hs c is pairs has = each_at 0 label cs hs c has.0 is (rises_from_zero cs pairs) has.1 has.2
 
 -- a sum above every limit is a count above the limit
-pub addition_above : (bag : Contents) (label : Label) (cs : List CellId) (c : CellId) → IsBag bag → AllPairs (λ a b. raw_of a < raw_of b) cs → Contains cs c → 4294967296 ≤ count_in bag.held (pair_of c label) + 1 → has_count_above (count_limit bag.limits) (with_each label cs bag.held) ≡ true
+pub addition_above : (bag : LimitedCollection) (label : Label) (cs : List CellId) (c : CellId) → IsBag bag → AllPairs (λ a b. raw_of a < raw_of b) cs → Contains cs c → 4294967296 ≤ count_in bag.held (pair_of c label) + 1 → has_count_above (count_limit bag.limits) (with_each label cs bag.held) ≡ true
 addition_above bag label cs c b pairs has high =
     let range = bag.limits.in_range in
     let sum = with_each_same label cs bag.held c b.rises pairs has in

@@ -8,7 +8,7 @@ use Rattle.std.proofs.lemmas.Option.{slice_get_read}
 use Rattle.s2ix_bag.specs.declared.pair.Entry.{Entry}
 use Rattle.s2ix_bag.specs.Apply.{apply_refusal}
 use Rattle.s2ix_bag.specs.Change.{change_between, changed, inverse_of, IsChangeList}
-use Rattle.s2ix_bag.specs.Collection.{Collection, Contents, IsBag}
+use Rattle.s2ix_bag.specs.Collection.{Collection, LimitedCollection, IsBag}
 use Rattle.s2ix_bag.proofs.Inverse.{inverse_keeps}
 use Rattle.s2ix_bag.proofs.Refusals.{made_is_bag, taken_from_none}
 use Rattle.s2ix_edit.specs.State.{State, IsStore, CanGoBack, CanGoOn, earlier, history_of, holding, later}
@@ -19,7 +19,7 @@ use Rattle.s2ix_edit.proofs.Taken.{between_changed, not_mismatched}
 -- ---- the changes between neighbours
 
 -- on from the store's collection they are the changes that can be done
-changes_on : (bag : Contents) (ess : List (List Entry)) → IsBag bag → CanGoOn bag ess → changes_from bag.held (later bag.held ess) ≡ ess
+changes_on : (bag : LimitedCollection) (ess : List (List Entry)) → IsBag bag → CanGoOn bag ess → changes_from bag.held (later bag.held ess) ≡ ess
 changes_on bag [] b on = refl
 changes_on bag (es ∷ rest) b on =
     let next = made_is_bag bag es b on.0 (taken_from_none bag es on.2) in
@@ -31,7 +31,7 @@ reverse_cons : (es : List Entry) (older : List (List Entry)) → reverse (es ∷
 reverse_cons es older = reverse-append (es ∷ []) older
 
 -- the change from the collection before
-change_back : (bag : Contents) (es : List Entry) → IsBag bag → IsChangeList es → apply_refusal bag (inverse_of es) ≡ None → change_between (changed bag.held (inverse_of es)) bag.held ≡ es
+change_back : (bag : LimitedCollection) (es : List Entry) → IsBag bag → IsChangeList es → apply_refusal bag (inverse_of es) ≡ None → change_between (changed bag.held (inverse_of es)) bag.held ≡ es
 change_back bag es b rises taken =
     let prev = holding bag (changed bag.held (inverse_of es)) in
     let prev_is = made_is_bag bag (inverse_of es) b (inverse_keeps es rises) (taken_from_none bag (inverse_of es) taken) in
@@ -39,7 +39,7 @@ change_back bag es b rises taken =
     ∙ between_changed prev es prev_is.rises rises (not_mismatched prev es (taken_again bag es b rises taken))
 
 -- and up to it they are the changes that can be taken back
-changes_back : (bag : Contents) (ess : List (List Entry)) (rest : List Collection) → IsBag bag → CanGoBack bag ess → changes_along (earlier bag.held ess ++ bag.held ∷ rest) ≡ reverse ess ++ changes_from bag.held rest
+changes_back : (bag : LimitedCollection) (ess : List (List Entry)) (rest : List Collection) → IsBag bag → CanGoBack bag ess → changes_along (earlier bag.held ess ++ bag.held ∷ rest) ≡ reverse ess ++ changes_from bag.held rest
 changes_back bag [] rest b back = refl
 changes_back bag (es ∷ older) rest b back =
     let prev = holding bag (changed bag.held (inverse_of es)) in
@@ -57,14 +57,14 @@ changes_of_history s st =
 
 -- ---- each collection is within the limits
 
-within_on : (bag : Contents) (ess : List (List Entry)) → IsBag bag → CanGoOn bag ess → All (λ hs. IsBag (holding bag hs)) (later bag.held ess)
+within_on : (bag : LimitedCollection) (ess : List (List Entry)) → IsBag bag → CanGoOn bag ess → All (λ hs. IsBag (holding bag hs)) (later bag.held ess)
 within_on bag [] b on = All-nil (λ (hs : Collection). IsBag (holding bag hs))
 within_on bag (es ∷ rest) b on =
     let next = made_is_bag bag es b on.0 (taken_from_none bag es on.2) in
     All-cons (λ (hs : Collection). IsBag (holding bag hs)) (changed bag.held es) (later (changed bag.held es) rest) next
     (within_on (holding bag (changed bag.held es)) rest next on.3)
 
-within_back : (bag : Contents) (ess : List (List Entry)) → IsBag bag → CanGoBack bag ess → All (λ hs. IsBag (holding bag hs)) (earlier bag.held ess)
+within_back : (bag : LimitedCollection) (ess : List (List Entry)) → IsBag bag → CanGoBack bag ess → All (λ hs. IsBag (holding bag hs)) (earlier bag.held ess)
 within_back bag [] b back = All-nil (λ (hs : Collection). IsBag (holding bag hs))
 within_back bag (es ∷ older) b back =
     let Fits : Collection → Type 0 = λ hs. IsBag (holding bag hs) in
@@ -85,12 +85,12 @@ history_within s st =
 abbrev HasEntries : List Entry → Type 0
 HasEntries es = 0 < length es
 
-some_on : (bag : Contents) (ess : List (List Entry)) → CanGoOn bag ess → All HasEntries ess
+some_on : (bag : LimitedCollection) (ess : List (List Entry)) → CanGoOn bag ess → All HasEntries ess
 some_on bag [] on = All-nil HasEntries
 some_on bag (es ∷ rest) on =
     All-cons HasEntries es rest on.1 (some_on (holding bag (changed bag.held es)) rest on.3)
 
-some_back : (bag : Contents) (ess : List (List Entry)) → CanGoBack bag ess → All HasEntries ess
+some_back : (bag : LimitedCollection) (ess : List (List Entry)) → CanGoBack bag ess → All HasEntries ess
 some_back bag [] back = All-nil HasEntries
 some_back bag (es ∷ older) back =
     All-cons HasEntries es older back.1 (some_back (holding bag (changed bag.held (inverse_of es))) older back.3)

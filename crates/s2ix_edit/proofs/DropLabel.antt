@@ -7,7 +7,7 @@ use Rattle.s2ix_bag.specs.declared.pair.Pair.{Pair}
 use Rattle.s2ix_bag.specs.declared.pair.Held.{Held}
 use Rattle.s2ix_bag.specs.Apply.{AreBefore}
 use Rattle.s2ix_bag.specs.Change.{changed, removal_of, IsChangeListFrom}
-use Rattle.s2ix_bag.specs.Collection.{Collection, Contents, IsCollection, IsCollectionFrom, count_at, count_in}
+use Rattle.s2ix_bag.specs.Collection.{Collection, LimitedCollection, IsCollection, IsCollectionFrom, count_at, count_in}
 use Rattle.s2ix_bag.specs.Label.{value_of}
 use Rattle.s2ix_bag.specs.OfLabel.{held_of}
 use Rattle.s2ix_bag.specs.Pair.{rank_of}
@@ -126,7 +126,7 @@ gone_changes test n (h ∷ hs) is =
     (cases_Bool (test h))
 
 -- the entries that take a label's pairs away make the collection without them
-pub gone_makes : (bag : Contents) (label : Label) → IsCollection bag.held → Makes bag (without label bag.held) (map removal_of (held_of label bag.held))
+pub gone_makes : (bag : LimitedCollection) (label : Label) → IsCollection bag.held → Makes bag (without label bag.held) (map removal_of (held_of label bag.held))
 gone_makes bag label is = record {
   rises = part_rises (is_of label) 0 bag.held is;
   matches = no_mismatch bag.held (map removal_of (held_of label bag.held)) (gone_before (is_of label) 0 bag.held is);

@@ -3,7 +3,7 @@ use Rattle.std.proofs.Common.{◌≡◌, ◌≢◌, ◌-◌, List, [], ◌∷◌
 use Rattle.s2ix_bag.specs.declared.pair.Entry.{Entry}
 use Rattle.s2ix_bag.specs.declared.pair.Pair.{Pair}
 use Rattle.s2ix_bag.specs.Change.{counts_at, difference_of}
-use Rattle.s2ix_bag.specs.Collection.{Contents, count_in}
+use Rattle.s2ix_bag.specs.Collection.{LimitedCollection, count_in}
 use Rattle.s2ix_bag.specs.Pair.{rank_of}
 use Rattle.s2ix_bag.proofs.Differences.{counts_between}
 use Rattle.s2ix_edit.specs.declared.edit.Edit.{Edit}
@@ -13,8 +13,8 @@ use Rattle.s2ix_edit.proofs.Edited.{held_edited_is_collection}
 use Rattle.s2ix_edit.proofs.Places.{Redoes, Undoes}
 use Rattle.s2ix_edit.proofs.Redone.{redo_of_last, redo_of_undo}
 use Rattle.s2ix_edit.proofs.Undone.{front_of, undo_of_edit, undo_of_last}
-use Rattle.s2ix_table.specs.Table.{Run, IsRangeTable, leaf_end}
-use Rattle.s2ix_table.proofs.Runs.{same_table, table_from_places}
+use Rattle.s2ix_table.specs.Table.{Range, IsRangeTable, leaf_end}
+use Rattle.s2ix_table.proofs.Ranges.{same_table, table_from_places}
 
 -- the counts that an edit records are those of the two collections
 pub counts_recorded : (before after : State) (edit : Edit) → IsStore before → after ≡ after_edit before edit → (pair : Pair) → counts_at (change_of before edit) (rank_of pair) ≡ difference_of (count_in before.bag.held pair) (count_in after.bag.held pair)
@@ -26,7 +26,7 @@ counts_recorded before after edit st is pair =
 
 same_state : (s t : State) → s.bag ≡ t.bag → s.done ≡ t.done → s.undone ≡ t.undone → s ≡ t
 same_state s t bag done undone =
-    ap₂ (λ (b : Contents) (d : List (List Entry)). let r : State = record { bag = b; done = d; undone = s.undone } in r) bag done
+    ap₂ (λ (b : LimitedCollection) (d : List (List Entry)). let r : State = record { bag = b; done = d; undone = s.undone } in r) bag done
     ∙ ap (λ (u : List (List Entry)). let r : State = record { bag = t.bag; done = t.done; undone = u } in r) undone
 
 -- equal states have the same bag and the same changes
@@ -67,8 +67,8 @@ undo_taken_back s before after es st some is r =
 -- ---- the range table
 
 -- two equal bags have one range table
-pub same_tables : (bag other : Contents) (xs ys : List Run) → other ≡ bag → IsRangeTable bag.held xs → IsRangeTable other.held ys → ys ≡ xs
+pub same_tables : (bag other : LimitedCollection) (xs ys : List Range) → other ≡ bag → IsRangeTable bag.held xs → IsRangeTable other.held ys → ys ≡ xs
 same_tables bag other xs ys is x y =
-    let OfBag : Contents → Type 0 = λ b. IsRangeTable b.held ys in
+    let OfBag : LimitedCollection → Type 0 = λ b. IsRangeTable b.held ys in
     let y' = subst OfBag is y in
     same_table bag.held 1 ys xs leaf_end (table_from_places bag.held 1 leaf_end ys y') (table_from_places bag.held 1 leaf_end xs x)

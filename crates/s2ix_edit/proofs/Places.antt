@@ -5,7 +5,7 @@ use Rattle.std.proofs.Math.Seq.{drop-append_seam, take-append-add}
 use Rattle.s2ix_bag.specs.declared.pair.Entry.{Entry}
 use Rattle.s2ix_bag.specs.Apply.{apply_refusal, first_mismatch}
 use Rattle.s2ix_bag.specs.Change.{changed, inverse_of, IsChangeList}
-use Rattle.s2ix_bag.specs.Collection.{Collection, Contents, IsBag, IsCollection}
+use Rattle.s2ix_bag.specs.Collection.{Collection, LimitedCollection, IsBag, IsCollection}
 use Rattle.s2ix_bag.specs.Limits.{changes_limit}
 use Rattle.s2ix_edit.specs.State.{State, IsStore, CanGoBack, CanGoOn, earlier, later, history_of, holding}
 use Rattle.s2ix_edit.specs.Plan.{after_record}
@@ -40,7 +40,7 @@ collections_recorded hs new es done rest back =
     ∙ ap (λ xs. xs ++ new ∷ []) (sym (take_through (earlier hs (reverse done)) rest hs (length done) (length-earlier hs (reverse done) ∙ length-reverse done)))
 
 -- a bag that a change made can go back over it, and on as before
-back_over : (bag : Contents) (done : List (List Entry)) (es : List Entry) → IsBag bag → CanGoBack bag (reverse done) → IsChangeList es → 0 < length es → apply_refusal bag es ≡ None → CanGoBack (holding bag (changed bag.held es)) (reverse (done ++ es ∷ []))
+back_over : (bag : LimitedCollection) (done : List (List Entry)) (es : List Entry) → IsBag bag → CanGoBack bag (reverse done) → IsChangeList es → 0 < length es → apply_refusal bag es ≡ None → CanGoBack (holding bag (changed bag.held es)) (reverse (done ++ es ∷ []))
 back_over bag done es b back rises some taken =
     let Back : List (List Entry) → Type 0 = λ xs. CanGoBack (holding bag (changed bag.held es)) xs in
     let Older : Collection → Type 0 = λ hs. CanGoBack (holding bag hs) (reverse done) in
@@ -51,7 +51,7 @@ back_over bag done es b back rises some taken =
 pub stands_recorded : (s after : State) (es : List Entry) → after ≡ after_record s es → IsStore s → length s.done < changes_limit s.bag.limits → IsChangeList es → 0 < length es → apply_refusal s.bag es ≡ None → IsBag after.bag → IsStore after
 stands_recorded s after es is st room rises some taken b =
     let Stands : State → Type 0 = λ t. IsStore t in
-    let Bag : Contents → Type 0 = λ bag. IsBag bag in
+    let Bag : LimitedCollection → Type 0 = λ bag. IsBag bag in
     subst Stands (sym is) (record {
       bag = subst Bag (ap (λ (t : State). t.bag) is) b;
       back = back_over s.bag s.done es st.bag st.back rises some taken;
@@ -83,12 +83,12 @@ goes_back s front es st is =
     subst Back (ap reverse is ∙ reverse_push front es) st.back
 
 -- and forth again: the change taken back twice is the change
-pub forth_again : (bag : Contents) (es : List Entry) → IsCollection bag.held → IsChangeList es → first_mismatch bag (inverse_of es) ≡ None → changed (changed bag.held (inverse_of es)) es ≡ bag.held
+pub forth_again : (bag : LimitedCollection) (es : List Entry) → IsCollection bag.held → IsChangeList es → first_mismatch bag (inverse_of es) ≡ None → changed (changed bag.held (inverse_of es)) es ≡ bag.held
 forth_again bag es c rises matches =
     ap (λ xs. changed (changed bag.held (inverse_of es)) xs) (sym (inverse-inverse es))
     ∙ changed_back bag (inverse_of es) c (inverse_keeps es rises) matches
 
-pub taken_again : (bag : Contents) (es : List Entry) → IsBag bag → IsChangeList es → apply_refusal bag (inverse_of es) ≡ None → apply_refusal (holding bag (changed bag.held (inverse_of es))) es ≡ None
+pub taken_again : (bag : LimitedCollection) (es : List Entry) → IsBag bag → IsChangeList es → apply_refusal bag (inverse_of es) ≡ None → apply_refusal (holding bag (changed bag.held (inverse_of es))) es ≡ None
 taken_again bag es b rises taken =
     ap (λ xs. apply_refusal (holding bag (changed bag.held (inverse_of es))) xs) (sym (inverse-inverse es))
     ∙ takes_back bag (inverse_of es) b (inverse_keeps es rises) taken
@@ -98,8 +98,8 @@ pub stands_undone : (s after : State) (es : List Entry) → IsStore s → Undoes
 stands_undone s after es st u b =
     let back = goes_back s after.done es st u.done in
     let matches = not_mismatched s.bag (inverse_of es) back.2 in
-    let Back : Contents → Type 0 = λ bag. CanGoBack bag (reverse after.done) in
-    let On : Contents → Type 0 = λ bag. CanGoOn bag (es ∷ reverse s.undone) in
+    let Back : LimitedCollection → Type 0 = λ bag. CanGoBack bag (reverse after.done) in
+    let On : LimitedCollection → Type 0 = λ bag. CanGoOn bag (es ∷ reverse s.undone) in
     let OnList : List (List Entry) → Type 0 = λ xs. CanGoOn after.bag xs in
     let Later : Collection → Type 0 = λ hs. CanGoOn (holding s.bag hs) (reverse s.undone) in
     record {
@@ -110,7 +110,7 @@ stands_undone s after es st u b =
           (back.0, back.1, taken_again s.bag es st.bag back.0 back.2, subst Later (sym (forth_again s.bag es st.bag.rises back.0 matches)) st.on));
       room =
           let few = st.room in
-          let limits = ap (λ (bag : Contents). changes_limit bag.limits) u.bag in
+          let limits = ap (λ (bag : LimitedCollection). changes_limit bag.limits) u.bag in
           omega (arith, few, limits, ap length u.done, ap length u.undone, length-append after.done (es ∷ []), length-append s.undone (es ∷ []));
     }
 
@@ -119,7 +119,7 @@ history_undone s after es st u =
     let back = goes_back s after.done es st u.done in
     let matches = not_mismatched s.bag (inverse_of es) back.2 in
     let prev = changed s.bag.held (inverse_of es) in
-    let held_is : after.bag.held ≡ prev = ap (λ (bag : Contents). bag.held) u.bag in
+    let held_is : after.bag.held ≡ prev = ap (λ (bag : LimitedCollection). bag.held) u.bag in
     ap₂ (λ (collections : List Collection) (cursor : ℕ). let h : History = record { collections = collections; cursor = cursor } in h)
     (ap (λ k. earlier k (reverse after.done) ++ k ∷ later k (reverse after.undone)) held_is
     ∙ ap (λ xs. earlier prev (reverse after.done) ++ prev ∷ later prev (reverse xs)) u.undone
@@ -144,16 +144,16 @@ goes_on s front es st is =
 pub stands_redone : (s after : State) (es : List Entry) → IsStore s → Redoes s after es → IsBag after.bag → IsStore after
 stands_redone s after es st r b =
     let on = goes_on s after.undone es st r.undone in
-    let Back : Contents → Type 0 = λ bag. CanGoBack bag (reverse (s.done ++ es ∷ [])) in
+    let Back : LimitedCollection → Type 0 = λ bag. CanGoBack bag (reverse (s.done ++ es ∷ [])) in
     let BackList : List (List Entry) → Type 0 = λ xs. CanGoBack after.bag (reverse xs) in
-    let On : Contents → Type 0 = λ bag. CanGoOn bag (reverse after.undone) in
+    let On : LimitedCollection → Type 0 = λ bag. CanGoOn bag (reverse after.undone) in
     record {
       bag = b;
       back = subst BackList (sym r.done) (subst Back (sym r.bag) (back_over s.bag s.done es st.bag st.back on.0 on.1 on.2));
       on = subst On (sym r.bag) on.3;
       room =
           let few = st.room in
-          let limits = ap (λ (bag : Contents). changes_limit bag.limits) r.bag in
+          let limits = ap (λ (bag : LimitedCollection). changes_limit bag.limits) r.bag in
           omega (arith, few, limits, ap length r.done, ap length r.undone, length-append s.done (es ∷ []), length-append after.undone (es ∷ []));
     }
 

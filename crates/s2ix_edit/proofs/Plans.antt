@@ -7,7 +7,7 @@ use Rattle.s2ix_bag.specs.declared.pair.Pair.{Pair}
 use Rattle.s2ix_bag.specs.declared.pair.Entry.{Entry}
 use Rattle.s2ix_bag.specs.Apply.{first_mismatch}
 use Rattle.s2ix_bag.specs.Change.{changed, IsChangeList}
-use Rattle.s2ix_bag.specs.Collection.{Collection, Contents, IsBag, count_in, set_count}
+use Rattle.s2ix_bag.specs.Collection.{Collection, LimitedCollection, IsBag, count_in, set_count}
 use Rattle.s2ix_edit.specs.declared.edit.Edit.{Edit}
 use Rattle.s2ix_edit.specs.declared.edit.Edit.TheVariants.{Add, Remove}
 use Rattle.s2ix_edit.specs.Edit.{edited_alone}
@@ -16,7 +16,7 @@ use Rattle.s2ix_edit.specs.Refusals.{lacks_label, takes_too_many}
 use Rattle.s2ix_bag.proofs.Collections.{set_count_in}
 
 -- the entries make this collection of the bag's: the counts before are the bag's, and those after the collection's
-pub record Makes (bag : Contents) (new : Collection) (es : List Entry) : Type 0 where
+pub record Makes (bag : LimitedCollection) (new : Collection) (es : List Entry) : Type 0 where
   pub rises : IsChangeList es
   pub matches : first_mismatch bag es ≡ None
   pub result : changed bag.held es ≡ new
@@ -41,7 +41,7 @@ position_of_one : {X : Type 0} (test : X → Bool) (x : X) → test x ≡ false 
 position_of_one test x e =
     ap (λ b. cond (ltb (cond (not b) (1 + 0) 0) 1) (Some (cond (not b) (1 + 0) 0)) None) e
 
-one_matches : (bag : Contents) (p : Pair) (n : ℕ) → first_mismatch bag (one_entry p (count_in bag.held p) n) ≡ None
+one_matches : (bag : LimitedCollection) (p : Pair) (n : ℕ) → first_mismatch bag (one_entry p (count_in bag.held p) n) ≡ None
 one_matches bag p n =
     let Matches : List Entry → Type 0 = λ es. first_mismatch bag es ≡ None in
     ⊎_elim
@@ -59,7 +59,7 @@ one_changes hs p m n same =
     (cases_eq m n)
 
 -- an edit that sets one count is carried out by the entry of that pair
-pub one_plans : (bag : Contents) (edit : Edit) (p : Pair) (n : ℕ) → IsBag bag → lacks_label edit bag.held ≡ false → takes_too_many edit bag.held ≡ false → edited_alone edit bag.held ≡ set_count p n bag.held → Plans bag edit (one_entry p (count_in bag.held p) n)
+pub one_plans : (bag : LimitedCollection) (edit : Edit) (p : Pair) (n : ℕ) → IsBag bag → lacks_label edit bag.held ≡ false → takes_too_many edit bag.held ≡ false → edited_alone edit bag.held ≡ set_count p n bag.held → Plans bag edit (one_entry p (count_in bag.held p) n)
 one_plans bag edit p n b known allowed makes = record {
   known = known;
   allowed = allowed;
@@ -69,21 +69,21 @@ one_plans bag edit p n b known allowed makes = record {
 }
 
 -- the entry of an addition carries it out
-pub add_plans : (bag : Contents) (p : Pair) (copies before after : ℕ) (es : List Entry) → IsBag bag → before ≡ count_in bag.held p → before + copies ≡ after → es ≡ one_entry p before after → Plans bag (Add p copies) es
+pub add_plans : (bag : LimitedCollection) (p : Pair) (copies before after : ℕ) (es : List Entry) → IsBag bag → before ≡ count_in bag.held p → before + copies ≡ after → es ≡ one_entry p before after → Plans bag (Add p copies) es
 add_plans bag p copies before after es b is_before is_after is =
     let Carries : List Entry → Type 0 = λ xs. Plans bag (Add p copies) xs in
     let own = one_plans bag (Add p copies) p (count_in bag.held p + copies) b refl refl refl in
     subst Carries (sym (is ∙ ap (λ m. one_entry p m after) is_before ∙ ap (λ n. one_entry p (count_in bag.held p) n) (omega arith))) own
 
 -- the entry of a removal carries it out
-pub remove_plans : (bag : Contents) (p : Pair) (copies before after : ℕ) (es : List Entry) → IsBag bag → before ≡ count_in bag.held p → copies ≤ before → before - copies ≡ after → es ≡ one_entry p before after → Plans bag (Remove p copies) es
+pub remove_plans : (bag : LimitedCollection) (p : Pair) (copies before after : ℕ) (es : List Entry) → IsBag bag → before ≡ count_in bag.held p → copies ≤ before → before - copies ≡ after → es ≡ one_entry p before after → Plans bag (Remove p copies) es
 remove_plans bag p copies before after es b is_before le is_after is =
     let Carries : List Entry → Type 0 = λ xs. Plans bag (Remove p copies) xs in
     let own = one_plans bag (Remove p copies) p (count_in bag.held p - copies) b refl (le-ltb _ _ (omega arith)) refl in
     subst Carries (sym (is ∙ ap (λ m. one_entry p m after) is_before ∙ ap (λ n. one_entry p (count_in bag.held p) n) (omega arith))) own
 
 -- entries that make the edited collection carry the edit out
-pub plans_from_makes : (bag : Contents) (edit : Edit) (es : List Entry) → lacks_label edit bag.held ≡ false → takes_too_many edit bag.held ≡ false → Makes bag (edited_alone edit bag.held) es → Plans bag edit es
+pub plans_from_makes : (bag : LimitedCollection) (edit : Edit) (es : List Entry) → lacks_label edit bag.held ≡ false → takes_too_many edit bag.held ≡ false → Makes bag (edited_alone edit bag.held) es → Plans bag edit es
 plans_from_makes bag edit es known allowed makes = record {
   known = known;
   allowed = allowed;

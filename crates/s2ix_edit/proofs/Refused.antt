@@ -6,7 +6,7 @@ use Rattle.std.specs.List.{list_any}
 use Rattle.s2ix_bag.specs.declared.pair.Pair.{Pair}
 use Rattle.s2ix_bag.specs.declared.pair.Entry.{Entry}
 use Rattle.s2ix_bag.specs.Change.{change_between, changed}
-use Rattle.s2ix_bag.specs.Collection.{Collection, Contents, IsBag, IsCollection, count_in}
+use Rattle.s2ix_bag.specs.Collection.{Collection, LimitedCollection, IsBag, IsCollection, count_in}
 use Rattle.s2ix_bag.specs.Limits.{pairs_limit, count_limit, changes_limit}
 use Rattle.s2ix_edit.specs.declared.edit.Edit.{Edit}
 use Rattle.s2ix_edit.specs.declared.edit.Edit.TheVariants.{Add}
@@ -23,7 +23,7 @@ use Rattle.s2ix_bag.proofs.Differences.{changed_between}
 use Rattle.s2ix_bag.specs.Pair.{rank_of}
 
 -- the refusals after that of a full journal, of an edit that makes this collection
-refusal_with_room : Contents → Edit → Collection → Option EditError
+refusal_with_room : LimitedCollection → Edit → Collection → Option EditError
 refusal_with_room bag edit new =
     cond (lacks_label edit bag.held) (Some NoSuchLabel) (cond (takes_too_many edit bag.held) (Some NotHeld)
     (cond (length (change_between bag.held new) == 0) (Some NoChange) (cond (has_count_above (count_limit bag.limits) new) (Some TooManyCopies)
@@ -37,7 +37,7 @@ with_room s edit room =
     cond-false _ _ _ (lt-leb _ _ room) ∙ ap (refusal_with_room s.bag edit) (edited_held s edit) ∙ sym (cond-false _ _ _ (lt-leb _ _ fresh))
 
 -- a store with no history has room in its journal
-starts_with_room : (bag : Contents) → length (starting_at bag).done < changes_limit bag.limits
+starts_with_room : (bag : LimitedCollection) → length (starting_at bag).done < changes_limit bag.limits
 starts_with_room bag = let range = bag.limits.in_range in omega (arith, range)
 
 -- ---- the three refusals that are found while the change is made
@@ -46,34 +46,34 @@ first_of_three : Bool → Bool → Bool → Option EditError
 first_of_three same high many =
     cond same (Some NoChange) (cond high (Some TooManyCopies) (cond many (Some TooManyPairs) None))
 
-is_high : Contents → Collection → Bool
+is_high : LimitedCollection → Collection → Bool
 is_high bag hs = has_count_above (count_limit bag.limits) hs
 
-later_refusal : (bag : Contents) (edit : Edit) → lacks_label edit bag.held ≡ false → takes_too_many edit bag.held ≡ false → edit_refusal (starting_at bag) edit ≡ first_of_three (length (change_between bag.held (edited_alone edit bag.held)) == 0) (is_high bag (edited_alone edit bag.held)) (ltb (pairs_limit bag.limits) (length (edited_alone edit bag.held)))
+later_refusal : (bag : LimitedCollection) (edit : Edit) → lacks_label edit bag.held ≡ false → takes_too_many edit bag.held ≡ false → edit_refusal (starting_at bag) edit ≡ first_of_three (length (change_between bag.held (edited_alone edit bag.held)) == 0) (is_high bag (edited_alone edit bag.held)) (ltb (pairs_limit bag.limits) (length (edited_alone edit bag.held)))
 unfolding first_of_three is_high
 later_refusal bag edit known allowed =
     cond-false _ _ _ (lt-leb _ _ (starts_with_room bag)) ∙ cond-false _ _ _ known ∙ cond-false _ _ _ allowed
 
 -- ---- the refusals of planned entries
 
-any_high : (bag : Contents) (edit : Edit) (es : List Entry) → IsBag bag → Plans bag edit es → is_high bag (edited_alone edit bag.held) ≡ list_any (λ e. ltb (count_limit bag.limits) e.after) es
+any_high : (bag : LimitedCollection) (edit : Edit) (es : List Entry) → IsBag bag → Plans bag edit es → is_high bag (edited_alone edit bag.held) ≡ list_any (λ e. ltb (count_limit bag.limits) e.after) es
 unfolding is_high
 any_high bag edit es b plans =
     ap (λ hs. has_count_above (count_limit bag.limits) hs) (sym plans.result)
     ∙ any_above_changed (count_limit bag.limits) bag.held es b.rises plans.rises b.small
 
 -- the change that an edit of the collection alone records is its plan
-planned_change : (bag : Contents) (edit : Edit) (es : List Entry) → IsBag bag → Plans bag edit es → change_between bag.held (edited_alone edit bag.held) ≡ es
+planned_change : (bag : LimitedCollection) (edit : Edit) (es : List Entry) → IsBag bag → Plans bag edit es → change_between bag.held (edited_alone edit bag.held) ≡ es
 planned_change bag edit es b plans =
     ap (λ hs. change_between bag.held hs) (sym plans.result)
     ∙ between_changed bag es b.rises plans.rises plans.matches
 
-entries_by_three : (bag : Contents) (es : List Entry) → first_of_three (length es == 0) (list_any (λ e. ltb (count_limit bag.limits) e.after) es) (ltb (pairs_limit bag.limits) (length (changed bag.held es))) ≡ entries_refusal bag es
+entries_by_three : (bag : LimitedCollection) (es : List Entry) → first_of_three (length es == 0) (list_any (λ e. ltb (count_limit bag.limits) e.after) es) (ltb (pairs_limit bag.limits) (length (changed bag.held es))) ≡ entries_refusal bag es
 unfolding first_of_three
 entries_by_three bag es = refl
 
 -- an edit is refused as the entries that it plans are
-pub planned_refusal : (bag : Contents) (edit : Edit) (es : List Entry) → IsBag bag → Plans bag edit es → edit_refusal (starting_at bag) edit ≡ entries_refusal bag es
+pub planned_refusal : (bag : LimitedCollection) (edit : Edit) (es : List Entry) → IsBag bag → Plans bag edit es → edit_refusal (starting_at bag) edit ≡ entries_refusal bag es
 planned_refusal bag edit es b plans =
     let many : Collection → Bool = λ hs. ltb (pairs_limit bag.limits) (length hs) in
     let high : Bool = list_any (λ (e : Entry). ltb (count_limit bag.limits) e.after) es in
@@ -84,7 +84,7 @@ planned_refusal bag edit es b plans =
     ∙ entries_by_three bag es
 
 -- entries that are not refused are some
-pub some_entries : (bag : Contents) (es : List Entry) → entries_refusal bag es ≡ None → 0 < length es
+pub some_entries : (bag : LimitedCollection) (es : List Entry) → entries_refusal bag es ≡ None → 0 < length es
 some_entries bag [] none = let clash : ◌≡◌ {A = Option EditError} (Some NoChange) None = none in cc
 some_entries bag (e ∷ es) none = omega arith
 
@@ -95,7 +95,7 @@ no_entries [] is = refl
 no_entries (e ∷ es) is = absurd (omega (arith, eqb-true (length (e ∷ es)) 0 is))
 
 -- where a count of the edited collection passes the limit, the edit changes the collection
-changes_some : (bag : Contents) (new : Collection) → IsBag bag → IsCollection new → has_count_above (count_limit bag.limits) new ≡ true → (length (change_between bag.held new) == 0) ≡ false
+changes_some : (bag : LimitedCollection) (new : Collection) → IsBag bag → IsCollection new → has_count_above (count_limit bag.limits) new ≡ true → (length (change_between bag.held new) == 0) ≡ false
 changes_some bag new b is high =
     ⊎_elim
     (λ none.
@@ -106,7 +106,7 @@ changes_some bag new b is high =
     (cases_Bool (length (change_between bag.held new) == 0))
 
 -- an edit that makes a count above the limit is refused for its copies
-pub too_high : (bag : Contents) (edit : Edit) → IsBag bag → lacks_label edit bag.held ≡ false → takes_too_many edit bag.held ≡ false → has_count_above (count_limit bag.limits) (edited_alone edit bag.held) ≡ true → edit_refusal (starting_at bag) edit ≡ Some TooManyCopies
+pub too_high : (bag : LimitedCollection) (edit : Edit) → IsBag bag → lacks_label edit bag.held ≡ false → takes_too_many edit bag.held ≡ false → has_count_above (count_limit bag.limits) (edited_alone edit bag.held) ≡ true → edit_refusal (starting_at bag) edit ≡ Some TooManyCopies
 unfolding first_of_three is_high
 too_high bag edit b known allowed high =
     let many : Bool = ltb (pairs_limit bag.limits) (length (edited_alone edit bag.held)) in
@@ -115,7 +115,7 @@ too_high bag edit b known allowed high =
     ∙ ap (λ t. first_of_three false t many) high
 
 -- a sum above every limit is refused for its copies
-pub sum_too_high : (bag : Contents) (p : Pair) (copies before : ℕ) → IsBag bag → before ≡ count_in bag.held p → 4294967296 ≤ before + copies → edit_refusal (starting_at bag) (Add p copies) ≡ Some TooManyCopies
+pub sum_too_high : (bag : LimitedCollection) (p : Pair) (copies before : ℕ) → IsBag bag → before ≡ count_in bag.held p → 4294967296 ≤ before + copies → edit_refusal (starting_at bag) (Add p copies) ≡ Some TooManyCopies
 sum_too_high bag p copies before b is_before high =
     let range = bag.limits.in_range in
     let sum = count_in-set_count_same p (count_in bag.held p + copies) bag.held b.rises in

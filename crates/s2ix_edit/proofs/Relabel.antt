@@ -12,7 +12,7 @@ use Rattle.s2ix_bag.specs.declared.pair.Held.{Held}
 use Rattle.s2ix_bag.specs.declared.pair.Entry.{Entry}
 use Rattle.s2ix_bag.specs.Apply.{AreBefore}
 use Rattle.s2ix_bag.specs.Change.{changed, removal_of, IsChangeListFrom}
-use Rattle.s2ix_bag.specs.Collection.{Collection, Contents, IsBag, IsCollection, IsCollectionFrom, count_at, count_in, set_count}
+use Rattle.s2ix_bag.specs.Collection.{Collection, LimitedCollection, IsBag, IsCollection, IsCollectionFrom, count_at, count_in, set_count}
 use Rattle.s2ix_bag.specs.Label.{value_of}
 use Rattle.s2ix_bag.specs.Limits.{count_limit}
 use Rattle.s2ix_bag.specs.OfLabel.{held_of}
@@ -187,7 +187,7 @@ moves_change hs ks v target m (h ∷ rest) part apart is same =
     (cases_lt (value_of h.pair.label) (value_of target))
 
 -- the entries of all moves make the collection with the copies moved
-pub moves_make : (bag : Contents) (source target : Label) → IsCollection bag.held → value_of source ≢ value_of target → Makes bag (with_all_moved target (held_of source bag.held) bag.held) (moves bag.held target (held_of source bag.held))
+pub moves_make : (bag : LimitedCollection) (source target : Label) → IsCollection bag.held → value_of source ≢ value_of target → Makes bag (with_all_moved target (held_of source bag.held) bag.held) (moves bag.held target (held_of source bag.held))
 moves_make bag source target is apart =
     let hs = bag.held in
     let part = part_of hs source is in
@@ -307,7 +307,7 @@ moves_more hs target front h before after es new es_is is_before is_after is =
     ∙ sym (flat_map-append (move_of hs target) front (h ∷ []))
 
 -- a sum above every limit is a count above the limit
-pub sum_above : (bag : Contents) (source target : Label) (front : List Held) (h : Held) (rest : List Held) → IsBag bag → value_of source ≢ value_of target → front ++ h ∷ rest ≡ held_of source bag.held → 4294967296 ≤ count_in bag.held (pair_of h.pair.cell target) + h.count → has_count_above (count_limit bag.limits) (with_all_moved target (held_of source bag.held) bag.held) ≡ true
+pub sum_above : (bag : LimitedCollection) (source target : Label) (front : List Held) (h : Held) (rest : List Held) → IsBag bag → value_of source ≢ value_of target → front ++ h ∷ rest ≡ held_of source bag.held → 4294967296 ≤ count_in bag.held (pair_of h.pair.cell target) + h.count → has_count_above (count_limit bag.limits) (with_all_moved target (held_of source bag.held) bag.held) ≡ true
 sum_above bag source target front h rest b apart is high =
     let hs = bag.held in
     let Part : List Held → Type 0 = λ ks. ArePart hs (value_of source) 0 ks in

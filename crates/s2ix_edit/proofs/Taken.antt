@@ -7,7 +7,7 @@ use Rattle.s2ix_bag.specs.declared.pair.Held.{Held}
 use Rattle.s2ix_bag.specs.declared.pair.Entry.{Entry}
 use Rattle.s2ix_bag.specs.Apply.{apply_refusal, first_mismatch}
 use Rattle.s2ix_bag.specs.Change.{change_between, changed, counts_at, count_after, inverse_of, IsChangeList, IsChangeListFrom}
-use Rattle.s2ix_bag.specs.Collection.{Collection, Contents, IsBag, IsCollection, count_at}
+use Rattle.s2ix_bag.specs.Collection.{Collection, LimitedCollection, IsBag, IsCollection, count_at}
 use Rattle.s2ix_bag.specs.Pair.{rank_of}
 use Rattle.s2ix_bag.proofs.Applied.{change_between-changed, changed_inverse}
 use Rattle.s2ix_bag.proofs.Changes.{count_changed, counts_head, counts_tail, counts_below}
@@ -17,23 +17,23 @@ use Rattle.s2ix_edit.specs.Refusals.{has_count_above}
 use Rattle.s2ix_bag.proofs.Refusals.{before_from_no_mismatch, inverse_taken, no_mismatch, none_from_within, refusal_of_taken, taken_from_none, within_from_none}
 
 -- the change to a changed collection is the change itself
-pub between_changed : (bag : Contents) (es : List Entry) → IsCollection bag.held → IsChangeList es → first_mismatch bag es ≡ None → change_between bag.held (changed bag.held es) ≡ es
+pub between_changed : (bag : LimitedCollection) (es : List Entry) → IsCollection bag.held → IsChangeList es → first_mismatch bag es ≡ None → change_between bag.held (changed bag.held es) ≡ es
 between_changed bag es c rises matches =
     change_between-changed bag.held es c rises (before_from_no_mismatch bag.held es matches)
 
 -- a change and then its inverse gives the first collection
-pub changed_back : (bag : Contents) (es : List Entry) → IsCollection bag.held → IsChangeList es → first_mismatch bag es ≡ None → changed (changed bag.held es) (inverse_of es) ≡ bag.held
+pub changed_back : (bag : LimitedCollection) (es : List Entry) → IsCollection bag.held → IsChangeList es → first_mismatch bag es ≡ None → changed (changed bag.held es) (inverse_of es) ≡ bag.held
 changed_back bag es c rises matches =
     changed_inverse bag.held es c rises (before_from_no_mismatch bag.held es matches)
 
 -- the inverse of a change that a bag takes is taken by the bag that it makes
-pub takes_back : (bag : Contents) (es : List Entry) → IsBag bag → IsChangeList es → apply_refusal bag es ≡ None → apply_refusal (record { limits = bag.limits; held = changed bag.held es }) (inverse_of es) ≡ None
+pub takes_back : (bag : LimitedCollection) (es : List Entry) → IsBag bag → IsChangeList es → apply_refusal bag es ≡ None → apply_refusal (record { limits = bag.limits; held = changed bag.held es }) (inverse_of es) ≡ None
 takes_back bag es b rises taken =
     refusal_of_taken (record { limits = bag.limits; held = changed bag.held es }) (inverse_of es)
     (inverse_taken bag es b rises (taken_from_none bag es taken))
 
 -- a change that is taken has the counts before that are held
-pub not_mismatched : (bag : Contents) (es : List Entry) → apply_refusal bag es ≡ None → first_mismatch bag es ≡ None
+pub not_mismatched : (bag : LimitedCollection) (es : List Entry) → apply_refusal bag es ≡ None → first_mismatch bag es ≡ None
 not_mismatched bag es taken = no_mismatch bag.held es (taken_from_none bag es taken).before
 
 -- ---- a count above a limit

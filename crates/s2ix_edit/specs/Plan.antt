@@ -7,7 +7,7 @@ use Rattle.s2ix_bag.specs.declared.pair.Pair.{Pair}
 use Rattle.s2ix_bag.specs.Apply.{first_mismatch}
 use Rattle.s2ix_bag.specs.Change.{changed, removal_of, IsChangeList}
 use Rattle.s2ix_bag.specs.Label.{value_of}
-use Rattle.s2ix_bag.specs.Collection.{Contents}
+use Rattle.s2ix_bag.specs.Collection.{LimitedCollection}
 use Rattle.s2ix_bag.specs.Limits.{pairs_limit, count_limit}
 use Rattle.s2ix_edit.specs.declared.edit.Edit.{Edit}
 use Rattle.s2ix_edit.specs.declared.errors.EditError.{EditError}
@@ -17,7 +17,7 @@ use Rattle.s2ix_edit.specs.State.{State, holding}
 use Rattle.s2ix_edit.specs.Refusals.{lacks_label, takes_too_many}
 
 -- a store that stands at a bag and has no history
-abbrev pub starting_at : Contents → State
+abbrev pub starting_at : LimitedCollection → State
 starting_at bag = record { bag = bag; done = []; undone = [] }
 
 -- the entries that change the count of one pair: none where it stays
@@ -27,7 +27,7 @@ one_entry pair before after =
 
 -- the entries carry the edit out: its label is held, it takes no more than is held, the counts before are the bag's,
 -- and the counts after make the edited collection
-pub record Plans (bag : Contents) (edit : Edit) (es : List Entry) : Type 0 where
+pub record Plans (bag : LimitedCollection) (edit : Edit) (es : List Entry) : Type 0 where
   pub known : lacks_label edit bag.held ≡ false
   pub allowed : takes_too_many edit bag.held ≡ false
   pub rises : IsChangeList es
@@ -36,7 +36,7 @@ pub record Plans (bag : Contents) (edit : Edit) (es : List Entry) : Type 0 where
 
 -- why a store refuses planned entries, memory aside: none of them, else a count after above the limit, else more
 -- distinct pairs than the limit; `None` where it takes them
-abbrev pub entries_refusal : Contents → List Entry → Option EditError
+abbrev pub entries_refusal : LimitedCollection → List Entry → Option EditError
 entries_refusal bag es =
     if length es == 0 then Some NoChange
     else (if list_any (λ e. nat_lt (count_limit bag.limits) e.after) es then Some TooManyCopies

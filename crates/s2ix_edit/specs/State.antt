@@ -3,7 +3,7 @@ use Rattle.std.specs.Prelude.{◌≡◌, ℕ, ◌+◌, ◌-◌, ◌<◌, ◌≤�
 use Rattle.s2ix_bag.specs.declared.pair.Entry.{Entry}
 use Rattle.s2ix_bag.specs.Apply.{apply_refusal}
 use Rattle.s2ix_bag.specs.Change.{change_between, changed, inverse_of, IsChangeList}
-use Rattle.s2ix_bag.specs.Collection.{Collection, Contents, IsBag}
+use Rattle.s2ix_bag.specs.Collection.{Collection, LimitedCollection, IsBag}
 use Rattle.s2ix_bag.specs.Limits.{changes_limit}
 use Rattle.s2ix_edit.specs.declared.edit.Edit.{Edit}
 use Rattle.s2ix_edit.specs.Edit.{edited}
@@ -12,7 +12,7 @@ use Rattle.s2ix_edit.specs.History.{History}
 -- what contracts see of a store: its bag, the changes that led to it, the oldest first, and those that were
 -- undone, the last undone at the end
 pub record State : Type 0 where
-  pub bag : Contents
+  pub bag : LimitedCollection
   pub done : List (List Entry)
   pub undone : List (List Entry)
 
@@ -34,7 +34,7 @@ history_of s = record {
 }
 
 -- a bag with another collection
-abbrev pub holding : Contents → Collection → Contents
+abbrev pub holding : LimitedCollection → Collection → LimitedCollection
 holding bag hs = record { limits = bag.limits; held = hs }
 
 -- the change that an edit records
@@ -94,13 +94,13 @@ abbrev pub after_forget : State → State
 after_forget s = record { bag = s.bag; done = []; undone = [] }
 
 -- changes, the newest first, that can be taken back from a bag one after the other
-abbrev pub CanGoBack : Contents → List (List Entry) → Type 0
+abbrev pub CanGoBack : LimitedCollection → List (List Entry) → Type 0
 CanGoBack bag [] = Unit {0}
 CanGoBack bag (es ∷ older) =
     IsChangeList es × (0 < length es) × (apply_refusal bag (inverse_of es) ≡ None) × CanGoBack (holding bag (changed bag.held (inverse_of es))) older
 
 -- changes that can be done to a bag one after the other
-abbrev pub CanGoOn : Contents → List (List Entry) → Type 0
+abbrev pub CanGoOn : LimitedCollection → List (List Entry) → Type 0
 CanGoOn bag [] = Unit {0}
 CanGoOn bag (es ∷ rest) =
     IsChangeList es × (0 < length es) × (apply_refusal bag es ≡ None) × CanGoOn (holding bag (changed bag.held es)) rest

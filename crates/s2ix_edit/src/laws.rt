@@ -13,7 +13,7 @@ ghost use Rattle.s2ix_edit.specs.declared.edit.Edit.TheVariants.{Add, AddUnion, 
 ghost use Rattle.s2ix_edit.specs.Edit.{edited, edited_alone, pair_of};
 ghost use Rattle.s2ix_edit.specs.History.{History, at_cursor, changes_along, forgotten, one_back, one_on, with_next};
 ghost use Rattle.s2ix_edit.specs.State.{State, IsStore, after_edit, after_forget, after_redo, after_undo, change_of, history_of, holding};
-ghost use Rattle.s2ix_table.specs.Table.{Run, IsRangeTable};
+ghost use Rattle.s2ix_table.specs.Table.{Range, IsRangeTable};
 
 /// What an edit makes of the collection at the cursor of a history is what it makes of that collection alone; of a
 /// store's history, what it makes of the collection that its bag holds.
@@ -67,7 +67,7 @@ pub fn undo_takes_edit_back()
 
 /// An edit and then an undo restore the range table too, since they restore the bag, and two equal bags have one.
 pub fn undo_restores_the_table()
-    ensures { (s : State) (edit : Edit) (before after : List Run)
+    ensures { (s : State) (edit : Edit) (before after : List Range)
         → IsStore s
         → IsRangeTable s.bag.held before
         → IsRangeTable (after_undo (after_edit s edit)).bag.held after

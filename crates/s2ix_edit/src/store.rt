@@ -198,7 +198,7 @@ impl Store {
     /// The range table of the collection that the store stands at: what queries read.
     pub fn table(&self) -> &StoreTable
         ensures pairs { ⟦<StoreTable as RangeTable>⟧.pairs result.now ≡ self.now.bag.held }
-        ensures table { IsRangeTable self.now.bag.held (⟦<StoreTable as RangeTable>⟧.runs result.now) }
+        ensures table { IsRangeTable self.now.bag.held (⟦<StoreTable as RangeTable>⟧.ranges result.now) }
         ensures within { IsStore self.now }
     {
         &self.table

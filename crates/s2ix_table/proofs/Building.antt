@@ -7,13 +7,13 @@ use Rattle.std.proofs.lemmas.List.Elements.{Contains-append_left, Contains-push,
 use Rattle.s2id_core.specs.CellId.{first_of, end_of}
 use Rattle.s2ix_bag.specs.declared.pair.Held.{Held}
 use Rattle.s2ix_bag.specs.Collection.{Collection}
-use Rattle.s2ix_table.specs.declared.copied_row.CopiedRow.{CopiedRow}
+use Rattle.s2ix_table.specs.declared.copied_range.CopiedRange.{CopiedRange}
 use Rattle.s2ix_table.specs.Contents.{contents_at}
-use Rattle.s2ix_table.specs.Copied.{run_of, runs_of}
-use Rattle.s2ix_table.specs.Table.{Run, run_at, leaf_end, IsTableOver, IsRangeTable, IsFound}
+use Rattle.s2ix_table.specs.Copied.{range_of, ranges_of}
+use Rattle.s2ix_table.specs.Table.{Range, range_at, leaf_end, IsTableOver, IsRangeTable, IsFound}
 use Rattle.s2ix_table.specs.Filter.{IsNextBound, IsBound}
 use Rattle.s2ix_table.proofs.Over.{span_of}
-use Rattle.s2ix_table.proofs.Runs.{IsTable, IsRunFrom, changes_at, stays_between, table_push, places_from_table}
+use Rattle.s2ix_table.proofs.Ranges.{IsTable, IsRangeFrom, changes_at, stays_between, table_push, places_from_table}
 
 -- ---- the next bound
 
@@ -53,14 +53,14 @@ next_more hs h at limit mid new next first last =
       is_bound = fits.2;
     }
 
--- ---- runs
+-- ---- ranges
 
-run_of_row : (rows : List CopiedRow) (k : ℕ) (d : CopiedRow) → k < length rows → run_at (runs_of rows) k ≡ run_of (get_or rows k d)
-run_of_row rows k d lt = get_or-map run_of rows k d _ lt
+range_at_place : (ranges : List CopiedRange) (k : ℕ) (d : CopiedRange) → k < length ranges → range_at (ranges_of ranges) k ≡ range_of (get_or ranges k d)
+range_at_place ranges k d lt = get_or-map range_of ranges k d _ lt
 
--- what stands while a table is built: the runs up to a leaf at which contents change
-pub record IsBuilt (hs : Collection) (rows : List CopiedRow) (at : ℕ) : Type 0 where
-  pub table : IsTable hs 1 (runs_of rows) at
+-- what stands while a table is built: the ranges up to a leaf at which contents change
+pub record IsBuilt (hs : Collection) (ranges : List CopiedRange) (at : ℕ) : Type 0 where
+  pub table : IsTable hs 1 (ranges_of ranges) at
   pub begins : 1 ≤ at
   pub within : at ≤ leaf_end
   pub odd : at % 2 ≡ 1
@@ -69,25 +69,25 @@ pub record IsBuilt (hs : Collection) (rows : List CopiedRow) (at : ℕ) : Type 0
 pub built_none : (hs : Collection) → IsBuilt hs [] 1
 built_none hs = record { table = refl; begins = omega arith; within = omega arith; odd = refl; changes = λ q a b. absurd (omega arith) }
 
--- a row from a leaf on, as long as the contents stay
-pub record IsWholeRow (hs : Collection) (at : ℕ) (row : CopiedRow) : Type 0 where
-  pub start : row.start ≡ at
-  pub rises : at < row.limit
-  pub within : row.limit ≤ leaf_end
-  pub odd : row.limit % 2 ≡ 1
-  pub shared : (q : ℕ) → at ≤ q → q < row.limit → contents_at q hs ≡ row.contents.items
-  pub maximal : row.limit < leaf_end → contents_at row.limit hs ≢ row.contents.items
+-- a range from a leaf on, as long as the contents stay
+pub record IsWholeRange (hs : Collection) (at : ℕ) (range : CopiedRange) : Type 0 where
+  pub start : range.start ≡ at
+  pub rises : at < range.limit
+  pub within : range.limit ≤ leaf_end
+  pub odd : range.limit % 2 ≡ 1
+  pub shared : (q : ℕ) → at ≤ q → q < range.limit → contents_at q hs ≡ range.contents.items
+  pub maximal : range.limit < leaf_end → contents_at range.limit hs ≢ range.contents.items
 
-pub built_more : (hs : Collection) (rows : List CopiedRow) (at : ℕ) (row : CopiedRow) → IsBuilt hs rows at → at < leaf_end → IsWholeRow hs at row → IsBuilt hs (rows ++ row ∷ []) row.limit
-built_more hs rows at row built lt whole =
+pub built_more : (hs : Collection) (ranges : List CopiedRange) (at : ℕ) (range : CopiedRange) → IsBuilt hs ranges at → at < leaf_end → IsWholeRange hs at range → IsBuilt hs (ranges ++ range ∷ []) range.limit
+built_more hs ranges at range built lt whole =
     let a = built.begins in
     let o = built.odd in
     let b = whole.rises in
     let p = whole.odd in
-    let run : IsRunFrom hs at (run_of row) = record { start = whole.start; odd = o; rises = b; shared = λ q odd le l. whole.shared q le l } in
-    let table = table_push hs 1 (runs_of rows) at (run_of row) built.table run (λ q le two. built.changes q le two lt) in
+    let is_range : IsRangeFrom hs at (range_of range) = record { start = whole.start; odd = o; rises = b; shared = λ q odd le l. whole.shared q le l } in
+    let table = table_push hs 1 (ranges_of ranges) at (range_of range) built.table is_range (λ q le two. built.changes q le two lt) in
     record {
-      table = subst (λ rs. IsTable hs 1 rs row.limit) (sym (map-append run_of rows (row ∷ []))) table;
+      table = subst (λ rs. IsTable hs 1 rs range.limit) (sym (map-append range_of ranges (range ∷ []))) table;
       begins = omega arith;
       within = whole.within;
       odd = p;
@@ -103,22 +103,22 @@ bound_changes hs at limit odd next below same =
     let two : last + 2 ≡ limit = omega arith in
     changes_at hs last limit (omega arith) two (next.is_bound below) (stays_between hs at limit last next (omega arith) (omega arith) ∙ sym same)
 
-pub built_end : (hs : Collection) (rows : List CopiedRow) (at : ℕ) → IsBuilt hs rows at → leaf_end ≤ at → IsRangeTable hs (runs_of rows)
-built_end hs rows at built le =
+pub built_end : (hs : Collection) (ranges : List CopiedRange) (at : ℕ) → IsBuilt hs ranges at → leaf_end ≤ at → IsRangeTable hs (ranges_of ranges)
+built_end hs ranges at built le =
     let w = built.within in
     let e : at ≡ leaf_end = omega arith in
-    places_from_table hs 1 leaf_end (runs_of rows) (omega arith) (subst (IsTable hs 1 (runs_of rows)) e built.table)
+    places_from_table hs 1 leaf_end (ranges_of ranges) (omega arith) (subst (IsTable hs 1 (ranges_of ranges)) e built.table)
 
 -- ---- the range that has a leaf
 
-pub found : (hs : Collection) (runs : List Run) (k q : ℕ) → IsRangeTable hs runs → 1 ≤ q → q < leaf_end → k ≤ length runs → ((j : ℕ) → j < k → (run_at runs j).limit ≤ q) → ((j : ℕ) → k ≤ j → j < length runs → q < (run_at runs j).limit) → IsFound runs k q
-found hs runs zero q t from to le low high =
+pub found : (hs : Collection) (ranges : List Range) (k q : ℕ) → IsRangeTable hs ranges → 1 ≤ q → q < leaf_end → k ≤ length ranges → ((j : ℕ) → j < k → (range_at ranges j).limit ≤ q) → ((j : ℕ) → k ≤ j → j < length ranges → q < (range_at ranges j).limit) → IsFound ranges k q
+found hs ranges zero q t from to le low high =
     let some = t.some in
     let first = t.first in
     record { within = some; start = omega arith; limit = high 0 (omega arith) some }
-found hs runs (suc k) q t from to le low high =
-    let here : suc k < length runs =
-    elim (cases_lt (suc k) (length runs)) [
+found hs ranges (suc k) q t from to le low high =
+    let here : suc k < length ranges =
+    elim (cases_lt (suc k) (length ranges)) [
       | inl lt ↦ lt
       | inr ge ↦ absurd (let last = t.last k (omega arith) in let l = low k (omega arith) in omega arith)
     ] in
@@ -126,55 +126,55 @@ found hs runs (suc k) q t from to le low high =
     let l = low k (omega arith) in
     record { within = here; start = omega arith; limit = high (suc k) (omega arith) here }
 
-pub limits_rise : (hs : Collection) (from to : ℕ) (runs : List Run) → IsTableOver hs from to runs → (i j : ℕ) → i ≤ j → j < length runs → (run_at runs i).limit ≤ (run_at runs j).limit
-limits_rise hs from to runs t i zero le lt = let e : i ≡ 0 = omega arith in let f = ap (λ k. (run_at runs k).limit) e in omega arith
-limits_rise hs from to runs t i (suc j) le lt =
+pub limits_rise : (hs : Collection) (from to : ℕ) (ranges : List Range) → IsTableOver hs from to ranges → (i j : ℕ) → i ≤ j → j < length ranges → (range_at ranges i).limit ≤ (range_at ranges j).limit
+limits_rise hs from to ranges t i zero le lt = let e : i ≡ 0 = omega arith in let f = ap (λ k. (range_at ranges k).limit) e in omega arith
+limits_rise hs from to ranges t i (suc j) le lt =
     elim (cases_lt i (suc j)) [
       | inl less ↦
-          (let before = limits_rise hs from to runs t i j (omega arith) (omega arith) in
+          (let before = limits_rise hs from to ranges t i j (omega arith) (omega arith) in
           let next = t.next j (suc j) (omega arith) lt in
           let rises = t.rises (suc j) lt in
           omega arith)
-      | inr ge ↦ let e : i ≡ suc j = omega arith in let f = ap (λ k. (run_at runs k).limit) e in omega arith
+      | inr ge ↦ let e : i ≡ suc j = omega arith in let f = ap (λ k. (range_at ranges k).limit) e in omega arith
     ]
 
-row_limit : (rows : List CopiedRow) (k : ℕ) (d : CopiedRow) → k < length rows → (run_at (runs_of rows) k).limit ≡ (get_or rows k d).limit
-row_limit rows k d lt = ap (λ (r : Run). r.limit) (run_of_row rows k d lt)
+limit_at : (ranges : List CopiedRange) (k : ℕ) (d : CopiedRange) → k < length ranges → (range_at (ranges_of ranges) k).limit ≡ (get_or ranges k d).limit
+limit_at ranges k d lt = ap (λ (r : Range). r.limit) (range_at_place ranges k d lt)
 
-pub rows_rise : (hs : Collection) (rows : List CopiedRow) → IsRangeTable hs (runs_of rows) → IsNonDecreasingBy (λ (r : CopiedRow). r.limit) rows
-rows_rise hs rows t i j d le lt =
-    let n = length-map rows run_of in
-    let r = limits_rise hs 1 leaf_end (runs_of rows) t i j le (omega arith) in
-    let a = row_limit rows i d (omega arith) in
-    let b = row_limit rows j d lt in
+pub ranges_rise : (hs : Collection) (ranges : List CopiedRange) → IsRangeTable hs (ranges_of ranges) → IsNonDecreasingBy (λ (r : CopiedRange). r.limit) ranges
+ranges_rise hs ranges t i j d le lt =
+    let n = length-map ranges range_of in
+    let r = limits_rise hs 1 leaf_end (ranges_of ranges) t i j le (omega arith) in
+    let a = limit_at ranges i d (omega arith) in
+    let b = limit_at ranges j d lt in
     omega arith
 
-pub found_row : (hs : Collection) (rows : List CopiedRow) (k q : ℕ) → IsRangeTable hs (runs_of rows) → 1 ≤ q → q < leaf_end → k ≤ length rows → ((j : ℕ) (e : CopiedRow) → 0 ≤ j → j < k → leb (get_or rows j e).limit q ≡ true) → ((j : ℕ) (e : CopiedRow) → k ≤ j → j < length rows → leb (get_or rows j e).limit q ≡ false) → IsFound (runs_of rows) k q
-found_row hs [] k q t from to le low high = absurd (let some = t.some in omega arith)
-found_row hs (row ∷ rows) k q t from to le low high =
-    let n = length-map (row ∷ rows) run_of in
-    found hs (runs_of (row ∷ rows)) k q t from to (omega arith)
+pub found_range : (hs : Collection) (ranges : List CopiedRange) (k q : ℕ) → IsRangeTable hs (ranges_of ranges) → 1 ≤ q → q < leaf_end → k ≤ length ranges → ((j : ℕ) (e : CopiedRange) → 0 ≤ j → j < k → leb (get_or ranges j e).limit q ≡ true) → ((j : ℕ) (e : CopiedRange) → k ≤ j → j < length ranges → leb (get_or ranges j e).limit q ≡ false) → IsFound (ranges_of ranges) k q
+found_range hs [] k q t from to le low high = absurd (let some = t.some in omega arith)
+found_range hs (range ∷ ranges) k q t from to le low high =
+    let n = length-map (range ∷ ranges) range_of in
+    found hs (ranges_of (range ∷ ranges)) k q t from to (omega arith)
     (λ j lt.
-    let a = row_limit (row ∷ rows) j row (omega arith) in
-    let b = leb-true (get_or (row ∷ rows) j row).limit q (low j row (omega arith) lt) in
+    let a = limit_at (range ∷ ranges) j range (omega arith) in
+    let b = leb-true (get_or (range ∷ ranges) j range).limit q (low j range (omega arith) lt) in
     omega arith)
     (λ j ge lt.
-    let a = row_limit (row ∷ rows) j row (omega arith) in
-    let b = leb-false (get_or (row ∷ rows) j row).limit q (high j row ge (omega arith)) in
+    let a = limit_at (range ∷ ranges) j range (omega arith) in
+    let b = leb-false (get_or (range ∷ ranges) j range).limit q (high j range ge (omega arith)) in
     omega arith)
 
 -- ---- a place's chain
 
-pub row_contents : (rows : List CopiedRow) (k : ℕ) (row : CopiedRow) → k < length rows → row ≡ get_or rows k row → (run_at (runs_of rows) k).contents ≡ row.contents.items
-row_contents rows k row lt is = ap (λ (r : Run). r.contents) (run_of_row rows k row lt) ∙ ap (λ (r : CopiedRow). r.contents.items) (sym is)
+pub contents_of_place : (ranges : List CopiedRange) (k : ℕ) (range : CopiedRange) → k < length ranges → range ≡ get_or ranges k range → (range_at (ranges_of ranges) k).contents ≡ range.contents.items
+contents_of_place ranges k range lt is = ap (λ (r : Range). r.contents) (range_at_place ranges k range lt) ∙ ap (λ (r : CopiedRange). r.contents.items) (sym is)
 
--- a place with a chain is one of a row
-pub place_in_rows : (rows : List CopiedRow) (k at : ℕ) → 0 < length (drop at (run_at (runs_of rows) k).contents) → k < length rows
-place_in_rows rows k at lt =
-    elim (cases_lt k (length rows)) [
+-- a place with a chain is one of a range
+pub place_in_ranges : (ranges : List CopiedRange) (k at : ℕ) → 0 < length (drop at (range_at (ranges_of ranges) k).contents) → k < length ranges
+place_in_ranges ranges k at lt =
+    elim (cases_lt k (length ranges)) [
       | inl less ↦ less
       | inr le ↦
           (let none : Collection = [] in
-          let past : length (drop at (run_at (runs_of rows) k).contents) ≡ length (drop at none) = ap (λ (r : Run). length (drop at r.contents)) (get_or_past (runs_of rows) k _ (omega (arith, length-map rows run_of))) in
+          let past : length (drop at (range_at (ranges_of ranges) k).contents) ≡ length (drop at none) = ap (λ (r : Range). length (drop at r.contents)) (get_or_past (ranges_of ranges) k _ (omega (arith, length-map ranges range_of))) in
           absurd (omega (arith, length-drop at none)))
     ]

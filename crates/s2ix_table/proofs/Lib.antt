@@ -1,6 +1,6 @@
 pub mod InOrder
 pub mod Over
-pub mod Runs
+pub mod Ranges
 pub mod FirstShared
 pub mod Meetings
 pub mod Building

@@ -14,11 +14,11 @@ use Rattle.s2ix_table.specs.Filter.{Rises}
 use Rattle.s2ix_table.specs.Contents.{covers, depth_key, contents_at}
 use Rattle.s2ix_table.proofs.InOrder.{every_chosen, in_chosen, chosen_has, chosen_in, chosen_out, rises_chosen, length_chosen}
 
--- the run of a held pair's cell
+-- the span of a held pair's cell
 pub start_of : Held → ℕ
 start_of h = first_of h.pair.cell
 
--- a leaf lies in the run of a pair's cell
+-- a leaf lies in the span of a pair's cell
 pub record IsOver (h : Held) (q : ℕ) : Type 0 where
   pub from : first_of h.pair.cell ≤ q
   pub to : q < end_of h.pair.cell
@@ -30,7 +30,7 @@ over-true q h t =
 pub covers-from : (q : ℕ) (h : Held) → IsOver h q → covers q h ≡ true
 covers-from q h o = and_from _ _ (le-leb _ _ o.from) (lt-ltb _ _ o.to)
 
--- the run of a pair's cell, in numbers
+-- the span of a pair's cell, in numbers
 pub record HasSpan (h : Held) : Type 0 where
   pub begins : 1 ≤ first_of h.pair.cell
   pub odd : first_of h.pair.cell % 2 ≡ 1

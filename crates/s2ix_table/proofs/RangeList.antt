@@ -7,12 +7,12 @@ use Rattle.s2ix_bag.specs.declared.pair.Held.{Held}
 use Rattle.s2ix_bag.specs.Collection.{Collection}
 use Rattle.s2ix_table.specs.Contents.{contents_at}
 use Rattle.s2ix_table.specs.Once.{put_once}
-use Rattle.s2ix_table.specs.RangeList.{bounds_of, runs_between, range_table}
-use Rattle.s2ix_table.specs.Table.{Run, leaf_end, IsRangeTable}
+use Rattle.s2ix_table.specs.RangeList.{bounds_of, ranges_between, range_table}
+use Rattle.s2ix_table.specs.Table.{Range, leaf_end, IsRangeTable}
 use Rattle.s2ix_table.specs.Filter.{IsBound, IsNextBound}
 use Rattle.s2ix_table.proofs.Once.{RisesOnce, in_put, put_has, rises_put}
 use Rattle.s2ix_table.proofs.Over.{span_of}
-use Rattle.s2ix_table.proofs.Runs.{IsTable, Changes, changes_at, stays_between, places_from_table, table_from_places, same_table}
+use Rattle.s2ix_table.proofs.Ranges.{IsTable, Changes, changes_at, stays_between, places_from_table, table_from_places, same_table}
 
 -- ---- the bounds
 
@@ -96,7 +96,7 @@ bounds_rise [] = (
 bounds_rise (h ∷ hs) =
     rises_put itself (first_of h.pair.cell) (put_once itself (end_of h.pair.cell) (bounds_of hs)) (rises_put itself (end_of h.pair.cell) (bounds_of hs) (bounds_rise hs))
 
--- ---- the runs between them
+-- ---- the ranges between them
 
 -- the bounds from one on
 record AreBoundsFrom (hs : Collection) (b : ℕ) (bs : List ℕ) : Type 0 where
@@ -141,8 +141,8 @@ next_bound hs b c bs from =
       ];
     }
 
-changes_next : (hs : Collection) (b c : ℕ) (bs : List ℕ) → AreBoundsFrom hs b (c ∷ bs) → Changes (record { start = b; limit = c; contents = contents_at b hs }) (runs_between hs (c ∷ bs))
-unfolding runs_between
+changes_next : (hs : Collection) (b c : ℕ) (bs : List ℕ) → AreBoundsFrom hs b (c ∷ bs) → Changes (record { start = b; limit = c; contents = contents_at b hs }) (ranges_between hs (c ∷ bs))
+unfolding ranges_between
 changes_next hs b c [] from = tt
 changes_next hs b c (d ∷ ds) from =
     let next = next_bound hs b c (d ∷ ds) from in
@@ -156,8 +156,8 @@ changes_next hs b c (d ∷ ds) from =
     let two : q + 2 ≡ c = omega arith in
     λ same. changes_at hs q c (omega arith) two (next.is_bound (omega arith)) (stays_between hs b c q next (omega arith) (omega arith) ∙ same)
 
-table_between : (hs : Collection) (b : ℕ) (bs : List ℕ) → AreBoundsFrom hs b bs → IsTable hs b (runs_between hs (b ∷ bs)) leaf_end
-unfolding runs_between
+table_between : (hs : Collection) (b : ℕ) (bs : List ℕ) → AreBoundsFrom hs b bs → IsTable hs b (ranges_between hs (b ∷ bs)) leaf_end
+unfolding ranges_between
 table_between hs b [] from =
     let to = (fits_cut hs b from.cut).to in
     elim (cases_lt b leaf_end) [
@@ -176,7 +176,7 @@ table_between hs b (c ∷ bs) from =
       table_between hs c bs (bounds_next hs b c bs from),
     )
 
-table_of_bounds : (hs : Collection) (bs : List ℕ) → RisesOnce itself bs → ((x : ℕ) → Contains bs x → IsCut hs x) → ((x : ℕ) → IsCut hs x → Contains bs x) → IsRangeTable hs (runs_between hs bs)
+table_of_bounds : (hs : Collection) (bs : List ℕ) → RisesOnce itself bs → ((x : ℕ) → Contains bs x → IsCut hs x) → ((x : ℕ) → IsCut hs x → Contains bs x) → IsRangeTable hs (ranges_between hs bs)
 table_of_bounds hs [] rises cuts all = absurd (none_in_nil 1 (all 1 (inl refl)))
 table_of_bounds hs (b ∷ bs) rises cuts all =
     let cut = cuts b (at_head b bs) in
@@ -186,8 +186,8 @@ table_of_bounds hs (b ∷ bs) rises cuts all =
       | inr t ↦ absurd (let less = rises.0 1 t in omega arith)
     ] in
     let later : (x : ℕ) → IsCut hs x → b < x → Contains bs x = λ x is lt. elim (cons_cases b bs x (all x is)) [ inl f ↦ absurd (omega arith) | inr t ↦ t ] in
-    places_from_table hs 1 leaf_end (runs_between hs (b ∷ bs)) (omega arith)
-    (subst (λ n. IsTable hs n (runs_between hs (b ∷ bs)) leaf_end) e (table_between hs b bs (record {
+    places_from_table hs 1 leaf_end (ranges_between hs (b ∷ bs)) (omega arith)
+    (subst (λ n. IsTable hs n (ranges_between hs (b ∷ bs)) leaf_end) e (table_between hs b bs (record {
       rises = rises;
       cut = cut;
       cuts = λ x c. cuts x (in_tail b bs x c);
@@ -202,6 +202,6 @@ unfolding range_table
 range_table_is hs = table_of_bounds hs (bounds_of hs) (bounds_rise hs) (in_bounds hs) (bounds_have hs)
 
 -- and the only one
-pub is_range_table : (hs : Collection) (runs : List Run) → IsRangeTable hs runs → runs ≡ range_table hs
-is_range_table hs runs t =
-    same_table hs 1 runs (range_table hs) leaf_end (table_from_places hs 1 leaf_end runs t) (table_from_places hs 1 leaf_end (range_table hs) (range_table_is hs))
+pub is_range_table : (hs : Collection) (ranges : List Range) → IsRangeTable hs ranges → ranges ≡ range_table hs
+is_range_table hs ranges t =
+    same_table hs 1 ranges (range_table hs) leaf_end (table_from_places hs 1 leaf_end ranges t) (table_from_places hs 1 leaf_end (range_table hs) (range_table_is hs))

@@ -10,11 +10,11 @@ use Rattle.s2ix_bag.specs.Collection.{Collection}
 use Rattle.s2ix_bag.specs.declared.pair.Held.{Held}
 use Rattle.s2ix_table.specs.Meeting.{meeting_from}
 use Rattle.s2ix_table.specs.Places.{from_place, LeadsTo}
-use Rattle.s2ix_table.specs.Table.{Run, run_at, leaf_end, IsRangeTable, IsFound}
+use Rattle.s2ix_table.specs.Table.{Range, range_at, leaf_end, IsRangeTable, IsFound}
 use Rattle.s2ix_table.specs.WalkState.{left_of, ArePassed, IsWalkState, front_from}
 use Rattle.s2ix_table.specs.declared.walk_state.WalkState.{WalkState}
 use Rattle.s2ix_table.proofs.Over.{IsOver, in_contents, contents_has}
-use Rattle.s2ix_table.proofs.Runs.{places_fit}
+use Rattle.s2ix_table.proofs.Ranges.{places_fit}
 use Rattle.s2ix_table.proofs.Building.{limits_rise}
 use Rattle.s2ix_table.proofs.Meetings.{IsStep, step_meets, front_here, front_stops}
 
@@ -63,64 +63,64 @@ gap_from target k seen x chain passed lt is q v le =
 -- ---- the bounds of a range
 
 -- a range ends at a leaf number
-pub limit_bounds : (hs : Collection) (runs : List Run) → IsRangeTable hs runs → (k : ℕ) → k < length runs → ((run_at runs k).limit % 2 ≡ 1) × ((run_at runs k).limit ≤ leaf_end)
-limit_bounds hs runs t k lt =
-    let n = length runs - 1 in
+pub limit_bounds : (hs : Collection) (ranges : List Range) → IsRangeTable hs ranges → (k : ℕ) → k < length ranges → ((range_at ranges k).limit % 2 ≡ 1) × ((range_at ranges k).limit ≤ leaf_end)
+limit_bounds hs ranges t k lt =
+    let n = length ranges - 1 in
     let last = t.last n (omega arith) in
-    let le = limits_rise hs 1 leaf_end runs t k n (omega arith) (omega arith) in (
-      elim (cases_lt (k + 1) (length runs)) [
+    let le = limits_rise hs 1 leaf_end ranges t k n (omega arith) (omega arith) in (
+      elim (cases_lt (k + 1) (length ranges)) [
         | inl more ↦ let next = t.next k (k + 1) refl more in let odd = t.odd (k + 1) more in omega arith
         | inr end ↦ let e = t.last k (omega arith) in omega arith
       ],
       omega arith,
     )
 
-pub range_fits : (hs : Collection) (runs : List Run) → IsRangeTable hs runs → (k : ℕ) → k < length runs → k + 1 < 2 ^ 64
-range_fits hs runs t k lt =
-    let fit = places_fit hs 1 leaf_end runs t k lt in
+pub range_fits : (hs : Collection) (ranges : List Range) → IsRangeTable hs ranges → (k : ℕ) → k < length ranges → k + 1 < 2 ^ 64
+range_fits hs ranges t k lt =
+    let fit = places_fit hs 1 leaf_end ranges t k lt in
     let rises = t.rises k lt in
-    let bounds = (limit_bounds hs runs t k lt).1 in
+    let bounds = (limit_bounds hs ranges t k lt).1 in
     omega arith
 
 -- the next range has the leaf at which one ends
-pub found_next : (hs : Collection) (runs : List Run) → IsRangeTable hs runs → (k limit : ℕ) → k < length runs → limit ≡ (run_at runs k).limit → limit < leaf_end → IsFound runs (k + 1) limit
-found_next hs runs t k limit lt is less =
-    let more : k + 1 < length runs = elim (cases_lt (k + 1) (length runs)) [ inl more ↦ more | inr end ↦ absurd (let e = t.last k (omega arith) in omega arith) ] in
+pub found_next : (hs : Collection) (ranges : List Range) → IsRangeTable hs ranges → (k limit : ℕ) → k < length ranges → limit ≡ (range_at ranges k).limit → limit < leaf_end → IsFound ranges (k + 1) limit
+found_next hs ranges t k limit lt is less =
+    let more : k + 1 < length ranges = elim (cases_lt (k + 1) (length ranges)) [ inl more ↦ more | inr end ↦ absurd (let e = t.last k (omega arith) in omega arith) ] in
     let next = t.next k (k + 1) refl more in
     let rises = t.rises (k + 1) more in
     record { within = more; start = omega arith; limit = omega arith }
 
 -- ---- one range
 
-stays_in : (hs : Collection) (runs : List Run) → IsRangeTable hs runs → (k at : ℕ) → IsFound runs k at → at % 2 ≡ 1 → (h : Held) (q : ℕ) → Contains hs h → q % 2 ≡ 1 → at ≤ q → q < (run_at runs k).limit → IsOver h q → IsOver h at
-stays_in hs runs t k at found odd h q held odd_q from to over =
+stays_in : (hs : Collection) (ranges : List Range) → IsRangeTable hs ranges → (k at : ℕ) → IsFound ranges k at → at % 2 ≡ 1 → (h : Held) (q : ℕ) → Contains hs h → q % 2 ≡ 1 → at ≤ q → q < (range_at ranges k).limit → IsOver h q → IsOver h at
+stays_in hs ranges t k at found odd h q held odd_q from to over =
     let start = found.start in
     let same = t.shared k q found.within odd_q (omega arith) to ∙ sym (t.shared k at found.within odd start found.limit) in
     (in_contents at hs h (subst (λ cs. Contains cs h) same (contents_has q hs h held over))).1
 
 -- what is known of a walk that has passed to a cell of the target and the range with its first leaf that is left
-pub record IsAt (target : List CellId) (hs : Collection) (runs : List Run) (k seen range : ℕ) (x : CellId) : Type 0 where
+pub record IsAt (target : List CellId) (hs : Collection) (ranges : List Range) (k seen range : ℕ) (x : CellId) : Type 0 where
   pub chain : IsChain target
-  pub table : IsRangeTable hs runs
+  pub table : IsRangeTable hs ranges
   pub odd : seen % 2 ≡ 1
   pub tight : (q : ℕ) → 1 ≤ q → q + 2 ≡ seen → Covers target q
   pub passed : ArePassed target k seen
   pub within : k < length target
   pub is : x ≡ get_or target k x
   pub beyond : seen < end_of x
-  pub found : IsFound runs range (max seen (first_of x))
+  pub found : IsFound ranges range (max seen (first_of x))
 
 -- where a walk goes on behind a range: at the next one, or where the cell ends before that
 abbrev pub GoesOn : ℕ → ℕ → ℕ → ℕ × ℕ → Type 0
 GoesOn range limit end to = ((limit ≤ end) × (to ≡ (range + 1, limit))) ⊎ ((end < limit) × (to ≡ (range, end)))
 
 -- a walk goes on behind a range, with the chain of that range at hand
-pub record IsPast {P : Type 0} (chain : P → Collection) (target : List CellId) (hs : Collection) (runs : List Run) (walk : WalkState P) : Type 0 where
+pub record IsPast {P : Type 0} (chain : P → Collection) (target : List CellId) (hs : Collection) (ranges : List Range) (walk : WalkState P) : Type 0 where
   pub left : meeting_from target walk.from hs ≡ left_of chain target hs walk
-  pub next : IsWalkState chain target runs walk
+  pub next : IsWalkState chain target ranges walk
 
-pub walk_past : {P : Type 0} (chain : P → Collection) (target : List CellId) (hs : Collection) (runs : List Run) (range limit end : ℕ) (x : CellId) (walk : WalkState P) → IsAt target hs runs walk.cell walk.from range x → LeadsTo chain walk.place (run_at runs range).contents → limit ≡ (run_at runs range).limit → end ≡ end_of x → GoesOn range limit end (walk.range, walk.seen) → IsPast chain target hs runs walk
-walk_past {P} chain target hs runs range limit end x walk a leads is_limit is_end on =
+pub walk_past : {P : Type 0} (chain : P → Collection) (target : List CellId) (hs : Collection) (ranges : List Range) (range limit end : ℕ) (x : CellId) (walk : WalkState P) → IsAt target hs ranges walk.cell walk.from range x → LeadsTo chain walk.place (range_at ranges range).contents → limit ≡ (range_at ranges range).limit → end ≡ end_of x → GoesOn range limit end (walk.range, walk.seen) → IsPast chain target hs ranges walk
+walk_past {P} chain target hs ranges range limit end x walk a leads is_limit is_end on =
     let s = span (raw_of x) x.valid in
     let s1 = s.odd in
     let s2 = s.from in
@@ -134,7 +134,7 @@ walk_past {P} chain target hs runs range limit end x walk a leads is_limit is_en
     let at : ℕ = max seen (first_of x) in
     let f1 = a.found.start in
     let f2 = a.found.limit in
-    let bounds = limit_bounds hs runs a.table range a.found.within in
+    let bounds = limit_bounds hs ranges a.table range a.found.within in
     let l1 = bounds.0 in
     let l2 = bounds.1 in
     let is : next ≡ min limit end = elim on [ inl i ↦ omega (arith, i.0, ap (λ to. to.1) i.1) | inr i ↦ omega (arith, i.0, ap (λ to. to.1) i.1) ] in
@@ -150,9 +150,9 @@ walk_past {P} chain target hs runs range limit end x walk a leads is_limit is_en
       here = covers at (omega arith) (omega arith);
       gap = λ q v le. let g = gap_from target walk.cell seen x a.chain a.passed a.within a.is q v le in omega arith;
       tight = a.tight;
-      stays = λ h q held odd_q from to over. stays_in hs runs a.table range at a.found odd_at h q held odd_q from (omega arith) over;
+      stays = λ h q held odd_q from to over. stays_in hs ranges a.table range at a.found odd_at h q held odd_q from (omega arith) over;
     } in
-    let At : ℕ × ℕ → Type 0 = λ to. IsFound runs to.0 to.1 in
+    let At : ℕ × ℕ → Type 0 = λ to. IsFound ranges to.0 to.1 in
     let contents = a.table.shared range at a.found.within odd_at f1 f2 in
     record {
       left = step_meets target hs seen at next step ∙ ap (λ cs. front_from seen cs ++ meeting_from target next hs) (contents ∙ sym leads.pairs_are);
@@ -162,7 +162,7 @@ walk_past {P} chain target hs runs range limit end x walk a leads is_limit is_en
         tight = λ q some e. covers q (omega arith) (omega arith);
         passed = passed_later target walk.cell seen next (omega arith) a.passed;
         found = λ lt. elim on [
-          | inl i ↦ subst At (sym i.1) (found_next hs runs a.table range limit a.found.within is_limit (omega (arith, ap (λ to. to.1) i.1)))
+          | inl i ↦ subst At (sym i.1) (found_next hs ranges a.table range limit a.found.within is_limit (omega (arith, ap (λ to. to.1) i.1)))
           | inr i ↦ subst At (sym i.1) (record { within = a.found.within; start = omega arith; limit = omega (arith, i.0) })
         ];
         place = leads.place;

@@ -1,16 +1,16 @@
--- A table of copied lists as its runs.
+-- A table of copied lists as its ranges.
 use Rattle.std.specs.Prelude.{ℕ, ◌+◌, List, [], ◌∷◌, map}
 use Rattle.std.specs.Coded.{le_prop, Unit-prop}
 use Rattle.s2ix_bag.specs.Collection.{Collection, IsCollectionFrom}
 use Rattle.s2ix_bag.specs.Pair.{rank_of}
-use Rattle.s2ix_table.specs.declared.copied_row.CopiedRow.{CopiedRow}
-use Rattle.s2ix_table.specs.Table.{Run}
+use Rattle.s2ix_table.specs.declared.copied_range.CopiedRange.{CopiedRange}
+use Rattle.s2ix_table.specs.Table.{Range}
 
-abbrev pub run_of : CopiedRow → Run
-run_of row = record { start = row.start; limit = row.limit; contents = row.contents.items }
+abbrev pub range_of : CopiedRange → Range
+range_of range = record { start = range.start; limit = range.limit; contents = range.contents.items }
 
-abbrev pub runs_of : List CopiedRow → List Run
-runs_of rows = map run_of rows
+abbrev pub ranges_of : List CopiedRange → List Range
+ranges_of ranges = map range_of ranges
 
 -- that a list is a collection has one proof
 pub IsCollection-prop : (n : ℕ) (hs : Collection) → IsProp (IsCollectionFrom n hs)

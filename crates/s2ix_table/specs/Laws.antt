@@ -6,7 +6,7 @@ use Rattle.s2id_core.specs.Path.{Path, number_of}
 use Rattle.s2ix_bag.specs.Collection.{Collection, IsCollection}
 use Rattle.s2ix_bag.specs.declared.label.Label.{Label}
 use Rattle.s2ix_table.specs.Contents.{IsContents, contents_at}
-use Rattle.s2ix_table.specs.Table.{Run, IsRangeTable}
+use Rattle.s2ix_table.specs.Table.{Range, IsRangeTable}
 use Rattle.s2ix_table.specs.Meeting.{IsMeetingList, IsLabelList, meeting_of}
 
 -- the contents that are read from a leaf's number are those of the leaf
@@ -21,7 +21,7 @@ OneListOfContents =
 
 -- a collection has one range table
 abbrev pub OneRangeTable : Type 0
-OneRangeTable = (held : Collection) (xs ys : List Run) → IsRangeTable held xs → IsRangeTable held ys → xs ≡ ys
+OneRangeTable = (held : Collection) (xs ys : List Range) → IsRangeTable held xs → IsRangeTable held ys → xs ≡ ys
 
 -- the meeting list that is computed is the target's
 abbrev pub MeetingListIsTheTargets : Type 0

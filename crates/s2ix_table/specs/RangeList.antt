@@ -4,20 +4,20 @@ use Rattle.s2id_core.specs.CellId.{first_of, end_of}
 use Rattle.s2ix_bag.specs.Collection.{Collection}
 use Rattle.s2ix_table.specs.Contents.{contents_at}
 use Rattle.s2ix_table.specs.Once.{put_once}
-use Rattle.s2ix_table.specs.Table.{Run, leaf_end}
+use Rattle.s2ix_table.specs.Table.{Range, leaf_end}
 
--- the bounds of runs, rising: the first leaf number, the end of the leaves, and where each held cell begins and ends
+-- the bounds of ranges, rising: the first leaf number, the end of the leaves, and where each held cell begins and ends
 unfoldable pub bounds_of : Collection → List ℕ
 bounds_of [] = 1 ∷ leaf_end ∷ []
 bounds_of (h ∷ hs) = put_once (λ b. b) (first_of h.pair.cell) (put_once (λ b. b) (end_of h.pair.cell) (bounds_of hs))
 
--- the runs from each bound up to the next
-unfoldable pub runs_between : Collection → List ℕ → List Run
-runs_between held [] = []
-runs_between held (b ∷ []) = []
-runs_between held (b ∷ c ∷ bs) =
-    record { start = b; limit = c; contents = contents_at b held } ∷ runs_between held (c ∷ bs)
+-- the ranges from each bound up to the next
+unfoldable pub ranges_between : Collection → List ℕ → List Range
+ranges_between held [] = []
+ranges_between held (b ∷ []) = []
+ranges_between held (b ∷ c ∷ bs) =
+    record { start = b; limit = c; contents = contents_at b held } ∷ ranges_between held (c ∷ bs)
 
 -- the range table: between two neighbouring bounds contents stay, and at each they change
-unfoldable pub range_table : Collection → List Run
-range_table held = runs_between held (bounds_of held)
+unfoldable pub range_table : Collection → List Range
+range_table held = ranges_between held (bounds_of held)

@@ -8,7 +8,7 @@ use Rattle.s2ix_bag.specs.Collection.{Collection}
 use Rattle.s2ix_table.specs.declared.walk_state.WalkState.{WalkState}
 use Rattle.s2ix_table.specs.Meeting.{meeting_from}
 use Rattle.s2ix_table.specs.Places.{IsPlace, from_place}
-use Rattle.s2ix_table.specs.Table.{Run, IsFound, leaf_end}
+use Rattle.s2ix_table.specs.Table.{Range, IsFound, leaf_end}
 
 -- the pairs of a chain up to the first whose cell begins before a leaf
 unfoldable pub front_from : ℕ → Collection → Collection
@@ -24,10 +24,10 @@ abbrev pub ArePassed : List CellId → ℕ → ℕ → Type 0
 ArePassed target k seen = (j : ℕ) (d : CellId) → j < k → j < length target → end_of (slice_index_or target j d) ≤ seen
 
 -- the range at hand has the leaf `seen`, unless there is none; the leaf before it is the target's, unless there is none
-pub record IsWalkState {P : Type 0} (chain : P → Collection) (target : List CellId) (runs : List Run) (walk : WalkState P) : Type 0 where
+pub record IsWalkState {P : Type 0} (chain : P → Collection) (target : List CellId) (ranges : List Range) (walk : WalkState P) : Type 0 where
   pub odd : walk.seen % 2 ≡ 1
   pub within : walk.seen ≤ leaf_end
   pub tight : (q : ℕ) → 1 ≤ q → q + 2 ≡ walk.seen → Covers target q
   pub passed : ArePassed target walk.cell walk.seen
-  pub found : walk.seen < leaf_end → IsFound runs walk.range walk.seen
+  pub found : walk.seen < leaf_end → IsFound ranges walk.range walk.seen
   pub place : (p : P) → walk.place ≡ Some p → IsPlace chain p

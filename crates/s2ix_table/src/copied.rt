@@ -1,10 +1,10 @@
 ghost use Rattle.std.specs.Prelude.{◌≡◌, ◌≢◌, ℕ, ◌%◌, ◌<◌, ◌≤◌, IfOk, drop, length};
 ghost use Rattle.s2ix_bag.specs.Collection.{IsCollection};
 ghost use Rattle.s2ix_table.specs.Contents.{contents_at};
-ghost use Rattle.s2ix_table.specs.Table.{run_at, leaf_end, IsRangeTable};
-ghost use Rattle.s2ix_table.specs.Copied.{runs_of, IsCollection-prop};
+ghost use Rattle.s2ix_table.specs.Table.{range_at, leaf_end, IsRangeTable};
+ghost use Rattle.s2ix_table.specs.Copied.{ranges_of, IsCollection-prop};
 
-use crate::copied_row::CopiedRow;
+use crate::copied_range::CopiedRange;
 use crate::filter::{contents_over, next_bound};
 use crate::row::RangeRow;
 use crate::table::RangeTable;
@@ -18,12 +18,12 @@ use std::snapshot::Snapshot;
 #[derive(Drop)]
 #[derive_where(Debug)]
 pub struct CopiedTable {
-    rows: Vec<CopiedRow>,
+    ranges: Vec<CopiedRange>,
     // what the table was built of: clauses alone read it, and it has no bytes
     #[derive_where(skip)]
     held: Snapshot<Vec<Held>>,
     ghost rises: { IsCollection held.value.items } by { IsCollection-prop 0 held.value.items },
-    ghost table: { IsRangeTable held.value.items (runs_of rows.items) },
+    ghost table: { IsRangeTable held.value.items (ranges_of ranges.items) },
     ghost few: { length held.value.items ≤ 1000000 },
 }
 
@@ -39,9 +39,9 @@ impl RangeTable for CopiedTable {
 
     ghost pairs = { λ t. t.held.value.items };
 
-    ghost runs = { λ t. runs_of t.rows.items };
+    ghost ranges = { λ t. ranges_of t.ranges.items };
 
-    ghost chain = { λ t p. drop p.at (run_at (runs_of t.rows.items) p.range).contents };
+    ghost chain = { λ t p. drop p.at (range_at (ranges_of t.ranges.items) p.range).contents };
 
     ghost is_collection = { λ t. t.rises };
 
@@ -51,25 +51,25 @@ impl RangeTable for CopiedTable {
 
     fn build(alloc: Global, bag: &Bag) -> Result<Self, OutOfMemory> {
         let held = held_pairs(alloc, bag)?;
-        let rows = rows_over(alloc, held.as_slice())?;
+        let ranges = ranges_over(alloc, held.as_slice())?;
         let held = Snapshot::of(&held);
-        Ok(CopiedTable { rows, held })
+        Ok(CopiedTable { ranges, held })
     }
 
     fn range_count(&self) -> usize {
-        self.rows.len()
+        self.ranges.len()
     }
 
     fn range(&self, k: usize) -> RangeRow {
-        let row = &self.rows[k];
+        let range = &self.ranges[k];
         RangeRow {
-            start: row.start,
-            limit: row.limit,
+            start: range.start,
+            limit: range.limit,
         }
     }
 
     fn first(&self, k: usize) -> Option<CopiedPlace> {
-        if self.rows[k].contents.is_empty() {
+        if self.ranges[k].contents.is_empty() {
             None
         } else {
             Some(CopiedPlace { range: k, at: 0 })
@@ -77,11 +77,11 @@ impl RangeTable for CopiedTable {
     }
 
     fn held_at(&self, place: CopiedPlace) -> Held {
-        self.rows[place.range].contents[place.at]
+        self.ranges[place.range].contents[place.at]
     }
 
     fn outer(&self, place: CopiedPlace) -> Option<CopiedPlace> {
-        let len = self.rows[place.range].contents.len();
+        let len = self.ranges[place.range].contents.len();
         if place.at < len - 1 {
             Some(CopiedPlace {
                 range: place.range,
@@ -94,7 +94,7 @@ impl RangeTable for CopiedTable {
 
     fn find(&self, leaf: CellId) -> usize {
         let leaf = leaf.raw();
-        self.rows.partition_point(|row| row.limit <= leaf)
+        self.ranges.partition_point(|range| range.limit <= leaf)
     }
 }
 
@@ -113,33 +113,33 @@ fn held_pairs(alloc: Global, bag: &Bag) -> Result<Vec<Held>, OutOfMemory>
 }
 
 // The runs of leaves over which the same pairs lie, each from where one ended up to where the next begins.
-fn rows_over(alloc: Global, held: &[Held]) -> Result<Vec<CopiedRow>, OutOfMemory>
+fn ranges_over(alloc: Global, held: &[Held]) -> Result<Vec<CopiedRange>, OutOfMemory>
     requires { IsCollection held.now }
-    ensures { IfOk result (λ rows. IsRangeTable held.now (runs_of rows.items)) }
+    ensures { IfOk result (λ ranges. IsRangeTable held.now (ranges_of ranges.items)) }
 {
-    let mut rows = Vec::new(alloc);
+    let mut ranges = Vec::new(alloc);
     let mut at = 1;
     while at < LEAF_END {
-        let row = row_from(alloc, held, at)?;
-        at = row.limit;
-        rows.push(row)?;
+        let range = range_above(alloc, held, at)?;
+        at = range.limit;
+        ranges.push(range)?;
     }
-    Ok(rows)
+    Ok(ranges)
 }
 
-// The run from a leaf on, up to the next bound of a cell. O(n), and the moves of the insertions.
-fn row_from(alloc: Global, held: &[Held], at: u64) -> Result<CopiedRow, OutOfMemory>
+// The range from a leaf on, up to the next bound of a cell. O(n), and the moves of the insertions.
+fn range_above(alloc: Global, held: &[Held], at: u64) -> Result<CopiedRange, OutOfMemory>
     requires rises { IsCollection held.now }
     requires odd { at % 2 ≡ 1 }
     requires within { at < leaf_end }
-    ensures start { IfOk result (λ row. row.start ≡ at) }
-    ensures limit { IfOk result (λ row. (at < row.limit) × (row.limit ≤ leaf_end) × (row.limit % 2 ≡ 1)) }
-    ensures shared { IfOk result (λ row. (q : ℕ) → at ≤ q → q < row.limit → contents_at q held.now ≡ row.contents.items) }
-    ensures maximal { IfOk result (λ row. row.limit < leaf_end → contents_at row.limit held.now ≢ row.contents.items) }
+    ensures start { IfOk result (λ range. range.start ≡ at) }
+    ensures limit { IfOk result (λ range. (at < range.limit) × (range.limit ≤ leaf_end) × (range.limit % 2 ≡ 1)) }
+    ensures shared { IfOk result (λ range. (q : ℕ) → at ≤ q → q < range.limit → contents_at q held.now ≡ range.contents.items) }
+    ensures maximal { IfOk result (λ range. range.limit < leaf_end → contents_at range.limit held.now ≢ range.contents.items) }
 {
     let limit = next_bound(held, at);
     let contents = contents_over(alloc, held, at)?;
-    Ok(CopiedRow {
+    Ok(CopiedRange {
         start: at,
         limit,
         contents,

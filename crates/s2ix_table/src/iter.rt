@@ -4,7 +4,7 @@ ghost use Rattle.s2id_core.specs.CellId.{raw_of, level_of};
 ghost use Rattle.s2ix_table.specs.Contents.{contents_at};
 ghost use Rattle.s2ix_table.specs.Places.{IsPlace, from_place};
 ghost use Rattle.s2ix_table.specs.Iterators.{numbered_rows, IsAtRange};
-ghost use Rattle.s2ix_table.specs.Table.{run_at, IsFound};
+ghost use Rattle.s2ix_table.specs.Table.{range_at, IsFound};
 
 use crate::row::RangeRow;
 use crate::table::RangeTable;
@@ -24,7 +24,7 @@ impl<'a, T: RangeTable> RangeIter<'a, T> {
 
     // From a table's first range.
     pub(crate) fn new(table: &'a T) -> RangeIter<'a, T>
-        ensures { IsAtRange T.runs table.now result 0 }
+        ensures { IsAtRange T.ranges table.now result 0 }
     {
         RangeIter { table, next: 0 }
     }
@@ -33,8 +33,8 @@ impl<'a, T: RangeTable> RangeIter<'a, T> {
     pub fn seek(&mut self, leaf: CellId)
         requires { level_of leaf ≡ 30 }
         ensures { (k : ℕ)
-            × IsFound (T.runs (table_of self.old)) k (raw_of leaf)
-            × IsAtRange T.runs (table_of self.old) self.new k }
+            × IsFound (T.ranges (table_of self.old)) k (raw_of leaf)
+            × IsAtRange T.ranges (table_of self.old) self.new k }
     {
         self.next = self.table.find(leaf);
     }
@@ -45,9 +45,9 @@ impl<T: RangeTable> Iterator for RangeIter<'_, T> {
 
     type Item = (usize, RangeRow);
 
-    ghost next_gives = { StepsOn T.runs };
+    ghost next_gives = { StepsOn T.ranges };
 
-    ghost remaining = { item_count (ranges_left T.runs) };
+    ghost remaining = { item_count (ranges_left T.ranges) };
 
     fn next(&mut self) -> Option<(usize, RangeRow)> {
         let k = self.next;
@@ -61,12 +61,12 @@ impl<T: RangeTable> Iterator for RangeIter<'_, T> {
 
 /// The ranges of a table with their places, in order.
 pub fn ranges<T: RangeTable>(table: &T) -> RangeIter<'_, T>
-    ensures start { IsAtRange T.runs table.now result 0 }
+    ensures start { IsAtRange T.ranges table.now result 0 }
     ensures gives { AlwaysYields
         ⟦<RangeIter<'static, T> as Iterator>⟧.next_gives
         (λ row. row)
         result
-        (numbered_rows 0 (T.runs table.now)) }
+        (numbered_rows 0 (T.ranges table.now)) }
 {
     RangeIter::new(table)
 }
@@ -96,8 +96,8 @@ impl<T: RangeTable> Iterator for ChainIter<'_, T> {
 
 /// What lies over a range, innermost cell first, the labels of one cell rising.
 pub fn contents<T: RangeTable>(table: &T, k: usize) -> ChainIter<'_, T>
-    requires { k < length (T.runs table.now) }
-    ensures { AlwaysYields ⟦<ChainIter<'static, T> as Iterator>⟧.next_gives (λ held. held) result (run_at (T.runs table.now) k).contents }
+    requires { k < length (T.ranges table.now) }
+    ensures { AlwaysYields ⟦<ChainIter<'static, T> as Iterator>⟧.next_gives (λ held. held) result (range_at (T.ranges table.now) k).contents }
 {
     let next = table.first(k);
     ChainIter { table, next }

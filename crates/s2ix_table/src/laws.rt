@@ -9,7 +9,7 @@ ghost use Rattle.s2ix_table.specs.Calls.{CallsOn};
 ghost use Rattle.s2ix_table.specs.LabelList.{label_list};
 ghost use Rattle.s2ix_table.specs.Meeting.{IsLabelList, meeting_of};
 ghost use Rattle.s2ix_table.specs.RangeList.{range_table};
-ghost use Rattle.s2ix_table.specs.Table.{Run, IsRangeTable};
+ghost use Rattle.s2ix_table.specs.Table.{Range, IsRangeTable};
 ghost use Rattle.s2ix_table.specs.Laws.{ContentsAreOfTheLeaf, OneListOfContents, OneRangeTable, MeetingListIsTheTargets, OneMeetingList, OneLabelList};
 
 use s2ix_bag::Held;
@@ -47,7 +47,7 @@ pub fn one_label_list()
 /// The range table that is computed of a collection is its range table, and the only one.
 pub fn range_table_is_the_collections()
     ensures table { (held : Collection) → IsRangeTable held (range_table held) }
-    ensures only { (held : Collection) (runs : List Run) → IsRangeTable held runs → runs ≡ range_table held }
+    ensures only { (held : Collection) (ranges : List Range) → IsRangeTable held ranges → ranges ≡ range_table held }
 {}
 
 /// The label list that is computed of a meeting list is its label list, and the only one.

@@ -1,11 +1,11 @@
 //! Range tables of labelled cells, and what they answer (S2's `S2CellIndex`).
 //!
-//! The leaves of the curve fall into maximal runs over which the same pairs lie. A [`RangeTable`] keeps these runs in
+//! The leaves of the curve fall into maximal runs over which the same pairs lie. A [`RangeTable`] keeps these ranges in
 //! order, and with each of them its contents: the pairs whose cells have its leaves, the innermost cell first.
 #![tactic(auto)]
 
 mod copied;
-mod copied_row;
+mod copied_range;
 mod filter;
 mod iter;
 mod labels;

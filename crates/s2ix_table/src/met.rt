@@ -22,7 +22,7 @@ pub(crate) struct Met<P> {
 
 // The walk that has seen nothing yet.
 pub(crate) fn walk_of<T: RangeTable>(table: &T, cells: &[CellId]) -> WalkState<T::Place>
-    ensures walk { IsWalkState (T.chain table.now) cells.now (T.runs table.now) result }
+    ensures walk { IsWalkState (T.chain table.now) cells.now (T.ranges table.now) result }
     ensures left { left_of (T.chain table.now) cells.now (T.pairs table.now) result
         ≡ meeting_of cells.now (T.pairs table.now) }
 {
@@ -42,11 +42,11 @@ pub(crate) fn next_met<T: RangeTable>(
     walk: WalkState<T::Place>,
 ) -> Option<Met<T::Place>>
     requires chain { IsChain cells.now }
-    requires walk { IsWalkState (T.chain table.now) cells.now (T.runs table.now) walk }
+    requires walk { IsWalkState (T.chain table.now) cells.now (T.ranges table.now) walk }
     ensures ends { result ≡ None → left_of (T.chain table.now) cells.now (T.pairs table.now) walk ≡ [] }
     ensures gives { IfSome result (λ met. left_of (T.chain table.now) cells.now (T.pairs table.now) walk
         ≡ met.held ∷ left_of (T.chain table.now) cells.now (T.pairs table.now) met.after) }
-    ensures after { IfSome result (λ met. IsWalkState (T.chain table.now) cells.now (T.runs table.now) met.after) }
+    ensures after { IfSome result (λ met. IsWalkState (T.chain table.now) cells.now (T.ranges table.now) met.after) }
 {
     let mut at = walk;
     loop {
@@ -72,11 +72,11 @@ fn advance<T: RangeTable>(
     walk: WalkState<T::Place>,
 ) -> Option<WalkState<T::Place>>
     requires chain { IsChain cells.now }
-    requires walk { IsWalkState (T.chain table.now) cells.now (T.runs table.now) walk }
+    requires walk { IsWalkState (T.chain table.now) cells.now (T.ranges table.now) walk }
     ensures ends { result ≡ None → meeting_from cells.now walk.seen (T.pairs table.now) ≡ [] }
     ensures left { IfSome result (λ next. meeting_from cells.now walk.seen (T.pairs table.now)
         ≡ left_of (T.chain table.now) cells.now (T.pairs table.now) next) }
-    ensures next { IfSome result (λ next. IsWalkState (T.chain table.now) cells.now (T.runs table.now) next) }
+    ensures next { IfSome result (λ next. IsWalkState (T.chain table.now) cells.now (T.ranges table.now) next) }
     ensures rises { IfSome result (λ next. walk.seen < next.seen) }
 {
     let cell = first_beyond(cells, walk.cell, walk.seen);

@@ -43,8 +43,8 @@ pub(crate) fn new_pair<T: RangeTable>(
 // The range that has the first leaf of a cell from `seen` on: that at hand, or the one with the cell's first leaf.
 pub(crate) fn range_from<T: RangeTable>(table: &T, cell: CellId, range: usize, seen: u64) -> usize
     requires beyond { seen < end_of cell }
-    requires at_hand { seen < leaf_end → IsFound (T.runs table.now) range seen }
-    ensures { IsFound (T.runs table.now) result (max seen (first_of cell)) }
+    requires at_hand { seen < leaf_end → IsFound (T.ranges table.now) range seen }
+    ensures { IsFound (T.ranges table.now) result (max seen (first_of cell)) }
 {
     let start = cell.range_min();
     if seen < start.raw() {

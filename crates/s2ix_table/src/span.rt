@@ -1,4 +1,4 @@
-// Cells as runs of leaf numbers.
+// Cells as spans of leaf numbers.
 ghost use Rattle.std.specs.Prelude.{◌≡◌};
 ghost use Rattle.s2id_core.specs.CellId.{first_of, end_of};
 ghost use Rattle.s2ix_table.specs.Contents.{covers, depth_key};

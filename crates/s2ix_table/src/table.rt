@@ -2,7 +2,7 @@ ghost use Rattle.std.specs.Prelude.{◌≡◌, ◌<◌, ◌≤◌, ◌∷◌, If
 ghost use Rattle.s2id_core.specs.CellId.{raw_of, level_of};
 ghost use Rattle.s2ix_bag.specs.Collection.{Collection, IsCollection};
 ghost use Rattle.s2ix_table.specs.LabelList.{label_list};
-ghost use Rattle.s2ix_table.specs.Table.{Run, run_at, IsRangeTable};
+ghost use Rattle.s2ix_table.specs.Table.{Range, range_at, IsRangeTable};
 ghost use Rattle.s2ix_table.specs.Places.{IsPlace, LeadsTo};
 ghost use Rattle.s2ix_table.specs.Meeting.{IsMeetingList, IsLabelList, meeting_of};
 ghost use Rattle.s2ix_table.specs.Calls.{MayVisit, Visits};
@@ -16,7 +16,7 @@ use s2ix_bag::{Bag, Held, Label};
 use std::alloc::Global;
 
 /// The range table of a collection: the maximal runs of leaves over which the same pairs lie, in order, each with a
-/// chain of these pairs (S2's `S2CellIndex`, its ranges and its contents). The runs cover all leaves, empty ones too.
+/// chain of these pairs (S2's `S2CellIndex`, its ranges and its contents). The ranges cover all leaves, empty ones too.
 pub trait RangeTable: Sized {
     /// Where a table keeps a pair of a chain.
     type Place: Copy;
@@ -24,8 +24,8 @@ pub trait RangeTable: Sized {
     // the pairs that the table was built of, with their counts
     ghost pairs: { Self → Collection };
 
-    // the runs, each with its contents
-    ghost runs: { Self → List Run };
+    // the ranges, each with its contents
+    ghost ranges: { Self → List Range };
 
     // the pairs from a place on, outwards; none at what is no place of the table
     ghost chain: { Self → Self.Place → Collection };
@@ -36,18 +36,18 @@ pub trait RangeTable: Sized {
 
     /// How many ranges there are, at least 1.
     fn range_count(&self) -> usize
-        ensures { result ≡ length (runs self.now) };
+        ensures { result ≡ length (ranges self.now) };
 
     /// The leaves of a range.
     fn range(&self, k: usize) -> RangeRow
-        requires { k < length (runs self.now) }
-        ensures start { result.start ≡ (run_at (runs self.now) k).start }
-        ensures limit { result.limit ≡ (run_at (runs self.now) k).limit };
+        requires { k < length (ranges self.now) }
+        ensures start { result.start ≡ (range_at (ranges self.now) k).start }
+        ensures limit { result.limit ≡ (range_at (ranges self.now) k).limit };
 
     /// The place of a range's innermost pair, or `None` where nothing lies over it.
     fn first(&self, k: usize) -> Option<Self::Place>
-        requires { k < length (runs self.now) }
-        ensures { LeadsTo (chain self.now) result (run_at (runs self.now) k).contents };
+        requires { k < length (ranges self.now) }
+        ensures { LeadsTo (chain self.now) result (range_at (ranges self.now) k).contents };
 
     /// The pair at a place, with its count.
     fn held_at(&self, place: Self::Place) -> Held
@@ -62,15 +62,15 @@ pub trait RangeTable: Sized {
     /// The range that has a leaf. O(log n) for n ranges.
     fn find(&self, leaf: CellId) -> usize
         requires { level_of leaf ≡ 30 }
-        ensures within { result < length (runs self.now) }
-        ensures start { (run_at (runs self.now) result).start ≤ raw_of leaf }
-        ensures limit { raw_of leaf < (run_at (runs self.now) result).limit };
+        ensures within { result < length (ranges self.now) }
+        ensures start { (range_at (ranges self.now) result).start ≤ raw_of leaf }
+        ensures limit { raw_of leaf < (range_at (ranges self.now) result).limit };
 
     // the pairs rise strictly, each with a count above 0
     ghost is_collection: { (table : Self) → IsCollection (pairs table) };
 
-    // the runs are the range table of the pairs
-    ghost is_table: { (table : Self) → IsRangeTable (pairs table) (runs table) };
+    // the ranges are the range table of the pairs
+    ghost is_table: { (table : Self) → IsRangeTable (pairs table) (ranges table) };
 
     // the pairs are at most as many as the widest limits let a bag hold
     ghost few: { (table : Self) → length (pairs table) ≤ 1000000 };

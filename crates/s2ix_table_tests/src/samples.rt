@@ -2,7 +2,7 @@
 ghost use Rattle.std.specs.Prelude.{◌≡◌, ◌<◌, ℕ, Some};
 ghost use Rattle.s2id_core.specs.CellId.{level_of, raw_of};
 ghost use Rattle.s2ix_bag.specs.declared.pair.Held.{Held};
-ghost use Rattle.s2ix_table.specs.Table.{IsFound, run_at};
+ghost use Rattle.s2ix_table.specs.Table.{IsFound, range_at};
 
 use s2id_core::CellId;
 use s2id_union::CellUnion;
@@ -77,8 +77,8 @@ pub fn visited<T: RangeTable, F: FnMut(Held) -> bool>(
 pub fn sought<T: RangeTable>(table: &T, leaf: CellId) -> Option<(usize, RangeRow)>
     requires { level_of leaf ≡ 30 }
     ensures { (k : ℕ)
-        × IsFound (T.runs table.now) k (raw_of leaf)
-        × (result ≡ Some (k, record { start = (run_at (T.runs table.now) k).start; limit = (run_at (T.runs table.now) k).limit })) }
+        × IsFound (T.ranges table.now) k (raw_of leaf)
+        × (result ≡ Some (k, record { start = (range_at (T.ranges table.now) k).start; limit = (range_at (T.ranges table.now) k).limit })) }
 {
     let mut rows = ranges(table);
     rows.next();

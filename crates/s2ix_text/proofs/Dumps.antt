@@ -9,7 +9,7 @@ use Rattle.s2id_core.specs.Token.{canonical_token, IsLowerHex}
 use Rattle.s2id_core.proofs.Canonical.{lower-canonical_token}
 use Rattle.s2ix_bag.specs.declared.pair.Held.{Held}
 use Rattle.s2ix_bag.specs.declared.pair.Pair.{Pair}
-use Rattle.s2ix_bag.specs.Collection.{Collection, Contents, IsBag}
+use Rattle.s2ix_bag.specs.Collection.{Collection, LimitedCollection, IsBag}
 use Rattle.s2ix_text.specs.Dump.{HasSmallCount, dump_text, end_line, pair_line}
 use Rattle.s2ix_text.proofs.Journals.{IsGraphic, cut_field, cut_pair, decimal_graphic, token_graphic}
 
@@ -56,9 +56,9 @@ one_dump hs ks hs_are ks_are same =
     (append_cancel_left (codes "s2ix 1\n") (flat_map pair_line hs ++ end_line hs) (flat_map pair_line ks ++ end_line ks) same)
 
 -- the counts of a bag are small
-small_counts : (bag : Contents) → IsBag bag → All HasSmallCount bag.held
+small_counts : (bag : LimitedCollection) → IsBag bag → All HasSmallCount bag.held
 small_counts bag is = λ k d within. let range = bag.limits.in_range in let small = is.small k d within in omega (arith, range, small)
 
-pub one_dump_of_bags : (bag other : Contents) → IsBag bag → IsBag other → dump_text bag.held ≡ dump_text other.held → bag.held ≡ other.held
+pub one_dump_of_bags : (bag other : LimitedCollection) → IsBag bag → IsBag other → dump_text bag.held ≡ dump_text other.held → bag.held ≡ other.held
 one_dump_of_bags bag other is other_is same =
     one_dump bag.held other.held (small_counts bag is) (small_counts other other_is) same

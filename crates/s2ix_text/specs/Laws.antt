@@ -1,7 +1,7 @@
 -- What the definitions of texts say, in other words: each of these is proved, by the function of `laws` of its name.
 use Rattle.std.specs.Prelude.{◌≡◌, List, All}
 use Rattle.s2ix_bag.specs.declared.pair.Entry.{Entry}
-use Rattle.s2ix_bag.specs.Collection.{Collection, Contents, IsBag}
+use Rattle.s2ix_bag.specs.Collection.{Collection, LimitedCollection, IsBag}
 use Rattle.s2ix_text.specs.Dump.{HasSmallCount, dump_text}
 use Rattle.s2ix_text.specs.Journal.{IsWritable, journal_text}
 
@@ -13,7 +13,7 @@ DumpsTellCollectionsApart =
 -- so two bags with one dump hold the same
 abbrev pub DumpsTellBagsApart : Type 0
 DumpsTellBagsApart =
-    (bag other : Contents) → IsBag bag → IsBag other → dump_text bag.held ≡ dump_text other.held → bag.held ≡ other.held
+    (bag other : LimitedCollection) → IsBag bag → IsBag other → dump_text bag.held ≡ dump_text other.held → bag.held ≡ other.held
 
 -- two lists of writable changes with one journal are one
 abbrev pub JournalsTellListsApart : Type 0

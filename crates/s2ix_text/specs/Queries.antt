@@ -6,7 +6,7 @@ use Rattle.s2id_core.specs.Token.{canonical_token, sixteen_digits}
 use Rattle.s2ix_bag.specs.Label.{value_of}
 use Rattle.s2ix_bag.specs.declared.label.Label.{Label}
 use Rattle.s2ix_bag.specs.declared.pair.Held.{Held}
-use Rattle.s2ix_table.specs.Table.{Run}
+use Rattle.s2ix_table.specs.Table.{Range}
 
 -- the last line of a list: end N
 unfoldable pub end_of_list : ℕ → List ℕ
@@ -32,10 +32,10 @@ label_line label = decimal (value_of label) ++ codes "\n"
 unfoldable pub spaced_pair : Held → List ℕ
 spaced_pair h = codes " " ++ pair_text h
 
--- the bounds of a run: START LIMIT
+-- the bounds of a range: START LIMIT
 unfoldable pub bounds_text : ℕ → ℕ → List ℕ
 bounds_text start limit = concat (sixteen_digits start ∷ codes " " ∷ sixteen_digits limit ∷ [])
 
--- the line of a run: its bounds, and its pairs, each behind a space
-unfoldable pub run_line : Run → List ℕ
-run_line run = bounds_text run.start run.limit ++ (flat_map spaced_pair run.contents ++ codes "\n")
+-- the line of a range: its bounds, and its pairs, each behind a space
+unfoldable pub range_line : Range → List ℕ
+range_line range = bounds_text range.start range.limit ++ (flat_map spaced_pair range.contents ++ codes "\n")

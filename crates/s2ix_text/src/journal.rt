@@ -3,12 +3,12 @@ ghost use Rattle.s2ix_io.specs.Faults.{write_faults};
 ghost use Rattle.s2ix_text.specs.Journal.{change_line, entry_line, group_text, journal_text};
 ghost use Rattle.s2ix_io.specs.Puts.{Puts};
 
-use super::list::{Line, write_end_of_list, write_lines};
+use super::list::{ListItem, write_end_of_list, write_lines};
 use itoa::Buffer;
 use s2ix_bag::{Change, Entry};
 use s2ix_io::{Sink, WriteFault, put_all, put_parts};
 
-impl Line for Entry {
+impl ListItem for Entry {
     ghost line = { entry_line };
 
     #[tactic(auto, unfolding(crate::specs::Journal::entry_line))]

@@ -11,5 +11,5 @@ mod ranges;
 
 pub use dump::write_dump;
 pub use journal::write_journal;
-pub use list::{Line, write_list};
+pub use list::{ListItem, write_list};
 pub use ranges::{write_contents, write_ranges};

@@ -9,7 +9,7 @@ use s2ix_bag::{Held, Label};
 use s2ix_io::{Sink, WriteFault, put_parts};
 
 /// What stands on a line of its own in a list. This project's own.
-pub trait Line: Copy {
+pub trait ListItem: Copy {
     // the line, with its line feed
     ghost line: { Self → List ℕ };
 
@@ -20,7 +20,7 @@ pub trait Line: Copy {
         ensures faults { K.fault_count sink.new ≡ K.fault_count sink.old + write_faults result };
 }
 
-impl Line for Held {
+impl ListItem for Held {
     ghost line = { held_line };
 
     #[tactic(auto, unfolding(crate::specs::Queries::held_line))]
@@ -29,7 +29,7 @@ impl Line for Held {
     }
 }
 
-impl Line for Label {
+impl ListItem for Label {
     ghost line = { label_line };
 
     #[tactic(auto, unfolding(crate::specs::Queries::label_line))]
@@ -40,7 +40,7 @@ impl Line for Label {
 }
 
 // Writes the lines of all items, in order.
-pub(crate) fn write_lines<A: Line, K: Sink>(items: &[A], sink: &mut K) -> Result<(), WriteFault>
+pub(crate) fn write_lines<A: ListItem, K: Sink>(items: &[A], sink: &mut K) -> Result<(), WriteFault>
     requires { K.fault_count sink.old < 2 ^ 64 - 1 }
     ensures puts { Puts (K.taken sink.old) (K.taken sink.new) result (flat_map A.line items.now) }
     ensures faults { K.fault_count sink.new ≡ K.fault_count sink.old + write_faults result }
@@ -69,7 +69,7 @@ pub(crate) fn write_end_of_list<K: Sink>(count: usize, sink: &mut K) -> Result<(
 ///
 /// It takes no memory and does not flush. At the first fault of the sink it ends, when a front of the list went out. O(n) for n items.
 /// This project's own.
-pub fn write_list<A: Line, K: Sink>(items: &[A], sink: &mut K) -> Result<(), WriteFault>
+pub fn write_list<A: ListItem, K: Sink>(items: &[A], sink: &mut K) -> Result<(), WriteFault>
     requires { K.fault_count sink.old < 2 ^ 64 - 1 }
     ensures puts { Puts (K.taken sink.old) (K.taken sink.new) result (list_text A.line items.now) }
     ensures faults { K.fault_count sink.new ≡ K.fault_count sink.old + write_faults result }

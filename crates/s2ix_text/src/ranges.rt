@@ -1,12 +1,12 @@
 ghost use Rattle.std.specs.Prelude.{◌≡◌, ◌+◌, ◌-◌, ◌^◌, ◌<◌, flat_map, length};
 ghost use Rattle.s2id_core.specs.CellId.{level_of, raw_of};
 ghost use Rattle.s2ix_table.specs.Contents.{contents_at};
-ghost use Rattle.s2ix_table.specs.Table.{run_at};
+ghost use Rattle.s2ix_table.specs.Table.{range_at};
 ghost use Rattle.s2ix_io.specs.Faults.{write_faults};
 ghost use Rattle.s2ix_io.specs.Puts.{Puts};
-ghost use Rattle.s2ix_text.specs.Queries.{bounds_text, held_line, list_text, run_line, spaced_pair};
+ghost use Rattle.s2ix_text.specs.Queries.{bounds_text, held_line, list_text, range_line, spaced_pair};
 
-use super::list::{Line, write_end_of_list};
+use super::list::{ListItem, write_end_of_list};
 use super::pair::write_pair_between;
 use s2id_core::{CellId, sixteen_digits};
 use s2ix_io::{Sink, WriteFault, put_all, put_parts};
@@ -53,8 +53,8 @@ fn write_range_pairs<T: RangeTable, K: Sink>(
     sink: &mut K,
 ) -> Result<(), WriteFault>
     requires counts { K.fault_count sink.old < 2 ^ 64 - 1 }
-    requires within { k < length (T.runs table.now) }
-    ensures puts { Puts (K.taken sink.old) (K.taken sink.new) result (flat_map spaced_pair (run_at (T.runs table.now) k).contents) }
+    requires within { k < length (T.ranges table.now) }
+    ensures puts { Puts (K.taken sink.old) (K.taken sink.new) result (flat_map spaced_pair (range_at (T.ranges table.now) k).contents) }
     ensures faults { K.fault_count sink.new ≡ K.fault_count sink.old + write_faults result }
 {
     for held in contents(table, k) {
@@ -66,8 +66,8 @@ fn write_range_pairs<T: RangeTable, K: Sink>(
 // Writes the line of a range.
 fn write_range<T: RangeTable, K: Sink>(table: &T, k: usize, sink: &mut K) -> Result<(), WriteFault>
     requires counts { K.fault_count sink.old < 2 ^ 64 - 1 }
-    requires within { k < length (T.runs table.now) }
-    ensures puts { Puts (K.taken sink.old) (K.taken sink.new) result (run_line (run_at (T.runs table.now) k)) }
+    requires within { k < length (T.ranges table.now) }
+    ensures puts { Puts (K.taken sink.old) (K.taken sink.new) result (range_line (range_at (T.ranges table.now) k)) }
     ensures faults { K.fault_count sink.new ≡ K.fault_count sink.old + write_faults result }
 {
     write_bounds(table.range(k), sink)?;
@@ -82,7 +82,7 @@ fn write_range<T: RangeTable, K: Sink>(table: &T, k: usize, sink: &mut K) -> Res
 /// n ranges with m pairs in all. This project's own.
 pub fn write_ranges<T: RangeTable, K: Sink>(table: &T, sink: &mut K) -> Result<(), WriteFault>
     requires { K.fault_count sink.old < 2 ^ 64 - 1 }
-    ensures puts { Puts (K.taken sink.old) (K.taken sink.new) result (list_text run_line (T.runs table.now)) }
+    ensures puts { Puts (K.taken sink.old) (K.taken sink.new) result (list_text range_line (T.ranges table.now)) }
     ensures faults { K.fault_count sink.new ≡ K.fault_count sink.old + write_faults result }
 {
     for k in 0..table.range_count() {

@@ -3,7 +3,7 @@ use crate::samples::{pair_of, store_of};
 use s2id_core::CellId;
 use s2ix_bag::{Entry, Held, Label};
 use s2ix_io::{KeepingSink, Sink, WriteFault};
-use s2ix_text::{Line, write_contents, write_list, write_ranges};
+use s2ix_text::{ListItem, write_contents, write_list, write_ranges};
 use std::test::Fail;
 
 // A face under label 7, and a cell in it under label 9, twice.

@@ -11,7 +11,7 @@ returns-then-k-cells c =
     let x = c.index-cells-k.result in
     let held : Contains c.args.cells.now x = (c.passed-k.result, omega arith, sym c.index-cells-k.is) in (
       λ t. let o = c.intersects.ensures.leaves.0 t in (o.0, o.2, (held.0, x, held.1, held.2, o.1)),
-      λ all. c.intersects.ensures.runs.1 ((meets_ahead c.args.cells.now c.requires c.passed-k.result c.span_start.result c.args.cell c.span_start.ensures c.passed-k.ensures.ahead all).1 x c.index-cells-k.is),
+      λ all. c.intersects.ensures.spans.1 ((meets_ahead c.args.cells.now c.requires c.passed-k.result c.span_start.result c.args.cell c.span_start.ensures c.passed-k.ensures.ahead all).1 x c.index-cells-k.is),
     )
 
 pub returns-else-k-cells : goal.returns-else-k-cells

@@ -18,13 +18,13 @@ advanced-i-requires-clause-chain c = chain_from_normal c.args.first.now c.requir
 pub advanced-j-requires-clause-chain : goal.advanced-j-requires-clause-chain
 advanced-j-requires-clause-chain c = chain_from_normal c.args.second.now c.requires.second_normal
 
-pub loop-at-preserved-in_ok-add_run : goal.loop-at-preserved-in_ok-add_run
-loop-at-preserved-in_ok-add_run c =
+pub loop-at-preserved-in_ok-add_span : goal.loop-at-preserved-in_ok-add_span
+loop-at-preserved-in_ok-add_span c =
     let f = c.stretch_at-of_first in
     let s = c.stretch_at-of_second in
     let e = c.lower-end in
     let odd = e.ensures.odd f.ensures.odd s.ensures.odd in
-    swept_next_off c.args.operation c.args.first.now c.args.second.now c.loop-at.cells.items c.add_run.new.cells.items c.loop-at.run c.loop-at.at e.result f.result.end s.result.end c.advanced-i.result c.advanced-j.result f.result.inside s.result.inside c.loop-at.invariant.0 c.in_ok-add_run.ensures (e.ensures.above c.loop-at.at f.ensures.rises s.ensures.rises) e.ensures.first e.ensures.second f.ensures.on_curve odd f.ensures.constant s.ensures.constant (λ k. let t = c.keeps-kept.ensures.1 k in (cc)) c.advanced-i.ensures c.advanced-j.ensures
+    swept_next_off c.args.operation c.args.first.now c.args.second.now c.loop-at.cells.items c.add_span.new.cells.items c.loop-at.start c.loop-at.at e.result f.result.end s.result.end c.advanced-i.result c.advanced-j.result f.result.inside s.result.inside c.loop-at.invariant.0 c.in_ok-add_span.ensures (e.ensures.above c.loop-at.at f.ensures.rises s.ensures.rises) e.ensures.first e.ensures.second f.ensures.on_curve odd f.ensures.constant s.ensures.constant (λ k. let t = c.keeps-kept.ensures.1 k in (cc)) c.advanced-i.ensures c.advanced-j.ensures
 
 pub loop-at-preserved : goal.loop-at-preserved
 loop-at-preserved c =
@@ -33,9 +33,9 @@ loop-at-preserved c =
     let e = c.lower-end in
     let odd = e.ensures.odd f.ensures.odd s.ensures.odd in
     let t : IsTrue c.keeps-kept.result = cc in
-    swept_next_on c.args.operation c.args.first.now c.args.second.now c.loop-at.cells.items c.loop-at.run c.loop-at.at e.result f.result.end s.result.end c.advanced-i.result c.advanced-j.result f.result.inside s.result.inside c.loop-at.invariant.0 c.loop-at.invariant.3 c.loop-at.invariant.6 (e.ensures.above c.loop-at.at f.ensures.rises s.ensures.rises) e.ensures.first e.ensures.second f.ensures.on_curve odd f.ensures.constant s.ensures.constant (c.keeps-kept.ensures.0 t) c.advanced-i.ensures c.advanced-j.ensures
+    swept_next_on c.args.operation c.args.first.now c.args.second.now c.loop-at.cells.items c.loop-at.start c.loop-at.at e.result f.result.end s.result.end c.advanced-i.result c.advanced-j.result f.result.inside s.result.inside c.loop-at.invariant.0 c.loop-at.invariant.3 c.loop-at.invariant.6 (e.ensures.above c.loop-at.at f.ensures.rises s.ensures.rises) e.ensures.first e.ensures.second f.ensures.on_curve odd f.ensures.constant s.ensures.constant (c.keeps-kept.ensures.0 t) c.advanced-i.ensures c.advanced-j.ensures
 
 pub returns : goal.returns
 returns c =
-    let whole = swept_end c.args.operation c.args.first.now c.args.second.now _ _ _ c.loop-at.at c.loop-at.invariant.0 (omega arith) c.in_ok-add_run-2.ensures in
+    let whole = swept_end c.args.operation c.args.first.now c.args.second.now _ _ _ c.loop-at.at c.loop-at.invariant.0 (omega arith) c.in_ok-add_span-2.ensures in
     record { normal = whole.normal; covers = whole.covers }

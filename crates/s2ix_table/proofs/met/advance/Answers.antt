@@ -15,18 +15,18 @@ returns-then-cell-cells-clause-ends g c e =
 pub overflow_add-next : goal.overflow_add-next
 overflow_add-next g c =
     let t = c.args.table.now in
-    let fits = range_fits (g.T.RangeTable.pairs t) (g.T.RangeTable.runs t) (g.met.T.RangeTable.is_table t) c.range_from-range.result c.range_from-range.ensures.within in
+    let fits = range_fits (g.T.RangeTable.pairs t) (g.T.RangeTable.ranges t) (g.met.T.RangeTable.is_table t) c.range_from-range.result c.range_from-range.ensures.within in
     search (rules, fits)
 
 -- the walk behind the range at hand
-step_past : (g : Over) (c : goal.After-first-place g) → IsPast (g.T.RangeTable.chain c.args.table.now) c.args.cells.now (g.T.RangeTable.pairs c.args.table.now) (g.T.RangeTable.runs c.args.table.now) (record { cell = c.first_beyond-cell.result; range = c.if-row-end.next.0; seen = c.if-row-end.next.1; from = c.args.walk.seen; place = c.first-place.result })
+step_past : (g : Over) (c : goal.After-first-place g) → IsPast (g.T.RangeTable.chain c.args.table.now) c.args.cells.now (g.T.RangeTable.pairs c.args.table.now) (g.T.RangeTable.ranges c.args.table.now) (record { cell = c.first_beyond-cell.result; range = c.if-row-end.next.0; seen = c.if-row-end.next.1; from = c.args.walk.seen; place = c.first-place.result })
 step_past g c =
     let t = c.args.table.now in
     let x = c.index-cells-cell.result in
     let within = c.if-cell-cells.false in
     let ends = ap (λ (y : CellId). end_of y) c.index-cells-cell.is in
     let beyond = c.first_beyond-cell.ensures.beyond x (omega arith) in
-    walk_past (g.T.RangeTable.chain t) c.args.cells.now (g.T.RangeTable.pairs t) (g.T.RangeTable.runs t) c.range_from-range.result _ _ x _ (record {
+    walk_past (g.T.RangeTable.chain t) c.args.cells.now (g.T.RangeTable.pairs t) (g.T.RangeTable.ranges t) c.range_from-range.result _ _ x _ (record {
       chain = c.requires.chain;
       table = g.met.T.RangeTable.is_table t;
       odd = c.requires.walk.odd;

@@ -4,7 +4,7 @@ use Rattle.s2ix_table.proofs.met.next_met.Given as goal
 
 abbrev pub invariant-loop-link : goal.invariant-loop-link
 invariant-loop-link g l =
-    IsWalkState (g.T.RangeTable.chain l.table) l.cells (g.T.RangeTable.runs l.table) l.at
+    IsWalkState (g.T.RangeTable.chain l.table) l.cells (g.T.RangeTable.ranges l.table) l.at
     × (left_of (g.T.RangeTable.chain l.table) l.cells (g.T.RangeTable.pairs l.table) l.at ≡ left_of (g.T.RangeTable.chain l.table) l.cells (g.T.RangeTable.pairs l.table) l.fn.walk)
 
 abbrev pub decreases-loop-link : goal.decreases-loop-link

@@ -1,7 +1,7 @@
 -- The pairs so far were taken whole, and no call has failed.
 use Rattle.std.proofs.Common.{◌≡◌, take, length, flat_map}
 use Rattle.std.specs.Io.KnownBytes.{Appends}
-use Rattle.s2ix_table.specs.Table.{run_at}
+use Rattle.s2ix_table.specs.Table.{range_at}
 use Rattle.s2ix_text.specs.Queries.{spaced_pair}
 use Rattle.s2ix_text.proofs.ranges.write_range_pairs.Given as goal
 
@@ -9,5 +9,5 @@ abbrev pub invariant-loop-held : goal.invariant-loop-held
 invariant-loop-held g l =
     (goal.iterator-loop-held g).can_next l.held-iterator
     × (goal.iterator-loop-held g).is_finite l.held-iterator
-    × Appends (g.K.Sink.taken l.fn.sink) (g.K.Sink.taken l.sink) (flat_map spaced_pair (take (length l.yielded) (run_at (g.T.RangeTable.runs l.table) l.k).contents))
+    × Appends (g.K.Sink.taken l.fn.sink) (g.K.Sink.taken l.sink) (flat_map spaced_pair (take (length l.yielded) (range_at (g.T.RangeTable.ranges l.table) l.k).contents))
     × (g.K.Sink.fault_count l.sink ≡ g.K.Sink.fault_count l.fn.sink)

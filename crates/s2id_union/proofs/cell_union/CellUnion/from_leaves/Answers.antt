@@ -1,15 +1,15 @@
-use Rattle.s2id_union.proofs.Forms.{run_form}
-use Rattle.s2id_union.proofs.Made.{normal_from_added, run_leaves}
+use Rattle.s2id_union.proofs.Forms.{span_form}
+use Rattle.s2id_union.proofs.Made.{normal_from_added, span_leaves}
 use Rattle.s2id_union.proofs.cell_union.CellUnion.from_leaves.Goals as goal
 
 pub invariant_of-result : goal.invariant_of-result
-invariant_of-result c = normal_from_added _ _ _ _ c.in_ok-add_run.ensures
+invariant_of-result c = normal_from_added _ _ _ _ c.in_ok-add_span.ensures
 
 pub returns-clause-leaves : goal.returns-clause-leaves
-returns-clause-leaves c = run_leaves _ _ _ _ c.new-cells.ensures.items c.in_ok-add_run.ensures
+returns-clause-leaves c = span_leaves _ _ _ _ c.new-cells.ensures.items c.in_ok-add_span.ensures
 
 pub returns-clause-normal : goal.returns-clause-normal
-returns-clause-normal c = normal_from_added _ _ _ _ c.in_ok-add_run.ensures
+returns-clause-normal c = normal_from_added _ _ _ _ c.in_ok-add_span.ensures
 
 pub returns-clause-form : goal.returns-clause-form
-returns-clause-form c = run_form _ _ _ _ c.new-cells.ensures.items c.in_ok-add_run.ensures
+returns-clause-form c = span_form _ _ _ _ c.new-cells.ensures.items c.in_ok-add_span.ensures

@@ -1,7 +1,7 @@
 -- A change that is not refused is taken.
 use Rattle.std.proofs.Common.{sym, ◌∙◌, subst, List}
 use Rattle.s2ix_bag.specs.Change.{IsChangeList}
-use Rattle.s2ix_bag.specs.Collection.{Collection, Contents, IsBag}
+use Rattle.s2ix_bag.specs.Collection.{Collection, LimitedCollection, IsBag}
 use Rattle.s2ix_bag.specs.declared.pair.Entry.{Entry}
 use Rattle.s2ix_bag.proofs.Refusals.{taken_from_none, made_is_bag}
 use Rattle.s2ix_bag.proofs.bag.Bag.applied.Goals as goal
@@ -12,9 +12,9 @@ merge-requires-clause-before c =
 
 pub invariant_of-result : goal.invariant_of-result
 invariant_of-result c =
-    let bag : Contents = record { limits = c.self.inside.limits; held = c.as_slice-held.result.now } in
+    let bag : LimitedCollection = record { limits = c.self.inside.limits; held = c.as_slice-held.result.now } in
     let taken = taken_from_none bag c.entries-entries.result.now (sym c.refusal.ensures ∙ c.in_default.is) in
-    let With : Collection → Contents = λ hs. record { limits = c.self.inside.limits; held = hs } in
+    let With : Collection → LimitedCollection = λ hs. record { limits = c.self.inside.limits; held = hs } in
     let Bags : Collection → Type 0 = λ hs. IsBag (With hs) in
     let is_bag = subst Bags (sym c.as_slice-held.ensures.value) c.self.invariant in
     let rises = subst (λ (es : List Entry). IsChangeList es) (sym c.entries-entries.ensures.list) c.entries-entries.ensures.rises in

@@ -1,9 +1,9 @@
 use Rattle.std.proofs.Common.{◌-◌}
 use Rattle.s2ix_table.proofs.Building.{IsBuilt}
-use Rattle.s2ix_table.proofs.copied.rows_over.Given as goal
+use Rattle.s2ix_table.proofs.copied.ranges_over.Given as goal
 
 abbrev pub invariant-loop-at : goal.invariant-loop-at
-invariant-loop-at l = IsBuilt l.held l.rows.items l.at
+invariant-loop-at l = IsBuilt l.held l.ranges.items l.at
 
 abbrev pub decreases-loop-at : goal.decreases-loop-at
 decreases-loop-at l = 13835058055282163713 - l.at

@@ -1,4 +1,4 @@
-// Runs of leaves as the fewest cells.
+// Spans of leaves as the fewest cells.
 
 ghost use Rattle.std.specs.Prelude.{◌≡◌, ◌%◌, ◌<◌, ◌≤◌, IfOk};
 ghost use Rattle.s2id_core.specs.CellId.{raw_of};
@@ -16,7 +16,7 @@ fn least(a: u32, b: u32, c: u32) -> u32
 }
 
 // The greatest cell that begins at a leaf and ends by the limit: its size is bounded by the zeros at the end of the
-// leaf's place and by the width of the run.
+// leaf's place and by the width of the span.
 fn greatest_at(at: u64, limit: u64) -> CellId
     requires odd { at % 2 ≡ 1 }
     requires odd_limit { limit % 2 ≡ 1 }
@@ -34,8 +34,8 @@ fn greatest_at(at: u64, limit: u64) -> CellId
     }
 }
 
-// Adds the run of leaves from `start` up to and without `limit`, as the fewest cells. O(cells added).
-pub(crate) fn add_run(cells: &mut Vec<CellId>, start: u64, limit: u64) -> Result<(), OutOfMemory>
+// Adds the span of leaves from `start` up to and without `limit`, as the fewest cells. O(cells added).
+pub(crate) fn add_span(cells: &mut Vec<CellId>, start: u64, limit: u64) -> Result<(), OutOfMemory>
     requires grown { IsGrown cells.old.items start }
     requires odd { start % 2 ≡ 1 }
     requires odd_limit { limit % 2 ≡ 1 }

@@ -1,7 +1,7 @@
 use Rattle.std.proofs.Common.{◌∙◌, sym, arith}
 use Rattle.s2ix_table.proofs.Building.{bound_changes}
-use Rattle.s2ix_table.proofs.Runs.{stays_between}
-use Rattle.s2ix_table.proofs.copied.row_from.Goals as goal
+use Rattle.s2ix_table.proofs.Ranges.{stays_between}
+use Rattle.s2ix_table.proofs.copied.range_above.Goals as goal
 
 pub returns-clause-shared : goal.returns-clause-shared
 returns-clause-shared c q from to =

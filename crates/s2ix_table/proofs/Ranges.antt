@@ -1,11 +1,11 @@
--- Range tables, run by run.
+-- Range tables, range by range.
 use Rattle.std.proofs.Common.{◌≡◌, ◌≢◌, ℕ, zero, suc, ◌+◌, ◌-◌, ◌*◌, ◌%◌, ◌<◌, ◌≤◌, inl, inr, ◌&&◌, leb, ltb, List, [], ◌∷◌, ◌++◌, length, refl, sym, ◌∙◌, ap₂, arith, Contains, subst}
 use Rattle.std.proofs.lemmas.Bool.{cases_order}
 use Rattle.std.proofs.lemmas.Bool.Decides.{nat_tests}
 use Rattle.s2id_core.specs.CellId.{first_of, end_of}
 use Rattle.s2ix_bag.specs.Collection.{Collection}
 use Rattle.s2ix_table.specs.Contents.{covers, depth_key, contents_at}
-use Rattle.s2ix_table.specs.Table.{Run, run_at, IsTableOver}
+use Rattle.s2ix_table.specs.Table.{Range, range_at, IsTableOver}
 use Rattle.s2ix_table.specs.Filter.{IsNextBound, IsBound}
 use Rattle.s2ix_table.proofs.InOrder.{chosen_agree}
 use Rattle.s2ix_table.proofs.Over.{span_of, in_contents, contents_has}
@@ -41,64 +41,64 @@ stays_between hs at limit q next from to =
 
 -- ---- tables by recursion
 
-pub record IsRunFrom (hs : Collection) (from : ℕ) (r : Run) : Type 0 where
+pub record IsRangeFrom (hs : Collection) (from : ℕ) (r : Range) : Type 0 where
   pub start : r.start ≡ from
   pub odd : from % 2 ≡ 1
   pub rises : from < r.limit
   pub shared : (q : ℕ) → q % 2 ≡ 1 → from ≤ q → q < r.limit → contents_at q hs ≡ r.contents
 
-abbrev pub Changes : Run → List Run → Type 0
+abbrev pub Changes : Range → List Range → Type 0
 Changes r [] = Unit {0}
 Changes r (s ∷ rs) = r.contents ≢ s.contents
 
-abbrev pub IsTable : Collection → ℕ → List Run → ℕ → Type 0
+abbrev pub IsTable : Collection → ℕ → List Range → ℕ → Type 0
 IsTable hs from [] to = from ≡ to
-IsTable hs from (r ∷ rs) to = IsRunFrom hs from r × Changes r rs × IsTable hs r.limit rs to
+IsTable hs from (r ∷ rs) to = IsRangeFrom hs from r × Changes r rs × IsTable hs r.limit rs to
 
-pub table_rises : (hs : Collection) (from : ℕ) (runs : List Run) (to : ℕ) → IsTable hs from runs to → from ≤ to
+pub table_rises : (hs : Collection) (from : ℕ) (ranges : List Range) (to : ℕ) → IsTable hs from ranges to → from ≤ to
 table_rises hs from [] to t = omega arith
 table_rises hs from (r ∷ rs) to t =
     let le = table_rises hs r.limit rs to t.2 in
     let lt = t.0.rises in
     omega arith
 
--- one more run at the end
-pub table_push : (hs : Collection) (from : ℕ) (runs : List Run) (mid : ℕ) (r : Run) → IsTable hs from runs mid → IsRunFrom hs mid r → ((q : ℕ) → from ≤ q → q + 2 ≡ mid → contents_at q hs ≢ contents_at mid hs) → IsTable hs from (runs ++ r ∷ []) r.limit
-table_push hs from [] mid r t run changes =
-    let a = run.start in
-    let b = run.odd in
-    let c = run.rises in
-    (record { start = a ∙ sym t; odd = omega arith; rises = omega arith; shared = λ q odd le lt. run.shared q odd (omega arith) lt }, tt, refl)
-table_push hs from (s ∷ []) mid r t run changes =
+-- one more range at the end
+pub table_push : (hs : Collection) (from : ℕ) (ranges : List Range) (mid : ℕ) (r : Range) → IsTable hs from ranges mid → IsRangeFrom hs mid r → ((q : ℕ) → from ≤ q → q + 2 ≡ mid → contents_at q hs ≢ contents_at mid hs) → IsTable hs from (ranges ++ r ∷ []) r.limit
+table_push hs from [] mid r t range changes =
+    let a = range.start in
+    let b = range.odd in
+    let c = range.rises in
+    (record { start = a ∙ sym t; odd = omega arith; rises = omega arith; shared = λ q odd le lt. range.shared q odd (omega arith) lt }, tt, refl)
+table_push hs from (s ∷ []) mid r t range changes =
     let a = t.0.odd in
     let b = t.0.rises in
-    let c = run.odd in
-    let d = run.rises in
+    let c = range.odd in
+    let d = range.rises in
     let e = t.2 in
     let last : ℕ = mid - 2 in
     let two : last + 2 ≡ mid = omega arith in (
       t.0,
-      λ same. changes last (omega arith) two (t.0.shared last (omega arith) (omega arith) (omega arith) ∙ same ∙ sym (run.shared mid c (omega arith) d)),
-      table_push hs s.limit [] mid r t.2 run (λ q le f. absurd (omega arith)),
+      λ same. changes last (omega arith) two (t.0.shared last (omega arith) (omega arith) (omega arith) ∙ same ∙ sym (range.shared mid c (omega arith) d)),
+      table_push hs s.limit [] mid r t.2 range (λ q le f. absurd (omega arith)),
     )
-table_push hs from (s ∷ u ∷ us) mid r t run changes =
+table_push hs from (s ∷ u ∷ us) mid r t range changes =
     let a = t.0.rises in
-    (t.0, t.1, table_push hs s.limit (u ∷ us) mid r t.2 run (λ q le f. changes q (omega arith) f))
+    (t.0, t.1, table_push hs s.limit (u ∷ us) mid r t.2 range (λ q le f. changes q (omega arith) f))
 
 -- ---- and by places
 
-first_run : (hs : Collection) (from to : ℕ) (r : Run) (rs : List Run) → IsTableOver hs from to (r ∷ rs) → IsRunFrom hs from r
-first_run hs from to r rs t =
+first_range : (hs : Collection) (from to : ℕ) (r : Range) (rs : List Range) → IsTableOver hs from to (r ∷ rs) → IsRangeFrom hs from r
+first_range hs from to r rs t =
     let first = t.first in
     let odd = t.odd 0 (omega arith) in
     let rises = t.rises 0 (omega arith) in
     record { start = first; odd = omega arith; rises = omega arith; shared = λ q o le lt. t.shared 0 q (omega arith) o (omega arith) lt }
 
-pub table_from_places : (hs : Collection) (from to : ℕ) (runs : List Run) → IsTableOver hs from to runs → IsTable hs from runs to
+pub table_from_places : (hs : Collection) (from to : ℕ) (ranges : List Range) → IsTableOver hs from to ranges → IsTable hs from ranges to
 table_from_places hs from to [] t = absurd (let some = t.some in omega arith)
-table_from_places hs from to (r ∷ []) t = (first_run hs from to r [] t, tt, t.last 0 (omega arith))
+table_from_places hs from to (r ∷ []) t = (first_range hs from to r [] t, tt, t.last 0 (omega arith))
 table_from_places hs from to (r ∷ s ∷ rs) t = (
-  first_run hs from to r (s ∷ rs) t,
+  first_range hs from to r (s ∷ rs) t,
   t.maximal 0 1 (omega arith) (omega arith),
   table_from_places hs r.limit to (s ∷ rs) (record {
     some = omega arith;
@@ -112,19 +112,19 @@ table_from_places hs from to (r ∷ s ∷ rs) t = (
   }),
 )
 
-table_last : (hs : Collection) (from : ℕ) (runs : List Run) (to : ℕ) → IsTable hs from runs to → (k : ℕ) → k + 1 ≡ length runs → (run_at runs k).limit ≡ to
+table_last : (hs : Collection) (from : ℕ) (ranges : List Range) (to : ℕ) → IsTable hs from ranges to → (k : ℕ) → k + 1 ≡ length ranges → (range_at ranges k).limit ≡ to
 table_last hs from [] to t k e = absurd (omega arith)
 table_last hs from (r ∷ []) to t zero e = t.2
 table_last hs from (r ∷ []) to t (suc k) e = absurd (omega arith)
 table_last hs from (r ∷ s ∷ rs) to t zero e = absurd (omega arith)
 table_last hs from (r ∷ s ∷ rs) to t (suc k) e = table_last hs r.limit (s ∷ rs) to t.2 k (omega arith)
 
--- one run ends where the next begins, with other contents
-record Meet (r s : Run) : Type 0 where
+-- one range ends where the next begins, with other contents
+record Meet (r s : Range) : Type 0 where
   next : r.limit ≡ s.start
   maximal : r.contents ≢ s.contents
 
-table_meets : (hs : Collection) (from : ℕ) (runs : List Run) (to : ℕ) → IsTable hs from runs to → (j k : ℕ) → j + 1 ≡ k → k < length runs → Meet (run_at runs j) (run_at runs k)
+table_meets : (hs : Collection) (from : ℕ) (ranges : List Range) (to : ℕ) → IsTable hs from ranges to → (j k : ℕ) → j + 1 ≡ k → k < length ranges → Meet (range_at ranges j) (range_at ranges k)
 table_meets hs from [] to t j k e lt = absurd (omega arith)
 table_meets hs from (r ∷ []) to t j k e lt = absurd (omega arith)
 table_meets hs from (r ∷ s ∷ rs) to t zero zero e lt = absurd (omega arith)
@@ -133,28 +133,28 @@ table_meets hs from (r ∷ s ∷ rs) to t zero (suc (suc k)) e lt = absurd (omeg
 table_meets hs from (r ∷ s ∷ rs) to t (suc j) zero e lt = absurd (omega arith)
 table_meets hs from (r ∷ s ∷ rs) to t (suc j) (suc k) e lt = table_meets hs r.limit (s ∷ rs) to t.2 j k (omega arith) (omega arith)
 
-table_run : (hs : Collection) (from : ℕ) (runs : List Run) (to : ℕ) → IsTable hs from runs to → (k : ℕ) → k < length runs → IsRunFrom hs (run_at runs k).start (run_at runs k)
-table_run hs from [] to t k lt = absurd (omega arith)
-table_run hs from (r ∷ rs) to t zero lt = subst (λ n. IsRunFrom hs n r) (sym t.0.start) t.0
-table_run hs from (r ∷ rs) to t (suc k) lt = table_run hs r.limit rs to t.2 k (omega arith)
+table_range : (hs : Collection) (from : ℕ) (ranges : List Range) (to : ℕ) → IsTable hs from ranges to → (k : ℕ) → k < length ranges → IsRangeFrom hs (range_at ranges k).start (range_at ranges k)
+table_range hs from [] to t k lt = absurd (omega arith)
+table_range hs from (r ∷ rs) to t zero lt = subst (λ n. IsRangeFrom hs n r) (sym t.0.start) t.0
+table_range hs from (r ∷ rs) to t (suc k) lt = table_range hs r.limit rs to t.2 k (omega arith)
 
-pub places_from_table : (hs : Collection) (from to : ℕ) (runs : List Run) → from < to → IsTable hs from runs to → IsTableOver hs from to runs
+pub places_from_table : (hs : Collection) (from to : ℕ) (ranges : List Range) → from < to → IsTable hs from ranges to → IsTableOver hs from to ranges
 places_from_table hs from to [] lt t = absurd (omega arith)
 places_from_table hs from to (r ∷ rs) lt t = record {
   some = omega arith;
   first = t.0.start;
   last = table_last hs from (r ∷ rs) to t;
   next = λ j k e l. (table_meets hs from (r ∷ rs) to t j k e l).next;
-  odd = λ k l. (table_run hs from (r ∷ rs) to t k l).odd;
-  rises = λ k l. (table_run hs from (r ∷ rs) to t k l).rises;
-  shared = λ k q l o le u. (table_run hs from (r ∷ rs) to t k l).shared q o le u;
+  odd = λ k l. (table_range hs from (r ∷ rs) to t k l).odd;
+  rises = λ k l. (table_range hs from (r ∷ rs) to t k l).rises;
+  shared = λ k q l o le u. (table_range hs from (r ∷ rs) to t k l).shared q o le u;
   maximal = λ j k e l. (table_meets hs from (r ∷ rs) to t j k e l).maximal;
 }
 
 -- ---- a collection has one table
 
--- no run of a table ends before that of another with the same start
-no_shorter : (hs : Collection) (from : ℕ) (r s : Run) (rs ss : List Run) (to : ℕ) → IsTable hs from (r ∷ rs) to → IsTable hs from (s ∷ ss) to → r.limit < s.limit → ⊥
+-- no range of a table ends before that of another with the same start
+no_shorter : (hs : Collection) (from : ℕ) (r s : Range) (rs ss : List Range) (to : ℕ) → IsTable hs from (r ∷ rs) to → IsTable hs from (s ∷ ss) to → r.limit < s.limit → ⊥
 no_shorter hs from r s [] ss to t u lt =
     let e = t.2 in
     let le = table_rises hs s.limit ss to u.2 in
@@ -169,15 +169,15 @@ no_shorter hs from r s (v ∷ vs) ss to t u lt =
     let next = t.2.0.shared r.limit o (omega arith) l in
     t.1 (sym mine ∙ yours ∙ sym there ∙ next)
 
-made : ℕ → ℕ → Collection → Run
+made : ℕ → ℕ → Collection → Range
 made start limit contents = record { start = start; limit = limit; contents = contents }
 
-same_run : (r s : Run) → r.start ≡ s.start → r.limit ≡ s.limit → r.contents ≡ s.contents → r ≡ s
+same_range : (r s : Range) → r.start ≡ s.start → r.limit ≡ s.limit → r.contents ≡ s.contents → r ≡ s
 unfolding made
-same_run r s a b c =
+same_range r s a b c =
     let e : made r.start r.limit r.contents ≡ made s.start s.limit s.contents = cc in e
 
-pub same_table : (hs : Collection) (from : ℕ) (xs ys : List Run) (to : ℕ) → IsTable hs from xs to → IsTable hs from ys to → xs ≡ ys
+pub same_table : (hs : Collection) (from : ℕ) (xs ys : List Range) (to : ℕ) → IsTable hs from xs to → IsTable hs from ys to → xs ≡ ys
 same_table hs from [] [] to t u = refl
 same_table hs from [] (s ∷ ss) to t u =
     absurd (let le = table_rises hs s.limit ss to u.2 in let lt = u.0.rises in omega arith)
@@ -196,16 +196,16 @@ same_table hs from (r ∷ rs) (s ∷ ss) to t u =
     let a = t.0.rises in
     let b = u.0.rises in
     let contents = sym (t.0.shared from t.0.odd (omega arith) a) ∙ u.0.shared from t.0.odd (omega arith) b in
-    ap₂ (λ (x : Run) (xs : List Run). x ∷ xs) (same_run r s (t.0.start ∙ sym u.0.start) limits contents)
+    ap₂ (λ (x : Range) (xs : List Range). x ∷ xs) (same_range r s (t.0.start ∙ sym u.0.start) limits contents)
     (same_table hs r.limit rs ss to t.2 (subst (λ n. IsTable hs n ss to) (sym limits) u.2))
 
 -- ---- places and numbers
 
--- the runs of a table begin at odd numbers one above the other
-pub places_fit : (hs : Collection) (from to : ℕ) (runs : List Run) → IsTableOver hs from to runs → (k : ℕ) → k < length runs → from + 2 * k ≤ (run_at runs k).start
-places_fit hs from to runs t zero lt = let e = t.first in omega arith
-places_fit hs from to runs t (suc k) lt =
-    let le = places_fit hs from to runs t k (omega arith) in
+-- the ranges of a table begin at odd numbers one above the other
+pub places_fit : (hs : Collection) (from to : ℕ) (ranges : List Range) → IsTableOver hs from to ranges → (k : ℕ) → k < length ranges → from + 2 * k ≤ (range_at ranges k).start
+places_fit hs from to ranges t zero lt = let e = t.first in omega arith
+places_fit hs from to ranges t (suc k) lt =
+    let le = places_fit hs from to ranges t k (omega arith) in
     let e = t.next k (suc k) (omega arith) lt in
     let r = t.rises k (omega arith) in
     let a = t.odd k (omega arith) in

@@ -2,7 +2,7 @@ use Rattle.std.proofs.Common.{arith}
 use Rattle.s2id_core.specs.CellId.{raw_of}
 use Rattle.s2id_core.proofs.Nested.{span}
 use Rattle.s2id_union.proofs.Growing.{growing_next}
-use Rattle.s2id_union.proofs.run.add_run.Goals as goal
+use Rattle.s2id_union.proofs.span.add_span.Goals as goal
 
 pub loop-at-smaller : goal.loop-at-smaller
 loop-at-smaller c =

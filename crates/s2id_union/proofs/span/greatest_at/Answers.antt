@@ -2,7 +2,7 @@ use Rattle.std.proofs.Common.{sym, subst, arith}
 use Rattle.std.proofs.lemmas.Bool.{false≢true}
 use Rattle.s2id_union.specs.Loops.{IsGreatest}
 use Rattle.s2id_union.proofs.Greatest.{some_fit, greatest_shifted}
-use Rattle.s2id_union.proofs.run.greatest_at.Goals as goal
+use Rattle.s2id_union.proofs.span.greatest_at.Goals as goal
 
 pub overflow_sub-height : goal.overflow_sub-height
 overflow_sub-height c =

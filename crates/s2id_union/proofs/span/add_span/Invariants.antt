@@ -1,6 +1,6 @@
 use Rattle.std.proofs.Common.{◌≡◌, ◌-◌, ◌%◌, ◌≤◌}
 use Rattle.s2id_union.proofs.Growing.{IsGrowing}
-use Rattle.s2id_union.proofs.run.add_run.Given as goal
+use Rattle.s2id_union.proofs.span.add_span.Given as goal
 
 abbrev pub invariant-loop-at : goal.invariant-loop-at
 invariant-loop-at l =
