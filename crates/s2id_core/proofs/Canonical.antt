@@ -3,12 +3,15 @@ use Rattle.std.proofs.Common.{◌≡◌, ◌≢◌, ◌==◌, ◌↔◌, ℕ, ze
 use Rattle.std.specs.Char.{digit_char, digit_value}
 use Rattle.std.specs.Int.{w64, trailing_zeros}
 use Rattle.std.specs.List.{range_with_len, suffix_len}
+use Rattle.std.specs.Prelude.{IsUtf8}
 use Rattle.std.specs.Str.Parse.{AllDigits, digits_value, digits_value_after}
 use Rattle.std.proofs.lemmas.Bool.Decides.{nat_tests}
 use Rattle.std.proofs.lemmas.Nat.{shr-shr}
 use Rattle.std.proofs.lemmas.List.{get_or-reverse, length-reverse, length-append, length-replicate, get_or-replicate, get_or-drop, length-drop, length-take-le, take-append-drop, take_at, ext_get_or, get_or_append_left, get_or-append_right, get_or-take}
-use Rattle.std.proofs.lemmas.List.Elements.{All-head, All-tail, All-from_get_or, All-append, All-replicate, All-take}
+use Rattle.std.proofs.lemmas.List.Elements.{All-head, All-tail, All-from_get_or, All-append, All-replicate, All-take, All-weaker}
 use Rattle.std.proofs.lemmas.List.Sums.{prefix_len_is, prefix_len_passes, prefix_len_stops, prefix_len-le-length}
+use Rattle.std.proofs.lemmas.Str.{IsUtf8-from_ascii}
+use Rattle.std.proofs.lemmas.Str.Ascii.{IsAscii-from_all}
 use Rattle.s2id_core.specs.Cell.{IsCellNumber}
 use Rattle.s2id_core.specs.Token.{sixteen_digits, without_last_zeros, canonical_token, Spells, IsLowerHex, IsCanonicalText}
 use Rattle.s2id_core.proofs.Zeros.{odd_part}
@@ -173,6 +176,10 @@ length-canonical_token n pos below =
 pub lower-canonical_token : (n : ℕ) → All IsLowerHex (canonical_token n)
 unfolding canonical_token without_last_zeros
 lower-canonical_token n = All-take IsLowerHex (length (sixteen_digits n) - zeros_at_end (sixteen_digits n)) (sixteen_digits n) (lower-sixteen_digits n)
+
+pub text-canonical_token : (n : ℕ) → IsUtf8 (canonical_token n)
+text-canonical_token n =
+    IsUtf8-from_ascii (canonical_token n) (IsAscii-from_all (canonical_token n) (All-weaker IsLowerHex (λ byte. byte < 128) (λ byte lower. omega arith) (canonical_token n) (lower-canonical_token n)))
 
 pub canonical_spells : (n : ℕ) → IsCellNumber n → Spells (canonical_token n) n
 canonical_spells n cell =

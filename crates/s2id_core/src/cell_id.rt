@@ -7,7 +7,7 @@ pub const LEAF_END: u64 = 0xc000000000000001;
 /// A cell of the S2 curve, named by its 64-bit number: three bits of face, two bits for each child position,
 /// a bit 1, then zeros (S2's `S2CellId`). Each value is a cell: there is no invalid `CellId`.
 /// Cells are ordered by number.
-#[derive(Clone, Copy, PartialEq, Eq, PartialOrd, Ord, Hash, Debug)]
+#[derive(Clone, Copy, PartialEq, Eq, PartialOrd, Ord, Hash)]
 pub struct CellId {
     raw: u64,
     pub ghost valid: { IsCellNumber raw },

@@ -2,12 +2,13 @@
 #![tactic(auto)]
 
 mod cell_id;
+mod display;
 mod hexadecimal;
 pub mod laws;
 mod memory;
 mod path;
-mod range;
 mod relatives;
+mod span;
 mod token;
 
 pub use cell_id::{CellId, LEAF_END};

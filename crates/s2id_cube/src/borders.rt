@@ -1,4 +1,4 @@
-ghost use Rattle.std.specs.Prelude.{◌≡◌, ◌↔◌, ℕ, ◌+◌, ◌-◌, ◌*◌, ◌^◌, ◌<◌, ◌≤◌, ◌⊎◌, IfOk, IsErrOf, Any, AllPairs, Contains};
+ghost use Rattle.std.specs.Prelude.{◌≡◌, ◌↔◌, ℕ, ◌+◌, ◌-◌, ◌*◌, ◌^◌, ◌<◌, ◌≤◌, ◌⊎◌, IfOk, IsErrOf, Any, AllPairs, Contains as HasElement};
 ghost use Rattle.s2id_core.specs.declared.cell_id.CellId.{CellId};
 ghost use Rattle.s2id_core.specs.Path.{Path};
 ghost use Rattle.s2id_core.specs.CellId.{raw_of, path_of, level_of};
@@ -22,7 +22,7 @@ pub fn border(alloc: Global, cell: CellId, level: u8) -> Result<Vec<CellId>, Bor
         ↔ ((level_of cell ≤ level) × ((30 < level) ⊎ (level_of cell + 8 < level))) }
     ensures rising { IfOk result (λ cells. AllPairs (λ x y. raw_of x < raw_of y) cells.items) }
     ensures cells { IfOk result (λ cells. (x : CellId)
-        → Contains cells.items x
+        → HasElement cells.items x
         ↔ IsOnBorder (path_of cell) level (path_of x)) }
     ensures complete { IfOk result (λ cells. (q : Path)
         → IsOnBorder (path_of cell) level q
@@ -49,7 +49,7 @@ fn cells_round(alloc: Global, square: FaceIj, depth: u8) -> Result<Vec<CellId>, 
     requires column { square.i < 2 ^ square.level }
     requires row { square.j < 2 ^ square.level }
     ensures { IfOk result (λ cells. (x : CellId)
-        → Contains cells.items x
+        → HasElement cells.items x
         ↔ IsOverSides square depth 4 (path_of x)) }
 {
     let mut cells = Vec::with_capacity(alloc, 4 << depth)?;
@@ -68,8 +68,8 @@ fn add_side(cells: &mut Vec<CellId>, square: FaceIj, depth: u8, side: u8) -> Res
     requires row { square.j < 2 ^ square.level }
     requires side { side < 4 }
     ensures { IfOk result (λ _. (x : CellId)
-        → Contains cells.new.items x
-        ↔ (Contains cells.old.items x ⊎ IsOverFirst square depth side (2 ^ depth) (path_of x))) }
+        → HasElement cells.new.items x
+        ↔ (HasElement cells.old.items x ⊎ IsOverFirst square depth side (2 ^ depth) (path_of x))) }
 {
     for along in 0..1 << depth {
         cells.push(over_side(square, depth, side, along))?;

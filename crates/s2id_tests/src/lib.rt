@@ -8,6 +8,8 @@ mod cell_tests;
 #[cfg(test)]
 mod comparison;
 #[cfg(test)]
+mod display_tests;
+#[cfg(test)]
 mod memory_tests;
 #[cfg(test)]
 mod neighbor_tests;

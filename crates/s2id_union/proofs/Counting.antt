@@ -8,6 +8,7 @@ use Rattle.s2id_core.specs.declared.cell_id.CellId.{CellId}
 use Rattle.s2id_core.specs.CellId.{raw_of, first_of, end_of}
 use Rattle.s2id_core.specs.Path.{Path, number_of, path_at}
 use Rattle.s2id_core.specs.Leaves.{IsLeafPath}
+use Rattle.s2id_core.specs.Span.{leaf_end}
 use Rattle.s2id_core.proofs.Numbers.{path_at-number}
 use Rattle.s2id_core.proofs.Spans.{number_of_leaf}
 use Rattle.s2id_core.proofs.Nested.{span, leaf_of_odd}
@@ -59,7 +60,7 @@ unfolding RisesFrom
 weaken n m [] le h = tt
 weaken n m (p ∷ ps) le h = ((let g = h.0 in omega arith), h.1)
 
-row_rises : (m q n : ℕ) (rest : List Path) → m ≤ q → q % 2 ≡ 1 → q + 2 * n ≤ 13835058055282163713 → RisesFrom (q + 2 * n) rest → RisesFrom m (leaf_row q n ++ rest)
+row_rises : (m q n : ℕ) (rest : List Path) → m ≤ q → q % 2 ≡ 1 → q + 2 * n ≤ leaf_end → RisesFrom (q + 2 * n) rest → RisesFrom m (leaf_row q n ++ rest)
 unfolding RisesFrom leaf_row
 row_rises m q zero rest le odd below h = weaken (q + 2 * 0) m rest (omega arith) h
 row_rises m q (suc n) rest le odd below h =
@@ -89,7 +90,7 @@ record IsRowLeaf (q n : ℕ) (p : Path) : Type 0 where
   from : q ≤ number_of p
   to : number_of p < q + 2 * n
 
-row_leaf : (q n : ℕ) → q % 2 ≡ 1 → q + 2 * n ≤ 13835058055282163713 → (p : Path) → Contains (leaf_row q n) p → IsRowLeaf q n p
+row_leaf : (q n : ℕ) → q % 2 ≡ 1 → q + 2 * n ≤ leaf_end → (p : Path) → Contains (leaf_row q n) p → IsRowLeaf q n p
 unfolding leaf_row
 row_leaf q zero odd below p c = absurd (none_in_nil p c)
 row_leaf q (suc n) odd below p c =
@@ -201,7 +202,7 @@ counted cells k count chain done e =
     (leaves_of cells, leaf_list cells chain, length_leaves cells ∙ ap total (sym (take_all k cells done)) ∙ sym e)
 
 -- what the loop adds
-pub cell_width : (c : CellId) → (first_of c + 2 ≤ end_of c) × (end_of c ≤ 13835058055282163713) × (first_of c % 2 ≡ 1) × (end_of c % 2 ≡ 1)
+pub cell_width : (c : CellId) → (first_of c + 2 ≤ end_of c) × (end_of c ≤ leaf_end) × (first_of c % 2 ≡ 1) × (end_of c % 2 ≡ 1)
 cell_width c =
     let s = span (raw_of c) c.valid in
     let a = s.from in

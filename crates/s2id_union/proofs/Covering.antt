@@ -4,6 +4,7 @@ use Rattle.s2id_core.specs.declared.cell_id.CellId.{CellId}
 use Rattle.s2id_core.specs.CellId.{raw_of, first_of, end_of}
 use Rattle.s2id_core.specs.Path.{Path, number_of}
 use Rattle.s2id_core.specs.Leaves.{IsLeafPath}
+use Rattle.s2id_core.specs.Span.{leaf_end}
 use Rattle.s2id_core.proofs.Nested.{span, span_from_leaf, leaf_from_span}
 use Rattle.std.proofs.lemmas.List.Elements.{Contains-append_left, Contains-push, Contains-push_cases}
 use Rattle.s2id_union.specs.Region.{InRegion}
@@ -21,7 +22,7 @@ covers_from_region cells l i =
     record { cell = i.1; held = (i.0, i.2, i.3); from = at.0; to = at.1 }
 
 -- what is covered lies on the curve
-pub covers_bounds : (cells : List CellId) (q : ℕ) → Covers cells q → (1 ≤ q) × (q < 13835058055282163713)
+pub covers_bounds : (cells : List CellId) (q : ℕ) → Covers cells q → (1 ≤ q) × (q < leaf_end)
 covers_bounds cells q h =
     let s = span (raw_of h.cell) h.cell.valid in
     let a = s.begins in

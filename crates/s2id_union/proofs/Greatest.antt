@@ -2,19 +2,20 @@
 use Rattle.std.proofs.Common.{◌≡◌, ℕ, zero, suc, ◌+◌, ◌-◌, ◌*◌, ◌/◌, ◌%◌, ◌^◌, ◌<◌, ◌≤◌, inl, inr, length, sym, ◌∙◌, ap, refl, arith, subst}
 use Rattle.std.specs.Int.{w64, trailing_zeros}
 use Rattle.std.specs.Int.Count.{count_trailing_zeros}
+use Rattle.std.specs.Ordering.{ord_min, nat_cmp}
 use Rattle.std.proofs.Math.Nat.{mul-le-mul_right}
 use Rattle.std.proofs.lemmas.Bool.{cases_lt}
 use Rattle.std.proofs.lemmas.Nat.{pow-add, pow_pos, one_shl}
 use Rattle.s2id_core.specs.Path.{Path, path_at, place_of}
 use Rattle.s2id_core.specs.Cell.{IsCellNumber}
-use Rattle.s2id_core.specs.Span.{first_at, end_at}
+use Rattle.s2id_core.specs.Span.{first_at, end_at, leaf_end}
 use Rattle.s2id_core.proofs.Powers.{two_step, four_pow, four_pow_odd, four_pos, four_below}
 use Rattle.s2id_core.proofs.Zeros.{odd_part}
 use Rattle.s2id_core.proofs.Places.{length-last_digits}
 use Rattle.s2id_core.proofs.Numbers.{number-path_at, path_by_place}
 use Rattle.s2id_core.proofs.Spans.{width, start}
 use Rattle.s2id_core.proofs.Nested.{by_width}
-use Rattle.s2id_union.specs.Loops.{IsGreatest, IsLeast}
+use Rattle.s2id_union.specs.Loops.{IsGreatest}
 use lib.Count.{under}
 
 turn : (a b : ℕ) → a * (2 * b) ≡ 2 * (a * b)
@@ -98,6 +99,21 @@ fits at limit zeros wide some z w b cell begins ends =
       ],
     )
 
+-- the least of three numbers
+pub record IsLeast (least a b c : ℕ) : Type 0 where
+  pub first : least ≤ a
+  pub second : least ≤ b
+  pub third : least ≤ c
+  pub greatest : (x : ℕ) → x ≤ a → x ≤ b → x ≤ c → x ≤ least
+
+pub least_of : (a b c m n : ℕ) → m ≡ ord_min nat_cmp a b → n ≡ ord_min nat_cmp m c → IsLeast n a b c
+least_of a b c m n e f = record {
+  first = omega arith;
+  second = omega arith;
+  third = omega arith;
+  greatest = λ x below_a below_b below_c. omega arith;
+}
+
 pub some_fit : (at limit wide fit : ℕ) → at % 2 ≡ 1 → limit % 2 ≡ 1 → at < limit → 2 ^ wide ≤ limit - at → limit - at < 2 * 2 ^ wide → IsLeast fit (trailing_zeros w64 (at - 1)) wide 61 → 1 ≤ fit
 some_fit at limit wide fit odd odd_limit some w1 w2 least =
     let one_zero = zeros_least 64 1 ((at - 1) / 2) (at - 1) (omega arith) (let e : at - 1 ≡ (at - 1) / 2 * 2 = omega arith in e) in
@@ -108,7 +124,7 @@ some_fit at limit wide fit odd odd_limit some w1 w2 least =
 shifted : (fit : ℕ) → fit ≤ 61 → 1 * 2 ^ (2 * ((fit - 1) / 2)) % 18446744073709551616 ≡ 4 ^ ((fit - 1) / 2)
 shifted fit h = one_shl (2 * ((fit - 1) / 2)) 64 (omega arith) ∙ four_pow ((fit - 1) / 2)
 
-greatest_cell : (at limit wide fit : ℕ) → at % 2 ≡ 1 → limit % 2 ≡ 1 → at < limit → limit ≤ 13835058055282163713 → 2 ^ wide ≤ limit - at → limit - at < 2 * 2 ^ wide → IsLeast fit (trailing_zeros w64 (at - 1)) wide 61 → IsCellNumber (at - 1 + 4 ^ ((fit - 1) / 2)) × IsGreatest (at - 1 + 4 ^ ((fit - 1) / 2)) at limit
+greatest_cell : (at limit wide fit : ℕ) → at % 2 ≡ 1 → limit % 2 ≡ 1 → at < limit → limit ≤ leaf_end → 2 ^ wide ≤ limit - at → limit - at < 2 * 2 ^ wide → IsLeast fit (trailing_zeros w64 (at - 1)) wide 61 → IsCellNumber (at - 1 + 4 ^ ((fit - 1) / 2)) × IsGreatest (at - 1 + 4 ^ ((fit - 1) / 2)) at limit
 greatest_cell at limit wide fit odd odd_limit some on_curve w1 w2 least =
     let h = (fit - 1) / 2 in
     let l1 = least.first in
@@ -147,6 +163,6 @@ greatest_cell at limit wide fit odd odd_limit some on_curve w1 w2 least =
     four_monotone a b h = elim (cases_lt a b) [ inl lt ↦ let m = four_below a b lt in omega arith | inr ge ↦ let e = ap (λ x. 4 ^ x) (let f : a ≡ b = omega arith in f) in omega arith ]
 
 -- the same, as the code shifts it
-pub greatest_shifted : (at limit wide fit : ℕ) → at % 2 ≡ 1 → limit % 2 ≡ 1 → at < limit → limit ≤ 13835058055282163713 → 2 ^ wide ≤ limit - at → limit - at < 2 * 2 ^ wide → IsLeast fit (trailing_zeros w64 (at - 1)) wide 61 → let n = at - 1 + 1 * 2 ^ (2 * ((fit - 1) / 2)) % 18446744073709551616 in IsCellNumber n × IsGreatest n at limit
+pub greatest_shifted : (at limit wide fit : ℕ) → at % 2 ≡ 1 → limit % 2 ≡ 1 → at < limit → limit ≤ leaf_end → 2 ^ wide ≤ limit - at → limit - at < 2 * 2 ^ wide → IsLeast fit (trailing_zeros w64 (at - 1)) wide 61 → let n = at - 1 + 1 * 2 ^ (2 * ((fit - 1) / 2)) % 18446744073709551616 in IsCellNumber n × IsGreatest n at limit
 greatest_shifted at limit wide fit odd odd_limit some on_curve w1 w2 least =
     subst (λ x. IsCellNumber (at - 1 + x) × IsGreatest (at - 1 + x) at limit) (sym (shifted fit least.third)) (greatest_cell at limit wide fit odd odd_limit some on_curve w1 w2 least)

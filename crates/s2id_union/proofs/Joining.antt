@@ -6,6 +6,7 @@ use Rattle.std.proofs.lemmas.List.{get_or_default, take_more, take_all}
 use Rattle.std.proofs.lemmas.List.Sorted.{Contains-permutation, IsPermutation-sym}
 use Rattle.s2id_core.specs.declared.cell_id.CellId.{CellId}
 use Rattle.s2id_core.specs.CellId.{raw_of, first_of, end_of}
+use Rattle.s2id_core.specs.Span.{leaf_end}
 use Rattle.s2id_core.proofs.Nested.{span}
 use Rattle.s2id_union.specs.Region.{IsNormal}
 use Rattle.s2id_union.specs.Covers.{Covers}
@@ -115,7 +116,7 @@ covers_permutation xs ys p q = (
 
 -- ---- the loop's invariant as a whole
 
-pub joined_next_gap : (sorted old cells next : List CellId) (k start at start_next at_next : ℕ) → IsNonDecreasingBy (λ c. first_of c) sorted → IsJoined sorted old k start at → IsAdded old cells start at → (x : CellId) → k < length sorted → x ≡ get_or sorted k x → at < first_of x → next ≡ cells → start_next ≡ first_of x → at_next ≡ end_of x → IsJoined sorted next (k + 1) start_next at_next × (start_next ≤ at_next) × (at_next ≤ 13835058055282163713) × (at_next % 2 ≡ 1) × (start_next % 2 ≡ 1)
+pub joined_next_gap : (sorted old cells next : List CellId) (k start at start_next at_next : ℕ) → IsNonDecreasingBy (λ c. first_of c) sorted → IsJoined sorted old k start at → IsAdded old cells start at → (x : CellId) → k < length sorted → x ≡ get_or sorted k x → at < first_of x → next ≡ cells → start_next ≡ first_of x → at_next ≡ end_of x → IsJoined sorted next (k + 1) start_next at_next × (start_next ≤ at_next) × (at_next ≤ leaf_end) × (at_next % 2 ≡ 1) × (start_next % 2 ≡ 1)
 joined_next_gap sorted old cells next k start at start_next at_next rises h added x l is gap e f g =
     let s = span (raw_of x) x.valid in
     let s1 = s.from in
@@ -131,7 +132,7 @@ joined_next_gap sorted old cells next k start at start_next at_next rises h adde
       omega arith,
     )
 
-pub joined_next_touch : (sorted cells next : List CellId) (k start at start_next at_next : ℕ) → IsJoined sorted cells k start at → start ≤ at → at ≤ 13835058055282163713 → at % 2 ≡ 1 → start % 2 ≡ 1 → (x : CellId) → k < length sorted → x ≡ get_or sorted k x → first_of x ≤ at → at ≤ at_next → end_of x ≤ at_next → ((at ≡ at_next) ⊎ (end_of x ≡ at_next)) → next ≡ cells → start_next ≡ start → IsJoined sorted next (k + 1) start_next at_next × (start_next ≤ at_next) × (at_next ≤ 13835058055282163713) × (at_next % 2 ≡ 1) × (start_next % 2 ≡ 1)
+pub joined_next_touch : (sorted cells next : List CellId) (k start at start_next at_next : ℕ) → IsJoined sorted cells k start at → start ≤ at → at ≤ leaf_end → at % 2 ≡ 1 → start % 2 ≡ 1 → (x : CellId) → k < length sorted → x ≡ get_or sorted k x → first_of x ≤ at → at ≤ at_next → end_of x ≤ at_next → ((at ≡ at_next) ⊎ (end_of x ≡ at_next)) → next ≡ cells → start_next ≡ start → IsJoined sorted next (k + 1) start_next at_next × (start_next ≤ at_next) × (at_next ≤ leaf_end) × (at_next % 2 ≡ 1) × (start_next % 2 ≡ 1)
 joined_next_touch sorted cells next k start at start_next at_next h rise most odd odd_start x l is touch longer whole which e f =
     let s = span (raw_of x) x.valid in
     let s3 = s.ends in

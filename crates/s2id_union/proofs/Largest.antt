@@ -12,7 +12,7 @@ use Rattle.s2id_core.specs.CellId.{raw_of, path_of, level_of, first_of, end_of}
 use Rattle.s2id_core.specs.Cell.{IsCellNumber}
 use Rattle.s2id_core.specs.Leaves.{IsWithin, IsLeafPath}
 use Rattle.s2id_core.specs.Path.{Path, path_at, ancestor, number_of}
-use Rattle.s2id_core.specs.Span.{first_at, end_at, IsNested}
+use Rattle.s2id_core.specs.Span.{first_at, end_at, leaf_end, IsNested}
 use Rattle.s2id_core.specs.Spelled.{cell_numbered}
 use Rattle.s2id_core.proofs.Levels.{length-ancestor, IsPath-ancestor, ancestor-ancestor}
 use Rattle.s2id_core.proofs.Nested.{span, leaf_span, nested_from_within, within_from_nested, nested_from_crossing_spans, level_from_nested, same_from_level}
@@ -87,7 +87,7 @@ parent_within c b cell nest coarser =
 
 pub record IsLargest (passes : ℕ → Bool) (c : CellId) : Type 0 where
   pub whole : IsWhole passes (raw_of c)
-  pub maximal : IsMaximal (λ q. passes q ≡ true) 13835058055282163713 (raw_of c)
+  pub maximal : IsMaximal (λ q. passes q ≡ true) leaf_end (raw_of c)
 
 largest_from_test : (passes : ℕ → Bool) (c : CellId) → is_largest passes c ≡ true → IsLargest passes c
 unfolding is_largest
@@ -246,7 +246,7 @@ covers_where passes q = (
       record { cell = r.0; held = in_where passes r.0 r.2; from = omega arith; to = omega arith },
 )
 
-where_grown : (passes : ℕ → Bool) → IsGrown (cells_where passes) 13835058055282163713
+where_grown : (passes : ℕ → Bool) → IsGrown (cells_where passes) leaf_end
 where_grown passes = record {
   chain = λ i j d lt l.
       largest_apart passes (get_or (cells_where passes) i d) (get_or (cells_where passes) j d) (all_largest passes i d (omega arith)) (all_largest passes j d l) (where_rises passes i j d lt l);
@@ -256,7 +256,7 @@ where_grown passes = record {
 }
 
 pub where_normal : (passes : ℕ → Bool) → IsNormal (cells_where passes)
-where_normal passes = normal_from_grown (cells_where passes) 13835058055282163713 (where_grown passes)
+where_normal passes = normal_from_grown (cells_where passes) leaf_end (where_grown passes)
 
 -- ---- its leaves
 

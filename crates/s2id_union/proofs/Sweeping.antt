@@ -1,9 +1,11 @@
 -- One sweep over two chains of cells.
 use Rattle.std.proofs.Common.{◌≡◌, ◌↔◌, ℕ, ◌+◌, ◌%◌, ◌<◌, ◌≤◌, ◌⊎◌, inl, inr, Bool, true, false, IsTrue, List, [], length, get_or, sym, ◌∙◌, ap, refl, arith, subst}
+use Rattle.std.specs.Ordering.{ord_min, nat_cmp}
 use Rattle.std.proofs.lemmas.Bool.{cases_lt, false≢true}
 use Rattle.std.proofs.lemmas.List.{get_or_default}
 use Rattle.s2id_core.specs.declared.cell_id.CellId.{CellId}
 use Rattle.s2id_core.specs.CellId.{raw_of, first_of, end_of}
+use Rattle.s2id_core.specs.Span.{leaf_end}
 use Rattle.s2id_core.proofs.Nested.{span}
 use Rattle.s2id_union.specs.declared.sweep.Operation.{Operation}
 use Rattle.s2id_union.specs.declared.sweep.Operation.TheVariants.{Union, Intersection, Difference}
@@ -40,10 +42,25 @@ by_index cells q h =
       to = subst (λ (x : CellId). q < end_of x) e h.to;
     }
 
+-- the lower of two ends
+pub record IsLower (end a b : ℕ) : Type 0 where
+  pub first : end ≤ a
+  pub second : end ≤ b
+  pub above : (x : ℕ) → x < a → x < b → x < end
+  pub odd : a % 2 ≡ 1 → b % 2 ≡ 1 → end % 2 ≡ 1
+
+pub lower_of : (a b end : ℕ) → end ≡ ord_min nat_cmp a b → IsLower end a b
+lower_of a b end e = record {
+  first = omega arith;
+  second = omega arith;
+  above = λ x below_a below_b. omega arith;
+  odd = λ odd_a odd_b. omega arith;
+}
+
 -- a stretch up to its end, that lies in the list's spans or outside them
 pub record IsStretch (cells : List CellId) (k at end : ℕ) (inside : Bool) : Type 0 where
   pub rises : at < end
-  pub on_curve : end ≤ 13835058055282163713
+  pub on_curve : end ≤ leaf_end
   pub odd : end % 2 ≡ 1
   pub reached : IsReached cells k end
   pub constant : IsConstant cells at end inside
@@ -125,7 +142,7 @@ keeps_same Union a b (inr y) = inr (b.0 y)
 keeps_same Intersection a b (x, y) = (a.0 x, b.0 y)
 keeps_same Difference a b (x, y) = (a.0 x, λ z. y (b.1 z))
 
-keeps_bounds : (o : Operation) (xs ys : List CellId) (q : ℕ) → Keeps o (Covers xs q) (Covers ys q) → (1 ≤ q) × (q < 13835058055282163713)
+keeps_bounds : (o : Operation) (xs ys : List CellId) (q : ℕ) → Keeps o (Covers xs q) (Covers ys q) → (1 ≤ q) × (q < leaf_end)
 keeps_bounds Union xs ys q (inl x) = covers_bounds xs q x
 keeps_bounds Union xs ys q (inr y) = covers_bounds ys q y
 keeps_bounds Intersection xs ys q (x, y) = covers_bounds xs q x
@@ -186,7 +203,7 @@ pub record IsWhole (o : Operation) (xs ys cells : List CellId) : Type 0 where
   pub normal : IsNormal cells
   pub covers : (q : ℕ) → Covers cells q ↔ Keeps o (Covers xs q) (Covers ys q)
 
-pub swept_end : (o : Operation) (xs ys old cells : List CellId) (start at : ℕ) → IsSwept o xs ys old start at → 13835058055282163713 ≤ at → IsAdded old cells start at → IsWhole o xs ys cells
+pub swept_end : (o : Operation) (xs ys old cells : List CellId) (start at : ℕ) → IsSwept o xs ys old start at → leaf_end ≤ at → IsAdded old cells start at → IsWhole o xs ys cells
 swept_end o xs ys old cells start at h done added = record {
   normal = normal_from_grown cells (at + 1) added.grown;
   covers = λ q. (
@@ -197,7 +214,7 @@ swept_end o xs ys old cells start at h done added = record {
 
 -- ---- the loop's invariant as a whole
 
-pub swept_init : (o : Operation) (xs ys cells : List CellId) → cells ≡ [] → IsSwept o xs ys cells 1 1 × IsAhead xs 0 1 × IsAhead ys 0 1 × (1 ≤ 1) × (1 ≤ 13835058055282163713) × (1 % 2 ≡ 1) × (1 % 2 ≡ 1)
+pub swept_init : (o : Operation) (xs ys cells : List CellId) → cells ≡ [] → IsSwept o xs ys cells 1 1 × IsAhead xs 0 1 × IsAhead ys 0 1 × (1 ≤ 1) × (1 ≤ leaf_end) × (1 % 2 ≡ 1) × (1 % 2 ≡ 1)
 swept_init o xs ys cells e =
     let ends : (zs : List CellId) (j : ℕ) (d : CellId) → 0 ≤ j → j < length zs → 1 < end_of (get_or zs j d) = λ zs j d le l. let s = span (raw_of (get_or zs j d)) (get_or zs j d).valid in let a = s.begins in let b = s.from in let c = s.to in omega arith in (
       subst (λ zs. IsSwept o xs ys zs 1 1) (sym e) (swept_start o xs ys),
@@ -209,10 +226,10 @@ swept_init o xs ys cells e =
       refl,
     )
 
-pub swept_next_on : (o : Operation) (xs ys cells : List CellId) (start at end ex ey i j : ℕ) (x y : Bool) → IsSwept o xs ys cells start at → start ≤ at → start % 2 ≡ 1 → at < end → end ≤ ex → end ≤ ey → ex ≤ 13835058055282163713 → end % 2 ≡ 1 → IsConstant xs at ex x → IsConstant ys at ey y → Keeps o (IsTrue x) (IsTrue y) → IsAhead xs i end → IsAhead ys j end → IsSwept o xs ys cells start end × IsAhead xs i end × IsAhead ys j end × (start ≤ end) × (end ≤ 13835058055282163713) × (end % 2 ≡ 1) × (start % 2 ≡ 1)
+pub swept_next_on : (o : Operation) (xs ys cells : List CellId) (start at end ex ey i j : ℕ) (x y : Bool) → IsSwept o xs ys cells start at → start ≤ at → start % 2 ≡ 1 → at < end → end ≤ ex → end ≤ ey → ex ≤ leaf_end → end % 2 ≡ 1 → IsConstant xs at ex x → IsConstant ys at ey y → Keeps o (IsTrue x) (IsTrue y) → IsAhead xs i end → IsAhead ys j end → IsSwept o xs ys cells start end × IsAhead xs i end × IsAhead ys j end × (start ≤ end) × (end ≤ leaf_end) × (end % 2 ≡ 1) × (start % 2 ≡ 1)
 swept_next_on o xs ys cells start at end ex ey i j x y h rises odd_start lt lx ly most odd cx cy keep ax ay =
     (swept_on o xs ys cells start at end x y h rises lt (λ q a b. cx q a (omega arith)) (λ q a b. cy q a (omega arith)) keep, ax, ay, omega arith, omega arith, odd, odd_start)
 
-pub swept_next_off : (o : Operation) (xs ys old cells : List CellId) (start at end ex ey i j : ℕ) (x y : Bool) → IsSwept o xs ys old start at → IsAdded old cells start at → at < end → end ≤ ex → end ≤ ey → ex ≤ 13835058055282163713 → end % 2 ≡ 1 → IsConstant xs at ex x → IsConstant ys at ey y → (Keeps o (IsTrue x) (IsTrue y) → ⊥) → IsAhead xs i end → IsAhead ys j end → IsSwept o xs ys cells end end × IsAhead xs i end × IsAhead ys j end × (end ≤ end) × (end ≤ 13835058055282163713) × (end % 2 ≡ 1) × (end % 2 ≡ 1)
+pub swept_next_off : (o : Operation) (xs ys old cells : List CellId) (start at end ex ey i j : ℕ) (x y : Bool) → IsSwept o xs ys old start at → IsAdded old cells start at → at < end → end ≤ ex → end ≤ ey → ex ≤ leaf_end → end % 2 ≡ 1 → IsConstant xs at ex x → IsConstant ys at ey y → (Keeps o (IsTrue x) (IsTrue y) → ⊥) → IsAhead xs i end → IsAhead ys j end → IsSwept o xs ys cells end end × IsAhead xs i end × IsAhead ys j end × (end ≤ end) × (end ≤ leaf_end) × (end % 2 ≡ 1) × (end % 2 ≡ 1)
 swept_next_off o xs ys old cells start at end ex ey i j x y h added lt lx ly most odd cx cy drop ax ay =
     (swept_off o xs ys old cells start at end x y h added lt (λ q a b. cx q a (omega arith)) (λ q a b. cy q a (omega arith)) drop, ax, ay, omega arith, omega arith, odd, odd)

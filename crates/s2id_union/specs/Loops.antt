@@ -1,5 +1,5 @@
 -- Private words: what the private functions promise that this crate's loops call. No public contract cites them.
-use Rattle.std.specs.Prelude.{◌≡◌, ◌↔◌, ◌⊎◌, ℕ, ◌<◌, ◌≤◌, ◌+◌, List, Contains, Bool, IsTrue, slice_index_or, length}
+use Rattle.std.specs.Prelude.{◌≡◌, ◌↔◌, ◌⊎◌, ℕ, ◌<◌, ◌≤◌, ◌+◌, List, Contains as HasElement, Bool, IsTrue, slice_index_or, length}
 use Rattle.s2id_core.specs.declared.cell_id.CellId.{CellId}
 use Rattle.s2id_core.specs.CellId.{raw_of, end_of}
 use Rattle.s2id_core.specs.Cell.{IsCellNumber}
@@ -19,8 +19,8 @@ IsMaximal In free n =
 -- a chain that ends by `free`, of cells that are maximal in what lies below it
 pub record IsGrown (cells : List CellId) (free : ℕ) : Type 0 where
   pub chain : IsChain cells
-  pub below : (c : CellId) → Contains cells c → end_of c ≤ free
-  pub maximal : (c : CellId) → Contains cells c → IsMaximal (Covers cells) free (raw_of c)
+  pub below : (c : CellId) → HasElement cells c → end_of c ≤ free
+  pub maximal : (c : CellId) → HasElement cells c → IsMaximal (Covers cells) free (raw_of c)
 
 -- the greatest cell that begins at a place and ends by the limit
 pub record IsGreatest (c at limit : ℕ) : Type 0 where
@@ -37,13 +37,6 @@ pub record IsAdded (old cells : List CellId) (start limit : ℕ) : Type 0 where
 pub record IsAhead (cells : List CellId) (k at : ℕ) : Type 0 where
   pub passed : (j : ℕ) (d : CellId) → j < k → j < length cells → end_of (slice_index_or cells j d) ≤ at
   pub ahead : (j : ℕ) (d : CellId) → k ≤ j → j < length cells → at < end_of (slice_index_or cells j d)
-
--- the least of three numbers
-pub record IsLeast (least a b c : ℕ) : Type 0 where
-  pub first : least ≤ a
-  pub second : least ≤ b
-  pub third : least ≤ c
-  pub greatest : (x : ℕ) → x ≤ a → x ≤ b → x ≤ c → x ≤ least
 
 -- none of the cells from the k-th on ends before a place
 abbrev pub IsReached : List CellId → ℕ → ℕ → Type 0

@@ -48,8 +48,7 @@ fn joined_sorted(alloc: Global, cells: &mut [CellId]) -> Result<Vec<CellId>, Out
     ensures covers { IfOk result (λ list. (q : ℕ) → Covers list.items q ↔ Covers cells.old q) }
 {
     sort_by_first(cells);
-    let list = joined(alloc, cells)?;
-    Ok(list)
+    joined(alloc, cells)
 }
 
 // The normal list with the region of some cells. O(n log n), and the cells emitted.
@@ -58,6 +57,5 @@ pub(crate) fn normal_list(alloc: Global, cells: &[CellId]) -> Result<Vec<CellId>
     ensures covers { IfOk result (λ list. (q : ℕ) → Covers list.items q ↔ Covers cells.now q) }
 {
     let mut sorted = Vec::from_slice(alloc, cells)?;
-    let list = joined_sorted(alloc, sorted.as_mut_slice())?;
-    Ok(list)
+    joined_sorted(alloc, sorted.as_mut_slice())
 }

@@ -6,9 +6,9 @@ mod count;
 mod error;
 mod join;
 pub mod laws;
-mod span;
 mod same;
 mod search;
+mod span;
 mod sweep;
 
 pub use cell_union::CellUnion;

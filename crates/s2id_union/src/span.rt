@@ -3,17 +3,9 @@
 ghost use Rattle.std.specs.Prelude.{◌≡◌, ◌%◌, ◌<◌, ◌≤◌, IfOk};
 ghost use Rattle.s2id_core.specs.CellId.{raw_of};
 ghost use Rattle.s2id_core.specs.Span.{leaf_end};
-ghost use Rattle.s2id_union.specs.Loops.{IsGreatest, IsGrown, IsAdded, IsLeast};
+ghost use Rattle.s2id_union.specs.Loops.{IsGreatest, IsGrown, IsAdded};
 
 use s2id_core::{CellId, OutOfMemory};
-
-// The least of three numbers.
-fn least(a: u32, b: u32, c: u32) -> u32
-    ensures { IsLeast result a b c }
-{
-    let below = if a < b { a } else { b };
-    if below < c { below } else { c }
-}
 
 // The greatest cell that begins at a leaf and ends by the limit: its size is bounded by the zeros at the end of the
 // leaf's place and by the width of the span.
@@ -26,7 +18,7 @@ fn greatest_at(at: u64, limit: u64) -> CellId
 {
     let zeros = (at - 1).trailing_zeros();
     let wide = (limit - at).ilog2();
-    let fit = least(zeros, wide, 61);
+    let fit = zeros.min(wide).min(61);
     let height = (fit - 1) / 2;
     match CellId::from_raw(at - 1 + (1 << (2 * height))) {
         Some(cell) => cell,

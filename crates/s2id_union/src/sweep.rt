@@ -84,16 +84,6 @@ fn advanced(cells: &[CellId], k: usize, at: u64, end: u64) -> usize
     }
 }
 
-// The lower of two ends.
-fn lower(a: u64, b: u64) -> u64
-    ensures first { result ≤ a }
-    ensures second { result ≤ b }
-    ensures above { (x : ℕ) → x < a → x < b → x < result }
-    ensures odd { a % 2 ≡ 1 → b % 2 ≡ 1 → result % 2 ≡ 1 }
-{
-    if a < b { a } else { b }
-}
-
 // The normal list of what a set operation keeps. O(n + m) steps, and the cells emitted.
 pub(crate) fn swept(
     alloc: Global,
@@ -115,7 +105,7 @@ pub(crate) fn swept(
     while at < LEAF_END {
         let of_first = stretch_at(first, i, at);
         let of_second = stretch_at(second, j, at);
-        let end = lower(of_first.end, of_second.end);
+        let end = of_first.end.min(of_second.end);
         i = advanced(first, i, at, end);
         j = advanced(second, j, at, end);
         let kept = keeps(operation, of_first.inside, of_second.inside);

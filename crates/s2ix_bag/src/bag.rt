@@ -13,7 +13,7 @@ use crate::limits::Limits;
 use crate::pair::{Held, Pair};
 use crate::search::count_of;
 use s2id_core::OutOfMemory;
-use std::alloc::Global;
+use std::alloc::{AllocError, Global};
 use std::marker::Model;
 
 /// A finite map from pairs to counts above 0, within its limits. Contracts see a bag as its limits and the list
@@ -138,6 +138,19 @@ impl Bag {
             return Err(error);
         }
         let held = merge(alloc, held, entries)?;
+        Ok(Bag {
+            limits: self.limits,
+            held,
+        })
+    }
+}
+
+/// A bag with the same limits, pairs and counts, made with the bag's own allocator; `copied` takes one. O(n).
+impl Clone for Bag {
+    ghost is_clone = { λ bag copy. copy ≡ bag };
+
+    fn clone(&self) -> Result<Bag, AllocError> {
+        let held = self.held.clone()?;
         Ok(Bag {
             limits: self.limits,
             held,

@@ -5,7 +5,7 @@ use crate::bag::Bag;
 use crate::compare::{differences, exchanged_entries};
 use crate::pair::Entry;
 use s2id_core::OutOfMemory;
-use std::alloc::Global;
+use std::alloc::{AllocError, Global};
 use std::marker::Model;
 
 /// What differs between two bags: entries in strictly rising order of their pairs, each with two different
@@ -57,6 +57,16 @@ impl Change {
         ensures { IfOk result (λ change. change ≡ inverse_of self.now) }
     {
         let entries = exchanged_entries(alloc, self.entries.as_slice())?;
+        Ok(Change { entries })
+    }
+}
+
+/// A change with the same entries. O(n).
+impl Clone for Change {
+    ghost is_clone = { λ change copy. copy ≡ change };
+
+    fn clone(&self) -> Result<Change, AllocError> {
+        let entries = self.entries.clone()?;
         Ok(Change { entries })
     }
 }

@@ -1,6 +1,12 @@
 //! What the definitions that the contracts cite say, in other words. Each function is a law: it does nothing, and
 //! its contract is the fact.
+ghost use Rattle.std.specs.Prelude.{◌≡◌, ◌↔◌, IsTrue, List};
+ghost use Rattle.s2ix_bag.specs.declared.pair.Entry.{Entry};
+ghost use Rattle.s2ix_bag.specs.Collection.{LimitedCollection};
 ghost use Rattle.s2ix_bag.specs.Laws.{RanksOrderPairs, RanksTellPairsApart, HeldAreCounted, CountedAreHeld, CountsTellCollectionsApart, ChangeSetsCounts, ChangeListsDifferences, OnlyChangeListsDifferences, ChangeLeadsThereAndBack, InverseTakesBack, LabelsAreCounted, LabelsRiseByCell};
+
+use crate::bag::Bag;
+use crate::change::Change;
 
 /// The order by ranks is that by cell, then by label.
 pub fn ranks_order_pairs()
@@ -60,4 +66,14 @@ pub fn labels_are_counted()
 /// What is held with a label rises by cell.
 pub fn labels_rise_by_cell()
     ensures { LabelsRiseByCell }
+{}
+
+/// Two bags are equal exactly where their limits are, and what they hold.
+pub fn equal_bags_are_one()
+    ensures { (a b : LimitedCollection) → IsTrue (⟦<Bag as PartialEq>⟧.eq a b) ↔ (a ≡ b) }
+{}
+
+/// Two changes are equal exactly where their entries are.
+pub fn equal_changes_are_one()
+    ensures { (a b : List Entry) → IsTrue (⟦<Change as PartialEq>⟧.eq a b) ↔ (a ≡ b) }
 {}

@@ -15,6 +15,7 @@ mod label_iter;
 pub mod laws;
 mod limits;
 mod pair;
+mod same;
 mod search;
 
 pub use bag::Bag;

@@ -12,6 +12,8 @@ mod limit_tests;
 #[cfg(test)]
 mod move_tests;
 #[cfg(test)]
+mod same_tests;
+#[cfg(test)]
 mod samples;
 #[cfg(test)]
 mod store_tests;

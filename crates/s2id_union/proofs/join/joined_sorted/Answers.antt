@@ -1,8 +1,8 @@
+use Rattle.std.proofs.lemmas.Result.{MatchResult-weaker}
 use Rattle.s2id_union.proofs.Joining.{covers_permutation}
 use Rattle.s2id_union.proofs.join.joined_sorted.Goals as goal
 
 pub returns-clause-covers : goal.returns-clause-covers
-returns-clause-covers c q =
-    let same = covers_permutation c.args.cells.now c.sort_by_first.new.cells c.sort_by_first.ensures.permutation q in
-    let made = c.in_ok-list.ensures.covers q in
-    ((λ v. same.0 (made.0 v)), (λ v. made.1 (same.1 v)))
+returns-clause-covers c =
+    let same = covers_permutation c.args.cells.now c.sort_by_first.new.cells c.sort_by_first.ensures.permutation in
+    MatchResult-weaker _ c.joined.ensures.covers (λ _ made q. ((λ v. (same q).0 ((made q).0 v)), (λ v. (made q).1 ((same q).1 v)))) (λ _ none. none)

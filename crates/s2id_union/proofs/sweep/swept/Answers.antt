@@ -1,6 +1,6 @@
 use Rattle.std.proofs.Common.{IsTrue, arith}
 use Rattle.s2id_union.proofs.Searching.{chain_from_normal}
-use Rattle.s2id_union.proofs.Sweeping.{swept_init, swept_next_on, swept_next_off, swept_end}
+use Rattle.s2id_union.proofs.Sweeping.{lower_of, swept_init, swept_next_on, swept_next_off, swept_end}
 use Rattle.s2id_union.proofs.sweep.swept.Goals as goal
 
 pub loop-at-init : goal.loop-at-init
@@ -22,18 +22,20 @@ pub loop-at-preserved-in_ok-add_span : goal.loop-at-preserved-in_ok-add_span
 loop-at-preserved-in_ok-add_span c =
     let f = c.stretch_at-of_first in
     let s = c.stretch_at-of_second in
-    let e = c.lower-end in
-    let odd = e.ensures.odd f.ensures.odd s.ensures.odd in
-    swept_next_off c.args.operation c.args.first.now c.args.second.now c.loop-at.cells.items c.add_span.new.cells.items c.loop-at.start c.loop-at.at e.result f.result.end s.result.end c.advanced-i.result c.advanced-j.result f.result.inside s.result.inside c.loop-at.invariant.0 c.in_ok-add_span.ensures (e.ensures.above c.loop-at.at f.ensures.rises s.ensures.rises) e.ensures.first e.ensures.second f.ensures.on_curve odd f.ensures.constant s.ensures.constant (λ k. let t = c.keeps-kept.ensures.1 k in (cc)) c.advanced-i.ensures c.advanced-j.ensures
+    let e = c.min-end in
+    let lower = lower_of f.result.end s.result.end e.result e.ensures in
+    let odd = lower.odd f.ensures.odd s.ensures.odd in
+    swept_next_off c.args.operation c.args.first.now c.args.second.now c.loop-at.cells.items c.add_span.new.cells.items c.loop-at.start c.loop-at.at e.result f.result.end s.result.end c.advanced-i.result c.advanced-j.result f.result.inside s.result.inside c.loop-at.invariant.0 c.in_ok-add_span.ensures (lower.above c.loop-at.at f.ensures.rises s.ensures.rises) lower.first lower.second f.ensures.on_curve odd f.ensures.constant s.ensures.constant (λ k. let t = c.keeps-kept.ensures.1 k in (cc)) c.advanced-i.ensures c.advanced-j.ensures
 
 pub loop-at-preserved : goal.loop-at-preserved
 loop-at-preserved c =
     let f = c.stretch_at-of_first in
     let s = c.stretch_at-of_second in
-    let e = c.lower-end in
-    let odd = e.ensures.odd f.ensures.odd s.ensures.odd in
+    let e = c.min-end in
+    let lower = lower_of f.result.end s.result.end e.result e.ensures in
+    let odd = lower.odd f.ensures.odd s.ensures.odd in
     let t : IsTrue c.keeps-kept.result = cc in
-    swept_next_on c.args.operation c.args.first.now c.args.second.now c.loop-at.cells.items c.loop-at.start c.loop-at.at e.result f.result.end s.result.end c.advanced-i.result c.advanced-j.result f.result.inside s.result.inside c.loop-at.invariant.0 c.loop-at.invariant.3 c.loop-at.invariant.6 (e.ensures.above c.loop-at.at f.ensures.rises s.ensures.rises) e.ensures.first e.ensures.second f.ensures.on_curve odd f.ensures.constant s.ensures.constant (c.keeps-kept.ensures.0 t) c.advanced-i.ensures c.advanced-j.ensures
+    swept_next_on c.args.operation c.args.first.now c.args.second.now c.loop-at.cells.items c.loop-at.start c.loop-at.at e.result f.result.end s.result.end c.advanced-i.result c.advanced-j.result f.result.inside s.result.inside c.loop-at.invariant.0 c.loop-at.invariant.3 c.loop-at.invariant.6 (lower.above c.loop-at.at f.ensures.rises s.ensures.rises) lower.first lower.second f.ensures.on_curve odd f.ensures.constant s.ensures.constant (c.keeps-kept.ensures.0 t) c.advanced-i.ensures c.advanced-j.ensures
 
 pub returns : goal.returns
 returns c =

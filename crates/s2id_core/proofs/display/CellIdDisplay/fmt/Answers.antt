@@ -1,0 +1,8 @@
+use Rattle.std.proofs.Common.{sym, ◌∙◌, subst, IsUtf8}
+use Rattle.s2id_core.proofs.Canonical.{text-canonical_token}
+use Rattle.s2id_core.proofs.display.CellIdDisplay.fmt.Goals as goal
+
+pub unreachable-requires : goal.unreachable-requires
+unreachable-requires g c =
+    let text = c.as_bytes.ensures ∙ c.token-token.ensures in
+    c.in-Err.ensures.cases.0 (subst IsUtf8 (sym text) (text-canonical_token c.args.self.now.raw))

@@ -1,0 +1,40 @@
+//! When two bags are the same, and two changes.
+
+ghost use Rattle.std.specs.Ordering.{on, eq_of_both};
+ghost use Rattle.std.specs.Cmp.{and_equiv, on_equiv, partial_equiv_from_equiv};
+ghost use Rattle.std.specs.Cmp.Lexicographic.{lists_equiv, pointwise};
+
+use crate::bag::Bag;
+use crate::change::Change;
+use crate::limits::Limits;
+use crate::pair::{Entry, Held};
+
+/// Bags with the same limits that hold the same pairs with the same counts. O(n).
+impl PartialEq for Bag {
+    ghost eq = { eq_of_both (on (λ bag. bag.limits) ⟦<Limits as PartialEq>⟧.eq) (on (λ bag. bag.held) (pointwise ⟦<Held as PartialEq>⟧.eq)) };
+
+    ghost laws = { partial_equiv_from_equiv (and_equiv (on_equiv (λ bag. bag.limits) ⟦<Limits as Eq>⟧.laws) (on_equiv (λ bag. bag.held) (lists_equiv ⟦<Held as Eq>⟧.laws))) };
+
+    fn eq(&self, other: &Bag) -> bool {
+        self.limits() == other.limits() && self.pairs() == other.pairs()
+    }
+}
+
+impl Eq for Bag {
+    ghost laws = { and_equiv (on_equiv (λ bag. bag.limits) ⟦<Limits as Eq>⟧.laws) (on_equiv (λ bag. bag.held) (lists_equiv ⟦<Held as Eq>⟧.laws)) };
+}
+
+/// Changes with the same entries. O(n).
+impl PartialEq for Change {
+    ghost eq = { pointwise ⟦<Entry as PartialEq>⟧.eq };
+
+    ghost laws = { partial_equiv_from_equiv (lists_equiv ⟦<Entry as Eq>⟧.laws) };
+
+    fn eq(&self, other: &Change) -> bool {
+        self.entries() == other.entries()
+    }
+}
+
+impl Eq for Change {
+    ghost laws = { lists_equiv ⟦<Entry as Eq>⟧.laws };
+}
