@@ -2,7 +2,7 @@
 use Rattle.std.proofs.Common.{◌≡◌, ℕ, zero, suc, ◌+◌, ◌-◌, ◌*◌, ◌/◌, ◌%◌, ◌^◌, ◌<◌, ◌≤◌, inl, inr, length, sym, ◌∙◌, ap, refl, arith, subst}
 use Rattle.std.specs.Int.{w64, trailing_zeros}
 use Rattle.std.specs.Int.Count.{count_trailing_zeros}
-use Rattle.std.specs.Ordering.{ord_min, nat_cmp}
+use Rattle.std.specs.Prelude.{min}
 use Rattle.std.proofs.Math.Nat.{mul-le-mul_right}
 use Rattle.std.proofs.lemmas.Bool.{cases_lt}
 use Rattle.std.proofs.lemmas.Nat.{pow-add, pow_pos, one_shl}
@@ -106,7 +106,7 @@ pub record IsLeast (least a b c : ℕ) : Type 0 where
   pub third : least ≤ c
   pub greatest : (x : ℕ) → x ≤ a → x ≤ b → x ≤ c → x ≤ least
 
-pub least_of : (a b c m n : ℕ) → m ≡ ord_min nat_cmp a b → n ≡ ord_min nat_cmp m c → IsLeast n a b c
+pub least_of : (a b c m n : ℕ) → m ≡ min a b → n ≡ min m c → IsLeast n a b c
 least_of a b c m n e f = record {
   first = omega arith;
   second = omega arith;

@@ -1,6 +1,6 @@
 -- One sweep over two chains of cells.
 use Rattle.std.proofs.Common.{◌≡◌, ◌↔◌, ℕ, ◌+◌, ◌%◌, ◌<◌, ◌≤◌, ◌⊎◌, inl, inr, Bool, true, false, IsTrue, List, [], length, get_or, sym, ◌∙◌, ap, refl, arith, subst}
-use Rattle.std.specs.Ordering.{ord_min, nat_cmp}
+use Rattle.std.specs.Prelude.{min}
 use Rattle.std.proofs.lemmas.Bool.{cases_lt, false≢true}
 use Rattle.std.proofs.lemmas.List.{get_or_default}
 use Rattle.s2id_core.specs.declared.cell_id.CellId.{CellId}
@@ -49,7 +49,7 @@ pub record IsLower (end a b : ℕ) : Type 0 where
   pub above : (x : ℕ) → x < a → x < b → x < end
   pub odd : a % 2 ≡ 1 → b % 2 ≡ 1 → end % 2 ≡ 1
 
-pub lower_of : (a b end : ℕ) → end ≡ ord_min nat_cmp a b → IsLower end a b
+pub lower_of : (a b end : ℕ) → end ≡ min a b → IsLower end a b
 lower_of a b end e = record {
   first = omega arith;
   second = omega arith;
