@@ -1,4 +1,5 @@
 pub mod Pairs
+mod Equal
 pub mod Counts
 pub mod Collections
 pub mod Changes
