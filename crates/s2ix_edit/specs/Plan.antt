@@ -13,7 +13,7 @@ use Rattle.s2ix_edit.specs.declared.edit.Edit.{Edit}
 use Rattle.s2ix_edit.specs.declared.errors.EditError.{EditError}
 use Rattle.s2ix_edit.specs.declared.errors.EditError.TheVariants.{NoChange, TooManyCopies, TooManyPairs}
 use Rattle.s2ix_edit.specs.Edit.{edited_alone}
-use Rattle.s2ix_edit.specs.State.{State, holding}
+use Rattle.s2ix_edit.specs.State.{State, with_held}
 use Rattle.s2ix_edit.specs.Refusals.{lacks_label, takes_too_many}
 
 -- a store that stands at a bag and has no history
@@ -50,7 +50,7 @@ move_entries h gain =
 -- the store after planned entries: its bag has the counts after, and they are the last change that was done
 abbrev pub after_record : State → List Entry → State
 after_record s es = record {
-  bag = holding s.bag (changed s.bag.held es);
+  bag = with_held s.bag (changed s.bag.held es);
   done = s.done ++ es ∷ [];
   undone = [];
 }

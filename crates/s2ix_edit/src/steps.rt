@@ -6,7 +6,7 @@ ghost use Rattle.s2ix_bag.specs.Change.{changed};
 ghost use Rattle.s2ix_bag.specs.Collection.{IsBag};
 ghost use Rattle.s2ix_edit.specs.Plan.{entries_refusal, IsShifted};
 ghost use Rattle.s2ix_edit.specs.Refusals.{IsEditRefusal};
-ghost use Rattle.s2ix_edit.specs.State.{holding};
+ghost use Rattle.s2ix_edit.specs.State.{with_held};
 
 use crate::errors::EditError;
 use s2id_core::OutOfMemory;
@@ -17,7 +17,7 @@ use std::alloc::Global;
 pub fn apply_planned(alloc: Global, bag: &Bag, change: &Change) -> Result<Bag, EditError>
     requires { first_mismatch bag.now change.now ≡ None }
     ensures made { IfOk result (λ after.
-        after ≡ holding bag.now (changed bag.now.held change.now)) }
+        after ≡ with_held bag.now (changed bag.now.held change.now)) }
     ensures within { IfOk result IsBag }
     ensures fits { OnOk result (apply_refusal bag.now change.now ≡ None) }
     ensures accepted { OnOk result (entries_refusal bag.now change.now ≡ None) }
@@ -40,7 +40,7 @@ pub fn apply_planned(alloc: Global, bag: &Bag, change: &Change) -> Result<Bag, E
 pub fn apply_recorded(alloc: Global, bag: &Bag, change: &Change) -> Result<Bag, OutOfMemory>
     requires { apply_refusal bag.now change.now ≡ None }
     ensures made { IfOk result (λ after.
-        after ≡ holding bag.now (changed bag.now.held change.now)) }
+        after ≡ with_held bag.now (changed bag.now.held change.now)) }
     ensures within { IfOk result IsBag }
 {
     match bag.applied(alloc, change) {

@@ -5,7 +5,7 @@ ghost use Rattle.s2ix_edit.specs.Plan.{Plans, starting_at};
 ghost use Rattle.s2ix_edit.specs.Refusals.{edit_error, edit_refusal, IsEditRefusal};
 
 use crate::edit::Edit;
-use crate::edits::shared::{lacks_label, removal};
+use crate::edits::parts::{lacks_label, removal};
 use crate::errors::PlanError;
 use s2ix_bag::{Bag, Change, Entry, Label};
 use std::alloc::{AllocError, Global};

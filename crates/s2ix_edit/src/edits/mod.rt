@@ -1,12 +1,12 @@
 //! What each edit changes: the entries that carry it out, before any limit is looked at. Each edit has a file of its
-//! own with its `plan`; what several of them share stands in `shared`.
+//! own with its `plan`; what several of them are made of stands in `parts`.
 
 mod add;
 mod add_union;
 mod drop_label;
+mod parts;
 mod relabel;
 mod remove;
-mod shared;
 
 ghost use Rattle.std.specs.Prelude.{IfOk, IfErr};
 ghost use Rattle.s2ix_bag.specs.Collection.{IsBag};

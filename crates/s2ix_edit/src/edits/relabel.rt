@@ -4,7 +4,7 @@ ghost use Rattle.s2ix_edit.specs.Plan.{Plans, move_entries, starting_at};
 ghost use Rattle.s2ix_edit.specs.Refusals.{edit_error, edit_refusal, holds_none, IsEditRefusal};
 
 use crate::edit::Edit;
-use crate::edits::shared::{lacks_label, removal};
+use crate::edits::parts::{lacks_label, removal};
 use crate::errors::PlanError;
 use s2ix_bag::{Bag, Change, Entry, Held, Label, Pair};
 use std::alloc::{AllocError, Global};

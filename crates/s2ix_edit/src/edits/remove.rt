@@ -3,7 +3,7 @@ ghost use Rattle.s2ix_edit.specs.Plan.{Plans, starting_at};
 ghost use Rattle.s2ix_edit.specs.Refusals.{edit_error, edit_refusal, IsEditRefusal};
 
 use crate::edit::Edit;
-use crate::edits::shared::one_pair;
+use crate::edits::parts::one_pair;
 use crate::errors::PlanError;
 use s2ix_bag::{Bag, Change, Pair};
 use std::alloc::Global;

@@ -2,7 +2,7 @@ use Rattle.std.proofs.Common.{◌-◌, List, length, ◌++◌, ◌∷◌, [], ap
 use Rattle.s2ix_bag.specs.declared.pair.Entry.{Entry}
 use Rattle.std.specs.List.{slice_get}
 use Rattle.s2ix_bag.specs.Change.{changed}
-use Rattle.s2ix_edit.specs.State.{State, history_of, holding}
+use Rattle.s2ix_edit.specs.State.{State, history_of, with_held}
 use Rattle.s2ix_edit.specs.History.{one_on}
 use Rattle.s2ix_edit.proofs.Led.{undo_taken_back}
 use Rattle.s2ix_edit.proofs.Places.{Redoes, history_redone, same_last, stands_redone}
@@ -19,7 +19,7 @@ last_done_again c =
     let found = c.in-Some.ensures.value ∙ ap (λ (xs : List (List Entry)). slice_get xs (length xs - 1)) c.deref.ensures.value in
     let last_is = same_last c.self.inside.undone.items c.shift_last-number.new.from.items c.in-Some.last.now shifted.last shifted.taken found in
     record {
-      bag = c.in_ok-bag.ensures.made ∙ ap (λ (es : List Entry). holding held (changed held.held es)) last_is;
+      bag = c.in_ok-bag.ensures.made ∙ ap (λ (es : List Entry). with_held held (changed held.held es)) last_is;
       done = shifted.put ∙ ap (λ (xs : List (List Entry)). xs ++ shifted.last ∷ []) c.reserve.ensures.items;
       undone = shifted.taken;
     }

@@ -1,4 +1,4 @@
-//! What several edits share.
+//! What several edits are made of.
 
 ghost use Rattle.std.specs.Prelude.{◌≡◌, IfOk};
 ghost use Rattle.s2ix_bag.specs.Change.{removal_of};
