@@ -8,7 +8,7 @@ use Rattle.s2ix_bag.specs.Change.{changed, inverse_of, IsChangeList}
 use Rattle.s2ix_bag.specs.Collection.{Collection, LimitedCollection, IsBag, IsCollection}
 use Rattle.s2ix_bag.specs.Limits.{changes_limit}
 use Rattle.s2ix_edit.specs.State.{State, IsStore, CanGoBack, CanGoOn, earlier, later, history_of, with_held}
-use Rattle.s2ix_edit.specs.Plan.{after_record}
+use Rattle.s2ix_edit.specs.Plan.{after_record, IsShifted}
 use Rattle.s2ix_edit.specs.History.{History, alone, cursor_alone, one_back, one_on}
 use Rattle.s2ix_bag.proofs.Inverse.{inverse-inverse, inverse_keeps}
 use Rattle.s2ix_edit.proofs.Taken.{changed_back, not_mismatched, takes_back}
@@ -29,6 +29,17 @@ length-earlier hs (es ∷ older) =
 
 take_through : (xs ys : List Collection) (x : Collection) (n : ℕ) → length xs ≡ n → take (n + 1) (xs ++ x ∷ ys) ≡ xs ++ x ∷ []
 take_through xs ys x n e = ap (λ k. take (k + 1) (xs ++ x ∷ ys)) (sym e) ∙ take-append-add xs (x ∷ ys) 1
+
+pub slice_get_last : (front : List (List Entry)) (y : List Entry) → slice_get (front ++ y ∷ []) (length (front ++ y ∷ []) - 1) ≡ Some y
+slice_get_last front y =
+    slice_get_read (front ++ y ∷ []) (length (front ++ y ∷ [])) (length (front ++ y ∷ []) - 1) y refl
+    (omega (arith, length-append front (y ∷ [])))
+    (sym (get_or_push front y y (length (front ++ y ∷ []) - 1) (omega (arith, length-append front (y ∷ [])))))
+
+pub same_last : (xs front : List (List Entry)) (x y : List Entry) → xs ≡ front ++ y ∷ [] → Some x ≡ slice_get xs (length xs - 1) → x ≡ y
+same_last xs front x y is found =
+    let e : ◌≡◌ {A = Option (List Entry)} (Some x) (Some y) = found ∙ ap (λ l. slice_get l (length l - 1)) is ∙ slice_get_last front y in
+    cc
 
 -- ---- planned entries recorded
 
@@ -75,6 +86,14 @@ pub record Undoes (s after : State) (es : List Entry) : Type 0 where
   pub bag : after.bag ≡ with_held s.bag (changed s.bag.held (inverse_of es))
   pub done : s.done ≡ after.done ++ es ∷ []
   pub undone : after.undone ≡ s.undone ++ es ∷ []
+
+-- a step that shifts the last change to the undone, and takes it back from the bag
+pub undoes_shifted : (s after : State) (last : List Entry) (number : ℕ) (shifted : IsShifted s.done s.undone after.done after.undone number) → Some last ≡ slice_get s.done (length s.done - 1) → after.bag ≡ with_held s.bag (changed s.bag.held (inverse_of last)) → Undoes s after shifted.last
+undoes_shifted s after last number shifted found is = record {
+  bag = is ∙ ap (λ es. with_held s.bag (changed s.bag.held (inverse_of es))) (same_last s.done after.done last shifted.last shifted.taken found);
+  done = shifted.taken;
+  undone = shifted.put;
+}
 
 -- a store can go back over its last change
 pub goes_back : (s : State) (front : List (List Entry)) (es : List Entry) → IsStore s → s.done ≡ front ++ es ∷ [] → CanGoBack s.bag (es ∷ reverse front)
@@ -135,6 +154,14 @@ pub record Redoes (s after : State) (es : List Entry) : Type 0 where
   pub done : after.done ≡ s.done ++ es ∷ []
   pub undone : s.undone ≡ after.undone ++ es ∷ []
 
+-- a step that shifts the last undone change back, and does it again to the bag
+pub redoes_shifted : (s after : State) (last : List Entry) (number : ℕ) (shifted : IsShifted s.undone s.done after.undone after.done number) → Some last ≡ slice_get s.undone (length s.undone - 1) → after.bag ≡ with_held s.bag (changed s.bag.held last) → Redoes s after shifted.last
+redoes_shifted s after last number shifted found is = record {
+  bag = is ∙ ap (λ es. with_held s.bag (changed s.bag.held es)) (same_last s.undone after.undone last shifted.last shifted.taken found);
+  done = shifted.put;
+  undone = shifted.taken;
+}
+
 -- a store can go on over its last undone change
 pub goes_on : (s : State) (front : List (List Entry)) (es : List Entry) → IsStore s → s.undone ≡ front ++ es ∷ [] → CanGoOn s.bag (es ∷ reverse front)
 goes_on s front es st is =
@@ -184,16 +211,3 @@ history_alone s =
     let place = length-earlier s.bag.held (reverse s.done) ∙ length-reverse s.done in
     let at_cursor = ap (λ k. drop k (before ++ after)) (sym place) ∙ drop-append_seam before after in
     ap (λ hs. let h : History = record { collections = take 1 hs; cursor = 0 } in h) (sym at_cursor)
-
--- ---- the last of a list
-
-pub slice_get_last : (front : List (List Entry)) (y : List Entry) → slice_get (front ++ y ∷ []) (length (front ++ y ∷ []) - 1) ≡ Some y
-slice_get_last front y =
-    slice_get_read (front ++ y ∷ []) (length (front ++ y ∷ [])) (length (front ++ y ∷ []) - 1) y refl
-    (omega (arith, length-append front (y ∷ [])))
-    (sym (get_or_push front y y (length (front ++ y ∷ []) - 1) (omega (arith, length-append front (y ∷ [])))))
-
-pub same_last : (xs front : List (List Entry)) (x y : List Entry) → xs ≡ front ++ y ∷ [] → Some x ≡ slice_get xs (length xs - 1) → x ≡ y
-same_last xs front x y is found =
-    let e : ◌≡◌ {A = Option (List Entry)} (Some x) (Some y) = found ∙ ap (λ l. slice_get l (length l - 1)) is ∙ slice_get_last front y in
-    cc

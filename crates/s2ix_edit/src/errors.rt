@@ -124,17 +124,6 @@ impl From<OutOfMemory> for UndoError {
     }
 }
 
-impl From<AllocError> for UndoError {
-    ghost use Rattle.std.specs.Prelude.{◌≡◌};
-    ghost use Rattle.s2ix_edit.specs.declared.errors.UndoError.TheVariants.{OutOfMemory};
-
-    ghost from_gives = { λ _ error. error ≡ OutOfMemory };
-
-    fn from(_: AllocError) -> Self {
-        UndoError::OutOfMemory
-    }
-}
-
 /// Why [`Store::redo`](crate::Store::redo) was refused.
 #[derive(Clone, Copy, Debug, PartialEq, Eq, Error)]
 pub enum RedoError {
@@ -153,17 +142,6 @@ impl From<OutOfMemory> for RedoError {
     ghost from_gives = { λ _ error. error ≡ OutOfMemory };
 
     fn from(_: OutOfMemory) -> Self {
-        RedoError::OutOfMemory
-    }
-}
-
-impl From<AllocError> for RedoError {
-    ghost use Rattle.std.specs.Prelude.{◌≡◌};
-    ghost use Rattle.s2ix_edit.specs.declared.errors.RedoError.TheVariants.{OutOfMemory};
-
-    ghost from_gives = { λ _ error. error ≡ OutOfMemory };
-
-    fn from(_: AllocError) -> Self {
         RedoError::OutOfMemory
     }
 }

@@ -1,4 +1,4 @@
-ghost use Rattle.std.specs.Prelude.{◌≡◌, ◌≢◌, ℕ, ◌↔◌, ◌<◌, [], ◌∷◌, length, None, IfOk, IfErr, OnOk, OnErr};
+ghost use Rattle.std.specs.Prelude.{◌≡◌, ◌≢◌, ◌↔◌, ◌<◌, [], ◌∷◌, length, None, IfOk, IfErr, OnOk, OnErr};
 ghost use Rattle.s2ix_bag.specs.Apply.{first_mismatch};
 ghost use Rattle.s2ix_bag.specs.declared.pair.Pair.{Pair};
 ghost use Rattle.s2ix_bag.specs.Change.{counts_at, difference_of};
@@ -16,14 +16,12 @@ use crate::edit::Edit;
 use crate::edits;
 use crate::errors::{EditError, RedoError, UndoError};
 use crate::steps::{apply_planned, apply_recorded, shift_last};
+use crate::store_table::StoreTable;
 use s2id_core::OutOfMemory;
 use s2ix_bag::{Bag, Change, Limits};
-use s2ix_table::{CopiedTable, RangeTable};
+use s2ix_table::RangeTable;
 use std::alloc::Global;
 use std::marker::Model;
-
-/// The range table that a [`Store`] keeps of its collection.
-pub type StoreTable = CopiedTable;
 
 /// A collection with its history and its range table. Contracts see a store as its bag with the changes that were
 /// done and undone; the table is always that of the bag. This project's own.
@@ -112,8 +110,7 @@ impl Store {
         ensures unchanged { OnErr result (self.new ≡ self.old) }
     {
         let number = change.entries().len();
-        let bag = apply_planned(self.alloc, &self.bag, &change)?;
-        let table = StoreTable::build(self.alloc, &bag)?;
+        let (bag, table) = apply_planned(self.alloc, &self.bag, &change)?;
         self.done.push(change)?;
         self.undone.clear();
         self.bag = bag;
@@ -140,10 +137,8 @@ impl Store {
             return Err(UndoError::NothingToUndo);
         };
         let inverse = last.inverse(self.alloc)?;
-        let bag = apply_recorded(self.alloc, &self.bag, &inverse)?;
-        let table = StoreTable::build(self.alloc, &bag)?;
-        self.undone.reserve(1)?;
-        let number = shift_last(&mut self.done, &mut self.undone);
+        let (bag, table) = apply_recorded(self.alloc, &self.bag, &inverse)?;
+        let number = shift_last(&mut self.done, &mut self.undone)?;
         self.bag = bag;
         self.table = table;
         Ok(number)
@@ -168,10 +163,8 @@ impl Store {
         let Some(last) = self.undone.last() else {
             return Err(RedoError::NothingToRedo);
         };
-        let bag = apply_recorded(self.alloc, &self.bag, last)?;
-        let table = StoreTable::build(self.alloc, &bag)?;
-        self.done.reserve(1)?;
-        let number = shift_last(&mut self.undone, &mut self.done);
+        let (bag, table) = apply_recorded(self.alloc, &self.bag, last)?;
+        let number = shift_last(&mut self.undone, &mut self.done)?;
         self.bag = bag;
         self.table = table;
         Ok(number)

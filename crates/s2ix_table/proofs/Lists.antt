@@ -7,8 +7,7 @@ use Rattle.s2id_core.specs.CellId.{raw_of, path_of, level_of}
 use Rattle.s2id_core.specs.Leaves.{IsLeafPath}
 use Rattle.s2id_core.specs.Path.{Path, number_of, path_at}
 use Rattle.s2id_core.proofs.Nested.{span, same_from_level, span_from_leaf, leaf_from_span, leaf_of_odd}
-use Rattle.s2id_union.specs.Covers.{Covers}
-use Rattle.s2id_union.specs.Region.{InRegion, Meets}
+use Rattle.s2id_union.specs.Region.{Meets}
 use Rattle.s2id_union.proofs.Covering.{covers_from_region}
 use Rattle.s2ix_bag.proofs.Collections.{rank_of_get}
 use Rattle.s2ix_bag.proofs.Parts.{collection_take}

@@ -1,6 +1,5 @@
 ghost use Rattle.std.specs.Prelude.{IfOk, IfErr};
-ghost use Rattle.s2ix_edit.specs.Plan.{Plans, starting_at};
-ghost use Rattle.s2ix_edit.specs.Refusals.{edit_error, edit_refusal, IsEditRefusal};
+ghost use Rattle.s2ix_edit.specs.Plan.{IsPlanRefusal, Plans};
 
 use crate::edit::Edit;
 use crate::errors::PlanError;
@@ -12,8 +11,7 @@ use std::alloc::Global;
 /// every limit. O(m log n) for m cells and n pairs held.
 pub fn plan(alloc: Global, bag: &Bag, union: &CellUnion, label: Label) -> Result<Change, PlanError>
     ensures plan { IfOk result (Plans bag.now (Edit.AddUnion union.now label)) }
-    ensures refused { IfErr result (λ error.
-        IsEditRefusal (edit_error error) (edit_refusal (starting_at bag.now) (Edit.AddUnion union.now label))) }
+    ensures refused { IfErr result (IsPlanRefusal bag.now (Edit.AddUnion union.now label)) }
 {
     let mut entries = Vec::new(alloc);
     for cell in union.cells() {
