@@ -17,7 +17,11 @@ use s2ix_table::RangeTable;
 use std::alloc::Global;
 
 /// The bag that planned entries make, with its range table, or why a store refuses them.
-pub fn apply_planned(alloc: Global, bag: &Bag, change: &Change) -> Result<(Bag, StoreTable), EditError>
+pub fn apply_planned(
+    alloc: Global,
+    bag: &Bag,
+    change: &Change,
+) -> Result<(Bag, StoreTable), EditError>
     requires { first_mismatch bag.now change.now ≡ None }
     ensures made { IfOk result (λ after. after.0 ≡ with_held bag.now (changed bag.now.held change.now)) }
     ensures within { IfOk result (λ after. IsBag after.0) }
@@ -43,7 +47,11 @@ pub fn apply_planned(alloc: Global, bag: &Bag, change: &Change) -> Result<(Bag, 
 }
 
 /// The bag that a recorded change makes, with its range table: only memory can be wanting.
-pub fn apply_recorded(alloc: Global, bag: &Bag, change: &Change) -> Result<(Bag, StoreTable), OutOfMemory>
+pub fn apply_recorded(
+    alloc: Global,
+    bag: &Bag,
+    change: &Change,
+) -> Result<(Bag, StoreTable), OutOfMemory>
     requires { apply_refusal bag.now change.now ≡ None }
     ensures made { IfOk result (λ next. next.0 ≡ with_held bag.now (changed bag.now.held change.now)) }
     ensures within { IfOk result (λ next. IsBag next.0) }

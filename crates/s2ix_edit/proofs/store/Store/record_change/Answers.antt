@@ -9,7 +9,7 @@ use Rattle.s2ix_edit.proofs.store.Store.record_change.Goals.{After-clear}
 use Rattle.s2ix_edit.proofs.store.Store.record_change.Goals as goal
 
 is_recorded : (c : After-clear) →
-    record { bag = c.in_ok-bag.bag.0; done = c.push.new.self.items; undone = c.clear.new.self.items } ≡ after_record c.args.self.now c.args.change
+    record { bag = c.in_ok-bag.bag; done = c.push.new.self.items; undone = c.clear.new.self.items } ≡ after_record c.args.self.now c.args.change
 is_recorded c = grind (arith, common_steps)
 
 stood : (c : After-clear) → IsStore c.args.self.now

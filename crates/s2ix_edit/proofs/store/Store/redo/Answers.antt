@@ -11,7 +11,7 @@ use Rattle.s2ix_edit.proofs.store.Store.redo.Goals as goal
 -- the store inside, with its last undone change done again
 does_again : (c : In_ok-number) → Redoes
     (record { bag = c.self.inside.bag; done = c.self.inside.done.items; undone = c.self.inside.undone.items })
-    (record { bag = c.in_ok-bag.bag.0; done = c.shift_last.new.to.items; undone = c.shift_last.new.from.items })
+    (record { bag = c.in_ok-bag.bag; done = c.shift_last.new.to.items; undone = c.shift_last.new.from.items })
     c.in_ok-number.ensures.shifted.last
 does_again c =
     redoes_shifted _ _ c.in-Some.last.now _ c.in_ok-number.ensures.shifted
