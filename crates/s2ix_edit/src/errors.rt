@@ -91,17 +91,6 @@ impl From<AllocError> for PlanError {
     }
 }
 
-impl<T: Drop> From<AllocFailed<T>> for PlanError {
-    ghost use Rattle.std.specs.Prelude.{◌≡◌};
-    ghost use Rattle.s2ix_edit.specs.declared.errors.PlanError.TheVariants.{OutOfMemory};
-
-    ghost from_gives = { λ _ error. error ≡ OutOfMemory };
-
-    fn from(_: AllocFailed<T>) -> Self {
-        PlanError::OutOfMemory
-    }
-}
-
 /// Why [`Store::undo`](crate::Store::undo) was refused.
 #[derive(Clone, Copy, Debug, PartialEq, Eq, Error)]
 pub enum UndoError {

@@ -2,9 +2,10 @@ ghost use Rattle.std.specs.Prelude.{IfOk, IfErr};
 ghost use Rattle.s2ix_edit.specs.Plan.{IsPlanRefusal, Plans};
 
 use crate::edit::Edit;
+use crate::edits::parts::push_entry;
 use crate::errors::PlanError;
 use s2id_union::CellUnion;
-use s2ix_bag::{Bag, Change, Entry, Label, Pair};
+use s2ix_bag::{Bag, Change, Label, Pair};
 use std::alloc::Global;
 
 /// The change that gives each cell of a union one copy more under the label. A sum that no `u32` holds is above
@@ -20,12 +21,7 @@ pub fn plan(alloc: Global, bag: &Bag, union: &CellUnion, label: Label) -> Result
         let Some(after) = before.checked_add(1) else {
             return Err(PlanError::TooManyCopies);
         };
-        let entry = Entry {
-            pair,
-            before,
-            after,
-        };
-        entries.push(entry)?;
+        push_entry(&mut entries, pair, before, after)?;
     }
     Ok(Change::from_vec(entries))
 }
