@@ -11,7 +11,7 @@ use Rattle.s2ix_bag.specs.Change.{change_between, changed, inverse_of, IsChangeL
 use Rattle.s2ix_bag.specs.Collection.{Collection, LimitedCollection, IsBag}
 use Rattle.s2ix_bag.proofs.Inverse.{inverse_keeps}
 use Rattle.s2ix_bag.proofs.Refusals.{made_is_bag, taken_from_none}
-use Rattle.s2ix_edit.specs.State.{State, IsStore, CanGoBack, CanGoOn, earlier, history_of, holding, later}
+use Rattle.s2ix_edit.specs.State.{State, IsStore, CanGoBack, CanGoOn, earlier, history_of, with_held, later}
 use Rattle.s2ix_edit.specs.History.{changes_along, changes_from}
 use Rattle.s2ix_edit.proofs.Places.{forth_again, length-earlier, taken_again}
 use Rattle.s2ix_edit.proofs.Taken.{between_changed, not_mismatched}
@@ -25,7 +25,7 @@ changes_on bag (es ∷ rest) b on =
     let next = made_is_bag bag es b on.0 (taken_from_none bag es on.2) in
     ap₂ (λ (x : List Entry) (xs : List (List Entry)). x ∷ xs)
     (between_changed bag es b.rises on.0 (not_mismatched bag es on.2))
-    (changes_on (holding bag (changed bag.held es)) rest next on.3)
+    (changes_on (with_held bag (changed bag.held es)) rest next on.3)
 
 reverse_cons : (es : List Entry) (older : List (List Entry)) → reverse (es ∷ older) ≡ reverse older ++ es ∷ []
 reverse_cons es older = reverse-append (es ∷ []) older
@@ -33,7 +33,7 @@ reverse_cons es older = reverse-append (es ∷ []) older
 -- the change from the collection before
 change_back : (bag : LimitedCollection) (es : List Entry) → IsBag bag → IsChangeList es → apply_refusal bag (inverse_of es) ≡ None → change_between (changed bag.held (inverse_of es)) bag.held ≡ es
 change_back bag es b rises taken =
-    let prev = holding bag (changed bag.held (inverse_of es)) in
+    let prev = with_held bag (changed bag.held (inverse_of es)) in
     let prev_is = made_is_bag bag (inverse_of es) b (inverse_keeps es rises) (taken_from_none bag (inverse_of es) taken) in
     ap (λ hs. change_between prev.held hs) (sym (forth_again bag es b.rises rises (not_mismatched bag (inverse_of es) taken)))
     ∙ between_changed prev es prev_is.rises rises (not_mismatched prev es (taken_again bag es b rises taken))
@@ -42,7 +42,7 @@ change_back bag es b rises taken =
 changes_back : (bag : LimitedCollection) (ess : List (List Entry)) (rest : List Collection) → IsBag bag → CanGoBack bag ess → changes_along (earlier bag.held ess ++ bag.held ∷ rest) ≡ reverse ess ++ changes_from bag.held rest
 changes_back bag [] rest b back = refl
 changes_back bag (es ∷ older) rest b back =
-    let prev = holding bag (changed bag.held (inverse_of es)) in
+    let prev = with_held bag (changed bag.held (inverse_of es)) in
     let prev_is = made_is_bag bag (inverse_of es) b (inverse_keeps es back.0) (taken_from_none bag (inverse_of es) back.2) in
     ap changes_along (append_assoc (earlier prev.held older) (prev.held ∷ []) (bag.held ∷ rest))
     ∙ changes_back prev older (bag.held ∷ rest) prev_is back.3
@@ -57,25 +57,25 @@ changes_of_history s st =
 
 -- ---- each collection is within the limits
 
-within_on : (bag : LimitedCollection) (ess : List (List Entry)) → IsBag bag → CanGoOn bag ess → All (λ hs. IsBag (holding bag hs)) (later bag.held ess)
-within_on bag [] b on = All-nil (λ (hs : Collection). IsBag (holding bag hs))
+within_on : (bag : LimitedCollection) (ess : List (List Entry)) → IsBag bag → CanGoOn bag ess → All (λ hs. IsBag (with_held bag hs)) (later bag.held ess)
+within_on bag [] b on = All-nil (λ (hs : Collection). IsBag (with_held bag hs))
 within_on bag (es ∷ rest) b on =
     let next = made_is_bag bag es b on.0 (taken_from_none bag es on.2) in
-    All-cons (λ (hs : Collection). IsBag (holding bag hs)) (changed bag.held es) (later (changed bag.held es) rest) next
-    (within_on (holding bag (changed bag.held es)) rest next on.3)
+    All-cons (λ (hs : Collection). IsBag (with_held bag hs)) (changed bag.held es) (later (changed bag.held es) rest) next
+    (within_on (with_held bag (changed bag.held es)) rest next on.3)
 
-within_back : (bag : LimitedCollection) (ess : List (List Entry)) → IsBag bag → CanGoBack bag ess → All (λ hs. IsBag (holding bag hs)) (earlier bag.held ess)
-within_back bag [] b back = All-nil (λ (hs : Collection). IsBag (holding bag hs))
+within_back : (bag : LimitedCollection) (ess : List (List Entry)) → IsBag bag → CanGoBack bag ess → All (λ hs. IsBag (with_held bag hs)) (earlier bag.held ess)
+within_back bag [] b back = All-nil (λ (hs : Collection). IsBag (with_held bag hs))
 within_back bag (es ∷ older) b back =
-    let Fits : Collection → Type 0 = λ hs. IsBag (holding bag hs) in
+    let Fits : Collection → Type 0 = λ hs. IsBag (with_held bag hs) in
     let prev_is = made_is_bag bag (inverse_of es) b (inverse_keeps es back.0) (taken_from_none bag (inverse_of es) back.2) in
     All-append Fits (earlier (changed bag.held (inverse_of es)) older) (changed bag.held (inverse_of es) ∷ [])
-    (within_back (holding bag (changed bag.held (inverse_of es))) older prev_is back.3)
+    (within_back (with_held bag (changed bag.held (inverse_of es))) older prev_is back.3)
     (All-cons Fits (changed bag.held (inverse_of es)) [] prev_is (All-nil Fits))
 
-pub history_within : (s : State) → IsStore s → All (λ hs. IsBag (holding s.bag hs)) (history_of s).collections
+pub history_within : (s : State) → IsStore s → All (λ hs. IsBag (with_held s.bag hs)) (history_of s).collections
 history_within s st =
-    let Fits : Collection → Type 0 = λ hs. IsBag (holding s.bag hs) in
+    let Fits : Collection → Type 0 = λ hs. IsBag (with_held s.bag hs) in
     All-append Fits (earlier s.bag.held (reverse s.done)) (s.bag.held ∷ later s.bag.held (reverse s.undone))
     (within_back s.bag (reverse s.done) st.bag st.back)
     (All-cons Fits s.bag.held (later s.bag.held (reverse s.undone)) st.bag (within_on s.bag (reverse s.undone) st.bag st.on))
@@ -88,12 +88,12 @@ HasEntries es = 0 < length es
 some_on : (bag : LimitedCollection) (ess : List (List Entry)) → CanGoOn bag ess → All HasEntries ess
 some_on bag [] on = All-nil HasEntries
 some_on bag (es ∷ rest) on =
-    All-cons HasEntries es rest on.1 (some_on (holding bag (changed bag.held es)) rest on.3)
+    All-cons HasEntries es rest on.1 (some_on (with_held bag (changed bag.held es)) rest on.3)
 
 some_back : (bag : LimitedCollection) (ess : List (List Entry)) → CanGoBack bag ess → All HasEntries ess
 some_back bag [] back = All-nil HasEntries
 some_back bag (es ∷ older) back =
-    All-cons HasEntries es older back.1 (some_back (holding bag (changed bag.held (inverse_of es))) older back.3)
+    All-cons HasEntries es older back.1 (some_back (with_held bag (changed bag.held (inverse_of es))) older back.3)
 
 some_reversed : (ess : List (List Entry)) → All HasEntries ess → All HasEntries (reverse ess)
 some_reversed [] some = some

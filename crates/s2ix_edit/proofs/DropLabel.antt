@@ -91,28 +91,28 @@ without_keeps label hs is = filter_keeps (λ h. not (is_of label h)) 0 hs is
 
 -- ---- the entries that take the pairs away
 
-gone_rises : (n : ℕ) (hs : Collection) → IsCollectionFrom n hs → IsChangeListFrom n (map removal_of hs)
-gone_rises n [] is = tt
-gone_rises n (h ∷ hs) is = (is.0, (λ e. omega (arith, e, is.1)), gone_rises (rank_of h.pair + 1) hs is.2)
+removals_rise : (n : ℕ) (hs : Collection) → IsCollectionFrom n hs → IsChangeListFrom n (map removal_of hs)
+removals_rise n [] is = tt
+removals_rise n (h ∷ hs) is = (is.0, (λ e. omega (arith, e, is.1)), removals_rise (rank_of h.pair + 1) hs is.2)
 
 part_rises : (test : Held → Bool) (n : ℕ) (hs : Collection) → IsCollectionFrom n hs → IsChangeListFrom n (map removal_of (filter test hs))
-part_rises test n hs is = gone_rises n (filter test hs) (filter_keeps test n hs is)
+part_rises test n hs is = removals_rise n (filter test hs) (filter_keeps test n hs is)
 
-gone_before : (test : Held → Bool) (n : ℕ) (hs : Collection) → IsCollectionFrom n hs → AreBefore hs (map removal_of (filter test hs))
-gone_before test n [] is = tt
-gone_before test n (h ∷ hs) is =
+removals_before : (test : Held → Bool) (n : ℕ) (hs : Collection) → IsCollectionFrom n hs → AreBefore hs (map removal_of (filter test hs))
+removals_before test n [] is = tt
+removals_before test n (h ∷ hs) is =
     let Right : Collection → Type 0 = λ ks. AreBefore (h ∷ hs) (map removal_of ks) in
     let later = before_moves (rank_of h.pair + 1) hs (h ∷ hs) (map removal_of (filter test hs)) (part_rises test (rank_of h.pair + 1) hs is.2)
-    (λ k le. sym (count_tail h hs k (λ e. omega (arith, e, le)))) (gone_before test (rank_of h.pair + 1) hs is.2) in
+    (λ k le. sym (count_tail h hs k (λ e. omega (arith, e, le)))) (removals_before test (rank_of h.pair + 1) hs is.2) in
     ⊎_elim
     (λ yes. subst Right (sym (cond-true (test h) (h ∷ filter test hs) (filter test hs) yes)) (sym (count_head h hs (rank_of h.pair) refl), later))
     (λ no. subst Right (sym (cond-false (test h) (h ∷ filter test hs) (filter test hs) no)) later)
     (cases_Bool (test h))
 
-gone_changes : (test : Held → Bool) (n : ℕ) (hs : Collection) → IsCollectionFrom n hs → changed hs (map removal_of (filter test hs)) ≡ filter (λ h. not (test h)) hs
-gone_changes test n [] is = refl
-gone_changes test n (h ∷ hs) is =
-    let rest = gone_changes test (rank_of h.pair + 1) hs is.2 in
+removals_change : (test : Held → Bool) (n : ℕ) (hs : Collection) → IsCollectionFrom n hs → changed hs (map removal_of (filter test hs)) ≡ filter (λ h. not (test h)) hs
+removals_change test n [] is = refl
+removals_change test n (h ∷ hs) is =
+    let rest = removals_change test (rank_of h.pair + 1) hs is.2 in
     let rises = part_rises test (rank_of h.pair + 1) hs is.2 in
     ⊎_elim
     (λ yes. ap (λ ks. changed (h ∷ hs) (map removal_of ks)) (cond-true (test h) (h ∷ filter test hs) (filter test hs) yes)
@@ -126,9 +126,9 @@ gone_changes test n (h ∷ hs) is =
     (cases_Bool (test h))
 
 -- the entries that take a label's pairs away make the collection without them
-pub gone_makes : (bag : LimitedCollection) (label : Label) → IsCollection bag.held → Makes bag (without label bag.held) (map removal_of (held_of label bag.held))
-gone_makes bag label is = record {
+pub removals_make : (bag : LimitedCollection) (label : Label) → IsCollection bag.held → Makes bag (without label bag.held) (map removal_of (held_of label bag.held))
+removals_make bag label is = record {
   rises = part_rises (is_of label) 0 bag.held is;
-  matches = no_mismatch bag.held (map removal_of (held_of label bag.held)) (gone_before (is_of label) 0 bag.held is);
-  result = gone_changes (is_of label) 0 bag.held is;
+  matches = no_mismatch bag.held (map removal_of (held_of label bag.held)) (removals_before (is_of label) 0 bag.held is);
+  result = removals_change (is_of label) 0 bag.held is;
 }

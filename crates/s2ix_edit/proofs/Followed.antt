@@ -8,10 +8,10 @@ use Rattle.s2ix_bag.proofs.Refusals.{made_is_bag, taken_from_none}
 use Rattle.s2ix_edit.specs.declared.edit.Edit.{Edit}
 use Rattle.s2ix_edit.specs.Edit.{edited}
 use Rattle.s2ix_edit.specs.State.{State, IsStore, after_edit, after_forget, after_redo, after_redo_of, after_undo, after_undo_of, change_of, history_of, later}
-use Rattle.s2ix_edit.specs.History.{History, changes_along, forgotten, one_back, one_on, with_next}
+use Rattle.s2ix_edit.specs.History.{History, changes_along, cursor_alone, one_back, one_on, with_next}
 use Rattle.s2ix_edit.proofs.Along.{changes_of_history}
 use Rattle.s2ix_edit.proofs.Edited.{held_edited_is_collection}
-use Rattle.s2ix_edit.proofs.Places.{collections_recorded, goes_on, history_forgotten, history_redone, history_undone}
+use Rattle.s2ix_edit.proofs.Places.{collections_recorded, goes_on, history_alone, history_redone, history_undone}
 use Rattle.s2ix_edit.proofs.Redone.{ends_in_last, redo_of_last}
 use Rattle.s2ix_edit.proofs.Undone.{undo_of_last}
 
@@ -45,8 +45,8 @@ history_after_redo s st some =
     (made_is_bag s.bag es st.bag on.0 (taken_from_none s.bag es on.2))
 
 -- a history that is forgotten is the collection alone
-pub history_after_forget : (s : State) → history_of (after_forget s) ≡ forgotten (history_of s)
-history_after_forget s = history_forgotten s
+pub history_after_forget : (s : State) → history_of (after_forget s) ≡ cursor_alone (history_of s)
+history_after_forget s = history_alone s
 
 -- what was done is the changes up to the cursor
 pub done_to_cursor : (s : State) → IsStore s → s.done ≡ take (history_of s).cursor (changes_along (history_of s).collections)

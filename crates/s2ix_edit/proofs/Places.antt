@@ -7,9 +7,9 @@ use Rattle.s2ix_bag.specs.Apply.{apply_refusal, first_mismatch}
 use Rattle.s2ix_bag.specs.Change.{changed, inverse_of, IsChangeList}
 use Rattle.s2ix_bag.specs.Collection.{Collection, LimitedCollection, IsBag, IsCollection}
 use Rattle.s2ix_bag.specs.Limits.{changes_limit}
-use Rattle.s2ix_edit.specs.State.{State, IsStore, CanGoBack, CanGoOn, earlier, later, history_of, holding}
-use Rattle.s2ix_edit.specs.Plan.{after_record}
-use Rattle.s2ix_edit.specs.History.{History, alone, forgotten, one_back, one_on}
+use Rattle.s2ix_edit.specs.State.{State, IsStore, CanGoBack, CanGoOn, earlier, later, history_of, with_held}
+use Rattle.s2ix_edit.specs.Plan.{after_record, IsShifted}
+use Rattle.s2ix_edit.specs.History.{History, alone, cursor_alone, one_back, one_on}
 use Rattle.s2ix_bag.proofs.Inverse.{inverse-inverse, inverse_keeps}
 use Rattle.s2ix_edit.proofs.Taken.{changed_back, not_mismatched, takes_back}
 use Rattle.std.specs.List.{slice_get}
@@ -30,6 +30,17 @@ length-earlier hs (es ∷ older) =
 take_through : (xs ys : List Collection) (x : Collection) (n : ℕ) → length xs ≡ n → take (n + 1) (xs ++ x ∷ ys) ≡ xs ++ x ∷ []
 take_through xs ys x n e = ap (λ k. take (k + 1) (xs ++ x ∷ ys)) (sym e) ∙ take-append-add xs (x ∷ ys) 1
 
+pub slice_get_last : (front : List (List Entry)) (y : List Entry) → slice_get (front ++ y ∷ []) (length (front ++ y ∷ []) - 1) ≡ Some y
+slice_get_last front y =
+    slice_get_read (front ++ y ∷ []) (length (front ++ y ∷ [])) (length (front ++ y ∷ []) - 1) y refl
+    (omega (arith, length-append front (y ∷ [])))
+    (sym (get_or_push front y y (length (front ++ y ∷ []) - 1) (omega (arith, length-append front (y ∷ [])))))
+
+pub same_last : (xs front : List (List Entry)) (x y : List Entry) → xs ≡ front ++ y ∷ [] → Some x ≡ slice_get xs (length xs - 1) → x ≡ y
+same_last xs front x y is found =
+    let e : ◌≡◌ {A = Option (List Entry)} (Some x) (Some y) = found ∙ ap (λ l. slice_get l (length l - 1)) is ∙ slice_get_last front y in
+    cc
+
 -- ---- planned entries recorded
 
 -- the history goes on to the changed collection
@@ -40,10 +51,10 @@ collections_recorded hs new es done rest back =
     ∙ ap (λ xs. xs ++ new ∷ []) (sym (take_through (earlier hs (reverse done)) rest hs (length done) (length-earlier hs (reverse done) ∙ length-reverse done)))
 
 -- a bag that a change made can go back over it, and on as before
-back_over : (bag : LimitedCollection) (done : List (List Entry)) (es : List Entry) → IsBag bag → CanGoBack bag (reverse done) → IsChangeList es → 0 < length es → apply_refusal bag es ≡ None → CanGoBack (holding bag (changed bag.held es)) (reverse (done ++ es ∷ []))
+back_over : (bag : LimitedCollection) (done : List (List Entry)) (es : List Entry) → IsBag bag → CanGoBack bag (reverse done) → IsChangeList es → 0 < length es → apply_refusal bag es ≡ None → CanGoBack (with_held bag (changed bag.held es)) (reverse (done ++ es ∷ []))
 back_over bag done es b back rises some taken =
-    let Back : List (List Entry) → Type 0 = λ xs. CanGoBack (holding bag (changed bag.held es)) xs in
-    let Older : Collection → Type 0 = λ hs. CanGoBack (holding bag hs) (reverse done) in
+    let Back : List (List Entry) → Type 0 = λ xs. CanGoBack (with_held bag (changed bag.held es)) xs in
+    let Older : Collection → Type 0 = λ hs. CanGoBack (with_held bag hs) (reverse done) in
     subst Back (sym (reverse_push done es))
     (rises, some, takes_back bag es b rises taken, subst Older (sym (changed_back bag es b.rises rises (not_mismatched bag es taken))) back)
 
@@ -72,9 +83,17 @@ collections_undone hs prev es front undone is forth =
 
 -- the last change of the first store is taken back in the second
 pub record Undoes (s after : State) (es : List Entry) : Type 0 where
-  pub bag : after.bag ≡ holding s.bag (changed s.bag.held (inverse_of es))
+  pub bag : after.bag ≡ with_held s.bag (changed s.bag.held (inverse_of es))
   pub done : s.done ≡ after.done ++ es ∷ []
   pub undone : after.undone ≡ s.undone ++ es ∷ []
+
+-- a step that shifts the last change to the undone, and takes it back from the bag
+pub undoes_shifted : (s after : State) (last : List Entry) (number : ℕ) (shifted : IsShifted s.done s.undone after.done after.undone number) → Some last ≡ slice_get s.done (length s.done - 1) → after.bag ≡ with_held s.bag (changed s.bag.held (inverse_of last)) → Undoes s after shifted.last
+undoes_shifted s after last number shifted found is = record {
+  bag = is ∙ ap (λ es. with_held s.bag (changed s.bag.held (inverse_of es))) (same_last s.done after.done last shifted.last shifted.taken found);
+  done = shifted.taken;
+  undone = shifted.put;
+}
 
 -- a store can go back over its last change
 pub goes_back : (s : State) (front : List (List Entry)) (es : List Entry) → IsStore s → s.done ≡ front ++ es ∷ [] → CanGoBack s.bag (es ∷ reverse front)
@@ -88,9 +107,9 @@ forth_again bag es c rises matches =
     ap (λ xs. changed (changed bag.held (inverse_of es)) xs) (sym (inverse-inverse es))
     ∙ changed_back bag (inverse_of es) c (inverse_keeps es rises) matches
 
-pub taken_again : (bag : LimitedCollection) (es : List Entry) → IsBag bag → IsChangeList es → apply_refusal bag (inverse_of es) ≡ None → apply_refusal (holding bag (changed bag.held (inverse_of es))) es ≡ None
+pub taken_again : (bag : LimitedCollection) (es : List Entry) → IsBag bag → IsChangeList es → apply_refusal bag (inverse_of es) ≡ None → apply_refusal (with_held bag (changed bag.held (inverse_of es))) es ≡ None
 taken_again bag es b rises taken =
-    ap (λ xs. apply_refusal (holding bag (changed bag.held (inverse_of es))) xs) (sym (inverse-inverse es))
+    ap (λ xs. apply_refusal (with_held bag (changed bag.held (inverse_of es))) xs) (sym (inverse-inverse es))
     ∙ takes_back bag (inverse_of es) b (inverse_keeps es rises) taken
 
 -- the store stands at the bag before its last change, which can be done again
@@ -101,7 +120,7 @@ stands_undone s after es st u b =
     let Back : LimitedCollection → Type 0 = λ bag. CanGoBack bag (reverse after.done) in
     let On : LimitedCollection → Type 0 = λ bag. CanGoOn bag (es ∷ reverse s.undone) in
     let OnList : List (List Entry) → Type 0 = λ xs. CanGoOn after.bag xs in
-    let Later : Collection → Type 0 = λ hs. CanGoOn (holding s.bag hs) (reverse s.undone) in
+    let Later : Collection → Type 0 = λ hs. CanGoOn (with_held s.bag hs) (reverse s.undone) in
     record {
       bag = b;
       back = subst Back (sym u.bag) back.3;
@@ -131,9 +150,17 @@ history_undone s after es st u =
 
 -- the last undone change of the first store is done again in the second
 pub record Redoes (s after : State) (es : List Entry) : Type 0 where
-  pub bag : after.bag ≡ holding s.bag (changed s.bag.held es)
+  pub bag : after.bag ≡ with_held s.bag (changed s.bag.held es)
   pub done : after.done ≡ s.done ++ es ∷ []
   pub undone : s.undone ≡ after.undone ++ es ∷ []
+
+-- a step that shifts the last undone change back, and does it again to the bag
+pub redoes_shifted : (s after : State) (last : List Entry) (number : ℕ) (shifted : IsShifted s.undone s.done after.undone after.done number) → Some last ≡ slice_get s.undone (length s.undone - 1) → after.bag ≡ with_held s.bag (changed s.bag.held last) → Redoes s after shifted.last
+redoes_shifted s after last number shifted found is = record {
+  bag = is ∙ ap (λ es. with_held s.bag (changed s.bag.held es)) (same_last s.undone after.undone last shifted.last shifted.taken found);
+  done = shifted.put;
+  undone = shifted.taken;
+}
 
 -- a store can go on over its last undone change
 pub goes_on : (s : State) (front : List (List Entry)) (es : List Entry) → IsStore s → s.undone ≡ front ++ es ∷ [] → CanGoOn s.bag (es ∷ reverse front)
@@ -162,8 +189,8 @@ undoes_redo : (s after : State) (es : List Entry) → IsStore s → Redoes s aft
 undoes_redo s after es st r =
     let on = goes_on s after.undone es st r.undone in
     record {
-      bag = sym (ap (λ bag. holding bag (changed bag.held (inverse_of es))) r.bag
-          ∙ ap (λ hs. holding s.bag hs) (changed_back s.bag es st.bag.rises on.0 (not_mismatched s.bag es on.2)));
+      bag = sym (ap (λ bag. with_held bag (changed bag.held (inverse_of es))) r.bag
+          ∙ ap (λ hs. with_held s.bag hs) (changed_back s.bag es st.bag.rises on.0 (not_mismatched s.bag es on.2)));
       done = r.done;
       undone = r.undone;
     }
@@ -175,25 +202,12 @@ history_redone s after es st r b =
     (ap (λ (h : History). h.collections) (sym was))
     (ap length r.done ∙ length-append s.done (es ∷ []))
 
--- ---- a history forgotten
+-- ---- the cursor alone
 
-pub history_forgotten : (s : State) → alone s.bag.held ≡ forgotten (history_of s)
-history_forgotten s =
+pub history_alone : (s : State) → alone s.bag.held ≡ cursor_alone (history_of s)
+history_alone s =
     let before = earlier s.bag.held (reverse s.done) in
     let after = s.bag.held ∷ later s.bag.held (reverse s.undone) in
     let place = length-earlier s.bag.held (reverse s.done) ∙ length-reverse s.done in
     let at_cursor = ap (λ k. drop k (before ++ after)) (sym place) ∙ drop-append_seam before after in
     ap (λ hs. let h : History = record { collections = take 1 hs; cursor = 0 } in h) (sym at_cursor)
-
--- ---- the last of a list
-
-pub slice_get_last : (front : List (List Entry)) (y : List Entry) → slice_get (front ++ y ∷ []) (length (front ++ y ∷ []) - 1) ≡ Some y
-slice_get_last front y =
-    slice_get_read (front ++ y ∷ []) (length (front ++ y ∷ [])) (length (front ++ y ∷ []) - 1) y refl
-    (omega (arith, length-append front (y ∷ [])))
-    (sym (get_or_push front y y (length (front ++ y ∷ []) - 1) (omega (arith, length-append front (y ∷ [])))))
-
-pub same_last : (xs front : List (List Entry)) (x y : List Entry) → xs ≡ front ++ y ∷ [] → Some x ≡ slice_get xs (length xs - 1) → x ≡ y
-same_last xs front x y is found =
-    let e : ◌≡◌ {A = Option (List Entry)} (Some x) (Some y) = found ∙ ap (λ l. slice_get l (length l - 1)) is ∙ slice_get_last front y in
-    cc

@@ -5,7 +5,7 @@ use Rattle.std.proofs.lemmas.List.{take_more}
 use Rattle.std.proofs.Math.Seq.{take-length}
 use Rattle.s2ix_bag.specs.declared.pair.Entry.{Entry}
 use Rattle.s2ix_bag.specs.Change.{inverse_of}
-use Rattle.s2ix_edit.specs.State.{State, IsStore, after_redo, after_redo_of, after_undo, after_undo_of, holding, last_done, last_undone}
+use Rattle.s2ix_edit.specs.State.{State, IsStore, after_redo, after_redo_of, after_undo, after_undo_of, with_held, last_done, last_undone}
 use Rattle.s2ix_edit.proofs.Places.{forth_again, goes_back, goes_on, slice_get_last}
 use Rattle.s2ix_edit.proofs.Taken.{changed_back, not_mismatched}
 use Rattle.s2ix_edit.proofs.Undone.{front_of, undo_of_last}
@@ -33,7 +33,7 @@ redo_of_undo s st some =
     let forth = forth_again s.bag es st.bag.rises back.0 (not_mismatched s.bag (inverse_of es) back.2) in
     ap after_redo (undo_of_last s front es is)
     ∙ redo_of_last (after_undo_of s es) s.undone es refl
-    ∙ ap (λ hs. let t : State = record { bag = holding s.bag hs; done = front ++ es ∷ []; undone = take (length (s.undone ++ es ∷ []) - 1) (s.undone ++ es ∷ []) } in t) forth
+    ∙ ap (λ hs. let t : State = record { bag = with_held s.bag hs; done = front ++ es ∷ []; undone = take (length (s.undone ++ es ∷ []) - 1) (s.undone ++ es ∷ []) } in t) forth
     ∙ ap₂ (λ (done undone : List (List Entry)). let t : State = record { bag = s.bag; done = done; undone = undone } in t) (sym is) (front_of s.undone es)
 
 pub undo_of_redo : (s : State) → IsStore s → s.undone ≢ [] → after_undo (after_redo s) ≡ s
@@ -45,7 +45,7 @@ undo_of_redo s st some =
     let back = changed_back s.bag es st.bag.rises on.0 (not_mismatched s.bag es on.2) in
     ap after_undo (redo_of_last s front es is)
     ∙ undo_of_last (after_redo_of s es) s.done es refl
-    ∙ ap (λ hs. let t : State = record { bag = holding s.bag hs; done = take (length (s.done ++ es ∷ []) - 1) (s.done ++ es ∷ []); undone = front ++ es ∷ [] } in t) back
+    ∙ ap (λ hs. let t : State = record { bag = with_held s.bag hs; done = take (length (s.done ++ es ∷ []) - 1) (s.done ++ es ∷ []); undone = front ++ es ∷ [] } in t) back
     ∙ ap₂ (λ (done undone : List (List Entry)). let t : State = record { bag = s.bag; done = done; undone = undone } in t) (front_of s.done es) (sym is)
 
 -- ---- the limits

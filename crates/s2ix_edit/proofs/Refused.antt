@@ -13,7 +13,7 @@ use Rattle.s2ix_edit.specs.declared.edit.Edit.TheVariants.{Add}
 use Rattle.s2ix_edit.specs.declared.errors.EditError.{EditError}
 use Rattle.s2ix_edit.specs.declared.errors.EditError.TheVariants.{NoSuchLabel, NotHeld, NoChange, TooManyCopies, TooManyPairs}
 use Rattle.s2ix_edit.specs.Edit.{edited_alone}
-use Rattle.s2ix_edit.specs.State.{State, IsStore, after_edit, change_of, holding}
+use Rattle.s2ix_edit.specs.State.{State, IsStore, after_edit, change_of, with_held}
 use Rattle.s2ix_edit.specs.Plan.{Plans, after_record, entries_refusal, starting_at}
 use Rattle.s2ix_edit.specs.Refusals.{edit_refusal, has_count_above, lacks_label, takes_too_many}
 use Rattle.s2ix_edit.proofs.Taken.{above_from_count, any_above_changed, between_changed, none_above}
@@ -130,7 +130,7 @@ change_planned s edit es b plans =
 -- an edit makes what its planned entries make
 pub planned_state : (s : State) (edit : Edit) (es : List Entry) → IsBag s.bag → Plans s.bag edit es → after_record s es ≡ after_edit s edit
 planned_state s edit es b plans =
-    ap₂ (λ (hs : Collection) (ds : List Entry). let after : State = record { bag = holding s.bag hs; done = s.done ++ ds ∷ []; undone = [] } in after)
+    ap₂ (λ (hs : Collection) (ds : List Entry). let after : State = record { bag = with_held s.bag hs; done = s.done ++ ds ∷ []; undone = [] } in after)
     (plans.result ∙ sym (edited_held s edit)) (sym (change_planned s edit es b plans))
 
 -- the refusal of an edit, read off its planned entries or off a store with no history

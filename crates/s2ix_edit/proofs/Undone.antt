@@ -8,7 +8,7 @@ use Rattle.s2ix_bag.specs.Collection.{Collection}
 use Rattle.s2ix_bag.proofs.Inverse.{changed_inverse_between}
 use Rattle.s2ix_edit.specs.declared.edit.Edit.{Edit}
 use Rattle.s2ix_edit.specs.Edit.{edited}
-use Rattle.s2ix_edit.specs.State.{State, IsStore, after_edit, after_undo, after_undo_of, change_of, history_of, holding}
+use Rattle.s2ix_edit.specs.State.{State, IsStore, after_edit, after_undo, after_undo_of, change_of, history_of, with_held}
 use Rattle.s2ix_edit.proofs.Edited.{held_edited_is_collection}
 use Rattle.s2ix_edit.proofs.Places.{slice_get_last}
 
@@ -27,6 +27,6 @@ front_of done es =
 pub undo_of_edit : (s : State) (edit : Edit) → IsStore s → after_undo (after_edit s edit) ≡ record { bag = s.bag; done = s.done; undone = change_of s edit ∷ [] }
 undo_of_edit s edit st =
     undo_of_last (after_edit s edit) s.done (change_of s edit) refl
-    ∙ ap₂ (λ (hs : Collection) (done : List (List Entry)). let t : State = record { bag = holding s.bag hs; done = done; undone = change_of s edit ∷ [] } in t)
+    ∙ ap₂ (λ (hs : Collection) (done : List (List Entry)). let t : State = record { bag = with_held s.bag hs; done = done; undone = change_of s edit ∷ [] } in t)
     (changed_inverse_between s.bag.held (edited (history_of s) edit) st.bag.rises (held_edited_is_collection s edit st.bag.rises))
     (front_of s.done (change_of s edit))

@@ -24,15 +24,15 @@ abbrev pub changes_along : List Collection → List (List Entry)
 changes_along [] = []
 changes_along (hs ∷ rest) = changes_from hs rest
 
--- the history after an edit: what lies behind the cursor is cut, and the cursor moves on to the new collection
+-- the history after an edit: what lies behind the cursor is cut, and the cursor goes on to the new collection
 abbrev pub with_next : History → Collection → History
 with_next h hs = record { collections = take (h.cursor + 1) h.collections ++ hs ∷ []; cursor = h.cursor + 1 }
 
--- the history after an undo: the cursor moves back
+-- the history after an undo: the cursor goes back
 abbrev pub one_back : History → History
 one_back h = record { collections = h.collections; cursor = h.cursor - 1 }
 
--- the history after a redo: the cursor moves on
+-- the history after a redo: the cursor goes on
 abbrev pub one_on : History → History
 one_on h = record { collections = h.collections; cursor = h.cursor + 1 }
 
@@ -41,5 +41,5 @@ abbrev pub alone : Collection → History
 alone hs = record { collections = hs ∷ []; cursor = 0 }
 
 -- the history after it is forgotten: the cursor's collection and no other
-abbrev pub forgotten : History → History
-forgotten h = record { collections = take 1 (drop h.cursor h.collections); cursor = 0 }
+abbrev pub cursor_alone : History → History
+cursor_alone h = record { collections = take 1 (drop h.cursor h.collections); cursor = 0 }

@@ -13,8 +13,9 @@ use Rattle.s2ix_edit.specs.declared.edit.Edit.{Edit}
 use Rattle.s2ix_edit.specs.declared.errors.EditError.{EditError}
 use Rattle.s2ix_edit.specs.declared.errors.EditError.TheVariants.{NoChange, TooManyCopies, TooManyPairs}
 use Rattle.s2ix_edit.specs.Edit.{edited_alone}
-use Rattle.s2ix_edit.specs.State.{State, holding}
-use Rattle.s2ix_edit.specs.Refusals.{lacks_label, takes_too_many}
+use Rattle.s2ix_edit.specs.State.{State, with_held}
+use Rattle.s2ix_edit.specs.declared.errors.PlanError.{PlanError}
+use Rattle.s2ix_edit.specs.Refusals.{lacks_label, takes_too_many, edit_error, edit_refusal, IsEditRefusal}
 
 -- a store that stands at a bag and has no history
 abbrev pub starting_at : LimitedCollection → State
@@ -34,6 +35,11 @@ pub record Plans (bag : LimitedCollection) (edit : Edit) (es : List Entry) : Typ
   pub matches : first_mismatch bag es ≡ None
   pub result : changed bag.held es ≡ edited_alone edit bag.held
 
+-- the error says why the bag has no plan of the edit: it is the refusal of a store that starts at the bag, or memory was wanted
+-- where it may be
+abbrev pub IsPlanRefusal : LimitedCollection → Edit → PlanError → Type 0
+IsPlanRefusal bag edit error = IsEditRefusal (edit_error error) (edit_refusal (starting_at bag) edit)
+
 -- why a store refuses planned entries, memory aside: none of them, else a count after above the limit, else more
 -- distinct pairs than the limit; `None` where it takes them
 abbrev pub entries_refusal : LimitedCollection → List Entry → Option EditError
@@ -50,7 +56,7 @@ move_entries h gain =
 -- the store after planned entries: its bag has the counts after, and they are the last change that was done
 abbrev pub after_record : State → List Entry → State
 after_record s es = record {
-  bag = holding s.bag (changed s.bag.held es);
+  bag = with_held s.bag (changed s.bag.held es);
   done = s.done ++ es ∷ [];
   undone = [];
 }

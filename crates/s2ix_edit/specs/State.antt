@@ -1,4 +1,4 @@
--- The history that a store holds, and how each of its calls moves it.
+-- The history that a store holds, and what each of its calls makes of it.
 use Rattle.std.specs.Prelude.{◌≡◌, ℕ, ◌+◌, ◌-◌, ◌<◌, ◌≤◌, Option, Some, None, List, [], ◌∷◌, ◌++◌, length, take, reverse, slice_get}
 use Rattle.s2ix_bag.specs.declared.pair.Entry.{Entry}
 use Rattle.s2ix_bag.specs.Apply.{apply_refusal}
@@ -34,8 +34,8 @@ history_of s = record {
 }
 
 -- a bag with another collection
-abbrev pub holding : LimitedCollection → Collection → LimitedCollection
-holding bag hs = record { limits = bag.limits; held = hs }
+abbrev pub with_held : LimitedCollection → Collection → LimitedCollection
+with_held bag hs = record { limits = bag.limits; held = hs }
 
 -- the change that an edit records
 abbrev pub change_of : State → Edit → List Entry
@@ -44,7 +44,7 @@ change_of s edit = change_between s.bag.held (edited (history_of s) edit)
 -- the store after an accepted edit
 abbrev pub after_edit : State → Edit → State
 after_edit s edit = record {
-  bag = holding s.bag (edited (history_of s) edit);
+  bag = with_held s.bag (edited (history_of s) edit);
   done = s.done ++ change_of s edit ∷ [];
   undone = [];
 }
@@ -56,7 +56,7 @@ last_done s = slice_get s.done (length s.done - 1)
 -- the store after an undo that takes this change back
 abbrev pub after_undo_of : State → List Entry → State
 after_undo_of s es = record {
-  bag = holding s.bag (changed s.bag.held (inverse_of es));
+  bag = with_held s.bag (changed s.bag.held (inverse_of es));
   done = take (length s.done - 1) s.done;
   undone = s.undone ++ es ∷ [];
 }
@@ -76,7 +76,7 @@ last_undone s = slice_get s.undone (length s.undone - 1)
 -- the store after a redo that does this change again
 abbrev pub after_redo_of : State → List Entry → State
 after_redo_of s es = record {
-  bag = holding s.bag (changed s.bag.held es);
+  bag = with_held s.bag (changed s.bag.held es);
   done = s.done ++ es ∷ [];
   undone = take (length s.undone - 1) s.undone;
 }
@@ -97,13 +97,13 @@ after_forget s = record { bag = s.bag; done = []; undone = [] }
 abbrev pub CanGoBack : LimitedCollection → List (List Entry) → Type 0
 CanGoBack bag [] = Unit {0}
 CanGoBack bag (es ∷ older) =
-    IsChangeList es × (0 < length es) × (apply_refusal bag (inverse_of es) ≡ None) × CanGoBack (holding bag (changed bag.held (inverse_of es))) older
+    IsChangeList es × (0 < length es) × (apply_refusal bag (inverse_of es) ≡ None) × CanGoBack (with_held bag (changed bag.held (inverse_of es))) older
 
 -- changes that can be done to a bag one after the other
 abbrev pub CanGoOn : LimitedCollection → List (List Entry) → Type 0
 CanGoOn bag [] = Unit {0}
 CanGoOn bag (es ∷ rest) =
-    IsChangeList es × (0 < length es) × (apply_refusal bag es ≡ None) × CanGoOn (holding bag (changed bag.held es)) rest
+    IsChangeList es × (0 < length es) × (apply_refusal bag es ≡ None) × CanGoOn (with_held bag (changed bag.held es)) rest
 
 -- a store stands at one place of a history: each recorded change has entries and leads from one bag within the limits
 -- to the next

@@ -91,17 +91,6 @@ impl From<AllocError> for PlanError {
     }
 }
 
-impl<T: Drop> From<AllocFailed<T>> for PlanError {
-    ghost use Rattle.std.specs.Prelude.{◌≡◌};
-    ghost use Rattle.s2ix_edit.specs.declared.errors.PlanError.TheVariants.{OutOfMemory};
-
-    ghost from_gives = { λ _ error. error ≡ OutOfMemory };
-
-    fn from(_: AllocFailed<T>) -> Self {
-        PlanError::OutOfMemory
-    }
-}
-
 /// Why [`Store::undo`](crate::Store::undo) was refused.
 #[derive(Clone, Copy, Debug, PartialEq, Eq, Error)]
 pub enum UndoError {
@@ -124,17 +113,6 @@ impl From<OutOfMemory> for UndoError {
     }
 }
 
-impl From<AllocError> for UndoError {
-    ghost use Rattle.std.specs.Prelude.{◌≡◌};
-    ghost use Rattle.s2ix_edit.specs.declared.errors.UndoError.TheVariants.{OutOfMemory};
-
-    ghost from_gives = { λ _ error. error ≡ OutOfMemory };
-
-    fn from(_: AllocError) -> Self {
-        UndoError::OutOfMemory
-    }
-}
-
 /// Why [`Store::redo`](crate::Store::redo) was refused.
 #[derive(Clone, Copy, Debug, PartialEq, Eq, Error)]
 pub enum RedoError {
@@ -153,17 +131,6 @@ impl From<OutOfMemory> for RedoError {
     ghost from_gives = { λ _ error. error ≡ OutOfMemory };
 
     fn from(_: OutOfMemory) -> Self {
-        RedoError::OutOfMemory
-    }
-}
-
-impl From<AllocError> for RedoError {
-    ghost use Rattle.std.specs.Prelude.{◌≡◌};
-    ghost use Rattle.s2ix_edit.specs.declared.errors.RedoError.TheVariants.{OutOfMemory};
-
-    ghost from_gives = { λ _ error. error ≡ OutOfMemory };
-
-    fn from(_: AllocError) -> Self {
         RedoError::OutOfMemory
     }
 }

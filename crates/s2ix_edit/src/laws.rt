@@ -11,8 +11,8 @@ ghost use Rattle.s2ix_bag.specs.Pair.{rank_of};
 ghost use Rattle.s2ix_edit.specs.declared.edit.Edit.{Edit};
 ghost use Rattle.s2ix_edit.specs.declared.edit.Edit.TheVariants.{Add, AddUnion, Remove, DropLabel, Relabel};
 ghost use Rattle.s2ix_edit.specs.Edit.{edited, edited_alone, pair_of};
-ghost use Rattle.s2ix_edit.specs.History.{History, at_cursor, changes_along, forgotten, one_back, one_on, with_next};
-ghost use Rattle.s2ix_edit.specs.State.{State, IsStore, after_edit, after_forget, after_redo, after_undo, change_of, history_of, holding};
+ghost use Rattle.s2ix_edit.specs.History.{History, at_cursor, changes_along, cursor_alone, one_back, one_on, with_next};
+ghost use Rattle.s2ix_edit.specs.State.{State, IsStore, after_edit, after_forget, after_redo, after_undo, change_of, history_of, with_held};
 ghost use Rattle.s2ix_table.specs.Table.{Range, IsRangeTable};
 
 /// What an edit makes of the collection at the cursor of a history is what it makes of that collection alone; of a
@@ -107,7 +107,7 @@ pub fn store_stands_in_history()
         → slice_get (history_of s).collections (history_of s).cursor ≡ Some s.bag.held }
     ensures within { (s : State)
         → IsStore s
-        → All (λ hs. IsBag (holding s.bag hs)) (history_of s).collections }
+        → All (λ hs. IsBag (with_held s.bag hs)) (history_of s).collections }
     ensures number { (s : State)
         → length (history_of s).collections ≡ (history_of s).cursor + 1 + length s.undone }
     ensures changes { (s : State)
@@ -135,7 +135,7 @@ pub fn steps_follow_the_history()
         → IsStore s
         → s.undone ≢ []
         → history_of (after_redo s) ≡ one_on (history_of s) }
-    ensures forget { (s : State) → history_of (after_forget s) ≡ forgotten (history_of s) }
+    ensures forget { (s : State) → history_of (after_forget s) ≡ cursor_alone (history_of s) }
 {}
 
 /// `AddUnion` adds one copy under the label for each cell, and leaves every other count.

@@ -12,7 +12,9 @@ mod errors;
 pub mod laws;
 mod steps;
 mod store;
+mod store_table;
 
 pub use edit::Edit;
 pub use errors::{EditError, RedoError, UndoError};
-pub use store::{Store, StoreTable};
+pub use store::Store;
+pub use store_table::StoreTable;

@@ -1,24 +1,31 @@
-//! What edits, undos and redos are made of: a bag after a change, and a change shifted from one list to the other.
+//! What edits, undos and redos are made of: a bag after a change with its range table, and a change shifted from one list to
+//! the other.
 
-ghost use Rattle.std.specs.Prelude.{◌≡◌, ◌<◌, None, IfOk, IfErr, OnOk, vec_len, vec_capacity};
+ghost use Rattle.std.specs.Prelude.{◌≡◌, ◌<◌, None, IfOk, IfErr, OnOk, OnErr, vec_len};
 ghost use Rattle.s2ix_bag.specs.Apply.{apply_refusal, first_mismatch};
 ghost use Rattle.s2ix_bag.specs.Change.{changed};
 ghost use Rattle.s2ix_bag.specs.Collection.{IsBag};
 ghost use Rattle.s2ix_edit.specs.Plan.{entries_refusal, IsShifted};
 ghost use Rattle.s2ix_edit.specs.Refusals.{IsEditRefusal};
-ghost use Rattle.s2ix_edit.specs.State.{holding};
+ghost use Rattle.s2ix_edit.specs.State.{with_held};
 
 use crate::errors::EditError;
+use crate::store_table::StoreTable;
 use s2id_core::OutOfMemory;
 use s2ix_bag::{ApplyError, Bag, Change};
+use s2ix_table::RangeTable;
 use std::alloc::Global;
 
-/// The bag that planned entries make, or why a store refuses them.
-pub fn apply_planned(alloc: Global, bag: &Bag, change: &Change) -> Result<Bag, EditError>
+/// The bag that planned entries make, with its range table, or why a store refuses them.
+pub fn apply_planned(
+    alloc: Global,
+    bag: &Bag,
+    change: &Change,
+) -> Result<(Bag, StoreTable), EditError>
     requires { first_mismatch bag.now change.now ≡ None }
-    ensures made { IfOk result (λ after.
-        after ≡ holding bag.now (changed bag.now.held change.now)) }
-    ensures within { IfOk result IsBag }
+    ensures made { IfOk result (λ after. after.0 ≡ with_held bag.now (changed bag.now.held change.now)) }
+    ensures within { IfOk result (λ after. IsBag after.0) }
+    ensures table { IfOk result (λ after. ⟦<StoreTable as RangeTable>⟧.pairs after.1 ≡ after.0.held) }
     ensures fits { OnOk result (apply_refusal bag.now change.now ≡ None) }
     ensures accepted { OnOk result (entries_refusal bag.now change.now ≡ None) }
     ensures refused { IfErr result (λ error.
@@ -28,7 +35,10 @@ pub fn apply_planned(alloc: Global, bag: &Bag, change: &Change) -> Result<Bag, E
         return Err(EditError::NoChange);
     }
     match bag.applied(alloc, change) {
-        Ok(after) => Ok(after),
+        Ok(after) => {
+            let table = StoreTable::build(alloc, &after)?;
+            Ok((after, table))
+        }
         Err(ApplyError::Mismatch(_)) => unreachable!(),
         Err(ApplyError::TooManyCopies) => Err(EditError::TooManyCopies),
         Err(ApplyError::TooManyPairs) => Err(EditError::TooManyPairs),
@@ -36,15 +46,22 @@ pub fn apply_planned(alloc: Global, bag: &Bag, change: &Change) -> Result<Bag, E
     }
 }
 
-/// The bag that a recorded change makes: only memory can be wanting.
-pub fn apply_recorded(alloc: Global, bag: &Bag, change: &Change) -> Result<Bag, OutOfMemory>
+/// The bag that a recorded change makes, with its range table: only memory can be wanting.
+pub fn apply_recorded(
+    alloc: Global,
+    bag: &Bag,
+    change: &Change,
+) -> Result<(Bag, StoreTable), OutOfMemory>
     requires { apply_refusal bag.now change.now ≡ None }
-    ensures made { IfOk result (λ after.
-        after ≡ holding bag.now (changed bag.now.held change.now)) }
-    ensures within { IfOk result IsBag }
+    ensures made { IfOk result (λ next. next.0 ≡ with_held bag.now (changed bag.now.held change.now)) }
+    ensures within { IfOk result (λ next. IsBag next.0) }
+    ensures table { IfOk result (λ next. ⟦<StoreTable as RangeTable>⟧.pairs next.1 ≡ next.0.held) }
 {
     match bag.applied(alloc, change) {
-        Ok(after) => Ok(after),
+        Ok(next) => {
+            let table = StoreTable::build(alloc, &next)?;
+            Ok((next, table))
+        }
         Err(ApplyError::Mismatch(_)) => unreachable!(),
         Err(ApplyError::TooManyCopies) => unreachable!(),
         Err(ApplyError::TooManyPairs) => unreachable!(),
@@ -52,19 +69,20 @@ pub fn apply_recorded(alloc: Global, bag: &Bag, change: &Change) -> Result<Bag, 
     }
 }
 
-/// Shifts the last change of one list to the end of the other, and answers how many pairs it has. It takes no
-/// memory.
-pub fn shift_last(from: &mut Vec<Change>, to: &mut Vec<Change>) -> usize
-    requires some { 0 < vec_len from.old }
-    requires room { vec_len to.old < vec_capacity to.old }
-    ensures shifted { IsShifted from.old.items to.old.items from.new.items to.new.items result }
+/// Shifts the last change of one list to the end of the other, and answers how many pairs it has. Where a growth is
+/// refused both lists stay.
+pub fn shift_last(from: &mut Vec<Change>, to: &mut Vec<Change>) -> Result<usize, OutOfMemory>
+    requires { 0 < vec_len from.old }
+    ensures shifted { IfOk result (IsShifted from.old.items to.old.items from.new.items to.new.items) }
+    ensures stay { OnErr result ((from.new.items ≡ from.old.items) × (to.new.items ≡ to.old.items)) }
 {
+    to.reserve(1)?;
     let Some(change) = from.pop() else {
         unreachable!()
     };
     let number = change.entries().len();
     match to.push(change) {
-        Ok(()) => number,
+        Ok(()) => Ok(number),
         Err(_) => unreachable!(),
     }
 }

@@ -1,4 +1,4 @@
-ghost use Rattle.std.specs.Prelude.{◌≡◌, ◌≢◌, ℕ, ◌↔◌, ◌<◌, [], ◌∷◌, length, None, IfOk, IfErr, OnOk, OnErr};
+ghost use Rattle.std.specs.Prelude.{◌≡◌, ◌≢◌, ◌↔◌, ◌<◌, [], ◌∷◌, length, None, IfOk, IfErr, OnOk, OnErr};
 ghost use Rattle.s2ix_bag.specs.Apply.{first_mismatch};
 ghost use Rattle.s2ix_bag.specs.declared.pair.Pair.{Pair};
 ghost use Rattle.s2ix_bag.specs.Change.{counts_at, difference_of};
@@ -6,7 +6,7 @@ ghost use Rattle.s2ix_bag.specs.Collection.{count_in};
 ghost use Rattle.s2ix_bag.specs.Limits.{changes_limit};
 ghost use Rattle.s2ix_bag.specs.Pair.{rank_of};
 ghost use Rattle.s2ix_edit.specs.Edit.{edited};
-ghost use Rattle.s2ix_edit.specs.History.{alone, forgotten, one_back, one_on, with_next};
+ghost use Rattle.s2ix_edit.specs.History.{alone, cursor_alone, one_back, one_on, with_next};
 ghost use Rattle.s2ix_edit.specs.Plan.{after_record, entries_refusal, starting_at};
 ghost use Rattle.s2ix_edit.specs.Refusals.{edit_refusal, IsEditRefusal};
 ghost use Rattle.s2ix_edit.specs.State.{State, IsStore, after_edit, after_forget, after_redo, after_undo, change_of, history_of, redo_size, undo_size};
@@ -16,14 +16,12 @@ use crate::edit::Edit;
 use crate::edits;
 use crate::errors::{EditError, RedoError, UndoError};
 use crate::steps::{apply_planned, apply_recorded, shift_last};
+use crate::store_table::StoreTable;
 use s2id_core::OutOfMemory;
 use s2ix_bag::{Bag, Change, Limits};
-use s2ix_table::{CopiedTable, RangeTable};
+use s2ix_table::RangeTable;
 use std::alloc::Global;
 use std::marker::Model;
-
-/// The range table that a [`Store`] keeps of its collection.
-pub type StoreTable = CopiedTable;
 
 /// A collection with its history and its range table. Contracts see a store as its bag with the changes that were
 /// done and undone; the table is always that of the bag. This project's own.
@@ -61,8 +59,7 @@ impl Store {
     }
 
     /// A store that starts from its bag, with the bag's limits and nothing to undo or redo. `OutOfMemory` where a
-    /// growth of its table is refused; the bag is let go then. O(r * n) for n pairs held and r ranges of the table, at
-    /// most 2 * n + 1.
+    /// growth of its table is refused; the bag is let go then. It takes what [`StoreTable`] takes to be built of the bag.
     pub fn from_bag(alloc: Global, bag: Bag) -> Result<Store, OutOfMemory>
         ensures state { IfOk result (λ store. store ≡ starting_at bag) }
         ensures history { IfOk result (λ store. history_of store ≡ alone bag.held) }
@@ -79,8 +76,8 @@ impl Store {
 
     /// Carries an edit out, and answers how many pairs changed their counts. An accepted edit records the change
     /// at the end of `done` and empties `undone`; a refused one changes nothing. [`EditError`] says when each
-    /// refusal stands. O(n + m) for n pairs held and m in the change, what it takes to let the undone go, and the
-    /// table of the new bag: O(r * n) for its r ranges.
+    /// refusal stands. O(n + m) for n pairs held and m in the change, what it takes to let the undone go, and what
+    /// [`StoreTable`] takes to be built of the new bag.
     pub fn edit(&mut self, edit: &Edit) -> Result<usize, EditError>
         ensures state { OnOk result (self.new ≡ after_edit self.old edit.now) }
         ensures history { OnOk result (history_of self.new
@@ -113,8 +110,7 @@ impl Store {
         ensures unchanged { OnErr result (self.new ≡ self.old) }
     {
         let number = change.entries().len();
-        let bag = apply_planned(self.alloc, &self.bag, &change)?;
-        let table = StoreTable::build(self.alloc, &bag)?;
+        let (bag, table) = apply_planned(self.alloc, &self.bag, &change)?;
         self.done.push(change)?;
         self.undone.clear();
         self.bag = bag;
@@ -124,7 +120,7 @@ impl Store {
 
     /// Takes the last change back, and answers how many pairs it had. The change goes to the end of `undone`.
     /// `NothingToUndo` is tested first; after it only memory can be wanting. O(n + m) for n pairs held and m in
-    /// the change, and the table of the new bag: O(r * n) for its r ranges.
+    /// the change, and what [`StoreTable`] takes to be built of the new bag.
     pub fn undo(&mut self) -> Result<usize, UndoError>
         ensures state { OnOk result (self.new ≡ after_undo self.old) }
         ensures history { OnOk result (history_of self.new ≡ one_back (history_of self.old)) }
@@ -141,10 +137,8 @@ impl Store {
             return Err(UndoError::NothingToUndo);
         };
         let inverse = last.inverse(self.alloc)?;
-        let bag = apply_recorded(self.alloc, &self.bag, &inverse)?;
-        let table = StoreTable::build(self.alloc, &bag)?;
-        self.undone.reserve(1)?;
-        let number = shift_last(&mut self.done, &mut self.undone);
+        let (bag, table) = apply_recorded(self.alloc, &self.bag, &inverse)?;
+        let number = shift_last(&mut self.done, &mut self.undone)?;
         self.bag = bag;
         self.table = table;
         Ok(number)
@@ -152,8 +146,8 @@ impl Store {
 
     /// Does the last undone change again, and answers how many pairs it has. The change goes back to the end of
     /// `done`. `NothingToRedo` is tested first; after it only memory can be wanting, and the journal is never
-    /// full: an undo keeps the room of its change. O(n + m) for n pairs held and m in the change, and the table of
-    /// the new bag: O(r * n) for its r ranges.
+    /// full: an undo keeps the room of its change. O(n + m) for n pairs held and m in the change, and what
+    /// [`StoreTable`] takes to be built of the new bag.
     pub fn redo(&mut self) -> Result<usize, RedoError>
         ensures state { OnOk result (self.new ≡ after_redo self.old) }
         ensures history { OnOk result (history_of self.new ≡ one_on (history_of self.old)) }
@@ -169,10 +163,8 @@ impl Store {
         let Some(last) = self.undone.last() else {
             return Err(RedoError::NothingToRedo);
         };
-        let bag = apply_recorded(self.alloc, &self.bag, last)?;
-        let table = StoreTable::build(self.alloc, &bag)?;
-        self.done.reserve(1)?;
-        let number = shift_last(&mut self.undone, &mut self.done);
+        let (bag, table) = apply_recorded(self.alloc, &self.bag, last)?;
+        let number = shift_last(&mut self.undone, &mut self.done)?;
         self.bag = bag;
         self.table = table;
         Ok(number)
@@ -181,7 +173,7 @@ impl Store {
     /// Keeps the collection and lets all changes go: nothing is left to undo or redo. It takes no memory.
     pub fn forget(&mut self)
         ensures state { self.new ≡ after_forget self.old }
-        ensures history { history_of self.new ≡ forgotten (history_of self.old) }
+        ensures history { history_of self.new ≡ cursor_alone (history_of self.old) }
     {
         self.done.clear();
         self.undone.clear();

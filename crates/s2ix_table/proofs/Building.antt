@@ -13,7 +13,7 @@ use Rattle.s2ix_table.specs.Copied.{range_of, ranges_of}
 use Rattle.s2ix_table.specs.Table.{Range, range_at, leaf_end, IsTableOver, IsRangeTable, IsFound}
 use Rattle.s2ix_table.specs.Filter.{IsNextBound, IsBound}
 use Rattle.s2ix_table.proofs.Over.{span_of}
-use Rattle.s2ix_table.proofs.Ranges.{IsTable, IsRangeFrom, changes_at, stays_between, table_push, places_from_table}
+use Rattle.s2ix_table.proofs.Tables.{IsTable, IsRangeFrom, changes_at, stays_between, table_push, places_from_table}
 
 -- ---- the next bound
 

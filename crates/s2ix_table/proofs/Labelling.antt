@@ -38,10 +38,10 @@ rising ys zs sorted filtered =
     subst (λ l. AllPairs (λ x y. value_of x < value_of y) l) (sym is) (λ i j d lt within. less_value _ _ (Less-from_sorted by_value (dedup same_value ys) i j d strict lt within))
 
 same_members : (xs ys zs : List Label) → IsPermutation xs ys → IsFiltered (DiffersFromLast same_value) [] ys zs → (x : Label) → Contains xs x ↔ Contains zs x
-same_members xs ys zs moved filtered x =
+same_members xs ys zs permutes filtered x =
     let is = dedup_is same_value ys zs filtered in (
-      λ c. subst (λ l. Contains l x) (sym is) (Contains-dedup (on_equiv (λ (l : Label). l.value) nat_eq_equiv) one_by_value ys x (Contains-permutation xs ys x moved c)),
-      λ c. Contains-permutation ys xs x (IsPermutation-sym xs ys moved) (Contains-from_dedup same_value ys x (subst (λ l. Contains l x) is c)),
+      λ c. subst (λ l. Contains l x) (sym is) (Contains-dedup (on_equiv (λ (l : Label). l.value) nat_eq_equiv) one_by_value ys x (Contains-permutation xs ys x permutes c)),
+      λ c. Contains-permutation ys xs x (IsPermutation-sym xs ys permutes) (Contains-from_dedup same_value ys x (subst (λ l. Contains l x) is c)),
     )
 
 abbrev pub label_of : Held → Label
@@ -64,11 +64,11 @@ held_label (x ∷ hs) l h c e =
     ]
 
 -- the sorted labels of a meeting list, each once, are its label list
-pub label_list : (meeting : Collection) (xs ys zs : List Label) → xs ≡ map label_of meeting → IsPermutation xs ys → IsSorted by_value ys → IsFiltered (DiffersFromLast same_value) [] ys zs → IsLabelList meeting zs
-label_list meeting xs ys zs is moved sorted filtered = record {
+pub label_list_from_sorted : (meeting : Collection) (xs ys zs : List Label) → xs ≡ map label_of meeting → IsPermutation xs ys → IsSorted by_value ys → IsFiltered (DiffersFromLast same_value) [] ys zs → IsLabelList meeting zs
+label_list_from_sorted meeting xs ys zs is permutes sorted filtered = record {
   rises = rising ys zs sorted filtered;
   each = λ l.
-      let same = same_members xs ys zs moved filtered l in (
+      let same = same_members xs ys zs permutes filtered l in (
         λ c. label_held meeting l (subst (λ ls. Contains ls l) is (same.1 c)),
         λ r. same.0 (subst (λ ls. Contains ls l) (sym is) (held_label meeting l r.0 r.1 r.2)),
       );

@@ -1,6 +1,6 @@
 pub mod InOrder
 pub mod Over
-pub mod Ranges
+pub mod Tables
 pub mod FirstShared
 pub mod Meetings
 pub mod Building

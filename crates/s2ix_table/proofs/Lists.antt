@@ -17,12 +17,12 @@ use Rattle.s2ix_bag.specs.Pair.{rank_of}
 use Rattle.s2ix_bag.specs.declared.label.Label.{Label}
 use Rattle.s2ix_bag.specs.declared.pair.Held.{Held}
 use Rattle.s2ix_table.specs.Contents.{IsDeeper, IsContents, covers, depth_key, contents_at}
-use Rattle.s2ix_table.specs.InOrder.{inserted}
+use Rattle.s2ix_table.specs.InOrder.{insertion}
 use Rattle.s2ix_table.specs.Meeting.{IsFirstShared, IsMetBefore, IsMeetingList, IsLabelList, first_shared, meeting_key, is_met_from, meeting_from, meeting_of}
 use Rattle.s2ix_table.specs.Table.{leaf_end}
-use Rattle.s2ix_table.proofs.InOrder.{in_chosen, chosen_has}
+use Rattle.s2ix_table.proofs.InOrder.{in_choice, choice_has}
 use Rattle.s2ix_table.proofs.Over.{IsOver, over-true, in_contents, contents_has, level_at_most, level_by_key, nested_over, depth_bound, span_of}
-use Rattle.s2ix_table.proofs.Rising.{same_rising, AreApart, strictly_chosen, chosen_more_in, chosen_more_out, strict_pairs}
+use Rattle.s2ix_table.proofs.Rising.{same_rising, AreApart, strictly_choice, choice_more_in, choice_more_out, strict_pairs}
 use Rattle.s2ix_table.proofs.FirstShared.{shared_le, shared_is}
 
 -- ---- order by depth
@@ -80,22 +80,22 @@ apart_over q n (h ∷ hs) c = (
 )
 
 -- the contents with the pairs before a place, and with that one
-pub contents_more_in : (q k : ℕ) (hs : Collection) (h : Held) → IsCollection hs → k < length hs → h ≡ get_or hs k h → covers q h ≡ true → contents_at q (take (k + 1) hs) ≡ inserted depth_key h (contents_at q (take k hs))
+pub contents_more_in : (q k : ℕ) (hs : Collection) (h : Held) → IsCollection hs → k < length hs → h ≡ get_or hs k h → covers q h ≡ true → contents_at q (take (k + 1) hs) ≡ insertion depth_key h (contents_at q (take k hs))
 unfolding contents_at
 contents_more_in q k hs h c lt is t =
     let more = take_more hs k h lt ∙ ap (λ (y : Held). take k hs ++ y ∷ []) (sym is) in
-    ap (contents_at q) more ∙ chosen_more_in (covers q) depth_key h (take k hs) (subst (AreApart (covers q) depth_key) more (apart_over q 0 (take (k + 1) hs) (collection_take (k + 1) 0 hs c))) t
+    ap (contents_at q) more ∙ choice_more_in (covers q) depth_key h (take k hs) (subst (AreApart (covers q) depth_key) more (apart_over q 0 (take (k + 1) hs) (collection_take (k + 1) 0 hs c))) t
 
 pub contents_more_out : (q k : ℕ) (hs : Collection) (h : Held) → k < length hs → h ≡ get_or hs k h → covers q h ≡ false → contents_at q (take (k + 1) hs) ≡ contents_at q (take k hs)
 unfolding contents_at
 contents_more_out q k hs h lt is f =
     let more = take_more hs k h lt ∙ ap (λ (y : Held). take k hs ++ y ∷ []) (sym is) in
-    ap (contents_at q) more ∙ chosen_more_out (covers q) depth_key h (take k hs) f
+    ap (contents_at q) more ∙ choice_more_out (covers q) depth_key h (take k hs) f
 
 contents_deepen : (q : ℕ) (hs : Collection) → IsCollection hs → AllPairs IsDeeper (contents_at q hs)
 unfolding contents_at
 contents_deepen q hs c i j d lt within =
-    deeper_from_key _ _ (strict_pairs depth_key (contents_at q hs) (strictly_chosen (covers q) depth_key hs (apart_over q 0 hs c)) i j d lt within)
+    deeper_from_key _ _ (strict_pairs depth_key (contents_at q hs) (strictly_choice (covers q) depth_key hs (apart_over q 0 hs c)) i j d lt within)
 
 pub contents_of_leaf : (held : Collection) (leaf : Path) → IsCollection held → IsLeafPath leaf → IsContents leaf held (contents_at (number_of leaf) held)
 contents_of_leaf held leaf c deep = record {
@@ -214,10 +214,10 @@ apart_met target n (h ∷ hs) c = (
 pub meeting_list : (target : List CellId) (held : Collection) → IsCollection held → IsMeetingList target held (meeting_of target held)
 unfolding meeting_from
 meeting_list target held c = record {
-  rises = λ i j d lt within. met_in_order target _ _ (strict_pairs (meeting_key target) (meeting_of target held) (strictly_chosen (is_met_from target 1) (meeting_key target) held (apart_met target 0 held c)) i j d lt within);
+  rises = λ i j d lt within. met_in_order target _ _ (strict_pairs (meeting_key target) (meeting_of target held) (strictly_choice (is_met_from target 1) (meeting_key target) held (apart_met target 0 held c)) i j d lt within);
   each = λ h. (
     λ k.
-        let r = in_chosen (is_met_from target 1) (meeting_key target) held h k in
+        let r = in_choice (is_met_from target 1) (meeting_key target) held h k in
         let has = first_leaf_of target h.pair.cell (is_met target h r.1) in
         (r.0, (has.leaf, has.first.of_cell, has.first.of_target)),
     λ k.
@@ -226,7 +226,7 @@ meeting_list target held c = record {
         let from = s.from in
         let span = span_of h in
         let begins = span.begins in
-        chosen_has (is_met_from target 1) (meeting_key target) held h k.0 (and_from _ _ (le-leb 1 (first_shared target h.pair.cell) (omega arith)) (lt-ltb _ _ lt)),
+        choice_has (is_met_from target 1) (meeting_key target) held h k.0 (and_from _ _ (le-leb 1 (first_shared target h.pair.cell) (omega arith)) (lt-ltb _ _ lt)),
   );
 }
 

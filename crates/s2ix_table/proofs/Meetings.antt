@@ -9,12 +9,12 @@ use Rattle.s2id_union.specs.Covers.{Covers}
 use Rattle.s2id_union.proofs.Lists.{at_head, in_tail}
 use Rattle.s2ix_bag.specs.declared.pair.Held.{Held}
 use Rattle.s2ix_bag.specs.Collection.{Collection}
-use Rattle.s2ix_table.specs.InOrder.{inserted, chosen}
+use Rattle.s2ix_table.specs.InOrder.{insertion, choice}
 use Rattle.s2ix_table.specs.Contents.{covers, depth_key, contents_at}
 use Rattle.s2ix_table.specs.Table.{leaf_end}
 use Rattle.s2ix_table.specs.Meeting.{first_shared, meeting_key, is_met_from, meeting_from}
 use Rattle.s2ix_table.specs.WalkState.{front_from}
-use Rattle.s2ix_table.proofs.InOrder.{every_chosen, every_weaker, chosen_in, chosen_out, chosen_none}
+use Rattle.s2ix_table.proofs.InOrder.{every_choice, every_weaker, choice_in, choice_out, choice_none}
 use Rattle.s2ix_table.proofs.Over.{IsOver, span_of, over-true, covers-from, every_content, contents_in, contents_out, nested_over, depth_bound}
 use Rattle.s2ix_table.proofs.FirstShared.{shared_le, shared_is}
 
@@ -37,36 +37,36 @@ every_front P from (h ∷ hs) all =
       | inr le ↦ subst (AllByRecursion P) (sym (front_here from h hs le)) (all.0 le, every_front P from hs all.1)
     ]
 
-before : (x y : Held) (ys : Collection) → depth_key x < depth_key y → inserted depth_key x (y ∷ ys) ≡ x ∷ y ∷ ys
-unfolding inserted
+before : (x y : Held) (ys : Collection) → depth_key x < depth_key y → insertion depth_key x (y ∷ ys) ≡ x ∷ y ∷ ys
+unfolding insertion
 before x y ys lt = cond-true _ _ _ (lt-ltb _ _ lt)
 
-behind : (x y : Held) (ys : Collection) → depth_key y ≤ depth_key x → inserted depth_key x (y ∷ ys) ≡ y ∷ inserted depth_key x ys
-unfolding inserted
+behind : (x y : Held) (ys : Collection) → depth_key y ≤ depth_key x → insertion depth_key x (y ∷ ys) ≡ y ∷ insertion depth_key x ys
+unfolding insertion
 behind x y ys le = cond-false _ _ _ (le-ltb _ _ le)
 
 -- a pair that begins late enough goes into the front
-front_new : (q from : ℕ) (h : Held) (hs : Collection) → IsOver h q → from ≤ first_of h.pair.cell → AllByRecursion (λ a. IsOver a q) hs → front_from from (inserted depth_key h hs) ≡ inserted depth_key h (front_from from hs)
-unfolding front_from inserted
+front_new : (q from : ℕ) (h : Held) (hs : Collection) → IsOver h q → from ≤ first_of h.pair.cell → AllByRecursion (λ a. IsOver a q) hs → front_from from (insertion depth_key h hs) ≡ insertion depth_key h (front_from from hs)
+unfolding front_from insertion
 front_new q from h [] over le all = front_here from h [] le
 front_new q from h (y ∷ ys) over le all =
     elim (cases_lt (depth_key h) (depth_key y)) [
       | inl lt ↦
           elim (cases_lt (first_of y.pair.cell) from) [
             | inl early ↦
-                ap (front_from from) (before h y ys lt) ∙ front_here from h (y ∷ ys) le ∙ ap (λ zs. h ∷ zs) (front_stops from y ys early) ∙ ap (inserted depth_key h) (sym (front_stops from y ys early))
+                ap (front_from from) (before h y ys lt) ∙ front_here from h (y ∷ ys) le ∙ ap (λ zs. h ∷ zs) (front_stops from y ys early) ∙ ap (insertion depth_key h) (sym (front_stops from y ys early))
             | inr late ↦
-                ap (front_from from) (before h y ys lt) ∙ front_here from h (y ∷ ys) le ∙ ap (λ zs. h ∷ zs) (front_here from y ys late) ∙ sym (before h y (front_from from ys) lt) ∙ ap (inserted depth_key h) (sym (front_here from y ys late))
+                ap (front_from from) (before h y ys lt) ∙ front_here from h (y ∷ ys) le ∙ ap (λ zs. h ∷ zs) (front_here from y ys late) ∙ sym (before h y (front_from from ys) lt) ∙ ap (insertion depth_key h) (sym (front_here from y ys late))
           ]
       | inr ge ↦
           (let order = (nested_over q y h all.0 over ge).from in
           let late : from ≤ first_of y.pair.cell = omega arith in
-          ap (front_from from) (behind h y ys ge) ∙ front_here from y (inserted depth_key h ys) late ∙ ap (λ zs. y ∷ zs) (front_new q from h ys over le all.1) ∙ sym (behind h y (front_from from ys) ge) ∙ ap (inserted depth_key h) (sym (front_here from y ys late)))
+          ap (front_from from) (behind h y ys ge) ∙ front_here from y (insertion depth_key h ys) late ∙ ap (λ zs. y ∷ zs) (front_new q from h ys over le all.1) ∙ sym (behind h y (front_from from ys) ge) ∙ ap (insertion depth_key h) (sym (front_here from y ys late)))
     ]
 
 -- one that begins before changes nothing
-front_old : (q from : ℕ) (h : Held) (hs : Collection) → IsOver h q → first_of h.pair.cell < from → AllByRecursion (λ a. IsOver a q) hs → front_from from (inserted depth_key h hs) ≡ front_from from hs
-unfolding front_from inserted
+front_old : (q from : ℕ) (h : Held) (hs : Collection) → IsOver h q → first_of h.pair.cell < from → AllByRecursion (λ a. IsOver a q) hs → front_from from (insertion depth_key h hs) ≡ front_from from hs
+unfolding front_from insertion
 front_old q from h [] over early all = front_stops from h [] early
 front_old q from h (y ∷ ys) over early all =
     elim (cases_lt (depth_key h) (depth_key y)) [
@@ -77,35 +77,35 @@ front_old q from h (y ∷ ys) over early all =
       | inr ge ↦
           elim (cases_lt (first_of y.pair.cell) from) [
             | inl too ↦
-                ap (front_from from) (behind h y ys ge) ∙ front_stops from y (inserted depth_key h ys) too ∙ sym (front_stops from y ys too)
+                ap (front_from from) (behind h y ys ge) ∙ front_stops from y (insertion depth_key h ys) too ∙ sym (front_stops from y ys too)
             | inr late ↦
-                ap (front_from from) (behind h y ys ge) ∙ front_here from y (inserted depth_key h ys) late ∙ ap (λ zs. y ∷ zs) (front_old q from h ys over early all.1) ∙ sym (front_here from y ys late)
+                ap (front_from from) (behind h y ys ge) ∙ front_here from y (insertion depth_key h ys) late ∙ ap (λ zs. y ∷ zs) (front_old q from h ys over early all.1) ∙ sym (front_here from y ys late)
           ]
     ]
 
 -- ---- one pair more in a list of two parts
 
-inserted_before_all : (key : Held → ℕ) (x : Held) (xs : Collection) → AllByRecursion (λ b. key x < key b) xs → inserted key x xs ≡ x ∷ xs
-unfolding inserted
-inserted_before_all key x [] all = refl
-inserted_before_all key x (y ∷ ys) all = cond-true _ _ _ (lt-ltb _ _ all.0)
+insertion_before_all : (key : Held → ℕ) (x : Held) (xs : Collection) → AllByRecursion (λ b. key x < key b) xs → insertion key x xs ≡ x ∷ xs
+unfolding insertion
+insertion_before_all key x [] all = refl
+insertion_before_all key x (y ∷ ys) all = cond-true _ _ _ (lt-ltb _ _ all.0)
 
-inserted_left : (key depth : Held → ℕ) (x : Held) (xs ys : Collection) → AllByRecursion (λ a. ltb (key x) (key a) ≡ ltb (depth x) (depth a)) xs → AllByRecursion (λ b. key x < key b) ys → inserted key x (xs ++ ys) ≡ inserted depth x xs ++ ys
-unfolding inserted
-inserted_left key depth x [] ys same later = inserted_before_all key x ys later
-inserted_left key depth x (a ∷ xs) ys same later =
-    let rest = inserted_left key depth x xs ys same.1 later in
-    ap (λ b. cond b (x ∷ a ∷ (xs ++ ys)) (a ∷ inserted key x (xs ++ ys))) same.0
-    ∙ elim (ltb (depth x) (depth a)) as (λ b. cond b (x ∷ a ∷ (xs ++ ys)) (a ∷ inserted key x (xs ++ ys)) ≡ cond b (x ∷ a ∷ xs) (a ∷ inserted depth x xs) ++ ys) [
+insertion_left : (key depth : Held → ℕ) (x : Held) (xs ys : Collection) → AllByRecursion (λ a. ltb (key x) (key a) ≡ ltb (depth x) (depth a)) xs → AllByRecursion (λ b. key x < key b) ys → insertion key x (xs ++ ys) ≡ insertion depth x xs ++ ys
+unfolding insertion
+insertion_left key depth x [] ys same later = insertion_before_all key x ys later
+insertion_left key depth x (a ∷ xs) ys same later =
+    let rest = insertion_left key depth x xs ys same.1 later in
+    ap (λ b. cond b (x ∷ a ∷ (xs ++ ys)) (a ∷ insertion key x (xs ++ ys))) same.0
+    ∙ elim (ltb (depth x) (depth a)) as (λ b. cond b (x ∷ a ∷ (xs ++ ys)) (a ∷ insertion key x (xs ++ ys)) ≡ cond b (x ∷ a ∷ xs) (a ∷ insertion depth x xs) ++ ys) [
       | true ↦ refl
       | false ↦ ap (λ zs. a ∷ zs) rest
     ]
 
-inserted_right : (key : Held → ℕ) (x : Held) (xs ys : Collection) → AllByRecursion (λ a. key a ≤ key x) xs → inserted key x (xs ++ ys) ≡ xs ++ inserted key x ys
-unfolding inserted
-inserted_right key x [] ys all = refl
-inserted_right key x (a ∷ xs) ys all =
-    cond-false _ _ _ (le-ltb _ _ all.0) ∙ ap (λ zs. a ∷ zs) (inserted_right key x xs ys all.1)
+insertion_right : (key : Held → ℕ) (x : Held) (xs ys : Collection) → AllByRecursion (λ a. key a ≤ key x) xs → insertion key x (xs ++ ys) ≡ xs ++ insertion key x ys
+unfolding insertion
+insertion_right key x [] ys all = refl
+insertion_right key x (a ∷ xs) ys all =
+    cond-false _ _ _ (le-ltb _ _ all.0) ∙ ap (λ zs. a ∷ zs) (insertion_right key x xs ys all.1)
 
 -- ---- a range that is met
 
@@ -212,13 +212,13 @@ kind_of target held seen at next h step in_held =
 
 -- ---- the meeting list with one pair more
 
-meeting_in : (target : List CellId) (from : ℕ) (h : Held) (hs : Collection) → is_met_from target from h ≡ true → meeting_from target from (h ∷ hs) ≡ inserted (meeting_key target) h (meeting_from target from hs)
+meeting_in : (target : List CellId) (from : ℕ) (h : Held) (hs : Collection) → is_met_from target from h ≡ true → meeting_from target from (h ∷ hs) ≡ insertion (meeting_key target) h (meeting_from target from hs)
 unfolding meeting_from
-meeting_in target from h hs t = chosen_in (is_met_from target from) (meeting_key target) h hs t
+meeting_in target from h hs t = choice_in (is_met_from target from) (meeting_key target) h hs t
 
 meeting_out : (target : List CellId) (from : ℕ) (h : Held) (hs : Collection) → is_met_from target from h ≡ false → meeting_from target from (h ∷ hs) ≡ meeting_from target from hs
 unfolding meeting_from
-meeting_out target from h hs t = chosen_out (is_met_from target from) (meeting_key target) h hs t
+meeting_out target from h hs t = choice_out (is_met_from target from) (meeting_key target) h hs t
 
 -- what the two parts have
 
@@ -238,7 +238,7 @@ new_part target seen at next hs kinds =
 later_part : (target : List CellId) (next : ℕ) (hs : Collection) → AllByRecursion (λ b. next ≤ first_shared target b.pair.cell) (meeting_from target next hs)
 unfolding meeting_from
 later_part target next hs =
-    every_chosen (λ b. next ≤ first_shared target b.pair.cell) (is_met_from target next) (meeting_key target) hs (λ h held t.
+    every_choice (λ b. next ≤ first_shared target b.pair.cell) (is_met_from target next) (meeting_key target) hs (λ h held t.
     leb-true next (first_shared target h.pair.cell) (and_parts (leb next (first_shared target h.pair.cell)) (ltb (first_shared target h.pair.cell) leaf_end) t).0)
 
 same_key_test : (target : List CellId) (x a : Held) → first_shared target x.pair.cell ≡ first_shared target a.pair.cell → ltb (meeting_key target x) (meeting_key target a) ≡ ltb (depth_key x) (depth_key a)
@@ -257,7 +257,7 @@ lower_key target x a lt = let b = depth_bound x in below (first_shared target x.
 
 -- the meeting list from `seen` on: what is new here, and what comes later
 pub met_here : (target : List CellId) (seen at next : ℕ) (hs : Collection) → at < leaf_end → seen ≤ at → at < next → ((h : Held) → Contains hs h → IsKind target seen at next h) → meeting_from target seen hs ≡ front_from seen (contents_at at hs) ++ meeting_from target next hs
-unfolding meeting_from contents_at chosen front_from
+unfolding meeting_from contents_at choice front_from
 met_here target seen at next [] on reached after kinds = refl
 met_here target seen at next (h ∷ hs) on reached after kinds =
     let rest = met_here target seen at next hs on reached after (λ x held. kinds x (in_tail h hs x held)) in
@@ -268,8 +268,8 @@ met_here target seen at next (h ∷ hs) on reached after kinds =
       | inl new ↦
           (let e = new.met in
           meeting_in target seen h hs (met_from target seen h (omega arith) (omega arith))
-          ∙ ap (inserted (meeting_key target) h) rest
-          ∙ inserted_left (meeting_key target) depth_key h (front_from seen (contents_at at hs)) (meeting_from target next hs)
+          ∙ ap (insertion (meeting_key target) h) rest
+          ∙ insertion_left (meeting_key target) depth_key h (front_from seen (contents_at at hs)) (meeting_from target next hs)
           (every_weaker (λ a. first_shared target a.pair.cell ≡ at) (λ a. ltb (meeting_key target h) (meeting_key target a) ≡ ltb (depth_key h) (depth_key a)) (λ a f. same_key_test target h a (e ∙ sym f)) (front_from seen (contents_at at hs)) news)
           (every_weaker (λ b. next ≤ first_shared target b.pair.cell) (λ b. meeting_key target h < meeting_key target b) (λ b f. lower_key target h b (omega arith)) (meeting_from target next hs) laters)
           ∙ ap (λ zs. zs ++ meeting_from target next hs) (sym (ap (front_from seen) (contents_in at h hs (covers-from at h new.over)) ∙ front_new at seen h (contents_at at hs) new.over new.begins over))
@@ -280,10 +280,10 @@ met_here target seen at next (h ∷ hs) on reached after kinds =
                 (let m = later.met in
                 let c = later.on_curve in
                 meeting_in target seen h hs (met_from target seen h (omega arith) c)
-                ∙ ap (inserted (meeting_key target) h) rest
-                ∙ inserted_right (meeting_key target) h (front_from seen (contents_at at hs)) (meeting_from target next hs)
+                ∙ ap (insertion (meeting_key target) h) rest
+                ∙ insertion_right (meeting_key target) h (front_from seen (contents_at at hs)) (meeting_from target next hs)
                 (every_weaker (λ a. first_shared target a.pair.cell ≡ at) (λ a. meeting_key target a ≤ meeting_key target h) (λ a f. let l = lower_key target a h (omega arith) in omega arith) (front_from seen (contents_at at hs)) news)
-                ∙ ap (λ zs. front_from seen zs ++ inserted (meeting_key target) h (meeting_from target next hs)) (sym (contents_out at h hs later.off))
+                ∙ ap (λ zs. front_from seen zs ++ insertion (meeting_key target) h (meeting_from target next hs)) (sym (contents_out at h hs later.off))
                 ∙ ap (λ zs. front_from seen (contents_at at (h ∷ hs)) ++ zs) (sym (meeting_in target next h hs (met_from target next h m c))))
             | inr done ↦
                 meeting_out target seen h hs done.not_seen ∙ rest
@@ -305,7 +305,7 @@ step_meets target held seen at next step =
 pub none_meets : (target : List CellId) (held : Collection) (seen : ℕ) → ((q : ℕ) → Covers target q → q < seen) → meeting_from target seen held ≡ []
 unfolding meeting_from
 none_meets target held seen past =
-    chosen_none (is_met_from target seen) (meeting_key target) held (λ h.
+    choice_none (is_met_from target seen) (meeting_key target) held (λ h.
     elim (cases_lt (first_shared target h.pair.cell) leaf_end) [
       | inl on ↦ met_before target seen h (past (first_shared target h.pair.cell) (shared_is target h.pair.cell on).covered)
       | inr never ↦ met_never target seen h never

@@ -9,14 +9,11 @@ use Rattle.s2id_core.proofs.Nested.{span, nested_by_level}
 use Rattle.s2ix_bag.specs.Label.{value_of}
 use Rattle.s2ix_bag.specs.declared.pair.Held.{Held}
 use Rattle.s2ix_bag.specs.Collection.{Collection}
-use Rattle.s2ix_table.specs.InOrder.{inserted}
+use Rattle.s2ix_table.specs.InOrder.{insertion}
 use Rattle.s2ix_table.specs.Filter.{Rises}
 use Rattle.s2ix_table.specs.Contents.{covers, depth_key, contents_at}
-use Rattle.s2ix_table.proofs.InOrder.{every_chosen, in_chosen, chosen_has, chosen_in, chosen_out, rises_chosen, length_chosen}
-
--- the span of a held pair's cell
-pub start_of : Held → ℕ
-start_of h = first_of h.pair.cell
+use Rattle.s2ix_table.specs.Table.{leaf_end}
+use Rattle.s2ix_table.proofs.InOrder.{every_choice, in_choice, choice_has, choice_in, choice_out, rises_choice, length_choice}
 
 -- a leaf lies in the span of a pair's cell
 pub record IsOver (h : Held) (q : ℕ) : Type 0 where
@@ -35,7 +32,7 @@ pub record HasSpan (h : Held) : Type 0 where
   pub begins : 1 ≤ first_of h.pair.cell
   pub odd : first_of h.pair.cell % 2 ≡ 1
   pub rises : first_of h.pair.cell + 2 ≤ end_of h.pair.cell
-  pub ends : end_of h.pair.cell ≤ 13835058055282163713
+  pub ends : end_of h.pair.cell ≤ leaf_end
   pub odd_end : end_of h.pair.cell % 2 ≡ 1
 
 pub span_of : (h : Held) → HasSpan h
@@ -49,31 +46,31 @@ span_of h =
 
 pub in_contents : (q : ℕ) (hs : Collection) (h : Held) → Contains (contents_at q hs) h → Contains hs h × IsOver h q
 unfolding contents_at
-in_contents q hs h c = let r = in_chosen (covers q) depth_key hs h c in (r.0, over-true q h r.1)
+in_contents q hs h c = let r = in_choice (covers q) depth_key hs h c in (r.0, over-true q h r.1)
 
 pub contents_has : (q : ℕ) (hs : Collection) (h : Held) → Contains hs h → IsOver h q → Contains (contents_at q hs) h
 unfolding contents_at
-contents_has q hs h c o = chosen_has (covers q) depth_key hs h c (covers-from q h o)
+contents_has q hs h c o = choice_has (covers q) depth_key hs h c (covers-from q h o)
 
 pub every_content : (P : Held → Type 0) (q : ℕ) (hs : Collection) → ((h : Held) → Contains hs h → IsOver h q → P h) → AllByRecursion P (contents_at q hs)
 unfolding contents_at
-every_content P q hs each = every_chosen P (covers q) depth_key hs (λ h held t. each h held (over-true q h t))
+every_content P q hs each = every_choice P (covers q) depth_key hs (λ h held t. each h held (over-true q h t))
 
 pub contents_rise : (q : ℕ) (hs : Collection) → Rises depth_key (contents_at q hs)
 unfolding contents_at
-contents_rise q hs = rises_chosen (covers q) depth_key hs
+contents_rise q hs = rises_choice (covers q) depth_key hs
 
 pub length_contents : (q : ℕ) (hs : Collection) → length (contents_at q hs) ≤ length hs
 unfolding contents_at
-length_contents q hs = length_chosen (covers q) depth_key hs
+length_contents q hs = length_choice (covers q) depth_key hs
 
-pub contents_in : (q : ℕ) (h : Held) (hs : Collection) → covers q h ≡ true → contents_at q (h ∷ hs) ≡ inserted depth_key h (contents_at q hs)
+pub contents_in : (q : ℕ) (h : Held) (hs : Collection) → covers q h ≡ true → contents_at q (h ∷ hs) ≡ insertion depth_key h (contents_at q hs)
 unfolding contents_at
-contents_in q h hs t = chosen_in (covers q) depth_key h hs t
+contents_in q h hs t = choice_in (covers q) depth_key h hs t
 
 pub contents_out : (q : ℕ) (h : Held) (hs : Collection) → covers q h ≡ false → contents_at q (h ∷ hs) ≡ contents_at q hs
 unfolding contents_at
-contents_out q h hs t = chosen_out (covers q) depth_key h hs t
+contents_out q h hs t = choice_out (covers q) depth_key h hs t
 
 -- ---- depth
 

@@ -12,7 +12,7 @@ use Rattle.s2ix_table.specs.Table.{Range, leaf_end, IsRangeTable}
 use Rattle.s2ix_table.specs.Filter.{IsBound, IsNextBound}
 use Rattle.s2ix_table.proofs.Once.{RisesOnce, in_put, put_has, rises_put}
 use Rattle.s2ix_table.proofs.Over.{span_of}
-use Rattle.s2ix_table.proofs.Ranges.{IsTable, Changes, changes_at, stays_between, places_from_table, table_from_places, same_table}
+use Rattle.s2ix_table.proofs.Tables.{IsTable, Changes, changes_at, stays_between, places_from_table, table_from_places, same_table}
 
 -- ---- the bounds
 

@@ -10,7 +10,7 @@ use Rattle.s2id_union.specs.Covers.{Covers}
 use Rattle.s2id_union.specs.Region.{HaveSameRegion}
 use Rattle.s2ix_bag.specs.Collection.{Collection}
 use Rattle.s2ix_table.specs.Contents.{depth_key}
-use Rattle.s2ix_table.specs.InOrder.{chosen}
+use Rattle.s2ix_table.specs.InOrder.{choice}
 use Rattle.s2ix_table.specs.Meeting.{first_shared, meeting_key, meeting_from, meeting_of}
 use Rattle.s2ix_table.specs.Table.{leaf_end}
 use Rattle.s2ix_table.proofs.Lists.{covers_from_region}
@@ -47,7 +47,7 @@ same_first xs ys same cell =
 
 -- the meeting list by the first shared leaf of each cell
 abbrev met_by : (CellId → ℕ) → Collection → Collection
-met_by first held = chosen (λ h. leb 1 (first h.pair.cell) && ltb (first h.pair.cell) leaf_end) (λ h. first h.pair.cell * 68719476736 + depth_key h) held
+met_by first held = choice (λ h. leb 1 (first h.pair.cell) && ltb (first h.pair.cell) leaf_end) (λ h. first h.pair.cell * 68719476736 + depth_key h) held
 
 -- targets with one region meet the same pairs, in the same order
 pub same_region_meets : (xs ys : List CellId) (held : Collection) → HaveSameRegion xs ys → meeting_of xs held ≡ meeting_of ys held

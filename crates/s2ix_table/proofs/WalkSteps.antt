@@ -14,7 +14,7 @@ use Rattle.s2ix_table.specs.Table.{Range, range_at, leaf_end, IsRangeTable, IsFo
 use Rattle.s2ix_table.specs.WalkState.{left_of, ArePassed, IsWalkState, front_from}
 use Rattle.s2ix_table.specs.declared.walk_state.WalkState.{WalkState}
 use Rattle.s2ix_table.proofs.Over.{IsOver, in_contents, contents_has}
-use Rattle.s2ix_table.proofs.Ranges.{places_fit}
+use Rattle.s2ix_table.proofs.Tables.{places_fit}
 use Rattle.s2ix_table.proofs.Building.{limits_rise}
 use Rattle.s2ix_table.proofs.Meetings.{IsStep, step_meets, front_here, front_stops}
 

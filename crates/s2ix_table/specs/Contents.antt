@@ -6,7 +6,7 @@ use Rattle.s2id_core.specs.Path.{Path}
 use Rattle.s2ix_bag.specs.Collection.{Collection}
 use Rattle.s2ix_bag.specs.Label.{value_of}
 use Rattle.s2ix_bag.specs.declared.pair.Held.{Held}
-use Rattle.s2ix_table.specs.InOrder.{chosen}
+use Rattle.s2ix_table.specs.InOrder.{choice}
 
 -- a pair comes before another over one leaf: by falling level, then by rising label
 abbrev pub IsDeeper : Held → Held → Type 0
@@ -29,4 +29,4 @@ unfoldable pub depth_key : Held → ℕ
 depth_key h = (30 - level_of h.pair.cell) * 2147483648 + value_of h.pair.label
 
 unfoldable pub contents_at : ℕ → Collection → Collection
-contents_at q held = chosen (covers q) depth_key held
+contents_at q held = choice (covers q) depth_key held

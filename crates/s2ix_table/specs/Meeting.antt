@@ -9,7 +9,7 @@ use Rattle.s2ix_bag.specs.Collection.{Collection}
 use Rattle.s2ix_bag.specs.Label.{value_of}
 use Rattle.s2ix_bag.specs.declared.label.Label.{Label}
 use Rattle.s2ix_bag.specs.declared.pair.Held.{Held}
-use Rattle.s2ix_table.specs.InOrder.{chosen}
+use Rattle.s2ix_table.specs.InOrder.{choice}
 use Rattle.s2ix_table.specs.Contents.{IsDeeper, depth_key}
 use Rattle.s2ix_table.specs.Table.{leaf_end}
 
@@ -54,7 +54,7 @@ is_met_from target from h = nat_le from (first_shared target h.pair.cell) && nat
 
 -- the part of the meeting list from a leaf on
 unfoldable pub meeting_from : List CellId → ℕ → Collection → Collection
-meeting_from target from held = chosen (is_met_from target from) (meeting_key target) held
+meeting_from target from held = choice (is_met_from target from) (meeting_key target) held
 
 -- the meeting list: leaf numbers begin at 1
 abbrev pub meeting_of : List CellId → Collection → Collection

@@ -13,8 +13,8 @@ use s2ix_bag::{Bag, Held};
 use std::alloc::Global;
 use std::snapshot::Snapshot;
 
-/// A range table that keeps a list of its own for each range. Building takes O(r * n) for r ranges and n pairs, and what it takes to
-/// put the pairs over one leaf in order: nothing for the labels of one cell, at worst m * m moves for m pairs of nested cells.
+/// A range table that keeps a list of its own for each range. Building takes O(r * n) for n pairs and r ranges, at most 2 * n + 1, and for
+/// each range what it takes to put its pairs in order: O(m log m) for m labels of one cell, at worst O(m * m) for m pairs of nested cells.
 #[derive(Drop)]
 #[derive_where(Debug)]
 pub struct CopiedTable {
@@ -127,7 +127,7 @@ fn ranges_over(alloc: Global, held: &[Held]) -> Result<Vec<CopiedRange>, OutOfMe
     Ok(ranges)
 }
 
-// The range from a leaf on, up to the next bound of a cell. O(n), and the moves of the insertions.
+// The range from a leaf on, up to the next bound of a cell. O(n), and what `contents_over` takes to put its pairs in order.
 fn range_above(alloc: Global, held: &[Held], at: u64) -> Result<CopiedRange, OutOfMemory>
     requires rises { IsCollection held.now }
     requires odd { at % 2 ≡ 1 }

@@ -1,6 +1,6 @@
 use s2ix_bag::Held;
 
-// A run of leaves with its own list of what lies over them.
+// A range with a list of its own of what lies over it.
 #[derive(Debug, Drop)]
 pub(crate) struct CopiedRange {
     pub(crate) start: u64,

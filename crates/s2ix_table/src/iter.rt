@@ -29,7 +29,7 @@ impl<'a, T: RangeTable> RangeIter<'a, T> {
         RangeIter { table, next: 0 }
     }
 
-    /// Moves to the range that has a leaf (S2's `Seek()`). O(log n) for n ranges.
+    /// Goes to the range that has a leaf (S2's `Seek()`). O(log n) for n ranges.
     pub fn seek(&mut self, leaf: CellId)
         requires { level_of leaf ≡ 30 }
         ensures { (k : ℕ)

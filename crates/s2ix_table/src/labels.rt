@@ -1,5 +1,5 @@
 // The labels of what is met.
-ghost use Rattle.std.specs.Prelude.{◌≡◌, IfOk};
+ghost use Rattle.std.specs.Prelude.{IfOk};
 ghost use Rattle.s2ix_table.specs.Meeting.{IsLabelList};
 
 use s2id_core::OutOfMemory;

@@ -1,5 +1,5 @@
 // The walk over the ranges that a target meets: it gives each pair of the meeting list once, in order.
-ghost use Rattle.std.specs.Prelude.{◌≡◌, ◌<◌, ◌≤◌, ◌+◌, ◌∷◌, [], None, IfSome, List, length, slice_index_or};
+ghost use Rattle.std.specs.Prelude.{◌≡◌, ◌<◌, ◌+◌, ◌∷◌, [], None, IfSome, length, slice_index_or};
 ghost use Rattle.s2id_core.specs.declared.cell_id.CellId.{CellId};
 ghost use Rattle.s2id_core.specs.CellId.{end_of};
 ghost use Rattle.s2id_union.specs.Covers.{IsChain};

@@ -1,19 +1,18 @@
 ghost use Rattle.std.specs.Prelude.{IfOk, IfErr};
-ghost use Rattle.s2ix_edit.specs.Plan.{Plans, starting_at};
-ghost use Rattle.s2ix_edit.specs.Refusals.{edit_error, edit_refusal, IsEditRefusal};
+ghost use Rattle.s2ix_edit.specs.Plan.{IsPlanRefusal, Plans};
 
 use crate::edit::Edit;
+use crate::edits::parts::push_entry;
 use crate::errors::PlanError;
 use s2id_union::CellUnion;
-use s2ix_bag::{Bag, Change, Entry, Label, Pair};
+use s2ix_bag::{Bag, Change, Label, Pair};
 use std::alloc::Global;
 
 /// The change that gives each cell of a union one copy more under the label. A sum that no `u32` holds is above
 /// every limit. O(m log n) for m cells and n pairs held.
 pub fn plan(alloc: Global, bag: &Bag, union: &CellUnion, label: Label) -> Result<Change, PlanError>
     ensures plan { IfOk result (Plans bag.now (Edit.AddUnion union.now label)) }
-    ensures refused { IfErr result (λ error.
-        IsEditRefusal (edit_error error) (edit_refusal (starting_at bag.now) (Edit.AddUnion union.now label))) }
+    ensures refused { IfErr result (IsPlanRefusal bag.now (Edit.AddUnion union.now label)) }
 {
     let mut entries = Vec::new(alloc);
     for cell in union.cells() {
@@ -22,12 +21,7 @@ pub fn plan(alloc: Global, bag: &Bag, union: &CellUnion, label: Label) -> Result
         let Some(after) = before.checked_add(1) else {
             return Err(PlanError::TooManyCopies);
         };
-        let entry = Entry {
-            pair,
-            before,
-            after,
-        };
-        entries.push(entry)?;
+        push_entry(&mut entries, pair, before, after)?;
     }
     Ok(Change::from_vec(entries))
 }

@@ -1,11 +1,10 @@
 ghost use Rattle.std.specs.Prelude.{◌≡◌, map, IfOk, IfErr};
 ghost use Rattle.s2ix_bag.specs.Change.{removal_of};
 ghost use Rattle.s2ix_bag.specs.OfLabel.{held_of};
-ghost use Rattle.s2ix_edit.specs.Plan.{Plans, starting_at};
-ghost use Rattle.s2ix_edit.specs.Refusals.{edit_error, edit_refusal, IsEditRefusal};
+ghost use Rattle.s2ix_edit.specs.Plan.{IsPlanRefusal, Plans};
 
 use crate::edit::Edit;
-use crate::edits::shared::{lacks_label, removal};
+use crate::edits::parts::{lacks_label, removal};
 use crate::errors::PlanError;
 use s2ix_bag::{Bag, Change, Entry, Label};
 use std::alloc::{AllocError, Global};
@@ -13,8 +12,7 @@ use std::alloc::{AllocError, Global};
 /// The change that takes all pairs of a label away. O(n) for n pairs held.
 pub fn plan(alloc: Global, bag: &Bag, label: Label) -> Result<Change, PlanError>
     ensures plan { IfOk result (Plans bag.now (Edit.DropLabel label)) }
-    ensures refused { IfErr result (λ error.
-        IsEditRefusal (edit_error error) (edit_refusal (starting_at bag.now) (Edit.DropLabel label))) }
+    ensures refused { IfErr result (IsPlanRefusal bag.now (Edit.DropLabel label)) }
 {
     if lacks_label(bag, label) {
         return Err(PlanError::NoSuchLabel);

@@ -1,17 +1,16 @@
 //! What each edit changes: the entries that carry it out, before any limit is looked at. Each edit has a file of its
-//! own with its `plan`; what several of them share stands in `shared`.
+//! own with its `plan`; what several of them are made of stands in `parts`.
 
 mod add;
 mod add_union;
 mod drop_label;
+mod parts;
 mod relabel;
 mod remove;
-mod shared;
 
 ghost use Rattle.std.specs.Prelude.{IfOk, IfErr};
 ghost use Rattle.s2ix_bag.specs.Collection.{IsBag};
-ghost use Rattle.s2ix_edit.specs.Plan.{Plans, starting_at};
-ghost use Rattle.s2ix_edit.specs.Refusals.{edit_error, edit_refusal, IsEditRefusal};
+ghost use Rattle.s2ix_edit.specs.Plan.{IsPlanRefusal, Plans};
 
 use crate::edit::Edit;
 use crate::errors::PlanError;
@@ -23,8 +22,7 @@ use std::alloc::Global;
 pub fn plan(alloc: Global, bag: &Bag, edit: &Edit) -> Result<Change, PlanError>
     requires { IsBag bag.now }
     ensures plan { IfOk result (Plans bag.now edit.now) }
-    ensures refused { IfErr result (λ error.
-        IsEditRefusal (edit_error error) (edit_refusal (starting_at bag.now) edit.now)) }
+    ensures refused { IfErr result (IsPlanRefusal bag.now edit.now) }
 {
     match edit {
         Edit::Add { pair, copies } => add::plan(alloc, bag, *pair, *copies),

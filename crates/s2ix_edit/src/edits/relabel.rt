@@ -1,10 +1,10 @@
 ghost use Rattle.std.specs.Prelude.{◌≡◌, ◌≢◌, ◌++◌, false, OnOk, IfOk, IfErr};
 ghost use Rattle.s2ix_bag.specs.Label.{value_of};
-ghost use Rattle.s2ix_edit.specs.Plan.{Plans, move_entries, starting_at};
-ghost use Rattle.s2ix_edit.specs.Refusals.{edit_error, edit_refusal, holds_none, IsEditRefusal};
+ghost use Rattle.s2ix_edit.specs.Plan.{IsPlanRefusal, Plans, move_entries};
+ghost use Rattle.s2ix_edit.specs.Refusals.{holds_none};
 
 use crate::edit::Edit;
-use crate::edits::shared::{lacks_label, removal};
+use crate::edits::parts::{lacks_label, removal};
 use crate::errors::PlanError;
 use s2ix_bag::{Bag, Change, Entry, Held, Label, Pair};
 use std::alloc::{AllocError, Global};
@@ -13,8 +13,7 @@ use std::alloc::{AllocError, Global};
 /// `source`.
 pub fn plan(alloc: Global, bag: &Bag, source: Label, target: Label) -> Result<Change, PlanError>
     ensures plan { IfOk result (Plans bag.now (Edit.Relabel source target)) }
-    ensures refused { IfErr result (λ error.
-        IsEditRefusal (edit_error error) (edit_refusal (starting_at bag.now) (Edit.Relabel source target))) }
+    ensures refused { IfErr result (IsPlanRefusal bag.now (Edit.Relabel source target)) }
 {
     if lacks_label(bag, source) {
         return Err(PlanError::NoSuchLabel);
@@ -31,8 +30,7 @@ fn plan_moves(alloc: Global, bag: &Bag, source: Label, target: Label) -> Result<
     requires held { holds_none source bag.now.held ≡ false }
     requires apart { value_of source ≢ value_of target }
     ensures plan { IfOk result (Plans bag.now (Edit.Relabel source target)) }
-    ensures refused { IfErr result (λ error.
-        IsEditRefusal (edit_error error) (edit_refusal (starting_at bag.now) (Edit.Relabel source target))) }
+    ensures refused { IfErr result (IsPlanRefusal bag.now (Edit.Relabel source target)) }
 {
     let mut entries = Vec::new(alloc);
     for held in bag.of_label(source) {

@@ -1,9 +1,8 @@
 ghost use Rattle.std.specs.Prelude.{IfOk, IfErr};
-ghost use Rattle.s2ix_edit.specs.Plan.{Plans, starting_at};
-ghost use Rattle.s2ix_edit.specs.Refusals.{edit_error, edit_refusal, IsEditRefusal};
+ghost use Rattle.s2ix_edit.specs.Plan.{IsPlanRefusal, Plans};
 
 use crate::edit::Edit;
-use crate::edits::shared::one_pair;
+use crate::edits::parts::one_pair;
 use crate::errors::PlanError;
 use s2ix_bag::{Bag, Change, Pair};
 use std::alloc::Global;
@@ -11,8 +10,7 @@ use std::alloc::Global;
 /// The change that takes copies from a pair's count. O(log n) for n pairs held.
 pub fn plan(alloc: Global, bag: &Bag, pair: Pair, copies: u32) -> Result<Change, PlanError>
     ensures plan { IfOk result (Plans bag.now (Edit.Remove pair copies)) }
-    ensures refused { IfErr result (λ error.
-        IsEditRefusal (edit_error error) (edit_refusal (starting_at bag.now) (Edit.Remove pair copies))) }
+    ensures refused { IfErr result (IsPlanRefusal bag.now (Edit.Remove pair copies)) }
 {
     let before = bag.count(pair);
     let Some(after) = before.checked_sub(copies) else {

@@ -1,6 +1,6 @@
 use Rattle.std.proofs.Common.{◌∙◌, sym, arith}
 use Rattle.s2ix_table.proofs.Building.{bound_changes}
-use Rattle.s2ix_table.proofs.Ranges.{stays_between}
+use Rattle.s2ix_table.proofs.Tables.{stays_between}
 use Rattle.s2ix_table.proofs.copied.range_above.Goals as goal
 
 pub returns-clause-shared : goal.returns-clause-shared

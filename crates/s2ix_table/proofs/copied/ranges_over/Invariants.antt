@@ -1,4 +1,5 @@
 use Rattle.std.proofs.Common.{◌-◌}
+use Rattle.s2ix_table.specs.Table.{leaf_end}
 use Rattle.s2ix_table.proofs.Building.{IsBuilt}
 use Rattle.s2ix_table.proofs.copied.ranges_over.Given as goal
 
@@ -6,4 +7,4 @@ abbrev pub invariant-loop-at : goal.invariant-loop-at
 invariant-loop-at l = IsBuilt l.held l.ranges.items l.at
 
 abbrev pub decreases-loop-at : goal.decreases-loop-at
-decreases-loop-at l = 13835058055282163713 - l.at
+decreases-loop-at l = leaf_end - l.at

@@ -1,5 +1,5 @@
 use Rattle.s2ix_table.specs.Table.{leaf_end}
-use Rattle.s2ix_table.proofs.Ranges.{same_table, table_from_places}
+use Rattle.s2ix_table.proofs.Tables.{same_table, table_from_places}
 use Rattle.s2ix_table.proofs.laws.one_range_table.Goals as goal
 
 pub returns : goal.returns

@@ -19,4 +19,4 @@ pub invariant_of-self-2 : goal.invariant_of-self-2
 invariant_of-self-2 c =
     let d = (goal.at.invariant_of-self-2 c).After-clear in
     let taken = ap (λ (s : State). apply_refusal s.bag c.args.change) (sym c.self.view_is) ∙ c.in_ok-bag.ensures.fits in
-    (stands_recorded c.args.self.now _ c.args.change (is_recorded d) (stood d) c.requires.room c.entries-number.ensures.rises (some_entries c.self.inside.bag c.args.change c.in_ok-bag.ensures.accepted) taken c.in_ok-bag.ensures.within, c.in_ok-table.ensures)
+    (stands_recorded c.args.self.now _ c.args.change (is_recorded d) (stood d) c.requires.room c.entries-number.ensures.rises (some_entries c.self.inside.bag c.args.change c.in_ok-bag.ensures.accepted) taken c.in_ok-bag.ensures.within, c.in_ok-bag.ensures.table)

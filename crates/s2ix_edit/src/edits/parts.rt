@@ -1,6 +1,6 @@
-//! What several edits share.
+//! What several edits are made of.
 
-ghost use Rattle.std.specs.Prelude.{◌≡◌, IfOk};
+ghost use Rattle.std.specs.Prelude.{◌≡◌, ◌∷◌, ◌++◌, [], IfOk, OnOk};
 ghost use Rattle.s2ix_bag.specs.Change.{removal_of};
 ghost use Rattle.s2ix_bag.specs.Collection.{IsBag};
 ghost use Rattle.s2ix_edit.specs.Plan.{one_entry};
@@ -15,14 +15,26 @@ pub fn one_pair(alloc: Global, pair: Pair, before: u32, after: u32) -> Result<Ch
 {
     let mut entries = Vec::new(alloc);
     if before != after {
-        let entry = Entry {
-            pair,
-            before,
-            after,
-        };
-        entries.push(entry)?;
+        push_entry(&mut entries, pair, before, after)?;
     }
     Ok(Change::from_vec(entries))
+}
+
+/// Appends the entry with the two counts of a pair.
+pub fn push_entry(
+    entries: &mut Vec<Entry>,
+    pair: Pair,
+    before: u32,
+    after: u32,
+) -> Result<(), AllocError>
+    ensures { OnOk result (entries.new.items ≡ entries.old.items ++ record { pair = pair; before = before; after = after } ∷ []) }
+{
+    entries.push(Entry {
+        pair,
+        before,
+        after,
+    })?;
+    Ok(())
 }
 
 /// Whether no pair of the label is held. O(n).

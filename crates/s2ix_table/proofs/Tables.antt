@@ -7,7 +7,7 @@ use Rattle.s2ix_bag.specs.Collection.{Collection}
 use Rattle.s2ix_table.specs.Contents.{covers, depth_key, contents_at}
 use Rattle.s2ix_table.specs.Table.{Range, range_at, IsTableOver}
 use Rattle.s2ix_table.specs.Filter.{IsNextBound, IsBound}
-use Rattle.s2ix_table.proofs.InOrder.{chosen_agree}
+use Rattle.s2ix_table.proofs.InOrder.{choice_agree}
 use Rattle.s2ix_table.proofs.Over.{span_of, in_contents, contents_has}
 
 -- ---- where contents change
@@ -31,7 +31,7 @@ changes_at hs q b odd next (h, held, inr e) same =
 pub stays_between : (hs : Collection) (at limit q : ℕ) → IsNextBound hs at limit → at ≤ q → q < limit → contents_at q hs ≡ contents_at at hs
 unfolding contents_at
 stays_between hs at limit q next from to =
-    chosen_agree (covers q) (covers at) depth_key hs (λ h held.
+    choice_agree (covers q) (covers at) depth_key hs (λ h held.
     let no_first = next.no_first h held in
     let no_end = next.no_end h held in
     tests (first_of h.pair.cell) (end_of h.pair.cell) at limit q from to no_first no_end)
@@ -169,13 +169,13 @@ no_shorter hs from r s (v ∷ vs) ss to t u lt =
     let next = t.2.0.shared r.limit o (omega arith) l in
     t.1 (sym mine ∙ yours ∙ sym there ∙ next)
 
-made : ℕ → ℕ → Collection → Range
-made start limit contents = record { start = start; limit = limit; contents = contents }
+range_with : ℕ → ℕ → Collection → Range
+range_with start limit contents = record { start = start; limit = limit; contents = contents }
 
 same_range : (r s : Range) → r.start ≡ s.start → r.limit ≡ s.limit → r.contents ≡ s.contents → r ≡ s
-unfolding made
+unfolding range_with
 same_range r s a b c =
-    let e : made r.start r.limit r.contents ≡ made s.start s.limit s.contents = cc in e
+    let e : range_with r.start r.limit r.contents ≡ range_with s.start s.limit s.contents = cc in e
 
 pub same_table : (hs : Collection) (from : ℕ) (xs ys : List Range) (to : ℕ) → IsTable hs from xs to → IsTable hs from ys to → xs ≡ ys
 same_table hs from [] [] to t u = refl
