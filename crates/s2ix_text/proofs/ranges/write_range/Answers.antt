@@ -1,5 +1,5 @@
 -- The bounds, the pairs and the line feed are written one after the other.
-use Rattle.std.proofs.Common.{ℕ, List, ◌++◌, Ok, Err, codes, flat_map, ap₂, subst}
+use Rattle.std.proofs.Common.{ℕ, List, ◌++◌, Ok, codes, flat_map, ap₂, subst}
 use Rattle.s2ix_io.specs.Puts.{Writes}
 use Rattle.s2ix_table.specs.Table.{range_at}
 use Rattle.s2ix_text.specs.Queries.{bounds_text, range_line, spaced_pair}
@@ -10,8 +10,9 @@ pub returns-in_err-write_bounds : goal.returns-in_err-write_bounds
 unfolding range_line
 returns-in_err-write_bounds g c =
     let range = range_at (g.T.RangeTable.ranges c.args.table.now) c.args.k in
-    let WritesBounds : List ℕ → Type 0 = λ text. Writes {A = Unit {0}} g.K.Sink.taken g.K.Sink.fault_count c.args.sink.now c.write_bounds.new.sink (Err c.in_err-write_bounds.field-0) text in
-    Writes-cut _ (flat_map spaced_pair range.contents ++ codes "\n") c.from_residual.ensures.0 (subst WritesBounds (ap₂ bounds_text c.range.ensures.start c.range.ensures.limit) c.in_err-write_bounds.ensures)
+    let WritesLine : List ℕ → Type 0 = λ text. Writes g.K.Sink.taken g.K.Sink.fault_count c.args.sink.now c.write_bounds.new.sink c.from_residual.result (text ++ (flat_map spaced_pair range.contents ++ codes "\n")) in
+    subst WritesLine (ap₂ bounds_text c.range.ensures.start c.range.ensures.limit)
+    (Writes-cut _ (flat_map spaced_pair range.contents ++ codes "\n") c.from_residual.ensures.0 c.in_err-write_bounds.ensures)
 
 pub returns-in_err-write_range_pairs : goal.returns-in_err-write_range_pairs
 unfolding range_line
