@@ -1,5 +1,5 @@
 -- The header, the lines of the pairs and the end line are written one after the other.
-use Rattle.std.proofs.Common.{◌++◌, flat_map, codes}
+use Rattle.std.proofs.Common.{◌++◌, flat_map}
 use Rattle.s2ix_text.specs.Dump.{dump_text, end_line, pair_line}
 use Rattle.s2ix_io.proofs.Writing.{Writes-cut, Writes-then}
 use Rattle.s2ix_text.proofs.dump.write_dump.Goals as goal
