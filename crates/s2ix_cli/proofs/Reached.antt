@@ -4,17 +4,18 @@ use Rattle.std.specs.Io.KnownBytes.{Appends, Keeps, IsAtEnd}
 use Rattle.std.proofs.Math.Seq.{take-append_seam}
 use Rattle.std.proofs.KnownBytes.{Appends-nil, Appends-trans, Appends-kept}
 use Rattle.s2ix_edit.specs.State.{State}
+use Rattle.s2ix_io.specs.Faults.{IsWantOnlyIf}
 use Rattle.s2ix_io.specs.Puts.{AppendsFront, IsFront}
 use Rattle.s2ix_io.proofs.Fronts.{IsFront-nil, IsFront-refl, IsFront-append, IsFront-after}
 use Rattle.s2ix_cli.specs.declared.outcome.LineOutcome.{LineOutcome}
 use Rattle.s2ix_cli.specs.declared.outcome.RunEnd.{RunEnd}
-use Rattle.s2ix_cli.specs.declared.outcome.RunFault.{RunFault}
-use Rattle.s2ix_cli.specs.declared.outcome.RunFault.TheVariants.{Read, Write, OutOfMemory, ReaderTooLong}
+use Rattle.s2ix_io.specs.declared.run_fault.RunFault.{RunFault}
+use Rattle.s2ix_io.specs.declared.run_fault.RunFault.TheVariants.{Read, Write, OutOfMemory, ReaderTooLong}
 use Rattle.s2ix_cli.specs.Carry.{is_counted, is_refused, Takes, StopsAt}
 use Rattle.s2ix_script.specs.Lines.{lines_of}
 use Rattle.s2ix_cli.specs.Script.{after, output_of, counted_in, refused_in, carried, MOST, Finishes, StopsAmong, StopsAfter}
 use Rattle.s2ix_cli.specs.Step.{Step, step_of}
-use Rattle.s2ix_cli.specs.Wants.{IsWantOnlyIf, LineWants, WantsAmong}
+use Rattle.s2ix_cli.specs.Wants.{LineWants, WantsAmong}
 
 -- ---- lines and then one more
 

@@ -5,8 +5,8 @@ use Rattle.s2ix_edit.specs.State.{State}
 use Rattle.s2ix_io.specs.Puts.{AppendsFront}
 use Rattle.s2ix_cli.specs.declared.outcome.LineOutcome.{LineOutcome}
 use Rattle.s2ix_cli.specs.declared.outcome.LineOutcome.TheVariants.{PassedOver, Accepted, Refused}
-use Rattle.s2ix_cli.specs.declared.outcome.RunFault.{RunFault}
-use Rattle.s2ix_cli.specs.declared.outcome.RunFault.TheVariants.{Read, Write, OutOfMemory, ReaderTooLong}
+use Rattle.s2ix_io.specs.declared.run_fault.RunFault.{RunFault}
+use Rattle.s2ix_io.specs.declared.run_fault.RunFault.TheVariants.{Read, Write, OutOfMemory, ReaderTooLong}
 use Rattle.s2ix_cli.specs.Step.{Step}
 
 -- whether a line counts

@@ -1,18 +1,14 @@
 -- What one line of a script comes to.
-use Rattle.std.specs.Prelude.{ℕ, ◌==◌, if◌then◌else◌, codes, decimal, Bool, true, false, Option, Some, None, Result, Ok, Err, List, [], ◌∷◌, length}
-use Rattle.std.specs.List.{concat}
+use Rattle.std.specs.Prelude.{ℕ, ◌==◌, if◌then◌else◌, codes, Bool, true, false, Option, Some, None, Result, Ok, Err, List, [], ◌∷◌, length}
 use Rattle.s2ix_bag.specs.declared.pair.Entry.{Entry}
 use Rattle.s2id_core.specs.declared.cell_id.CellId.{CellId}
 use Rattle.s2id_core.specs.CellId.{level_of, path_of, raw_of}
-use Rattle.s2id_core.specs.Path.{readable_path}
-use Rattle.s2id_core.specs.Token.{canonical_token}
-use Rattle.s2id_cube.specs.declared.face_ij.FaceIj.{FaceIj}
-use Rattle.s2id_cube.specs.Neighbor.{neighbor_number}
 use Rattle.s2id_cube.specs.Square.{square_of}
 use Rattle.s2ix_edit.specs.declared.edit.Edit.{Edit}
 use Rattle.s2ix_edit.specs.declared.errors.EditError.{EditError}
 use Rattle.s2ix_edit.specs.State.{State, after_edit, after_forget, after_undo, after_redo, change_of, last_done, last_undone, undo_size, redo_size}
 use Rattle.s2ix_edit.specs.Refusals.{edit_refusal}
+use Rattle.s2ix_text.specs.Answers.{neighbors_line, no_line, ok_line, path_line, square_line}
 use Rattle.s2ix_text.specs.Dump.{dump_text}
 use Rattle.s2ix_table.specs.Contents.{contents_at}
 use Rattle.s2ix_table.specs.LabelList.{label_list}
@@ -40,30 +36,6 @@ pub record Step : Type 0 where
 -- a blank line or a comment
 abbrev pub passed_over : State → Step
 passed_over s = record { after = s; answer = []; is_counted = false; is_refused = false }
-
--- what a refused line prints
-abbrev pub no_line : List ℕ → List ℕ
-no_line name = concat (codes "no " ∷ name ∷ codes "\n" ∷ [])
-
--- what an accepted line prints, where it changes the counts of n pairs
-abbrev pub ok_line : ℕ → List ℕ
-ok_line n = concat (codes "ok " ∷ decimal n ∷ codes "\n" ∷ [])
-
--- the line of a cell's path
-abbrev pub path_line : CellId → List ℕ
-path_line cell = concat (readable_path (path_of cell) ∷ codes "\n" ∷ [])
-
--- the token of the cell over a side
-abbrev pub token_over : ℕ → CellId → List ℕ
-token_over side cell = canonical_token (neighbor_number side (path_of cell))
-
--- the line of the cells over a cell's sides: down, right, up and left
-abbrev pub neighbors_line : CellId → List ℕ
-neighbors_line cell = concat (token_over 0 cell ∷ codes " " ∷ token_over 1 cell ∷ codes " " ∷ token_over 2 cell ∷ codes " " ∷ token_over 3 cell ∷ codes "\n" ∷ [])
-
--- the line of a square: FACE I J LEVEL ORIENTATION
-abbrev pub square_line : FaceIj → List ℕ
-square_line s = concat (decimal s.face ∷ codes " " ∷ decimal s.i ∷ codes " " ∷ decimal s.j ∷ codes " " ∷ decimal s.level ∷ codes " " ∷ decimal s.orientation ∷ codes "\n" ∷ [])
 
 -- a line that changes nothing and prints why
 abbrev pub refused : State → List ℕ → Step

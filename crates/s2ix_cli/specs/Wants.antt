@@ -11,8 +11,6 @@ use Rattle.s2ix_script.specs.declared.command.Move.TheVariants as move
 use Rattle.s2ix_script.specs.declared.command.Query.{Query}
 use Rattle.s2ix_script.specs.declared.command.Query.TheVariants as query
 use Rattle.s2ix_script.specs.Meaning.{is_on_union, meaning_of}
-use Rattle.s2ix_cli.specs.declared.outcome.RunFault.{RunFault}
-use Rattle.s2ix_cli.specs.declared.outcome.RunFault.TheVariants.{OutOfMemory}
 use Rattle.s2ix_cli.specs.Script.{after, carried, output_of}
 
 -- a move: an edit unless it is refused before its change is made, and an undo or a redo of a change that there is
@@ -58,7 +56,3 @@ pub record WantsAmong (stop : Bool) (lines : List (List ℕ)) (old new : State) 
   pub store : new ≡ after old done
   pub output : Appends before behind (output_of old done)
   pub wants : LineWants new line
-
--- the fault is want of memory only where this holds
-abbrev pub IsWantOnlyIf : Type 0 → RunFault → Type 0
-IsWantOnlyIf wants fault = fault ≡ OutOfMemory → wants

@@ -1,17 +1,17 @@
 //! Carrying one line out: from its bytes to the store's step and the answer.
 ghost use Rattle.std.specs.Prelude.{◌≡◌, ◌+◌, ◌-◌, ◌^◌, ◌<◌, IfErr};
+ghost use Rattle.s2ix_io.specs.Faults.{sink_faults, IsWantOnlyIf};
 ghost use Rattle.s2ix_cli.specs.Carry.{Carries};
-ghost use Rattle.s2ix_cli.specs.Faults.{sink_faults};
 ghost use Rattle.s2ix_cli.specs.Step.{command_step, move_step, step_of};
-ghost use Rattle.s2ix_cli.specs.Wants.{CommandWants, IsWantOnlyIf, LineWants, MoveWants};
+ghost use Rattle.s2ix_cli.specs.Wants.{CommandWants, LineWants, MoveWants};
 
-use crate::answer::{put_no, put_ok};
 use crate::moves::{Refusal, moved};
-use crate::outcome::{LineOutcome, RunFault};
+use crate::outcome::LineOutcome;
 use crate::query::answer_query;
 use s2ix_edit::Store;
-use s2ix_io::Sink;
+use s2ix_io::{RunFault, Sink};
 use s2ix_script::{Command, LineError, Move, meaning};
+use s2ix_text::{write_no, write_ok};
 use std::alloc::Global;
 
 // Carries a line out, and prints its answer.
@@ -33,7 +33,7 @@ pub(crate) fn carry_out<K: Sink>(
             Some(command) => carry_command(alloc, store, sink, command),
         },
         Err(LineError::Fault(fault)) => {
-            put_no(sink, fault.name())?;
+            write_no(fault.name(), sink)?;
             Ok(LineOutcome::Refused)
         }
         Err(LineError::OutOfMemory) => Err(RunFault::OutOfMemory),
@@ -71,11 +71,11 @@ fn carry_move<K: Sink>(
 {
     match moved(store, asked) {
         Ok(pairs) => {
-            put_ok(sink, pairs)?;
+            write_ok(pairs, sink)?;
             Ok(LineOutcome::Accepted)
         }
         Err(Refusal::Named(name)) => {
-            put_no(sink, name)?;
+            write_no(name, sink)?;
             Ok(LineOutcome::Refused)
         }
         Err(Refusal::OutOfMemory) => Err(RunFault::OutOfMemory),

@@ -1,19 +1,21 @@
 //! Answering a query: it reads the store and prints, and changes nothing.
 ghost use Rattle.std.specs.Prelude.{◌≡◌, ◌≢◌, ◌+◌, ◌-◌, ◌^◌, ◌<◌, Err, IfErr};
+ghost use Rattle.s2ix_io.specs.Faults.{sink_faults, IsWantOnlyIf};
 ghost use Rattle.s2ix_cli.specs.Carry.{Carries};
-ghost use Rattle.s2ix_cli.specs.Faults.{sink_faults};
 ghost use Rattle.s2ix_cli.specs.Step.{at_step, query_step};
-ghost use Rattle.s2ix_cli.specs.Wants.{IsWantOnlyIf, QueryWants};
+ghost use Rattle.s2ix_cli.specs.Wants.{QueryWants};
 
-use crate::answer::{put_neighbors, put_no, put_path, put_square};
-use crate::outcome::{LineOutcome, RunFault};
+use crate::outcome::LineOutcome;
 use s2id_core::CellId;
 use s2id_cube::to_face_ij;
 use s2ix_edit::Store;
-use s2ix_io::Sink;
+use s2ix_io::{RunFault, Sink};
 use s2ix_script::Query;
 use s2ix_table::RangeTable;
-use s2ix_text::{write_contents, write_dump, write_journal, write_list, write_ranges};
+use s2ix_text::{
+    write_contents, write_dump, write_journal, write_list, write_neighbors, write_no, write_path,
+    write_ranges, write_square,
+};
 use std::alloc::Global;
 
 // Answers a query.
@@ -33,9 +35,9 @@ pub(crate) fn answer_query<K: Sink>(
         Query::Meet(target) => write_list(&store.table().meeting(alloc, &target)?, sink)?,
         Query::Labels(target) => write_list(&store.table().labels(alloc, &target)?, sink)?,
         Query::Ranges => write_ranges(store.table(), sink)?,
-        Query::Path(cell) => put_path(sink, cell)?,
-        Query::Neighbors(cell) => put_neighbors(sink, cell)?,
-        Query::Face(cell) => put_square(sink, to_face_ij(cell))?,
+        Query::Path(cell) => write_path(cell, sink)?,
+        Query::Neighbors(cell) => write_neighbors(cell, sink)?,
+        Query::Face(cell) => write_square(to_face_ij(cell), sink)?,
         Query::Dump => write_dump(store.bag(), sink)?,
         Query::Journal => write_journal(store.done(), sink)?,
     }
@@ -50,7 +52,7 @@ fn answer_at<K: Sink>(store: &Store, sink: &mut K, cell: CellId) -> Result<LineO
     ensures faults { K.fault_count sink.new ≡ K.fault_count sink.old + sink_faults result }
 {
     if !cell.is_leaf() {
-        put_no(sink, "NotLeaf")?;
+        write_no("NotLeaf", sink)?;
         return Ok(LineOutcome::Refused);
     }
     write_contents(store.table(), cell, sink)?;

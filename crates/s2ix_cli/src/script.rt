@@ -1,17 +1,16 @@
 //! A run: the lines of a script, one after the other.
 ghost use Rattle.std.specs.Prelude.{◌≡◌, ◌≢◌, ◌⊎◌, ℕ, ◌+◌, ◌-◌, ◌^◌, ◌<◌, List, length, Err, IfOk, IfErr, OnOk};
 ghost use Rattle.std.specs.Io.KnownBytes.{Keeps, Consumes, IsAtEnd};
-ghost use Rattle.s2ix_cli.specs.Faults.{source_faults, sink_faults, IsPatient};
+ghost use Rattle.s2ix_io.specs.Faults.{source_faults, sink_faults, IsPatient, IsWantOnlyIf};
 ghost use Rattle.s2ix_script.specs.Lines.{lines_of};
 ghost use Rattle.s2ix_io.specs.Pieces.{ReadsToEnd, ReadsWithin};
 ghost use Rattle.s2ix_cli.specs.Script.{Finishes, FinishesFlushed, StopsAfter, StopsAmong};
-ghost use Rattle.s2ix_cli.specs.Wants.{IsWantOnlyIf, WantsAmong};
+ghost use Rattle.s2ix_cli.specs.Wants.{WantsAmong};
 
 use crate::carry::carry_out;
-use crate::outcome::{RunEnd, RunFault, RunOptions};
-use crate::reading::read_whole;
+use crate::outcome::{RunEnd, RunOptions};
 use s2ix_edit::Store;
-use s2ix_io::{Sink, Source};
+use s2ix_io::{RunFault, Sink, Source, read_whole};
 use s2ix_script::Lines;
 use std::alloc::Global;
 

@@ -1,6 +1,6 @@
 //! What a run reads from and writes to. A source gives bytes piece by piece, a sink takes them; each tells how often it failed.
-//! Beside the two traits stand adapters of std's readers and writers, devices in memory that can be made to fail, and the calls that put
-//! a whole text.
+//! Beside the two traits stand adapters of std's readers and writers, devices in memory that can be made to fail, and the calls that read
+//! a whole input and put a whole text.
 #![tactic(auto)]
 
 #[cfg(test)]
@@ -11,6 +11,8 @@ mod device_tests;
 mod from_read;
 mod keeping_sink;
 mod put;
+mod reading;
+mod run_fault;
 mod sink;
 mod slice_source;
 mod source;
@@ -20,6 +22,8 @@ pub use broken::{Broken, TakesNone};
 pub use from_read::FromRead;
 pub use keeping_sink::KeepingSink;
 pub use put::{put_all, put_parts};
+pub use reading::read_whole;
+pub use run_fault::RunFault;
 pub use sink::{Sink, WriteFault};
 pub use slice_source::SliceSource;
 pub use source::{ReadFault, Source};

@@ -1,3 +1,4 @@
+pub mod Answers
 pub mod Dump
 pub mod Journal
 pub mod Laws

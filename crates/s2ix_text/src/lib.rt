@@ -1,7 +1,8 @@
 //! The texts that go out. A bag has a dump and a list of changes a journal; pairs, labels and ranges, which answer queries, are lists with an
-//! end line.
+//! end line; all else that a line of a script is answered is one line.
 #![tactic(auto)]
 
+mod answers;
 mod dump;
 mod journal;
 pub mod laws;
@@ -9,6 +10,7 @@ mod list;
 mod pair;
 mod ranges;
 
+pub use answers::{write_neighbors, write_no, write_ok, write_path, write_square};
 pub use dump::write_dump;
 pub use journal::write_journal;
 pub use list::{ListItem, write_list};

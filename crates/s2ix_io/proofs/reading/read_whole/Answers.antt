@@ -2,7 +2,7 @@
 use Rattle.std.proofs.Common.{suc, arith}
 use Rattle.std.proofs.KnownBytes.{Consumes-trans}
 use Rattle.std.proofs.lemmas.Result.{err_from_is_err_and}
-use Rattle.s2ix_cli.proofs.reading.read_whole.Goals as goal
+use Rattle.s2ix_io.proofs.reading.read_whole.Goals as goal
 
 pub returns-in_err-extend_from_slice-clause-stopped : goal.returns-in_err-extend_from_slice-clause-stopped
 returns-in_err-extend_from_slice-clause-stopped g c =

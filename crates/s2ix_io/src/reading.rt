@@ -1,12 +1,10 @@
 //! Reading a source whole.
 ghost use Rattle.std.specs.Prelude.{◌≡◌, ◌≢◌, ℕ, ◌+◌, ◌-◌, ◌^◌, ◌<◌, List, Err, IfOk, IfErr, OnOk, OnErr};
 ghost use Rattle.std.specs.Io.KnownBytes.{Consumes, IsAtEnd};
-ghost use Rattle.s2ix_cli.specs.Faults.{source_faults, IsPatient};
+ghost use Rattle.s2ix_io.specs.Faults.{source_faults, IsPatient, IsWantOnlyIf};
 ghost use Rattle.s2ix_io.specs.Pieces.{ReadsToEnd, ReadsWithin};
-ghost use Rattle.s2ix_cli.specs.Wants.{IsWantOnlyIf};
 
-use crate::outcome::RunFault;
-use s2ix_io::Source;
+use crate::{RunFault, Source};
 use std::alloc::Global;
 
 /// How many bytes are asked for at once.

@@ -2,7 +2,7 @@
 use Rattle.std.proofs.Common.{◌≡◌}
 use Rattle.std.specs.Io.KnownBytes.{Consumes}
 use Rattle.s2ix_io.specs.Pieces.{ReadsOn}
-use Rattle.s2ix_cli.proofs.reading.read_whole.Given as goal
+use Rattle.s2ix_io.proofs.reading.read_whole.Given as goal
 
 abbrev pub invariant-pieces : goal.invariant-pieces
 invariant-pieces g l =

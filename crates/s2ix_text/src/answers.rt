@@ -1,16 +1,17 @@
-//! The answers of lines, as they are printed.
 ghost use Rattle.std.specs.Prelude.{◌≡◌, ◌+◌, ◌-◌, ◌^◌, ◌<◌};
 ghost use Rattle.s2ix_io.specs.Faults.{write_faults};
 ghost use Rattle.s2ix_io.specs.Puts.{Puts};
-ghost use Rattle.s2ix_cli.specs.Step.{neighbors_line, no_line, ok_line, path_line, square_line};
+ghost use Rattle.s2ix_text.specs.Answers.{neighbors_line, no_line, ok_line, path_line, square_line};
 
 use itoa::Buffer;
 use s2id_core::CellId;
 use s2id_cube::{FaceIj, edge_neighbors};
 use s2ix_io::{Sink, WriteFault, put_parts};
 
-// Prints that a line is refused, and why.
-pub(crate) fn put_no<K: Sink>(sink: &mut K, name: &str) -> Result<(), WriteFault>
+/// Writes the line that says that a line of a script is refused: `no` and the name of the reason.
+///
+/// It takes no memory and does not flush. At the first fault of the sink it ends, when a front of the line went out. This project's own.
+pub fn write_no<K: Sink>(name: &str, sink: &mut K) -> Result<(), WriteFault>
     requires { K.fault_count sink.old < 2 ^ 64 - 1 }
     ensures puts { Puts (K.taken sink.old) (K.taken sink.new) result (no_line name.now) }
     ensures faults { K.fault_count sink.new ≡ K.fault_count sink.old + write_faults result }
@@ -18,8 +19,10 @@ pub(crate) fn put_no<K: Sink>(sink: &mut K, name: &str) -> Result<(), WriteFault
     put_parts(sink, &[b"no ", name.as_bytes(), b"\n"])
 }
 
-// Prints that a line is accepted, and how many pairs changed their counts.
-pub(crate) fn put_ok<K: Sink>(sink: &mut K, pairs: usize) -> Result<(), WriteFault>
+/// Writes the line that says that a line of a script is accepted: `ok` and how many pairs changed their counts.
+///
+/// It takes no memory and does not flush. At the first fault of the sink it ends, when a front of the line went out. This project's own.
+pub fn write_ok<K: Sink>(pairs: usize, sink: &mut K) -> Result<(), WriteFault>
     requires { K.fault_count sink.old < 2 ^ 64 - 1 }
     ensures puts { Puts (K.taken sink.old) (K.taken sink.new) result (ok_line pairs) }
     ensures faults { K.fault_count sink.new ≡ K.fault_count sink.old + write_faults result }
@@ -29,8 +32,10 @@ pub(crate) fn put_ok<K: Sink>(sink: &mut K, pairs: usize) -> Result<(), WriteFau
     put_parts(sink, &[b"ok ", number.as_bytes(), b"\n"])
 }
 
-// Prints a cell's path.
-pub(crate) fn put_path<K: Sink>(sink: &mut K, cell: CellId) -> Result<(), WriteFault>
+/// Writes a cell's path on a line of its own.
+///
+/// It takes no memory and does not flush. At the first fault of the sink it ends, when a front of the line went out. This project's own.
+pub fn write_path<K: Sink>(cell: CellId, sink: &mut K) -> Result<(), WriteFault>
     requires { K.fault_count sink.old < 2 ^ 64 - 1 }
     ensures puts { Puts (K.taken sink.old) (K.taken sink.new) result (path_line cell) }
     ensures faults { K.fault_count sink.new ≡ K.fault_count sink.old + write_faults result }
@@ -39,8 +44,10 @@ pub(crate) fn put_path<K: Sink>(sink: &mut K, cell: CellId) -> Result<(), WriteF
     put_parts(sink, &[path.as_bytes(), b"\n"])
 }
 
-// Prints the cells over a cell's sides.
-pub(crate) fn put_neighbors<K: Sink>(sink: &mut K, cell: CellId) -> Result<(), WriteFault>
+/// Writes the tokens of the cells over a cell's sides on one line: down, right, up and left.
+///
+/// It takes no memory and does not flush. At the first fault of the sink it ends, when a front of the line went out. This project's own.
+pub fn write_neighbors<K: Sink>(cell: CellId, sink: &mut K) -> Result<(), WriteFault>
     requires { K.fault_count sink.old < 2 ^ 64 - 1 }
     ensures puts { Puts (K.taken sink.old) (K.taken sink.new) result (neighbors_line cell) }
     ensures faults { K.fault_count sink.new ≡ K.fault_count sink.old + write_faults result }
@@ -65,8 +72,10 @@ pub(crate) fn put_neighbors<K: Sink>(sink: &mut K, cell: CellId) -> Result<(), W
     )
 }
 
-// Prints a cell's square.
-pub(crate) fn put_square<K: Sink>(sink: &mut K, square: FaceIj) -> Result<(), WriteFault>
+/// Writes a square on one line: its face, its column and row, its level and its orientation.
+///
+/// It takes no memory and does not flush. At the first fault of the sink it ends, when a front of the line went out. This project's own.
+pub fn write_square<K: Sink>(square: FaceIj, sink: &mut K) -> Result<(), WriteFault>
     requires { K.fault_count sink.old < 2 ^ 64 - 1 }
     ensures puts { Puts (K.taken sink.old) (K.taken sink.new) result (square_line square) }
     ensures faults { K.fault_count sink.new ≡ K.fault_count sink.old + write_faults result }
