@@ -16,10 +16,9 @@ line_fault false (Ok instruction) OutOfMemory is wants = wants
 line_fault false (Err e) OutOfMemory is wants = cc
 
 -- what is made of a meaning
-pub map_ok-wants : {A B : Type 0} (f : A → B) (wants : B → Bool) (meaning : Result A LineFault) → ((a : A) → wants (f a) ≡ true) → is_ok_with (λ _. true) meaning ≡ true
-    → is_ok_with wants (map_ok f meaning) ≡ true
-map_ok-wants f wants (Ok a) on is = on a
-map_ok-wants f wants (Err fault) on is = cc
+pub map_ok-wants : {A B : Type 0} (f : A → B) (wants : B → Bool) (meaning : Result A LineFault) → is_ok_with (λ a. wants (f a)) meaning ≡ true → is_ok_with wants (map_ok f meaning) ≡ true
+map_ok-wants f wants (Ok a) is = is
+map_ok-wants f wants (Err fault) is = cc
 
 -- a meaning without a fault
 pub no_fault-wants : {A : Type 0} (meaning : Result A LineFault) → result_err meaning ≡ None → is_ok_with (λ _. true) meaning ≡ true

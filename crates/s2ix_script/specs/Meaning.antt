@@ -6,9 +6,10 @@ use Rattle.s2id_core.specs.Spelled.{cell_spelled}
 use Rattle.s2id_union.specs.NormalForm.{normal_form}
 use Rattle.s2ix_bag.specs.declared.label.Label.{Label}
 use Rattle.s2ix_bag.specs.declared.pair.Pair.{Pair}
+use Rattle.s2ix_edit.specs.declared.edit.Edit.{Edit}
 use Rattle.s2ix_edit.specs.declared.edit.Edit.TheVariants.{Add, AddUnion, Remove, DropLabel, Relabel}
 use Rattle.s2ix_script.specs.declared.instruction.Instruction.{Instruction}
-use Rattle.s2ix_script.specs.declared.instruction.Instruction.TheVariants.{Edit, Undo, Redo, Forget, At, Meet, Labels, Ranges, Path, Neighbors, Face, Dump, Journal}
+use Rattle.s2ix_script.specs.declared.instruction.Instruction.TheVariants as asks
 use Rattle.s2ix_script.specs.declared.line_fault.LineError.{LineError}
 use Rattle.s2ix_script.specs.declared.line_fault.LineError.TheVariants.{Fault, OutOfMemory}
 use Rattle.s2ix_script.specs.declared.line_fault.LineFault.{LineFault}
@@ -48,12 +49,6 @@ pair_with (Some cell) None copies = Err BadLabel
 pair_with (Some cell) (Some label) None = Err BadCount
 pair_with (Some cell) (Some label) (Some n) = Ok (record { cell = cell; label = label }, n)
 
--- two labels; the first field that names none decides
-abbrev pub labels_with : Option Label → Option Label → Result (Label × Label) LineFault
-labels_with None target = Err BadLabel
-labels_with (Some source) None = Err BadLabel
-labels_with (Some source) (Some target) = Ok (source, target)
-
 -- the fields TOKEN LABEL, with one copy, or TOKEN LABEL COPIES
 abbrev pub pair_named : List (List ℕ) → Result (Pair × ℕ) LineFault
 pair_named (token ∷ label ∷ []) = pair_with (cell_spelled token) (label_spelled label) (Some 1)
@@ -65,15 +60,21 @@ abbrev pub cell_named : List (List ℕ) → Result CellId LineFault
 cell_named (token ∷ []) = cell_with (cell_spelled token)
 cell_named fields = Err BadArguments
 
--- the one field LABEL
-abbrev pub label_named : List (List ℕ) → Result Label LineFault
-label_named (label ∷ []) = label_with (label_spelled label)
-label_named fields = Err BadArguments
+-- the one field LABEL, whose label is dropped
+abbrev pub drop_named : List (List ℕ) → Result Edit LineFault
+drop_named (label ∷ []) = map_ok DropLabel (label_with (label_spelled label))
+drop_named fields = Err BadArguments
+
+-- a label that becomes another, where fields name both; the first that does not decides
+abbrev pub relabel_with : Option Label → Option Label → Result Edit LineFault
+relabel_with None target = Err BadLabel
+relabel_with (Some source) None = Err BadLabel
+relabel_with (Some source) (Some target) = Ok (Relabel source target)
 
 -- the fields SOURCE TARGET
-abbrev pub labels_named : List (List ℕ) → Result (Label × Label) LineFault
-labels_named (source ∷ target ∷ []) = labels_with (label_spelled source) (label_spelled target)
-labels_named fields = Err BadArguments
+abbrev pub relabel_named : List (List ℕ) → Result Edit LineFault
+relabel_named (source ∷ target ∷ []) = relabel_with (label_spelled source) (label_spelled target)
+relabel_named fields = Err BadArguments
 
 -- ---- the cells that fields name
 
@@ -97,38 +98,38 @@ abbrev pub union_named : List (List ℕ) → Result (List CellId) LineFault
 union_named [] = Err BadArguments
 union_named (token ∷ tokens) = union_of (token ∷ tokens)
 
--- a union under a label
-abbrev pub under : Result Label LineFault → Result (List CellId) LineFault → Result (Label × List CellId) LineFault
-under (Ok label) union = map_ok (λ cells. (label, cells)) union
-under (Err fault) union = Err fault
+-- a union that is added under a label
+abbrev pub add_union_with : Result Label LineFault → Result (List CellId) LineFault → Result Edit LineFault
+add_union_with (Ok label) union = map_ok (λ cells. AddUnion cells label) union
+add_union_with (Err fault) union = Err fault
 
 -- the fields LABEL TOKEN.., one token at least
-abbrev pub label_and_union : List (List ℕ) → Result (Label × List CellId) LineFault
-label_and_union (label ∷ token ∷ tokens) = under (label_with (label_spelled label)) (union_of (token ∷ tokens))
-label_and_union fields = Err BadArguments
+abbrev pub add_union_named : List (List ℕ) → Result Edit LineFault
+add_union_named (label ∷ token ∷ tokens) = add_union_with (label_with (label_spelled label)) (union_of (token ∷ tokens))
+add_union_named fields = Err BadArguments
 
 -- ---- the words
 
 -- each word, and what the fields behind it ask for
 abbrev pub words : List (List ℕ × (List (List ℕ) → Result Instruction LineFault))
 words =
-    (codes "add", λ fields. map_ok (λ named. Edit (Add named.0 named.1)) (pair_named fields))
-    ∷ (codes "remove", λ fields. map_ok (λ named. Edit (Remove named.0 named.1)) (pair_named fields))
-    ∷ (codes "addunion", λ fields. map_ok (λ named. Edit (AddUnion named.1 named.0)) (label_and_union fields))
-    ∷ (codes "drop", λ fields. map_ok (λ label. Edit (DropLabel label)) (label_named fields))
-    ∷ (codes "relabel", λ fields. map_ok (λ labels. Edit (Relabel labels.0 labels.1)) (labels_named fields))
-    ∷ (codes "undo", bare Undo)
-    ∷ (codes "redo", bare Redo)
-    ∷ (codes "forget", bare Forget)
-    ∷ (codes "at", λ fields. map_ok At (cell_named fields))
-    ∷ (codes "meet", λ fields. map_ok Meet (union_named fields))
-    ∷ (codes "labels", λ fields. map_ok Labels (union_named fields))
-    ∷ (codes "ranges", bare Ranges)
-    ∷ (codes "path", λ fields. map_ok Path (cell_named fields))
-    ∷ (codes "neighbors", λ fields. map_ok Neighbors (cell_named fields))
-    ∷ (codes "face", λ fields. map_ok Face (cell_named fields))
-    ∷ (codes "dump", bare Dump)
-    ∷ (codes "journal", bare Journal)
+    (codes "add", λ fields. map_ok (λ named. asks.Edit (Add named.0 named.1)) (pair_named fields))
+    ∷ (codes "remove", λ fields. map_ok (λ named. asks.Edit (Remove named.0 named.1)) (pair_named fields))
+    ∷ (codes "addunion", λ fields. map_ok asks.Edit (add_union_named fields))
+    ∷ (codes "drop", λ fields. map_ok asks.Edit (drop_named fields))
+    ∷ (codes "relabel", λ fields. map_ok asks.Edit (relabel_named fields))
+    ∷ (codes "undo", bare asks.Undo)
+    ∷ (codes "redo", bare asks.Redo)
+    ∷ (codes "forget", bare asks.Forget)
+    ∷ (codes "at", λ fields. map_ok asks.At (cell_named fields))
+    ∷ (codes "meet", λ fields. map_ok asks.Meet (union_named fields))
+    ∷ (codes "labels", λ fields. map_ok asks.Labels (union_named fields))
+    ∷ (codes "ranges", bare asks.Ranges)
+    ∷ (codes "path", λ fields. map_ok asks.Path (cell_named fields))
+    ∷ (codes "neighbors", λ fields. map_ok asks.Neighbors (cell_named fields))
+    ∷ (codes "face", λ fields. map_ok asks.Face (cell_named fields))
+    ∷ (codes "dump", bare asks.Dump)
+    ∷ (codes "journal", bare asks.Journal)
     ∷ []
 
 -- what a word of these and the fields behind it ask for: the first entry with that word decides
@@ -153,9 +154,9 @@ meaning_of line = if nat_lt LONGEST (length line) then Err LineTooLong else mean
 
 -- whether an instruction is on a union of cells
 abbrev pub is_on_union : Instruction → Bool
-is_on_union (Edit (AddUnion union label)) = true
-is_on_union (Meet target) = true
-is_on_union (Labels target) = true
+is_on_union (asks.Edit (AddUnion union label)) = true
+is_on_union (asks.Meet target) = true
+is_on_union (asks.Labels target) = true
 is_on_union other = false
 
 -- whether a line asks for such an instruction

@@ -2,24 +2,22 @@
 //! names a cell.
 ghost use Rattle.std.specs.Prelude.{◌≡◌, Ok, None, ◌∷◌, true, MatchResult};
 ghost use Rattle.std.specs.Result.{result_err};
-ghost use Rattle.s2ix_script.specs.Meaning.{IsFault, Means, cells_named, label_and_union as both_of, union_named as union_in, union_of as union_that};
+ghost use Rattle.s2ix_script.specs.Meaning.{IsFault, Means, add_union_named as add_union_of, cells_named, is_on_union, union_named as union_in, union_of as union_that};
 
 use crate::fields::cell_spelled;
+use crate::instruction::Instruction;
 use crate::line_fault::{LineError, LineFault};
 use crate::numbers::label_spelled;
 use bstr::Fields;
 use s2id_core::CellId;
 use s2id_union::CellUnion;
-use s2ix_bag::Label;
+use s2ix_edit::Edit;
 use std::alloc::Global;
 
-// The label and the cells that the fields LABEL TOKEN.. name, of which one token at least stands there.
+// The edit of `addunion`, whose label and cells the fields LABEL TOKEN.. name, of which one token at least stands there.
 #[tactic(auto, using(crate::proofs::WantedMemory::wanting))]
-pub(crate) fn label_and_union(
-    alloc: Global,
-    mut fields: Fields<'_>,
-) -> Result<(Label, CellUnion), LineError>
-    ensures { Means (λ _. true) result (both_of fields.entry) }
+pub(crate) fn add_union_named(alloc: Global, mut fields: Fields<'_>) -> Result<Edit, LineError>
+    ensures { Means (λ edit. is_on_union (Instruction.Edit edit)) result (add_union_of fields.entry) }
 {
     let Some(label) = fields.next() else {
         return Err(LineError::Fault(LineFault::BadArguments));
@@ -29,7 +27,7 @@ pub(crate) fn label_and_union(
     };
     let label = label_spelled(label).ok_or(LineFault::BadLabel)?;
     let union = union_of(alloc, first, fields)?;
-    Ok((label, union))
+    Ok(Edit::AddUnion { union, label })
 }
 
 // The cells that the fields TOKEN.. name, of which one at least stands there.

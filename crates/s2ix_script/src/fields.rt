@@ -1,14 +1,15 @@
 //! What the fields behind a word name.
 ghost use Rattle.std.specs.Prelude.{◌≡◌};
 ghost use Rattle.s2id_core.specs.Spelled.{cell_spelled as cell_that};
-ghost use Rattle.s2ix_script.specs.Meaning.{bare as bare_of, cell_named as cell_of, cell_with, label_named as label_of, labels_named as labels_of, pair_named as pair_of};
+ghost use Rattle.s2ix_script.specs.Meaning.{bare as bare_of, cell_named as cell_of, cell_with, drop_named as drop_of, pair_named as pair_of, relabel_named as relabel_of};
 
 use crate::instruction::Instruction;
 use crate::line_fault::LineFault;
 use crate::numbers::{copies_spelled, label_spelled};
 use bstr::Fields;
 use s2id_core::CellId;
-use s2ix_bag::{Label, Pair};
+use s2ix_bag::Pair;
+use s2ix_edit::Edit;
 
 // An instruction that takes no field.
 pub(crate) fn bare(instruction: Instruction, mut fields: Fields<'_>) -> Result<Instruction, LineFault>
@@ -40,9 +41,9 @@ pub(crate) fn cell_named(mut fields: Fields<'_>) -> Result<CellId, LineFault>
     cell_spelled(token)
 }
 
-// The label that the one field LABEL names.
-pub(crate) fn label_named(mut fields: Fields<'_>) -> Result<Label, LineFault>
-    ensures { result ≡ label_of fields.entry }
+// The edit of `drop`, whose label the one field LABEL names.
+pub(crate) fn drop_named(mut fields: Fields<'_>) -> Result<Edit, LineFault>
+    ensures { result ≡ drop_of fields.entry }
 {
     let Some(label) = fields.next() else {
         return Err(LineFault::BadArguments);
@@ -50,12 +51,13 @@ pub(crate) fn label_named(mut fields: Fields<'_>) -> Result<Label, LineFault>
     if fields.next().is_some() {
         return Err(LineFault::BadArguments);
     }
-    label_spelled(label).ok_or(LineFault::BadLabel)
+    let label = label_spelled(label).ok_or(LineFault::BadLabel)?;
+    Ok(Edit::DropLabel { label })
 }
 
-// The labels that the two fields SOURCE TARGET name.
-pub(crate) fn labels_named(mut fields: Fields<'_>) -> Result<(Label, Label), LineFault>
-    ensures { result ≡ labels_of fields.entry }
+// The edit of `relabel`, whose labels the two fields SOURCE TARGET name.
+pub(crate) fn relabel_named(mut fields: Fields<'_>) -> Result<Edit, LineFault>
+    ensures { result ≡ relabel_of fields.entry }
 {
     let Some(source) = fields.next() else {
         return Err(LineFault::BadArguments);
@@ -68,7 +70,7 @@ pub(crate) fn labels_named(mut fields: Fields<'_>) -> Result<(Label, Label), Lin
     }
     let source = label_spelled(source).ok_or(LineFault::BadLabel)?;
     let target = label_spelled(target).ok_or(LineFault::BadLabel)?;
-    Ok((source, target))
+    Ok(Edit::Relabel { source, target })
 }
 
 // The pair and the copies that the fields TOKEN LABEL or TOKEN LABEL COPIES name.
