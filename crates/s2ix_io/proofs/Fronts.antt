@@ -1,12 +1,11 @@
 -- Fronts of texts, and what went out of a text that is put part by part.
-use Rattle.std.proofs.Common.{◌≡◌, ℕ, ◌≤◌, ◌+◌, ◌<◌, List, [], ◌∷◌, ◌++◌, length, take, drop, take_all, get_or, Option, Some, Result, Ok, Err, refl, sym, ap, subst, ◌∙◌, append_assoc, append-nil, take-append-drop, length-append, arith}
-use Rattle.std.specs.Prelude.{IsOk, IsErr, flat_map, slice_get}
-use Rattle.std.specs.Io.KnownBytes.{Keeps, Appends}
-use Rattle.std.proofs.lemmas.Bool.{false≢true}
+use Rattle.std.proofs.Common.{◌≡◌, ℕ, ◌+◌, ◌<◌, List, [], ◌∷◌, ◌++◌, length, take, drop, take_all, get_or, Option, Some, Result, Ok, Err, refl, sym, ap, subst, ◌∙◌, append_assoc, append-nil, take-append-drop, arith}
+use Rattle.std.specs.Prelude.{flat_map, slice_get}
+use Rattle.std.specs.Io.KnownBytes.{Appends}
 use Rattle.std.proofs.lemmas.List.{drop_more, take_more, length_push}
 use Rattle.std.proofs.lemmas.List.Concat.{flat_map-append}
 use Rattle.std.proofs.lemmas.Option.{slice_get_within, slice_get_read, get_or_from_slice_get}
-use Rattle.std.proofs.KnownBytes.{Appends-nil, Appends-trans, Appends-kept}
+use Rattle.std.proofs.KnownBytes.{Appends-trans}
 use Rattle.s2ix_io.specs.Puts.{IsFront, AppendsFront, Puts}
 
 -- ---- fronts
@@ -28,33 +27,12 @@ pub IsFront-trans : (inner front whole : List ℕ) → IsFront inner front → I
 IsFront-trans inner front whole p q =
     record { rest = p.rest ++ q.rest; whole_is = q.whole_is ∙ ap (λ l. l ++ q.rest) p.whole_is ∙ append_assoc inner p.rest q.rest }
 
--- a front of a text is a front of that text and more
-pub IsFront-more : (front text more : List ℕ) → IsFront front text → IsFront front (text ++ more)
-IsFront-more front text more p = IsFront-trans front text (text ++ more) p (IsFront-append text more)
-
 -- a whole text, and then a front of the next
 pub IsFront-after : (text front next : List ℕ) → IsFront front next → IsFront (text ++ front) (text ++ next)
 IsFront-after text front next p =
     record { rest = p.rest; whole_is = ap (λ l. text ++ l) p.whole_is ∙ sym (append_assoc text front p.rest) }
 
--- the first n bytes of a text are a front of it
-pub IsFront-take : (n : ℕ) (whole : List ℕ) → IsFront (take n whole) whole
-IsFront-take n whole = record { rest = drop n whole; whole_is = sym (take-append-drop n whole) }
-
--- a front is no longer than the text
-pub length-IsFront : (front whole : List ℕ) → IsFront front whole → length front ≤ length whole
-length-IsFront front whole p = omega (arith, ap length p.whole_is, length-append front p.rest)
-
 -- ---- what went out
-
--- nothing went out
-pub AppendsFront-nothing : (old new : Option (List ℕ)) (text : List ℕ) → Keeps old new → AppendsFront old new text
-AppendsFront-nothing old new text p =
-    record { front = []; is_front = IsFront-nil text; appends = Appends-kept old old new [] (Appends-nil old) p }
-
--- the whole text went out
-pub AppendsFront-all : (old new : Option (List ℕ)) (text : List ℕ) → Appends old new text → AppendsFront old new text
-AppendsFront-all old new text p = record { front = text; is_front = IsFront-refl text; appends = p }
 
 -- a front of a front went out
 pub AppendsFront-of_front : (old new : Option (List ℕ)) (front whole : List ℕ) → AppendsFront old new front → IsFront front whole → AppendsFront old new whole
@@ -74,32 +52,12 @@ AppendsFront-after old mid new text next p q =
       appends = Appends-trans old mid new text q.front p q.appends;
     }
 
--- nothing went out after a whole text
-pub AppendsFront-kept : (old mid new : Option (List ℕ)) (text : List ℕ) → AppendsFront old mid text → Keeps mid new → AppendsFront old new text
-AppendsFront-kept old mid new text p q =
-    record { front = p.front; is_front = p.is_front; appends = Appends-kept old mid new p.front p.appends q }
-
 -- ---- results
 
 -- a whole text went out, and then what a call put of the next
 pub Puts-after : {A E : Type 0} (old mid new : Option (List ℕ)) (r : Result A E) (text next : List ℕ) → Appends old mid text → Puts mid new r next → Puts old new r (text ++ next)
 Puts-after old mid new (Ok x) text next p q = Appends-trans old mid new text next p q
 Puts-after old mid new (Err e) text next p q = AppendsFront-after old mid new text next p q
-
--- whatever a call answers, what it put is a front of its text
-pub AppendsFront-of_puts : {A E : Type 0} (old new : Option (List ℕ)) (r : Result A E) (text : List ℕ) → Puts old new r text → AppendsFront old new text
-AppendsFront-of_puts old new (Ok x) text p = AppendsFront-all old new text p
-AppendsFront-of_puts old new (Err e) text p = p
-
--- at an error, a front of the text went out
-pub Puts-of_err : {A E : Type 0} (old new : Option (List ℕ)) (r : Result A E) (text : List ℕ) → IsErr r → AppendsFront old new text → Puts old new r text
-Puts-of_err old new (Ok x) text p q = absurd (false≢true p)
-Puts-of_err old new (Err e) text p q = q
-
--- at `Ok`, the whole text went out
-pub Puts-of_ok : {A E : Type 0} (old new : Option (List ℕ)) (r : Result A E) (text : List ℕ) → IsOk r → Appends old new text → Puts old new r text
-Puts-of_ok old new (Ok x) text p q = q
-Puts-of_ok old new (Err e) text p q = absurd (false≢true p)
 
 -- ---- texts of several parts
 
@@ -139,12 +97,6 @@ AppendsFront-flat_map_at f old mid new xs i x h p q =
     AppendsFront-flat_map f old mid new xs i x (slice_get_within xs i x h) p
     (subst (λ y. AppendsFront mid new (f y)) (sym (get_or_from_slice_get xs i x x h)) q)
 
--- the same, where the item is the one at the index
-pub AppendsFront-flat_map_item : {X : Type 0} (f : X → List ℕ) (old mid new : Option (List ℕ)) (xs : List X) (i : ℕ) (x : X) → i < length xs → x ≡ get_or xs i x
-    → Appends old mid (flat_map f (take i xs)) → AppendsFront mid new (f x) → AppendsFront old new (flat_map f xs)
-AppendsFront-flat_map_item f old mid new xs i x h e p q =
-    AppendsFront-flat_map f old mid new xs i x h p (subst (λ y. AppendsFront mid new (f y)) e q)
-
 -- a loop over the items of a list went on by one: their texts went out up to and with that of this item
 pub Appends-flat_map_turn : {X : Type 0} (f : X → List ℕ) (old mid new : Option (List ℕ)) (xs done : List X) (x : X) → (length done < length xs) × (x ≡ get_or xs (length done) x)
     → Appends old mid (flat_map f (take (length done) xs)) → Appends mid new (f x) → Appends old new (flat_map f (take (length (done ++ x ∷ [])) xs))
@@ -155,7 +107,8 @@ Appends-flat_map_turn f old mid new xs done x h p q =
 -- a loop over the items of a list met a fault in the text of this item
 pub AppendsFront-flat_map_turn : {X : Type 0} (f : X → List ℕ) (old mid new : Option (List ℕ)) (xs done : List X) (x : X) → (length done < length xs) × (x ≡ get_or xs (length done) x)
     → Appends old mid (flat_map f (take (length done) xs)) → AppendsFront mid new (f x) → AppendsFront old new (flat_map f xs)
-AppendsFront-flat_map_turn f old mid new xs done x h p q = AppendsFront-flat_map_item f old mid new xs (length done) x h.0 h.1 p q
+AppendsFront-flat_map_turn f old mid new xs done x h p q =
+    AppendsFront-flat_map f old mid new xs (length done) x h.0 p (subst (λ y. AppendsFront mid new (f y)) h.1 q)
 
 -- a loop over the items of a list came to its end: the texts of all went out
 pub Appends-flat_map_end : {X : Type 0} (f : X → List ℕ) (old new : Option (List ℕ)) (xs : List X) (i : ℕ) → i ≡ length xs → Appends old new (flat_map f (take i xs)) → Appends old new (flat_map f xs)

@@ -1,10 +1,14 @@
 -- How many faults a call's answer tells of, so that a device's counter is one equation.
-use Rattle.std.specs.Prelude.{◌≡◌, ℕ, Result, Ok, Err}
+use Rattle.std.specs.Prelude.{◌≡◌, ℕ, ◌-◌, ◌^◌, ◌<◌, Result, Ok, Err}
 use Rattle.s2ix_io.specs.declared.source.ReadFault.{ReadFault}
 use Rattle.s2ix_io.specs.declared.run_fault.RunFault.{RunFault}
 use Rattle.s2ix_io.specs.declared.run_fault.RunFault.TheVariants.{Read, Write, OutOfMemory, ReaderTooLong}
 use Rattle.s2ix_io.specs.declared.sink.WriteFault.{WriteFault}
 use Rattle.s2ix_io.specs.Pieces.{ReadsOn}
+
+-- one fault more can be counted
+abbrev pub CanCount : ℕ → Type 0
+CanCount faults = faults < 2 ^ 64 - 1
 
 -- 1 where the answer is a read fault, else 0
 abbrev pub read_faults : {A : Type 0} → Result A ReadFault → ℕ

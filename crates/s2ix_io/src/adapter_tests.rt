@@ -1,7 +1,9 @@
 // What the adapters ask of std's readers and writers: no contract speaks of it, since std's traits have no relation for a call.
-use crate::{FromRead, ReadFault, Sink, Source, ToWrite, WriteFault};
+use crate::checks::{check_flush, check_pieces, check_put};
+use crate::{FromRead, ToWrite, WriteFault};
 use std::io;
 use std::io::{ErrorKind, Read, Write};
+use std::process::Abort;
 
 // Faults of std's that a caller might want to try again, and one that it might not.
 const KINDS: [ErrorKind; 3] = [
@@ -83,62 +85,55 @@ fn writer_of(put_len: usize, fault_at: u64, kind: ErrorKind) -> CountingWriter {
     }
 }
 
+// The pieces of `hello` where the second call fails.
+const PIECES: [Option<&[u8]>; 4] = [Some(b"hel"), None, Some(b"lo"), Some(b"")];
+
+// Reads from a reader whose second call fails with an error of this kind: each piece is one call.
+fn check_reads(rt: &impl Abort, kind: ErrorKind) {
+    let mut source = FromRead::new(CountingReader {
+        left: b"hello",
+        reads: Calls::new(2, kind),
+    });
+    check_pieces(rt, &mut source, &PIECES, 1);
+    assert_eq!(rt; source.into_inner().reads.count, 4);
+}
+
 #[test]
 fn each_piece_is_one_read(rt: HostRuntime) {
     for kind in KINDS {
-        let mut reader = CountingReader {
-            left: b"hello",
-            reads: Calls::new(2, kind),
-        };
-        let mut source = FromRead::new(&mut reader);
-        let mut buf = [0; 3];
-        for piece in [Ok(3), Err(ReadFault), Ok(2), Ok(0)] {
-            assert!(rt; source.faults() < 2);
-            assert_eq!(rt; source.piece(&mut buf), piece);
-        }
-        assert_eq!(rt; source.faults(), 1);
-        drop(source);
-        assert_eq!(rt; reader.reads.count, 4);
+        check_reads(&rt, kind);
     }
 }
 
-// The puts that a writer of so many bytes a call is asked for, with what comes of them.
-const PUTS: [(&[u8], Result<usize, WriteFault>); 3] = [
-    (b"he", Ok(2)),
-    (b"ha", Err(WriteFault)),
-    (b"llo", Ok(3)),
-];
+// Puts to a writer whose second call of each kind fails with an error of this kind, and flushes: each is one call.
+fn check_writes(rt: &impl Abort, kind: ErrorKind) {
+    let mut sink = ToWrite::new(writer_of(9, 2, kind));
+    check_put(rt, &mut sink, b"he", Ok(2), 0);
+    check_put(rt, &mut sink, b"ha", Err(WriteFault), 1);
+    check_put(rt, &mut sink, b"llo", Ok(3), 1);
+    check_flush(rt, &mut sink, Ok(()), 1);
+    check_flush(rt, &mut sink, Err(WriteFault), 2);
+    check_flush(rt, &mut sink, Ok(()), 2);
+    check_writer(rt, sink.into_inner(), (3, 3), 5);
+}
+
+// A writer was called so often, to write and to flush, and took so many bytes.
+fn check_writer(rt: &impl Abort, writer: CountingWriter, calls: (u64, u64), taken: usize) {
+    assert_eq!(rt; (writer.writes.count, writer.flushes.count), calls);
+    assert_eq!(rt; writer.taken, taken);
+}
 
 #[test]
 fn each_put_is_one_write_and_each_flush_one_flush(rt: HostRuntime) {
     for kind in KINDS {
-        let mut writer = writer_of(9, 2, kind);
-        let mut sink = ToWrite::new(&mut writer);
-        for (bytes, put) in PUTS {
-            assert!(rt; sink.faults() < 2);
-            assert_eq!(rt; sink.put(bytes), put);
-        }
-        assert_eq!(rt; sink.faults(), 1);
-        for flushed in [Ok(()), Err(WriteFault), Ok(())] {
-            assert!(rt; sink.faults() < 3);
-            assert_eq!(rt; sink.flush(), flushed);
-        }
-        assert_eq!(rt; sink.faults(), 2);
-        drop(sink);
-        assert_eq!(rt; (writer.writes.count, writer.flushes.count), (3, 3));
-        assert_eq!(rt; writer.taken, 5);
+        check_writes(&rt, kind);
     }
 }
 
 #[test]
 fn a_put_of_which_none_is_taken_is_a_fault(rt: HostRuntime) {
-    let mut writer = writer_of(0, 0, ErrorKind::WriteZero);
-    let mut sink = ToWrite::new(&mut writer);
-    for _ in 0..2 {
-        assert!(rt; sink.faults() < 2);
-        assert_eq!(rt; sink.put(b"hello"), Err(WriteFault));
-    }
-    assert_eq!(rt; sink.faults(), 2);
-    drop(sink);
-    assert_eq!(rt; writer.writes.count, 2);
+    let mut sink = ToWrite::new(writer_of(0, 0, ErrorKind::WriteZero));
+    check_put(&rt, &mut sink, b"hello", Err(WriteFault), 1);
+    check_put(&rt, &mut sink, b"hello", Err(WriteFault), 2);
+    check_writer(&rt, sink.into_inner(), (2, 0), 0);
 }

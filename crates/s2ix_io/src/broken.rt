@@ -5,7 +5,7 @@ use std::io;
 use std::io::{ErrorKind, Read, Write};
 
 /// A writer of std's that takes no byte and never fails.
-#[derive(Clone, Copy)]
+#[derive(Clone, Copy, Debug)]
 pub struct TakesNone;
 
 impl Write for TakesNone {
@@ -23,7 +23,7 @@ impl Write for TakesNone {
 }
 
 /// A reader and writer of std's each of whose calls fails.
-#[derive(Clone, Copy)]
+#[derive(Clone, Copy, Debug)]
 pub struct Broken;
 
 impl Read for Broken {

@@ -1,117 +1,131 @@
 // Sources, sinks, the adapters of std's readers and writers, and the calls that put texts.
+use crate::checks::{check_flush, check_pieces, check_put};
 use crate::{
-    Broken, FromRead, KeepingSink, ReadFault, Sink, SliceSource, Source, TakesNone, ToWrite,
-    WriteFault, put_all, put_parts,
+    Broken, FromRead, KeepingSink, ReadFault, Sink, SliceSource, TakesNone, ToWrite, WriteFault,
+    put_all, put_parts,
 };
-use std::alloc::AllocError;
+use std::alloc::{AllocError, Global};
+use std::process::Abort;
+
+// How many bytes a piece has at most, which call fails, the pieces of `hello`, and how many faults the source tells of.
+const SOURCES: [(usize, u64, [Option<&[u8]>; 4], u64); 2] = [
+    (2, 0, [Some(b"he"), Some(b"ll"), Some(b"o"), Some(b"")], 0),
+    (9, 1, [None, Some(b"hel"), Some(b"lo"), Some(b"")], 1),
+];
 
 #[test]
 fn a_source_gives_pieces_then_the_end(rt: HostRuntime) {
-    let mut source = SliceSource::new(b"hello", 2, 0);
-    let mut buf = [0; 8];
-    for (want, count) in [(b"he".as_slice(), 2), (b"ll", 2), (b"o", 1), (b"", 0)] {
-        assert_eq!(rt; source.faults(), 0);
-        assert_eq!(rt; source.piece(&mut buf), Ok(count));
-        assert!(rt; buf.starts_with(want));
+    for (piece_len, fault_at, pieces, faults) in SOURCES {
+        let mut source = SliceSource::new(b"hello", piece_len, fault_at);
+        check_pieces(&rt, &mut source, &pieces, faults);
     }
-    assert_eq!(rt; source.faults(), 0);
 }
 
-#[test]
-fn a_fault_is_counted_and_takes_nothing(rt: HostRuntime) {
-    let mut source = SliceSource::new(b"hello", 9, 1);
-    let mut buf = [0; 8];
-    assert_eq!(rt; source.piece(&mut buf), Err(ReadFault));
-    assert_eq!(rt; source.faults(), 1);
-    assert_eq!(rt; source.piece(&mut buf), Ok(5));
-    assert_eq!(rt; source.faults(), 1);
-}
+// The pieces of `hello` that a reader of std's gives.
+const READ: [Option<&[u8]>; 3] = [Some(b"hel"), Some(b"lo"), Some(b"")];
 
 #[test]
 fn a_reader_is_passed_on(rt: HostRuntime) {
-    let mut source = FromRead::new(b"hello".as_slice());
-    let mut buf = [0; 3];
-    assert_eq!(rt; source.piece(&mut buf), Ok(3));
-    assert_eq!(rt; buf, *b"hel");
-    assert_eq!(rt; source.piece(&mut buf), Ok(2));
-    assert!(rt; buf.starts_with(b"lo"));
-    assert_eq!(rt; source.piece(&mut buf), Ok(0));
-    assert_eq!(rt; source.faults(), 0);
+    check_pieces(&rt, &mut FromRead::new(b"hello".as_slice()), &READ, 0);
 }
 
 #[test]
 fn a_broken_reader_is_a_fault(rt: HostRuntime) {
-    let mut source = FromRead::new(Broken);
-    assert_eq!(rt; source.piece(&mut [0; 3]), Err(ReadFault));
-    assert_eq!(rt; source.faults(), 1);
+    check_pieces(&rt, &mut FromRead::new(Broken), &[None], 1);
 }
 
 #[test]
-fn a_writer_is_passed_on(rt: HostRuntime) -> Result<(), AllocError> {
-    let mut kept = Vec::new(rt.alloc());
-    let mut sink = ToWrite::new(&mut kept);
-    assert_eq!(rt; sink.put(b"hello"), Ok(5));
-    assert_eq!(rt; sink.flush(), Ok(()));
-    assert_eq!(rt; sink.faults(), 0);
-    drop(sink);
-    assert_eq!(rt; kept.as_slice(), b"hello".as_slice());
-    Ok(())
+fn a_writer_is_passed_on(rt: HostRuntime) {
+    let mut sink = ToWrite::new(Vec::new(rt.alloc()));
+    check_put(&rt, &mut sink, b"hello", Ok(5), 0);
+    check_flush(&rt, &mut sink, Ok(()), 0);
+    assert_eq!(rt; sink.into_inner().as_slice(), b"hello".as_slice());
 }
 
 #[test]
 fn a_writer_that_takes_none_is_a_fault(rt: HostRuntime) {
     let mut sink = ToWrite::new(TakesNone);
-    assert_eq!(rt; sink.put(b"hello"), Err(WriteFault));
-    assert_eq!(rt; sink.faults(), 1);
-    assert_eq!(rt; sink.flush(), Ok(()));
-    assert_eq!(rt; sink.faults(), 1);
+    check_put(&rt, &mut sink, b"hello", Err(WriteFault), 1);
+    check_flush(&rt, &mut sink, Ok(()), 1);
 }
 
 #[test]
 fn a_broken_writer_is_a_fault(rt: HostRuntime) {
     let mut sink = ToWrite::new(Broken);
-    assert_eq!(rt; sink.put(b"hello"), Err(WriteFault));
-    assert_eq!(rt; sink.flush(), Err(WriteFault));
-    assert_eq!(rt; sink.faults(), 2);
+    check_put(&rt, &mut sink, b"hello", Err(WriteFault), 1);
+    check_flush(&rt, &mut sink, Err(WriteFault), 2);
 }
 
-#[test]
-fn all_bytes_go_out_over_short_puts(rt: HostRuntime) {
-    let mut sink = KeepingSink::new(rt.alloc(), 2, 0, false);
-    assert_eq!(rt; put_all(&mut sink, b"hello"), Ok(()));
-    assert_eq!(rt;
-        put_parts(&mut sink, &[b" ".as_slice(), b"", b"world\n"]),
-        Ok(())
-    );
-    assert_eq!(rt; sink.kept(), b"hello world\n".as_slice());
+// A sink in memory, a text that is put to it whole and then in parts, and what comes of it.
+#[derive(Clone, Copy)]
+struct Text {
+    put_len: usize,
+    fault_at: u64,
+    is_flush_failing: bool,
+    whole: &'static [u8],
+    parts: [&'static [u8]; 3],
+    put: Result<(), WriteFault>,
+    kept: &'static [u8],
+    put_faults: u64,
+    flush: Result<(), WriteFault>,
+    flushed_len: usize,
+    faults: u64,
+}
+
+// All bytes go out over short puts, and a fault ends a text within it.
+const TEXTS: [Text; 2] = [
+    Text {
+        put_len: 2,
+        fault_at: 0,
+        is_flush_failing: false,
+        whole: b"hello",
+        parts: [b" ", b"", b"world\n"],
+        put: Ok(()),
+        kept: b"hello world\n",
+        put_faults: 0,
+        flush: Ok(()),
+        flushed_len: 12,
+        faults: 0,
+    },
+    Text {
+        put_len: 2,
+        fault_at: 3,
+        is_flush_failing: true,
+        whole: b"",
+        parts: [b"one", b" two", b""],
+        put: Err(WriteFault),
+        kept: b"one",
+        put_faults: 1,
+        flush: Err(WriteFault),
+        flushed_len: 0,
+        faults: 2,
+    },
+];
+
+// Puts a text to its sink, and looks at the sink before and behind the flush.
+fn check_text(rt: &impl Abort, alloc: Global, text: Text) {
+    let mut sink = KeepingSink::new(alloc, text.put_len, text.fault_at, text.is_flush_failing);
+    assert_eq!(rt; put_all(&mut sink, text.whole), Ok(()));
+    assert_eq!(rt; put_parts(&mut sink, &text.parts), text.put);
+    assert_eq!(rt; sink.faults(), text.put_faults);
+    assert_eq!(rt; sink.kept(), text.kept);
     assert_eq!(rt; sink.flushed_len(), 0);
-    assert_eq!(rt; sink.flush(), Ok(()));
-    assert_eq!(rt; sink.flushed_len(), 12);
-    assert_eq!(rt; sink.faults(), 0);
+    check_flush(rt, &mut sink, text.flush, text.faults);
+    assert_eq!(rt; sink.flushed_len(), text.flushed_len);
 }
 
 #[test]
-fn a_fault_ends_a_text_within_it(rt: HostRuntime) {
-    let mut sink = KeepingSink::new(rt.alloc(), 2, 3, true);
-    assert_eq!(rt;
-        put_parts(&mut sink, &[b"one".as_slice(), b" two"]),
-        Err(WriteFault)
-    );
-    assert_eq!(rt; sink.kept(), b"one".as_slice());
-    assert_eq!(rt; sink.faults(), 1);
-    assert_eq!(rt; sink.flush(), Err(WriteFault));
-    assert_eq!(rt; sink.faults(), 2);
+fn texts_go_out_until_a_fault(rt: HostRuntime) {
+    for text in TEXTS {
+        check_text(&rt, rt.alloc(), text);
+    }
 }
 
 #[test]
 fn faults_have_texts(rt: HostRuntime) -> Result<(), AllocError> {
     assert_eq!(rt;
-        format!(in rt.alloc(); "{ReadFault}")?.as_str(),
-        "read fault"
-    );
-    assert_eq!(rt;
-        format!(in rt.alloc(); "{WriteFault}")?.as_str(),
-        "write fault"
+        format!(in rt.alloc(); "{ReadFault}, {WriteFault}")?.as_str(),
+        "read fault, write fault"
     );
     Ok(())
 }

@@ -6,7 +6,7 @@ use super::{ReadFault, Source};
 use std::io::Read;
 
 /// A source over a reader of std's. What the reader gives is the source's, and each error of the reader's is a fault.
-#[derive(Drop)]
+#[derive(Debug, Drop)]
 pub struct FromRead<R> {
     inner: R,
     faults: u64,
@@ -19,6 +19,14 @@ impl<R: Read> FromRead<R> {
         ensures faults { reader_faults result ≡ 0 }
     {
         FromRead { inner, faults: 0 }
+    }
+
+    /// The reader, at what it has left.
+    pub fn into_inner(self) -> R
+        ensures { result ≡ reader_of self }
+    {
+        let FromRead { inner, faults: _ } = self;
+        inner
     }
 }
 

@@ -1,13 +1,13 @@
-ghost use Rattle.std.specs.Prelude.{◌≡◌, ◌↔◌, ◌+◌, ◌-◌, ◌^◌, ◌<◌, Some, [], max, OnOk, IsErr, IsTrue, vec_len};
+ghost use Rattle.std.specs.Prelude.{◌≡◌, ◌↔◌, ◌+◌, Some, [], max, OnOk, IsErr, IsTrue, vec_len};
 ghost use Rattle.std.specs.Io.KnownBytes.{Keeps};
-ghost use Rattle.s2ix_io.specs.Faults.{write_faults};
+ghost use Rattle.s2ix_io.specs.Faults.{CanCount, write_faults};
 ghost use Rattle.s2ix_io.specs.Devices.{flush_fails, flushed_len_of, put_len_of, sink_fault_at};
 
 use crate::{Sink, WriteFault};
 use std::alloc::Global;
 
 /// A sink that keeps what it takes.
-#[derive(Drop)]
+#[derive(Debug, Drop)]
 pub struct KeepingSink {
     kept: Vec<u8>,
     flushed_len: usize,
@@ -72,7 +72,7 @@ impl Sink for KeepingSink {
     }
 
     fn flush(&mut self) -> Result<(), WriteFault>
-        requires { ⟦<KeepingSink as Sink>⟧.fault_count self.old < 2 ^ 64 - 1 }
+        requires { CanCount (⟦<KeepingSink as Sink>⟧.fault_count self.old) }
         ensures bytes { Keeps (⟦<KeepingSink as Sink>⟧.taken self.old) (⟦<KeepingSink as Sink>⟧.taken self.new) }
         ensures call { OnOk result (⟦<KeepingSink as Sink>⟧.flushes self.old self.new) }
         ensures faults { ⟦<KeepingSink as Sink>⟧.fault_count self.new ≡ ⟦<KeepingSink as Sink>⟧.fault_count self.old + write_faults result }

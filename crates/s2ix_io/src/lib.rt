@@ -7,6 +7,8 @@
 mod adapter_tests;
 mod broken;
 #[cfg(test)]
+mod checks;
+#[cfg(test)]
 mod device_tests;
 mod from_read;
 mod keeping_sink;

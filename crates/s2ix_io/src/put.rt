@@ -1,15 +1,13 @@
-ghost use Rattle.std.specs.Prelude.{◌≡◌, ◌+◌, ◌-◌, ◌^◌, ◌<◌};
-ghost use Rattle.s2ix_io.specs.Faults.{write_faults};
-ghost use Rattle.s2ix_io.specs.Puts.{Puts, text_of};
+ghost use Rattle.s2ix_io.specs.Faults.{CanCount};
+ghost use Rattle.s2ix_io.specs.Puts.{Writes, text_of};
 
 use super::{Sink, WriteFault};
 
 /// Puts all of `bytes`, piece by piece: where the sink takes less than it is offered, the rest is offered next. It ends at the first
 /// fault, when a front of `bytes` went out. At most one call of `put` for each byte.
 pub fn put_all<K: Sink>(sink: &mut K, bytes: &[u8]) -> Result<(), WriteFault>
-    requires { K.fault_count sink.old < 2 ^ 64 - 1 }
-    ensures puts { Puts (K.taken sink.old) (K.taken sink.new) result bytes.now }
-    ensures faults { K.fault_count sink.new ≡ K.fault_count sink.old + write_faults result }
+    requires { CanCount (K.fault_count sink.old) }
+    ensures { Writes K.taken K.fault_count sink.old sink.new result bytes.now }
 {
     let mut rest = bytes;
     while !rest.is_empty() {
@@ -21,9 +19,8 @@ pub fn put_all<K: Sink>(sink: &mut K, bytes: &[u8]) -> Result<(), WriteFault>
 
 /// Puts the texts of `parts` one after the other, as one text. It ends at the first fault, when a front of that text went out.
 pub fn put_parts<K: Sink>(sink: &mut K, parts: &[&[u8]]) -> Result<(), WriteFault>
-    requires { K.fault_count sink.old < 2 ^ 64 - 1 }
-    ensures puts { Puts (K.taken sink.old) (K.taken sink.new) result (text_of parts.now) }
-    ensures faults { K.fault_count sink.new ≡ K.fault_count sink.old + write_faults result }
+    requires { CanCount (K.fault_count sink.old) }
+    ensures { Writes K.taken K.fault_count sink.old sink.new result (text_of parts.now) }
 {
     for part in parts {
         put_all(sink, part)?;

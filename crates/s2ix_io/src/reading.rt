@@ -1,7 +1,7 @@
 //! Reading a source whole.
-ghost use Rattle.std.specs.Prelude.{◌≡◌, ◌≢◌, ℕ, ◌+◌, ◌-◌, ◌^◌, ◌<◌, List, Err, IfOk, IfErr, OnOk, OnErr};
+ghost use Rattle.std.specs.Prelude.{◌≡◌, ◌≢◌, ℕ, ◌+◌, List, Err, IfOk, IfErr, OnOk, OnErr};
 ghost use Rattle.std.specs.Io.KnownBytes.{Consumes, IsAtEnd};
-ghost use Rattle.s2ix_io.specs.Faults.{source_faults, IsPatient, IsWantOnlyIf};
+ghost use Rattle.s2ix_io.specs.Faults.{CanCount, source_faults, IsPatient, IsWantOnlyIf};
 ghost use Rattle.s2ix_io.specs.Pieces.{ReadsToEnd, ReadsWithin};
 
 use crate::{RunFault, Source};
@@ -15,7 +15,7 @@ const PIECE: usize = 4096;
 /// It answers `Read` at the first fault of the source, `OutOfMemory` where a growth was refused, and `ReaderTooLong` where `turns`
 /// pieces were read and none was the end. After a fault, what was read is lost. This project's own.
 pub fn read_whole<S: Source>(alloc: Global, source: &mut S, turns: u64) -> Result<Vec<u8>, RunFault>
-    requires { S.fault_count source.old < 2 ^ 64 - 1 }
+    requires { CanCount (S.fault_count source.old) }
     ensures whole { IfOk result (λ text. Consumes (S.left source.old) (S.left source.new) text.items × IsAtEnd (S.left source.new)) }
     ensures in_turns { OnOk result (ReadsToEnd S.gives turns source.old source.new) }
     ensures stopped { OnErr result ((input : List ℕ) × Consumes (S.left source.old) (S.left source.new) input) }

@@ -1,7 +1,7 @@
-ghost use Rattle.std.specs.Prelude.{◌≡◌, ℕ, ◌+◌, ◌-◌, ◌^◌, ◌<◌, ◌≤◌, List, length, take, IfOk, OnOk, MatchResult};
+ghost use Rattle.std.specs.Prelude.{◌≡◌, ℕ, ◌+◌, ◌<◌, ◌≤◌, List, length, take, IfOk, OnOk, MatchResult};
 ghost use Rattle.std.specs.declared.option.Option.{Option};
 ghost use Rattle.std.specs.Io.KnownBytes.{Keeps, Appends};
-ghost use Rattle.s2ix_io.specs.Faults.{write_faults};
+ghost use Rattle.s2ix_io.specs.Faults.{CanCount, write_faults};
 
 use thiserror::Error;
 
@@ -25,7 +25,7 @@ pub trait Sink {
     /// counts as one fault.
     fn put(&mut self, bytes: &[u8]) -> Result<usize, WriteFault>
         requires room { 0 < length bytes.now }
-        requires counts { fault_count self.old < 2 ^ 64 - 1 }
+        requires counts { CanCount (fault_count self.old) }
         ensures bound { IfOk result (λ n. n ≤ length bytes.now) }
         ensures progress { IfOk result (λ n. 0 < n) }
         ensures bytes { MatchResult result
@@ -35,7 +35,7 @@ pub trait Sink {
 
     /// Passes on what the sink took and still holds back. A call that fails counts as one fault.
     fn flush(&mut self) -> Result<(), WriteFault>
-        requires { fault_count self.old < 2 ^ 64 - 1 }
+        requires { CanCount (fault_count self.old) }
         ensures bytes { Keeps (taken self.old) (taken self.new) }
         ensures call { OnOk result (flushes self.old self.new) }
         ensures faults { fault_count self.new ≡ fault_count self.old + write_faults result };

@@ -5,7 +5,7 @@ ghost use Rattle.s2ix_io.specs.Devices.{piece_len_of, source_fault_at};
 use crate::{ReadFault, Source};
 
 /// A source over a slice.
-#[derive(Drop)]
+#[derive(Debug, Drop)]
 pub struct SliceSource<'a> {
     left: &'a [u8],
     piece_len: usize,

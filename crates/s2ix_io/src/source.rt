@@ -1,7 +1,7 @@
-ghost use Rattle.std.specs.Prelude.{◌≡◌, ℕ, ◌+◌, ◌-◌, ◌^◌, ◌<◌, ◌≤◌, List, length, take, IfOk, MatchResult};
+ghost use Rattle.std.specs.Prelude.{◌≡◌, ℕ, ◌+◌, ◌<◌, ◌≤◌, List, length, take, IfOk, MatchResult};
 ghost use Rattle.std.specs.declared.option.Option.{Option};
 ghost use Rattle.std.specs.Io.KnownBytes.{Keeps, Consumes, IsAtEnd};
-ghost use Rattle.s2ix_io.specs.Faults.{read_faults};
+ghost use Rattle.s2ix_io.specs.Faults.{CanCount, read_faults};
 
 use thiserror::Error;
 
@@ -25,7 +25,7 @@ pub trait Source {
     /// end of the input. A call that fails has read nothing, and counts as one fault.
     fn piece(&mut self, buf: &mut [u8]) -> Result<usize, ReadFault>
         requires room { 0 < length buf.old }
-        requires counts { fault_count self.old < 2 ^ 64 - 1 }
+        requires counts { CanCount (fault_count self.old) }
         ensures bound { IfOk result (λ n. n ≤ length buf.new) }
         ensures bytes { MatchResult result
             (λ n. Consumes (left self.old) (left self.new) (take n buf.new))

@@ -7,7 +7,7 @@ use std::io::Write;
 
 /// A sink over a writer of std's. What the writer takes is what the sink took, and each error of the writer's is a fault. A writer
 /// that takes none of a piece that has bytes would never be done: that is a fault too.
-#[derive(Drop)]
+#[derive(Debug, Drop)]
 pub struct ToWrite<W> {
     inner: W,
     faults: u64,
@@ -20,6 +20,14 @@ impl<W: Write> ToWrite<W> {
         ensures faults { writer_faults result ≡ 0 }
     {
         ToWrite { inner, faults: 0 }
+    }
+
+    /// The writer, with what it took. It is not flushed.
+    pub fn into_inner(self) -> W
+        ensures { result ≡ writer_of self }
+    {
+        let ToWrite { inner, faults: _ } = self;
+        inner
     }
 }
 

@@ -1,6 +1,5 @@
-ghost use Rattle.std.specs.Prelude.{◌≡◌, ◌+◌, ◌-◌, ◌^◌, ◌<◌};
-ghost use Rattle.s2ix_io.specs.Faults.{write_faults};
-ghost use Rattle.s2ix_io.specs.Puts.{Puts};
+ghost use Rattle.s2ix_io.specs.Faults.{CanCount};
+ghost use Rattle.s2ix_io.specs.Puts.{Writes};
 ghost use Rattle.s2ix_text.specs.Answers.{neighbors_line, no_line, ok_line, path_line, square_line};
 
 use itoa::Buffer;
@@ -12,9 +11,8 @@ use s2ix_io::{Sink, WriteFault, put_parts};
 ///
 /// It takes no memory and does not flush. At the first fault of the sink it ends, when a front of the line went out. This project's own.
 pub fn write_no<K: Sink>(name: &str, sink: &mut K) -> Result<(), WriteFault>
-    requires { K.fault_count sink.old < 2 ^ 64 - 1 }
-    ensures puts { Puts (K.taken sink.old) (K.taken sink.new) result (no_line name.now) }
-    ensures faults { K.fault_count sink.new ≡ K.fault_count sink.old + write_faults result }
+    requires { CanCount (K.fault_count sink.old) }
+    ensures { Writes K.taken K.fault_count sink.old sink.new result (no_line name.now) }
 {
     put_parts(sink, &[b"no ", name.as_bytes(), b"\n"])
 }
@@ -23,9 +21,8 @@ pub fn write_no<K: Sink>(name: &str, sink: &mut K) -> Result<(), WriteFault>
 ///
 /// It takes no memory and does not flush. At the first fault of the sink it ends, when a front of the line went out. This project's own.
 pub fn write_ok<K: Sink>(pairs: usize, sink: &mut K) -> Result<(), WriteFault>
-    requires { K.fault_count sink.old < 2 ^ 64 - 1 }
-    ensures puts { Puts (K.taken sink.old) (K.taken sink.new) result (ok_line pairs) }
-    ensures faults { K.fault_count sink.new ≡ K.fault_count sink.old + write_faults result }
+    requires { CanCount (K.fault_count sink.old) }
+    ensures { Writes K.taken K.fault_count sink.old sink.new result (ok_line pairs) }
 {
     let mut buffer = Buffer::new();
     let number = buffer.format(pairs);
@@ -36,9 +33,8 @@ pub fn write_ok<K: Sink>(pairs: usize, sink: &mut K) -> Result<(), WriteFault>
 ///
 /// It takes no memory and does not flush. At the first fault of the sink it ends, when a front of the line went out. This project's own.
 pub fn write_path<K: Sink>(cell: CellId, sink: &mut K) -> Result<(), WriteFault>
-    requires { K.fault_count sink.old < 2 ^ 64 - 1 }
-    ensures puts { Puts (K.taken sink.old) (K.taken sink.new) result (path_line cell) }
-    ensures faults { K.fault_count sink.new ≡ K.fault_count sink.old + write_faults result }
+    requires { CanCount (K.fault_count sink.old) }
+    ensures { Writes K.taken K.fault_count sink.old sink.new result (path_line cell) }
 {
     let path = cell.path();
     put_parts(sink, &[path.as_bytes(), b"\n"])
@@ -48,9 +44,8 @@ pub fn write_path<K: Sink>(cell: CellId, sink: &mut K) -> Result<(), WriteFault>
 ///
 /// It takes no memory and does not flush. At the first fault of the sink it ends, when a front of the line went out. This project's own.
 pub fn write_neighbors<K: Sink>(cell: CellId, sink: &mut K) -> Result<(), WriteFault>
-    requires { K.fault_count sink.old < 2 ^ 64 - 1 }
-    ensures puts { Puts (K.taken sink.old) (K.taken sink.new) result (neighbors_line cell) }
-    ensures faults { K.fault_count sink.new ≡ K.fault_count sink.old + write_faults result }
+    requires { CanCount (K.fault_count sink.old) }
+    ensures { Writes K.taken K.fault_count sink.old sink.new result (neighbors_line cell) }
 {
     let neighbors = edge_neighbors(cell);
     let down = neighbors[0].token();
@@ -76,9 +71,8 @@ pub fn write_neighbors<K: Sink>(cell: CellId, sink: &mut K) -> Result<(), WriteF
 ///
 /// It takes no memory and does not flush. At the first fault of the sink it ends, when a front of the line went out. This project's own.
 pub fn write_square<K: Sink>(square: FaceIj, sink: &mut K) -> Result<(), WriteFault>
-    requires { K.fault_count sink.old < 2 ^ 64 - 1 }
-    ensures puts { Puts (K.taken sink.old) (K.taken sink.new) result (square_line square) }
-    ensures faults { K.fault_count sink.new ≡ K.fault_count sink.old + write_faults result }
+    requires { CanCount (K.fault_count sink.old) }
+    ensures { Writes K.taken K.fault_count sink.old sink.new result (square_line square) }
 {
     let (mut face, mut i, mut j) = (Buffer::new(), Buffer::new(), Buffer::new());
     let (mut level, mut orientation) = (Buffer::new(), Buffer::new());

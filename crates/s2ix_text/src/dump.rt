@@ -1,7 +1,7 @@
-ghost use Rattle.std.specs.Prelude.{◌≡◌, ◌+◌, ◌-◌, ◌^◌, ◌<◌, flat_map};
+ghost use Rattle.std.specs.Prelude.{flat_map};
 ghost use Rattle.s2ix_text.specs.Dump.{dump_text, end_line, pair_line};
-ghost use Rattle.s2ix_io.specs.Faults.{write_faults};
-ghost use Rattle.s2ix_io.specs.Puts.{Puts};
+ghost use Rattle.s2ix_io.specs.Faults.{CanCount};
+ghost use Rattle.s2ix_io.specs.Puts.{Writes};
 
 use itoa::Buffer;
 use s2ix_bag::{Bag, Held};
@@ -10,9 +10,8 @@ use s2ix_io::{Sink, WriteFault, put_all, put_parts};
 // Writes the line of a held pair.
 #[tactic(auto, unfolding(crate::specs::Dump::pair_line))]
 fn write_pair<K: Sink>(held: Held, sink: &mut K) -> Result<(), WriteFault>
-    requires { K.fault_count sink.old < 2 ^ 64 - 1 }
-    ensures puts { Puts (K.taken sink.old) (K.taken sink.new) result (pair_line held) }
-    ensures faults { K.fault_count sink.new ≡ K.fault_count sink.old + write_faults result }
+    requires { CanCount (K.fault_count sink.old) }
+    ensures { Writes K.taken K.fault_count sink.old sink.new result (pair_line held) }
 {
     let token = held.pair.cell.token();
     let mut label = Buffer::new();
@@ -32,9 +31,8 @@ fn write_pair<K: Sink>(held: Held, sink: &mut K) -> Result<(), WriteFault>
 
 // Writes the lines of all held pairs, in rising order.
 fn write_pairs<K: Sink>(bag: &Bag, sink: &mut K) -> Result<(), WriteFault>
-    requires { K.fault_count sink.old < 2 ^ 64 - 1 }
-    ensures puts { Puts (K.taken sink.old) (K.taken sink.new) result (flat_map pair_line bag.now.held) }
-    ensures faults { K.fault_count sink.new ≡ K.fault_count sink.old + write_faults result }
+    requires { CanCount (K.fault_count sink.old) }
+    ensures { Writes K.taken K.fault_count sink.old sink.new result (flat_map pair_line bag.now.held) }
 {
     for place in 0..bag.len() {
         write_pair(bag.held(place), sink)?;
@@ -45,9 +43,8 @@ fn write_pairs<K: Sink>(bag: &Bag, sink: &mut K) -> Result<(), WriteFault>
 // Writes the last line.
 #[tactic(auto, unfolding(crate::specs::Dump::end_line))]
 fn write_end<K: Sink>(bag: &Bag, sink: &mut K) -> Result<(), WriteFault>
-    requires { K.fault_count sink.old < 2 ^ 64 - 1 }
-    ensures puts { Puts (K.taken sink.old) (K.taken sink.new) result (end_line bag.now.held) }
-    ensures faults { K.fault_count sink.new ≡ K.fault_count sink.old + write_faults result }
+    requires { CanCount (K.fault_count sink.old) }
+    ensures { Writes K.taken K.fault_count sink.old sink.new result (end_line bag.now.held) }
 {
     let mut pairs = Buffer::new();
     let mut copies = Buffer::new();
@@ -67,9 +64,8 @@ fn write_end<K: Sink>(bag: &Bag, sink: &mut K) -> Result<(), WriteFault>
 ///
 /// It takes no memory and does not flush. At the first fault of the sink it ends, when a front of the dump went out. O(n) for n pairs.
 pub fn write_dump<K: Sink>(bag: &Bag, sink: &mut K) -> Result<(), WriteFault>
-    requires { K.fault_count sink.old < 2 ^ 64 - 1 }
-    ensures puts { Puts (K.taken sink.old) (K.taken sink.new) result (dump_text bag.now.held) }
-    ensures faults { K.fault_count sink.new ≡ K.fault_count sink.old + write_faults result }
+    requires { CanCount (K.fault_count sink.old) }
+    ensures { Writes K.taken K.fault_count sink.old sink.new result (dump_text bag.now.held) }
 {
     put_all(sink, b"s2ix 1\n")?;
     write_pairs(bag, sink)?;

@@ -1,7 +1,7 @@
-ghost use Rattle.std.specs.Prelude.{◌≡◌, ◌+◌, ◌-◌, ◌^◌, ◌<◌, flat_map};
-ghost use Rattle.s2ix_io.specs.Faults.{write_faults};
+ghost use Rattle.std.specs.Prelude.{flat_map};
+ghost use Rattle.s2ix_io.specs.Faults.{CanCount};
 ghost use Rattle.s2ix_text.specs.Journal.{change_line, entry_line, group_text, journal_text};
-ghost use Rattle.s2ix_io.specs.Puts.{Puts};
+ghost use Rattle.s2ix_io.specs.Puts.{Writes};
 
 use super::list::{ListItem, write_end_of_list, write_lines};
 use itoa::Buffer;
@@ -36,9 +36,8 @@ impl ListItem for Entry {
 // Writes the line above the entries of a change.
 #[tactic(auto, unfolding(crate::specs::Journal::change_line))]
 fn write_change_line<K: Sink>(entries: &[Entry], sink: &mut K) -> Result<(), WriteFault>
-    requires { K.fault_count sink.old < 2 ^ 64 - 1 }
-    ensures puts { Puts (K.taken sink.old) (K.taken sink.new) result (change_line entries.now) }
-    ensures faults { K.fault_count sink.new ≡ K.fault_count sink.old + write_faults result }
+    requires { CanCount (K.fault_count sink.old) }
+    ensures { Writes K.taken K.fault_count sink.old sink.new result (change_line entries.now) }
 {
     let mut number = Buffer::new();
     put_parts(
@@ -53,9 +52,8 @@ fn write_change_line<K: Sink>(entries: &[Entry], sink: &mut K) -> Result<(), Wri
 
 // Writes the group of a change.
 fn write_group<K: Sink>(change: &Change, sink: &mut K) -> Result<(), WriteFault>
-    requires { K.fault_count sink.old < 2 ^ 64 - 1 }
-    ensures puts { Puts (K.taken sink.old) (K.taken sink.new) result (group_text change.now) }
-    ensures faults { K.fault_count sink.new ≡ K.fault_count sink.old + write_faults result }
+    requires { CanCount (K.fault_count sink.old) }
+    ensures { Writes K.taken K.fault_count sink.old sink.new result (group_text change.now) }
 {
     let entries = change.entries();
     write_change_line(entries, sink)?;
@@ -64,9 +62,8 @@ fn write_group<K: Sink>(change: &Change, sink: &mut K) -> Result<(), WriteFault>
 
 // Writes the groups of all changes.
 fn write_groups<K: Sink>(changes: &[Change], sink: &mut K) -> Result<(), WriteFault>
-    requires { K.fault_count sink.old < 2 ^ 64 - 1 }
-    ensures puts { Puts (K.taken sink.old) (K.taken sink.new) result (flat_map group_text changes.now) }
-    ensures faults { K.fault_count sink.new ≡ K.fault_count sink.old + write_faults result }
+    requires { CanCount (K.fault_count sink.old) }
+    ensures { Writes K.taken K.fault_count sink.old sink.new result (flat_map group_text changes.now) }
 {
     for change in changes {
         write_group(change, sink)?;
@@ -80,9 +77,8 @@ fn write_groups<K: Sink>(changes: &[Change], sink: &mut K) -> Result<(), WriteFa
 /// It takes no memory and does not flush. At the first fault of the sink it ends, when a front of the journal went
 /// out. O(n) for n entries in all.
 pub fn write_journal<K: Sink>(changes: &[Change], sink: &mut K) -> Result<(), WriteFault>
-    requires { K.fault_count sink.old < 2 ^ 64 - 1 }
-    ensures puts { Puts (K.taken sink.old) (K.taken sink.new) result (journal_text changes.now) }
-    ensures faults { K.fault_count sink.new ≡ K.fault_count sink.old + write_faults result }
+    requires { CanCount (K.fault_count sink.old) }
+    ensures { Writes K.taken K.fault_count sink.old sink.new result (journal_text changes.now) }
 {
     put_all(sink, b"s2ix-journal 1\n")?;
     write_groups(changes, sink)?;

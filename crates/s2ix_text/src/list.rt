@@ -1,6 +1,6 @@
-ghost use Rattle.std.specs.Prelude.{◌≡◌, ◌+◌, ◌-◌, ◌^◌, ◌<◌, ℕ, List, flat_map};
-ghost use Rattle.s2ix_io.specs.Faults.{write_faults};
-ghost use Rattle.s2ix_io.specs.Puts.{Puts};
+ghost use Rattle.std.specs.Prelude.{ℕ, List, flat_map};
+ghost use Rattle.s2ix_io.specs.Faults.{CanCount};
+ghost use Rattle.s2ix_io.specs.Puts.{Writes};
 ghost use Rattle.s2ix_text.specs.Queries.{end_of_list, held_line, label_line, list_text};
 
 use super::pair::write_pair_between;
@@ -8,16 +8,15 @@ use itoa::Buffer;
 use s2ix_bag::{Held, Label};
 use s2ix_io::{Sink, WriteFault, put_parts};
 
-/// What stands on a line of its own in a list. This project's own.
+/// An item of a list: it stands there on a line of its own. This project's own.
 pub trait ListItem: Copy {
     // the line, with its line feed
     ghost line: { Self → List ℕ };
 
     /// Writes the line. It takes no memory and does not flush. At the first fault of the sink it ends, when a front of the line went out.
     fn write_line<K: Sink>(self, sink: &mut K) -> Result<(), WriteFault>
-        requires { K.fault_count sink.old < 2 ^ 64 - 1 }
-        ensures puts { Puts (K.taken sink.old) (K.taken sink.new) result (line self) }
-        ensures faults { K.fault_count sink.new ≡ K.fault_count sink.old + write_faults result };
+        requires { CanCount (K.fault_count sink.old) }
+        ensures { Writes K.taken K.fault_count sink.old sink.new result (line self) };
 }
 
 impl ListItem for Held {
@@ -41,9 +40,8 @@ impl ListItem for Label {
 
 // Writes the lines of all items, in order.
 pub(crate) fn write_lines<A: ListItem, K: Sink>(items: &[A], sink: &mut K) -> Result<(), WriteFault>
-    requires { K.fault_count sink.old < 2 ^ 64 - 1 }
-    ensures puts { Puts (K.taken sink.old) (K.taken sink.new) result (flat_map A.line items.now) }
-    ensures faults { K.fault_count sink.new ≡ K.fault_count sink.old + write_faults result }
+    requires { CanCount (K.fault_count sink.old) }
+    ensures { Writes K.taken K.fault_count sink.old sink.new result (flat_map A.line items.now) }
 {
     for item in items {
         item.write_line(sink)?;
@@ -54,9 +52,8 @@ pub(crate) fn write_lines<A: ListItem, K: Sink>(items: &[A], sink: &mut K) -> Re
 // Writes the last line of a list.
 #[tactic(auto, unfolding(crate::specs::Queries::end_of_list))]
 pub(crate) fn write_end_of_list<K: Sink>(count: usize, sink: &mut K) -> Result<(), WriteFault>
-    requires { K.fault_count sink.old < 2 ^ 64 - 1 }
-    ensures puts { Puts (K.taken sink.old) (K.taken sink.new) result (end_of_list count) }
-    ensures faults { K.fault_count sink.new ≡ K.fault_count sink.old + write_faults result }
+    requires { CanCount (K.fault_count sink.old) }
+    ensures { Writes K.taken K.fault_count sink.old sink.new result (end_of_list count) }
 {
     let mut number = Buffer::new();
     put_parts(
@@ -70,9 +67,8 @@ pub(crate) fn write_end_of_list<K: Sink>(count: usize, sink: &mut K) -> Result<(
 /// It takes no memory and does not flush. At the first fault of the sink it ends, when a front of the list went out. O(n) for n items.
 /// This project's own.
 pub fn write_list<A: ListItem, K: Sink>(items: &[A], sink: &mut K) -> Result<(), WriteFault>
-    requires { K.fault_count sink.old < 2 ^ 64 - 1 }
-    ensures puts { Puts (K.taken sink.old) (K.taken sink.new) result (list_text A.line items.now) }
-    ensures faults { K.fault_count sink.new ≡ K.fault_count sink.old + write_faults result }
+    requires { CanCount (K.fault_count sink.old) }
+    ensures { Writes K.taken K.fault_count sink.old sink.new result (list_text A.line items.now) }
 {
     write_lines(items, sink)?;
     write_end_of_list(items.len(), sink)

@@ -1,6 +1,6 @@
-ghost use Rattle.std.specs.Prelude.{◌≡◌, ◌+◌, ◌-◌, ◌^◌, ◌<◌, ◌++◌};
-ghost use Rattle.s2ix_io.specs.Faults.{write_faults};
-ghost use Rattle.s2ix_io.specs.Puts.{Puts};
+ghost use Rattle.std.specs.Prelude.{◌++◌};
+ghost use Rattle.s2ix_io.specs.Faults.{CanCount};
+ghost use Rattle.s2ix_io.specs.Puts.{Writes};
 ghost use Rattle.s2ix_text.specs.Queries.{pair_text};
 
 use itoa::Buffer;
@@ -15,9 +15,8 @@ pub(crate) fn write_pair_between<K: Sink>(
     behind: &[u8],
     sink: &mut K,
 ) -> Result<(), WriteFault>
-    requires { K.fault_count sink.old < 2 ^ 64 - 1 }
-    ensures puts { Puts (K.taken sink.old) (K.taken sink.new) result (before.now ++ (pair_text held ++ behind.now)) }
-    ensures faults { K.fault_count sink.new ≡ K.fault_count sink.old + write_faults result }
+    requires { CanCount (K.fault_count sink.old) }
+    ensures { Writes K.taken K.fault_count sink.old sink.new result (before.now ++ (pair_text held ++ behind.now)) }
 {
     let token = held.pair.cell.token();
     let mut label = Buffer::new();

@@ -1,9 +1,9 @@
-ghost use Rattle.std.specs.Prelude.{◌≡◌, ◌+◌, ◌-◌, ◌^◌, ◌<◌, flat_map, length};
+ghost use Rattle.std.specs.Prelude.{◌≡◌, ◌<◌, flat_map, length};
 ghost use Rattle.s2id_core.specs.CellId.{level_of, raw_of};
 ghost use Rattle.s2ix_table.specs.Contents.{contents_at};
 ghost use Rattle.s2ix_table.specs.Table.{range_at};
-ghost use Rattle.s2ix_io.specs.Faults.{write_faults};
-ghost use Rattle.s2ix_io.specs.Puts.{Puts};
+ghost use Rattle.s2ix_io.specs.Faults.{CanCount};
+ghost use Rattle.s2ix_io.specs.Puts.{Writes};
 ghost use Rattle.s2ix_text.specs.Queries.{bounds_text, held_line, list_text, range_line, spaced_pair};
 
 use super::list::{ListItem, write_end_of_list};
@@ -21,10 +21,9 @@ pub fn write_contents<T: RangeTable, K: Sink>(
     leaf: CellId,
     sink: &mut K,
 ) -> Result<(), WriteFault>
-    requires counts { K.fault_count sink.old < 2 ^ 64 - 1 }
+    requires counts { CanCount (K.fault_count sink.old) }
     requires leaf { level_of leaf ≡ 30 }
-    ensures puts { Puts (K.taken sink.old) (K.taken sink.new) result (list_text held_line (contents_at (raw_of leaf) (T.pairs table.now))) }
-    ensures faults { K.fault_count sink.new ≡ K.fault_count sink.old + write_faults result }
+    ensures { Writes K.taken K.fault_count sink.old sink.new result (list_text held_line (contents_at (raw_of leaf) (T.pairs table.now))) }
 {
     let mut count = 0;
     for held in chain_at(table, leaf) {
@@ -37,9 +36,8 @@ pub fn write_contents<T: RangeTable, K: Sink>(
 // Writes the bounds of a range.
 #[tactic(auto, unfolding(crate::specs::Queries::bounds_text))]
 fn write_bounds<K: Sink>(range: RangeRow, sink: &mut K) -> Result<(), WriteFault>
-    requires { K.fault_count sink.old < 2 ^ 64 - 1 }
-    ensures puts { Puts (K.taken sink.old) (K.taken sink.new) result (bounds_text range.start range.limit) }
-    ensures faults { K.fault_count sink.new ≡ K.fault_count sink.old + write_faults result }
+    requires { CanCount (K.fault_count sink.old) }
+    ensures { Writes K.taken K.fault_count sink.old sink.new result (bounds_text range.start range.limit) }
 {
     let start = sixteen_digits(range.start);
     let limit = sixteen_digits(range.limit);
@@ -52,10 +50,9 @@ fn write_range_pairs<T: RangeTable, K: Sink>(
     k: usize,
     sink: &mut K,
 ) -> Result<(), WriteFault>
-    requires counts { K.fault_count sink.old < 2 ^ 64 - 1 }
+    requires counts { CanCount (K.fault_count sink.old) }
     requires within { k < length (T.ranges table.now) }
-    ensures puts { Puts (K.taken sink.old) (K.taken sink.new) result (flat_map spaced_pair (range_at (T.ranges table.now) k).contents) }
-    ensures faults { K.fault_count sink.new ≡ K.fault_count sink.old + write_faults result }
+    ensures { Writes K.taken K.fault_count sink.old sink.new result (flat_map spaced_pair (range_at (T.ranges table.now) k).contents) }
 {
     for held in contents(table, k) {
         write_pair_between(b" ", held, b"", sink)?;
@@ -65,10 +62,9 @@ fn write_range_pairs<T: RangeTable, K: Sink>(
 
 // Writes the line of a range.
 fn write_range<T: RangeTable, K: Sink>(table: &T, k: usize, sink: &mut K) -> Result<(), WriteFault>
-    requires counts { K.fault_count sink.old < 2 ^ 64 - 1 }
+    requires counts { CanCount (K.fault_count sink.old) }
     requires within { k < length (T.ranges table.now) }
-    ensures puts { Puts (K.taken sink.old) (K.taken sink.new) result (range_line (range_at (T.ranges table.now) k)) }
-    ensures faults { K.fault_count sink.new ≡ K.fault_count sink.old + write_faults result }
+    ensures { Writes K.taken K.fault_count sink.old sink.new result (range_line (range_at (T.ranges table.now) k)) }
 {
     write_bounds(table.range(k), sink)?;
     write_range_pairs(table, k, sink)?;
@@ -81,9 +77,8 @@ fn write_range<T: RangeTable, K: Sink>(table: &T, k: usize, sink: &mut K) -> Res
 /// It takes no memory and does not flush. At the first fault of the sink it ends, when a front of the list went out. O(n + m) for
 /// n ranges with m pairs in all. This project's own.
 pub fn write_ranges<T: RangeTable, K: Sink>(table: &T, sink: &mut K) -> Result<(), WriteFault>
-    requires { K.fault_count sink.old < 2 ^ 64 - 1 }
-    ensures puts { Puts (K.taken sink.old) (K.taken sink.new) result (list_text range_line (T.ranges table.now)) }
-    ensures faults { K.fault_count sink.new ≡ K.fault_count sink.old + write_faults result }
+    requires { CanCount (K.fault_count sink.old) }
+    ensures { Writes K.taken K.fault_count sink.old sink.new result (list_text range_line (T.ranges table.now)) }
 {
     for k in 0..table.range_count() {
         write_range(table, k, sink)?;

@@ -1,14 +1,13 @@
--- The line of this pair goes out behind those before it, or a front of it does.
-use Rattle.std.proofs.Common.{arith}
+-- The line of this pair is written behind those before it, or a fault ends it.
 use Rattle.s2ix_text.specs.Dump.{pair_line}
-use Rattle.s2ix_io.proofs.Fronts.{Appends-flat_map, AppendsFront-flat_map_at, Puts-of_err}
+use Rattle.s2ix_io.proofs.Writing.{Writes-fault, Writes-item, Writes-item_fault}
 use Rattle.s2ix_text.proofs.dump.write_pairs.Goals as goal
 
 pub loop-place-preserved : goal.loop-place-preserved
 loop-place-preserved g c =
-    (Appends-flat_map pair_line _ _ _ c.args.bag.now.held c.loop-place.place c.held.result c.held.ensures c.loop-place.invariant.0 c.in_ok-write_pair.ensures.puts, omega (arith, c.loop-place.invariant.1, c.in_ok-write_pair.ensures.faults))
+    Writes-item pair_line c.args.bag.now.held c.loop-place.place c.held.result c.held.ensures c.loop-place.invariant c.in_ok-write_pair.ensures
 
-pub returns-in_err-write_pair-clause-puts : goal.returns-in_err-write_pair-clause-puts
-returns-in_err-write_pair-clause-puts g c =
-    Puts-of_err _ _ _ _ c.from_residual.ensures.0
-    (AppendsFront-flat_map_at pair_line _ _ _ c.args.bag.now.held c.loop-place.place c.held.result c.held.ensures c.loop-place.invariant.0 c.in_err-write_pair.ensures.puts)
+pub returns-in_err-write_pair : goal.returns-in_err-write_pair
+returns-in_err-write_pair g c =
+    Writes-fault _ c.from_residual.ensures.0
+    (Writes-item_fault pair_line c.args.bag.now.held c.loop-place.place c.held.result c.held.ensures c.loop-place.invariant c.in_err-write_pair.ensures)

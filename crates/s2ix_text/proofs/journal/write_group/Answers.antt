@@ -1,22 +1,20 @@
--- The line above the entries and theirs go out one after the other, or a front of them does.
+-- The line above the entries and theirs are written one after the other.
 use Rattle.std.proofs.Common.{List, flat_map, subst}
 use Rattle.s2ix_bag.specs.declared.pair.Entry.{Entry}
-use Rattle.s2ix_text.specs.Journal.{change_line, entry_line, group_text}
-use Rattle.s2ix_io.specs.Puts.{AppendsFront, Puts}
-use Rattle.s2ix_io.proofs.Fronts.{AppendsFront-more, Puts-after, Puts-of_err}
+use Rattle.s2ix_text.specs.Journal.{entry_line, group_text}
+use Rattle.s2ix_io.specs.Puts.{Writes}
+use Rattle.s2ix_io.proofs.Writing.{Writes-cut, Writes-then}
 use Rattle.s2ix_text.proofs.journal.write_group.Goals as goal
 
-pub returns-in_err-write_change_line-clause-puts : goal.returns-in_err-write_change_line-clause-puts
+pub returns-in_err-write_change_line : goal.returns-in_err-write_change_line
 unfolding group_text
-returns-in_err-write_change_line-clause-puts g c =
-    let FrontOf : List Entry → Type 0 = λ es. AppendsFront (g.K.Sink.taken c.args.sink.now) (g.K.Sink.taken c.write_change_line.new.sink) (group_text es) in
-    Puts-of_err _ _ _ _ c.from_residual.ensures.0
-    (subst FrontOf c.entries-entries.ensures.list
-    (AppendsFront-more _ _ (change_line c.entries-entries.result.now) (flat_map entry_line c.entries-entries.result.now) c.in_err-write_change_line.ensures.puts))
+returns-in_err-write_change_line g c =
+    let WritesGroup : List Entry → Type 0 = λ es. Writes g.K.Sink.taken g.K.Sink.fault_count c.args.sink.now c.write_change_line.new.sink c.from_residual.result (group_text es) in
+    subst WritesGroup c.entries-entries.ensures.list
+    (Writes-cut _ (flat_map entry_line c.entries-entries.result.now) c.from_residual.ensures.0 c.in_err-write_change_line.ensures)
 
-pub returns-clause-puts : goal.returns-clause-puts
+pub returns : goal.returns
 unfolding group_text
-returns-clause-puts g c =
-    let PutsGroup : List Entry → Type 0 = λ es. Puts (g.K.Sink.taken c.args.sink.now) (g.K.Sink.taken c.write_lines.new.sink) c.write_lines.result (group_text es) in
-    subst PutsGroup c.entries-entries.ensures.list
-    (Puts-after _ _ _ _ (change_line c.entries-entries.result.now) (flat_map entry_line c.entries-entries.result.now) c.in_ok-write_change_line.ensures.puts c.write_lines.ensures.puts)
+returns g c =
+    let WritesGroup : List Entry → Type 0 = λ es. Writes g.K.Sink.taken g.K.Sink.fault_count c.args.sink.now c.write_lines.new.sink c.write_lines.result (group_text es) in
+    subst WritesGroup c.entries-entries.ensures.list (Writes-then c.in_ok-write_change_line.ensures c.write_lines.ensures)

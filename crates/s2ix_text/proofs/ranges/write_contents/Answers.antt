@@ -1,5 +1,5 @@
--- The line of this turn's pair goes out behind those before it, or a front of it does; then the end line.
-use Rattle.std.proofs.Common.{◌<◌, ℕ, length, flat_map, subst, ◌∙◌, arith}
+-- The line of this turn's pair is written behind those before it, or a fault ends it; then the end line.
+use Rattle.std.proofs.Common.{◌<◌, ℕ, length, subst, ◌∙◌, arith}
 use Rattle.std.proofs.lemmas.List.{length_push}
 use Rattle.s2id_core.specs.CellId.{raw_of}
 use Rattle.s2ix_table.specs.Contents.{contents_at}
@@ -7,9 +7,9 @@ use Rattle.s2ix_table.specs.Places.{from_place}
 use Rattle.s2ix_table.specs.declared.iter.ChainIter.{ChainIter}
 use Rattle.s2ix_table.proofs.Over.{length_contents}
 use Rattle.s2ix_table.proofs.Yielding.{yields_turn, yields_end}
-use Rattle.s2ix_io.specs.Puts.{Puts}
+use Rattle.s2ix_io.specs.Puts.{Writes}
 use Rattle.s2ix_text.specs.Queries.{end_of_list, held_line, list_text}
-use Rattle.s2ix_io.proofs.Fronts.{Appends-flat_map_turn, AppendsFront-flat_map_turn, Appends-flat_map_end, AppendsFront-more, Puts-after, Puts-of_err}
+use Rattle.s2ix_io.proofs.Writing.{Writes-all, Writes-cut, Writes-then, Writes-turn, Writes-turn_fault}
 use Rattle.s2ix_text.proofs.ranges.write_contents.Goals as goal
 
 pub overflow_add-count : goal.overflow_add-count
@@ -29,25 +29,21 @@ loop-held-preserved g c =
       tt,
       tt,
       omega (arith, c.loop-held.invariant.2, length_push c.loop-held.yielded c.in-Some.held),
-      Appends-flat_map_turn held_line _ _ _ all c.loop-held.yielded c.in-Some.held turn c.loop-held.invariant.3 c.in_ok-write_line.ensures.puts,
-      omega (arith, c.loop-held.invariant.4, c.in_ok-write_line.ensures.faults),
+      Writes-turn held_line all c.loop-held.yielded c.in-Some.held turn c.loop-held.invariant.3 c.in_ok-write_line.ensures,
     )
 
-pub returns-in_err-write_line-clause-puts : goal.returns-in_err-write_line-clause-puts
+pub returns-in_err-write_line : goal.returns-in_err-write_line
 unfolding list_text
-returns-in_err-write_line-clause-puts g c =
+returns-in_err-write_line g c =
     let all = contents_at (raw_of c.args.leaf) (g.T.RangeTable.pairs c.args.table.now) in
     let turn = yields_turn (λ (it : ChainIter g.row.T.Denot g.row.T-Place.Denot g.T.RangeTable). from_place (g.T.RangeTable.chain it.table.now) it.next) _ _ _ c.next.new.self all c.loop-held.yielded _ c.in-Some.held c.chain_at-held-items.ensures c.into_iter-held-iterator.ensures.into_iter_gives c.loop-held.yielded_by c.in-Some.is c.next.ensures.steps in
-    Puts-of_err _ _ _ _ c.from_residual.ensures.0
-    (AppendsFront-more _ _ (flat_map held_line all) (end_of_list (length all))
-    (AppendsFront-flat_map_turn held_line _ _ _ all c.loop-held.yielded c.in-Some.held turn c.loop-held.invariant.3 c.in_err-write_line.ensures.puts))
+    Writes-cut _ (end_of_list (length all)) c.from_residual.ensures.0
+    (Writes-turn_fault held_line all c.loop-held.yielded c.in-Some.held turn c.loop-held.invariant.3 c.in_err-write_line.ensures)
 
-pub returns-clause-puts : goal.returns-clause-puts
+pub returns : goal.returns
 unfolding list_text
-returns-clause-puts g c =
+returns g c =
     let all = contents_at (raw_of c.args.leaf) (g.T.RangeTable.pairs c.args.table.now) in
     let end = yields_end (λ (it : ChainIter g.row.T.Denot g.row.T-Place.Denot g.T.RangeTable). from_place (g.T.RangeTable.chain it.table.now) it.next) _ _ _ c.next.new.self all c.loop-held.yielded _ c.chain_at-held-items.ensures c.into_iter-held-iterator.ensures.into_iter_gives c.loop-held.yielded_by c.in-None.is c.next.ensures.steps in
-    let PutsEnd : ℕ → Type 0 = λ n. Puts (g.K.Sink.taken c.loop-held.sink) (g.K.Sink.taken c.write_end_of_list.new.sink) c.write_end_of_list.result (end_of_list n) in
-    Puts-after _ _ _ _ (flat_map held_line all) (end_of_list (length all))
-    (Appends-flat_map_end held_line _ _ all (length c.loop-held.yielded) end c.loop-held.invariant.3)
-    (subst PutsEnd (c.loop-held.invariant.2 ∙ end) c.write_end_of_list.ensures.puts)
+    let WritesEnd : ℕ → Type 0 = λ n. Writes g.K.Sink.taken g.K.Sink.fault_count c.loop-held.sink c.write_end_of_list.new.sink c.write_end_of_list.result (end_of_list n) in
+    Writes-then (Writes-all held_line all (length c.loop-held.yielded) end c.loop-held.invariant.3) (subst WritesEnd (c.loop-held.invariant.2 ∙ end) c.write_end_of_list.ensures)

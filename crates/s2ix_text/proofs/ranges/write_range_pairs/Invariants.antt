@@ -1,6 +1,6 @@
--- The pairs so far were taken whole, and no call has failed.
-use Rattle.std.proofs.Common.{◌≡◌, take, length, flat_map}
-use Rattle.std.specs.Io.KnownBytes.{Appends}
+-- The pairs so far were written whole.
+use Rattle.std.proofs.Common.{Ok, take, length, flat_map}
+use Rattle.s2ix_io.specs.Puts.{Writes}
 use Rattle.s2ix_table.specs.Table.{range_at}
 use Rattle.s2ix_text.specs.Queries.{spaced_pair}
 use Rattle.s2ix_text.proofs.ranges.write_range_pairs.Given as goal
@@ -9,5 +9,4 @@ abbrev pub invariant-loop-held : goal.invariant-loop-held
 invariant-loop-held g l =
     (goal.iterator-loop-held g).can_next l.held-iterator
     × (goal.iterator-loop-held g).is_finite l.held-iterator
-    × Appends (g.K.Sink.taken l.fn.sink) (g.K.Sink.taken l.sink) (flat_map spaced_pair (take (length l.yielded) (range_at (g.T.RangeTable.ranges l.table) l.k).contents))
-    × (g.K.Sink.fault_count l.sink ≡ g.K.Sink.fault_count l.fn.sink)
+    × Writes {A = Unit {0}} g.K.Sink.taken g.K.Sink.fault_count l.fn.sink l.sink (Ok tt) (flat_map spaced_pair (take (length l.yielded) (range_at (g.T.RangeTable.ranges l.table) l.k).contents))
