@@ -1,6 +1,6 @@
 //! Carrying one line out: from its bytes to what it asks for, to the store's step and the answer.
-ghost use Rattle.std.specs.Prelude.{◌≡◌, ◌≢◌, ◌+◌, ◌-◌, ◌^◌, ◌<◌, Err, IfErr};
-ghost use Rattle.s2ix_io.specs.Faults.{sink_faults, IsWantOnlyIf};
+ghost use Rattle.std.specs.Prelude.{◌≡◌, ◌≢◌, ◌+◌, Err, IfErr};
+ghost use Rattle.s2ix_io.specs.Faults.{CanCount, sink_faults, IsWantOnlyIf};
 ghost use Rattle.s2ix_cli.specs.Carry.{Carries};
 ghost use Rattle.s2ix_cli.specs.Step.{at_step, instruction_step, step_of};
 ghost use Rattle.s2ix_cli.specs.Wants.{InstructionWants, LineWants};
@@ -27,7 +27,7 @@ pub(crate) fn carry_out<K: Sink>(
     sink: &mut K,
     line: &[u8],
 ) -> Result<LineOutcome, RunFault>
-    requires { K.fault_count sink.old < 2 ^ 64 - 1 }
+    requires { CanCount (K.fault_count sink.old) }
     ensures carries { Carries (step_of store.old line.now) store.old store.new (K.taken sink.old) (K.taken sink.new) result }
     ensures memory { IfErr result (IsWantOnlyIf (LineWants store.old line.now)) }
     ensures faults { K.fault_count sink.new ≡ K.fault_count sink.old + sink_faults result }
@@ -49,7 +49,7 @@ fn carry_instruction<K: Sink>(
     sink: &mut K,
     instruction: Instruction,
 ) -> Result<LineOutcome, RunFault>
-    requires { K.fault_count sink.old < 2 ^ 64 - 1 }
+    requires { CanCount (K.fault_count sink.old) }
     ensures carries { Carries (instruction_step store.old instruction) store.old store.new (K.taken sink.old) (K.taken sink.new) result }
     ensures memory { IfErr result (IsWantOnlyIf (InstructionWants store.old instruction)) }
     ensures faults { K.fault_count sink.new ≡ K.fault_count sink.old + sink_faults result }
@@ -77,7 +77,7 @@ fn carry_instruction<K: Sink>(
 
 // Prints what lies over a leaf.
 fn carry_at<K: Sink>(store: &Store, sink: &mut K, cell: CellId) -> Result<LineOutcome, RunFault>
-    requires { K.fault_count sink.old < 2 ^ 64 - 1 }
+    requires { CanCount (K.fault_count sink.old) }
     ensures carries { Carries (at_step store.now cell) store.now store.now (K.taken sink.old) (K.taken sink.new) result }
     ensures memory { result ≢ Err RunFault.OutOfMemory }
     ensures faults { K.fault_count sink.new ≡ K.fault_count sink.old + sink_faults result }
