@@ -13,7 +13,7 @@ use Rattle.s2ix_io.specs.declared.run_fault.RunFault.{RunFault}
 use Rattle.s2ix_io.specs.declared.run_fault.RunFault.TheVariants.{Read, Write, OutOfMemory, ReaderTooLong}
 use Rattle.s2ix_cli.specs.Carry.{is_counted, is_refused, Takes, StopsAt}
 use Rattle.s2ix_script.specs.Lines.{lines_of}
-use Rattle.s2ix_cli.specs.Script.{after, output_of, counted_in, refused_in, carried, MOST, Finishes, StopsAmong, StopsAfter}
+use Rattle.s2ix_cli.specs.Script.{after, output_of, counted_in, refused_in, carried_lines, MOST, Finishes, StopsAmong, StopsAfter}
 use Rattle.s2ix_cli.specs.Step.{Step, step_of}
 use Rattle.s2ix_cli.specs.Wants.{LineWants, WantsAmong}
 
@@ -52,21 +52,21 @@ refused_in-more s (x ∷ done) line = omega (arith, refused_in-more (step_of s x
 -- of the lines `whole` some are done and `left` are left; the store, the output and the counts are those of the lines done
 pub record Reached (stop : Bool) (whole left : List (List ℕ)) (old now : State) (before behind : Option (List ℕ)) (told : RunEnd) : Type 0 where
   pub done : List (List ℕ)
-  pub goes_on : carried stop old whole ≡ done ++ carried stop now left
+  pub goes_on : carried_lines stop old whole ≡ done ++ carried_lines stop now left
   pub store : now ≡ after old done
   pub output : Appends before behind (output_of old done)
   pub lines : told.lines ≡ min (counted_in old done) MOST
   pub refused : told.refused ≡ min (refused_in old done) MOST
 
 -- a line that is refused with `stop` is the last to be carried out
-carried-last : (stop : Bool) (s new : State) (line : List ℕ) (rest : List (List ℕ)) → stop && (step_of s line).is_refused ≡ true → carried stop s (line ∷ rest) ≡ line ∷ carried stop new []
-carried-last stop s new line rest e = ap (λ b. line ∷ (if b then [] else carried stop (step_of s line).after rest)) e
+carried_lines-last : (stop : Bool) (s new : State) (line : List ℕ) (rest : List (List ℕ)) → stop && (step_of s line).is_refused ≡ true → carried_lines stop s (line ∷ rest) ≡ line ∷ carried_lines stop new []
+carried_lines-last stop s new line rest e = ap (λ b. line ∷ (if b then [] else carried_lines stop (step_of s line).after rest)) e
 
 -- another line is followed by the rest
-carried-on : (stop : Bool) (s new : State) (line : List ℕ) (rest : List (List ℕ)) → stop && (step_of s line).is_refused ≡ false → new ≡ (step_of s line).after
-    → carried stop s (line ∷ rest) ≡ line ∷ carried stop new rest
-carried-on stop s new line rest e is =
-    ap (λ b. line ∷ (if b then [] else carried stop (step_of s line).after rest)) e ∙ ap (λ x. line ∷ carried stop x rest) (sym is)
+carried_lines-on : (stop : Bool) (s new : State) (line : List ℕ) (rest : List (List ℕ)) → stop && (step_of s line).is_refused ≡ false → new ≡ (step_of s line).after
+    → carried_lines stop s (line ∷ rest) ≡ line ∷ carried_lines stop new rest
+carried_lines-on stop s new line rest e is =
+    ap (λ b. line ∷ (if b then [] else carried_lines stop (step_of s line).after rest)) e ∙ ap (λ x. line ∷ carried_lines stop x rest) (sym is)
 
 -- a count that stops at the most it can tell, and one more
 min-more : (told told' count more : ℕ) → told ≡ min count MOST → told' ≡ min (told + more) MOST → told' ≡ min (count + more) MOST
@@ -74,14 +74,14 @@ min-more told told' count more e e' = omega arith
 
 -- one line more is done, and `next` is left
 Reached-more : (stop : Bool) (whole left next : List (List ℕ)) (line : List ℕ) (old now new : State) (before mid behind : Option (List ℕ)) (told told' : RunEnd) (outcome : LineOutcome)
-    → Reached stop whole left old now before mid told → carried stop now left ≡ line ∷ carried stop new next → Takes (step_of now line) new mid behind outcome
+    → Reached stop whole left old now before mid told → carried_lines stop now left ≡ line ∷ carried_lines stop new next → Takes (step_of now line) new mid behind outcome
     → told'.lines ≡ min (told.lines + (if is_counted outcome then 1 else 0)) MOST → told'.refused ≡ min (told.refused + (if is_refused outcome then 1 else 0)) MOST
     → Reached stop whole next old new before behind told'
 Reached-more stop whole left next line old now new before mid behind told told' outcome r on taken lines refused =
     let here : step_of now line ≡ step_of (after old r.done) line = ap (λ s. step_of s line) r.store in
     record {
       done = r.done ++ line ∷ [];
-      goes_on = r.goes_on ∙ ap (λ l. r.done ++ l) on ∙ sym (append_assoc r.done (line ∷ []) (carried stop new next));
+      goes_on = r.goes_on ∙ ap (λ l. r.done ++ l) on ∙ sym (append_assoc r.done (line ∷ []) (carried_lines stop new next));
       store = taken.store ∙ ap (λ x. x.after) here ∙ sym (after-more old r.done line);
       output = subst (Appends before behind) (ap (λ x. output_of old r.done ++ x.answer) here ∙ sym (output_of-more old r.done line)) (Appends-trans before mid behind (output_of old r.done) (step_of now line).answer r.output taken.output);
       lines = min-more _ _ _ _ r.lines lines ∙ ap (λ n. min n MOST) (ap (λ b. counted_in old r.done + (if b then 1 else 0)) (taken.counted ∙ ap (λ x. x.is_counted) here) ∙ sym (counted_in-more old r.done line));
@@ -95,7 +95,7 @@ pub Reached-on : (stop : Bool) (whole left rest : List (List ℕ)) (line : List 
     → stop && is_refused outcome ≡ false → Reached stop whole rest old new before behind told'
 Reached-on stop whole left rest line old now new before mid behind told told' outcome r e taken lines refused on =
     Reached-more stop whole left rest line old now new before mid behind told told' outcome r
-    (ap (carried stop now) e ∙ carried-on stop now new line rest (ap (λ b. stop && b) (sym taken.refused) ∙ on) taken.store)
+    (ap (carried_lines stop now) e ∙ carried_lines-on stop now new line rest (ap (λ b. stop && b) (sym taken.refused) ∙ on) taken.store)
     taken lines refused
 
 -- the loop ends at a line that is refused
@@ -105,7 +105,7 @@ pub Reached-last : (stop : Bool) (whole left rest : List (List ℕ)) (line : Lis
     → stop && is_refused outcome ≡ true → Reached stop whole [] old new before behind told'
 Reached-last stop whole left rest line old now new before mid behind told told' outcome r e taken lines refused on =
     Reached-more stop whole left [] line old now new before mid behind told told' outcome r
-    (ap (carried stop now) e ∙ carried-last stop now new line rest (ap (λ b. stop && b) (sym taken.refused) ∙ on))
+    (ap (carried_lines stop now) e ∙ carried_lines-last stop now new line rest (ap (λ b. stop && b) (sym taken.refused) ∙ on))
     taken lines refused
 
 -- ---- how a run ends
@@ -114,7 +114,7 @@ Reached-last stop whole left rest line old now new before mid behind told told' 
 pub Finishes-reached : (stop : Bool) (input : List ℕ) (left : List (List ℕ)) (old new : State) (before behind : Option (List ℕ)) (told : RunEnd)
     → Reached stop (lines_of input) left old new before behind told → left ≡ [] → Finishes stop input old new before behind told
 Finishes-reached stop input left old new before behind told r e =
-    let all : r.done ≡ carried stop old (lines_of input) = sym (r.goes_on ∙ ap (λ l. r.done ++ carried stop new l) e ∙ append-nil r.done) in
+    let all : r.done ≡ carried_lines stop old (lines_of input) = sym (r.goes_on ∙ ap (λ l. r.done ++ carried_lines stop new l) e ∙ append-nil r.done) in
     record {
       store = r.store ∙ ap (after old) all;
       output = subst (λ l. Appends before behind (output_of old l)) all r.output;
@@ -123,18 +123,18 @@ Finishes-reached stop input left old new before behind told r e =
     }
 
 -- these lines were carried out, and their whole output went out
-StopsAmong-done : (fault : RunFault) (stop : Bool) (whole done left : List (List ℕ)) (old new : State) (before behind : Option (List ℕ)) → carried stop old whole ≡ done ++ left
+StopsAmong-done : (fault : RunFault) (stop : Bool) (whole done left : List (List ℕ)) (old new : State) (before behind : Option (List ℕ)) → carried_lines stop old whole ≡ done ++ left
     → new ≡ after old done → Appends before behind (output_of old done) → StopsAmong fault stop whole old new before behind
 StopsAmong-done fault stop whole done left old new before behind e store output =
-    let first : take (length done) (carried stop old whole) ≡ done = ap (take (length done)) e ∙ take-append_seam done left in
+    let first : take (length done) (carried_lines stop old whole) ≡ done = ap (take (length done)) e ∙ take-append_seam done left in
     let appends = subst (λ l. Appends before behind (output_of old l)) (sym first) output in
     record {
       m = length done;
       within = omega (arith, ap length e, length-append done left);
       store = store ∙ ap (after old) (sym first);
       output = record {
-        front = output_of old (take (length done) (carried stop old whole));
-        has_least = output_of-take old (carried stop old whole) (length done - 1) (length done) (omega arith);
+        front = output_of old (take (length done) (carried_lines stop old whole));
+        has_least = output_of-take old (carried_lines stop old whole) (length done - 1) (length done) (omega arith);
         is_front = IsFront-refl _;
         appends = appends;
       };
@@ -142,16 +142,16 @@ StopsAmong-done fault stop whole done left old new before behind e store output 
     }
 
 -- the sink failed in the answer of the line behind those that are done
-StopsAmong-cut : (stop : Bool) (whole done more : List (List ℕ)) (line : List ℕ) (old new : State) (before mid behind : Option (List ℕ)) → carried stop old whole ≡ done ++ line ∷ more
+StopsAmong-cut : (stop : Bool) (whole done more : List (List ℕ)) (line : List ℕ) (old new : State) (before mid behind : Option (List ℕ)) → carried_lines stop old whole ≡ done ++ line ∷ more
     → new ≡ (step_of (after old done) line).after → Appends before mid (output_of old done) → AppendsFront mid behind (step_of (after old done) line).answer
     → StopsAmong Write stop whole old new before behind
 StopsAmong-cut stop whole done more line old new before mid behind e store output cut =
     let split = e ∙ sym (append_assoc done (line ∷ []) more) in
     let count : length (done ++ line ∷ []) ≡ length done + 1 = length-append done (line ∷ []) in
-    let first : take (length done + 1) (carried stop old whole) ≡ done ++ line ∷ [] =
+    let first : take (length done + 1) (carried_lines stop old whole) ≡ done ++ line ∷ [] =
     ap (take (length done + 1)) split ∙ subst (λ n. take n ((done ++ line ∷ []) ++ more) ≡ done ++ line ∷ []) count (take-append_seam (done ++ line ∷ []) more) in
-    let least : take (length done + 1 - 1) (carried stop old whole) ≡ done =
-    subst (λ n. take n (carried stop old whole) ≡ done) (omega arith) (ap (take (length done)) e ∙ take-append_seam done (line ∷ more)) in
+    let least : take (length done + 1 - 1) (carried_lines stop old whole) ≡ done =
+    subst (λ n. take n (carried_lines stop old whole) ≡ done) (omega arith) (ap (take (length done)) e ∙ take-append_seam done (line ∷ more)) in
     record {
       m = length done + 1;
       within = omega (arith, ap length split, length-append (done ++ line ∷ []) more, count);
@@ -172,12 +172,12 @@ pub StopsAmong-reached : (stop : Bool) (whole left rest : List (List ℕ)) (line
 StopsAmong-reached stop whole left rest line old now new before mid behind told Read r e at = absurd at
 StopsAmong-reached stop whole left rest line old now new before mid behind told ReaderTooLong r e at = absurd at
 StopsAmong-reached stop whole left rest line old now new before mid behind told OutOfMemory r e at =
-    StopsAmong-done OutOfMemory stop whole r.done (carried stop now left) old new before behind r.goes_on (at.0 ∙ r.store)
+    StopsAmong-done OutOfMemory stop whole r.done (carried_lines stop now left) old new before behind r.goes_on (at.0 ∙ r.store)
     (Appends-kept before mid behind (output_of old r.done) r.output at.1)
 StopsAmong-reached stop whole left rest line old now new before mid behind told Write r e at =
     let here : step_of now line ≡ step_of (after old r.done) line = ap (λ s. step_of s line) r.store in
-    StopsAmong-cut stop whole r.done (if stop && (step_of now line).is_refused then [] else carried stop (step_of now line).after rest) line old new before mid behind
-    (r.goes_on ∙ ap (λ l. r.done ++ carried stop now l) e)
+    StopsAmong-cut stop whole r.done (if stop && (step_of now line).is_refused then [] else carried_lines stop (step_of now line).after rest) line old new before mid behind
+    (r.goes_on ∙ ap (λ l. r.done ++ carried_lines stop now l) e)
     (at.0 ∙ ap (λ x. x.after) here)
     r.output
     (subst (λ (x : Step). AppendsFront mid behind x.answer) here at.1)
@@ -191,8 +191,8 @@ WantsAmong-reached stop whole left rest line old now new before mid behind told 
     record {
       done = r.done;
       line = line;
-      rest = if stop && (step_of now line).is_refused then [] else carried stop (step_of now line).after rest;
-      are_carried = r.goes_on ∙ ap (λ l. r.done ++ carried stop now l) e;
+      rest = if stop && (step_of now line).is_refused then [] else carried_lines stop (step_of now line).after rest;
+      are_carried = r.goes_on ∙ ap (λ l. r.done ++ carried_lines stop now l) e;
       store = kept.0 ∙ r.store;
       output = Appends-kept before mid behind (output_of old r.done) r.output kept.1;
       wants = subst (λ s. LineWants s line) (sym kept.0) (wants is);
@@ -223,7 +223,7 @@ StopsAfter-among fault stop input left old new before behind end a = record { am
 pub StopsAfter-finished : (fault : RunFault) (stop : Bool) (input : List ℕ) (left : Option (List ℕ)) (old new : State) (before mid behind : Option (List ℕ)) (told : RunEnd) → IsAtEnd left
     → Finishes stop input old new before mid told → Keeps mid behind → StopsAfter fault stop input left old new before behind
 StopsAfter-finished fault stop input left old new before mid behind told end f keeps =
-    let lines = carried stop old (lines_of input) in
+    let lines = carried_lines stop old (lines_of input) in
     StopsAfter-among fault stop input left old new before behind end
     (StopsAmong-done fault stop (lines_of input) lines [] old new before behind (sym (append-nil lines)) f.store
     (Appends-kept before mid behind (output_of old lines) f.output keeps))

@@ -30,9 +30,9 @@ refused_in s [] = 0
 refused_in s (line ∷ lines) = (if (step_of s line).is_refused then 1 else 0) + refused_in (step_of s line).after lines
 
 -- the lines that are carried out: all, or with `stop` up to and with the first that is refused
-abbrev pub carried : Bool → State → List (List ℕ) → List (List ℕ)
-carried stop s [] = []
-carried stop s (line ∷ lines) = line ∷ (if stop && (step_of s line).is_refused then [] else carried stop (step_of s line).after lines)
+abbrev pub carried_lines : Bool → State → List (List ℕ) → List (List ℕ)
+carried_lines stop s [] = []
+carried_lines stop s (line ∷ lines) = line ∷ (if stop && (step_of s line).is_refused then [] else carried_lines stop (step_of s line).after lines)
 
 -- the greatest count that a run tells
 abbrev pub MOST : ℕ
@@ -44,10 +44,10 @@ feeds_in text = count_by (λ byte. byte == 10) text
 
 -- a run that read `input` to its end, carried its lines out and wrote exactly their output
 pub record Finishes (stop : Bool) (input : List ℕ) (old new : State) (before behind : Option (List ℕ)) (told : RunEnd) : Type 0 where
-  pub store : new ≡ after old (carried stop old (lines_of input))
-  pub output : Appends before behind (output_of old (carried stop old (lines_of input)))
-  pub lines : told.lines ≡ min (counted_in old (carried stop old (lines_of input))) MOST
-  pub refused : told.refused ≡ min (refused_in old (carried stop old (lines_of input))) MOST
+  pub store : new ≡ after old (carried_lines stop old (lines_of input))
+  pub output : Appends before behind (output_of old (carried_lines stop old (lines_of input)))
+  pub lines : told.lines ≡ min (counted_in old (carried_lines stop old (lines_of input))) MOST
+  pub refused : told.refused ≡ min (refused_in old (carried_lines stop old (lines_of input))) MOST
 
 -- such a run that then flushed its sink: `written` had taken the whole output, and a flush led from it to the last state
 abbrev pub FinishesFlushed : {K : Type 0} → (K → Option (List ℕ)) → (K → K → Type 0) → Bool → List ℕ → State → State → K → K → RunEnd → Type 0
@@ -58,10 +58,10 @@ FinishesFlushed {K} taken flushes stop input old new before behind told =
 -- front of their output that has the output of all but the last of them; where the sink did not fail, it is the whole
 pub record StopsAmong (fault : RunFault) (stop : Bool) (lines : List (List ℕ)) (old new : State) (before behind : Option (List ℕ)) : Type 0 where
   pub m : ℕ
-  pub within : m ≤ length (carried stop old lines)
-  pub store : new ≡ after old (take m (carried stop old lines))
-  pub output : AppendsBetween before behind (output_of old (take (m - 1) (carried stop old lines))) (output_of old (take m (carried stop old lines)))
-  pub whole : fault ≢ Write → Appends before behind (output_of old (take m (carried stop old lines)))
+  pub within : m ≤ length (carried_lines stop old lines)
+  pub store : new ≡ after old (take m (carried_lines stop old lines))
+  pub output : AppendsBetween before behind (output_of old (take (m - 1) (carried_lines stop old lines))) (output_of old (take m (carried_lines stop old lines)))
+  pub whole : fault ≢ Write → Appends before behind (output_of old (take m (carried_lines stop old lines)))
 
 -- a run that a fault ended among its lines, where the ends of those that the store stands after were read
 pub record StopsAfter (fault : RunFault) (stop : Bool) (input : List ℕ) (left : Option (List ℕ)) (old new : State) (before behind : Option (List ℕ)) : Type 0 where

@@ -1,11 +1,13 @@
 -- What one line of a script comes to.
-use Rattle.std.specs.Prelude.{ℕ, ◌==◌, if◌then◌else◌, codes, Bool, true, false, Option, Some, None, Result, Ok, Err, List, [], ◌∷◌, length}
+use Rattle.std.specs.Prelude.{ℕ, ◌==◌, if◌then◌else◌, Bool, true, false, Option, Some, None, Result, Ok, Err, List, [], ◌∷◌, length}
 use Rattle.s2ix_bag.specs.declared.pair.Entry.{Entry}
 use Rattle.s2id_core.specs.declared.cell_id.CellId.{CellId}
 use Rattle.s2id_core.specs.CellId.{level_of, path_of, raw_of}
 use Rattle.s2id_cube.specs.Square.{square_of}
 use Rattle.s2ix_edit.specs.declared.edit.Edit.{Edit}
 use Rattle.s2ix_edit.specs.declared.errors.EditError.{EditError}
+use Rattle.s2ix_edit.specs.declared.errors.RedoError.TheVariants.{NothingToRedo}
+use Rattle.s2ix_edit.specs.declared.errors.UndoError.TheVariants.{NothingToUndo}
 use Rattle.s2ix_edit.specs.State.{State, after_edit, after_forget, after_undo, after_redo, change_of, last_done, last_undone, undo_size, redo_size}
 use Rattle.s2ix_edit.specs.Refusals.{edit_refusal}
 use Rattle.s2ix_text.specs.Answers.{neighbors_line, no_line, ok_line, path_line, square_line}
@@ -16,15 +18,11 @@ use Rattle.s2ix_table.specs.Meeting.{meeting_of}
 use Rattle.s2ix_table.specs.RangeList.{range_table}
 use Rattle.s2ix_text.specs.Journal.{journal_text}
 use Rattle.s2ix_text.specs.Queries.{held_line, label_line, list_text, range_line}
-use Rattle.s2ix_script.specs.declared.command.Command.{Command}
-use Rattle.s2ix_script.specs.declared.command.Command.TheVariants as command
-use Rattle.s2ix_script.specs.declared.command.LineFault.{LineFault}
-use Rattle.s2ix_script.specs.declared.command.Move.{Move}
-use Rattle.s2ix_script.specs.declared.command.Move.TheVariants as move
-use Rattle.s2ix_script.specs.declared.command.Query.{Query}
-use Rattle.s2ix_script.specs.declared.command.Query.TheVariants as query
+use Rattle.s2ix_script.specs.declared.instruction.Instruction.{Instruction}
+use Rattle.s2ix_script.specs.declared.instruction.Instruction.TheVariants as asks
+use Rattle.s2ix_script.specs.declared.line_fault.LineFault.{LineFault}
 use Rattle.s2ix_script.specs.Meaning.{meaning_of}
-use Rattle.s2ix_script.specs.Names.{fault_name, edit_error_name}
+use Rattle.s2ix_script.specs.Names.{edit_error_name, fault_name, not_leaf_name, redo_error_name, undo_error_name}
 
 -- the store after a line, what the line prints, and whether it counts as a line and as a refused one
 pub record Step : Type 0 where
@@ -34,25 +32,25 @@ pub record Step : Type 0 where
   pub is_refused : Bool
 
 -- a blank line or a comment
-abbrev pub passed_over : State → Step
-passed_over s = record { after = s; answer = []; is_counted = false; is_refused = false }
+abbrev pub blank_step : State → Step
+blank_step s = record { after = s; answer = []; is_counted = false; is_refused = false }
 
 -- a line that changes nothing and prints why
-abbrev pub refused : State → List ℕ → Step
-refused s name = record { after = s; answer = no_line name; is_counted = true; is_refused = true }
+abbrev pub no_step : State → List ℕ → Step
+no_step s name = record { after = s; answer = no_line name; is_counted = true; is_refused = true }
 
--- a line that changes the counts of n pairs
-abbrev pub accepted : State → ℕ → Step
-accepted s n = record { after = s; answer = ok_line n; is_counted = true; is_refused = false }
+-- a line that changes the counts of n pairs, and the store after it
+abbrev pub ok_step : State → ℕ → Step
+ok_step s n = record { after = s; answer = ok_line n; is_counted = true; is_refused = false }
 
 -- a line that prints a text
-abbrev pub shown : State → List ℕ → Step
-shown s text = record { after = s; answer = text; is_counted = true; is_refused = false }
+abbrev pub text_step : State → List ℕ → Step
+text_step s text = record { after = s; answer = text; is_counted = true; is_refused = false }
 
 -- what an edit comes to, where it is refused so or not at all
 abbrev pub edit_step_at : State → Edit → Option EditError → Step
-edit_step_at s edit None = accepted (after_edit s edit) (length (change_of s edit))
-edit_step_at s edit (Some error) = refused s (edit_error_name error)
+edit_step_at s edit None = ok_step (after_edit s edit) (length (change_of s edit))
+edit_step_at s edit (Some error) = no_step s (edit_error_name error)
 
 -- what an edit comes to
 unfoldable pub edit_step : State → Edit → Step
@@ -60,8 +58,8 @@ edit_step s edit = edit_step_at s edit (edit_refusal s edit)
 
 -- what `undo` comes to, where this change was the last or none was done
 abbrev pub undo_step_at : State → Option (List Entry) → Step
-undo_step_at s None = refused s (codes "NothingToUndo")
-undo_step_at s (Some change) = accepted (after_undo s) (undo_size s)
+undo_step_at s None = no_step s (undo_error_name NothingToUndo)
+undo_step_at s (Some change) = ok_step (after_undo s) (undo_size s)
 
 -- what `undo` comes to
 unfoldable pub undo_step : State → Step
@@ -69,8 +67,8 @@ undo_step s = undo_step_at s (last_done s)
 
 -- what `redo` comes to, where this change was the last that was undone or none was
 abbrev pub redo_step_at : State → Option (List Entry) → Step
-redo_step_at s None = refused s (codes "NothingToRedo")
-redo_step_at s (Some change) = accepted (after_redo s) (redo_size s)
+redo_step_at s None = no_step s (redo_error_name NothingToRedo)
+redo_step_at s (Some change) = ok_step (after_redo s) (redo_size s)
 
 -- what `redo` comes to
 unfoldable pub redo_step : State → Step
@@ -78,37 +76,29 @@ redo_step s = redo_step_at s (last_undone s)
 
 -- what `at` comes to: the pairs over a leaf; a cell that is no leaf is refused
 abbrev pub at_step : State → CellId → Step
-at_step s cell = if level_of cell == 30 then shown s (list_text held_line (contents_at (raw_of cell) s.bag.held)) else refused s (codes "NotLeaf")
+at_step s cell = if level_of cell == 30 then text_step s (list_text held_line (contents_at (raw_of cell) s.bag.held)) else no_step s not_leaf_name
 
--- what a query comes to
-abbrev pub query_step : State → Query → Step
-query_step s (query.At cell) = at_step s cell
-query_step s (query.Meet target) = shown s (list_text held_line (meeting_of target s.bag.held))
-query_step s (query.Labels target) = shown s (list_text label_line (label_list (meeting_of target s.bag.held)))
-query_step s query.Ranges = shown s (list_text range_line (range_table s.bag.held))
-query_step s (query.Path cell) = shown s (path_line cell)
-query_step s (query.Neighbors cell) = shown s (neighbors_line cell)
-query_step s (query.Face cell) = shown s (square_line (square_of (path_of cell)))
-query_step s query.Dump = shown s (dump_text s.bag.held)
-query_step s query.Journal = shown s (journal_text s.done)
-
--- what a move comes to
-abbrev pub move_step : State → Move → Step
-move_step s (move.Edit edit) = edit_step s edit
-move_step s move.Undo = undo_step s
-move_step s move.Redo = redo_step s
-move_step s move.Forget = accepted (after_forget s) 0
-
--- what a command comes to
-abbrev pub command_step : State → Command → Step
-command_step s (command.Move asked) = move_step s asked
-command_step s (command.Query asked) = query_step s asked
+-- what an instruction comes to
+abbrev pub instruction_step : State → Instruction → Step
+instruction_step s (asks.Edit edit) = edit_step s edit
+instruction_step s asks.Undo = undo_step s
+instruction_step s asks.Redo = redo_step s
+instruction_step s asks.Forget = ok_step (after_forget s) 0
+instruction_step s (asks.At cell) = at_step s cell
+instruction_step s (asks.Meet target) = text_step s (list_text held_line (meeting_of target s.bag.held))
+instruction_step s (asks.Labels target) = text_step s (list_text label_line (label_list (meeting_of target s.bag.held)))
+instruction_step s asks.Ranges = text_step s (list_text range_line (range_table s.bag.held))
+instruction_step s (asks.Path cell) = text_step s (path_line cell)
+instruction_step s (asks.Neighbors cell) = text_step s (neighbors_line cell)
+instruction_step s (asks.Face cell) = text_step s (square_line (square_of (path_of cell)))
+instruction_step s asks.Dump = text_step s (dump_text s.bag.held)
+instruction_step s asks.Journal = text_step s (journal_text s.done)
 
 -- what a line of this meaning comes to
-abbrev pub step_at : State → Result (Option Command) LineFault → Step
-step_at s (Ok None) = passed_over s
-step_at s (Ok (Some c)) = command_step s c
-step_at s (Err fault) = refused s (fault_name fault)
+abbrev pub step_at : State → Result (Option Instruction) LineFault → Step
+step_at s (Ok None) = blank_step s
+step_at s (Ok (Some instruction)) = instruction_step s instruction
+step_at s (Err fault) = no_step s (fault_name fault)
 
 -- what a line comes to
 unfoldable pub step_of : State → List ℕ → Step

@@ -3,44 +3,33 @@ use Rattle.std.specs.Prelude.{◌≡◌, ◌≢◌, ◌⊎◌, ℕ, Bool, true, 
 use Rattle.std.specs.Io.KnownBytes.{Appends}
 use Rattle.s2ix_edit.specs.State.{State}
 use Rattle.s2ix_edit.specs.Refusals.{MayWantMemory, edit_refusal}
-use Rattle.s2ix_script.specs.declared.command.Command.{Command}
-use Rattle.s2ix_script.specs.declared.command.Command.TheVariants as command
-use Rattle.s2ix_script.specs.declared.command.LineFault.{LineFault}
-use Rattle.s2ix_script.specs.declared.command.Move.{Move}
-use Rattle.s2ix_script.specs.declared.command.Move.TheVariants as move
-use Rattle.s2ix_script.specs.declared.command.Query.{Query}
-use Rattle.s2ix_script.specs.declared.command.Query.TheVariants as query
+use Rattle.s2ix_script.specs.declared.instruction.Instruction.{Instruction}
+use Rattle.s2ix_script.specs.declared.instruction.Instruction.TheVariants as asks
+use Rattle.s2ix_script.specs.declared.line_fault.LineFault.{LineFault}
 use Rattle.s2ix_script.specs.Meaning.{is_on_union, meaning_of}
-use Rattle.s2ix_cli.specs.Script.{after, carried, output_of}
+use Rattle.s2ix_cli.specs.Script.{after, carried_lines, output_of}
 
--- a move: an edit unless it is refused before its change is made, and an undo or a redo of a change that there is
-abbrev pub MoveWants : State → Move → Type 0
-MoveWants s (move.Edit edit) = MayWantMemory (edit_refusal s edit)
-MoveWants s move.Undo = s.done ≢ []
-MoveWants s move.Redo = s.undone ≢ []
-MoveWants s move.Forget = ⊥
+-- an instruction: an edit unless it is refused before its change is made, an undo or a redo of a change that there is, and what gathers
+-- the pairs or labels that it prints
+abbrev pub InstructionWants : State → Instruction → Type 0
+InstructionWants s (asks.Edit edit) = MayWantMemory (edit_refusal s edit)
+InstructionWants s asks.Undo = s.done ≢ []
+InstructionWants s asks.Redo = s.undone ≢ []
+InstructionWants s asks.Forget = ⊥
+InstructionWants s (asks.At cell) = ⊥
+InstructionWants s (asks.Meet target) = Unit {0}
+InstructionWants s (asks.Labels target) = Unit {0}
+InstructionWants s asks.Ranges = ⊥
+InstructionWants s (asks.Path cell) = ⊥
+InstructionWants s (asks.Neighbors cell) = ⊥
+InstructionWants s (asks.Face cell) = ⊥
+InstructionWants s asks.Dump = ⊥
+InstructionWants s asks.Journal = ⊥
 
--- a query: one that gathers what it prints
-abbrev pub QueryWants : Query → Type 0
-QueryWants (query.At cell) = ⊥
-QueryWants (query.Meet target) = Unit {0}
-QueryWants (query.Labels target) = Unit {0}
-QueryWants query.Ranges = ⊥
-QueryWants (query.Path cell) = ⊥
-QueryWants (query.Neighbors cell) = ⊥
-QueryWants (query.Face cell) = ⊥
-QueryWants query.Dump = ⊥
-QueryWants query.Journal = ⊥
-
--- a command
-abbrev pub CommandWants : State → Command → Type 0
-CommandWants s (command.Move asked) = MoveWants s asked
-CommandWants s (command.Query asked) = QueryWants asked
-
--- a line of this meaning: while the union of its command is made, or when the command is carried out
-abbrev pub MeaningWants : State → Result (Option Command) LineFault → Type 0
+-- a line of this meaning: while the union of its instruction is made, or when the instruction is carried out
+abbrev pub MeaningWants : State → Result (Option Instruction) LineFault → Type 0
 MeaningWants s (Ok None) = ⊥
-MeaningWants s (Ok (Some c)) = (is_on_union c ≡ true) ⊎ CommandWants s c
+MeaningWants s (Ok (Some instruction)) = (is_on_union instruction ≡ true) ⊎ InstructionWants s instruction
 MeaningWants s (Err fault) = ⊥
 
 -- a line
@@ -52,7 +41,7 @@ pub record WantsAmong (stop : Bool) (lines : List (List ℕ)) (old new : State) 
   pub done : List (List ℕ)
   pub line : List ℕ
   pub rest : List (List ℕ)
-  pub are_carried : carried stop old lines ≡ done ++ line ∷ rest
+  pub are_carried : carried_lines stop old lines ≡ done ++ line ∷ rest
   pub store : new ≡ after old done
   pub output : Appends before behind (output_of old done)
   pub wants : LineWants new line

@@ -1,17 +1,22 @@
-//! Carrying one line out: from its bytes to the store's step and the answer.
-ghost use Rattle.std.specs.Prelude.{◌≡◌, ◌+◌, ◌-◌, ◌^◌, ◌<◌, IfErr};
-ghost use Rattle.s2ix_io.specs.Faults.{sink_faults, IsWantOnlyIf};
+//! Carrying one line out: from its bytes to what it asks for, to the store's step and the answer.
+ghost use Rattle.std.specs.Prelude.{◌≡◌, ◌≢◌, ◌+◌, Err, IfErr};
+ghost use Rattle.s2ix_io.specs.Faults.{CanCount, sink_faults, IsWantOnlyIf};
 ghost use Rattle.s2ix_cli.specs.Carry.{Carries};
-ghost use Rattle.s2ix_cli.specs.Step.{command_step, move_step, step_of};
-ghost use Rattle.s2ix_cli.specs.Wants.{CommandWants, LineWants, MoveWants};
+ghost use Rattle.s2ix_cli.specs.Step.{at_step, instruction_step, step_of};
+ghost use Rattle.s2ix_cli.specs.Wants.{InstructionWants, LineWants};
 
-use crate::moves::{Refusal, moved};
+use crate::changes::{accept, carry_edit, carry_redo, carry_undo, refuse};
 use crate::outcome::LineOutcome;
-use crate::query::answer_query;
+use s2id_core::CellId;
+use s2id_cube::to_face_ij;
 use s2ix_edit::Store;
 use s2ix_io::{RunFault, Sink};
-use s2ix_script::{Command, LineError, Move, meaning};
-use s2ix_text::{write_no, write_ok};
+use s2ix_script::{Instruction, LineError, NOT_LEAF_NAME, meaning};
+use s2ix_table::RangeTable;
+use s2ix_text::{
+    write_contents, write_dump, write_journal, write_list, write_neighbors, write_path,
+    write_ranges, write_square,
+};
 use std::alloc::Global;
 
 // Carries a line out, and prints its answer.
@@ -22,7 +27,7 @@ pub(crate) fn carry_out<K: Sink>(
     sink: &mut K,
     line: &[u8],
 ) -> Result<LineOutcome, RunFault>
-    requires { K.fault_count sink.old < 2 ^ 64 - 1 }
+    requires { CanCount (K.fault_count sink.old) }
     ensures carries { Carries (step_of store.old line.now) store.old store.new (K.taken sink.old) (K.taken sink.new) result }
     ensures memory { IfErr result (IsWantOnlyIf (LineWants store.old line.now)) }
     ensures faults { K.fault_count sink.new ≡ K.fault_count sink.old + sink_faults result }
@@ -30,54 +35,56 @@ pub(crate) fn carry_out<K: Sink>(
     match meaning(alloc, line) {
         Ok(asked) => match asked {
             None => Ok(LineOutcome::PassedOver),
-            Some(command) => carry_command(alloc, store, sink, command),
+            Some(instruction) => carry_instruction(alloc, store, sink, instruction),
         },
-        Err(LineError::Fault(fault)) => {
-            write_no(fault.name(), sink)?;
-            Ok(LineOutcome::Refused)
-        }
+        Err(LineError::Fault(fault)) => refuse(sink, fault.name()),
         Err(LineError::OutOfMemory) => Err(RunFault::OutOfMemory),
     }
 }
 
-// Carries a command out, and prints its answer.
-fn carry_command<K: Sink>(
+// Carries an instruction out, and prints its answer.
+fn carry_instruction<K: Sink>(
     alloc: Global,
     store: &mut Store,
     sink: &mut K,
-    command: Command,
+    instruction: Instruction,
 ) -> Result<LineOutcome, RunFault>
-    requires { K.fault_count sink.old < 2 ^ 64 - 1 }
-    ensures carries { Carries (command_step store.old command) store.old store.new (K.taken sink.old) (K.taken sink.new) result }
-    ensures memory { IfErr result (IsWantOnlyIf (CommandWants store.old command)) }
+    requires { CanCount (K.fault_count sink.old) }
+    ensures carries { Carries (instruction_step store.old instruction) store.old store.new (K.taken sink.old) (K.taken sink.new) result }
+    ensures memory { IfErr result (IsWantOnlyIf (InstructionWants store.old instruction)) }
     ensures faults { K.fault_count sink.new ≡ K.fault_count sink.old + sink_faults result }
 {
-    match command {
-        Command::Move(asked) => carry_move(store, sink, asked),
-        Command::Query(query) => answer_query(alloc, store, sink, query),
+    match instruction {
+        Instruction::Edit(edit) => return carry_edit(store, sink, &edit),
+        Instruction::Undo => return carry_undo(store, sink),
+        Instruction::Redo => return carry_redo(store, sink),
+        Instruction::Forget => {
+            store.forget();
+            return accept(sink, 0);
+        }
+        Instruction::At(cell) => return carry_at(store, sink, cell),
+        Instruction::Meet(target) => write_list(&store.table().meeting(alloc, &target)?, sink)?,
+        Instruction::Labels(target) => write_list(&store.table().labels(alloc, &target)?, sink)?,
+        Instruction::Ranges => write_ranges(store.table(), sink)?,
+        Instruction::Path(cell) => write_path(cell, sink)?,
+        Instruction::Neighbors(cell) => write_neighbors(cell, sink)?,
+        Instruction::Face(cell) => write_square(to_face_ij(cell), sink)?,
+        Instruction::Dump => write_dump(store.bag(), sink)?,
+        Instruction::Journal => write_journal(store.done(), sink)?,
     }
+    Ok(LineOutcome::Accepted)
 }
 
-// Moves a store, and prints how many pairs changed their counts, or why it stays.
-fn carry_move<K: Sink>(
-    store: &mut Store,
-    sink: &mut K,
-    asked: Move,
-) -> Result<LineOutcome, RunFault>
-    requires { K.fault_count sink.old < 2 ^ 64 - 1 }
-    ensures carries { Carries (move_step store.old asked) store.old store.new (K.taken sink.old) (K.taken sink.new) result }
-    ensures memory { IfErr result (IsWantOnlyIf (MoveWants store.old asked)) }
+// Prints what lies over a leaf.
+fn carry_at<K: Sink>(store: &Store, sink: &mut K, cell: CellId) -> Result<LineOutcome, RunFault>
+    requires { CanCount (K.fault_count sink.old) }
+    ensures carries { Carries (at_step store.now cell) store.now store.now (K.taken sink.old) (K.taken sink.new) result }
+    ensures memory { result ≢ Err RunFault.OutOfMemory }
     ensures faults { K.fault_count sink.new ≡ K.fault_count sink.old + sink_faults result }
 {
-    match moved(store, asked) {
-        Ok(pairs) => {
-            write_ok(pairs, sink)?;
-            Ok(LineOutcome::Accepted)
-        }
-        Err(Refusal::Named(name)) => {
-            write_no(name, sink)?;
-            Ok(LineOutcome::Refused)
-        }
-        Err(Refusal::OutOfMemory) => Err(RunFault::OutOfMemory),
+    if !cell.is_leaf() {
+        return refuse(sink, NOT_LEAF_NAME);
     }
+    write_contents(store.table(), cell, sink)?;
+    Ok(LineOutcome::Accepted)
 }

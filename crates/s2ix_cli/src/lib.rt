@@ -2,9 +2,8 @@
 #![tactic(auto)]
 
 mod carry;
-mod moves;
+mod changes;
 mod outcome;
-mod query;
 mod script;
 
 pub use outcome::{RunEnd, RunOptions};

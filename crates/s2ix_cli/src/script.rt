@@ -1,7 +1,7 @@
 //! A run: the lines of a script, one after the other.
-ghost use Rattle.std.specs.Prelude.{◌≡◌, ◌≢◌, ◌⊎◌, ℕ, ◌+◌, ◌-◌, ◌^◌, ◌<◌, List, length, Err, IfOk, IfErr, OnOk};
+ghost use Rattle.std.specs.Prelude.{◌≡◌, ◌≢◌, ◌⊎◌, ℕ, ◌+◌, List, Err, IfOk, IfErr, OnOk};
 ghost use Rattle.std.specs.Io.KnownBytes.{Keeps, Consumes, IsAtEnd};
-ghost use Rattle.s2ix_io.specs.Faults.{source_faults, sink_faults, IsPatient, IsWantOnlyIf};
+ghost use Rattle.s2ix_io.specs.Faults.{CanCount, source_faults, sink_faults, IsPatient, IsWantOnlyIf};
 ghost use Rattle.s2ix_script.specs.Lines.{lines_of};
 ghost use Rattle.s2ix_io.specs.Pieces.{ReadsToEnd, ReadsWithin};
 ghost use Rattle.s2ix_cli.specs.Script.{Finishes, FinishesFlushed, StopsAfter, StopsAmong};
@@ -30,8 +30,8 @@ pub fn run<S: Source, K: Sink>(
     store: &mut Store,
     options: RunOptions,
 ) -> Result<RunEnd, RunFault>
-    requires source_counts { S.fault_count source.old < 2 ^ 64 - 1 }
-    requires sink_counts { K.fault_count sink.old < 2 ^ 64 - 1 }
+    requires source_counts { CanCount (S.fault_count source.old) }
+    requires sink_counts { CanCount (K.fault_count sink.old) }
     ensures finished { IfOk result (λ told. (input : List ℕ) × Consumes (S.left source.old) (S.left source.new) input
         × IsAtEnd (S.left source.new)
         × FinishesFlushed K.taken K.flushes options.stop input store.old store.new sink.old sink.new told) }
@@ -60,7 +60,7 @@ fn carry_lines<K: Sink>(
     text: &[u8],
     stop: bool,
 ) -> Result<RunEnd, RunFault>
-    requires { K.fault_count sink.old < 2 ^ 64 - 1 }
+    requires { CanCount (K.fault_count sink.old) }
     ensures finished { IfOk result (λ told. Finishes stop text.now store.old store.new (K.taken sink.old) (K.taken sink.new) told) }
     ensures stopped { IfErr result (λ fault. StopsAmong fault stop (lines_of text.now) store.old store.new (K.taken sink.old) (K.taken sink.new)) }
     ensures memory { IfErr result (IsWantOnlyIf (WantsAmong stop (lines_of text.now) store.old store.new (K.taken sink.old) (K.taken sink.new))) }

@@ -8,25 +8,39 @@ use Rattle.s2ix_bag.specs.declared.label.Label.{Label}
 use Rattle.s2ix_bag.specs.declared.pair.Pair.{Pair}
 use Rattle.s2ix_edit.specs.declared.edit.Edit.{Edit}
 use Rattle.s2ix_edit.specs.declared.edit.Edit.TheVariants.{Add, AddUnion, Remove, DropLabel, Relabel}
-use Rattle.s2ix_script.specs.declared.command.Command.{Command}
-use Rattle.s2ix_script.specs.declared.command.Command.TheVariants as command
-use Rattle.s2ix_script.specs.declared.command.Move.TheVariants as move
-use Rattle.s2ix_script.specs.declared.command.Query.{Query}
-use Rattle.s2ix_script.specs.declared.command.Query.TheVariants as query
-use Rattle.s2ix_script.specs.declared.command.LineError.{LineError}
-use Rattle.s2ix_script.specs.declared.command.LineError.TheVariants.{Fault, OutOfMemory}
-use Rattle.s2ix_script.specs.declared.command.LineFault.{LineFault}
-use Rattle.s2ix_script.specs.declared.command.LineFault.TheVariants.{LineTooLong, BadCommand, BadArguments, BadToken, BadLabel, BadCount}
+use Rattle.s2ix_script.specs.declared.instruction.Instruction.{Instruction}
+use Rattle.s2ix_script.specs.declared.instruction.Instruction.TheVariants as asks
+use Rattle.s2ix_script.specs.declared.line_fault.LineError.{LineError}
+use Rattle.s2ix_script.specs.declared.line_fault.LineError.TheVariants.{Fault, OutOfMemory}
+use Rattle.s2ix_script.specs.declared.line_fault.LineFault.{LineFault}
+use Rattle.s2ix_script.specs.declared.line_fault.LineFault.TheVariants.{LineTooLong, BadCommand, BadArguments, BadToken, BadLabel, BadCount}
 use Rattle.s2ix_script.specs.Fields.{fields_of, label_spelled, copies_spelled}
 
 -- the longest line that is read, in bytes
 abbrev pub LONGEST : ℕ
 LONGEST = 65536
 
--- a command that takes no further field
-abbrev pub bare : Command → List (List ℕ) → Result Command LineFault
-bare asked [] = Ok asked
-bare asked (field ∷ fields) = Err BadArguments
+-- what is made of a meaning, where there is one
+abbrev pub map_ok : {A B : Type 0} → (A → B) → Result A LineFault → Result B LineFault
+map_ok f (Ok a) = Ok (f a)
+map_ok f (Err fault) = Err fault
+
+-- ---- what fields name
+
+-- no field
+abbrev pub bare : Instruction → List (List ℕ) → Result Instruction LineFault
+bare instruction [] = Ok instruction
+bare instruction (field ∷ fields) = Err BadArguments
+
+-- a cell
+abbrev pub cell_with : Option CellId → Result CellId LineFault
+cell_with None = Err BadToken
+cell_with (Some cell) = Ok cell
+
+-- a label
+abbrev pub label_with : Option Label → Result Label LineFault
+label_with None = Err BadLabel
+label_with (Some label) = Ok label
 
 -- a pair and a number of copies, where fields name its cell, its label and the copies; the first that does not decides
 abbrev pub pair_with : Option CellId → Option Label → Option ℕ → Result (Pair × ℕ) LineFault
@@ -36,61 +50,33 @@ pair_with (Some cell) (Some label) None = Err BadCount
 pair_with (Some cell) (Some label) (Some n) = Ok (record { cell = cell; label = label }, n)
 
 -- the fields TOKEN LABEL, with one copy, or TOKEN LABEL COPIES
-abbrev pub pair_asked : List (List ℕ) → Result (Pair × ℕ) LineFault
-pair_asked (token ∷ label ∷ []) = pair_with (cell_spelled token) (label_spelled label) (Some 1)
-pair_asked (token ∷ label ∷ copies ∷ []) = pair_with (cell_spelled token) (label_spelled label) (copies_spelled copies)
-pair_asked fields = Err BadArguments
+abbrev pub pair_named : List (List ℕ) → Result (Pair × ℕ) LineFault
+pair_named (token ∷ label ∷ []) = pair_with (cell_spelled token) (label_spelled label) (Some 1)
+pair_named (token ∷ label ∷ copies ∷ []) = pair_with (cell_spelled token) (label_spelled label) (copies_spelled copies)
+pair_named fields = Err BadArguments
 
--- an edit of the pair that the fields name
-abbrev pub edit_of : (Pair → ℕ → Edit) → Result (Pair × ℕ) LineFault → Result Command LineFault
-edit_of edit (Ok pair) = Ok (command.Move (move.Edit (edit pair.0 pair.1)))
-edit_of edit (Err fault) = Err fault
+-- the one field TOKEN
+abbrev pub cell_named : List (List ℕ) → Result CellId LineFault
+cell_named (token ∷ []) = cell_with (cell_spelled token)
+cell_named fields = Err BadArguments
 
-abbrev pub edit_asked : (Pair → ℕ → Edit) → List (List ℕ) → Result Command LineFault
-edit_asked edit fields = edit_of edit (pair_asked fields)
+-- the one field LABEL, whose label is dropped
+abbrev pub drop_named : List (List ℕ) → Result Edit LineFault
+drop_named (label ∷ []) = map_ok DropLabel (label_with (label_spelled label))
+drop_named fields = Err BadArguments
 
--- the cell that the one field TOKEN names
-abbrev pub cell_with : Option CellId → Result CellId LineFault
-cell_with None = Err BadToken
-cell_with (Some cell) = Ok cell
+-- a label that becomes another, where fields name both; the first that does not decides
+abbrev pub relabel_with : Option Label → Option Label → Result Edit LineFault
+relabel_with None target = Err BadLabel
+relabel_with (Some source) None = Err BadLabel
+relabel_with (Some source) (Some target) = Ok (Relabel source target)
 
-abbrev pub cell_asked : List (List ℕ) → Result CellId LineFault
-cell_asked (token ∷ []) = cell_with (cell_spelled token)
-cell_asked fields = Err BadArguments
+-- the fields SOURCE TARGET
+abbrev pub relabel_named : List (List ℕ) → Result Edit LineFault
+relabel_named (source ∷ target ∷ []) = relabel_with (label_spelled source) (label_spelled target)
+relabel_named fields = Err BadArguments
 
--- a query on the cell that the fields name
-abbrev pub of_cell : (CellId → Query) → Result CellId LineFault → Result Command LineFault
-of_cell asked (Ok cell) = Ok (command.Query (asked cell))
-of_cell asked (Err fault) = Err fault
-
--- the label that the one field LABEL names
-abbrev pub label_with : Option Label → Result Label LineFault
-label_with None = Err BadLabel
-label_with (Some label) = Ok label
-
-abbrev pub label_asked : List (List ℕ) → Result Label LineFault
-label_asked (label ∷ []) = label_with (label_spelled label)
-label_asked fields = Err BadArguments
-
--- the two labels that the fields SOURCE TARGET name; the first that does not decides
-abbrev pub labels_with : Option Label → Option Label → Result (Label × Label) LineFault
-labels_with None target = Err BadLabel
-labels_with (Some source) None = Err BadLabel
-labels_with (Some source) (Some target) = Ok (source, target)
-
-abbrev pub labels_asked : List (List ℕ) → Result (Label × Label) LineFault
-labels_asked (source ∷ target ∷ []) = labels_with (label_spelled source) (label_spelled target)
-labels_asked fields = Err BadArguments
-
--- the command that drops the label that fields name
-abbrev pub drop_of : Result Label LineFault → Result Command LineFault
-drop_of (Ok label) = Ok (command.Move (move.Edit (DropLabel label)))
-drop_of (Err fault) = Err fault
-
--- the command that relabels as fields say
-abbrev pub relabel_of : Result (Label × Label) LineFault → Result Command LineFault
-relabel_of (Ok labels) = Ok (command.Move (move.Edit (Relabel labels.0 labels.1)))
-relabel_of (Err fault) = Err fault
+-- ---- the cells that fields name
 
 -- a cell before others; the first field that names none decides
 abbrev pub before : Result CellId LineFault → Result (List CellId) LineFault → Result (List CellId) LineFault
@@ -103,88 +89,80 @@ abbrev pub cells_named : List (List ℕ) → Result (List CellId) LineFault
 cells_named [] = Ok []
 cells_named (token ∷ tokens) = before (cell_with (cell_spelled token)) (cells_named tokens)
 
--- the normal union of the cells that the fields TOKEN.. name
-abbrev pub normal_of : Result (List CellId) LineFault → Result (List CellId) LineFault
-normal_of (Ok cells) = Ok (normal_form cells)
-normal_of (Err fault) = Err fault
+-- their normal union
+abbrev pub union_of : List (List ℕ) → Result (List CellId) LineFault
+union_of tokens = map_ok normal_form (cells_named tokens)
 
+-- the same, of the fields TOKEN.., one at least
 abbrev pub union_named : List (List ℕ) → Result (List CellId) LineFault
-union_named tokens = normal_of (cells_named tokens)
+union_named [] = Err BadArguments
+union_named (token ∷ tokens) = union_of (token ∷ tokens)
 
--- a command on the union that fields name
-abbrev pub of_union : (List CellId → Command) → Result (List CellId) LineFault → Result Command LineFault
-of_union asked (Ok union) = Ok (asked union)
-of_union asked (Err fault) = Err fault
-
--- the fields TOKEN.., one at least
-abbrev pub target_asked : List (List ℕ) → Result (List CellId) LineFault
-target_asked [] = Err BadArguments
-target_asked (token ∷ tokens) = union_named (token ∷ tokens)
-
--- the command that adds a union under a label
-abbrev pub add_union_with : Result Label LineFault → Result (List CellId) LineFault → Result Command LineFault
-add_union_with (Ok label) union = of_union (λ cells. command.Move (move.Edit (AddUnion cells label))) union
+-- a union that is added under a label
+abbrev pub add_union_with : Result Label LineFault → Result (List CellId) LineFault → Result Edit LineFault
+add_union_with (Ok label) union = map_ok (λ cells. AddUnion cells label) union
 add_union_with (Err fault) union = Err fault
 
 -- the fields LABEL TOKEN.., one token at least
-abbrev pub add_union_asked : List (List ℕ) → Result Command LineFault
-add_union_asked (label ∷ token ∷ tokens) = add_union_with (label_with (label_spelled label)) (union_named (token ∷ tokens))
-add_union_asked fields = Err BadArguments
+abbrev pub add_union_named : List (List ℕ) → Result Edit LineFault
+add_union_named (label ∷ token ∷ tokens) = add_union_with (label_with (label_spelled label)) (union_of (token ∷ tokens))
+add_union_named fields = Err BadArguments
 
--- the command that a word and the fields behind it ask for, where it takes no list of cells
-abbrev pub plain_asked : List ℕ → List (List ℕ) → Result Command LineFault
-plain_asked word fields =
-    if bytes_eq word (codes "add") then edit_asked Add fields
-    else (if bytes_eq word (codes "remove") then edit_asked Remove fields
-    else (if bytes_eq word (codes "drop") then drop_of (label_asked fields)
-    else (if bytes_eq word (codes "relabel") then relabel_of (labels_asked fields)
-    else (if bytes_eq word (codes "undo") then bare (command.Move move.Undo) fields
-    else (if bytes_eq word (codes "redo") then bare (command.Move move.Redo) fields
-    else (if bytes_eq word (codes "forget") then bare (command.Move move.Forget) fields
-    else (if bytes_eq word (codes "at") then of_cell query.At (cell_asked fields)
-    else (if bytes_eq word (codes "ranges") then bare (command.Query query.Ranges) fields
-    else (if bytes_eq word (codes "path") then of_cell query.Path (cell_asked fields)
-    else (if bytes_eq word (codes "neighbors") then of_cell query.Neighbors (cell_asked fields)
-    else (if bytes_eq word (codes "face") then of_cell query.Face (cell_asked fields)
-    else (if bytes_eq word (codes "dump") then bare (command.Query query.Dump) fields
-    else (if bytes_eq word (codes "journal") then bare (command.Query query.Journal) fields
-    else Err BadCommand)))))))))))))
+-- ---- the words
 
--- the command that a word and the fields behind it ask for
-abbrev pub command_asked : List ℕ → List (List ℕ) → Result Command LineFault
-command_asked word fields =
-    if bytes_eq word (codes "addunion") then add_union_asked fields
-    else (if bytes_eq word (codes "meet") then of_union (λ target. command.Query (query.Meet target)) (target_asked fields)
-    else (if bytes_eq word (codes "labels") then of_union (λ target. command.Query (query.Labels target)) (target_asked fields)
-    else plain_asked word fields))
+-- each word, and what the fields behind it ask for
+abbrev pub words : List (List ℕ × (List (List ℕ) → Result Instruction LineFault))
+words =
+    (codes "add", λ fields. map_ok (λ named. asks.Edit (Add named.0 named.1)) (pair_named fields))
+    ∷ (codes "remove", λ fields. map_ok (λ named. asks.Edit (Remove named.0 named.1)) (pair_named fields))
+    ∷ (codes "addunion", λ fields. map_ok asks.Edit (add_union_named fields))
+    ∷ (codes "drop", λ fields. map_ok asks.Edit (drop_named fields))
+    ∷ (codes "relabel", λ fields. map_ok asks.Edit (relabel_named fields))
+    ∷ (codes "undo", bare asks.Undo)
+    ∷ (codes "redo", bare asks.Redo)
+    ∷ (codes "forget", bare asks.Forget)
+    ∷ (codes "at", λ fields. map_ok asks.At (cell_named fields))
+    ∷ (codes "meet", λ fields. map_ok asks.Meet (union_named fields))
+    ∷ (codes "labels", λ fields. map_ok asks.Labels (union_named fields))
+    ∷ (codes "ranges", bare asks.Ranges)
+    ∷ (codes "path", λ fields. map_ok asks.Path (cell_named fields))
+    ∷ (codes "neighbors", λ fields. map_ok asks.Neighbors (cell_named fields))
+    ∷ (codes "face", λ fields. map_ok asks.Face (cell_named fields))
+    ∷ (codes "dump", bare asks.Dump)
+    ∷ (codes "journal", bare asks.Journal)
+    ∷ []
 
--- an answer in place of nothing
-abbrev pub asked : Result Command LineFault → Result (Option Command) LineFault
-asked (Ok c) = Ok (Some c)
-asked (Err fault) = Err fault
+-- what a word of these and the fields behind it ask for: the first entry with that word decides
+abbrev pub asked_in : List (List ℕ × (List (List ℕ) → Result Instruction LineFault)) → List ℕ → List (List ℕ) → Result Instruction LineFault
+asked_in [] word fields = Err BadCommand
+asked_in (entry ∷ entries) word fields = if bytes_eq word entry.0 then entry.1 fields else asked_in entries word fields
+
+-- what a word and the fields behind it ask for
+abbrev pub asked_by : List ℕ → List (List ℕ) → Result Instruction LineFault
+asked_by = asked_in words
 
 -- what the fields of a line ask for: nothing where there are none, or the first begins with `#`
-abbrev pub meaning_of_fields : List (List ℕ) → Result (Option Command) LineFault
+abbrev pub meaning_of_fields : List (List ℕ) → Result (Option Instruction) LineFault
 meaning_of_fields [] = Ok None
-meaning_of_fields (word ∷ fields) = if slice_index word 0 == 35 then Ok None else asked (command_asked word fields)
+meaning_of_fields (word ∷ fields) = if slice_index word 0 == 35 then Ok None else map_ok Some (asked_by word fields)
 
 -- what a line asks for
-unfoldable pub meaning_of : List ℕ → Result (Option Command) LineFault
+unfoldable pub meaning_of : List ℕ → Result (Option Instruction) LineFault
 meaning_of line = if nat_lt LONGEST (length line) then Err LineTooLong else meaning_of_fields (fields_of line)
 
 -- ---- where memory may be wanted
 
--- whether a command is on a union of cells
-abbrev pub is_on_union : Command → Bool
-is_on_union (command.Move (move.Edit (AddUnion union label))) = true
-is_on_union (command.Query (query.Meet target)) = true
-is_on_union (command.Query (query.Labels target)) = true
+-- whether an instruction is on a union of cells
+abbrev pub is_on_union : Instruction → Bool
+is_on_union (asks.Edit (AddUnion union label)) = true
+is_on_union (asks.Meet target) = true
+is_on_union (asks.Labels target) = true
 is_on_union other = false
 
--- whether a line asks for such a command
-abbrev pub asks_on_union : Option Command → Bool
+-- whether a line asks for such an instruction
+abbrev pub asks_on_union : Option Instruction → Bool
 asks_on_union None = false
-asks_on_union (Some c) = is_on_union c
+asks_on_union (Some instruction) = is_on_union instruction
 
 -- whether there is a meaning, and this holds of it
 abbrev pub is_ok_with : {A : Type 0} → (A → Bool) → Result A LineFault → Bool

@@ -1,9 +1,13 @@
--- The names that a refused line is answered by.
+-- The names that refused lines are answered by.
 use Rattle.std.specs.Prelude.{ℕ, List, codes}
 use Rattle.s2ix_edit.specs.declared.errors.EditError.{EditError}
 use Rattle.s2ix_edit.specs.declared.errors.EditError.TheVariants as edit
-use Rattle.s2ix_script.specs.declared.command.LineFault.{LineFault}
-use Rattle.s2ix_script.specs.declared.command.LineFault.TheVariants as fault
+use Rattle.s2ix_edit.specs.declared.errors.RedoError.{RedoError}
+use Rattle.s2ix_edit.specs.declared.errors.RedoError.TheVariants as redo
+use Rattle.s2ix_edit.specs.declared.errors.UndoError.{UndoError}
+use Rattle.s2ix_edit.specs.declared.errors.UndoError.TheVariants as undo
+use Rattle.s2ix_script.specs.declared.line_fault.LineFault.{LineFault}
+use Rattle.s2ix_script.specs.declared.line_fault.LineFault.TheVariants as fault
 
 -- the name of a line's fault
 abbrev pub fault_name : LineFault → List ℕ
@@ -14,6 +18,10 @@ fault_name fault.BadToken = codes "BadToken"
 fault_name fault.BadLabel = codes "BadLabel"
 fault_name fault.BadCount = codes "BadCount"
 
+-- the name by which `at` is refused where its cell is no leaf
+abbrev pub not_leaf_name : List ℕ
+not_leaf_name = codes "NotLeaf"
+
 -- the name of an edit's refusal; want of memory is no answer of a line, and has a name all the same
 abbrev pub edit_error_name : EditError → List ℕ
 edit_error_name edit.JournalFull = codes "JournalFull"
@@ -23,3 +31,13 @@ edit_error_name edit.NoChange = codes "NoChange"
 edit_error_name edit.TooManyCopies = codes "TooManyCopies"
 edit_error_name edit.TooManyPairs = codes "TooManyPairs"
 edit_error_name edit.OutOfMemory = codes "OutOfMemory"
+
+-- the name of an undo's refusal, likewise
+abbrev pub undo_error_name : UndoError → List ℕ
+undo_error_name undo.NothingToUndo = codes "NothingToUndo"
+undo_error_name undo.OutOfMemory = codes "OutOfMemory"
+
+-- the name of a redo's refusal, likewise
+abbrev pub redo_error_name : RedoError → List ℕ
+redo_error_name redo.NothingToRedo = codes "NothingToRedo"
+redo_error_name redo.OutOfMemory = codes "OutOfMemory"

@@ -1,14 +1,19 @@
 //! Scripts: their lines, what each line asks for, and the names by which lines are refused.
 #![tactic(auto)]
 
-mod command;
+mod cells;
+mod fields;
+mod instruction;
 pub mod laws;
+mod line_fault;
+mod line_meaning;
 mod lines;
 mod names;
 mod numbers;
-mod parse;
+mod words;
 
-pub use command::{Command, LineError, LineFault, Move, Query};
+pub use instruction::Instruction;
+pub use line_fault::{LineError, LineFault};
 pub use lines::Lines;
-pub use names::edit_error_name;
-pub use parse::{LONGEST_LINE, meaning};
+pub use line_meaning::{LONGEST_LINE, meaning};
+pub use names::{NOT_LEAF_NAME, edit_error_name, redo_error_name, undo_error_name};

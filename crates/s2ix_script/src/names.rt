@@ -1,9 +1,12 @@
-//! The names by which refusals are printed.
+//! The names by which refusals are printed. Want of memory ends a run and is never printed; its name is that of its variant.
 ghost use Rattle.std.specs.Prelude.{◌≡◌};
-ghost use Rattle.s2ix_script.specs.Names.{edit_error_name as name_of_edit_error, fault_name};
+ghost use Rattle.s2ix_script.specs.Names.{edit_error_name as name_of_edit_error, fault_name, redo_error_name as name_of_redo_error, undo_error_name as name_of_undo_error};
 
-use crate::command::LineFault;
-use s2ix_edit::EditError;
+use crate::line_fault::LineFault;
+use s2ix_edit::{EditError, RedoError, UndoError};
+
+/// The name by which a line `at` is answered where its cell is no leaf, as `no NAME`.
+pub const NOT_LEAF_NAME: &str = "NotLeaf";
 
 impl LineFault {
     /// The name by which a line with this fault is answered, as `no NAME`.
@@ -21,8 +24,7 @@ impl LineFault {
     }
 }
 
-/// The name by which a line whose edit is refused is answered, as `no NAME`. Want of memory ends a run and is
-/// never printed; its name is that of its variant.
+/// The name by which a line whose edit is refused is answered, as `no NAME`.
 pub fn edit_error_name(error: EditError) -> &'static str
     ensures { result.now ≡ name_of_edit_error error }
 {
@@ -34,5 +36,25 @@ pub fn edit_error_name(error: EditError) -> &'static str
         EditError::TooManyCopies => "TooManyCopies",
         EditError::TooManyPairs => "TooManyPairs",
         EditError::OutOfMemory => "OutOfMemory",
+    }
+}
+
+/// The name by which a refused `undo` is answered, as `no NAME`.
+pub fn undo_error_name(error: UndoError) -> &'static str
+    ensures { result.now ≡ name_of_undo_error error }
+{
+    match error {
+        UndoError::NothingToUndo => "NothingToUndo",
+        UndoError::OutOfMemory => "OutOfMemory",
+    }
+}
+
+/// The name by which a refused `redo` is answered, as `no NAME`.
+pub fn redo_error_name(error: RedoError) -> &'static str
+    ensures { result.now ≡ name_of_redo_error error }
+{
+    match error {
+        RedoError::NothingToRedo => "NothingToRedo",
+        RedoError::OutOfMemory => "OutOfMemory",
     }
 }

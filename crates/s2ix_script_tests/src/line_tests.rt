@@ -1,6 +1,8 @@
 // Lines, and the names that refused lines are answered by.
-use s2ix_edit::EditError;
-use s2ix_script::{LineError, LineFault, Lines, edit_error_name};
+use s2ix_edit::{EditError, RedoError, UndoError};
+use s2ix_script::{
+    LineError, LineFault, Lines, NOT_LEAF_NAME, edit_error_name, redo_error_name, undo_error_name,
+};
 use std::test::Fail;
 
 #[test]
@@ -33,6 +35,9 @@ fn names_are_those_of_the_variants(rt: HostRuntime) {
     assert_eq!(rt; LineFault::BadArguments.name(), "BadArguments");
     assert_eq!(rt; edit_error_name(EditError::JournalFull), "JournalFull");
     assert_eq!(rt; edit_error_name(EditError::TooManyPairs), "TooManyPairs");
+    assert_eq!(rt; undo_error_name(UndoError::NothingToUndo), "NothingToUndo");
+    assert_eq!(rt; redo_error_name(RedoError::NothingToRedo), "NothingToRedo");
+    assert_eq!(rt; NOT_LEAF_NAME, "NotLeaf");
 }
 
 #[test]

@@ -2,7 +2,7 @@
 use s2id_core::CellId;
 use s2ix_bag::{Label, Pair};
 use s2ix_edit::Edit;
-use s2ix_script::{Command, LineError, LineFault, Move, Query, meaning};
+use s2ix_script::{Instruction, LineError, LineFault, meaning};
 use std::alloc::Global;
 use std::test::Fail;
 
@@ -109,7 +109,7 @@ fn white_space_is_that_of_unicode(rt: HostRuntime) {
         assert!(rt;
             matches!(
                 meaning(rt.alloc(), line),
-                Ok(Some(Command::Move(Move::Undo)))
+                Ok(Some(Instruction::Undo))
             )
         );
     }
@@ -143,7 +143,7 @@ const ADDED: [(&[u8], u32, u32); 7] = [
 // The pair and the copies that a line asks to add.
 fn added_by(alloc: Global, line: &[u8]) -> Option<(Pair, u32)> {
     match meaning(alloc, line) {
-        Ok(Some(Command::Move(Move::Edit(Edit::Add { pair, copies })))) => Some((pair, copies)),
+        Ok(Some(Instruction::Edit(Edit::Add { pair, copies }))) => Some((pair, copies)),
         _ => None,
     }
 }
@@ -164,22 +164,22 @@ fn tokens_name_a_target(rt: HostRuntime) -> Result<(), Fail> {
     assert!(rt;
         matches!(
             &asked,
-            Ok(Some(Command::Query(Query::Meet(target)))) if target.cells() == [face].as_slice()
+            Ok(Some(Instruction::Meet(target))) if target.cells() == [face].as_slice()
         )
     );
     let asked = meaning(rt.alloc(), b"labels 1 1d");
     assert!(rt;
         matches!(
             &asked,
-            Ok(Some(Command::Query(Query::Labels(target)))) if target.cells() == [face].as_slice()
+            Ok(Some(Instruction::Labels(target))) if target.cells() == [face].as_slice()
         )
     );
     let asked = meaning(rt.alloc(), b"at 1");
-    assert!(rt; matches!(&asked, Ok(Some(Command::Query(Query::At(cell)))) if *cell == face));
+    assert!(rt; matches!(&asked, Ok(Some(Instruction::At(cell))) if *cell == face));
     assert!(rt;
         matches!(
             meaning(rt.alloc(), b"ranges"),
-            Ok(Some(Command::Query(Query::Ranges)))
+            Ok(Some(Instruction::Ranges))
         )
     );
     Ok(())

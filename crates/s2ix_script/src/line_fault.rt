@@ -1,55 +1,10 @@
 ghost use Rattle.std.specs.Prelude.{◌≡◌};
-ghost use Rattle.s2ix_script.specs.declared.command.LineError.TheVariants.{Fault, OutOfMemory as Wanting};
+ghost use Rattle.s2ix_script.specs.declared.line_fault.LineError.TheVariants.{Fault, OutOfMemory as Wanting};
+ghost use Rattle.s2ix_script.specs.declared.line_fault.LineFault.TheVariants.{BadToken};
 
-use s2id_core::{CellId, OutOfMemory};
-use s2id_union::CellUnion;
-use s2ix_edit::Edit;
+use s2id_core::{OutOfMemory, TokenError};
+use std::alloc::{AllocError, AllocFailed};
 use thiserror::Error;
-
-/// What a line of a script asks for.
-#[derive(Debug, Drop)]
-pub enum Command {
-    /// To move a store.
-    Move(Move),
-    /// To answer, and change nothing.
-    Query(Query),
-}
-
-/// What a line does to a store.
-#[derive(Debug, Drop)]
-pub enum Move {
-    /// `add`, `addunion`, `remove`, `drop` and `relabel`.
-    Edit(Edit),
-    /// `undo`.
-    Undo,
-    /// `redo`.
-    Redo,
-    /// `forget`.
-    Forget,
-}
-
-/// What a line asks of a store, or of cells alone.
-#[derive(Debug, Drop)]
-pub enum Query {
-    /// `at`: the pairs over a leaf.
-    At(CellId),
-    /// `meet`: the pairs that meet the normal union of the cells.
-    Meet(CellUnion),
-    /// `labels`: the labels of these pairs.
-    Labels(CellUnion),
-    /// `ranges`.
-    Ranges,
-    /// `path`.
-    Path(CellId),
-    /// `neighbors`.
-    Neighbors(CellId),
-    /// `face`.
-    Face(CellId),
-    /// `dump`.
-    Dump,
-    /// `journal`.
-    Journal,
-}
 
 /// Why a line asks for nothing, in the order of the tests.
 #[derive(Clone, Copy, Debug, PartialEq, Eq, Error)]
@@ -72,6 +27,14 @@ pub enum LineFault {
     /// A field that should be a number of copies is no script number from 1 to 65535.
     #[error("field that is no number of copies")]
     BadCount,
+}
+
+impl From<TokenError> for LineFault {
+    ghost from_gives = { λ _ fault. fault ≡ BadToken };
+
+    fn from(_: TokenError) -> LineFault {
+        LineFault::BadToken
+    }
 }
 
 /// Why the meaning of a line was not found.
@@ -97,6 +60,22 @@ impl From<OutOfMemory> for LineError {
     ghost from_gives = { λ _ error. error ≡ Wanting };
 
     fn from(_: OutOfMemory) -> LineError {
+        LineError::OutOfMemory
+    }
+}
+
+impl From<AllocError> for LineError {
+    ghost from_gives = { λ _ error. error ≡ Wanting };
+
+    fn from(_: AllocError) -> LineError {
+        LineError::OutOfMemory
+    }
+}
+
+impl<T: Drop> From<AllocFailed<T>> for LineError {
+    ghost from_gives = { λ _ error. error ≡ Wanting };
+
+    fn from(_: AllocFailed<T>) -> LineError {
         LineError::OutOfMemory
     }
 }

@@ -6,7 +6,7 @@ use Rattle.s2ix_table.proofs.RangeList.{is_range_table}
 use Rattle.s2ix_table.specs.Table.{Run}
 use Rattle.s2ix_io.specs.Puts.{AppendsFront}
 use Rattle.s2ix_text.specs.Queries.{list_text, run_line}
-use Rattle.s2ix_cli.proofs.query.answer_query.Goals as goal
+use Rattle.s2ix_cli.proofs.carry.carry_instruction.Goals as goal
 
 pub returns-in_ok-write_ranges-in-Ranges-clause-carries : goal.returns-in_ok-write_ranges-in-Ranges-clause-carries
 returns-in_ok-write_ranges-in-Ranges-clause-carries g c =

@@ -2,7 +2,7 @@
 use Rattle.std.proofs.Common.{◌≡◌, ◌∷◌}
 use Rattle.std.specs.Result.{result_err}
 use Rattle.s2ix_script.specs.Meaning.{cells_named}
-use Rattle.s2ix_script.proofs.parse.cells_counted.Given as goal
+use Rattle.s2ix_script.proofs.cells.count_cells.Given as goal
 
 abbrev pub invariant-tokens : goal.invariant-tokens
 invariant-tokens l = result_err (cells_named (l.first ∷ l.fn.rest)) ≡ result_err (cells_named l.token-iterator)

@@ -1,0 +1,53 @@
+//! What a line of a script asks for.
+ghost use Rattle.std.specs.Prelude.{◌≡◌, ◌==◌, slice_index};
+ghost use Rattle.s2ix_script.specs.Meaning.{Means, asks_on_union, meaning_of, meaning_of_fields as meaning_by_fields};
+
+use crate::instruction::Instruction;
+use crate::line_fault::{LineError, LineFault};
+use crate::words::asked_by;
+use bstr::{ByteSlice, Fields};
+use std::alloc::Global;
+
+/// The most bytes that a line of a script may have, its line feed not counted.
+pub const LONGEST_LINE: usize = 65536;
+
+/// What a line asks for: nothing where it has no field, or its first field begins with `#`. The line comes
+/// without its line feed. Its fields are what stands between runs of Unicode's white space; bytes that are no
+/// UTF-8 separate nothing. O(n) for n bytes; a list of cells is normalised. Memory is taken for such a list alone, and only
+/// where the line asks for something.
+///
+/// The first of these faults that applies is answered: too long, no command, a number of fields that does not
+/// fit the command, then the first unfit field from the left.
+#[tactic(auto, unfolding(crate::specs::Meaning::meaning_of, crate::specs::Fields::fields_of))]
+pub fn meaning(alloc: Global, line: &[u8]) -> Result<Option<Instruction>, LineError>
+    ensures { Means asks_on_union result (meaning_of line.now) }
+{
+    if line.len() > LONGEST_LINE {
+        return Err(LineError::Fault(LineFault::LineTooLong));
+    }
+    meaning_of_fields(alloc, line.fields())
+}
+
+// What the fields of a line ask for.
+#[tactic(auto, using(crate::proofs::WantedMemory::line_fault))]
+fn meaning_of_fields(
+    alloc: Global,
+    mut fields: Fields<'_>,
+) -> Result<Option<Instruction>, LineError>
+    ensures { Means asks_on_union result (meaning_by_fields fields.entry) }
+{
+    let Some(word) = fields.next() else {
+        return Ok(None);
+    };
+    if is_comment(word) {
+        return Ok(None);
+    }
+    Ok(Some(asked_by(alloc, word, fields)?))
+}
+
+// Whether a line with this first field is a comment.
+fn is_comment(word: &[u8]) -> bool
+    ensures { result ≡ (slice_index word.now 0 == 35) }
+{
+    matches!(word, [b'#', ..])
+}
