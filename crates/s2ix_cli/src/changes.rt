@@ -25,8 +25,10 @@ pub(crate) fn carry_edit<K: Sink>(
 {
     match store.edit(edit) {
         Ok(pairs) => accept(sink, pairs),
-        Err(EditError::OutOfMemory) => Err(RunFault::OutOfMemory),
-        Err(error) => refuse(sink, edit_error_name(error)),
+        Err(error) => match error {
+            EditError::OutOfMemory => Err(RunFault::OutOfMemory),
+            _ => refuse(sink, edit_error_name(error)),
+        },
     }
 }
 
@@ -42,8 +44,10 @@ pub(crate) fn carry_undo<K: Sink>(
 {
     match store.undo() {
         Ok(pairs) => accept(sink, pairs),
-        Err(UndoError::OutOfMemory) => Err(RunFault::OutOfMemory),
-        Err(error) => refuse(sink, undo_error_name(error)),
+        Err(error) => match error {
+            UndoError::OutOfMemory => Err(RunFault::OutOfMemory),
+            _ => refuse(sink, undo_error_name(error)),
+        },
     }
 }
 
@@ -59,8 +63,10 @@ pub(crate) fn carry_redo<K: Sink>(
 {
     match store.redo() {
         Ok(pairs) => accept(sink, pairs),
-        Err(RedoError::OutOfMemory) => Err(RunFault::OutOfMemory),
-        Err(error) => refuse(sink, redo_error_name(error)),
+        Err(error) => match error {
+            RedoError::OutOfMemory => Err(RunFault::OutOfMemory),
+            _ => refuse(sink, redo_error_name(error)),
+        },
     }
 }
 
