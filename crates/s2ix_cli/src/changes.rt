@@ -33,10 +33,7 @@ pub(crate) fn carry_edit<K: Sink>(
 }
 
 // Takes the last change back.
-pub(crate) fn carry_undo<K: Sink>(
-    store: &mut Store,
-    sink: &mut K,
-) -> Result<LineOutcome, RunFault>
+pub(crate) fn carry_undo<K: Sink>(store: &mut Store, sink: &mut K) -> Result<LineOutcome, RunFault>
     requires { CanCount (K.fault_count sink.old) }
     ensures carries { Carries (undo_step store.old) store.old store.new (K.taken sink.old) (K.taken sink.new) result }
     ensures memory { IfErr result (IsWantOnlyIf (store.old.done ≢ [])) }
@@ -52,10 +49,7 @@ pub(crate) fn carry_undo<K: Sink>(
 }
 
 // Makes the last change that was taken back again.
-pub(crate) fn carry_redo<K: Sink>(
-    store: &mut Store,
-    sink: &mut K,
-) -> Result<LineOutcome, RunFault>
+pub(crate) fn carry_redo<K: Sink>(store: &mut Store, sink: &mut K) -> Result<LineOutcome, RunFault>
     requires { CanCount (K.fault_count sink.old) }
     ensures carries { Carries (redo_step store.old) store.old store.new (K.taken sink.old) (K.taken sink.new) result }
     ensures memory { IfErr result (IsWantOnlyIf (store.old.undone ≢ [])) }
