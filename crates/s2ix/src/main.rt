@@ -33,7 +33,7 @@ fn status(ended: &Result<RunEnd, RunFault>) -> ExitCode
 
 /// Runs the script on standard input.
 fn run(rt: &HostRuntime) -> Result<RunEnd, RunFault> {
-    let writer = BufWriter::new(rt.alloc(), rt.stdout())?;
+    let writer = BufWriter::new(rt.alloc(), rt.stdout()).map_err(|_| RunFault::OutOfMemory)?;
     let mut store = Store::new(rt.alloc(), Limits::default())?;
     let mut source = FromRead::new(rt.stdin());
     let mut sink = ToWrite::new(writer);

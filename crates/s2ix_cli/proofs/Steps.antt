@@ -1,6 +1,6 @@
 -- What an edit, an undo and a redo come to, by what the store answers.
-use Rattle.std.proofs.Common.{◌≡◌, ◌≢◌, ◌-◌, ℕ, List, [], ◌∷◌, Option, None, Some, Result, refl, sym, ap, ◌∙◌, subst, length, arith}
-use Rattle.std.specs.Prelude.{slice_get}
+use Rattle.std.proofs.Common.{◌≡◌, ◌≢◌, ◌-◌, ℕ, List, [], ◌∷◌, Option, None, Some, Result, Ok, Err, refl, sym, ap, ◌∙◌, subst, length, arith}
+use Rattle.std.specs.Prelude.{IfErr, slice_get}
 use Rattle.std.proofs.lemmas.Option.{slice_get-get_or}
 use Rattle.s2ix_edit.specs.declared.edit.Edit.{Edit}
 use Rattle.s2ix_edit.specs.declared.errors.EditError.{EditError}
@@ -12,6 +12,8 @@ use Rattle.s2ix_edit.specs.declared.errors.UndoError.TheVariants as undo
 use Rattle.s2ix_edit.specs.State.{State, after_edit, after_undo, after_redo, change_of, undo_size, redo_size}
 use Rattle.s2ix_edit.specs.Refusals.{edit_refusal, IsEditRefusal}
 use Rattle.s2ix_io.specs.declared.run_fault.RunFault.{RunFault}
+use Rattle.s2ix_io.specs.declared.run_fault.RunFault.TheVariants.{OutOfMemory as Wanting}
+use Rattle.s2ix_io.specs.Faults.{IsWantOnlyIf}
 use Rattle.s2ix_script.specs.Names.{edit_error_name, redo_error_name, undo_error_name}
 use Rattle.s2ix_cli.specs.declared.outcome.LineOutcome.{LineOutcome}
 use Rattle.s2ix_cli.specs.Carry.{Carries}
@@ -22,6 +24,11 @@ pub Carries-same : (step other : Step) (old new after : State) (before behind : 
     → Carries step old new before behind result → Carries other old after before behind result
 Carries-same step other old new after before behind result is stands carries =
     subst (λ s. Carries other old s before behind result) (sym stands) (subst (λ (x : Step). Carries x old new before behind result) (sym is) carries)
+
+-- an answer that is not want of memory
+pub no_want : {A : Type 0} (result : Result A RunFault) (wants : Type 0) → result ≢ Err Wanting → IfErr result (IsWantOnlyIf wants)
+no_want (Ok outcome) wants other = tt
+no_want (Err fault) wants other = λ is. absurd (other (ap Err is))
 
 -- ---- what an edit comes to
 

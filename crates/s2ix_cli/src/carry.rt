@@ -5,7 +5,7 @@ ghost use Rattle.s2ix_cli.specs.Carry.{Carries};
 ghost use Rattle.s2ix_cli.specs.Step.{at_step, instruction_step, step_of};
 ghost use Rattle.s2ix_cli.specs.Wants.{InstructionWants, LineWants};
 
-use crate::changes::{accept, carry_edit, carry_redo, carry_undo, refuse};
+use crate::changes::{carry_edit, carry_redo, carry_undo};
 use crate::outcome::LineOutcome;
 use s2id_core::CellId;
 use s2id_cube::to_face_ij;
@@ -14,8 +14,8 @@ use s2ix_io::{RunFault, Sink};
 use s2ix_script::{Instruction, LineError, NOT_LEAF_NAME, meaning};
 use s2ix_table::RangeTable;
 use s2ix_text::{
-    write_contents, write_dump, write_journal, write_list, write_neighbors, write_path,
-    write_ranges, write_square,
+    write_contents, write_dump, write_journal, write_list, write_neighbors, write_no, write_ok,
+    write_path, write_ranges, write_square,
 };
 use std::alloc::Global;
 
@@ -37,7 +37,10 @@ pub(crate) fn carry_out<K: Sink>(
             None => Ok(LineOutcome::PassedOver),
             Some(instruction) => carry_instruction(alloc, store, sink, instruction),
         },
-        Err(LineError::Fault(fault)) => refuse(sink, fault.name()),
+        Err(LineError::Fault(fault)) => {
+            write_no(fault.name(), sink)?;
+            Ok(LineOutcome::Refused)
+        }
         Err(LineError::OutOfMemory) => Err(RunFault::OutOfMemory),
     }
 }
@@ -60,7 +63,7 @@ fn carry_instruction<K: Sink>(
         Instruction::Redo => return carry_redo(store, sink),
         Instruction::Forget => {
             store.forget();
-            return accept(sink, 0);
+            write_ok(0, sink)?;
         }
         Instruction::At(cell) => return carry_at(store, sink, cell),
         Instruction::Meet(target) => write_list(&store.table().meeting(alloc, &target)?, sink)?,
@@ -83,7 +86,8 @@ fn carry_at<K: Sink>(store: &Store, sink: &mut K, cell: CellId) -> Result<LineOu
     ensures faults { K.fault_count sink.new ≡ K.fault_count sink.old + sink_faults result }
 {
     if !cell.is_leaf() {
-        return refuse(sink, NOT_LEAF_NAME);
+        write_no(NOT_LEAF_NAME, sink)?;
+        return Ok(LineOutcome::Refused);
     }
     write_contents(store.table(), cell, sink)?;
     Ok(LineOutcome::Accepted)

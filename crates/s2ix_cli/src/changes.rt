@@ -25,16 +25,15 @@ pub(crate) fn carry_edit<K: Sink>(
 {
     match store.edit(edit) {
         Ok(pairs) => accept(sink, pairs),
-        Err(EditError::OutOfMemory) => Err(RunFault::OutOfMemory),
-        Err(error) => refuse(sink, edit_error_name(error)),
+        Err(error) => match error {
+            EditError::OutOfMemory => Err(RunFault::OutOfMemory),
+            _ => refuse(sink, edit_error_name(error)),
+        },
     }
 }
 
 // Takes the last change back.
-pub(crate) fn carry_undo<K: Sink>(
-    store: &mut Store,
-    sink: &mut K,
-) -> Result<LineOutcome, RunFault>
+pub(crate) fn carry_undo<K: Sink>(store: &mut Store, sink: &mut K) -> Result<LineOutcome, RunFault>
     requires { CanCount (K.fault_count sink.old) }
     ensures carries { Carries (undo_step store.old) store.old store.new (K.taken sink.old) (K.taken sink.new) result }
     ensures memory { IfErr result (IsWantOnlyIf (store.old.done ≢ [])) }
@@ -42,16 +41,15 @@ pub(crate) fn carry_undo<K: Sink>(
 {
     match store.undo() {
         Ok(pairs) => accept(sink, pairs),
-        Err(UndoError::OutOfMemory) => Err(RunFault::OutOfMemory),
-        Err(error) => refuse(sink, undo_error_name(error)),
+        Err(error) => match error {
+            UndoError::OutOfMemory => Err(RunFault::OutOfMemory),
+            _ => refuse(sink, undo_error_name(error)),
+        },
     }
 }
 
 // Makes the last change that was taken back again.
-pub(crate) fn carry_redo<K: Sink>(
-    store: &mut Store,
-    sink: &mut K,
-) -> Result<LineOutcome, RunFault>
+pub(crate) fn carry_redo<K: Sink>(store: &mut Store, sink: &mut K) -> Result<LineOutcome, RunFault>
     requires { CanCount (K.fault_count sink.old) }
     ensures carries { Carries (redo_step store.old) store.old store.new (K.taken sink.old) (K.taken sink.new) result }
     ensures memory { IfErr result (IsWantOnlyIf (store.old.undone ≢ [])) }
@@ -59,8 +57,10 @@ pub(crate) fn carry_redo<K: Sink>(
 {
     match store.redo() {
         Ok(pairs) => accept(sink, pairs),
-        Err(RedoError::OutOfMemory) => Err(RunFault::OutOfMemory),
-        Err(error) => refuse(sink, redo_error_name(error)),
+        Err(error) => match error {
+            RedoError::OutOfMemory => Err(RunFault::OutOfMemory),
+            _ => refuse(sink, redo_error_name(error)),
+        },
     }
 }
 

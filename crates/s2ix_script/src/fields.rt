@@ -12,7 +12,10 @@ use s2ix_bag::Pair;
 use s2ix_edit::Edit;
 
 // An instruction that takes no field.
-pub(crate) fn bare(instruction: Instruction, mut fields: Fields<'_>) -> Result<Instruction, LineFault>
+pub(crate) fn bare(
+    instruction: Instruction,
+    mut fields: Fields<'_>,
+) -> Result<Instruction, LineFault>
     ensures { result ≡ bare_of instruction fields.entry }
 {
     match fields.next() {

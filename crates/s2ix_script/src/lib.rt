@@ -14,6 +14,6 @@ mod words;
 
 pub use instruction::Instruction;
 pub use line_fault::{LineError, LineFault};
-pub use lines::Lines;
 pub use line_meaning::{LONGEST_LINE, meaning};
+pub use lines::Lines;
 pub use names::{NOT_LEAF_NAME, edit_error_name, redo_error_name, undo_error_name};

@@ -106,12 +106,7 @@ const UNDO: [&[u8]; 3] = [b"undo\r", b"\tundo\x0b", b"\xc2\x85undo\xe2\x80\x83"]
 #[test]
 fn white_space_is_that_of_unicode(rt: HostRuntime) {
     for line in UNDO {
-        assert!(rt;
-            matches!(
-                meaning(rt.alloc(), line),
-                Ok(Some(Instruction::Undo))
-            )
-        );
+        assert!(rt; matches!(meaning(rt.alloc(), line), Ok(Some(Instruction::Undo))));
     }
 }
 

@@ -3,14 +3,14 @@ use Rattle.std.proofs.Common.{List, refl, subst}
 use Rattle.std.specs.Io.KnownBytes.{Appends}
 use Rattle.std.proofs.lemmas.Result.{err_from_is_err_and}
 use Rattle.s2ix_table.proofs.RangeList.{is_range_table}
-use Rattle.s2ix_table.specs.Table.{Run}
+use Rattle.s2ix_table.specs.Table.{Range}
 use Rattle.s2ix_io.specs.Puts.{AppendsFront}
-use Rattle.s2ix_text.specs.Queries.{list_text, run_line}
+use Rattle.s2ix_text.specs.Queries.{list_text, range_line}
 use Rattle.s2ix_cli.proofs.carry.carry_instruction.Goals as goal
 
 pub returns-in_ok-write_ranges-in-Ranges-clause-carries : goal.returns-in_ok-write_ranges-in-Ranges-clause-carries
 returns-in_ok-write_ranges-in-Ranges-clause-carries g c =
-    let Took : List Run → Type 0 = λ runs. Appends (g.K.Sink.taken c.args.sink.now) (g.K.Sink.taken c.write_ranges.new.sink) (list_text run_line runs) in
+    let Took : List Range → Type 0 = λ runs. Appends (g.K.Sink.taken c.args.sink.now) (g.K.Sink.taken c.write_ranges.new.sink) (list_text range_line runs) in
     let put = subst Took (is_range_table _ _ c.table-in-Ranges.ensures.table) c.in_ok-write_ranges-in-Ranges.ensures.puts in
     rw c.in-Ranges.is (record { store = refl; output = put; counted = refl; refused = refl })
 
@@ -18,6 +18,6 @@ pub returns-in_err-write_ranges-in-Ranges-clause-carries : goal.returns-in_err-w
 returns-in_err-write_ranges-in-Ranges-clause-carries g c =
     let exit = c.from_residual-in_err-write_ranges-in-Ranges in
     let p = err_from_is_err_and exit.result exit.ensures.1 in
-    let Took : List Run → Type 0 = λ runs. AppendsFront (g.K.Sink.taken c.args.sink.now) (g.K.Sink.taken c.write_ranges.new.sink) (list_text run_line runs) in
+    let Took : List Range → Type 0 = λ runs. AppendsFront (g.K.Sink.taken c.args.sink.now) (g.K.Sink.taken c.write_ranges.new.sink) (list_text range_line runs) in
     let put = subst Took (is_range_table _ _ c.table-in-Ranges.ensures.table) c.in_err-write_ranges-in-Ranges.ensures.puts in
     rw (p.1, p.2, c.in-Ranges.is) (refl, put)
