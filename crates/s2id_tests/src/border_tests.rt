@@ -1,48 +1,44 @@
 // Borders of cells.
-use s2id_core::CellId;
+use crate::samples::{cell_of, cells_of};
 use s2id_cube::{BorderError, border};
 use std::test::Fail;
 
+// Cells and levels, with the cells of the border in rising order.
+const BORDERS: [(&[u8], u8, &[&[u8]]); 2] = [
+    (
+        b"04",
+        2,
+        &[b"09", b"0f", b"1b", b"1d", b"93", b"95", b"b9", b"bf"],
+    ),
+    (b"1", 0, &[b"3", b"5", b"9", b"b"]),
+];
+
 #[test]
 fn border_of_a_cell_in_rising_order(rt: HostRuntime) -> Result<(), Fail> {
-    let cell = CellId::from_token(b"04")?;
-    let cells = border(rt.alloc(), cell, 2)?;
-    let tokens = [
-        b"09".as_slice(),
-        b"0f".as_slice(),
-        b"1b".as_slice(),
-        b"1d".as_slice(),
-        b"93".as_slice(),
-        b"95".as_slice(),
-        b"b9".as_slice(),
-        b"bf".as_slice(),
-    ];
-    assert_eq!(rt; cells.len(), 8);
-    for k in 0..8 {
-        assert_eq!(rt; cells[k], CellId::from_token(tokens[k])?);
+    for (token, level, tokens) in BORDERS {
+        let cells = border(rt.alloc(), cell_of(token)?, level)?;
+        let wanted = cells_of(rt.alloc(), tokens)?;
+        assert_eq!(rt; cells.as_slice(), wanted.as_slice());
     }
     Ok(())
 }
 
 #[test]
-fn border_at_the_own_level_and_eight_finer(rt: HostRuntime) -> Result<(), Fail> {
-    let face = CellId::from_token(b"1")?;
-    let cells = border(rt.alloc(), face, 0)?;
-    assert_eq!(rt; cells.len(), 4);
-    assert_eq!(rt; cells[0], CellId::from_token(b"3")?);
-    assert_eq!(rt; cells[3], CellId::from_token(b"b")?);
-    assert_eq!(rt; border(rt.alloc(), face, 8)?.len(), 1024);
+fn border_at_eight_levels_finer(rt: HostRuntime) -> Result<(), Fail> {
+    assert_eq!(rt; border(rt.alloc(), cell_of(b"1")?, 8)?.len(), 1024);
     Ok(())
 }
 
 #[test]
 fn no_border_of_other_levels(rt: HostRuntime) -> Result<(), Fail> {
-    let cell = CellId::from_token(b"1d")?;
-    let face = CellId::from_token(b"1")?;
-    let leaf = CellId::from_token(b"0000000000000001")?;
-    assert!(rt; matches!(border(rt.alloc(), cell, 1), Err(BorderError::Coarser)));
-    assert!(rt; matches!(border(rt.alloc(), face, 9), Err(BorderError::TooFine)));
-    assert!(rt; matches!(border(rt.alloc(), leaf, 31), Err(BorderError::TooFine)));
-    assert!(rt; matches!(border(rt.alloc(), cell, 31), Err(BorderError::TooFine)));
+    for (token, level, error) in [
+        (b"1d".as_slice(), 1, BorderError::Coarser),
+        (b"1", 9, BorderError::TooFine),
+        (b"0000000000000001", 31, BorderError::TooFine),
+        (b"1d", 31, BorderError::TooFine),
+    ] {
+        let cells = border(rt.alloc(), cell_of(token)?, level);
+        assert_eq!(rt; cells.err(), Some(error));
+    }
     Ok(())
 }

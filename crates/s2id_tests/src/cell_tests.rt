@@ -1,124 +1,133 @@
 // Cells: their numbers, their leaves, and their relatives.
+use crate::samples::{cell_of, cell_or_none};
 use s2id_core::{CellId, LEAF_END};
 use std::test::Fail;
 
 #[test]
 fn from_raw_takes_cells_alone(rt: HostRuntime) {
-    let face = CellId::from_raw(0x1000000000000000).expect(&rt, "a face cell");
-    assert_eq!(rt; face.raw(), 0x1000000000000000);
-    assert!(rt; CellId::from_raw(0).is_none());
-    assert!(rt; CellId::from_raw(0x2000000000000000).is_none());
-    assert!(rt; CellId::from_raw(LEAF_END).is_none());
+    for raw in [0, 0x2000000000000000, LEAF_END] {
+        assert!(rt; CellId::from_raw(raw).is_none());
+    }
+    for raw in [0x1000000000000000, 1, 0xbfffffffffffffff] {
+        assert_eq!(rt; CellId::from_raw(raw).map(CellId::raw), Some(raw));
+    }
 }
 
 #[test]
 fn face_level_and_lowest_bit(rt: HostRuntime) -> Result<(), Fail> {
-    let cell = CellId::from_token(b"1d")?;
-    assert_eq!(rt; cell.face(), 0);
-    assert_eq!(rt; cell.level(), 2);
-    assert_eq!(rt; cell.lsb(), 0x0100000000000000);
-    assert!(rt; !cell.is_leaf());
-    let leaf = CellId::from_token(b"bfffffffffffffff")?;
-    assert_eq!(rt; leaf.face(), 5);
-    assert_eq!(rt; leaf.level(), 30);
-    assert_eq!(rt; leaf.lsb(), 1);
-    assert!(rt; leaf.is_leaf());
+    for (token, face, level, lsb) in [
+        (b"1d".as_slice(), 0, 2, 0x0100000000000000),
+        (b"bfffffffffffffff", 5, 30, 1),
+    ] {
+        let cell = cell_of(token)?;
+        assert_eq!(rt; (cell.face(), cell.level(), cell.lsb()), (face, level, lsb));
+        assert_eq!(rt; cell.is_leaf(), level == 30);
+    }
     Ok(())
 }
 
 #[test]
-fn range_of_a_child(rt: HostRuntime) -> Result<(), Fail> {
-    let cell = CellId::from_token(b"04")?;
-    assert_eq!(rt; cell.range_min(), CellId::from_token(b"0000000000000001")?);
-    assert_eq!(rt; cell.range_max(), CellId::from_token(b"07ffffffffffffff")?);
-    Ok(())
-}
-
-#[test]
-fn span_of_a_child(rt: HostRuntime) -> Result<(), Fail> {
-    let cell = CellId::from_token(b"04")?;
-    assert_eq!(rt; cell.span_start(), 1);
-    assert_eq!(rt; cell.span_end(), 0x0800000000000001);
-    let last = CellId::from_token(b"bfffffffffffffff")?;
-    assert_eq!(rt; last.span_end(), LEAF_END);
+fn leaves_of_cells(rt: HostRuntime) -> Result<(), Fail> {
+    for (token, first, last, end) in [
+        (
+            b"04".as_slice(),
+            b"0000000000000001".as_slice(),
+            b"07ffffffffffffff".as_slice(),
+            0x0800000000000001,
+        ),
+        (
+            b"bfffffffffffffff",
+            b"bfffffffffffffff",
+            b"bfffffffffffffff",
+            LEAF_END,
+        ),
+    ] {
+        let cell = cell_of(token)?;
+        let first = cell_of(first)?;
+        assert_eq!(rt;
+            (cell.range_min(), cell.range_max()),
+            (first, cell_of(last)?)
+        );
+        assert_eq!(rt; (cell.span_start(), cell.span_end()), (first.raw(), end));
+    }
     Ok(())
 }
 
 #[test]
 fn places_along_the_curve(rt: HostRuntime) -> Result<(), Fail> {
-    let cell = CellId::from_token(b"1d")?;
+    let cell = cell_of(b"1d")?;
     assert_eq!(rt; cell.level(), 2);
-    assert_eq!(rt; cell.place_at(2), 14);
-    assert_eq!(rt; cell.place_at(1), 3);
+    assert_eq!(rt; (cell.place_at(2), cell.place_at(1)), (14, 3));
     assert_eq!(rt; CellId::at_place(2, 14), cell);
-    assert_eq!(rt; CellId::at_place(0, 5), CellId::from_token(b"b")?);
+    assert_eq!(rt; CellId::at_place(0, 5), cell_of(b"b")?);
     Ok(())
 }
 
 #[test]
 fn faces_contain_their_cells(rt: HostRuntime) -> Result<(), Fail> {
-    let face = CellId::from_token(b"1")?;
-    let child = CellId::from_token(b"04")?;
-    let other = CellId::from_token(b"1d")?;
-    assert!(rt; face.contains(child));
-    assert!(rt; face.contains(face));
-    assert!(rt; !child.contains(face));
-    assert!(rt; child.intersects(face));
-    assert!(rt; !child.intersects(other));
+    for (token, other, contains, intersects) in [
+        (b"1".as_slice(), b"04".as_slice(), true, true),
+        (b"1", b"1", true, true),
+        (b"04", b"1", false, true),
+        (b"04", b"1d", false, false),
+    ] {
+        let (cell, other) = (cell_of(token)?, cell_of(other)?);
+        assert_eq!(rt;
+            (cell.contains(other), cell.intersects(other)),
+            (contains, intersects)
+        );
+    }
     Ok(())
 }
 
 #[test]
 fn parents(rt: HostRuntime) -> Result<(), Fail> {
-    let cell = CellId::from_token(b"1d")?;
-    assert_eq!(rt; cell.parent(1), Some(CellId::from_token(b"1c")?));
-    assert_eq!(rt; cell.parent(2), Some(cell));
-    assert_eq!(rt; cell.parent(3), None);
+    for (level, parent) in [(1, b"1c".as_slice()), (2, b"1d"), (3, b"")] {
+        assert_eq!(rt; cell_of(b"1d")?.parent(level), cell_or_none(parent)?);
+    }
     Ok(())
 }
 
 #[test]
 fn children(rt: HostRuntime) -> Result<(), Fail> {
-    let face = CellId::from_token(b"1")?;
-    assert_eq!(rt; face.child(3), Some(CellId::from_token(b"1c")?));
-    assert_eq!(rt; face.child(4), None);
-    assert_eq!(rt; CellId::from_token(b"0000000000000001")?.child(0), None);
+    for (token, position, child) in [
+        (b"1".as_slice(), 3, b"1c".as_slice()),
+        (b"1", 4, b""),
+        (b"0000000000000001", 0, b""),
+    ] {
+        assert_eq!(rt; cell_of(token)?.child(position), cell_or_none(child)?);
+    }
     Ok(())
 }
 
 #[test]
 fn child_positions(rt: HostRuntime) -> Result<(), Fail> {
-    let cell = CellId::from_token(b"1d")?;
-    assert_eq!(rt; cell.child_position(0), None);
-    assert_eq!(rt; cell.child_position(1), Some(3));
-    assert_eq!(rt; cell.child_position(2), Some(2));
-    assert_eq!(rt; cell.child_position(3), None);
+    for (level, position) in [(0, None), (1, Some(3)), (2, Some(2)), (3, None)] {
+        assert_eq!(rt; cell_of(b"1d")?.child_position(level), position);
+    }
     Ok(())
 }
 
 #[test]
 fn next_cells(rt: HostRuntime) -> Result<(), Fail> {
-    assert_eq!(rt;
-        CellId::from_token(b"1")?.next_wrap(),
-        CellId::from_token(b"3")?
-    );
-    assert_eq!(rt;
-        CellId::from_token(b"b")?.next_wrap(),
-        CellId::from_token(b"1")?
-    );
-    let last = CellId::from_token(b"bfffffffffffffff")?;
-    assert_eq!(rt; last.next_wrap(), CellId::from_token(b"0000000000000001")?);
+    for (token, next) in [
+        (b"1".as_slice(), b"3".as_slice()),
+        (b"b", b"1"),
+        (b"bfffffffffffffff", b"0000000000000001"),
+    ] {
+        assert_eq!(rt; cell_of(token)?.next_wrap(), cell_of(next)?);
+    }
     Ok(())
 }
 
 #[test]
 fn common_levels(rt: HostRuntime) -> Result<(), Fail> {
-    let cell = CellId::from_token(b"1d")?;
-    assert_eq!(rt; CellId::from_token(b"04")?.common_level(cell), Some(0));
-    assert_eq!(rt; cell.common_level(CellId::from_token(b"1c")?), Some(1));
-    assert_eq!(rt;
-        CellId::from_token(b"1")?.common_level(CellId::from_token(b"3")?),
-        None
-    );
+    for (token, other, level) in [
+        (b"04".as_slice(), b"1d".as_slice(), Some(0)),
+        (b"1d", b"1c", Some(1)),
+        (b"1", b"3", None),
+    ] {
+        assert_eq!(rt; cell_of(token)?.common_level(cell_of(other)?), level);
+    }
     Ok(())
 }

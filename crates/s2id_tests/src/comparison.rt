@@ -1,4 +1,5 @@
 //! Squares and neighbours against a plain search over the points of the cube.
+ghost use Rattle.std.specs.Prelude.{◌<◌};
 
 use s2id_core::CellId;
 use s2id_cube::{edge_neighbors, from_face_ij, to_face_ij};
@@ -48,33 +49,58 @@ fn side_between(start: Corner, end: Corner) -> Side {
     Side { start, end }
 }
 
-/// Each cell of a level of at most 7. Its square is the one that it was made from.
+/// The cell in column `i` and row `j` of a face's grid. Its square is the one that it was made from.
+fn cell_in(rt: &impl Abort, face: u8, i: u8, j: u8, level: u8) -> Result<CellId, Fail> {
+    let cell = from_face_ij(face, i as u32, j as u32, level).ok_or("no cell")?;
+    let square = to_face_ij(cell);
+    assert_eq!(rt;
+        (square.face, square.i, square.j, square.level),
+        (face, i as u32, j as u32, level)
+    );
+    Ok(cell)
+}
+
+/// The sides of the square in column `i` and row `j` of a face's grid of `n` squares a side.
+fn sides_of(face: u8, i: u8, j: u8, n: u8) -> [Side; 4]
+    requires column { i < 255 }
+    requires row { j < 255 }
+{
+    let low = corner_at(face, i, j, n);
+    let right = corner_at(face, i + 1, j, n);
+    let high = corner_at(face, i + 1, j + 1, n);
+    let up = corner_at(face, i, j + 1, n);
+    [
+        side_between(low, right),
+        side_between(right, high),
+        side_between(up, high),
+        side_between(low, up),
+    ]
+}
+
+/// Appends each cell of a face's grid of `n` squares a side.
+fn push_cells(
+    rt: &impl Abort,
+    all: &mut Vec<Sided>,
+    face: u8,
+    level: u8,
+    n: u8,
+) -> Result<(), Fail> {
+    for i in 0..n {
+        for j in 0..n {
+            let cell = cell_in(rt, face, i, j, level)?;
+            let sides = sides_of(face, i, j, n);
+            all.push(Sided { cell, sides })?;
+        }
+    }
+    Ok(())
+}
+
+/// Each cell of a level of at most 7.
 fn cells_of_level(rt: &impl Abort, alloc: Global, level: u8) -> Result<Vec<Sided>, Fail> {
     assert!(rt; level < 8);
-    let n = 1 << level;
     let mut all = Vec::new(alloc);
     for face in 0..6 {
-        for i in 0..n {
-            for j in 0..n {
-                let cell = from_face_ij(face, i as u32, j as u32, level).expect(rt, "a cell");
-                let square = to_face_ij(cell);
-                assert_eq!(rt; square.face, face);
-                assert_eq!(rt; square.i, i as u32);
-                assert_eq!(rt; square.j, j as u32);
-                assert_eq!(rt; square.level, level);
-                let low = corner_at(face, i, j, n);
-                let right = corner_at(face, i + 1, j, n);
-                let high = corner_at(face, i + 1, j + 1, n);
-                let up = corner_at(face, i, j + 1, n);
-                let sides = [
-                    side_between(low, right),
-                    side_between(right, high),
-                    side_between(up, high),
-                    side_between(low, up),
-                ];
-                all.push(Sided { cell, sides })?;
-            }
-        }
+        push_cells(rt, &mut all, face, level, 1 << level)?;
     }
     Ok(all)
 }
@@ -104,23 +130,21 @@ fn others_at(all: &[Sided], own: CellId, a: Corner, b: Corner) -> (usize, CellId
     (count, found)
 }
 
+/// Compares the neighbours of a cell with the one other cell that has each of its sides.
+fn check_neighbors(rt: &impl Abort, all: &[Sided], own: &Sided) {
+    let neighbors = edge_neighbors(own.cell);
+    for k in 0..4 {
+        let Side { start, end } = own.sides[k];
+        assert_eq!(rt; others_at(all, own.cell, start, end), (1, neighbors[k]));
+    }
+}
+
 #[test]
 fn neighbors_have_the_ends_of_a_side(rt: HostRuntime) -> Result<(), Fail> {
     for level in 0..5 {
         let all = cells_of_level(&rt, rt.alloc(), level)?;
         for own in &all {
-            let neighbors = edge_neighbors(own.cell);
-            for k in 0..4 {
-                let own_side = own.sides[k];
-                let (count, found) = others_at(
-                    all.as_slice(),
-                    own.cell,
-                    own_side.start,
-                    own_side.end,
-                );
-                assert_eq!(rt; count, 1);
-                assert_eq!(rt; found, neighbors[k]);
-            }
+            check_neighbors(&rt, &all, own);
         }
     }
     Ok(())

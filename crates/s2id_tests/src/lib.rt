@@ -14,6 +14,8 @@ mod memory_tests;
 #[cfg(test)]
 mod neighbor_tests;
 #[cfg(test)]
+mod samples;
+#[cfg(test)]
 mod square_tests;
 #[cfg(test)]
 mod text_tests;

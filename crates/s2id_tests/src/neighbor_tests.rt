@@ -1,5 +1,5 @@
 // Cells over the sides of cells.
-use s2id_core::CellId;
+use crate::samples::{cell_of, cells_of};
 use s2id_cube::edge_neighbors;
 use std::test::Fail;
 
@@ -27,10 +27,9 @@ const NEIGHBORS: [(&[u8], [&[u8]; 4]); 9] = [
 #[test]
 fn neighbors_lie_down_right_up_left(rt: HostRuntime) -> Result<(), Fail> {
     for (token, sides) in NEIGHBORS {
-        let neighbors = edge_neighbors(CellId::from_token(token)?);
-        for side in 0..4 {
-            assert_eq!(rt; neighbors[side], CellId::from_token(sides[side])?);
-        }
+        let neighbors = edge_neighbors(cell_of(token)?);
+        let wanted = cells_of(rt.alloc(), &sides)?;
+        assert_eq!(rt; neighbors.as_slice(), wanted.as_slice());
     }
     Ok(())
 }

@@ -1,5 +1,5 @@
 // Squares of cells, and the cells of squares.
-use s2id_core::CellId;
+use crate::samples::cell_of;
 use s2id_cube::{FaceIj, from_face_ij, to_face_ij};
 use std::test::Fail;
 
@@ -24,17 +24,15 @@ fn squares_of_cells_and_back(rt: HostRuntime) -> Result<(), Fail> {
         ),
         (b"bfffffffffffffff".as_slice(), 5, 0, 1073741823, 30, 1),
     ] {
-        let cell = CellId::from_token(token)?;
-        assert_eq!(rt;
-            to_face_ij(cell),
-            FaceIj {
-                face,
-                i,
-                j,
-                level,
-                orientation
-            }
-        );
+        let cell = cell_of(token)?;
+        let square = FaceIj {
+            face,
+            i,
+            j,
+            level,
+            orientation,
+        };
+        assert_eq!(rt; to_face_ij(cell), square);
         assert_eq!(rt; from_face_ij(face, i, j, level), Some(cell));
     }
     Ok(())
@@ -42,8 +40,7 @@ fn squares_of_cells_and_back(rt: HostRuntime) -> Result<(), Fail> {
 
 #[test]
 fn no_cell_out_of_range(rt: HostRuntime) {
-    assert!(rt; from_face_ij(6, 0, 0, 0).is_none());
-    assert!(rt; from_face_ij(0, 1, 0, 0).is_none());
-    assert!(rt; from_face_ij(0, 0, 8, 3).is_none());
-    assert!(rt; from_face_ij(0, 0, 0, 31).is_none());
+    for (face, i, j, level) in [(6, 0, 0, 0), (0, 1, 0, 0), (0, 0, 8, 3), (0, 0, 0, 31)] {
+        assert!(rt; from_face_ij(face, i, j, level).is_none());
+    }
 }

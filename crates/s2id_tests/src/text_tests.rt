@@ -1,4 +1,5 @@
 // Tokens, digits and paths of cells, as they are written and read.
+use crate::samples::{cell_of, cell_or_none};
 use s2id_core::{CellId, TokenError, sixteen_digits};
 use std::test::Fail;
 
@@ -12,34 +13,33 @@ fn token_is_canonical(rt: HostRuntime) -> Result<(), Fail> {
         (0x0000000000000001, b"0000000000000001".as_slice()),
         (0xbfffffffffffffff, b"bfffffffffffffff".as_slice()),
     ] {
-        let cell = CellId::from_raw(raw).ok_or("a cell")?;
+        let cell = cell_of(text)?;
+        assert_eq!(rt; CellId::from_raw(raw), Some(cell));
         assert_eq!(rt; cell.token().as_bytes(), text);
-        assert_eq!(rt; CellId::from_token(text)?, cell);
     }
     Ok(())
 }
 
 #[test]
 fn from_token_reads_either_case(rt: HostRuntime) -> Result<(), Fail> {
-    assert_eq!(rt; CellId::from_token(b"BC")?, CellId::from_token(b"bc")?);
-    assert_eq!(rt; CellId::from_token(b"Bc000")?.raw(), 0xbc00000000000000);
+    for text in [b"bc".as_slice(), b"BC", b"Bc000"] {
+        assert_eq!(rt; cell_of(text)?.raw(), 0xbc00000000000000);
+    }
     Ok(())
 }
 
 #[test]
 fn from_token_names_each_fault(rt: HostRuntime) {
-    assert_eq!(rt; CellId::from_token(b""), Err(TokenError::Empty));
-    assert_eq!(rt;
-        CellId::from_token(b"zzzzzzzzzzzzzzzzz"),
-        Err(TokenError::TooLong)
-    );
-    assert_eq!(rt; CellId::from_token(b"0g"), Err(TokenError::NotHex(1)));
-    assert_eq!(rt;
-        CellId::from_token(b"0000000000000000"),
-        Err(TokenError::NotACell)
-    );
-    assert_eq!(rt; CellId::from_token(b"2"), Err(TokenError::NotACell));
-    assert_eq!(rt; CellId::from_token(b"c1"), Err(TokenError::NotACell));
+    for (text, fault) in [
+        (b"".as_slice(), TokenError::Empty),
+        (b"zzzzzzzzzzzzzzzzz", TokenError::TooLong),
+        (b"0g", TokenError::NotHex(1)),
+        (b"0000000000000000", TokenError::NotACell),
+        (b"2", TokenError::NotACell),
+        (b"c1", TokenError::NotACell),
+    ] {
+        assert_eq!(rt; CellId::from_token(text), Err(fault));
+    }
 }
 
 #[test]
@@ -54,20 +54,25 @@ fn faults_have_texts(rt: HostRuntime) -> Result<(), Fail> {
 
 #[test]
 fn digits_of_bounds(rt: HostRuntime) {
-    assert_eq!(rt; sixteen_digits(1), *b"0000000000000001");
-    assert_eq!(rt; sixteen_digits(0xc000000000000001), *b"c000000000000001");
-    assert_eq!(rt; sixteen_digits(0x0123456789abcdef), *b"0123456789abcdef");
+    for (number, digits) in [
+        (1, b"0000000000000001"),
+        (0xc000000000000001, b"c000000000000001"),
+        (0x0123456789abcdef, b"0123456789abcdef"),
+    ] {
+        assert_eq!(rt; &sixteen_digits(number), digits);
+    }
 }
 
 #[test]
 fn from_path_reads_digits(rt: HostRuntime) -> Result<(), Fail> {
-    assert_eq!(rt;
-        CellId::from_path(0, &[3, 2]),
-        Some(CellId::from_token(b"1d")?)
-    );
-    assert_eq!(rt; CellId::from_path(6, &[]), None);
-    assert_eq!(rt; CellId::from_path(0, &[4]), None);
-    assert_eq!(rt; CellId::from_path(0, &[0; 31]), None);
+    for (face, digits, token) in [
+        (0, [3, 2].as_slice(), b"1d".as_slice()),
+        (6, &[], b""),
+        (0, &[4], b""),
+        (0, &[0; 31], b""),
+    ] {
+        assert_eq!(rt; CellId::from_path(face, digits), cell_or_none(token)?);
+    }
     Ok(())
 }
 
@@ -93,7 +98,7 @@ fn paths_of_tokens(rt: HostRuntime) -> Result<(), Fail> {
             b"5/333333333333333333333333333333".as_slice(),
         ),
     ] {
-        assert_eq!(rt; CellId::from_token(token)?.path().as_bytes(), path);
+        assert_eq!(rt; cell_of(token)?.path().as_bytes(), path);
     }
     Ok(())
 }

@@ -1,38 +1,45 @@
 // Changes between bags.
-use crate::samples::{limits_of, pair_of, with_pair};
-use s2ix_bag::{Bag, Change, Entry};
+use crate::checks::{EntryRow, check_applied, check_change};
+use crate::samples::{Counted, bag_of};
+use s2ix_bag::Change;
+use std::alloc::Global;
 use std::test::Fail;
 
+const OLD: [Counted; 2] = [(b"04", 7, 1), (b"04", 9, 2)];
+
+const NEW: [Counted; 2] = [(b"04", 7, 1), (b"1", 7, 3)];
+
+// What leads from the old pairs to the new ones.
+const ENTRIES: [EntryRow; 2] = [(b"04", 9, 2, 0), (b"1", 7, 0, 3)];
+
+// The change that leads from the old pairs to the new ones.
+fn change_there(alloc: Global) -> Result<Change, Fail> {
+    let old = bag_of(alloc, (3, 3, 1), &OLD)?;
+    let new = bag_of(alloc, (3, 3, 1), &NEW)?;
+    Ok(Change::between(alloc, &old, &new)?)
+}
+
 #[test]
-fn a_change_leads_there_and_back(rt: HostRuntime) -> Result<(), Fail> {
-    let kept = pair_of(&rt, 0x0400000000000000, 7);
-    let gone = pair_of(&rt, 0x0400000000000000, 9);
-    let come = pair_of(&rt, 0x1000000000000000, 7);
-    let empty = Bag::empty(rt.alloc(), limits_of(&rt, 3, 3, 1));
-    let start = with_pair(&rt, &empty, kept, 1)?;
-    let old = with_pair(&rt, &start, gone, 2)?;
-    let new = with_pair(&rt, &start, come, 3)?;
-    let change = Change::between(rt.alloc(), &old, &new)?;
-    let left = Entry {
-        pair: gone,
-        before: 2,
-        after: 0,
-    };
-    let entered = Entry {
-        pair: come,
-        before: 0,
-        after: 3,
-    };
-    assert_eq!(rt; change.entries(), [left, entered].as_slice());
-    let there = old.applied(rt.alloc(), &change)?;
-    assert_eq!(rt;
-        (there.count(kept), there.count(gone), there.count(come)),
-        (1, 0, 3)
-    );
-    let back = there.applied(rt.alloc(), &change.inverse(rt.alloc())?)?;
-    assert_eq!(rt;
-        (back.count(kept), back.count(gone), back.count(come)),
-        (1, 2, 0)
-    );
-    Ok(())
+fn a_change_leads_there(rt: HostRuntime) -> Result<(), Fail> {
+    let change = change_there(rt.alloc())?;
+    check_change(&rt, rt.alloc(), &change, &ENTRIES)?;
+    check_applied(
+        &rt,
+        rt.alloc(),
+        &bag_of(rt.alloc(), (3, 3, 1), &OLD)?,
+        &change,
+        &NEW,
+    )
+}
+
+#[test]
+fn its_inverse_leads_back(rt: HostRuntime) -> Result<(), Fail> {
+    let inverse = change_there(rt.alloc())?.inverse(rt.alloc())?;
+    check_applied(
+        &rt,
+        rt.alloc(),
+        &bag_of(rt.alloc(), (3, 3, 1), &NEW)?,
+        &inverse,
+        &OLD,
+    )
 }

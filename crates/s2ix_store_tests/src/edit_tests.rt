@@ -1,157 +1,251 @@
 //! What the edits of unions and of whole labels do and refuse, on stores with ample memory.
 
-use crate::samples::{adding, cell_of, label_of, pair_of, store_of};
-use s2id_union::CellUnion;
-use s2ix_bag::{Entry, Pair};
-use s2ix_edit::{Edit, EditError};
+use crate::checks::{
+    EntryRow, Refusal, Row, Step, check_applied, check_change, check_last, check_steps,
+};
+use crate::samples::{Counted, EditRow, WIDEST, edit_of, store_of};
+use s2ix_bag::{ApplyError, Bag, Change};
+use s2ix_edit::EditError;
 use std::alloc::Global;
 use std::process::Abort;
 use std::test::Fail;
 
-/// The union of the cells with the tokens 04 and 3.
-fn union_of_two(rt: &impl Abort, alloc: Global) -> Result<CellUnion, Fail> {
-    let cells = [
-        cell_of(rt, 0x3000000000000000),
-        cell_of(rt, 0x0400000000000000),
-    ];
-    Ok(CellUnion::normalise(alloc, cells.as_slice())?)
-}
+// Adds two cells under label 9.
+const ADD_TWO: EditRow = EditRow::AddUnion(&[b"3", b"04"], 9);
+
+// Adds the same cells under another label.
+const ADD_OTHERS: EditRow = EditRow::AddUnion(&[b"3", b"04"], 7);
+
+// Adds no cell.
+const ADD_NONE: EditRow = EditRow::AddUnion(&[], 9);
+
+// Unions within limits of two pairs and two copies.
+const UNIONS: [Row; 6] = [
+    (
+        Step::Edit(ADD_TWO),
+        Ok(2),
+        &[(b"04", 9, 1), (b"3", 9, 1)],
+        (1, 0),
+    ),
+    (
+        Step::Edit(ADD_TWO),
+        Ok(2),
+        &[(b"04", 9, 2), (b"3", 9, 2)],
+        (2, 0),
+    ),
+    (
+        Step::Edit(ADD_TWO),
+        Err(Refusal::Edit(EditError::TooManyCopies)),
+        &[(b"04", 9, 2), (b"3", 9, 2)],
+        (2, 0),
+    ),
+    (
+        Step::Edit(ADD_OTHERS),
+        Err(Refusal::Edit(EditError::TooManyPairs)),
+        &[(b"04", 9, 2), (b"3", 9, 2)],
+        (2, 0),
+    ),
+    (
+        Step::Edit(ADD_NONE),
+        Err(Refusal::Edit(EditError::NoChange)),
+        &[(b"04", 9, 2), (b"3", 9, 2)],
+        (2, 0),
+    ),
+    (Step::Undo, Ok(2), &[(b"04", 9, 1), (b"3", 9, 1)], (1, 1)),
+];
 
 #[test]
 fn a_union_adds_a_copy_of_each_cell(rt: HostRuntime) -> Result<(), Fail> {
-    let mut store = store_of(&rt, rt.alloc(), 2, 2, 100_000)?;
-    let label = label_of(&rt, 9);
-    let low = Pair {
-        cell: cell_of(&rt, 0x0400000000000000),
-        label,
-    };
-    let high = Pair {
-        cell: cell_of(&rt, 0x3000000000000000),
-        label,
-    };
-    let edit = Edit::AddUnion {
-        union: union_of_two(&rt, rt.alloc())?,
-        label,
-    };
-    let same = Edit::AddUnion {
-        union: union_of_two(&rt, rt.alloc())?,
-        label,
-    };
-    assert_eq!(rt; edit, same);
-    assert_eq!(rt; store.edit(&edit), Ok(2));
-    assert_eq!(rt; store.edit(&same), Ok(2));
-    assert_eq!(rt; (store.bag().count(low), store.bag().count(high)), (2, 2));
-    assert_eq!(rt; store.edit(&edit), Err(EditError::TooManyCopies));
-    let other = Edit::AddUnion {
-        union: union_of_two(&rt, rt.alloc())?,
-        label: label_of(&rt, 7),
-    };
-    assert!(rt; edit != other);
-    assert_eq!(rt; store.edit(&other), Err(EditError::TooManyPairs));
-    let nothing = Edit::AddUnion {
-        union: CellUnion::from_leaves(rt.alloc(), 1, 1)?,
-        label,
-    };
-    assert!(rt; edit != nothing);
-    assert_eq!(rt; store.edit(&nothing), Err(EditError::NoChange));
-    assert_eq!(rt; store.undo(), Ok(2));
-    assert_eq!(rt; (store.bag().count(low), store.bag().count(high)), (1, 1));
+    let mut store = store_of(rt.alloc(), (2, 2, 100_000))?;
+    check_steps(&rt, rt.alloc(), &mut store, &UNIONS)
+}
+
+#[test]
+fn edits_are_equal_where_their_parts_are(rt: HostRuntime) -> Result<(), Fail> {
+    let edit = edit_of(rt.alloc(), ADD_TWO)?;
+    for (row, same) in [(ADD_TWO, true), (ADD_OTHERS, false), (ADD_NONE, false)] {
+        let other = edit_of(rt.alloc(), row)?;
+        assert_eq!(rt; edit == other, same);
+        assert_eq!(rt; edit != other, !same);
+    }
     Ok(())
 }
+
+const DROP_NINE: Step = Step::Edit(EditRow::DropLabel(9));
+
+const DROPS: [Row; 6] = [
+    (
+        DROP_NINE,
+        Err(Refusal::Edit(EditError::NoSuchLabel)),
+        &[],
+        (0, 0),
+    ),
+    (
+        Step::Edit(ADD_TWO),
+        Ok(2),
+        &[(b"04", 9, 1), (b"3", 9, 1)],
+        (1, 0),
+    ),
+    (
+        Step::Edit(EditRow::Add((b"04", 7, 3))),
+        Ok(1),
+        &[(b"04", 7, 3), (b"04", 9, 1), (b"3", 9, 1)],
+        (2, 0),
+    ),
+    (DROP_NINE, Ok(2), &[(b"04", 7, 3)], (3, 0)),
+    (
+        DROP_NINE,
+        Err(Refusal::Edit(EditError::NoSuchLabel)),
+        &[(b"04", 7, 3)],
+        (3, 0),
+    ),
+    (
+        Step::Undo,
+        Ok(2),
+        &[(b"04", 7, 3), (b"04", 9, 1), (b"3", 9, 1)],
+        (2, 1),
+    ),
+];
 
 #[test]
 fn a_label_is_dropped_whole(rt: HostRuntime) -> Result<(), Fail> {
-    let mut store = store_of(&rt, rt.alloc(), 1_000_000, 65_535, 100_000)?;
-    let label = label_of(&rt, 9);
-    let drop = Edit::DropLabel { label };
-    assert_eq!(rt; store.edit(&drop), Err(EditError::NoSuchLabel));
-    let edit = Edit::AddUnion {
-        union: union_of_two(&rt, rt.alloc())?,
-        label,
-    };
-    assert_eq!(rt; store.edit(&edit), Ok(2));
-    let kept = Pair {
-        cell: cell_of(&rt, 0x0400000000000000),
-        label: label_of(&rt, 7),
-    };
-    assert_eq!(rt; store.edit(&adding(kept, 3)), Ok(1));
-    assert_eq!(rt; store.edit(&drop), Ok(2));
-    assert_eq!(rt; store.bag().len(), 1);
-    assert_eq!(rt; store.bag().count(kept), 3);
-    assert_eq!(rt; store.edit(&drop), Err(EditError::NoSuchLabel));
-    assert_eq!(rt; store.undo(), Ok(2));
-    assert_eq!(rt; store.bag().len(), 3);
-    Ok(())
+    let mut store = store_of(rt.alloc(), WIDEST)?;
+    check_steps(&rt, rt.alloc(), &mut store, &DROPS)
 }
+
+// Two labels of one cell, and then one.
+const TWO_LABELS: [Counted; 2] = [(b"04", 3, 1), (b"04", 9, 2)];
+
+const ONE_LABEL: [Counted; 1] = [(b"04", 3, 3)];
+
+const ADD_LABELS: [Row; 2] = [
+    (
+        Step::Edit(EditRow::Add((b"04", 9, 2))),
+        Ok(1),
+        &[(b"04", 9, 2)],
+        (1, 0),
+    ),
+    (
+        Step::Edit(EditRow::Add((b"04", 3, 1))),
+        Ok(1),
+        &TWO_LABELS,
+        (2, 0),
+    ),
+];
+
+// To the one label, back, and to the other one.
+const RELABELS: [Row; 3] = [
+    (
+        Step::Edit(EditRow::Relabel(9, 3)),
+        Ok(2),
+        &ONE_LABEL,
+        (3, 0),
+    ),
+    (Step::Undo, Ok(2), &TWO_LABELS, (2, 1)),
+    (
+        Step::Edit(EditRow::Relabel(3, 9)),
+        Ok(2),
+        &[(b"04", 9, 3)],
+        (3, 0),
+    ),
+];
+
+// What leads from two labels to the one, what leads back from it, and what leads on to the other one.
+const TO_THREE: [EntryRow; 2] = [(b"04", 3, 1, 3), (b"04", 9, 2, 0)];
+
+const FROM_THREE: [EntryRow; 2] = [(b"04", 3, 3, 1), (b"04", 9, 0, 2)];
+
+const TO_NINE: [EntryRow; 2] = [(b"04", 3, 1, 0), (b"04", 9, 2, 3)];
 
 #[test]
 fn copies_move_to_another_label(rt: HostRuntime) -> Result<(), Fail> {
-    let mut store = store_of(&rt, rt.alloc(), 1_000_000, 65_535, 100_000)?;
-    let nine = label_of(&rt, 9);
-    let three = label_of(&rt, 3);
-    let cell = cell_of(&rt, 0x0400000000000000);
-    let source = Pair { cell, label: nine };
-    let target = Pair { cell, label: three };
-    assert_eq!(rt; store.edit(&adding(source, 2)), Ok(1));
-    assert_eq!(rt; store.edit(&adding(target, 1)), Ok(1));
-    let relabel = Edit::Relabel {
-        source: nine,
-        target: three,
-    };
-    assert_eq!(rt; store.edit(&relabel), Ok(2));
-    assert_eq!(rt;
-        (store.bag().count(source), store.bag().count(target)),
-        (0, 3)
-    );
-    let gains = Entry {
-        pair: target,
-        before: 1,
-        after: 3,
-    };
-    let leaves = Entry {
-        pair: source,
-        before: 2,
-        after: 0,
-    };
-    let last = store.done().last().expect(&rt, "a change");
-    assert_eq!(rt; last.entries(), [gains, leaves].as_slice());
-    assert_eq!(rt; store.undo(), Ok(2));
-    assert_eq!(rt;
-        (store.bag().count(source), store.bag().count(target)),
-        (2, 1)
-    );
-    let back = Edit::Relabel {
-        source: three,
-        target: nine,
-    };
-    assert_eq!(rt; store.edit(&back), Ok(2));
-    assert_eq!(rt;
-        (store.bag().count(source), store.bag().count(target)),
-        (3, 0)
-    );
+    let mut store = store_of(rt.alloc(), WIDEST)?;
+    check_steps(&rt, rt.alloc(), &mut store, &ADD_LABELS)?;
+    check_steps(&rt, rt.alloc(), &mut store, &RELABELS[..1])?;
+    check_last(&rt, rt.alloc(), &store, &TO_THREE)?;
+    check_steps(&rt, rt.alloc(), &mut store, &RELABELS[1..])?;
+    check_last(&rt, rt.alloc(), &store, &TO_NINE)
+}
+
+// Compares the entries of the change that leads from one bag to another, which does not fit the bag that it led to.
+fn check_there(
+    rt: &impl Abort,
+    alloc: Global,
+    old: &Bag,
+    new: &Bag,
+    entries: &[EntryRow],
+) -> Result<(), Fail> {
+    let change = Change::between(alloc, old, new)?;
+    check_change(rt, alloc, &change, entries)?;
+    let again = new.applied(alloc, &change).err();
+    assert_eq!(rt; again, Some(ApplyError::Mismatch(0)));
     Ok(())
 }
 
+// The change that leads back.
+fn inverse_of(alloc: Global, old: &Bag, new: &Bag) -> Result<Change, Fail> {
+    Ok(Change::between(alloc, old, new)?.inverse(alloc)?)
+}
+
+// Compares the entries of the change that leads back, and what it leads back to.
+fn check_back(
+    rt: &impl Abort,
+    alloc: Global,
+    old: &Bag,
+    new: &Bag,
+    entries: &[EntryRow],
+) -> Result<(), Fail> {
+    let inverse = inverse_of(alloc, old, new)?;
+    check_change(rt, alloc, &inverse, entries)?;
+    check_applied(rt, alloc, new, &inverse, &TWO_LABELS)
+}
+
+#[test]
+fn a_relabel_is_a_change_between_two_bags(rt: HostRuntime) -> Result<(), Fail> {
+    let mut store = store_of(rt.alloc(), (10, 10, 10))?;
+    check_steps(&rt, rt.alloc(), &mut store, &ADD_LABELS)?;
+    let old = store.bag().copied(rt.alloc())?;
+    check_steps(&rt, rt.alloc(), &mut store, &RELABELS[..1])?;
+    check_there(&rt, rt.alloc(), &old, store.bag(), &TO_THREE)?;
+    check_back(&rt, rt.alloc(), &old, store.bag(), &FROM_THREE)
+}
+
+// Labels within a limit of three copies.
+const REFUSED_RELABELS: [Row; 5] = [
+    (
+        Step::Edit(EditRow::Relabel(9, 9)),
+        Err(Refusal::Edit(EditError::NoSuchLabel)),
+        &[],
+        (0, 0),
+    ),
+    (
+        Step::Edit(EditRow::Add((b"04", 9, 2))),
+        Ok(1),
+        &[(b"04", 9, 2)],
+        (1, 0),
+    ),
+    (
+        Step::Edit(EditRow::Add((b"04", 3, 2))),
+        Ok(1),
+        &[(b"04", 3, 2), (b"04", 9, 2)],
+        (2, 0),
+    ),
+    (
+        Step::Edit(EditRow::Relabel(9, 9)),
+        Err(Refusal::Edit(EditError::NoChange)),
+        &[(b"04", 3, 2), (b"04", 9, 2)],
+        (2, 0),
+    ),
+    (
+        Step::Edit(EditRow::Relabel(9, 3)),
+        Err(Refusal::Edit(EditError::TooManyCopies)),
+        &[(b"04", 3, 2), (b"04", 9, 2)],
+        (2, 0),
+    ),
+];
+
 #[test]
 fn a_label_that_is_not_held_is_refused_first(rt: HostRuntime) -> Result<(), Fail> {
-    let mut store = store_of(&rt, rt.alloc(), 1_000_000, 3, 100_000)?;
-    let nine = label_of(&rt, 9);
-    let three = label_of(&rt, 3);
-    let same = Edit::Relabel {
-        source: nine,
-        target: nine,
-    };
-    assert_eq!(rt; store.edit(&same), Err(EditError::NoSuchLabel));
-    let cell = cell_of(&rt, 0x0400000000000000);
-    for label in [nine, three] {
-        let edit = adding(Pair { cell, label }, 2);
-        assert_eq!(rt; store.edit(&edit), Ok(1));
-    }
-    assert_eq!(rt; store.edit(&same), Err(EditError::NoChange));
-    let sum = Edit::Relabel {
-        source: nine,
-        target: three,
-    };
-    assert_eq!(rt; store.edit(&sum), Err(EditError::TooManyCopies));
-    Ok(())
+    let mut store = store_of(rt.alloc(), (1_000_000, 3, 100_000))?;
+    check_steps(&rt, rt.alloc(), &mut store, &REFUSED_RELABELS)
 }

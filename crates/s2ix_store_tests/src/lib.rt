@@ -6,6 +6,8 @@ mod bag_tests;
 #[cfg(test)]
 mod change_tests;
 #[cfg(test)]
+mod checks;
+#[cfg(test)]
 mod edit_tests;
 #[cfg(test)]
 mod limit_tests;
