@@ -14,11 +14,12 @@ const FACES_OVER: [u8; 24] = [
     5, 1, 2, 4, 5, 3, 2, 0, 1, 3, 4, 0, 1, 5, 4, 2, 3, 5, 0, 2, 3, 1, 0, 4,
 ];
 
-/// The side of that face, and 1 where the places along the two sides run against each other.
+/// The side of that face on which the edge lies.
 const SIDES_OVER: [u8; 24] = [
     2, 3, 3, 2, 1, 0, 0, 1, 2, 3, 3, 2, 1, 0, 0, 1, 2, 3, 3, 2, 1, 0, 0, 1,
 ];
 
+/// 1 where the places along the two sides run against each other, else 0.
 const REVERSALS: [u8; 24] = [
     0, 0, 1, 1, 1, 1, 0, 0, 0, 0, 1, 1, 1, 1, 0, 0, 0, 0, 1, 1, 1, 1, 0, 0,
 ];

@@ -145,7 +145,7 @@ impl Bag {
     }
 }
 
-/// A bag with the same limits, pairs and counts, made with the bag's own allocator; `copied` takes one. O(n).
+/// A bag with the same limits, pairs and counts, made with the bag's own allocator; `copied` is given one. O(n).
 impl Clone for Bag {
     ghost is_clone = { λ bag copy. copy ≡ bag };
 

@@ -7,7 +7,7 @@ ghost use Rattle.s2ix_cli.specs.Script.{MOST};
 pub struct RunOptions {
     /// Whether the first refused line ends the run.
     pub stop: bool,
-    /// How many pieces may be read.
+    /// How many pieces may be read, the empty one at the end counted. With 0 none is, and the reader is too long.
     pub turns: u64,
 }
 

@@ -76,7 +76,7 @@ impl Store {
 
     /// Carries an edit out, and answers how many pairs changed their counts. An accepted edit records the change
     /// at the end of `done` and empties `undone`; a refused one changes nothing. [`EditError`] says when each
-    /// refusal stands. O(n + m) for n pairs held and m in the change, what it takes to let the undone go, and what
+    /// refusal stands. O(n + m log n) for n pairs held and m that the plan looks up, what it takes to let the undone go, and what
     /// [`StoreTable`] takes to be built of the new bag.
     pub fn edit(&mut self, edit: &Edit) -> Result<usize, EditError>
         ensures state { OnOk result (self.new ≡ after_edit self.old edit.now) }

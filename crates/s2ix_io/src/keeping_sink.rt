@@ -6,7 +6,7 @@ ghost use Rattle.s2ix_io.specs.Devices.{flush_fails, flushed_len_of, put_len_of,
 use crate::{Sink, WriteFault};
 use std::alloc::Global;
 
-/// A sink that keeps what it takes.
+/// A sink that keeps what it takes. A call of `put` fails too where memory is wanted to keep it.
 #[derive(Debug, Drop)]
 pub struct KeepingSink {
     kept: Vec<u8>,

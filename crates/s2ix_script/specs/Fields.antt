@@ -9,7 +9,7 @@ use Rattle.bstr.specs.Utf8.{lossy_chars, pieces, spans_from}
 use Rattle.s2ix_bag.specs.declared.label.Label.{Label}
 use Rattle.s2ix_bag.specs.Label.{label_numbered}
 
--- the fields of a line: what stands between runs of white space; bytes that are no UTF-8 separate nothing
+-- the fields of a line: what stands between white space; bytes that are no UTF-8 separate nothing
 unfoldable pub fields_of : List ℕ → List (List ℕ)
 fields_of line = fields_acc is_whitespace line None (spans_from 0 (pieces line))
 

@@ -12,10 +12,10 @@ pub enum LineFault {
     /// More than 65,536 bytes.
     #[error("line of more than 65536 bytes")]
     LineTooLong,
-    /// The first field is no command.
+    /// The first field is no word of a script.
     #[error("no command")]
     BadCommand,
-    /// The number of further fields does not fit the command.
+    /// The number of further fields does not fit the word.
     #[error("number of fields does not fit the command")]
     BadArguments,
     /// A field that should name a cell is no spelling of one.

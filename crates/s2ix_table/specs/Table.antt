@@ -4,7 +4,7 @@ pub use Rattle.s2id_core.specs.Span.{leaf_end}
 use Rattle.s2ix_bag.specs.Collection.{Collection}
 use Rattle.s2ix_table.specs.Contents.{contents_at}
 
--- a run of leaves, from the number `start` up to and without `limit`, with the contents that its leaves share
+-- a span of leaves, from the number `start` up to and without `limit`, with the contents that its leaves share
 pub record Range : Type 0 where
   pub start : ℕ
   pub limit : ℕ
@@ -14,7 +14,7 @@ pub record Range : Type 0 where
 abbrev pub range_at : List Range → ℕ → Range
 range_at ranges k = slice_index_or ranges k (record { start = 0; limit = 0; contents = [] })
 
--- the maximal runs of leaves with equal contents, one behind the other, over the leaves from one number up to another
+-- the maximal spans of leaves with equal contents, one behind the other, over the leaves from one number up to another
 pub record IsTableOver (held : Collection) (from to : ℕ) (ranges : List Range) : Type 0 where
   pub some : 0 < length ranges
   pub first : (range_at ranges 0).start ≡ from
@@ -25,7 +25,7 @@ pub record IsTableOver (held : Collection) (from to : ℕ) (ranges : List Range)
   pub shared : (k q : ℕ) → k < length ranges → q % 2 ≡ 1 → (range_at ranges k).start ≤ q → q < (range_at ranges k).limit → contents_at q held ≡ (range_at ranges k).contents
   pub maximal : (j k : ℕ) → j + 1 ≡ k → k < length ranges → (range_at ranges j).contents ≢ (range_at ranges k).contents
 
--- the range table: the maximal runs of leaves with equal contents, from the first leaf of face 0 to the last of face 5
+-- the range table: the maximal spans of leaves with equal contents, from the first leaf of face 0 to the last of face 5
 abbrev pub IsRangeTable : Collection → List Range → Type 0
 IsRangeTable held ranges = IsTableOver held 1 leaf_end ranges
 

@@ -112,7 +112,7 @@ fn held_pairs(alloc: Global, bag: &Bag) -> Result<Vec<Held>, OutOfMemory>
     Ok(held)
 }
 
-// The runs of leaves over which the same pairs lie, each from where one ended up to where the next begins.
+// The ranges of held pairs, each from where the one before it ends.
 fn ranges_over(alloc: Global, held: &[Held]) -> Result<Vec<CopiedRange>, OutOfMemory>
     requires { IsCollection held.now }
     ensures { IfOk result (λ ranges. IsRangeTable held.now (ranges_of ranges.items)) }

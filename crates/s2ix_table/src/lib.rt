@@ -1,6 +1,6 @@
 //! Range tables of labelled cells, and what they answer (S2's `S2CellIndex`).
 //!
-//! The leaves of the curve fall into maximal runs over which the same pairs lie. A [`RangeTable`] keeps these ranges in
+//! The leaves of the curve fall into maximal spans over which the same pairs lie. A [`RangeTable`] keeps these ranges in
 //! order, and with each of them its contents: the pairs whose cells have its leaves, the innermost cell first.
 #![tactic(auto)]
 

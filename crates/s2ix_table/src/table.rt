@@ -15,7 +15,7 @@ use s2id_union::CellUnion;
 use s2ix_bag::{Bag, Held, Label};
 use std::alloc::Global;
 
-/// The range table of a collection: the maximal runs of leaves over which the same pairs lie, in order, each with a
+/// The range table of a collection: the maximal spans of leaves over which the same pairs lie, in order, each with a
 /// chain of these pairs (S2's `S2CellIndex`, its ranges and its contents). The ranges cover all leaves, empty ones too.
 pub trait RangeTable: Sized {
     /// Where a table keeps a pair of a chain.
