@@ -12,3 +12,4 @@ pub mod NormalForm
 mod Forms
 mod Joining
 mod Counting
+mod Equal

@@ -7,6 +7,8 @@ ghost use Rattle.s2id_core.specs.Path.{Path, number_of};
 ghost use Rattle.s2id_union.specs.NormalForm.{normal_form, cells_where};
 ghost use Rattle.s2id_union.specs.Region.{InRegion, IsNormal, HaveSameRegion};
 
+use crate::cell_union::CellUnion;
+
 /// Two normal lists with the same region are equal.
 pub fn one_normal_list()
     ensures { (xs ys : List CellId) → IsNormal xs → IsNormal ys → HaveSameRegion xs ys → xs ≡ ys }
@@ -29,4 +31,13 @@ pub fn cells_where_is_normal()
         → IsLeafPath leaf
         → InRegion (cells_where passes) leaf
         ↔ (IsTrue (passes (number_of leaf)) × IsTrue (passes (number_of leaf + 1))) }
+{}
+
+/// Two unions are equal exactly where their cells are the same, which is where their leaves are.
+pub fn equal_unions_are_one()
+    ensures cells { (xs ys : List CellId) → IsTrue (⟦<CellUnion as PartialEq>⟧.eq xs ys) ↔ (xs ≡ ys) }
+    ensures leaves { (xs ys : List CellId)
+        → IsNormal xs
+        → IsNormal ys
+        → IsTrue (⟦<CellUnion as PartialEq>⟧.eq xs ys) ↔ HaveSameRegion xs ys }
 {}
