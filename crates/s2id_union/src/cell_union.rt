@@ -6,12 +6,12 @@ ghost use Rattle.s2id_union.specs.Region.{InRegion, IsNormal, HaveSameRegion, Ha
 ghost use Rattle.s2id_union.specs.NormalForm.{normal_form, cells_where, is_covered};
 ghost use Rattle.s2id_union.specs.Range.{IsLeafRange, IsRangeRefusal};
 
-use crate::count::counted;
+use crate::count::count_leaves;
 use crate::error::RangeError;
 use crate::join::normal_list;
 use crate::search::{has_all, meets};
 use crate::span::add_span;
-use crate::sweep::{Operation, swept};
+use crate::sweep::{Operation, sweep_both};
 use s2id_core::{CellId, LEAF_END, OutOfMemory};
 use std::alloc::Global;
 use std::marker::Model;
@@ -101,7 +101,7 @@ impl CellUnion {
     {
         let first = self.cells();
         let second = other.cells();
-        let cells = swept(alloc, Operation::Union, first, second)?;
+        let cells = sweep_both(alloc, Operation::Union, first, second)?;
         Ok(CellUnion { cells })
     }
 
@@ -116,7 +116,7 @@ impl CellUnion {
     {
         let first = self.cells();
         let second = other.cells();
-        let cells = swept(alloc, Operation::Intersection, first, second)?;
+        let cells = sweep_both(alloc, Operation::Intersection, first, second)?;
         Ok(CellUnion { cells })
     }
 
@@ -131,7 +131,7 @@ impl CellUnion {
     {
         let first = self.cells();
         let second = other.cells();
-        let cells = swept(alloc, Operation::Difference, first, second)?;
+        let cells = sweep_both(alloc, Operation::Difference, first, second)?;
         Ok(CellUnion { cells })
     }
 
@@ -139,6 +139,6 @@ impl CellUnion {
     pub fn leaf_count(&self) -> u64
         ensures { (leaves : List Path) × IsLeafList self.now leaves × (length leaves ≡ result) }
     {
-        counted(self.cells())
+        count_leaves(self.cells())
     }
 }

@@ -7,7 +7,7 @@ ghost use Rattle.s2id_union.specs.Region.{IsNormal, IsLeafList};
 use s2id_core::CellId;
 
 // How many leaves are in the region. O(n).
-pub(crate) fn counted(cells: &[CellId]) -> u64
+pub(crate) fn count_leaves(cells: &[CellId]) -> u64
     requires { IsNormal cells.now }
     ensures { (leaves : List Path) × IsLeafList cells.now leaves × (length leaves ≡ result) }
 {

@@ -19,7 +19,7 @@ fn sort_by_first(cells: &mut [CellId])
 }
 
 // The normal list with the region of cells in the order of their first leaves. O(n) steps, and the cells emitted.
-fn joined(alloc: Global, sorted: &[CellId]) -> Result<Vec<CellId>, OutOfMemory>
+fn join_spans(alloc: Global, sorted: &[CellId]) -> Result<Vec<CellId>, OutOfMemory>
     requires { IsNonDecreasingBy (λ c. first_of c) sorted.now }
     ensures normal { IfOk result (λ cells. IsNormal cells.items) }
     ensures covers { IfOk result (λ cells. (q : ℕ) → Covers cells.items q ↔ Covers sorted.now q) }
@@ -43,12 +43,12 @@ fn joined(alloc: Global, sorted: &[CellId]) -> Result<Vec<CellId>, OutOfMemory>
 }
 
 // The same of cells in any order, which it puts in that order. O(n log n), and the cells emitted.
-fn joined_sorted(alloc: Global, cells: &mut [CellId]) -> Result<Vec<CellId>, OutOfMemory>
+fn sort_and_join(alloc: Global, cells: &mut [CellId]) -> Result<Vec<CellId>, OutOfMemory>
     ensures normal { IfOk result (λ list. IsNormal list.items) }
     ensures covers { IfOk result (λ list. (q : ℕ) → Covers list.items q ↔ Covers cells.old q) }
 {
     sort_by_first(cells);
-    joined(alloc, cells)
+    join_spans(alloc, cells)
 }
 
 // The normal list with the region of some cells. O(n log n), and the cells emitted.
@@ -57,5 +57,5 @@ pub(crate) fn normal_list(alloc: Global, cells: &[CellId]) -> Result<Vec<CellId>
     ensures covers { IfOk result (λ list. (q : ℕ) → Covers list.items q ↔ Covers cells.now q) }
 {
     let mut sorted = Vec::from_slice(alloc, cells)?;
-    joined_sorted(alloc, sorted.as_mut_slice())
+    sort_and_join(alloc, sorted.as_mut_slice())
 }

@@ -9,7 +9,7 @@ ghost use Rattle.s2id_union.specs.Loops.{IsAhead};
 use s2id_core::CellId;
 
 // How many cells end by a place. O(log n).
-fn passed(cells: &[CellId], at: u64) -> usize
+fn count_passed(cells: &[CellId], at: u64) -> usize
     requires { IsChain cells.now }
     ensures within { result ≤ length cells.now }
     ensures ahead { IsAhead cells.now result at }
@@ -32,7 +32,7 @@ pub(crate) fn has_all(cells: &[CellId], cell: CellId) -> bool
     requires { IsNormal cells.now }
     ensures { IsTrue result ↔ HasAllOf cells.now (path_of cell) }
 {
-    let k = passed(cells, cell.span_start());
+    let k = count_passed(cells, cell.span_start());
     k < cells.len() && cells[k].contains(cell)
 }
 
@@ -41,6 +41,6 @@ pub(crate) fn meets(cells: &[CellId], cell: CellId) -> bool
     requires { IsNormal cells.now }
     ensures { IsTrue result ↔ Meets cells.now (path_of cell) }
 {
-    let k = passed(cells, cell.span_start());
+    let k = count_passed(cells, cell.span_start());
     k < cells.len() && cells[k].intersects(cell)
 }

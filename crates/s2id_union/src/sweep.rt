@@ -70,7 +70,7 @@ fn stretch_at(cells: &[CellId], k: usize, at: u64) -> Stretch
 }
 
 // How many cells are passed at the end of a stretch.
-fn advanced(cells: &[CellId], k: usize, at: u64, end: u64) -> usize
+fn pass_cell(cells: &[CellId], k: usize, at: u64, end: u64) -> usize
     requires chain { IsChain cells.now }
     requires ahead { IsAhead cells.now k at }
     requires rises { at ≤ end }
@@ -85,7 +85,7 @@ fn advanced(cells: &[CellId], k: usize, at: u64, end: u64) -> usize
 }
 
 // The normal list of what a set operation keeps. O(n + m) steps, and the cells emitted.
-pub(crate) fn swept(
+pub(crate) fn sweep_both(
     alloc: Global,
     operation: Operation,
     first: &[CellId],
@@ -106,8 +106,8 @@ pub(crate) fn swept(
         let of_first = stretch_at(first, i, at);
         let of_second = stretch_at(second, j, at);
         let end = of_first.end.min(of_second.end);
-        i = advanced(first, i, at, end);
-        j = advanced(second, j, at, end);
+        i = pass_cell(first, i, at, end);
+        j = pass_cell(second, j, at, end);
         let kept = keeps(operation, of_first.inside, of_second.inside);
         if !kept {
             add_span(&mut cells, start, at)?;

@@ -3,19 +3,19 @@ use Rattle.std.proofs.lemmas.Bool.Decides.{nat_tests}
 use Rattle.s2id_union.proofs.Searching.{chain_from_normal, all_from_within, within_ahead}
 use Rattle.s2id_union.proofs.search.has_all.Goals as goal
 
-pub passed-k-requires : goal.passed-k-requires
-passed-k-requires c = chain_from_normal c.args.cells.now c.requires
+pub count_passed-k-requires : goal.count_passed-k-requires
+count_passed-k-requires c = chain_from_normal c.args.cells.now c.requires
 
 pub returns-then-k-cells : goal.returns-then-k-cells
 returns-then-k-cells c =
     let x = c.index-cells-k.result in
-    let held : Contains c.args.cells.now x = (c.passed-k.result, omega arith, sym c.index-cells-k.is) in (
+    let held : Contains c.args.cells.now x = (c.count_passed-k.result, omega arith, sym c.index-cells-k.is) in (
       λ t. all_from_within c.args.cells.now x c.args.cell held (c.contains.ensures.nested.0 t),
-      λ all. c.contains.ensures.nested.1 ((within_ahead c.args.cells.now c.requires c.passed-k.result c.span_start.result c.args.cell c.span_start.ensures c.passed-k.ensures.ahead all).1 x c.index-cells-k.is),
+      λ all. c.contains.ensures.nested.1 ((within_ahead c.args.cells.now c.requires c.count_passed-k.result c.span_start.result c.args.cell c.span_start.ensures c.count_passed-k.ensures.ahead all).1 x c.index-cells-k.is),
     )
 
 pub returns-else-k-cells : goal.returns-else-k-cells
 returns-else-k-cells c = (
   λ t. absurd (grind (arith, nat_tests)),
-  λ all. absurd (let past = c.if-k-cells.false in let l = (within_ahead c.args.cells.now c.requires c.passed-k.result c.span_start.result c.args.cell c.span_start.ensures c.passed-k.ensures.ahead all).0 in omega arith),
+  λ all. absurd (let past = c.if-k-cells.false in let l = (within_ahead c.args.cells.now c.requires c.count_passed-k.result c.span_start.result c.args.cell c.span_start.ensures c.count_passed-k.ensures.ahead all).0 in omega arith),
 )

@@ -5,4 +5,4 @@ use Rattle.s2id_union.proofs.cell_union.CellUnion.leaf_count.Goals as goal
 
 pub returns : goal.returns
 returns c =
-    subst (λ xs. (leaves : List Path) × IsLeafList xs leaves × (length leaves ≡ c.counted.result)) c.cells.ensures.list c.counted.ensures
+    subst (λ xs. (leaves : List Path) × IsLeafList xs leaves × (length leaves ≡ c.count_leaves.result)) c.cells.ensures.list c.count_leaves.ensures

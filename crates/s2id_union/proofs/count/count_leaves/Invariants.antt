@@ -2,7 +2,7 @@ use Rattle.std.proofs.Common.{◌≡◌, ℕ, ◌+◌, ◌*◌, ◌<◌, ◌≤�
 use Rattle.s2id_core.specs.declared.cell_id.CellId.{CellId}
 use Rattle.s2id_core.specs.CellId.{first_of}
 use Rattle.s2id_union.proofs.Counting.{total}
-use Rattle.s2id_union.proofs.count.counted.Given as goal
+use Rattle.s2id_union.proofs.count.count_leaves.Given as goal
 
 abbrev pub invariant-loop-cell : goal.invariant-loop-cell
 invariant-loop-cell l =

@@ -1,6 +1,6 @@
 use Rattle.std.proofs.Common.{◌+◌, ◌-◌, ◌/◌, ◌<◌, length, arith}
 use Rattle.s2id_union.proofs.Searching.{ends_from, ends_to}
-use Rattle.s2id_union.proofs.search.passed.Goals as goal
+use Rattle.s2id_union.proofs.search.count_passed.Goals as goal
 
 pub loop-low-preserved-then-span_end-at : goal.loop-low-preserved-then-span_end-at
 loop-low-preserved-then-span_end-at c =

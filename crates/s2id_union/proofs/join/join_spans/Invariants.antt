@@ -1,7 +1,7 @@
 use Rattle.std.proofs.Common.{◌≡◌, ◌%◌, ◌≤◌}
 use Rattle.s2id_core.specs.Span.{leaf_end}
 use Rattle.s2id_union.proofs.Joining.{IsJoined}
-use Rattle.s2id_union.proofs.join.joined.Given as goal
+use Rattle.s2id_union.proofs.join.join_spans.Given as goal
 
 abbrev pub invariant-loop-cell : goal.invariant-loop-cell
 invariant-loop-cell l =

@@ -3,8 +3,8 @@ use Rattle.std.proofs.lemmas.List.{get_or_default}
 use Rattle.s2id_core.specs.declared.cell_id.CellId.{CellId}
 use Rattle.s2id_core.specs.CellId.{end_of}
 use Rattle.s2id_union.proofs.Sweeping.{ahead_passed, ahead_stays}
-use Rattle.s2id_union.proofs.sweep.advanced.Goals as goal
-use Rattle.s2id_union.proofs.sweep.advanced.Goals.{else-k-cells-via-then-k-cells+else-span_end-end, else-k-cells-via-else-k-cells}
+use Rattle.s2id_union.proofs.sweep.pass_cell.Goals as goal
+use Rattle.s2id_union.proofs.sweep.pass_cell.Goals.{else-k-cells-via-then-k-cells+else-span_end-end, else-k-cells-via-else-k-cells}
 
 pub returns-then-span_end-end : goal.returns-then-span_end-end
 returns-then-span_end-end c =

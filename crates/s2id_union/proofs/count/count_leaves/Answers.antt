@@ -4,7 +4,7 @@ use Rattle.s2id_core.specs.CellId.{raw_of, first_of}
 use Rattle.s2id_core.proofs.Nested.{span}
 use Rattle.s2id_union.proofs.Searching.{chain_from_normal}
 use Rattle.s2id_union.proofs.Counting.{total-none, total_more, next_bound, cell_width, counted}
-use Rattle.s2id_union.proofs.count.counted.Goals as goal
+use Rattle.s2id_union.proofs.count.count_leaves.Goals as goal
 
 pub loop-cell-init : goal.loop-cell-init
 loop-cell-init c = (

@@ -1,7 +1,7 @@
 use Rattle.std.proofs.Common.{IsTrue, arith}
 use Rattle.s2id_union.proofs.Searching.{chain_from_normal}
 use Rattle.s2id_union.proofs.Sweeping.{lower_of, swept_init, swept_next_on, swept_next_off, swept_end}
-use Rattle.s2id_union.proofs.sweep.swept.Goals as goal
+use Rattle.s2id_union.proofs.sweep.sweep_both.Goals as goal
 
 pub loop-at-init : goal.loop-at-init
 loop-at-init c = swept_init c.args.operation c.args.first.now c.args.second.now _ c.new-cells.ensures.items
@@ -12,11 +12,11 @@ stretch_at-of_first-requires-clause-chain c = chain_from_normal c.args.first.now
 pub stretch_at-of_second-requires-clause-chain : goal.stretch_at-of_second-requires-clause-chain
 stretch_at-of_second-requires-clause-chain c = chain_from_normal c.args.second.now c.requires.second_normal
 
-pub advanced-i-requires-clause-chain : goal.advanced-i-requires-clause-chain
-advanced-i-requires-clause-chain c = chain_from_normal c.args.first.now c.requires.first_normal
+pub pass_cell-i-requires-clause-chain : goal.pass_cell-i-requires-clause-chain
+pass_cell-i-requires-clause-chain c = chain_from_normal c.args.first.now c.requires.first_normal
 
-pub advanced-j-requires-clause-chain : goal.advanced-j-requires-clause-chain
-advanced-j-requires-clause-chain c = chain_from_normal c.args.second.now c.requires.second_normal
+pub pass_cell-j-requires-clause-chain : goal.pass_cell-j-requires-clause-chain
+pass_cell-j-requires-clause-chain c = chain_from_normal c.args.second.now c.requires.second_normal
 
 pub loop-at-preserved-in_ok-add_span : goal.loop-at-preserved-in_ok-add_span
 loop-at-preserved-in_ok-add_span c =
@@ -25,7 +25,7 @@ loop-at-preserved-in_ok-add_span c =
     let e = c.min-end in
     let lower = lower_of f.result.end s.result.end e.result e.ensures in
     let odd = lower.odd f.ensures.odd s.ensures.odd in
-    swept_next_off c.args.operation c.args.first.now c.args.second.now c.loop-at.cells.items c.add_span.new.cells.items c.loop-at.start c.loop-at.at e.result f.result.end s.result.end c.advanced-i.result c.advanced-j.result f.result.inside s.result.inside c.loop-at.invariant.0 c.in_ok-add_span.ensures (lower.above c.loop-at.at f.ensures.rises s.ensures.rises) lower.first lower.second f.ensures.on_curve odd f.ensures.constant s.ensures.constant (λ k. let t = c.keeps-kept.ensures.1 k in (cc)) c.advanced-i.ensures c.advanced-j.ensures
+    swept_next_off c.args.operation c.args.first.now c.args.second.now c.loop-at.cells.items c.add_span.new.cells.items c.loop-at.start c.loop-at.at e.result f.result.end s.result.end c.pass_cell-i.result c.pass_cell-j.result f.result.inside s.result.inside c.loop-at.invariant.0 c.in_ok-add_span.ensures (lower.above c.loop-at.at f.ensures.rises s.ensures.rises) lower.first lower.second f.ensures.on_curve odd f.ensures.constant s.ensures.constant (λ k. let t = c.keeps-kept.ensures.1 k in (cc)) c.pass_cell-i.ensures c.pass_cell-j.ensures
 
 pub loop-at-preserved : goal.loop-at-preserved
 loop-at-preserved c =
@@ -35,7 +35,7 @@ loop-at-preserved c =
     let lower = lower_of f.result.end s.result.end e.result e.ensures in
     let odd = lower.odd f.ensures.odd s.ensures.odd in
     let t : IsTrue c.keeps-kept.result = cc in
-    swept_next_on c.args.operation c.args.first.now c.args.second.now c.loop-at.cells.items c.loop-at.start c.loop-at.at e.result f.result.end s.result.end c.advanced-i.result c.advanced-j.result f.result.inside s.result.inside c.loop-at.invariant.0 c.loop-at.invariant.3 c.loop-at.invariant.6 (lower.above c.loop-at.at f.ensures.rises s.ensures.rises) lower.first lower.second f.ensures.on_curve odd f.ensures.constant s.ensures.constant (c.keeps-kept.ensures.0 t) c.advanced-i.ensures c.advanced-j.ensures
+    swept_next_on c.args.operation c.args.first.now c.args.second.now c.loop-at.cells.items c.loop-at.start c.loop-at.at e.result f.result.end s.result.end c.pass_cell-i.result c.pass_cell-j.result f.result.inside s.result.inside c.loop-at.invariant.0 c.loop-at.invariant.3 c.loop-at.invariant.6 (lower.above c.loop-at.at f.ensures.rises s.ensures.rises) lower.first lower.second f.ensures.on_curve odd f.ensures.constant s.ensures.constant (c.keeps-kept.ensures.0 t) c.pass_cell-i.ensures c.pass_cell-j.ensures
 
 pub returns : goal.returns
 returns c =

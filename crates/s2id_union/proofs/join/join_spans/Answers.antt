@@ -1,7 +1,7 @@
 use Rattle.std.proofs.Common.{inl, inr, sym, ◌∙◌, ap, refl, arith}
 use Rattle.s2id_union.proofs.Joining.{joined_start, joined_next_gap, joined_next_touch, joined_end}
-use Rattle.s2id_union.proofs.join.joined.Goals as goal
-use Rattle.s2id_union.proofs.join.joined.Goals.{then-at-first+in_ok-add_span, else-at-first+then-at-end, else-at-first+else-at-end}
+use Rattle.s2id_union.proofs.join.join_spans.Goals as goal
+use Rattle.s2id_union.proofs.join.join_spans.Goals.{then-at-first+in_ok-add_span, else-at-first+then-at-end, else-at-first+else-at-end}
 
 pub loop-cell-init : goal.loop-cell-init
 loop-cell-init c =

@@ -2,7 +2,7 @@ use Rattle.std.proofs.Common.{◌≡◌, ◌-◌, ◌%◌, ◌≤◌}
 use Rattle.s2id_core.specs.Span.{leaf_end}
 use Rattle.s2id_union.specs.Loops.{IsAhead}
 use Rattle.s2id_union.proofs.Sweeping.{IsSwept}
-use Rattle.s2id_union.proofs.sweep.swept.Given as goal
+use Rattle.s2id_union.proofs.sweep.sweep_both.Given as goal
 
 abbrev pub invariant-loop-at : goal.invariant-loop-at
 invariant-loop-at l =
