@@ -1,16 +1,28 @@
 //! What the definitions that the contracts cite say, in other words. Each function is a law: it does nothing, and
 //! its contract is the fact.
-ghost use Rattle.std.specs.Prelude.{◌≡◌, ◌↔◌, IsTrue, List};
+ghost use Rattle.std.specs.Prelude.{◌≡◌, ◌==◌, ◌↔◌, IsTrue, Some, List};
+ghost use Rattle.std.specs.Ordering.{nat_cmp};
 ghost use Rattle.s2ix_bag.specs.declared.pair.Entry.{Entry};
+ghost use Rattle.s2ix_bag.specs.declared.pair.Pair.{Pair};
+ghost use Rattle.s2ix_bag.specs.Pair.{rank_of};
 ghost use Rattle.s2ix_bag.specs.Collection.{LimitedCollection};
 ghost use Rattle.s2ix_bag.specs.Laws.{RanksOrderPairs, RanksTellPairsApart, HeldAreCounted, CountedAreHeld, CountsTellCollectionsApart, ChangeSetsCounts, ChangeListsDifferences, OnlyChangeListsDifferences, ChangeLeadsThereAndBack, InverseTakesBack, LabelsAreCounted, LabelsRiseByCell};
 
 use crate::bag::Bag;
 use crate::change::Change;
+use crate::pair::Pair;
 
 /// The order by ranks is that by cell, then by label.
 pub fn ranks_order_pairs()
     ensures { RanksOrderPairs }
+{}
+
+/// Pairs are compared by their ranks, in order, by `partial_cmp`, which `<` and its kin ask, and for equality.
+pub fn pairs_compare_by_rank()
+    ensures order { (p q : Pair) → ⟦<Pair as Ord>⟧.cmp p q ≡ nat_cmp (rank_of p) (rank_of q) }
+    ensures less { (p q : Pair)
+        → ⟦<Pair as PartialOrd>⟧.partial_cmp p q ≡ Some (nat_cmp (rank_of p) (rank_of q)) }
+    ensures equal { (p q : Pair) → ⟦<Pair as PartialEq>⟧.eq p q ≡ (rank_of p == rank_of q) }
 {}
 
 /// No two pairs have the same rank.
