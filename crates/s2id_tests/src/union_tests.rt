@@ -25,19 +25,19 @@ fn check_cells(
 }
 
 #[test]
-fn runs_are_the_fewest_cells(rt: HostRuntime) -> Result<(), Fail> {
-    let run = CellUnion::from_leaves(rt.alloc(), 1, 0x0800000000000003)?;
-    assert_eq!(rt; run.leaf_count(), 288230376151711745);
-    check_cells(&rt, rt.alloc(), &run, &[b"04", b"0800000000000001"])
+fn spans_are_the_fewest_cells(rt: HostRuntime) -> Result<(), Fail> {
+    let union = CellUnion::from_leaves(rt.alloc(), 1, 0x0800000000000003)?;
+    assert_eq!(rt; union.leaf_count(), 288230376151711745);
+    check_cells(&rt, rt.alloc(), &union, &[b"04", b"0800000000000001"])
 }
 
 #[test]
-fn runs_of_leaf_numbers_alone(rt: HostRuntime) -> Result<(), Fail> {
+fn spans_of_leaf_numbers_alone(rt: HostRuntime) -> Result<(), Fail> {
     let refused = CellUnion::from_leaves(rt.alloc(), 2, 5);
     assert!(rt; matches!(refused, Err(RangeError::BadRange)));
     for (start, limit, count) in [(1, 1, 0), (3, LEAF_END - 2, 184)] {
-        let run = CellUnion::from_leaves(rt.alloc(), start, limit)?;
-        assert_eq!(rt; run.cells().len(), count);
+        let union = CellUnion::from_leaves(rt.alloc(), start, limit)?;
+        assert_eq!(rt; union.cells().len(), count);
     }
     Ok(())
 }
@@ -113,8 +113,8 @@ fn spread(alloc: Global, count: u64, step: u64) -> Result<CellUnion, Fail> {
 #[test]
 fn many_leaves_make_a_union(rt: HostRuntime) -> Result<(), Fail> {
     // 200,000 = 3 * 4 ^ 8 + 3 * 4 ^ 5 + 4 ^ 4 + 4 ^ 3
-    let run = spread(rt.alloc(), 200000, 2)?;
-    assert_eq!(rt; (run.leaf_count(), run.cells().len()), (200000, 8));
+    let union = spread(rt.alloc(), 200000, 2)?;
+    assert_eq!(rt; (union.leaf_count(), union.cells().len()), (200000, 8));
     Ok(())
 }
 

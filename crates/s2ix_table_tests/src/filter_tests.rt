@@ -1,24 +1,15 @@
 // Tables of random nested cells, compared with a plain filter of the pairs.
 use crate::plain;
 use crate::random::Random;
-use crate::samples::visited;
+use crate::samples::{collected, leaf_numbered, visited};
 use s2id_core::CellId;
 use s2id_union::CellUnion;
 use s2ix_bag::{Bag, Held, Label, Limits, Pair};
 use s2ix_edit::{Edit, Store};
-use s2ix_table::{ChainIter, CopiedTable, RangeTable, chain_at, contents, ranges};
+use s2ix_table::{CopiedTable, RangeRow, RangeTable, chain_at, contents, ranges};
 use std::alloc::Global;
 use std::process::Abort;
 use std::test::Fail;
-
-// The pairs that a chain gives.
-fn collected(alloc: Global, chain: ChainIter<'_, CopiedTable>) -> Result<Vec<Held>, Fail> {
-    let mut list = Vec::new(alloc);
-    for held in chain {
-        list.push(held)?;
-    }
-    Ok(list)
-}
 
 // The pairs of a bag.
 fn pairs_of(alloc: Global, bag: &Bag) -> Result<Vec<Held>, Fail> {
@@ -29,31 +20,40 @@ fn pairs_of(alloc: Global, bag: &Bag) -> Result<Vec<Held>, Fail> {
     Ok(pairs)
 }
 
-// Compares the ranges, and what lies over each of them, over its first leaf and over its last.
+// Compares what lies over a range, over its first leaf and over its last.
+fn check_row(
+    rt: &impl Abort,
+    alloc: Global,
+    table: &CopiedTable,
+    pairs: &[Held],
+    k: usize,
+    row: RangeRow,
+) -> Result<(), Fail> {
+    let over = plain::chain(alloc, pairs, row.start)?;
+    assert!(rt; k < table.range_count());
+    let chain = collected(alloc, contents(table, k))?;
+    assert_eq!(rt; chain.as_slice(), over.as_slice());
+    for number in [row.start, row.limit.wrapping_sub(2)] {
+        let chain = collected(alloc, chain_at(table, leaf_numbered(number)?))?;
+        assert_eq!(rt; chain.as_slice(), over.as_slice());
+    }
+    Ok(())
+}
+
+// Compares the ranges, and what lies over them.
 fn check_ranges(
     rt: &impl Abort,
     alloc: Global,
     table: &CopiedTable,
     pairs: &[Held],
-    round: u64,
 ) -> Result<(), Fail> {
-    let mut rows = Vec::new(alloc);
-    for (k, row) in ranges(table) {
-        assert_eq!(rt; k, rows.len(), "{round}");
-        assert!(rt; k < table.range_count(), "{round}");
-        rows.push(row)?;
-        let over = plain::chain(alloc, pairs, row.start)?;
-        let chain = collected(alloc, contents(table, k))?;
-        assert_eq!(rt; chain.as_slice(), over.as_slice(), "{round}");
-        for leaf in [row.start, row.limit.wrapping_sub(2)] {
-            let leaf = CellId::from_raw(leaf).ok_or("a range ends at no leaf")?;
-            assert_eq!(rt; leaf.level(), 30, "{round}");
-            let chain = collected(alloc, chain_at(table, leaf))?;
-            assert_eq!(rt; chain.as_slice(), over.as_slice(), "{round}");
-        }
+    let wanted = plain::ranges(alloc, pairs)?;
+    let mut rows = ranges(table);
+    for (k, &row) in wanted.iter().enumerate() {
+        assert_eq!(rt; rows.next(), Some((k, row)));
+        check_row(rt, alloc, table, pairs, k, row)?;
     }
-    let plain_rows = plain::ranges(alloc, pairs)?;
-    assert_eq!(rt; rows.as_slice(), plain_rows.as_slice(), "{round}");
+    assert_eq!(rt; rows.next(), None);
     Ok(())
 }
 
@@ -88,68 +88,78 @@ fn check_target(
     table: &CopiedTable,
     pairs: &[Held],
     cells: &[CellId],
-    round: u64,
 ) -> Result<(), Fail> {
     let target = CellUnion::normalise(alloc, cells)?;
-    let plain_list = plain::meeting(alloc, pairs, cells)?;
+    let wanted = plain::meeting(alloc, pairs, cells)?;
     let list = table.meeting(alloc, &target)?;
-    assert_eq!(rt; list.as_slice(), plain_list.as_slice(), "{round}");
-    let plain_labels = plain::labels(alloc, plain_list.as_slice())?;
+    assert_eq!(rt; list.as_slice(), wanted.as_slice());
     let labels = table.labels(alloc, &target)?;
-    assert_eq!(rt; labels.as_slice(), plain_labels.as_slice(), "{round}");
-    for stop in [1, 2, plain_list.len(), usize::MAX] {
+    assert_eq!(rt;
+        labels.as_slice(),
+        plain::labels(alloc, &wanted)?.as_slice()
+    );
+    for stop in [1, 2, wanted.len(), usize::MAX] {
         if 0 < stop {
-            check_visit(rt, table, &target, plain_list.as_slice(), stop);
+            check_visit(rt, table, &target, &wanted, stop);
         }
     }
     Ok(())
 }
 
-// A bag of at most `count` random pairs, many of them nested.
+// A random pair on one of the first faces, with one to three copies.
+fn random_edit(random: &mut Random, faces: u64) -> Result<Edit, Fail> {
+    let pair = Pair {
+        cell: random.cell(faces, 7).ok_or("no cell")?,
+        label: Label::new((random.below(4) % 4) as u32).ok_or("no label")?,
+    };
+    let copies = 1 + (random.below(3) % 3) as u32;
+    Ok(Edit::Add { pair, copies })
+}
+
+// A store of at most `count` random pairs, many of them nested.
 fn random_store(alloc: Global, random: &mut Random, count: u64, faces: u64) -> Result<Store, Fail> {
     let mut store = Store::new(alloc, Limits::default())?;
     for _ in 0..count {
-        let cell = random.cell(faces, 7).ok_or("no cell")?;
-        let label = u32::try_from(random.below(4))
-            .ok()
-            .and_then(Label::new)
-            .ok_or("no label")?;
-        let copies = u32::try_from(random.below(3)).ok().ok_or("no count")?;
-        let pair = Pair { cell, label };
-        store.edit(&Edit::Add {
-            pair,
-            copies: copies.saturating_add(1),
-        })?;
+        store.edit(&random_edit(random, faces)?)?;
     }
     Ok(store)
 }
 
+// Some random cells of a level below `levels`.
+fn random_cells(
+    alloc: Global,
+    random: &mut Random,
+    size: u64,
+    levels: u64,
+) -> Result<Vec<CellId>, Fail> {
+    let mut cells = Vec::new(alloc);
+    for _ in 0..size {
+        cells.push(random.cell(6, levels).ok_or("no cell")?)?;
+    }
+    Ok(cells)
+}
+
+// Compares what a random table answers about random targets.
+fn check_round(rt: &impl Abort, alloc: Global, random: &mut Random) -> Result<(), Fail> {
+    let (count, faces) = (random.below(40), random.below(6).saturating_add(1));
+    let store = random_store(alloc, random, count, faces)?;
+    let pairs = pairs_of(alloc, store.bag())?;
+    let table = CopiedTable::build(alloc, store.bag())?;
+    check_ranges(rt, alloc, &table, &pairs)?;
+    for size in 0..7 {
+        for levels in [7, 9, 31] {
+            let cells = random_cells(alloc, random, size, levels)?;
+            check_target(rt, alloc, &table, &pairs, &cells)?;
+        }
+    }
+    Ok(())
+}
+
 #[test]
 fn tables_answer_as_a_filter_does(rt: HostRuntime) -> Result<(), Fail> {
-    let alloc = rt.alloc();
     let mut random = Random::new(1);
-    for round in 0..120 {
-        let (count, faces) = (random.below(40), random.below(6).saturating_add(1));
-        let store = random_store(alloc, &mut random, count, faces)?;
-        let pairs = pairs_of(alloc, store.bag())?;
-        let table = CopiedTable::build(alloc, store.bag())?;
-        check_ranges(&rt, alloc, &table, pairs.as_slice(), round)?;
-        for size in 0..7 {
-            for levels in [7, 9, 31] {
-                let mut cells = Vec::new(alloc);
-                for _ in 0..size {
-                    cells.push(random.cell(6, levels).ok_or("no cell")?)?;
-                }
-                check_target(
-                    &rt,
-                    alloc,
-                    &table,
-                    pairs.as_slice(),
-                    cells.as_slice(),
-                    round,
-                )?;
-            }
-        }
+    for _ in 0..120 {
+        check_round(&rt, rt.alloc(), &mut random)?;
     }
     Ok(())
 }

@@ -67,7 +67,7 @@ fn bounds(alloc: Global, pairs: &[Held]) -> Result<Vec<u64>, Fail> {
     Ok(bounds)
 }
 
-// The maximal runs of leaves with the same pairs over them: the ranges between bounds, joined where the pairs are the same.
+// The maximal spans of leaves with the same pairs over them: the ranges between bounds, joined where the pairs are the same.
 pub(crate) fn ranges(alloc: Global, pairs: &[Held]) -> Result<Vec<RangeRow>, Fail> {
     let mut rows = Vec::new(alloc);
     let mut before = Vec::new(alloc);
