@@ -29,9 +29,10 @@ abbrev pub Puts : {A E : Type 0} → Option (List ℕ) → Option (List ℕ) →
 Puts old new (Ok _) text = Appends old new text
 Puts old new (Err _) text = AppendsFront old new text
 
--- a call wrote `text` to a sink, whole at `Ok` and a front of it at `Err`, and its answer tells of each call of the sink that failed
-pub record Writes {K A : Type 0} (taken : K → Option (List ℕ)) (fault_count : K → ℕ) (old new : K) (result : Result A WriteFault) (text : List ℕ) : Type 0 where
+-- a call wrote `text` to a sink, whole at `Ok` and a front of it at `Err`; it did not flush, and its answer tells of each call of the sink that failed
+pub record Writes {K A : Type 0} (taken : K → Option (List ℕ)) (flush_mark fault_count : K → ℕ) (old new : K) (result : Result A WriteFault) (text : List ℕ) : Type 0 where
   pub puts : Puts (taken old) (taken new) result text
+  pub unflushed : flush_mark new ≡ flush_mark old
   pub faults : fault_count new ≡ fault_count old + write_faults result
 
 -- the texts that the parts refer to, one after the other

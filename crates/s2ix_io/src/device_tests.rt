@@ -1,8 +1,8 @@
 // Sources, sinks, the adapters of std's readers and writers, and the calls that put texts.
 use crate::checks::{check_flush, check_pieces, check_put};
 use crate::{
-    Broken, FromRead, KeepingSink, ReadFault, Sink, SliceSource, TakesNone, ToWrite, WriteFault,
-    put_all, put_parts,
+    Broken, FromRead, KeepingSink, ReadFault, RunFault, Sink, SliceSource, TakesNone, ToWrite,
+    WriteFault, put_all, put_parts,
 };
 use std::alloc::{AllocError, Global};
 use std::process::Abort;
@@ -126,6 +126,12 @@ fn faults_have_texts(rt: HostRuntime) -> Result<(), AllocError> {
     assert_eq!(rt;
         format!(in rt.alloc(); "{ReadFault}, {WriteFault}")?.as_str(),
         "read fault, write fault"
+    );
+    let (read, write) = (RunFault::Read, RunFault::Write);
+    let (memory, turns) = (RunFault::OutOfMemory, RunFault::ReaderTooLong);
+    assert_eq!(rt;
+        format!(in rt.alloc(); "{read}, {write}, {memory}, {turns}")?.as_str(),
+        "read fault, write fault, out of memory, reader too long"
     );
     Ok(())
 }

@@ -1,4 +1,4 @@
-ghost use Rattle.std.specs.Prelude.{◌≡◌, ◌↔◌, ◌+◌, Some, [], max, OnOk, IsErr, IsTrue, vec_len};
+ghost use Rattle.std.specs.Prelude.{◌≡◌, ◌↔◌, ◌+◌, Some, [], max, OnOk, OnErr, IsErr, IsTrue, vec_len};
 ghost use Rattle.std.specs.Io.KnownBytes.{Keeps};
 ghost use Rattle.s2ix_io.specs.Faults.{CanCount, write_faults};
 ghost use Rattle.s2ix_io.specs.Devices.{flush_fails, flushed_len_of, put_len_of, sink_fault_at};
@@ -58,6 +58,8 @@ impl Sink for KeepingSink {
 
     ghost flushes = { λ old new. (new.kept ≡ old.kept) × (new.flushed_len ≡ vec_len old.kept) };
 
+    ghost flush_mark = { flushed_len_of };
+
     ghost fault_count = { λ s. s.faults };
 
     fn put(&mut self, bytes: &[u8]) -> Result<usize, WriteFault> {
@@ -75,6 +77,7 @@ impl Sink for KeepingSink {
         requires { CanCount (⟦<KeepingSink as Sink>⟧.fault_count self.old) }
         ensures bytes { Keeps (⟦<KeepingSink as Sink>⟧.taken self.old) (⟦<KeepingSink as Sink>⟧.taken self.new) }
         ensures call { OnOk result (⟦<KeepingSink as Sink>⟧.flushes self.old self.new) }
+        ensures failed { OnErr result (⟦<KeepingSink as Sink>⟧.flush_mark self.new ≡ ⟦<KeepingSink as Sink>⟧.flush_mark self.old) }
         ensures faults { ⟦<KeepingSink as Sink>⟧.fault_count self.new ≡ ⟦<KeepingSink as Sink>⟧.fault_count self.old + write_faults result }
         ensures fails { IsErr result ↔ IsTrue (flush_fails self.old) }
     {

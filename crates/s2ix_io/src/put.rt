@@ -7,7 +7,7 @@ use super::{Sink, WriteFault};
 /// fault, when a front of `bytes` went out. At most one call of `put` for each byte.
 pub fn put_all<K: Sink>(sink: &mut K, bytes: &[u8]) -> Result<(), WriteFault>
     requires { CanCount (K.fault_count sink.old) }
-    ensures { Writes K.taken K.fault_count sink.old sink.new result bytes.now }
+    ensures { Writes K.taken K.flush_mark K.fault_count sink.old sink.new result bytes.now }
 {
     let mut rest = bytes;
     while !rest.is_empty() {
@@ -20,7 +20,7 @@ pub fn put_all<K: Sink>(sink: &mut K, bytes: &[u8]) -> Result<(), WriteFault>
 /// Puts the texts of `parts` one after the other, as one text. It ends at the first fault, when a front of that text went out.
 pub fn put_parts<K: Sink>(sink: &mut K, parts: &[&[u8]]) -> Result<(), WriteFault>
     requires { CanCount (K.fault_count sink.old) }
-    ensures { Writes K.taken K.fault_count sink.old sink.new result (text_of parts.now) }
+    ensures { Writes K.taken K.flush_mark K.fault_count sink.old sink.new result (text_of parts.now) }
 {
     for part in parts {
         put_all(sink, part)?;

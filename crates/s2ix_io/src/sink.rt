@@ -1,4 +1,4 @@
-ghost use Rattle.std.specs.Prelude.{◌≡◌, ℕ, ◌+◌, ◌<◌, ◌≤◌, List, length, take, IfOk, OnOk, MatchResult};
+ghost use Rattle.std.specs.Prelude.{◌≡◌, ℕ, ◌+◌, ◌<◌, ◌≤◌, List, length, take, IfOk, OnOk, OnErr, MatchResult};
 ghost use Rattle.std.specs.declared.option.Option.{Option};
 ghost use Rattle.std.specs.Io.KnownBytes.{Keeps, Appends};
 ghost use Rattle.s2ix_io.specs.Faults.{CanCount, write_faults};
@@ -18,6 +18,9 @@ pub trait Sink {
     // A call of `flush` that succeeded may lead from the first state of the sink to the second.
     ghost flushes: { Self → Self → Type 0 };
 
+    // What the last call of `flush` that succeeded left: no other call changes it. So a call that leaves it at every sink did not flush.
+    ghost flush_mark: { Self → ℕ };
+
     // How many calls of `put` and `flush` have failed so far.
     ghost fault_count: { Self → ℕ };
 
@@ -31,6 +34,7 @@ pub trait Sink {
         ensures bytes { MatchResult result
             (λ n. Appends (taken self.old) (taken self.new) (take n bytes.now))
             (λ _. Keeps (taken self.old) (taken self.new)) }
+        ensures unflushed { flush_mark self.new ≡ flush_mark self.old }
         ensures faults { fault_count self.new ≡ fault_count self.old + write_faults result };
 
     /// Passes on what the sink took and still holds back. A call that fails counts as one fault.
@@ -38,6 +42,7 @@ pub trait Sink {
         requires { CanCount (fault_count self.old) }
         ensures bytes { Keeps (taken self.old) (taken self.new) }
         ensures call { OnOk result (flushes self.old self.new) }
+        ensures failed { OnErr result (flush_mark self.new ≡ flush_mark self.old) }
         ensures faults { fault_count self.new ≡ fault_count self.old + write_faults result };
 
     /// How many calls of `put` and `flush` have failed so far.

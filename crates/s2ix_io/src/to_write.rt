@@ -36,6 +36,8 @@ impl<W: Write> Sink for ToWrite<W> {
 
     ghost flushes = { λ old new. Keeps (W.contents (writer_of old)) (W.contents (writer_of new)) };
 
+    ghost flush_mark = { λ _. 0 };
+
     ghost fault_count = { writer_faults };
 
     fn put(&mut self, bytes: &[u8]) -> Result<usize, WriteFault> {

@@ -12,7 +12,7 @@ use s2ix_io::{Sink, WriteFault, put_parts};
 /// It takes no memory and does not flush. At the first fault of the sink it ends, when a front of the line went out. This project's own.
 pub fn write_no<K: Sink>(name: &str, sink: &mut K) -> Result<(), WriteFault>
     requires { CanCount (K.fault_count sink.old) }
-    ensures { Writes K.taken K.fault_count sink.old sink.new result (no_line name.now) }
+    ensures { Writes K.taken K.flush_mark K.fault_count sink.old sink.new result (no_line name.now) }
 {
     put_parts(sink, &[b"no ", name.as_bytes(), b"\n"])
 }
@@ -22,7 +22,7 @@ pub fn write_no<K: Sink>(name: &str, sink: &mut K) -> Result<(), WriteFault>
 /// It takes no memory and does not flush. At the first fault of the sink it ends, when a front of the line went out. This project's own.
 pub fn write_ok<K: Sink>(pairs: usize, sink: &mut K) -> Result<(), WriteFault>
     requires { CanCount (K.fault_count sink.old) }
-    ensures { Writes K.taken K.fault_count sink.old sink.new result (ok_line pairs) }
+    ensures { Writes K.taken K.flush_mark K.fault_count sink.old sink.new result (ok_line pairs) }
 {
     let mut buffer = Buffer::new();
     let number = buffer.format(pairs);
@@ -34,7 +34,7 @@ pub fn write_ok<K: Sink>(pairs: usize, sink: &mut K) -> Result<(), WriteFault>
 /// It takes no memory and does not flush. At the first fault of the sink it ends, when a front of the line went out. This project's own.
 pub fn write_path<K: Sink>(cell: CellId, sink: &mut K) -> Result<(), WriteFault>
     requires { CanCount (K.fault_count sink.old) }
-    ensures { Writes K.taken K.fault_count sink.old sink.new result (path_line cell) }
+    ensures { Writes K.taken K.flush_mark K.fault_count sink.old sink.new result (path_line cell) }
 {
     let path = cell.path();
     put_parts(sink, &[path.as_bytes(), b"\n"])
@@ -45,7 +45,7 @@ pub fn write_path<K: Sink>(cell: CellId, sink: &mut K) -> Result<(), WriteFault>
 /// It takes no memory and does not flush. At the first fault of the sink it ends, when a front of the line went out. This project's own.
 pub fn write_neighbors<K: Sink>(cell: CellId, sink: &mut K) -> Result<(), WriteFault>
     requires { CanCount (K.fault_count sink.old) }
-    ensures { Writes K.taken K.fault_count sink.old sink.new result (neighbors_line cell) }
+    ensures { Writes K.taken K.flush_mark K.fault_count sink.old sink.new result (neighbors_line cell) }
 {
     let neighbors = edge_neighbors(cell);
     let down = neighbors[0].token();
@@ -72,7 +72,7 @@ pub fn write_neighbors<K: Sink>(cell: CellId, sink: &mut K) -> Result<(), WriteF
 /// It takes no memory and does not flush. At the first fault of the sink it ends, when a front of the line went out. This project's own.
 pub fn write_square<K: Sink>(square: FaceIj, sink: &mut K) -> Result<(), WriteFault>
     requires { CanCount (K.fault_count sink.old) }
-    ensures { Writes K.taken K.fault_count sink.old sink.new result (square_line square) }
+    ensures { Writes K.taken K.flush_mark K.fault_count sink.old sink.new result (square_line square) }
 {
     let (mut face, mut i, mut j) = (Buffer::new(), Buffer::new(), Buffer::new());
     let (mut level, mut orientation) = (Buffer::new(), Buffer::new());

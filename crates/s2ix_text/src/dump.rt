@@ -11,7 +11,7 @@ use s2ix_io::{Sink, WriteFault, put_all, put_parts};
 #[tactic(auto, unfolding(crate::specs::Dump::pair_line))]
 fn write_pair<K: Sink>(held: Held, sink: &mut K) -> Result<(), WriteFault>
     requires { CanCount (K.fault_count sink.old) }
-    ensures { Writes K.taken K.fault_count sink.old sink.new result (pair_line held) }
+    ensures { Writes K.taken K.flush_mark K.fault_count sink.old sink.new result (pair_line held) }
 {
     let token = held.pair.cell.token();
     let mut label = Buffer::new();
@@ -32,7 +32,7 @@ fn write_pair<K: Sink>(held: Held, sink: &mut K) -> Result<(), WriteFault>
 // Writes the lines of all held pairs, in rising order.
 fn write_pairs<K: Sink>(bag: &Bag, sink: &mut K) -> Result<(), WriteFault>
     requires { CanCount (K.fault_count sink.old) }
-    ensures { Writes K.taken K.fault_count sink.old sink.new result (flat_map pair_line bag.now.held) }
+    ensures { Writes K.taken K.flush_mark K.fault_count sink.old sink.new result (flat_map pair_line bag.now.held) }
 {
     for place in 0..bag.len() {
         write_pair(bag.held(place), sink)?;
@@ -44,7 +44,7 @@ fn write_pairs<K: Sink>(bag: &Bag, sink: &mut K) -> Result<(), WriteFault>
 #[tactic(auto, unfolding(crate::specs::Dump::end_line))]
 fn write_end<K: Sink>(bag: &Bag, sink: &mut K) -> Result<(), WriteFault>
     requires { CanCount (K.fault_count sink.old) }
-    ensures { Writes K.taken K.fault_count sink.old sink.new result (end_line bag.now.held) }
+    ensures { Writes K.taken K.flush_mark K.fault_count sink.old sink.new result (end_line bag.now.held) }
 {
     let mut pairs = Buffer::new();
     let mut copies = Buffer::new();
@@ -65,7 +65,7 @@ fn write_end<K: Sink>(bag: &Bag, sink: &mut K) -> Result<(), WriteFault>
 /// It takes no memory and does not flush. At the first fault of the sink it ends, when a front of the dump went out. O(n) for n pairs.
 pub fn write_dump<K: Sink>(bag: &Bag, sink: &mut K) -> Result<(), WriteFault>
     requires { CanCount (K.fault_count sink.old) }
-    ensures { Writes K.taken K.fault_count sink.old sink.new result (dump_text bag.now.held) }
+    ensures { Writes K.taken K.flush_mark K.fault_count sink.old sink.new result (dump_text bag.now.held) }
 {
     put_all(sink, b"s2ix 1\n")?;
     write_pairs(bag, sink)?;

@@ -16,7 +16,7 @@ pub trait ListItem: Copy {
     /// Writes the line. It takes no memory and does not flush. At the first fault of the sink it ends, when a front of the line went out.
     fn write_line<K: Sink>(self, sink: &mut K) -> Result<(), WriteFault>
         requires { CanCount (K.fault_count sink.old) }
-        ensures { Writes K.taken K.fault_count sink.old sink.new result (line self) };
+        ensures { Writes K.taken K.flush_mark K.fault_count sink.old sink.new result (line self) };
 }
 
 impl ListItem for Held {
@@ -41,7 +41,7 @@ impl ListItem for Label {
 // Writes the lines of all items, in order.
 pub(crate) fn write_lines<A: ListItem, K: Sink>(items: &[A], sink: &mut K) -> Result<(), WriteFault>
     requires { CanCount (K.fault_count sink.old) }
-    ensures { Writes K.taken K.fault_count sink.old sink.new result (flat_map A.line items.now) }
+    ensures { Writes K.taken K.flush_mark K.fault_count sink.old sink.new result (flat_map A.line items.now) }
 {
     for item in items {
         item.write_line(sink)?;
@@ -53,7 +53,7 @@ pub(crate) fn write_lines<A: ListItem, K: Sink>(items: &[A], sink: &mut K) -> Re
 #[tactic(auto, unfolding(crate::specs::Queries::end_of_list))]
 pub(crate) fn write_end_of_list<K: Sink>(count: usize, sink: &mut K) -> Result<(), WriteFault>
     requires { CanCount (K.fault_count sink.old) }
-    ensures { Writes K.taken K.fault_count sink.old sink.new result (end_of_list count) }
+    ensures { Writes K.taken K.flush_mark K.fault_count sink.old sink.new result (end_of_list count) }
 {
     let mut number = Buffer::new();
     put_parts(
@@ -68,7 +68,7 @@ pub(crate) fn write_end_of_list<K: Sink>(count: usize, sink: &mut K) -> Result<(
 /// This project's own.
 pub fn write_list<A: ListItem, K: Sink>(items: &[A], sink: &mut K) -> Result<(), WriteFault>
     requires { CanCount (K.fault_count sink.old) }
-    ensures { Writes K.taken K.fault_count sink.old sink.new result (list_text A.line items.now) }
+    ensures { Writes K.taken K.flush_mark K.fault_count sink.old sink.new result (list_text A.line items.now) }
 {
     write_lines(items, sink)?;
     write_end_of_list(items.len(), sink)

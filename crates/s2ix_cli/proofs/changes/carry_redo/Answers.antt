@@ -1,4 +1,4 @@
--- The step that an redo comes to, by what the store answers.
+-- The step that a redo comes to, by what the store answers.
 use Rattle.std.proofs.Common.{Err, ap, refl}
 use Rattle.s2ix_cli.proofs.Steps.{Carries-same, redo_step-accepted, redo_step-refused}
 use Rattle.s2ix_cli.proofs.changes.carry_redo.Goals as goal

@@ -6,4 +6,4 @@ use Rattle.s2ix_text.proofs.dump.write_pairs.Given as goal
 
 abbrev pub invariant-loop-place : goal.invariant-loop-place
 invariant-loop-place g l =
-    Writes {A = Unit {0}} g.K.Sink.taken g.K.Sink.fault_count l.fn.sink l.sink (Ok tt) (flat_map pair_line (take l.place l.bag.held))
+    Writes {A = Unit {0}} g.K.Sink.taken g.K.Sink.flush_mark g.K.Sink.fault_count l.fn.sink l.sink (Ok tt) (flat_map pair_line (take l.place l.bag.held))

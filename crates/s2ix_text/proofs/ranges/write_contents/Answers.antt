@@ -45,5 +45,5 @@ unfolding list_text
 returns g c =
     let all = contents_at (raw_of c.args.leaf) (g.T.RangeTable.pairs c.args.table.now) in
     let end = yields_end (λ (it : ChainIter g.row.T.Denot g.row.T-Place.Denot g.T.RangeTable). from_place (g.T.RangeTable.chain it.table.now) it.next) _ _ _ c.next.new.self all c.loop-held.yielded _ c.chain_at-held-items.ensures c.into_iter-held-iterator.ensures.into_iter_gives c.loop-held.yielded_by c.in-None.is c.next.ensures.steps in
-    let WritesEnd : ℕ → Type 0 = λ n. Writes g.K.Sink.taken g.K.Sink.fault_count c.loop-held.sink c.write_end_of_list.new.sink c.write_end_of_list.result (end_of_list n) in
+    let WritesEnd : ℕ → Type 0 = λ n. Writes g.K.Sink.taken g.K.Sink.flush_mark g.K.Sink.fault_count c.loop-held.sink c.write_end_of_list.new.sink c.write_end_of_list.result (end_of_list n) in
     Writes-then (Writes-all held_line all (length c.loop-held.yielded) end c.loop-held.invariant.3) (subst WritesEnd (c.loop-held.invariant.2 ∙ end) c.write_end_of_list.ensures)

@@ -26,5 +26,5 @@ unfolding list_text
 returns g c =
     let ranges = g.T.RangeTable.ranges c.args.table.now in
     let end : c.loop-k.k ≡ length ranges = omega (arith, c.loop-k-test.false, c.loop-k.auto.k-end, c.range_count-k-end.ensures) in
-    let WritesEnd : ℕ → Type 0 = λ n. Writes g.K.Sink.taken g.K.Sink.fault_count c.loop-k.sink c.write_end_of_list.new.sink c.write_end_of_list.result (end_of_list n) in
+    let WritesEnd : ℕ → Type 0 = λ n. Writes g.K.Sink.taken g.K.Sink.flush_mark g.K.Sink.fault_count c.loop-k.sink c.write_end_of_list.new.sink c.write_end_of_list.result (end_of_list n) in
     Writes-then (Writes-all range_line ranges c.loop-k.k end c.loop-k.invariant) (subst WritesEnd c.range_count.ensures c.write_end_of_list.ensures)
