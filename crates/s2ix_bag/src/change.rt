@@ -46,11 +46,7 @@ impl Change {
 
     /// The same between two lists of held pairs, each rising strictly with counts above 0: what a bag holds, or a part of it.
     /// O(n + m).
-    pub fn between_lists(
-        alloc: Global,
-        old: &[Held],
-        new: &[Held],
-    ) -> Result<Change, OutOfMemory>
+    pub fn between_lists(alloc: Global, old: &[Held], new: &[Held]) -> Result<Change, OutOfMemory>
         requires old_rise { IsCollection old.now }
         requires new_rise { IsCollection new.now }
         ensures { IfOk result (λ change. change ≡ change_between old.now new.now) }
