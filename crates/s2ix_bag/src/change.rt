@@ -1,9 +1,10 @@
 ghost use Rattle.std.specs.Prelude.{◌≡◌, IfOk, length, ◌≤◌};
 ghost use Rattle.s2ix_bag.specs.Change.{IsChangeList, change_between, inverse_of};
+ghost use Rattle.s2ix_bag.specs.Collection.{IsCollection};
 
 use crate::bag::Bag;
 use crate::compare::{differences, exchanged_entries};
-use crate::pair::Entry;
+use crate::pair::{Entry, Held};
 use s2id_core::OutOfMemory;
 use std::alloc::{AllocError, Global};
 use std::marker::Model;
@@ -40,7 +41,17 @@ impl Change {
     pub fn between(alloc: Global, old: &Bag, new: &Bag) -> Result<Change, OutOfMemory>
         ensures { IfOk result (λ change. change ≡ change_between old.now.held new.now.held) }
     {
-        let entries = differences(alloc, old.pairs(), new.pairs())?;
+        Change::between_lists(alloc, old.pairs(), new.pairs())
+    }
+
+    /// The same between two lists of held pairs, each rising strictly with counts above 0: what a bag holds, or a part of it.
+    /// O(n + m).
+    pub fn between_lists(alloc: Global, old: &[Held], new: &[Held]) -> Result<Change, OutOfMemory>
+        requires old_rise { IsCollection old.now }
+        requires new_rise { IsCollection new.now }
+        ensures { IfOk result (λ change. change ≡ change_between old.now new.now) }
+    {
+        let entries = differences(alloc, old, new)?;
         Ok(Change { entries })
     }
 

@@ -1,3 +1,3 @@
 mod Reached
-mod Steps
+mod Told
 mod WantedMemory

@@ -1,5 +1,5 @@
 -- What carrying a line out comes to.
-use Rattle.std.specs.Prelude.{◌≡◌, ℕ, Bool, true, false, Option, Result, Ok, Err, List}
+use Rattle.std.specs.Prelude.{◌≡◌, ◌≢◌, ℕ, Bool, true, false, Option, Result, Ok, Err, List}
 use Rattle.std.specs.Io.KnownBytes.{Appends, Keeps}
 use Rattle.s2ix_edit.specs.State.{State}
 use Rattle.s2ix_io.specs.Puts.{AppendsFront}
@@ -7,7 +7,7 @@ use Rattle.s2ix_cli.specs.declared.outcome.LineOutcome.{LineOutcome}
 use Rattle.s2ix_cli.specs.declared.outcome.LineOutcome.TheVariants.{PassedOver, Accepted, Refused}
 use Rattle.s2ix_io.specs.declared.run_fault.RunFault.{RunFault}
 use Rattle.s2ix_io.specs.declared.run_fault.RunFault.TheVariants.{Read, Write, OutOfMemory, ReaderTooLong}
-use Rattle.s2ix_cli.specs.Step.{Step}
+use Rattle.s2ix_cli.specs.Step.{Step, no_step, ok_step}
 
 -- whether a line counts
 abbrev pub is_counted : LineOutcome → Bool
@@ -40,3 +40,9 @@ StopsAt step old new before behind ReaderTooLong = ⊥
 abbrev pub Carries : Step → State → State → Option (List ℕ) → Option (List ℕ) → Result LineOutcome RunFault → Type 0
 Carries step old new before behind (Ok outcome) = Takes step new before behind outcome
 Carries step old new before behind (Err fault) = StopsAt step old new before behind fault
+
+-- the answer of a step of the store tells what the line comes to: how many pairs changed, or a refusal, which changed nothing; want of
+-- memory alone tells nothing of it
+abbrev pub IsTold : {E : Type 0} → (E → List ℕ) → E → Step → State → State → Result ℕ E → Type 0
+IsTold name want step old new (Ok pairs) = step ≡ ok_step new pairs
+IsTold name want step old new (Err refusal) = (new ≡ old) × (refusal ≢ want → step ≡ no_step new (name refusal))

@@ -5,8 +5,8 @@ ghost use Rattle.s2ix_cli.specs.Carry.{Carries};
 ghost use Rattle.s2ix_cli.specs.Step.{at_step, instruction_step, step_of};
 ghost use Rattle.s2ix_cli.specs.Wants.{InstructionWants, LineWants};
 
-use crate::changes::{carry_edit, carry_redo, carry_undo};
 use crate::outcome::LineOutcome;
+use crate::steps::tell_step;
 use s2id_core::CellId;
 use s2id_cube::to_face_ij;
 use s2ix_edit::Store;
@@ -58,9 +58,9 @@ fn carry_instruction<K: Sink>(
     ensures faults { K.fault_count sink.new ≡ K.fault_count sink.old + sink_faults result }
 {
     match instruction {
-        Instruction::Edit(edit) => return carry_edit(store, sink, &edit),
-        Instruction::Undo => return carry_undo(store, sink),
-        Instruction::Redo => return carry_redo(store, sink),
+        Instruction::Edit(edit) => return tell_step(store.edit(&edit), sink),
+        Instruction::Undo => return tell_step(store.undo(), sink),
+        Instruction::Redo => return tell_step(store.redo(), sink),
         Instruction::Forget => {
             store.forget();
             write_ok(0, sink)?;

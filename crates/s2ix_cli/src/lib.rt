@@ -2,9 +2,9 @@
 #![tactic(auto)]
 
 mod carry;
-mod changes;
 mod outcome;
 mod script;
+mod steps;
 
 pub use outcome::{RunEnd, RunOptions};
 pub use s2ix_io::{RunFault, read_whole};

@@ -85,7 +85,8 @@ with_each_other label (c ∷ cs) hs k apart =
     with_each_other label cs (with_more (pair_of c label) 1 hs) k (λ d has. apart d (suc has.0, omega (arith, has.1), has.2))
     ∙ count_set_other (pair_of c label) (count_in hs (pair_of c label) + 1) hs k (apart c (0, omega arith, refl))
 
-rise_contains : (n : ℕ) (cs : List CellId) (c : CellId) (k : ℕ) → RiseFrom n cs → k < length cs → get_or cs k c ≡ c → n ≤ raw_of c
+-- none of them is before that number
+pub rise_contains : (n : ℕ) (cs : List CellId) (c : CellId) (k : ℕ) → RiseFrom n cs → k < length cs → get_or cs k c ≡ c → n ≤ raw_of c
 rise_contains n [] c k rise within is = absurd (omega arith)
 rise_contains n (b ∷ cs) c zero rise within is = omega (arith, rise.0, ap raw_of is)
 rise_contains n (b ∷ cs) c (suc k) rise within is = omega (arith, rise.0, rise_contains (raw_of b + 1) cs c k rise.1 (omega arith) is)

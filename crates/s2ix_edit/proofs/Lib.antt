@@ -4,6 +4,7 @@ mod DropLabel
 pub mod Edited
 pub mod Followed
 pub mod Led
+mod Normalise
 pub mod Places
 mod Plans
 pub mod Redone

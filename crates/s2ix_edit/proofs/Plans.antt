@@ -6,20 +6,35 @@ use Rattle.std.specs.List.{position}
 use Rattle.s2ix_bag.specs.declared.pair.Pair.{Pair}
 use Rattle.s2ix_bag.specs.declared.pair.Entry.{Entry}
 use Rattle.s2ix_bag.specs.Apply.{first_mismatch}
-use Rattle.s2ix_bag.specs.Change.{changed, IsChangeList}
-use Rattle.s2ix_bag.specs.Collection.{Collection, LimitedCollection, IsBag, count_in, set_count}
+use Rattle.s2ix_bag.specs.Change.{change_between, changed, IsChangeList}
+use Rattle.s2ix_bag.specs.Collection.{Collection, LimitedCollection, IsBag, IsCollection, count_in, set_count}
 use Rattle.s2ix_edit.specs.declared.edit.Edit.{Edit}
 use Rattle.s2ix_edit.specs.declared.edit.Edit.TheVariants.{Add, Remove}
 use Rattle.s2ix_edit.specs.Edit.{edited_alone}
 use Rattle.s2ix_edit.specs.Plan.{Plans, one_entry}
 use Rattle.s2ix_edit.specs.Refusals.{lacks_label, takes_too_many}
+use Rattle.s2ix_bag.proofs.Applied.{before_from_counts}
 use Rattle.s2ix_bag.proofs.Collections.{set_count_in}
+use Rattle.s2ix_bag.proofs.Differences.{between_is_change, changed_between, counts_between_at}
+use Rattle.s2ix_bag.proofs.Refusals.{no_mismatch}
 
 -- the entries make this collection of the bag's: the counts before are the bag's, and those after the collection's
 pub record Makes (bag : LimitedCollection) (new : Collection) (es : List Entry) : Type 0 where
   pub rises : IsChangeList es
   pub matches : first_mismatch bag es ≡ None
   pub result : changed bag.held es ≡ new
+
+-- the entries of the change to a collection make it
+pub makes_between : (bag : LimitedCollection) (new : Collection) (es : List Entry) → IsCollection bag.held → IsCollection new → es ≡ change_between bag.held new → Makes bag new es
+makes_between bag new es is new_is es_is =
+    let Making : List Entry → Type 0 = λ xs. Makes bag new xs in
+    let change = change_between bag.held new in
+    let rises = between_is_change bag.held new is in
+    subst Making (sym es_is) (record {
+      rises = rises;
+      matches = no_mismatch bag.held change (before_from_counts 0 bag.held new change rises (λ k le. counts_between_at bag.held new k is new_is));
+      result = changed_between bag.held new is new_is;
+    })
 
 -- ---- the entries of one pair
 

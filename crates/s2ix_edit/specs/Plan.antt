@@ -1,6 +1,8 @@
 -- Carrying an edit out: the entries that it plans, and what a store makes of planned entries.
 use Rattle.std.specs.Prelude.{◌≡◌, ℕ, ◌==◌, nat_lt, if◌then◌else◌, false, Option, Some, None, List, [], ◌∷◌, ◌++◌, length}
 use Rattle.std.specs.List.{list_any}
+use Rattle.s2id_core.specs.declared.cell_id.CellId.{CellId}
+use Rattle.s2ix_bag.specs.declared.label.Label.{Label}
 use Rattle.s2ix_bag.specs.declared.pair.Entry.{Entry}
 use Rattle.s2ix_bag.specs.declared.pair.Held.{Held}
 use Rattle.s2ix_bag.specs.declared.pair.Pair.{Pair}
@@ -12,7 +14,7 @@ use Rattle.s2ix_bag.specs.Limits.{pairs_limit, count_limit}
 use Rattle.s2ix_edit.specs.declared.edit.Edit.{Edit}
 use Rattle.s2ix_edit.specs.declared.errors.EditError.{EditError}
 use Rattle.s2ix_edit.specs.declared.errors.EditError.TheVariants.{NoChange, TooManyCopies, TooManyPairs}
-use Rattle.s2ix_edit.specs.Edit.{edited_alone}
+use Rattle.s2ix_edit.specs.Edit.{edited_alone, pair_of}
 use Rattle.s2ix_edit.specs.State.{State, with_held}
 use Rattle.s2ix_edit.specs.declared.errors.PlanError.{PlanError}
 use Rattle.s2ix_edit.specs.Refusals.{lacks_label, takes_too_many, edit_error, edit_refusal, IsEditRefusal}
@@ -52,6 +54,10 @@ entries_refusal bag es =
 abbrev pub move_entries : Held → Entry → List Entry
 move_entries h gain =
     if nat_lt (value_of h.pair.label) (value_of gain.pair.label) then removal_of h ∷ gain ∷ [] else gain ∷ removal_of h ∷ []
+
+-- a cell's pair under the label, held with one copy
+abbrev pub one_copy : Label → CellId → Held
+one_copy label cell = record { pair = pair_of cell label; count = 1 }
 
 -- the store after planned entries: its bag has the counts after, and they are the last change that was done
 abbrev pub after_record : State → List Entry → State

@@ -6,7 +6,7 @@ use Rattle.s2ix_bag.specs.Collection.{Collection, count_in}
 use Rattle.s2ix_bag.specs.Limits.{pairs_limit, count_limit, changes_limit}
 use Rattle.s2ix_bag.specs.OfLabel.{held_of}
 use Rattle.s2ix_edit.specs.declared.edit.Edit.{Edit}
-use Rattle.s2ix_edit.specs.declared.edit.Edit.TheVariants.{Add, AddUnion, Remove, DropLabel, Relabel}
+use Rattle.s2ix_edit.specs.declared.edit.Edit.TheVariants.{Add, AddUnion, Remove, DropLabel, Relabel, Normalise}
 use Rattle.s2ix_edit.specs.declared.errors.EditError.{EditError}
 use Rattle.s2ix_edit.specs.declared.errors.EditError.TheVariants.{JournalFull, NoSuchLabel, NotHeld, NoChange, TooManyCopies, TooManyPairs, OutOfMemory}
 use Rattle.s2ix_edit.specs.declared.errors.PlanError.{PlanError}
@@ -25,6 +25,7 @@ lacks_label (AddUnion cells label) hs = false
 lacks_label (Remove pair copies) hs = false
 lacks_label (DropLabel label) hs = holds_none label hs
 lacks_label (Relabel source target) hs = holds_none source hs
+lacks_label (Normalise label) hs = holds_none label hs
 
 -- the edit takes more copies than are held
 abbrev pub takes_too_many : Edit → Collection → Bool
@@ -33,6 +34,7 @@ takes_too_many (AddUnion cells label) hs = false
 takes_too_many (Remove pair copies) hs = nat_lt (count_in hs pair) copies
 takes_too_many (DropLabel label) hs = false
 takes_too_many (Relabel source target) hs = false
+takes_too_many (Normalise label) hs = false
 
 -- whether a count is above a limit
 abbrev pub has_count_above : ℕ → Collection → Bool

@@ -14,4 +14,6 @@ pub enum Edit {
     DropLabel { label: Label },
     /// Moves all copies of `source` to `target`, cell by cell.
     Relabel { source: Label, target: Label },
+    /// Replaces the label's pairs by one copy at each cell of the label's region.
+    Normalise { label: Label },
 }

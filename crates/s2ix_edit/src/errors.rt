@@ -91,6 +91,17 @@ impl From<AllocError> for PlanError {
     }
 }
 
+impl From<OutOfMemory> for PlanError {
+    ghost use Rattle.std.specs.Prelude.{◌≡◌};
+    ghost use Rattle.s2ix_edit.specs.declared.errors.PlanError.TheVariants.{OutOfMemory};
+
+    ghost from_gives = { λ _ error. error ≡ OutOfMemory };
+
+    fn from(_: OutOfMemory) -> Self {
+        PlanError::OutOfMemory
+    }
+}
+
 /// Why [`Store::undo`](crate::Store::undo) was refused.
 #[derive(Clone, Copy, Debug, PartialEq, Eq, Error)]
 pub enum UndoError {

@@ -9,9 +9,10 @@ ghost use Rattle.s2ix_bag.specs.Change.{IsChangeList, counts_at, difference_of};
 ghost use Rattle.s2ix_bag.specs.Collection.{Collection, IsBag, IsCollection, count_in};
 ghost use Rattle.s2ix_bag.specs.Pair.{rank_of};
 ghost use Rattle.s2ix_edit.specs.declared.edit.Edit.{Edit};
-ghost use Rattle.s2ix_edit.specs.declared.edit.Edit.TheVariants.{Add, AddUnion, Remove, DropLabel, Relabel};
+ghost use Rattle.s2ix_edit.specs.declared.edit.Edit.TheVariants.{Add, AddUnion, Remove, DropLabel, Relabel, Normalise};
 ghost use Rattle.s2ix_edit.specs.Edit.{edited, edited_alone, pair_of};
 ghost use Rattle.s2ix_edit.specs.History.{History, at_cursor, changes_along, cursor_alone, one_back, one_on, with_next};
+ghost use Rattle.s2ix_edit.specs.Region.{cells_of, region_of};
 ghost use Rattle.s2ix_edit.specs.State.{State, IsStore, after_edit, after_forget, after_redo, after_undo, change_of, history_of, with_held};
 ghost use Rattle.s2ix_table.specs.Table.{Range, IsRangeTable};
 
@@ -181,4 +182,27 @@ pub fn relabel_moves_copies()
     ensures itself { (hs : Collection) (label : Label)
         → IsCollection hs
         → edited_alone (Relabel label label) hs ≡ hs }
+{}
+
+/// `Normalise` leaves the label one copy at each cell of its region and none at any other cell, so that its cells are
+/// normal and its region stays, and leaves every other count.
+pub fn normalise_leaves_a_copy_each()
+    ensures cells { (hs : Collection) (label : Label) (cell : CellId)
+        → IsCollection hs
+        → Contains (region_of label hs) cell
+        → count_in (edited_alone (Normalise label) hs) (pair_of cell label) ≡ 1 }
+    ensures elsewhere { (hs : Collection) (label : Label) (cell : CellId)
+        → IsCollection hs
+        → (Contains (region_of label hs) cell → ⊥)
+        → count_in (edited_alone (Normalise label) hs) (pair_of cell label) ≡ 0 }
+    ensures others { (hs : Collection) (label : Label) (other : Pair)
+        → IsCollection hs
+        → other.label ≢ label
+        → count_in (edited_alone (Normalise label) hs) other ≡ count_in hs other }
+    ensures normal { (hs : Collection) (label : Label)
+        → IsCollection hs
+        → cells_of label (edited_alone (Normalise label) hs) ≡ region_of label hs }
+    ensures region { (hs : Collection) (label : Label)
+        → IsCollection hs
+        → region_of label (edited_alone (Normalise label) hs) ≡ region_of label hs }
 {}

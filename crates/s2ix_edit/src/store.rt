@@ -1,4 +1,5 @@
 ghost use Rattle.std.specs.Prelude.{◌≡◌, ◌≢◌, ◌↔◌, ◌<◌, [], ◌∷◌, length, None, IfOk, IfErr, OnOk, OnErr};
+ghost use Rattle.s2id_union.specs.Region.{HaveSameRegion, IsNormal};
 ghost use Rattle.s2ix_bag.specs.Apply.{first_mismatch};
 ghost use Rattle.s2ix_bag.specs.declared.pair.Pair.{Pair};
 ghost use Rattle.s2ix_bag.specs.Change.{counts_at, difference_of};
@@ -9,16 +10,19 @@ ghost use Rattle.s2ix_edit.specs.Edit.{edited};
 ghost use Rattle.s2ix_edit.specs.History.{alone, cursor_alone, one_back, one_on, with_next};
 ghost use Rattle.s2ix_edit.specs.Plan.{after_record, entries_refusal, starting_at};
 ghost use Rattle.s2ix_edit.specs.Refusals.{edit_refusal, IsEditRefusal};
+ghost use Rattle.s2ix_edit.specs.Region.{cells_of, region_of as region_in};
 ghost use Rattle.s2ix_edit.specs.State.{State, IsStore, after_edit, after_forget, after_redo, after_undo, change_of, history_of, redo_size, undo_size};
 ghost use Rattle.s2ix_table.specs.Table.{IsRangeTable};
 
 use crate::edit::Edit;
 use crate::edits;
 use crate::errors::{EditError, RedoError, UndoError};
+use crate::region::region_of;
 use crate::steps::{apply_planned, apply_recorded, shift_last};
 use crate::store_table::StoreTable;
 use s2id_core::OutOfMemory;
-use s2ix_bag::{Bag, Change, Limits};
+use s2id_union::CellUnion;
+use s2ix_bag::{Bag, Change, Label, Limits};
 use s2ix_table::RangeTable;
 use std::alloc::Global;
 use std::marker::Model;
@@ -194,6 +198,17 @@ impl Store {
         ensures within { IsStore self.now }
     {
         &self.table
+    }
+
+    /// The region of a label: the normal union of the cells that are held with it, which is empty where none is.
+    /// `OutOfMemory` where a growth is refused. O(n + m log m) for n pairs held, m of them with the label.
+    pub fn region(&self, label: Label) -> Result<CellUnion, OutOfMemory>
+        ensures region { IfOk result (λ union.
+            HaveSameRegion union (cells_of label self.now.bag.held)) }
+        ensures form { IfOk result (λ union. union ≡ region_in label self.now.bag.held) }
+        ensures normal { IfOk result IsNormal }
+    {
+        region_of(self.alloc, &self.bag, label)
     }
 
     /// The changes that can be undone, the oldest first.

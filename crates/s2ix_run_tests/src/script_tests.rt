@@ -64,13 +64,13 @@ const SCRIPTS: [Script; 29] = [
         ..PLAIN
     },
     Script {
-        name: "a command is in lower case",
+        name: "a word is in lower case",
         input: b"ADD 04 9\n",
         output: b"no BadCommand\n",
         ..PLAIN
     },
     Script {
-        name: "another word is no command",
+        name: "another word is none of a script's",
         input: b"revert 1\n",
         output: b"no BadCommand\n",
         ..PLAIN

@@ -6,26 +6,27 @@ use s2id_core::{OutOfMemory, TokenError};
 use std::alloc::{AllocError, AllocFailed};
 use thiserror::Error;
 
-/// Why a line asks for nothing, in the order of the tests.
+/// What is wrong with a line: the first thing that is, of its length, its word, the number of its further fields, and then each of these
+/// fields from the left.
 #[derive(Clone, Copy, Debug, PartialEq, Eq, Error)]
 pub enum LineFault {
-    /// More than 65,536 bytes.
-    #[error("line of more than 65536 bytes")]
+    /// The line has more than 65,536 bytes.
+    #[error("more than 65536 bytes")]
     LineTooLong,
     /// The first field is no word of a script.
-    #[error("no command")]
+    #[error("no word of a script")]
     BadCommand,
     /// The number of further fields does not fit the word.
-    #[error("number of fields does not fit the command")]
+    #[error("number of fields does not fit the word")]
     BadArguments,
     /// A field that should name a cell is no spelling of one.
-    #[error("field that names no cell")]
+    #[error("field is no spelling of a cell")]
     BadToken,
     /// A field that should name a label is no script number of at most 2147483647.
-    #[error("field that is no label")]
+    #[error("field is no label")]
     BadLabel,
     /// A field that should be a number of copies is no script number from 1 to 65535.
-    #[error("field that is no number of copies")]
+    #[error("field is no number of copies")]
     BadCount,
 }
 
@@ -40,7 +41,7 @@ impl From<TokenError> for LineFault {
 /// Why the meaning of a line was not found.
 #[derive(Clone, Copy, Debug, PartialEq, Eq, Error)]
 pub enum LineError {
-    /// The line asks for nothing.
+    /// Something is wrong with the line.
     #[error("{0}")]
     Fault(LineFault),
     /// A growth was refused while the cells of the line were gathered.

@@ -43,7 +43,7 @@ fn names_are_those_of_the_variants(rt: HostRuntime) {
 #[test]
 fn faults_have_texts(rt: HostRuntime) -> Result<(), Fail> {
     let text = format!(in rt.alloc(); "{}", LineError::Fault(LineFault::BadCommand))?;
-    assert_eq!(rt; text.as_str(), "no command");
+    assert_eq!(rt; text.as_str(), "no word of a script");
     let text = format!(in rt.alloc(); "{}", LineError::OutOfMemory)?;
     assert_eq!(rt; text.as_str(), "out of memory");
     Ok(())

@@ -1,4 +1,4 @@
-// What lines ask for, and the faults of lines that ask for nothing.
+// What lines ask for, and the faults of lines.
 use s2id_core::CellId;
 use s2ix_bag::{Label, Pair};
 use s2ix_edit::Edit;
@@ -26,7 +26,7 @@ fn a_line_without_fields_and_a_comment_ask_for_nothing(rt: HostRuntime) {
 
 // Lines with the first of their faults.
 const FAULTS: [(&[u8], LineFault); 56] = [
-    // no command, or not as many fields as the command has
+    // no word of a script, or not as many fields as fit the word
     (b"ADD 04 9", LineFault::BadCommand),
     (b"addd 04 9", LineFault::BadCommand),
     (b"04", LineFault::BadCommand),

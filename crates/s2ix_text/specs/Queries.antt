@@ -1,6 +1,7 @@
 -- What queries print.
 use Rattle.std.specs.Prelude.{ℕ, codes, decimal, List, [], ◌∷◌, ◌++◌, length, flat_map}
 use Rattle.std.specs.List.{concat}
+use Rattle.s2id_core.specs.declared.cell_id.CellId.{CellId}
 use Rattle.s2id_core.specs.CellId.{raw_of}
 use Rattle.s2id_core.specs.Token.{canonical_token, sixteen_digits}
 use Rattle.s2ix_bag.specs.Label.{value_of}
@@ -27,6 +28,10 @@ held_line h = pair_text h ++ codes "\n"
 -- a label on a line of its own
 unfoldable pub label_line : Label → List ℕ
 label_line label = decimal (value_of label) ++ codes "\n"
+
+-- a cell's token on a line of its own
+unfoldable pub token_line : CellId → List ℕ
+token_line cell = canonical_token (raw_of cell) ++ codes "\n"
 
 -- a held pair behind a space
 unfoldable pub spaced_pair : Held → List ℕ

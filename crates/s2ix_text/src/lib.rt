@@ -1,5 +1,5 @@
-//! The texts that go out. A bag has a dump and a list of changes a journal; pairs, labels and ranges, which answer queries, are lists with an
-//! end line; all else that a line of a script is answered is one line.
+//! The texts that go out. A bag has a dump and a list of changes a journal; pairs, labels, cells and ranges, which answer queries, are lists
+//! with an end line; all else that a line of a script is answered is one line.
 #![tactic(auto)]
 
 mod answers;

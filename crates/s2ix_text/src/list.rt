@@ -1,10 +1,11 @@
 ghost use Rattle.std.specs.Prelude.{ℕ, List, flat_map};
 ghost use Rattle.s2ix_io.specs.Faults.{CanCount};
 ghost use Rattle.s2ix_io.specs.Puts.{Writes};
-ghost use Rattle.s2ix_text.specs.Queries.{end_of_list, held_line, label_line, list_text};
+ghost use Rattle.s2ix_text.specs.Queries.{end_of_list, held_line, label_line, list_text, token_line};
 
 use super::pair::write_pair_between;
 use itoa::Buffer;
+use s2id_core::CellId;
 use s2ix_bag::{Held, Label};
 use s2ix_io::{Sink, WriteFault, put_parts};
 
@@ -35,6 +36,16 @@ impl ListItem for Label {
     fn write_line<K: Sink>(self, sink: &mut K) -> Result<(), WriteFault> {
         let mut number = Buffer::new();
         put_parts(sink, &[number.format(self.get()).as_bytes(), b"\n"])
+    }
+}
+
+impl ListItem for CellId {
+    ghost line = { token_line };
+
+    #[tactic(auto, unfolding(crate::specs::Queries::token_line))]
+    fn write_line<K: Sink>(self, sink: &mut K) -> Result<(), WriteFault> {
+        let token = self.token();
+        put_parts(sink, &[token.as_bytes(), b"\n"])
     }
 }
 

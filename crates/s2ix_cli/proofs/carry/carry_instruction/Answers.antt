@@ -1,4 +1,4 @@
--- The ranges of the store's table are those of its collection.
+-- A step is what the store's answer tells, and the ranges of the store's table are those of its collection.
 use Rattle.std.proofs.Common.{List, refl, subst}
 use Rattle.std.specs.Io.KnownBytes.{Appends}
 use Rattle.std.proofs.lemmas.Result.{err_from_is_err_and}
@@ -6,7 +6,23 @@ use Rattle.s2ix_table.proofs.RangeList.{is_range_table}
 use Rattle.s2ix_table.specs.Table.{Range}
 use Rattle.s2ix_io.specs.Puts.{AppendsFront}
 use Rattle.s2ix_text.specs.Queries.{list_text, range_line}
+use Rattle.s2ix_cli.proofs.Told.{edit_is_told, redo_is_told, undo_is_told}
 use Rattle.s2ix_cli.proofs.carry.carry_instruction.Goals as goal
+
+pub returns-in-Edit-clause-carries : goal.returns-in-Edit-clause-carries
+returns-in-Edit-clause-carries g c =
+    let told = c.edit.ensures in
+    rw c.in-Edit.is (c.tell_step.ensures.carries _ _ _ (edit_is_told _ _ _ _ told.accepted told.state told.number told.refused told.unchanged))
+
+pub returns-in-Undo-clause-carries : goal.returns-in-Undo-clause-carries
+returns-in-Undo-clause-carries g c =
+    let told = c.undo.ensures in
+    rw c.in-Undo.is (c.tell_step-in-Undo.ensures.carries _ _ _ (undo_is_told _ _ _ told.nothing told.state told.number told.unchanged))
+
+pub returns-in-Redo-clause-carries : goal.returns-in-Redo-clause-carries
+returns-in-Redo-clause-carries g c =
+    let told = c.redo.ensures in
+    rw c.in-Redo.is (c.tell_step-in-Redo.ensures.carries _ _ _ (redo_is_told _ _ _ told.nothing told.state told.number told.unchanged))
 
 pub returns-in_ok-write_ranges-in-Ranges-clause-carries : goal.returns-in_ok-write_ranges-in-Ranges-clause-carries
 returns-in_ok-write_ranges-in-Ranges-clause-carries g c =

@@ -1,0 +1,44 @@
+ghost use Rattle.std.specs.Prelude.{◌≡◌, map, IfOk, IfErr};
+ghost use Rattle.s2ix_bag.specs.OfLabel.{held_of};
+ghost use Rattle.s2ix_edit.specs.Plan.{IsPlanRefusal, Plans, one_copy};
+
+use crate::edit::Edit;
+use crate::edits::parts::lacks_label;
+use crate::errors::PlanError;
+use crate::region::region_of;
+use s2id_core::CellId;
+use s2ix_bag::{Bag, Change, Held, Label, Pair};
+use std::alloc::{AllocError, Global};
+
+/// The change that replaces a label's pairs by one copy at each cell of its region. O(n + m log m) for n pairs held, m of
+/// them with the label.
+pub fn plan(alloc: Global, bag: &Bag, label: Label) -> Result<Change, PlanError>
+    ensures plan { IfOk result (Plans bag.now (Edit.Normalise label)) }
+    ensures refused { IfErr result (IsPlanRefusal bag.now (Edit.Normalise label)) }
+{
+    if lacks_label(bag, label) {
+        return Err(PlanError::NoSuchLabel);
+    }
+    let region = region_of(alloc, bag, label)?;
+    let old = held_pairs(alloc, bag, label)?;
+    let new = one_copy_each(alloc, region.cells(), label)?;
+    Ok(Change::between_lists(alloc, old.as_slice(), new.as_slice())?)
+}
+
+/// The pairs that are held with a label.
+fn held_pairs(alloc: Global, bag: &Bag, label: Label) -> Result<Vec<Held>, AllocError>
+    ensures { IfOk result (λ held. held.items ≡ held_of label bag.now.held) }
+{
+    bag.of_label(label).collect(alloc)
+}
+
+/// The cells' pairs under a label, each held with one copy.
+fn one_copy_each(alloc: Global, cells: &[CellId], label: Label) -> Result<Vec<Held>, AllocError>
+    ensures { IfOk result (λ held. held.items ≡ map (one_copy label) cells.now) }
+{
+    let one_copy = |cell: &CellId| Held {
+        pair: Pair { cell: *cell, label },
+        count: 1,
+    };
+    cells.iter().map(one_copy).collect(alloc)
+}
