@@ -11,7 +11,7 @@ use s2id_core::CellId;
 use s2id_cube::to_face_ij;
 use s2ix_edit::Store;
 use s2ix_io::{RunFault, Sink};
-use s2ix_script::{Instruction, LineError, NOT_LEAF_NAME, meaning};
+use s2ix_script::{Instruction, LineError, meaning, not_leaf_name};
 use s2ix_table::RangeTable;
 use s2ix_text::{
     write_contents, write_dump, write_journal, write_list, write_neighbors, write_no, write_ok,
@@ -86,7 +86,7 @@ fn carry_at<K: Sink>(store: &Store, sink: &mut K, cell: CellId) -> Result<LineOu
     ensures faults { K.fault_count sink.new ≡ K.fault_count sink.old + sink_faults result }
 {
     if !cell.is_leaf() {
-        write_no(NOT_LEAF_NAME, sink)?;
+        write_no(not_leaf_name(), sink)?;
         return Ok(LineOutcome::Refused);
     }
     write_contents(store.table(), cell, sink)?;

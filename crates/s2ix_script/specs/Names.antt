@@ -19,7 +19,7 @@ fault_name fault.BadLabel = codes "BadLabel"
 fault_name fault.BadCount = codes "BadCount"
 
 -- the name by which `at` is refused where its cell is no leaf
-abbrev pub not_leaf_name : List ℕ
+unfoldable pub not_leaf_name : List ℕ
 not_leaf_name = codes "NotLeaf"
 
 -- the name of an edit's refusal; want of memory is no answer of a line, and has a name all the same

@@ -1,6 +1,6 @@
 //! What the fields behind a word name.
 ghost use Rattle.std.specs.Prelude.{◌≡◌};
-ghost use Rattle.s2id_core.specs.Spelled.{cell_spelled as cell_that};
+ghost use Rattle.s2id_core.specs.Spelled.{cell_spelled};
 ghost use Rattle.s2ix_script.specs.Meaning.{bare as bare_of, cell_named as cell_of, cell_with, drop_named as drop_of, pair_named as pair_of, relabel_named as relabel_of};
 
 use crate::instruction::Instruction;
@@ -25,10 +25,10 @@ pub(crate) fn bare(
 }
 
 // The cell that a field names.
-pub(crate) fn cell_spelled(token: &[u8]) -> Result<CellId, LineFault>
-    ensures { result ≡ cell_with (cell_that token.now) }
+pub(crate) fn cell_from_field(field: &[u8]) -> Result<CellId, LineFault>
+    ensures { result ≡ cell_with (cell_spelled field.now) }
 {
-    Ok(CellId::from_token(token)?)
+    Ok(CellId::from_token(field)?)
 }
 
 // The cell that the one field TOKEN names.
@@ -41,7 +41,7 @@ pub(crate) fn cell_named(mut fields: Fields<'_>) -> Result<CellId, LineFault>
     if fields.next().is_some() {
         return Err(LineFault::BadArguments);
     }
-    cell_spelled(token)
+    cell_from_field(token)
 }
 
 // The edit of `drop`, whose label the one field LABEL names.
@@ -90,7 +90,7 @@ pub(crate) fn pair_named(mut fields: Fields<'_>) -> Result<(Pair, u32), LineFaul
     if fields.next().is_some() {
         return Err(LineFault::BadArguments);
     }
-    let cell = cell_spelled(token)?;
+    let cell = cell_from_field(token)?;
     let label = label_spelled(label).ok_or(LineFault::BadLabel)?;
     let copies = match copies {
         None => 1,

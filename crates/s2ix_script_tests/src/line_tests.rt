@@ -1,7 +1,7 @@
 // Lines, and the names that refused lines are answered by.
 use s2ix_edit::{EditError, RedoError, UndoError};
 use s2ix_script::{
-    LineError, LineFault, Lines, NOT_LEAF_NAME, edit_error_name, redo_error_name, undo_error_name,
+    LineError, LineFault, Lines, edit_error_name, not_leaf_name, redo_error_name, undo_error_name,
 };
 use std::test::Fail;
 
@@ -37,7 +37,7 @@ fn names_are_those_of_the_variants(rt: HostRuntime) {
     assert_eq!(rt; edit_error_name(EditError::TooManyPairs), "TooManyPairs");
     assert_eq!(rt; undo_error_name(UndoError::NothingToUndo), "NothingToUndo");
     assert_eq!(rt; redo_error_name(RedoError::NothingToRedo), "NothingToRedo");
-    assert_eq!(rt; NOT_LEAF_NAME, "NotLeaf");
+    assert_eq!(rt; not_leaf_name(), "NotLeaf");
 }
 
 #[test]
