@@ -5,7 +5,6 @@ ghost use Rattle.s2ix_table.specs.Places.{IsPlace, from_place};
 ghost use Rattle.s2ix_table.specs.WalkState.{front_from};
 ghost use Rattle.s2ix_table.specs.Table.{IsFound, leaf_end};
 
-use crate::span::start_of;
 use crate::table::RangeTable;
 use s2id_core::CellId;
 use s2ix_bag::Held;
@@ -33,7 +32,7 @@ pub(crate) fn new_pair<T: RangeTable>(
 {
     let place = place?;
     let held = table.held_at(place);
-    if start_of(held.pair.cell) < from {
+    if held.pair.cell.span_start() < from {
         return None;
     }
     let outer = table.outer(place);

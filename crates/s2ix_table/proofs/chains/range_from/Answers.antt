@@ -4,7 +4,7 @@ use Rattle.s2id_core.specs.Path.{Path}
 use Rattle.s2id_core.proofs.Numbers.{path_of_cell}
 use Rattle.s2id_core.proofs.Nested.{span}
 use Rattle.s2id_core.proofs.Spans.{leaf_of_first}
-use Rattle.s2ix_table.proofs.pairs.range_from.Goals as goal
+use Rattle.s2ix_table.proofs.chains.range_from.Goals as goal
 
 pub find-requires : goal.find-requires
 find-requires g c =
