@@ -4,6 +4,7 @@
 mod carry;
 mod changes;
 mod outcome;
+mod regions;
 mod script;
 
 pub use outcome::{RunEnd, RunOptions};
