@@ -1,7 +1,9 @@
 pub mod Edit
+pub mod Grow
 pub mod History
 pub mod Plan
 pub mod Refusals
+pub mod Region
 pub mod State
 pub use Rattle.s2ix_bag.specs.Change
 pub use Rattle.s2ix_bag.specs.Collection

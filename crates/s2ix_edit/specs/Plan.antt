@@ -1,6 +1,8 @@
 -- Carrying an edit out: the entries that it plans, and what a store makes of planned entries.
 use Rattle.std.specs.Prelude.{◌≡◌, ℕ, ◌==◌, nat_lt, if◌then◌else◌, false, Option, Some, None, List, [], ◌∷◌, ◌++◌, length}
 use Rattle.std.specs.List.{list_any}
+use Rattle.s2id_core.specs.declared.cell_id.CellId.{CellId}
+use Rattle.s2ix_bag.specs.declared.label.Label.{Label}
 use Rattle.s2ix_bag.specs.declared.pair.Entry.{Entry}
 use Rattle.s2ix_bag.specs.declared.pair.Held.{Held}
 use Rattle.s2ix_bag.specs.declared.pair.Pair.{Pair}
@@ -12,10 +14,10 @@ use Rattle.s2ix_bag.specs.Limits.{pairs_limit, count_limit}
 use Rattle.s2ix_edit.specs.declared.edit.Edit.{Edit}
 use Rattle.s2ix_edit.specs.declared.errors.EditError.{EditError}
 use Rattle.s2ix_edit.specs.declared.errors.EditError.TheVariants.{NoChange, TooManyCopies, TooManyPairs}
-use Rattle.s2ix_edit.specs.Edit.{edited_alone}
+use Rattle.s2ix_edit.specs.Edit.{edited_alone, pair_of}
 use Rattle.s2ix_edit.specs.State.{State, with_held}
 use Rattle.s2ix_edit.specs.declared.errors.PlanError.{PlanError}
-use Rattle.s2ix_edit.specs.Refusals.{lacks_label, takes_too_many, edit_error, edit_refusal, IsEditRefusal}
+use Rattle.s2ix_edit.specs.Refusals.{lacks_label, takes_too_many, asks_too_fine, edit_error, edit_refusal, IsEditRefusal}
 
 -- a store that stands at a bag and has no history
 abbrev pub starting_at : LimitedCollection → State
@@ -26,11 +28,12 @@ abbrev pub one_entry : Pair → ℕ → ℕ → List Entry
 one_entry pair before after =
     if before == after then [] else record { pair = pair; before = before; after = after } ∷ []
 
--- the entries carry the edit out: its label is held, it takes no more than is held, the counts before are the bag's,
--- and the counts after make the edited collection
+-- the entries carry the edit out: its label is held, it takes no more than is held, its level isn't too fine, the counts
+-- before are the bag's, and the counts after make the edited collection
 pub record Plans (bag : LimitedCollection) (edit : Edit) (es : List Entry) : Type 0 where
   pub known : lacks_label edit bag.held ≡ false
   pub allowed : takes_too_many edit bag.held ≡ false
+  pub fits : asks_too_fine edit bag.held ≡ false
   pub rises : IsChangeList es
   pub matches : first_mismatch bag es ≡ None
   pub result : changed bag.held es ≡ edited_alone edit bag.held
@@ -52,6 +55,10 @@ entries_refusal bag es =
 abbrev pub move_entries : Held → Entry → List Entry
 move_entries h gain =
     if nat_lt (value_of h.pair.label) (value_of gain.pair.label) then removal_of h ∷ gain ∷ [] else gain ∷ removal_of h ∷ []
+
+-- the entry that gives a cell its first copy under the label
+abbrev pub first_copy : Label → CellId → Entry
+first_copy label cell = record { pair = pair_of cell label; before = 0; after = 1 }
 
 -- the store after planned entries: its bag has the counts after, and they are the last change that was done
 abbrev pub after_record : State → List Entry → State

@@ -14,4 +14,7 @@ pub enum Edit {
     DropLabel { label: Label },
     /// Moves all copies of `source` to `target`, cell by cell.
     Relabel { source: Label, target: Label },
+    /// Adds one copy under the label for each cell of the level that overlaps no cell of the label and shares an edge
+    /// with a cell of the level that overlaps one.
+    Grow { label: Label, level: u8 },
 }

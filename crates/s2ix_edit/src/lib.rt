@@ -10,6 +10,7 @@ mod edit;
 mod edits;
 mod errors;
 pub mod laws;
+mod region;
 mod steps;
 mod store;
 mod store_table;
