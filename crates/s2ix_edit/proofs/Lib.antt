@@ -1,8 +1,10 @@
 pub mod AddUnion
 pub mod Along
+mod Beside
 mod DropLabel
 pub mod Edited
 pub mod Followed
+mod Grow
 pub mod Led
 mod Normalise
 pub mod Places
