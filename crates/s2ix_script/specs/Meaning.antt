@@ -7,14 +7,14 @@ use Rattle.s2id_union.specs.NormalForm.{normal_form}
 use Rattle.s2ix_bag.specs.declared.label.Label.{Label}
 use Rattle.s2ix_bag.specs.declared.pair.Pair.{Pair}
 use Rattle.s2ix_edit.specs.declared.edit.Edit.{Edit}
-use Rattle.s2ix_edit.specs.declared.edit.Edit.TheVariants.{Add, AddUnion, Remove, DropLabel, Relabel, Normalise}
+use Rattle.s2ix_edit.specs.declared.edit.Edit.TheVariants.{Add, AddUnion, Remove, DropLabel, Relabel, Grow, Normalise}
 use Rattle.s2ix_script.specs.declared.instruction.Instruction.{Instruction}
 use Rattle.s2ix_script.specs.declared.instruction.Instruction.TheVariants as asks
 use Rattle.s2ix_script.specs.declared.line_fault.LineError.{LineError}
 use Rattle.s2ix_script.specs.declared.line_fault.LineError.TheVariants.{Fault, OutOfMemory}
 use Rattle.s2ix_script.specs.declared.line_fault.LineFault.{LineFault}
-use Rattle.s2ix_script.specs.declared.line_fault.LineFault.TheVariants.{LineTooLong, BadCommand, BadArguments, BadToken, BadLabel, BadCount}
-use Rattle.s2ix_script.specs.Fields.{fields_of, label_spelled, copies_spelled}
+use Rattle.s2ix_script.specs.declared.line_fault.LineFault.TheVariants.{LineTooLong, BadCommand, BadArguments, BadToken, BadLabel, BadCount, BadLevel}
+use Rattle.s2ix_script.specs.Fields.{fields_of, label_spelled, copies_spelled, level_spelled}
 
 -- the longest line that is read, in bytes
 abbrev pub LONGEST : ℕ
@@ -86,6 +86,17 @@ relabel_named fields = map_ok (λ named. Relabel named.0 named.1) (labels_named 
 abbrev pub normal_named : List (List ℕ) → Result Edit LineFault
 normal_named fields = map_ok Normalise (label_named fields)
 
+-- the edit of `grow`, where fields name its label and its level; the first that does not decides
+abbrev pub grow_with : Option Label → Option ℕ → Result Edit LineFault
+grow_with None level = Err BadLabel
+grow_with (Some label) None = Err BadLevel
+grow_with (Some label) (Some level) = Ok (Grow label level)
+
+-- the two fields LABEL LEVEL
+abbrev pub grow_named : List (List ℕ) → Result Edit LineFault
+grow_named (label ∷ level ∷ []) = grow_with (label_spelled label) (level_spelled level)
+grow_named fields = Err BadArguments
+
 -- what `common` and `only` ask for
 abbrev pub common_named : List (List ℕ) → Result Instruction LineFault
 common_named fields = map_ok (λ named. asks.Common named.0 named.1) (labels_named fields)
@@ -135,6 +146,7 @@ words =
     ∷ (codes "addunion", λ fields. map_ok asks.Edit (add_union_named fields))
     ∷ (codes "drop", λ fields. map_ok asks.Edit (drop_named fields))
     ∷ (codes "relabel", λ fields. map_ok asks.Edit (relabel_named fields))
+    ∷ (codes "grow", λ fields. map_ok asks.Edit (grow_named fields))
     ∷ (codes "normal", λ fields. map_ok asks.Edit (normal_named fields))
     ∷ (codes "undo", bare asks.Undo)
     ∷ (codes "redo", bare asks.Redo)

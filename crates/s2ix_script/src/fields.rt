@@ -1,11 +1,11 @@
 //! What the fields behind a word name.
 ghost use Rattle.std.specs.Prelude.{◌≡◌};
 ghost use Rattle.s2id_core.specs.Spelled.{cell_spelled};
-ghost use Rattle.s2ix_script.specs.Meaning.{bare as bare_of, cell_named as cell_of, cell_with, common_named as common_of, drop_named as drop_of, label_named as label_of, labels_named as labels_of, normal_named as normal_of, only_named as only_of, pair_named as pair_of, relabel_named as relabel_of};
+ghost use Rattle.s2ix_script.specs.Meaning.{bare as bare_of, cell_named as cell_of, cell_with, common_named as common_of, drop_named as drop_of, grow_named as grow_of, label_named as label_of, labels_named as labels_of, normal_named as normal_of, only_named as only_of, pair_named as pair_of, relabel_named as relabel_of};
 
 use crate::instruction::Instruction;
 use crate::line_fault::LineFault;
-use crate::numbers::{copies_spelled, label_spelled};
+use crate::numbers::{copies_spelled, label_spelled, level_spelled};
 use bstr::Fields;
 use s2id_core::CellId;
 use s2ix_bag::{Label, Pair};
@@ -89,6 +89,24 @@ pub(crate) fn relabel_named(fields: Fields<'_>) -> Result<Edit, LineFault>
 {
     let (source, target) = labels_named(fields)?;
     Ok(Edit::Relabel { source, target })
+}
+
+// The edit of `grow`, whose label and level the two fields LABEL LEVEL name.
+pub(crate) fn grow_named(mut fields: Fields<'_>) -> Result<Edit, LineFault>
+    ensures { result ≡ grow_of fields.entry }
+{
+    let Some(label) = fields.next() else {
+        return Err(LineFault::BadArguments);
+    };
+    let Some(level) = fields.next() else {
+        return Err(LineFault::BadArguments);
+    };
+    if fields.next().is_some() {
+        return Err(LineFault::BadArguments);
+    }
+    let label = label_spelled(label).ok_or(LineFault::BadLabel)?;
+    let level = level_spelled(level).ok_or(LineFault::BadLevel)?;
+    Ok(Edit::Grow { label, level })
 }
 
 // The edit of `normal`, whose label the one field LABEL names.

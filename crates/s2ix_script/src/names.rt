@@ -17,6 +17,7 @@ impl LineFault {
             LineFault::BadToken => "BadToken",
             LineFault::BadLabel => "BadLabel",
             LineFault::BadCount => "BadCount",
+            LineFault::BadLevel => "BadLevel",
         }
     }
 }
@@ -29,6 +30,7 @@ pub fn edit_error_name(error: EditError) -> &'static str
         EditError::JournalFull => "JournalFull",
         EditError::NoSuchLabel => "NoSuchLabel",
         EditError::NotHeld => "NotHeld",
+        EditError::TooFine => "TooFine",
         EditError::NoChange => "NoChange",
         EditError::TooManyCopies => "TooManyCopies",
         EditError::TooManyPairs => "TooManyPairs",

@@ -3,8 +3,8 @@ ghost use Rattle.s2ix_script.specs.Meaning.{Means, asked_by as asked_of, is_on_u
 
 use crate::cells::{add_union_named, union_named};
 use crate::fields::{
-    bare, cell_named, common_named, drop_named, label_named, normal_named, only_named, pair_named,
-    relabel_named,
+    bare, cell_named, common_named, drop_named, grow_named, label_named, normal_named, only_named,
+    pair_named, relabel_named,
 };
 use crate::instruction::Instruction;
 use crate::line_fault::{LineError, LineFault};
@@ -37,6 +37,7 @@ pub(crate) fn asked_by(
         "addunion" => Ok(Instruction::Edit(add_union_named(alloc, fields)?)),
         "drop" => Ok(Instruction::Edit(drop_named(fields)?)),
         "relabel" => Ok(Instruction::Edit(relabel_named(fields)?)),
+        "grow" => Ok(Instruction::Edit(grow_named(fields)?)),
         "normal" => Ok(Instruction::Edit(normal_named(fields)?)),
         "undo" => Ok(bare(Instruction::Undo, fields)?),
         "redo" => Ok(bare(Instruction::Redo, fields)?),
