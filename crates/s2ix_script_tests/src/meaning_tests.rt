@@ -18,12 +18,18 @@ enum Asked {
     // a target of one cell
     Meet(&'static [u8]),
     Labels(&'static [u8]),
+    // a label, and a level or another label
+    Grow(u32, u8),
+    Normal(u32),
+    Region(u32),
+    Common(u32, u32),
+    Only(u32, u32),
     // nothing, because of a fault
     Fault(LineFault),
 }
 
 // Lines without fields, comments, and lines whose fields stand between white space of Unicode.
-const REQUESTS: [(&[u8], Asked); 19] = [
+const REQUESTS: [(&[u8], Asked); 25] = [
     (b"", Asked::Nothing),
     (b" \t\r", Asked::Nothing),
     (b"# note", Asked::Nothing),
@@ -46,10 +52,17 @@ const REQUESTS: [(&[u8], Asked); 19] = [
     (b"labels 1 1d", Asked::Labels(b"1")),
     (b"at 1", Asked::At(b"1")),
     (b"ranges", Asked::Ranges),
+    // labels and levels
+    (b"grow 9 0", Asked::Grow(9, 0)),
+    (b"grow 9 030", Asked::Grow(9, 30)),
+    (b"normal 9", Asked::Normal(9)),
+    (b"region 9", Asked::Region(9)),
+    (b"common 9 3", Asked::Common(9, 3)),
+    (b"only 9 3", Asked::Only(9, 3)),
 ];
 
 // Lines with the first of their faults.
-const FAULTS: [(&[u8], LineFault); 56] = [
+const FAULTS: [(&[u8], LineFault); 67] = [
     // no word of a script, or not as many fields as fit the word
     (b"ADD 04 9", LineFault::BadCommand),
     (b"addd 04 9", LineFault::BadCommand),
@@ -73,6 +86,12 @@ const FAULTS: [(&[u8], LineFault); 56] = [
     (b"meet", LineFault::BadArguments),
     (b"labels", LineFault::BadArguments),
     (b"ranges 1", LineFault::BadArguments),
+    (b"grow 4", LineFault::BadArguments),
+    (b"grow 4 1 1", LineFault::BadArguments),
+    (b"normal", LineFault::BadArguments),
+    (b"region 1 2", LineFault::BadArguments),
+    (b"common 1", LineFault::BadArguments),
+    (b"only 1 2 3", LineFault::BadArguments),
     // the first unfit field of a list
     (b"meet 04 X", LineFault::BadToken),
     (b"meet X 04", LineFault::BadToken),
@@ -103,6 +122,11 @@ const FAULTS: [(&[u8], LineFault); 56] = [
     (b"at x", LineFault::BadToken),
     (b"meet 04 2", LineFault::BadToken),
     (b"labels x 04", LineFault::BadToken),
+    (b"grow 4 31", LineFault::BadLevel),
+    (b"grow 4 x", LineFault::BadLevel),
+    (b"grow x 31", LineFault::BadLabel),
+    (b"common 1 x", LineFault::BadLabel),
+    (b"only x 1", LineFault::BadLabel),
     // U+00A0 separates
     (b"undo\xc2\xa0x", LineFault::BadArguments),
     // a byte before U+00A0 is a field
@@ -130,6 +154,27 @@ fn is_cell(cells: &[CellId], token: &[u8]) -> Result<bool, Fail> {
     Ok(cells == [CellId::from_token(token)?].as_slice())
 }
 
+// Whether two labels have these numbers.
+fn are_labels(first: Label, second: Label, numbers: (u32, u32)) -> bool {
+    (first.get(), second.get()) == numbers
+}
+
+// Whether an instruction is on labels as it is asked for.
+fn is_on_labels(instruction: &Instruction, asked: Asked) -> bool {
+    match (instruction, asked) {
+        (Instruction::Edit(Edit::Grow { label, level }), Asked::Grow(number, wanted)) => {
+            label.get() == number && *level == wanted
+        }
+        (Instruction::Edit(Edit::Normalise { label }), Asked::Normal(number))
+        | (Instruction::Region(label), Asked::Region(number)) => label.get() == number,
+        (Instruction::Common(first, second), Asked::Common(one, other))
+        | (Instruction::Only(first, second), Asked::Only(one, other)) => {
+            are_labels(*first, *second, (one, other))
+        }
+        _ => false,
+    }
+}
+
 // Whether an instruction is what is asked for.
 fn is_asked(instruction: &Instruction, asked: Asked) -> Result<bool, Fail> {
     match (instruction, asked) {
@@ -140,7 +185,7 @@ fn is_asked(instruction: &Instruction, asked: Asked) -> Result<bool, Fail> {
         (Instruction::At(cell), Asked::At(token)) => is_cell(&[*cell], token),
         (Instruction::Meet(target), Asked::Meet(token))
         | (Instruction::Labels(target), Asked::Labels(token)) => is_cell(target.cells(), token),
-        _ => Ok(false),
+        _ => Ok(is_on_labels(instruction, asked)),
     }
 }
 
