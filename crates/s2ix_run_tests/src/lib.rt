@@ -10,6 +10,8 @@ mod query_tests;
 #[cfg(test)]
 mod reading_tests;
 #[cfg(test)]
+mod region_tests;
+#[cfg(test)]
 mod runs;
 #[cfg(test)]
 mod script_tests;
