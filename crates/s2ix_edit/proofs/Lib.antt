@@ -3,6 +3,7 @@ pub mod Along
 mod DropLabel
 pub mod Edited
 pub mod Followed
+mod LabelCells
 pub mod Led
 mod Normalise
 pub mod Places
