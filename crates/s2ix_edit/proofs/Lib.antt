@@ -5,6 +5,7 @@ mod DropLabel
 pub mod Edited
 pub mod Followed
 mod Grow
+mod LabelCells
 pub mod Led
 mod Normalise
 pub mod Places

@@ -26,9 +26,9 @@ pub(crate) const PLAIN: Script<'static> = Script {
 
 // How many lines of an output say that a line is refused.
 fn refusals_in(output: &[u8]) -> u64 {
-    let mut refusals = u64::from(output.starts_with(b"no "));
-    for window in output.windows(4) {
-        if window == b"\nno ".as_slice() {
+    let mut refusals = 0u64;
+    for k in 0..output.len() {
+        if (k == 0 || output[k - 1] == b'\n') && output[k..].starts_with(b"no ") {
             refusals = refusals.saturating_add(1);
         }
     }

@@ -10,11 +10,14 @@ use s2ix_table::{CopiedTable, RangeRow, RangeTable};
 use std::alloc::Global;
 use std::test::Fail;
 
+// How many labels the random pairs have.
+const LABELS: u32 = 4;
+
 // One to three copies of a random pair on one of the first faces.
 fn random_held(random: &mut Random, faces: u64) -> Result<Held, Fail> {
     let pair = Pair {
         cell: random.cell(faces, 7).ok_or("no cell")?,
-        label: label_of((random.below(4) % 4) as u32)?,
+        label: label_of((random.below(u64::from(LABELS)) % 4) as u32)?,
     };
     let count = 1 + (random.below(3) % 3) as u32;
     Ok(Held { pair, count })
@@ -75,7 +78,7 @@ fn check_cells(alloc: Global, sample: Sample, cells: &[CellId]) -> Result<(), Fa
 }
 
 fn check_met(alloc: Global, sample: Sample, target: &CellUnion, met: &[Held]) -> Result<(), Fail> {
-    let labels = plain::labels(alloc, met)?;
+    let labels = plain::labels(alloc, met, LABELS)?;
     check_target(sample.number, alloc, sample.table, target, met, &labels)
 }
 

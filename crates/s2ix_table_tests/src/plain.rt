@@ -1,4 +1,5 @@
 // What a plain filter of all pairs answers: the values that tables are compared with.
+use crate::samples::label_of;
 use s2id_core::{CellId, LEAF_END};
 use s2ix_bag::{Bag, Held, Label};
 use s2ix_table::RangeRow;
@@ -38,14 +39,24 @@ pub(crate) fn meeting(alloc: Global, bag: &Bag, cells: &[CellId]) -> Result<Vec<
     Ok(met)
 }
 
-// The labels of some pairs, once each and rising.
-pub(crate) fn labels(alloc: Global, pairs: &[Held]) -> Result<Vec<Label>, Fail> {
-    let mut labels = Vec::new(alloc);
+// Whether some pair has the label with a number.
+fn has_label(pairs: &[Held], number: u32) -> bool {
     for held in pairs {
-        labels.push(held.pair.label)?;
+        if held.pair.label.get() == number {
+            return true;
+        }
     }
-    labels.sort_unstable();
-    labels.dedup();
+    false
+}
+
+// The labels below a number that some pairs have, once each and rising.
+pub(crate) fn labels(alloc: Global, pairs: &[Held], limit: u32) -> Result<Vec<Label>, Fail> {
+    let mut labels = Vec::new(alloc);
+    for number in 0..limit {
+        if has_label(pairs, number) {
+            labels.push(label_of(number)?)?;
+        }
+    }
     Ok(labels)
 }
 
@@ -55,17 +66,21 @@ pub(crate) fn chain(alloc: Global, bag: &Bag, leaf: u64) -> Result<Vec<Held>, Fa
     meeting(alloc, bag, &[leaf])
 }
 
-// Where the cell of a pair begins or ends, and the end of all leaves, rising.
-fn bounds(alloc: Global, bag: &Bag) -> Result<Vec<u64>, Fail> {
-    let mut bounds = Vec::new(alloc);
+// The first leaf number above another one at which the cell of a pair begins or ends, or the end of all leaves.
+fn next_bound(bag: &Bag, at: u64) -> u64 {
+    let mut bound = LEAF_END;
     for k in 0..bag.len() {
         let cell = bag.held(k).pair.cell;
-        bounds.push(cell.range_min().raw())?;
-        bounds.push(cell.range_max().raw().wrapping_add(2))?;
+        for limit in [
+            cell.range_min().raw(),
+            cell.range_max().raw().wrapping_add(2),
+        ] {
+            if at < limit && limit < bound {
+                bound = limit;
+            }
+        }
     }
-    bounds.push(LEAF_END)?;
-    bounds.sort_unstable();
-    Ok(bounds)
+    bound
 }
 
 // The maximal spans of leaves with the same pairs over them: the ranges between bounds, joined where the pairs are the same.
@@ -73,8 +88,9 @@ pub(crate) fn ranges(alloc: Global, bag: &Bag) -> Result<Vec<RangeRow>, Fail> {
     let mut rows = Vec::new(alloc);
     let mut before = Vec::new(alloc);
     let mut start = 1;
-    for &limit in bounds(alloc, bag)?.as_slice() {
-        if start < limit {
+    for _ in 0..=bag.len().saturating_mul(2) {
+        if start < LEAF_END {
+            let limit = next_bound(bag, start);
             let contents = chain(alloc, bag, start)?;
             let same = contents.as_slice() == before.as_slice();
             match rows.last_mut() {

@@ -1,15 +1,15 @@
 // What the adapters ask of std's readers and writers: no contract speaks of it, since std's traits have no relation for a call.
-use crate::checks::{check_flush, check_pieces, check_put};
-use crate::{FromRead, ToWrite, WriteFault};
+use crate::calls::{Call, check_calls, check_pieces};
+use s2ix_io::{FromRead, ToWrite, WriteFault};
 use std::io;
 use std::io::{ErrorKind, Read, Write};
-use std::process::Abort;
+use std::test::Fail;
 
 // Faults of std's that a caller might want to try again, and one that it might not.
-const KINDS: [ErrorKind; 3] = [
-    ErrorKind::Interrupted,
-    ErrorKind::WouldBlock,
-    ErrorKind::BrokenPipe,
+const KINDS: [(&str, ErrorKind); 3] = [
+    ("interrupted", ErrorKind::Interrupted),
+    ("would block", ErrorKind::WouldBlock),
+    ("broken pipe", ErrorKind::BrokenPipe),
 ];
 
 // How often something was called, and which of its calls fails, counted from 1, and with which kind of error.
@@ -89,51 +89,83 @@ fn writer_of(put_len: usize, fault_at: u64, kind: ErrorKind) -> CountingWriter {
 const PIECES: [Option<&[u8]>; 4] = [Some(b"hel"), None, Some(b"lo"), Some(b"")];
 
 // Reads from a reader whose second call fails with an error of this kind: each piece is one call.
-fn check_reads(rt: &impl Abort, kind: ErrorKind) {
+fn check_reads(name: &'static str, kind: ErrorKind) -> Result<(), Fail> {
     let mut source = FromRead::new(CountingReader {
         left: b"hello",
         reads: Calls::new(2, kind),
     });
-    check_pieces(rt, &mut source, &PIECES, 1);
-    assert_eq!(rt; source.into_inner().reads.count, 4);
-}
-
-#[test]
-fn each_piece_is_one_read(rt: HostRuntime) {
-    for kind in KINDS {
-        check_reads(&rt, kind);
-    }
-}
-
-// Puts to a writer whose second call of each kind fails with an error of this kind, and flushes: each is one call.
-fn check_writes(rt: &impl Abort, kind: ErrorKind) {
-    let mut sink = ToWrite::new(writer_of(9, 2, kind));
-    check_put(rt, &mut sink, b"he", Ok(2), 0);
-    check_put(rt, &mut sink, b"ha", Err(WriteFault), 1);
-    check_put(rt, &mut sink, b"llo", Ok(3), 1);
-    check_flush(rt, &mut sink, Ok(()), 1);
-    check_flush(rt, &mut sink, Err(WriteFault), 2);
-    check_flush(rt, &mut sink, Ok(()), 2);
-    check_writer(rt, sink.into_inner(), (3, 3), 5);
-}
-
-// A writer was called so often, to write and to flush, and took so many bytes.
-fn check_writer(rt: &impl Abort, writer: CountingWriter, calls: (u64, u64), taken: usize) {
-    assert_eq!(rt; (writer.writes.count, writer.flushes.count), calls);
-    assert_eq!(rt; writer.taken, taken);
-}
-
-#[test]
-fn each_put_is_one_write_and_each_flush_one_flush(rt: HostRuntime) {
-    for kind in KINDS {
-        check_writes(&rt, kind);
+    check_pieces(name, &mut source, &PIECES, 1)?;
+    if source.into_inner().reads.count == 4 {
+        Ok(())
+    } else {
+        Err(Fail::new(name))
     }
 }
 
 #[test]
-fn a_put_of_which_none_is_taken_is_a_fault(rt: HostRuntime) {
-    let mut sink = ToWrite::new(writer_of(0, 0, ErrorKind::WriteZero));
-    check_put(&rt, &mut sink, b"hello", Err(WriteFault), 1);
-    check_put(&rt, &mut sink, b"hello", Err(WriteFault), 2);
-    check_writer(&rt, sink.into_inner(), (2, 0), 0);
+fn each_piece_is_one_read() -> Result<(), Fail> {
+    for (name, kind) in KINDS {
+        check_reads(name, kind)?;
+    }
+    Ok(())
+}
+
+// Calls of a sink over a writer, how often the writer was called to write and to flush, and how many bytes it took.
+struct Session {
+    calls: &'static [Call],
+    writes: u64,
+    flushes: u64,
+    taken: usize,
+}
+
+// The second call of each kind fails, and each is one call of the writer's.
+const FAULTY: Session = Session {
+    calls: &[
+        Call::Put(b"he", Ok(2), 0),
+        Call::Put(b"ha", Err(WriteFault), 1),
+        Call::Put(b"llo", Ok(3), 1),
+        Call::Flush(Ok(()), 1),
+        Call::Flush(Err(WriteFault), 2),
+        Call::Flush(Ok(()), 2),
+    ],
+    writes: 3,
+    flushes: 3,
+    taken: 5,
+};
+
+// None of a put is taken, which is a fault.
+const NONE_TAKEN: Session = Session {
+    calls: &[
+        Call::Put(b"hello", Err(WriteFault), 1),
+        Call::Put(b"hello", Err(WriteFault), 2),
+    ],
+    writes: 2,
+    flushes: 0,
+    taken: 0,
+};
+
+fn check_writes(name: &'static str, writer: CountingWriter, session: &Session) -> Result<(), Fail> {
+    let mut sink = ToWrite::new(writer);
+    check_calls(name, &mut sink, session.calls)?;
+    let writer = sink.into_inner();
+    if writer.writes.count == session.writes
+        && writer.flushes.count == session.flushes
+        && writer.taken == session.taken
+    {
+        Ok(())
+    } else {
+        Err(Fail::new(name))
+    }
+}
+
+#[test]
+fn each_put_is_one_write_and_each_flush_one_flush() -> Result<(), Fail> {
+    for (name, kind) in KINDS {
+        check_writes(name, writer_of(9, 2, kind), &FAULTY)?;
+    }
+    check_writes(
+        "takes none",
+        writer_of(0, 0, ErrorKind::WriteZero),
+        &NONE_TAKEN,
+    )
 }
