@@ -6,7 +6,7 @@ ghost use Rattle.s2ix_cli.specs.Step.{at_step, instruction_step, step_of};
 ghost use Rattle.s2ix_cli.specs.Wants.{InstructionWants, LineWants};
 
 use crate::outcome::LineOutcome;
-use crate::regions::{common, only};
+use crate::regions::{common, only, print_region};
 use crate::steps::tell_step;
 use s2id_core::CellId;
 use s2id_cube::to_face_ij;
@@ -69,12 +69,12 @@ fn carry_instruction<K: Sink>(
         Instruction::At(cell) => return carry_at(store, sink, cell),
         Instruction::Meet(target) => write_list(&store.table().meeting(alloc, &target)?, sink)?,
         Instruction::Labels(target) => write_list(&store.table().labels(alloc, &target)?, sink)?,
-        Instruction::Region(label) => write_list(store.region(label)?.cells(), sink)?,
+        Instruction::Region(label) => return print_region(store.region(label), sink),
         Instruction::Common(first, second) => {
-            write_list(common(alloc, store, first, second)?.cells(), sink)?
+            return print_region(common(alloc, store, first, second), sink);
         }
         Instruction::Only(first, second) => {
-            write_list(only(alloc, store, first, second)?.cells(), sink)?
+            return print_region(only(alloc, store, first, second), sink);
         }
         Instruction::Ranges => write_ranges(store.table(), sink)?,
         Instruction::Path(cell) => write_path(cell, sink)?,
