@@ -10,6 +10,6 @@ mod Loop
 mod Nesting
 mod Perimeter
 mod Round
-mod Gathering
-mod Sorting
+pub mod Gathering
+pub mod Sorting
 mod Distinct

@@ -11,8 +11,8 @@ use Rattle.s2id_core.proofs.Levels.{same_place}
 use Rattle.s2id_cube.specs.declared.face_ij.FaceIj.{FaceIj}
 use Rattle.s2id_cube.specs.Square.{square_of}
 use Rattle.s2id_cube.specs.Point.{Point}
-use Rattle.s2id_cube.specs.Edge.{side_start, side_end, AreOneSide, SharesSide}
-use Rattle.s2id_cube.specs.Neighbor.{is_point, are_one_side, is_same_side, is_side_of, number_at, passing_below, is_over, neighbor_number}
+use Rattle.s2id_cube.specs.Edge.{side_start, side_end, AreOneSide, ShareEdge, SharesSide}
+use Rattle.s2id_cube.specs.Neighbor.{is_point, are_one_side, have_one_side, is_same_side, is_side_of, share_edge, number_at, passing_below, is_over, neighbor_number}
 use Rattle.s2id_cube.proofs.Cases.{four}
 use Rattle.s2id_core.proofs.Bits.{cell_at_place, level_at_place, place_at_place}
 use Rattle.s2id_cube.proofs.Sides.{point_is}
@@ -54,6 +54,55 @@ is_side_of-decides m s t =
 
     back : IsSideOf m s t → IsOneOf m s t
     back h = four (λ o. IsSameSide m s o t → IsOneOf m s t) (inl, λ x. inr (inl x), λ x. inr (inr (inl x)), λ x. inr (inr (inr x))) h.0 h.1 h.2
+
+-- two squares have a side in common
+abbrev HaveOneSide : FaceIj → FaceIj → Type 0
+HaveOneSide s t = (m : ℕ) × (m < 4) × IsSideOf m s t
+
+have_one_side-decides : (s t : FaceIj) → Decides (have_one_side s t) (HaveOneSide s t)
+have_one_side-decides s t =
+    Decides-like (have_one_side s t) there back
+    (Decides-or _ _ (is_side_of-decides 0 s t) (Decides-or _ _ (is_side_of-decides 1 s t) (Decides-or _ _ (is_side_of-decides 2 s t) (is_side_of-decides 3 s t))))
+  where
+    OneOfFour : Type 0
+    OneOfFour = IsSideOf 0 s t ⊎ (IsSideOf 1 s t ⊎ (IsSideOf 2 s t ⊎ IsSideOf 3 s t))
+
+    there : OneOfFour → HaveOneSide s t
+    there = ⊎_elim (λ h. (0, omega arith, h)) (⊎_elim (λ h. (1, omega arith, h)) (⊎_elim (λ h. (2, omega arith, h)) (λ h. (3, omega arith, h))))
+
+    back : HaveOneSide s t → OneOfFour
+    back h = four (λ m. IsSideOf m s t → OneOfFour) (inl, λ x. inr (inl x), λ x. inr (inr (inl x)), λ x. inr (inr (inr x))) h.0 h.1 h.2
+
+-- the test says whether two cells share an edge
+pub share_edge-decides : (p q : Path) → IsPath p → IsPath q → Decides (share_edge p q) (ShareEdge p q)
+unfolding share_edge
+share_edge-decides p q hp hq =
+    Decides-like (share_edge p q) there back
+    (Decides-and _ _ (Decides-eqb (length p.digits) (length q.digits)) (Decides-and _ _ (Decides-not _ (Decides-eqb (place_of p) (place_of q))) (have_one_side-decides (square_of p) (square_of q))))
+  where
+    AreApart : Type 0
+    AreApart = (length p.digits ≡ length q.digits) × ((¬ (place_of p ≡ place_of q)) × HaveOneSide (square_of p) (square_of q))
+
+    there : AreApart → ShareEdge p q
+    there h =
+        let side = h.1.1 in
+        record {
+          side = side.0;
+          is_side = side.1;
+          shares = record {
+            apart = λ e. h.1.0 (ap place_of e);
+            one_level = h.0;
+            other = side.2.0;
+            is_side = side.2.1;
+            one_side = side.2.2;
+          };
+        }
+
+    back : ShareEdge p q → AreApart
+    back h = (
+      h.shares.one_level,
+      ((λ e. h.shares.apart (same_place p q hp hq h.shares.one_level e)), (h.side, h.is_side, (h.shares.other, h.shares.is_side, h.shares.one_side))),
+    )
 
 -- ---- the search
 

@@ -23,6 +23,15 @@ is_same_side m s o t = are_one_side (side_start m s) (side_end m s) (side_start 
 abbrev pub is_side_of : ℕ → FaceIj → FaceIj → Bool
 is_side_of m s t = is_same_side m s 0 t || (is_same_side m s 1 t || (is_same_side m s 2 t || is_same_side m s 3 t))
 
+-- whether some side of the first square is a side of the second
+abbrev pub have_one_side : FaceIj → FaceIj → Bool
+have_one_side s t = is_side_of 0 s t || (is_side_of 1 s t || (is_side_of 2 s t || is_side_of 3 s t))
+
+-- whether two cells share an edge: they are of one level, at two places, and some side of the first is one of the second
+unfoldable pub share_edge : Path → Path → Bool
+share_edge p q =
+    length p.digits == length q.digits && (not (place_of p == place_of q) && have_one_side (square_of p) (square_of q))
+
 -- the number of the cell of level k at a place along the whole curve
 abbrev pub number_at : ℕ → ℕ → ℕ
 number_at k place = (2 * place + 1) * 4 ^ (30 - k)

@@ -1,44 +1,42 @@
 // Borders of cells.
-use crate::samples::{cell_of, cells_of};
+use crate::samples::{cell_of, check, check_cells};
+use s2id_core::CellId;
 use s2id_cube::{BorderError, border};
-use std::test::Fail;
+use std::alloc::Global;
+use std::process::Abort;
 
-// Cells and levels, with the cells of the border in rising order.
-const BORDERS: [(&[u8], u8, &[&[u8]]); 2] = [
-    (
-        b"04",
-        2,
-        &[b"09", b"0f", b"1b", b"1d", b"93", b"95", b"b9", b"bf"],
-    ),
-    (b"1", 0, &[b"3", b"5", b"9", b"b"]),
-];
+// The border of the cell that a token names.
+fn border_of(rt: &impl Abort, alloc: Global, token: &str, level: u8) -> Vec<CellId> {
+    border(alloc, cell_of(rt, token), level).expect(rt, token)
+}
 
 #[test]
-fn border_of_a_cell_in_rising_order(rt: HostRuntime) -> Result<(), Fail> {
-    for (token, level, tokens) in BORDERS {
-        let cells = border(rt.alloc(), cell_of(token)?, level)?;
-        let wanted = cells_of(rt.alloc(), tokens)?;
-        assert_eq!(rt; cells.as_slice(), wanted.as_slice());
+fn border_of_a_cell_in_rising_order(rt: HostRuntime) {
+    for (token, level, cells) in [("04", 2, "09 0f 1b 1d 93 95 b9 bf"), ("1", 0, "3 5 9 b")] {
+        check_cells(&rt, &border_of(&rt, rt.alloc(), token, level), cells);
     }
-    Ok(())
 }
 
 #[test]
-fn border_at_eight_levels_finer(rt: HostRuntime) -> Result<(), Fail> {
-    assert_eq!(rt; border(rt.alloc(), cell_of(b"1")?, 8)?.len(), 1024);
-    Ok(())
+fn border_at_eight_levels_finer(rt: HostRuntime) {
+    let cells = border_of(&rt, rt.alloc(), "1", 8);
+    assert!(rt; cells.len() == 1024);
+}
+
+// Compares why a cell has no border of a level.
+fn check_refusal(rt: &impl Abort, alloc: Global, token: &str, level: u8, error: BorderError) {
+    let cells = border(alloc, cell_of(rt, token), level);
+    check(rt, cells.err() == Some(error), token);
 }
 
 #[test]
-fn no_border_of_other_levels(rt: HostRuntime) -> Result<(), Fail> {
+fn no_border_of_other_levels(rt: HostRuntime) {
     for (token, level, error) in [
-        (b"1d".as_slice(), 1, BorderError::Coarser),
-        (b"1", 9, BorderError::TooFine),
-        (b"0000000000000001", 31, BorderError::TooFine),
-        (b"1d", 31, BorderError::TooFine),
+        ("1d", 1, BorderError::Coarser),
+        ("1", 9, BorderError::TooFine),
+        ("0000000000000001", 31, BorderError::TooFine),
+        ("1d", 31, BorderError::TooFine),
     ] {
-        let cells = border(rt.alloc(), cell_of(token)?, level);
-        assert_eq!(rt; cells.err(), Some(error));
+        check_refusal(&rt, rt.alloc(), token, level, error);
     }
-    Ok(())
 }

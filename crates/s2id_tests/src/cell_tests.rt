@@ -1,133 +1,141 @@
 // Cells: their numbers, their leaves, and their relatives.
-use crate::samples::{cell_of, cell_or_none};
+use crate::samples::{cell_of, cell_or_none, check};
 use s2id_core::{CellId, LEAF_END};
-use std::test::Fail;
+use std::process::Abort;
+
+// Compares the number of the cell that a number gives, where it gives one.
+fn check_raw(rt: &impl Abort, raw: u64, is_cell: bool) {
+    let holds = match CellId::from_raw(raw) {
+        Some(cell) => is_cell && cell.raw() == raw,
+        None => !is_cell,
+    };
+    assert!(rt; holds, "wrong at {raw:x}");
+}
 
 #[test]
 fn from_raw_takes_cells_alone(rt: HostRuntime) {
-    for raw in [0, 0x2000000000000000, LEAF_END] {
-        assert!(rt; CellId::from_raw(raw).is_none());
-    }
-    for raw in [0x1000000000000000, 1, 0xbfffffffffffffff] {
-        assert_eq!(rt; CellId::from_raw(raw).map(CellId::raw), Some(raw));
-    }
-}
-
-#[test]
-fn face_level_and_lowest_bit(rt: HostRuntime) -> Result<(), Fail> {
-    for (token, face, level, lsb) in [
-        (b"1d".as_slice(), 0, 2, 0x0100000000000000),
-        (b"bfffffffffffffff", 5, 30, 1),
+    for (raw, is_cell) in [
+        (0, false),
+        (0x2000000000000000, false),
+        (LEAF_END, false),
+        (0x1000000000000000, true),
+        (1, true),
+        (0xbfffffffffffffff, true),
     ] {
-        let cell = cell_of(token)?;
-        assert_eq!(rt; (cell.face(), cell.level(), cell.lsb()), (face, level, lsb));
-        assert_eq!(rt; cell.is_leaf(), level == 30);
+        check_raw(&rt, raw, is_cell);
     }
-    Ok(())
 }
 
 #[test]
-fn leaves_of_cells(rt: HostRuntime) -> Result<(), Fail> {
+fn face_level_and_lowest_bit(rt: HostRuntime) {
+    for (token, face, level, lsb) in [
+        ("1d", 0, 2, 0x0100000000000000),
+        ("bfffffffffffffff", 5, 30, 1),
+    ] {
+        let cell = cell_of(&rt, token);
+        check(&rt, cell.face() == face && cell.level() == level, token);
+        check(&rt, cell.lsb() == lsb, token);
+        check(&rt, cell.is_leaf() == (level == 30), token);
+    }
+}
+
+#[test]
+fn leaves_of_cells(rt: HostRuntime) {
     for (token, first, last, end) in [
         (
-            b"04".as_slice(),
-            b"0000000000000001".as_slice(),
-            b"07ffffffffffffff".as_slice(),
+            "04",
+            "0000000000000001",
+            "07ffffffffffffff",
             0x0800000000000001,
         ),
         (
-            b"bfffffffffffffff",
-            b"bfffffffffffffff",
-            b"bfffffffffffffff",
+            "bfffffffffffffff",
+            "bfffffffffffffff",
+            "bfffffffffffffff",
             LEAF_END,
         ),
     ] {
-        let cell = cell_of(token)?;
-        let first = cell_of(first)?;
-        assert_eq!(rt;
-            (cell.range_min(), cell.range_max()),
-            (first, cell_of(last)?)
-        );
-        assert_eq!(rt; (cell.span_start(), cell.span_end()), (first.raw(), end));
+        let cell = cell_of(&rt, token);
+        let first = cell_of(&rt, first);
+        check(&rt, cell.range_min() == first, token);
+        check(&rt, cell.range_max() == cell_of(&rt, last), token);
+        check(&rt, cell.span_start() == first.raw(), token);
+        check(&rt, cell.span_end() == end, token);
     }
-    Ok(())
 }
 
 #[test]
-fn places_along_the_curve(rt: HostRuntime) -> Result<(), Fail> {
-    let cell = cell_of(b"1d")?;
-    assert_eq!(rt; cell.level(), 2);
-    assert_eq!(rt; (cell.place_at(2), cell.place_at(1)), (14, 3));
-    assert_eq!(rt; CellId::at_place(2, 14), cell);
-    assert_eq!(rt; CellId::at_place(0, 5), cell_of(b"b")?);
-    Ok(())
+fn places_along_the_curve(rt: HostRuntime) {
+    let cell = cell_of(&rt, "1d");
+    assert!(rt; cell.level() == 2);
+    check(&rt, cell.place_at(2) == 14, "level 2");
+    check(&rt, cell.place_at(1) == 3, "level 1");
+    check(&rt, CellId::at_place(2, 14) == cell, "1d");
+    check(&rt, CellId::at_place(0, 5) == cell_of(&rt, "b"), "b");
 }
 
 #[test]
-fn faces_contain_their_cells(rt: HostRuntime) -> Result<(), Fail> {
+fn faces_contain_their_cells(rt: HostRuntime) {
     for (token, other, contains, intersects) in [
-        (b"1".as_slice(), b"04".as_slice(), true, true),
-        (b"1", b"1", true, true),
-        (b"04", b"1", false, true),
-        (b"04", b"1d", false, false),
+        ("1", "04", true, true),
+        ("1", "1", true, true),
+        ("04", "1", false, true),
+        ("04", "1d", false, false),
     ] {
-        let (cell, other) = (cell_of(token)?, cell_of(other)?);
-        assert_eq!(rt;
-            (cell.contains(other), cell.intersects(other)),
-            (contains, intersects)
+        let cell = cell_of(&rt, token);
+        let other = cell_of(&rt, other);
+        check(&rt, cell.contains(other) == contains, token);
+        check(&rt, cell.intersects(other) == intersects, token);
+    }
+}
+
+#[test]
+fn parents(rt: HostRuntime) {
+    let cell = cell_of(&rt, "1d");
+    for (level, parent) in [(1, "1c"), (2, "1d"), (3, "")] {
+        check(&rt, cell.parent(level) == cell_or_none(&rt, parent), parent);
+    }
+}
+
+#[test]
+fn children(rt: HostRuntime) {
+    for (token, position, child) in [("1", 3, "1c"), ("1", 4, ""), ("0000000000000001", 0, "")] {
+        let cell = cell_of(&rt, token);
+        check(&rt, cell.child(position) == cell_or_none(&rt, child), token);
+    }
+}
+
+#[test]
+fn child_positions(rt: HostRuntime) {
+    let cell = cell_of(&rt, "1d");
+    for (level, position) in [(0, None), (1, Some(3)), (2, Some(2)), (3, None)] {
+        assert!(rt;
+            cell.child_position(level) == position,
+            "wrong at level {level}"
         );
     }
-    Ok(())
 }
 
 #[test]
-fn parents(rt: HostRuntime) -> Result<(), Fail> {
-    for (level, parent) in [(1, b"1c".as_slice()), (2, b"1d"), (3, b"")] {
-        assert_eq!(rt; cell_of(b"1d")?.parent(level), cell_or_none(parent)?);
-    }
-    Ok(())
-}
-
-#[test]
-fn children(rt: HostRuntime) -> Result<(), Fail> {
-    for (token, position, child) in [
-        (b"1".as_slice(), 3, b"1c".as_slice()),
-        (b"1", 4, b""),
-        (b"0000000000000001", 0, b""),
-    ] {
-        assert_eq!(rt; cell_of(token)?.child(position), cell_or_none(child)?);
-    }
-    Ok(())
-}
-
-#[test]
-fn child_positions(rt: HostRuntime) -> Result<(), Fail> {
-    for (level, position) in [(0, None), (1, Some(3)), (2, Some(2)), (3, None)] {
-        assert_eq!(rt; cell_of(b"1d")?.child_position(level), position);
-    }
-    Ok(())
-}
-
-#[test]
-fn next_cells(rt: HostRuntime) -> Result<(), Fail> {
+fn next_cells(rt: HostRuntime) {
     for (token, next) in [
-        (b"1".as_slice(), b"3".as_slice()),
-        (b"b", b"1"),
-        (b"bfffffffffffffff", b"0000000000000001"),
+        ("1", "3"),
+        ("b", "1"),
+        ("bfffffffffffffff", "0000000000000001"),
     ] {
-        assert_eq!(rt; cell_of(token)?.next_wrap(), cell_of(next)?);
+        let cell = cell_of(&rt, token);
+        check(&rt, cell.next_wrap() == cell_of(&rt, next), token);
     }
-    Ok(())
 }
 
 #[test]
-fn common_levels(rt: HostRuntime) -> Result<(), Fail> {
+fn common_levels(rt: HostRuntime) {
     for (token, other, level) in [
-        (b"04".as_slice(), b"1d".as_slice(), Some(0)),
-        (b"1d", b"1c", Some(1)),
-        (b"1", b"3", None),
+        ("04", "1d", Some(0)),
+        ("1d", "1c", Some(1)),
+        ("1", "3", None),
     ] {
-        assert_eq!(rt; cell_of(token)?.common_level(cell_of(other)?), level);
+        let cell = cell_of(&rt, token);
+        check(&rt, cell.common_level(cell_of(&rt, other)) == level, token);
     }
-    Ok(())
 }

@@ -5,10 +5,9 @@ use s2id_core::CellId;
 use s2id_cube::{edge_neighbors, from_face_ij, to_face_ij};
 use std::alloc::Global;
 use std::process::Abort;
-use std::test::Fail;
 
 /// A point of the cube, in half squares from its middle.
-#[derive(Clone, Copy, PartialEq, Eq, Debug)]
+#[derive(Clone, Copy, PartialEq, Eq)]
 struct Corner {
     x: i32,
     y: i32,
@@ -16,14 +15,14 @@ struct Corner {
 }
 
 /// The two ends of a side.
-#[derive(Clone, Copy, Debug)]
+#[derive(Clone, Copy)]
 struct Side {
     start: Corner,
     end: Corner,
 }
 
 /// A cell and its sides: down, right, up, left.
-#[derive(Clone, Copy, Debug)]
+#[derive(Clone, Copy)]
 struct Sided {
     cell: CellId,
     sides: [Side; 4],
@@ -50,14 +49,17 @@ fn side_between(start: Corner, end: Corner) -> Side {
 }
 
 /// The cell in column `i` and row `j` of a face's grid. Its square is the one that it was made from.
-fn cell_in(rt: &impl Abort, face: u8, i: u8, j: u8, level: u8) -> Result<CellId, Fail> {
-    let cell = from_face_ij(face, i as u32, j as u32, level).ok_or("no cell")?;
+fn cell_in(rt: &impl Abort, face: u8, i: u8, j: u8, level: u8) -> CellId {
+    let cell = from_face_ij(face, i as u32, j as u32, level).expect(rt, "a cell");
     let square = to_face_ij(cell);
-    assert_eq!(rt;
-        (square.face, square.i, square.j, square.level),
-        (face, i as u32, j as u32, level)
+    assert!(rt;
+        square.face == face
+            && square.i == i as u32
+            && square.j == j as u32
+            && square.level == level,
+        "another square of {cell}"
     );
-    Ok(cell)
+    cell
 }
 
 /// The sides of the square in column `i` and row `j` of a face's grid of `n` squares a side.
@@ -78,31 +80,24 @@ fn sides_of(face: u8, i: u8, j: u8, n: u8) -> [Side; 4]
 }
 
 /// Appends each cell of a face's grid of `n` squares a side.
-fn push_cells(
-    rt: &impl Abort,
-    all: &mut Vec<Sided>,
-    face: u8,
-    level: u8,
-    n: u8,
-) -> Result<(), Fail> {
+fn push_cells(rt: &impl Abort, all: &mut Vec<Sided>, face: u8, level: u8, n: u8) {
     for i in 0..n {
         for j in 0..n {
-            let cell = cell_in(rt, face, i, j, level)?;
+            let cell = cell_in(rt, face, i, j, level);
             let sides = sides_of(face, i, j, n);
-            all.push(Sided { cell, sides })?;
+            all.push(Sided { cell, sides }).expect(rt, "memory");
         }
     }
-    Ok(())
 }
 
 /// Each cell of a level of at most 7.
-fn cells_of_level(rt: &impl Abort, alloc: Global, level: u8) -> Result<Vec<Sided>, Fail> {
+fn cells_of_level(rt: &impl Abort, alloc: Global, level: u8) -> Vec<Sided> {
     assert!(rt; level < 8);
     let mut all = Vec::new(alloc);
     for face in 0..6 {
-        push_cells(rt, &mut all, face, level, 1 << level)?;
+        push_cells(rt, &mut all, face, level, 1 << level);
     }
-    Ok(all)
+    all
 }
 
 /// Whether one of the cell's sides has these ends.
@@ -135,17 +130,21 @@ fn check_neighbors(rt: &impl Abort, all: &[Sided], own: &Sided) {
     let neighbors = edge_neighbors(own.cell);
     for k in 0..4 {
         let Side { start, end } = own.sides[k];
-        assert_eq!(rt; others_at(all, own.cell, start, end), (1, neighbors[k]));
+        let (count, other) = others_at(all, own.cell, start, end);
+        assert!(rt;
+            count == 1 && other == neighbors[k],
+            "over side {k} of {}",
+            own.cell
+        );
     }
 }
 
 #[test]
-fn neighbors_have_the_ends_of_a_side(rt: HostRuntime) -> Result<(), Fail> {
+fn neighbors_have_the_ends_of_a_side(rt: HostRuntime) {
     for level in 0..5 {
-        let all = cells_of_level(&rt, rt.alloc(), level)?;
+        let all = cells_of_level(&rt, rt.alloc(), level);
         for own in &all {
             check_neighbors(&rt, &all, own);
         }
     }
-    Ok(())
 }

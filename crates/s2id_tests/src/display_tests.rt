@@ -1,12 +1,9 @@
 // Cells in formats.
-use s2id_core::CellId;
-use std::test::Fail;
+use crate::samples::cell_of;
 
 #[test]
-fn cells_print_their_tokens(rt: HostRuntime) -> Result<(), Fail> {
-    let cell = CellId::from_token(b"1d")?;
-    assert_eq!(rt; format!(in rt.alloc(); "{cell}")?.as_str(), "1d");
-    assert_eq!(rt; format!(in rt.alloc(); "{cell:>4}")?.as_str(), "  1d");
-    assert_eq!(rt; format!(in rt.alloc(); "{cell:?}")?.as_str(), "CellId(1d)");
-    Ok(())
+fn cells_print_their_tokens(rt: HostRuntime) {
+    let cell = cell_of(&rt, "1d");
+    let text = format!(in rt.alloc(); "{cell}|{cell:>4}|{cell:?}").expect(&rt, "memory");
+    assert!(rt; text.as_str() == "1d|  1d|CellId(1d)", "{text}");
 }

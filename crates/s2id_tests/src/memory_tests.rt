@@ -1,21 +1,16 @@
 // That a growth which is refused becomes `OutOfMemory` by `?`.
 use s2id_core::OutOfMemory;
-use std::test::Fail;
+use std::alloc::Global;
 
-fn pushed(v: &mut Vec<u8>) -> Result<(), OutOfMemory> {
-    v.push(7)?;
-    Ok(())
-}
-
-fn pair(rt: &HostRuntime) -> Result<Vec<u8>, OutOfMemory> {
-    let v = Vec::with_capacity(rt.alloc(), 2)?;
-    Ok(v)
+// A list of one number, with room for two.
+fn list_of_seven(alloc: Global) -> Result<Vec<u8>, OutOfMemory> {
+    let mut numbers = Vec::with_capacity(alloc, 2)?;
+    numbers.push(7)?;
+    Ok(numbers)
 }
 
 #[test]
-fn memory_is_given(rt: HostRuntime) -> Result<(), Fail> {
-    let mut v = pair(&rt)?;
-    pushed(&mut v)?;
-    assert_eq!(rt; v.as_slice(), [7].as_slice());
-    Ok(())
+fn memory_is_given(rt: HostRuntime) {
+    let numbers = list_of_seven(rt.alloc()).expect(&rt, "memory");
+    assert!(rt; numbers.as_slice() == [7].as_slice());
 }

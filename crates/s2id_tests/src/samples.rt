@@ -1,27 +1,41 @@
-//! Cells by their tokens.
+//! Cells by their tokens, and the comparison of a row. Each call ends the test where it can't answer, and names the row.
 use s2id_core::CellId;
 use std::alloc::Global;
-use std::test::Fail;
+use std::process::Abort;
+
+/// Ends the test with the row's name where the row doesn't hold.
+pub(crate) fn check(rt: &impl Abort, holds: bool, row: &str) {
+    assert!(rt; holds, "wrong at {row}");
+}
 
 /// The cell that a token names.
-pub(crate) fn cell_of(token: &[u8]) -> Result<CellId, Fail> {
-    Ok(CellId::from_token(token)?)
+pub(crate) fn cell_of(rt: &impl Abort, token: &str) -> CellId {
+    CellId::from_token(token.as_bytes()).expect(rt, token)
 }
 
 /// The cell that a token names; none for no token.
-pub(crate) fn cell_or_none(token: &[u8]) -> Result<Option<CellId>, Fail> {
+pub(crate) fn cell_or_none(rt: &impl Abort, token: &str) -> Option<CellId> {
     if token.is_empty() {
-        Ok(None)
+        None
     } else {
-        Ok(Some(cell_of(token)?))
+        Some(cell_of(rt, token))
     }
 }
 
-/// The cells that some tokens name.
-pub(crate) fn cells_of(alloc: Global, tokens: &[&[u8]]) -> Result<Vec<CellId>, Fail> {
+/// The cells that some tokens name, which have spaces between them.
+pub(crate) fn cells_of(rt: &impl Abort, alloc: Global, tokens: &str) -> Vec<CellId> {
     let mut cells = Vec::new(alloc);
-    for token in tokens {
-        cells.push(cell_of(token)?)?;
+    for token in tokens.split_ascii_whitespace() {
+        cells.push(cell_of(rt, token)).expect(rt, "memory");
     }
-    Ok(cells)
+    cells
+}
+
+/// Compares some cells with those that the tokens name, in their order.
+pub(crate) fn check_cells(rt: &impl Abort, cells: &[CellId], tokens: &str) {
+    let mut left = cells.iter();
+    for token in tokens.split_ascii_whitespace() {
+        check(rt, left.next() == Some(&cell_of(rt, token)), tokens);
+    }
+    check(rt, left.next().is_none(), tokens);
 }

@@ -170,16 +170,16 @@ each_numbered a (suc n) c from to =
       | inr ne ↦ in_option_tail (cell_numbered a) c rest (each_numbered (a + 1) n c (omega arith) (omega arith))
     ]
 
-each_below : (limit : ℕ) (c : CellId) → raw_of c < limit → Contains (cells_below limit) c
+pub each_below : (limit : ℕ) (c : CellId) → raw_of c < limit → Contains (cells_below limit) c
 unfolding cells_below
 each_below limit c h = each_numbered 0 limit c (omega arith) (omega arith)
 
-rises_below : (limit : ℕ) → Rises (cells_below limit)
+pub rises_below : (limit : ℕ) → Rises (cells_below limit)
 unfolding cells_below
 rises_below limit = rises_from 0 limit
 
 -- what passes the test is kept
-kept : {X : Type 0} (p : X → Bool) (xs : List X) (x : X) → Contains xs x → p x ≡ true → Contains (filter p xs) x
+pub kept : {X : Type 0} (p : X → Bool) (xs : List X) (x : X) → Contains xs x → p x ≡ true → Contains (filter p xs) x
 kept p [] x h e = h
 kept p (y ∷ ys) x h e =
     cond_both (p y) (y ∷ filter p ys) (filter p ys) (λ zs. Contains zs x) (λ t.

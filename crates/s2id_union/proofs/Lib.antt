@@ -7,7 +7,7 @@ mod Greatest
 pub mod Searching
 mod Sweeping
 mod Made
-mod Largest
+pub mod Largest
 pub mod NormalForm
 mod Forms
 mod Joining

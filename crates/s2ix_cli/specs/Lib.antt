@@ -1,4 +1,5 @@
 pub mod Carry
+pub mod Regions
 pub mod Script
 pub mod Step
 pub mod Wants

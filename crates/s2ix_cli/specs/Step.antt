@@ -10,6 +10,7 @@ use Rattle.s2ix_edit.specs.declared.errors.RedoError.TheVariants.{NothingToRedo}
 use Rattle.s2ix_edit.specs.declared.errors.UndoError.TheVariants.{NothingToUndo}
 use Rattle.s2ix_edit.specs.State.{State, after_edit, after_forget, after_undo, after_redo, change_of, last_done, last_undone, undo_size, redo_size}
 use Rattle.s2ix_edit.specs.Refusals.{edit_refusal}
+use Rattle.s2ix_edit.specs.Region.{region_of}
 use Rattle.s2ix_text.specs.Answers.{neighbors_line, no_line, ok_line, path_line, square_line}
 use Rattle.s2ix_text.specs.Dump.{dump_text}
 use Rattle.s2ix_table.specs.Contents.{contents_at}
@@ -17,12 +18,13 @@ use Rattle.s2ix_table.specs.LabelList.{label_list}
 use Rattle.s2ix_table.specs.Meeting.{meeting_of}
 use Rattle.s2ix_table.specs.RangeList.{range_table}
 use Rattle.s2ix_text.specs.Journal.{journal_text}
-use Rattle.s2ix_text.specs.Queries.{held_line, label_line, list_text, range_line}
+use Rattle.s2ix_text.specs.Queries.{held_line, label_line, list_text, range_line, token_line}
 use Rattle.s2ix_script.specs.declared.instruction.Instruction.{Instruction}
 use Rattle.s2ix_script.specs.declared.instruction.Instruction.TheVariants as asks
 use Rattle.s2ix_script.specs.declared.line_fault.LineFault.{LineFault}
 use Rattle.s2ix_script.specs.Meaning.{meaning_of}
 use Rattle.s2ix_script.specs.Names.{edit_error_name, fault_name, not_leaf_name, redo_error_name, undo_error_name}
+use Rattle.s2ix_cli.specs.Regions.{common_of, only_of}
 
 -- the store after a line, what the line prints, and whether it counts as a line and as a refused one
 pub record Step : Type 0 where
@@ -87,6 +89,9 @@ instruction_step s asks.Forget = ok_step (after_forget s) 0
 instruction_step s (asks.At cell) = at_step s cell
 instruction_step s (asks.Meet target) = text_step s (list_text held_line (meeting_of target s.bag.held))
 instruction_step s (asks.Labels target) = text_step s (list_text label_line (label_list (meeting_of target s.bag.held)))
+instruction_step s (asks.Region label) = text_step s (list_text token_line (region_of label s.bag.held))
+instruction_step s (asks.Common first second) = text_step s (list_text token_line (common_of first second s.bag.held))
+instruction_step s (asks.Only first second) = text_step s (list_text token_line (only_of first second s.bag.held))
 instruction_step s asks.Ranges = text_step s (list_text range_line (range_table s.bag.held))
 instruction_step s (asks.Path cell) = text_step s (path_line cell)
 instruction_step s (asks.Neighbors cell) = text_step s (neighbors_line cell)

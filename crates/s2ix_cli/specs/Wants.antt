@@ -10,7 +10,7 @@ use Rattle.s2ix_script.specs.Meaning.{is_on_union, meaning_of}
 use Rattle.s2ix_cli.specs.Script.{after, carried_lines, output_of}
 
 -- an instruction: an edit unless it is refused before its change is made, an undo or a redo of a change that there is, and what gathers
--- the pairs or labels that it prints
+-- the pairs, labels or cells that it prints
 abbrev pub InstructionWants : State → Instruction → Type 0
 InstructionWants s (asks.Edit edit) = MayWantMemory (edit_refusal s edit)
 InstructionWants s asks.Undo = s.done ≢ []
@@ -19,6 +19,9 @@ InstructionWants s asks.Forget = ⊥
 InstructionWants s (asks.At cell) = ⊥
 InstructionWants s (asks.Meet target) = Unit {0}
 InstructionWants s (asks.Labels target) = Unit {0}
+InstructionWants s (asks.Region label) = Unit {0}
+InstructionWants s (asks.Common first second) = Unit {0}
+InstructionWants s (asks.Only first second) = Unit {0}
 InstructionWants s asks.Ranges = ⊥
 InstructionWants s (asks.Path cell) = ⊥
 InstructionWants s (asks.Neighbors cell) = ⊥

@@ -6,12 +6,13 @@ ghost use Rattle.s2ix_cli.specs.Step.{at_step, instruction_step, step_of};
 ghost use Rattle.s2ix_cli.specs.Wants.{InstructionWants, LineWants};
 
 use crate::outcome::LineOutcome;
+use crate::regions::{common, only, print_region};
 use crate::steps::tell_step;
 use s2id_core::CellId;
 use s2id_cube::to_face_ij;
 use s2ix_edit::Store;
 use s2ix_io::{RunFault, Sink};
-use s2ix_script::{Instruction, LineError, NOT_LEAF_NAME, meaning};
+use s2ix_script::{Instruction, LineError, meaning, not_leaf_name};
 use s2ix_table::RangeTable;
 use s2ix_text::{
     write_contents, write_dump, write_journal, write_list, write_neighbors, write_no, write_ok,
@@ -68,6 +69,13 @@ fn carry_instruction<K: Sink>(
         Instruction::At(cell) => return carry_at(store, sink, cell),
         Instruction::Meet(target) => write_list(&store.table().meeting(alloc, &target)?, sink)?,
         Instruction::Labels(target) => write_list(&store.table().labels(alloc, &target)?, sink)?,
+        Instruction::Region(label) => return print_region(store.region(label), sink),
+        Instruction::Common(first, second) => {
+            return print_region(common(alloc, store, first, second), sink);
+        }
+        Instruction::Only(first, second) => {
+            return print_region(only(alloc, store, first, second), sink);
+        }
         Instruction::Ranges => write_ranges(store.table(), sink)?,
         Instruction::Path(cell) => write_path(cell, sink)?,
         Instruction::Neighbors(cell) => write_neighbors(cell, sink)?,
@@ -86,7 +94,7 @@ fn carry_at<K: Sink>(store: &Store, sink: &mut K, cell: CellId) -> Result<LineOu
     ensures faults { K.fault_count sink.new ≡ K.fault_count sink.old + sink_faults result }
 {
     if !cell.is_leaf() {
-        write_no(NOT_LEAF_NAME, sink)?;
+        write_no(not_leaf_name(), sink)?;
         return Ok(LineOutcome::Refused);
     }
     write_contents(store.table(), cell, sink)?;

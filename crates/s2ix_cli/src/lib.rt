@@ -3,6 +3,7 @@
 
 mod carry;
 mod outcome;
+mod regions;
 mod script;
 mod steps;
 

@@ -6,8 +6,9 @@ use Rattle.s2ix_bag.specs.Collection.{Collection, IsCollection, count_in}
 use Rattle.s2ix_bag.specs.OfLabel.{held_of}
 use Rattle.s2ix_bag.proofs.Collections.{set_keeps}
 use Rattle.s2ix_edit.specs.declared.edit.Edit.{Edit}
-use Rattle.s2ix_edit.specs.declared.edit.Edit.TheVariants.{Add, AddUnion, Remove, DropLabel, Relabel, Normalise}
+use Rattle.s2ix_edit.specs.declared.edit.Edit.TheVariants.{Add, AddUnion, Remove, DropLabel, Relabel, Grow, Normalise}
 use Rattle.s2ix_edit.specs.Edit.{edited, edited_alone, without}
+use Rattle.s2ix_edit.specs.Grow.{grown_cells}
 use Rattle.s2ix_edit.specs.Region.{region_of}
 use Rattle.s2ix_edit.specs.State.{State, earlier, history_of, later}
 use Rattle.s2ix_edit.specs.History.{History, at_cursor}
@@ -31,6 +32,7 @@ edited_at_cursor h (AddUnion cells label) = refl
 edited_at_cursor h (Remove pair copies) = refl
 edited_at_cursor h (DropLabel label) = refl
 edited_at_cursor h (Relabel source target) = refl
+edited_at_cursor h (Grow label level) = refl
 edited_at_cursor h (Normalise label) = refl
 
 pub edited_held : (s : State) (edit : Edit) → edited (history_of s) edit ≡ edited_alone edit s.bag.held
@@ -43,6 +45,7 @@ edited_is_collection (AddUnion cells label) hs is = with_each_keeps label cells 
 edited_is_collection (Remove pair copies) hs is = set_keeps pair (count_in hs pair - copies) hs is
 edited_is_collection (DropLabel label) hs is = without_keeps label hs is
 edited_is_collection (Relabel source target) hs is = with_all_moved_keeps target (held_of source hs) hs is
+edited_is_collection (Grow label level) hs is = with_each_keeps label (grown_cells label level hs) hs is
 edited_is_collection (Normalise label) hs is = with_each_keeps label (region_of label hs) (without label hs) (without_keeps label hs is)
 
 pub held_edited_is_collection : (s : State) (edit : Edit) → IsCollection s.bag.held → IsCollection (edited (history_of s) edit)

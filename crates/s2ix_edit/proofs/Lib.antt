@@ -1,8 +1,11 @@
 pub mod AddUnion
 pub mod Along
+mod Beside
 mod DropLabel
 pub mod Edited
 pub mod Followed
+mod Grow
+mod LabelCells
 pub mod Led
 mod Normalise
 pub mod Places

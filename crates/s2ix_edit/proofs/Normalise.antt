@@ -4,8 +4,7 @@ use Rattle.std.proofs.lemmas.Bool.{cases_eq}
 use Rattle.s2id_core.specs.declared.cell_id.CellId.{CellId}
 use Rattle.s2id_core.specs.CellId.{raw_of}
 use Rattle.s2id_union.specs.NormalForm.{normal_form}
-use Rattle.s2id_union.specs.Region.{IsNormal}
-use Rattle.s2id_union.proofs.NormalForm.{form_itself, form_normal}
+use Rattle.s2id_union.proofs.NormalForm.{form_itself}
 use Rattle.s2ix_bag.specs.declared.label.Label.{Label}
 use Rattle.s2ix_bag.specs.declared.pair.Pair.{Pair}
 use Rattle.s2ix_bag.specs.Change.{change_between, counts_at, difference_of}
@@ -24,6 +23,7 @@ use Rattle.s2ix_edit.specs.Region.{cell_of, cells_of, region_of}
 use Rattle.s2ix_edit.proofs.AddUnion.{RiseFrom, rise_contains, rises_from_zero, with_each_keeps, with_each_other, with_each_same}
 use Rattle.s2ix_edit.proofs.DropLabel.{same_value, without_keeps, without_other, without_own}
 use Rattle.s2ix_edit.proofs.Plans.{Makes, makes_between}
+use Rattle.s2ix_edit.proofs.LabelCells.{region_normal}
 
 -- the cells' pairs under the label, each held with one copy
 abbrev pub ones : Label → List CellId → Collection
@@ -128,9 +128,6 @@ pub replaced_cells : (label : Label) (cs : List CellId) (hs : Collection) → Is
 replaced_cells label cs hs is pairs = ap (λ ks. map cell_of ks) (replaced_held label cs hs is pairs) ∙ ones_cells label cs
 
 -- ---- by the label's region
-
-region_normal : (label : Label) (hs : Collection) → IsNormal (region_of label hs)
-region_normal label hs = form_normal (cells_of label hs)
 
 -- a cell of the region is held once
 pub normalised_cell : (label : Label) (hs : Collection) (c : CellId) → IsCollection hs → Contains (region_of label hs) c → count_in (replaced label (region_of label hs) hs) (pair_of c label) ≡ 1

@@ -12,7 +12,7 @@ use Rattle.s2ix_edit.specs.declared.edit.Edit.{Edit}
 use Rattle.s2ix_edit.specs.declared.edit.Edit.TheVariants.{Add, Remove}
 use Rattle.s2ix_edit.specs.Edit.{edited_alone}
 use Rattle.s2ix_edit.specs.Plan.{Plans, one_entry}
-use Rattle.s2ix_edit.specs.Refusals.{lacks_label, takes_too_many}
+use Rattle.s2ix_edit.specs.Refusals.{asks_too_fine, lacks_label, takes_too_many}
 use Rattle.s2ix_bag.proofs.Applied.{before_from_counts}
 use Rattle.s2ix_bag.proofs.Collections.{set_count_in}
 use Rattle.s2ix_bag.proofs.Differences.{between_is_change, changed_between, counts_between_at}
@@ -74,10 +74,11 @@ one_changes hs p m n same =
     (cases_eq m n)
 
 -- an edit that sets one count is carried out by the entry of that pair
-pub one_plans : (bag : LimitedCollection) (edit : Edit) (p : Pair) (n : ℕ) → IsBag bag → lacks_label edit bag.held ≡ false → takes_too_many edit bag.held ≡ false → edited_alone edit bag.held ≡ set_count p n bag.held → Plans bag edit (one_entry p (count_in bag.held p) n)
-one_plans bag edit p n b known allowed makes = record {
+pub one_plans : (bag : LimitedCollection) (edit : Edit) (p : Pair) (n : ℕ) → IsBag bag → lacks_label edit bag.held ≡ false → takes_too_many edit bag.held ≡ false → asks_too_fine edit bag.held ≡ false → edited_alone edit bag.held ≡ set_count p n bag.held → Plans bag edit (one_entry p (count_in bag.held p) n)
+one_plans bag edit p n b known allowed fits makes = record {
   known = known;
   allowed = allowed;
+  fits = fits;
   rises = one_rises p (count_in bag.held p) n;
   matches = one_matches bag p n;
   result = one_changes bag.held p (count_in bag.held p) n (set_count_in p bag.held b.rises) ∙ sym makes;
@@ -87,21 +88,22 @@ one_plans bag edit p n b known allowed makes = record {
 pub add_plans : (bag : LimitedCollection) (p : Pair) (copies before after : ℕ) (es : List Entry) → IsBag bag → before ≡ count_in bag.held p → before + copies ≡ after → es ≡ one_entry p before after → Plans bag (Add p copies) es
 add_plans bag p copies before after es b is_before is_after is =
     let Carries : List Entry → Type 0 = λ xs. Plans bag (Add p copies) xs in
-    let own = one_plans bag (Add p copies) p (count_in bag.held p + copies) b refl refl refl in
+    let own = one_plans bag (Add p copies) p (count_in bag.held p + copies) b refl refl refl refl in
     subst Carries (sym (is ∙ ap (λ m. one_entry p m after) is_before ∙ ap (λ n. one_entry p (count_in bag.held p) n) (omega arith))) own
 
 -- the entry of a removal carries it out
 pub remove_plans : (bag : LimitedCollection) (p : Pair) (copies before after : ℕ) (es : List Entry) → IsBag bag → before ≡ count_in bag.held p → copies ≤ before → before - copies ≡ after → es ≡ one_entry p before after → Plans bag (Remove p copies) es
 remove_plans bag p copies before after es b is_before le is_after is =
     let Carries : List Entry → Type 0 = λ xs. Plans bag (Remove p copies) xs in
-    let own = one_plans bag (Remove p copies) p (count_in bag.held p - copies) b refl (le-ltb _ _ (omega arith)) refl in
+    let own = one_plans bag (Remove p copies) p (count_in bag.held p - copies) b refl (le-ltb _ _ (omega arith)) refl refl in
     subst Carries (sym (is ∙ ap (λ m. one_entry p m after) is_before ∙ ap (λ n. one_entry p (count_in bag.held p) n) (omega arith))) own
 
 -- entries that make the edited collection carry the edit out
-pub plans_from_makes : (bag : LimitedCollection) (edit : Edit) (es : List Entry) → lacks_label edit bag.held ≡ false → takes_too_many edit bag.held ≡ false → Makes bag (edited_alone edit bag.held) es → Plans bag edit es
-plans_from_makes bag edit es known allowed makes = record {
+pub plans_from_makes : (bag : LimitedCollection) (edit : Edit) (es : List Entry) → lacks_label edit bag.held ≡ false → takes_too_many edit bag.held ≡ false → asks_too_fine edit bag.held ≡ false → Makes bag (edited_alone edit bag.held) es → Plans bag edit es
+plans_from_makes bag edit es known allowed fits makes = record {
   known = known;
   allowed = allowed;
+  fits = fits;
   rises = makes.rises;
   matches = makes.matches;
   result = makes.result;

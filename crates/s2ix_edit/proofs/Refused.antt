@@ -11,11 +11,11 @@ use Rattle.s2ix_bag.specs.Limits.{pairs_limit, count_limit, changes_limit}
 use Rattle.s2ix_edit.specs.declared.edit.Edit.{Edit}
 use Rattle.s2ix_edit.specs.declared.edit.Edit.TheVariants.{Add}
 use Rattle.s2ix_edit.specs.declared.errors.EditError.{EditError}
-use Rattle.s2ix_edit.specs.declared.errors.EditError.TheVariants.{NoSuchLabel, NotHeld, NoChange, TooManyCopies, TooManyPairs}
+use Rattle.s2ix_edit.specs.declared.errors.EditError.TheVariants.{NoSuchLabel, NotHeld, TooFine, NoChange, TooManyCopies, TooManyPairs}
 use Rattle.s2ix_edit.specs.Edit.{edited_alone}
 use Rattle.s2ix_edit.specs.State.{State, IsStore, after_edit, change_of, with_held}
 use Rattle.s2ix_edit.specs.Plan.{Plans, after_record, entries_refusal, starting_at}
-use Rattle.s2ix_edit.specs.Refusals.{edit_refusal, has_count_above, lacks_label, takes_too_many}
+use Rattle.s2ix_edit.specs.Refusals.{asks_too_fine, edit_refusal, has_count_above, lacks_label, takes_too_many}
 use Rattle.s2ix_edit.proofs.Taken.{above_from_count, any_above_changed, between_changed, none_above}
 use Rattle.s2ix_edit.proofs.Edited.{edited_held, edited_is_collection}
 use Rattle.s2ix_bag.proofs.Collections.{count_in-set_count_same}
@@ -26,8 +26,8 @@ use Rattle.s2ix_bag.specs.Pair.{rank_of}
 refusal_with_room : LimitedCollection → Edit → Collection → Option EditError
 refusal_with_room bag edit new =
     cond (lacks_label edit bag.held) (Some NoSuchLabel) (cond (takes_too_many edit bag.held) (Some NotHeld)
-    (cond (length (change_between bag.held new) == 0) (Some NoChange) (cond (has_count_above (count_limit bag.limits) new) (Some TooManyCopies)
-    (cond (ltb (pairs_limit bag.limits) (length new)) (Some TooManyPairs) None))))
+    (cond (asks_too_fine edit bag.held) (Some TooFine) (cond (length (change_between bag.held new) == 0) (Some NoChange) (cond (has_count_above (count_limit bag.limits) new) (Some TooManyCopies)
+    (cond (ltb (pairs_limit bag.limits) (length new)) (Some TooManyPairs) None)))))
 
 -- with room in the journal the refusal is that of a store with no history
 pub with_room : (s : State) (edit : Edit) → length s.done < changes_limit s.bag.limits → edit_refusal s edit ≡ edit_refusal (starting_at s.bag) edit
@@ -49,10 +49,10 @@ first_of_three same high many =
 is_high : LimitedCollection → Collection → Bool
 is_high bag hs = has_count_above (count_limit bag.limits) hs
 
-later_refusal : (bag : LimitedCollection) (edit : Edit) → lacks_label edit bag.held ≡ false → takes_too_many edit bag.held ≡ false → edit_refusal (starting_at bag) edit ≡ first_of_three (length (change_between bag.held (edited_alone edit bag.held)) == 0) (is_high bag (edited_alone edit bag.held)) (ltb (pairs_limit bag.limits) (length (edited_alone edit bag.held)))
+later_refusal : (bag : LimitedCollection) (edit : Edit) → lacks_label edit bag.held ≡ false → takes_too_many edit bag.held ≡ false → asks_too_fine edit bag.held ≡ false → edit_refusal (starting_at bag) edit ≡ first_of_three (length (change_between bag.held (edited_alone edit bag.held)) == 0) (is_high bag (edited_alone edit bag.held)) (ltb (pairs_limit bag.limits) (length (edited_alone edit bag.held)))
 unfolding first_of_three is_high
-later_refusal bag edit known allowed =
-    cond-false _ _ _ (lt-leb _ _ (starts_with_room bag)) ∙ cond-false _ _ _ known ∙ cond-false _ _ _ allowed
+later_refusal bag edit known allowed fits =
+    cond-false _ _ _ (lt-leb _ _ (starts_with_room bag)) ∙ cond-false _ _ _ known ∙ cond-false _ _ _ allowed ∙ cond-false _ _ _ fits
 
 -- ---- the refusals of planned entries
 
@@ -77,7 +77,7 @@ pub planned_refusal : (bag : LimitedCollection) (edit : Edit) (es : List Entry) 
 planned_refusal bag edit es b plans =
     let many : Collection → Bool = λ hs. ltb (pairs_limit bag.limits) (length hs) in
     let high : Bool = list_any (λ (e : Entry). ltb (count_limit bag.limits) e.after) es in
-    later_refusal bag edit plans.known plans.allowed
+    later_refusal bag edit plans.known plans.allowed plans.fits
     ∙ ap (λ (ds : List Entry). first_of_three (length ds == 0) (is_high bag (edited_alone edit bag.held)) (many (edited_alone edit bag.held))) (planned_change bag edit es b plans)
     ∙ ap (λ t. first_of_three (length es == 0) t (many (edited_alone edit bag.held))) (any_high bag edit es b plans)
     ∙ ap (λ hs. first_of_three (length es == 0) high (many hs)) (sym plans.result)
@@ -106,11 +106,11 @@ changes_some bag new b is high =
     (cases_Bool (length (change_between bag.held new) == 0))
 
 -- an edit that makes a count above the limit is refused for its copies
-pub too_high : (bag : LimitedCollection) (edit : Edit) → IsBag bag → lacks_label edit bag.held ≡ false → takes_too_many edit bag.held ≡ false → has_count_above (count_limit bag.limits) (edited_alone edit bag.held) ≡ true → edit_refusal (starting_at bag) edit ≡ Some TooManyCopies
+pub too_high : (bag : LimitedCollection) (edit : Edit) → IsBag bag → lacks_label edit bag.held ≡ false → takes_too_many edit bag.held ≡ false → asks_too_fine edit bag.held ≡ false → has_count_above (count_limit bag.limits) (edited_alone edit bag.held) ≡ true → edit_refusal (starting_at bag) edit ≡ Some TooManyCopies
 unfolding first_of_three is_high
-too_high bag edit b known allowed high =
+too_high bag edit b known allowed fits high =
     let many : Bool = ltb (pairs_limit bag.limits) (length (edited_alone edit bag.held)) in
-    later_refusal bag edit known allowed
+    later_refusal bag edit known allowed fits
     ∙ ap (λ t. first_of_three t (is_high bag (edited_alone edit bag.held)) many) (changes_some bag (edited_alone edit bag.held) b (edited_is_collection edit bag.held b.rises) high)
     ∙ ap (λ t. first_of_three false t many) high
 
@@ -119,7 +119,7 @@ pub sum_too_high : (bag : LimitedCollection) (p : Pair) (copies before : ℕ) �
 sum_too_high bag p copies before b is_before high =
     let range = bag.limits.in_range in
     let sum = count_in-set_count_same p (count_in bag.held p + copies) bag.held b.rises in
-    too_high bag (Add p copies) b refl refl
+    too_high bag (Add p copies) b refl refl refl
     (above_from_count (count_limit bag.limits) (edited_alone (Add p copies) bag.held) (rank_of p) (omega (arith, range, sum, is_before, high)))
 
 -- the change that a store records of an edit is its plan

@@ -9,7 +9,8 @@ use Rattle.s2ix_bag.specs.Label.{value_of}
 use Rattle.s2ix_bag.specs.Collection.{Collection, count_in, set_count}
 use Rattle.s2ix_bag.specs.OfLabel.{held_of}
 use Rattle.s2ix_edit.specs.declared.edit.Edit.{Edit}
-use Rattle.s2ix_edit.specs.declared.edit.Edit.TheVariants.{Add, AddUnion, Remove, DropLabel, Relabel, Normalise}
+use Rattle.s2ix_edit.specs.declared.edit.Edit.TheVariants.{Add, AddUnion, Remove, DropLabel, Relabel, Grow, Normalise}
+use Rattle.s2ix_edit.specs.Grow.{grown_cells}
 use Rattle.s2ix_edit.specs.History.{History, alone, at_cursor}
 use Rattle.s2ix_edit.specs.Region.{region_of}
 
@@ -45,14 +46,16 @@ with_all_moved target (h ∷ rest) hs = with_all_moved target rest (with_moved t
 
 -- the collection after the edit of the one at the cursor: `Add` adds copies to the pair's count, `AddUnion` one copy
 -- under the label for each cell, `Remove` takes copies from the pair's count, `DropLabel` takes the label's pairs away,
--- `Relabel` moves the copies of each pair of `source` to the same cell's pair of `target`, and `Normalise` takes the
--- label's pairs away and adds one copy for each cell of the label's region
+-- `Relabel` moves the copies of each pair of `source` to the same cell's pair of `target`, `Grow` adds one copy under
+-- the label for each cell of the level that overlaps no cell of the label and shares an edge with a cell of the level
+-- that overlaps one, and `Normalise` takes the label's pairs away and adds one copy for each cell of the label's region
 abbrev pub edited : History → Edit → Collection
 edited h (Add pair copies) = with_more pair copies (at_cursor h)
 edited h (AddUnion cells label) = with_each label cells (at_cursor h)
 edited h (Remove pair copies) = set_count pair (count_in (at_cursor h) pair - copies) (at_cursor h)
 edited h (DropLabel label) = without label (at_cursor h)
 edited h (Relabel source target) = with_all_moved target (held_of source (at_cursor h)) (at_cursor h)
+edited h (Grow label level) = with_each label (grown_cells label level (at_cursor h)) (at_cursor h)
 edited h (Normalise label) = with_each label (region_of label (at_cursor h)) (without label (at_cursor h))
 
 -- the collection after the edit of one that stands alone

@@ -1,4 +1,5 @@
 pub mod Edit
+pub mod Grow
 pub mod History
 pub mod Plan
 pub mod Refusals

@@ -17,7 +17,7 @@ use Rattle.s2ix_edit.specs.declared.errors.EditError.TheVariants.{NoChange, TooM
 use Rattle.s2ix_edit.specs.Edit.{edited_alone, pair_of}
 use Rattle.s2ix_edit.specs.State.{State, with_held}
 use Rattle.s2ix_edit.specs.declared.errors.PlanError.{PlanError}
-use Rattle.s2ix_edit.specs.Refusals.{lacks_label, takes_too_many, edit_error, edit_refusal, IsEditRefusal}
+use Rattle.s2ix_edit.specs.Refusals.{lacks_label, takes_too_many, asks_too_fine, edit_error, edit_refusal, IsEditRefusal}
 
 -- a store that stands at a bag and has no history
 abbrev pub starting_at : LimitedCollection → State
@@ -28,11 +28,12 @@ abbrev pub one_entry : Pair → ℕ → ℕ → List Entry
 one_entry pair before after =
     if before == after then [] else record { pair = pair; before = before; after = after } ∷ []
 
--- the entries carry the edit out: its label is held, it takes no more than is held, the counts before are the bag's,
--- and the counts after make the edited collection
+-- the entries carry the edit out: its label is held, it takes no more than is held, its level isn't too fine, the counts
+-- before are the bag's, and the counts after make the edited collection
 pub record Plans (bag : LimitedCollection) (edit : Edit) (es : List Entry) : Type 0 where
   pub known : lacks_label edit bag.held ≡ false
   pub allowed : takes_too_many edit bag.held ≡ false
+  pub fits : asks_too_fine edit bag.held ≡ false
   pub rises : IsChangeList es
   pub matches : first_mismatch bag es ≡ None
   pub result : changed bag.held es ≡ edited_alone edit bag.held
@@ -54,6 +55,10 @@ entries_refusal bag es =
 abbrev pub move_entries : Held → Entry → List Entry
 move_entries h gain =
     if nat_lt (value_of h.pair.label) (value_of gain.pair.label) then removal_of h ∷ gain ∷ [] else gain ∷ removal_of h ∷ []
+
+-- the entry that gives a cell its first copy under the label
+abbrev pub first_copy : Label → CellId → Entry
+first_copy label cell = record { pair = pair_of cell label; before = 0; after = 1 }
 
 -- a cell's pair under the label, held with one copy
 abbrev pub one_copy : Label → CellId → Held

@@ -14,6 +14,9 @@ pub enum Edit {
     DropLabel { label: Label },
     /// Moves all copies of `source` to `target`, cell by cell.
     Relabel { source: Label, target: Label },
+    /// Adds one copy under the label for each cell of the level that overlaps no cell of the label and shares an edge
+    /// with a cell of the level that overlaps one.
+    Grow { label: Label, level: u8 },
     /// Replaces the label's pairs by one copy at each cell of the label's region.
     Normalise { label: Label },
 }

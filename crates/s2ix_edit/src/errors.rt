@@ -15,6 +15,9 @@ pub enum EditError {
     /// Fewer copies are held than the edit takes.
     #[error("fewer copies are held")]
     NotHeld,
+    /// The level is above 30, or more than 8 above the level of a cell of the label.
+    #[error("the level is too fine")]
+    TooFine,
     /// The collection would stay as it is.
     #[error("nothing would change")]
     NoChange,
@@ -61,6 +64,7 @@ impl From<PlanError> for EditError {
         match reason {
             PlanError::NoSuchLabel => EditError::NoSuchLabel,
             PlanError::NotHeld => EditError::NotHeld,
+            PlanError::TooFine => EditError::TooFine,
             PlanError::TooManyCopies => EditError::TooManyCopies,
             PlanError::OutOfMemory => EditError::OutOfMemory,
         }
@@ -74,6 +78,8 @@ pub enum PlanError {
     NoSuchLabel,
     /// Fewer copies are held than the edit takes.
     NotHeld,
+    /// The level is above 30, or more than 8 above the level of a cell of the label.
+    TooFine,
     /// A count would pass every limit.
     TooManyCopies,
     /// A growth was refused.

@@ -1,17 +1,19 @@
 //! What holds of edits, undos and histories, whatever code runs.
 
-ghost use Rattle.std.specs.Prelude.{◌≡◌, ◌≢◌, ℕ, ◌+◌, ◌-◌, Some, ◌<◌, [], ◌∷◌, ◌++◌, length, reverse, slice_get, take, All, List, Contains};
+ghost use Rattle.std.specs.Prelude.{◌≡◌, ◌≢◌, ℕ, ◌+◌, ◌-◌, Some, true, ◌<◌, [], ◌∷◌, ◌++◌, length, reverse, slice_get, take, All, List, Contains};
 ghost use Rattle.s2id_core.specs.declared.cell_id.CellId.{CellId};
-ghost use Rattle.s2id_union.specs.Region.{IsNormal};
+ghost use Rattle.s2id_union.specs.Region.{HaveSameRegion, IsNormal};
 ghost use Rattle.s2ix_bag.specs.declared.label.Label.{Label};
 ghost use Rattle.s2ix_bag.specs.declared.pair.Pair.{Pair};
 ghost use Rattle.s2ix_bag.specs.Change.{IsChangeList, counts_at, difference_of};
 ghost use Rattle.s2ix_bag.specs.Collection.{Collection, IsBag, IsCollection, count_in};
 ghost use Rattle.s2ix_bag.specs.Pair.{rank_of};
 ghost use Rattle.s2ix_edit.specs.declared.edit.Edit.{Edit};
-ghost use Rattle.s2ix_edit.specs.declared.edit.Edit.TheVariants.{Add, AddUnion, Remove, DropLabel, Relabel, Normalise};
+ghost use Rattle.s2ix_edit.specs.declared.edit.Edit.TheVariants.{Add, AddUnion, Remove, DropLabel, Relabel, Grow, Normalise};
 ghost use Rattle.s2ix_edit.specs.Edit.{edited, edited_alone, pair_of};
+ghost use Rattle.s2ix_edit.specs.Grow.{IsGrown};
 ghost use Rattle.s2ix_edit.specs.History.{History, at_cursor, changes_along, cursor_alone, one_back, one_on, with_next};
+ghost use Rattle.s2ix_edit.specs.Refusals.{holds_none};
 ghost use Rattle.s2ix_edit.specs.Region.{cells_of, region_of};
 ghost use Rattle.s2ix_edit.specs.State.{State, IsStore, after_edit, after_forget, after_redo, after_undo, change_of, history_of, with_held};
 ghost use Rattle.s2ix_table.specs.Table.{Range, IsRangeTable};
@@ -182,6 +184,28 @@ pub fn relabel_moves_copies()
     ensures itself { (hs : Collection) (label : Label)
         → IsCollection hs
         → edited_alone (Relabel label label) hs ≡ hs }
+{}
+
+/// `Grow` adds one copy under the label for each cell of the level that overlaps no cell held with the label and shares
+/// an edge with a cell of the level that overlaps one, and leaves every other count.
+pub fn grow_adds_a_copy_each()
+    ensures cells { (hs : Collection) (label : Label) (level : ℕ) (cell : CellId)
+        → IsCollection hs
+        → IsGrown level (cells_of label hs) cell
+        → count_in (edited_alone (Grow label level) hs) (pair_of cell label) ≡ count_in hs (pair_of cell label) + 1 }
+    ensures others { (hs : Collection) (label : Label) (level : ℕ) (other : Pair)
+        → (IsGrown level (cells_of label hs) other.cell → other.label ≢ label)
+        → count_in (edited_alone (Grow label level) hs) other ≡ count_in hs other }
+{}
+
+/// The region of a label is normal and has exactly the leaves of the cells that are held with it, so that a label that
+/// isn't held has the empty region.
+pub fn region_is_the_labels()
+    ensures region { (hs : Collection) (label : Label) → HaveSameRegion (region_of label hs) (cells_of label hs) }
+    ensures normal { (hs : Collection) (label : Label) → IsNormal (region_of label hs) }
+    ensures empty { (hs : Collection) (label : Label)
+        → holds_none label hs ≡ true
+        → region_of label hs ≡ [] }
 {}
 
 /// `Normalise` leaves the label one copy at each cell of its region and none at any other cell, so that its cells are

@@ -1,7 +1,11 @@
 -- How the devices in memory are set: how much they move a call, and where they fail.
-use Rattle.std.specs.Prelude.{ℕ, Bool}
+use Rattle.std.specs.Prelude.{ℕ, Bool, List}
 use Rattle.s2ix_io.specs.declared.slice_source.SliceSource.{SliceSource}
 use Rattle.s2ix_io.specs.declared.keeping_sink.KeepingSink.{KeepingSink}
+
+-- the bytes that are still to come
+abbrev pub bytes_left_of : SliceSource → List ℕ
+bytes_left_of source = source.left.now
 
 -- how many bytes the source gives a call, at most
 abbrev pub piece_len_of : SliceSource → ℕ

@@ -1,7 +1,6 @@
-ghost use Rattle.std.specs.Prelude.{◌≡◌, ◌↔◌, ◌+◌, Some, [], max, OnOk, OnErr, IsErr, IsTrue, vec_len};
-ghost use Rattle.std.specs.Io.KnownBytes.{Keeps};
+ghost use Rattle.std.specs.Prelude.{◌≡◌, ◌↔◌, ◌+◌, ◌-◌, ◌<◌, ◌≤◌, Some, [], length, max, min, take, IfOk, OnOk, OnErr, IsErr, IsTrue, MatchResult, vec_len};
+ghost use Rattle.std.specs.Io.KnownBytes.{Appends, Keeps};
 ghost use Rattle.s2ix_io.specs.Faults.{CanCount, write_faults};
-ghost use Rattle.s2ix_io.specs.Devices.{flush_fails, flushed_len_of, put_len_of, sink_fault_at};
 
 use crate::{Sink, WriteFault};
 use std::alloc::Global;
@@ -15,9 +14,12 @@ pub struct KeepingSink {
     calls_to_fault: u64,
     is_flush_failing: bool,
     faults: u64,
+    ghost takes_some: { 0 < put_len },
 }
 
 impl KeepingSink {
+    ghost use Rattle.s2ix_io.specs.Devices.{flush_fails, flushed_len_of, put_len_of, sink_fault_at};
+
     /// A sink that takes at most `put_len` bytes a call (at least one), whose call number `fault_at` of `put` fails, and whose `flush`
     /// fails where `is_flush_failing`. Calls count from 1: at 0 none fails.
     pub fn new(alloc: Global, put_len: usize, fault_at: u64, is_flush_failing: bool) -> KeepingSink
@@ -54,6 +56,8 @@ impl KeepingSink {
 }
 
 impl Sink for KeepingSink {
+    ghost use Rattle.s2ix_io.specs.Devices.{flush_fails, flushed_len_of, put_len_of, sink_fault_at};
+
     ghost taken = { λ s. Some s.kept.items };
 
     ghost flushes = { λ old new. (new.kept ≡ old.kept) × (new.flushed_len ≡ vec_len old.kept) };
@@ -62,10 +66,25 @@ impl Sink for KeepingSink {
 
     ghost fault_count = { λ s. s.faults };
 
-    fn put(&mut self, bytes: &[u8]) -> Result<usize, WriteFault> {
+    fn put(&mut self, bytes: &[u8]) -> Result<usize, WriteFault>
+        requires room { 0 < length bytes.now }
+        requires counts { CanCount (⟦<KeepingSink as Sink>⟧.fault_count self.old) }
+        ensures bound { IfOk result (λ n. n ≤ length bytes.now) }
+        ensures progress { IfOk result (λ n. 0 < n) }
+        ensures bytes { MatchResult result
+            (λ n. Appends (⟦<KeepingSink as Sink>⟧.taken self.old) (⟦<KeepingSink as Sink>⟧.taken self.new) (take n bytes.now))
+            (λ _. Keeps (⟦<KeepingSink as Sink>⟧.taken self.old) (⟦<KeepingSink as Sink>⟧.taken self.new)) }
+        ensures unflushed { flushed_len_of self.new ≡ flushed_len_of self.old }
+        ensures faults { ⟦<KeepingSink as Sink>⟧.fault_count self.new ≡ ⟦<KeepingSink as Sink>⟧.fault_count self.old + write_faults result }
+        ensures number { IfOk result (λ n. n ≡ min (put_len_of self.old) (length bytes.now)) }
+        ensures fails { sink_fault_at self.old ≡ 1 → IsErr result }
+        ensures fault_at { sink_fault_at self.new ≡ sink_fault_at self.old - 1 }
+        ensures put_len { put_len_of self.new ≡ put_len_of self.old }
+        ensures flush { flush_fails self.new ≡ flush_fails self.old }
+    {
         let is_fault = self.calls_to_fault == 1;
         self.calls_to_fault = self.calls_to_fault.saturating_sub(1);
-        let count = self.put_len.max(1).min(bytes.len());
+        let count = self.put_len.min(bytes.len());
         if is_fault || self.kept.extend_from_slice(&bytes[..count]).is_err() {
             self.faults += 1;
             return Err(WriteFault);
@@ -80,6 +99,9 @@ impl Sink for KeepingSink {
         ensures failed { OnErr result (⟦<KeepingSink as Sink>⟧.flush_mark self.new ≡ ⟦<KeepingSink as Sink>⟧.flush_mark self.old) }
         ensures faults { ⟦<KeepingSink as Sink>⟧.fault_count self.new ≡ ⟦<KeepingSink as Sink>⟧.fault_count self.old + write_faults result }
         ensures fails { IsErr result ↔ IsTrue (flush_fails self.old) }
+        ensures fault_at { sink_fault_at self.new ≡ sink_fault_at self.old }
+        ensures put_len { put_len_of self.new ≡ put_len_of self.old }
+        ensures flush { flush_fails self.new ≡ flush_fails self.old }
     {
         if self.is_flush_failing {
             self.faults += 1;

@@ -3,13 +3,7 @@
 //! a whole input and put a whole text.
 #![tactic(auto)]
 
-#[cfg(test)]
-mod adapter_tests;
 mod broken;
-#[cfg(test)]
-mod checks;
-#[cfg(test)]
-mod device_tests;
 mod from_read;
 mod keeping_sink;
 mod put;

@@ -288,21 +288,12 @@ fn put_pair(out: &mut String, pair: u8) -> Result<(), AllocError> {
 
 // Writes a cell's byte without the zeros at its end.
 pub(crate) fn put_token(out: &mut String, cell: u8) -> Result<(), AllocError> {
-    out.push_str(LOWER[usize::from(cell / 16)])?;
-    if cell % 16 > 0 {
-        out.push_str(LOWER[usize::from(cell % 16)])?;
+    if cell % 16 == 0 {
+        write!(out, "{:x}", cell / 16)
+    } else {
+        write!(out, "{cell:02x}")
     }
-    Ok(())
 }
-
-// The hexadecimal digits, in either case.
-pub(crate) const LOWER: [&str; 16] = [
-    "0", "1", "2", "3", "4", "5", "6", "7", "8", "9", "a", "b", "c", "d", "e", "f",
-];
-
-pub(crate) const UPPER: [&str; 16] = [
-    "0", "1", "2", "3", "4", "5", "6", "7", "8", "9", "A", "B", "C", "D", "E", "F",
-];
 
 // Writes a number behind a space.
 pub(crate) fn put_number(out: &mut String, number: u32) -> Result<(), AllocError> {

@@ -1,19 +1,12 @@
 // Runs of `dump` over an empty store that a device ends.
-ghost use Rattle.std.specs.Prelude.{◌-◌, ◌^◌, ◌<◌};
-
-use s2ix_bag::Limits;
-use s2ix_cli::{RunFault, RunOptions, run};
-use s2ix_edit::Store;
-use s2ix_io::{KeepingSink, Sink, SliceSource, Source, TakesNone, ToWrite};
+use crate::runs::{ALL, WIDEST, run_over_empty};
+use s2ix_cli::{RunFault, RunOptions};
+use s2ix_io::{KeepingSink, SliceSource, TakesNone, ToWrite};
 use std::alloc::Global;
-use std::process::Abort;
 use std::test::Fail;
 
 // What a run of `dump` over an empty store writes.
 const DUMP: &[u8] = b"s2ix 1\nend 0 0\n";
-
-// More bytes than any text here has: a device of this length moves all that there is in one call.
-const ALL: usize = 1_000;
 
 // The devices of a run, and how it ends.
 #[derive(Clone, Copy)]
@@ -97,22 +90,8 @@ const RUNS: [Devices; 8] = [
     },
 ];
 
-// Runs what the source gives over an empty store, and tells what ended the run.
-fn fault_over_empty<S: Source, K: Sink>(
-    alloc: Global,
-    source: &mut S,
-    sink: &mut K,
-    turns: u64,
-) -> Result<Option<RunFault>, Fail>
-    requires source_counts { S.fault_count source.old < 2 ^ 64 - 1 }
-    requires sink_counts { K.fault_count sink.old < 2 ^ 64 - 1 }
-{
-    let mut store = Store::new(alloc, Limits::default())?;
-    let options = RunOptions { stop: false, turns };
-    Ok(run(alloc, source, sink, &mut store, options).err())
-}
-
-fn check(rt: &impl Abort, alloc: Global, devices: Devices) -> Result<(), Fail> {
+// Whether a run over these devices ends as they do.
+fn ends_as_told(alloc: Global, devices: &Devices) -> Result<bool, Fail> {
     let mut source = SliceSource::new(b"dump\n", devices.piece_len, devices.piece_fault);
     let mut sink = KeepingSink::new(
         alloc,
@@ -120,20 +99,43 @@ fn check(rt: &impl Abort, alloc: Global, devices: Devices) -> Result<(), Fail> {
         devices.put_fault,
         devices.flush_fails,
     );
-    let ended_by = fault_over_empty(alloc, &mut source, &mut sink, devices.turns)?;
-    assert_eq!(rt; ended_by, devices.ends_by);
+    let options = RunOptions {
+        stop: false,
+        turns: devices.turns,
+    };
+    let end = run_over_empty(alloc, &mut source, &mut sink, WIDEST, options)?;
     let kept = sink.kept();
-    assert!(rt; DUMP.starts_with(kept));
-    assert!(rt; devices.least <= kept.len() && kept.len() <= devices.most);
-    assert_eq!(rt; sink.flushed_len(), devices.flushed);
+    Ok(
+        end.err() == devices.ends_by
+            && DUMP.starts_with(kept)
+            && devices.least <= kept.len()
+            && kept.len() <= devices.most
+            && sink.flushed_len() == devices.flushed,
+    )
+}
+
+fn check_run(alloc: Global, place: usize, devices: &Devices) -> Result<(), Fail> {
+    if ends_as_told(alloc, devices)? {
+        Ok(())
+    } else {
+        Err(Fail::new(format_args!("run {place}")))
+    }
+}
+
+fn check_runs(alloc: Global, runs: &[Devices]) -> Result<(), Fail> {
+    for (place, devices) in runs.iter().enumerate() {
+        check_run(alloc, place, devices)?;
+    }
     Ok(())
 }
 
 #[test]
 fn a_run_ends_as_its_devices_do(rt: HostRuntime) -> Result<(), Fail> {
-    for devices in RUNS {
-        check(&rt, rt.alloc(), devices)?;
-    }
+    check_runs(rt.alloc(), &RUNS)
+}
+
+#[test]
+fn a_fault_of_any_put_ends_a_run(rt: HostRuntime) -> Result<(), Fail> {
     for count in 0..DUMP_LEN {
         let devices = Devices {
             put_len: 1,
@@ -144,7 +146,7 @@ fn a_run_ends_as_its_devices_do(rt: HostRuntime) -> Result<(), Fail> {
             flushed: 0,
             ..WHOLE
         };
-        check(&rt, rt.alloc(), devices)?;
+        check_run(rt.alloc(), count, &devices)?;
     }
     Ok(())
 }
@@ -153,7 +155,13 @@ fn a_run_ends_as_its_devices_do(rt: HostRuntime) -> Result<(), Fail> {
 fn a_writer_that_takes_none_ends_a_run(rt: HostRuntime) -> Result<(), Fail> {
     let mut source = SliceSource::new(b"dump\n", ALL, 0);
     let mut sink = ToWrite::new(TakesNone);
-    let ended_by = fault_over_empty(rt.alloc(), &mut source, &mut sink, 100)?;
-    assert_eq!(rt; ended_by, Some(RunFault::Write));
-    Ok(())
+    let options = RunOptions {
+        stop: false,
+        turns: 100,
+    };
+    let end = run_over_empty(rt.alloc(), &mut source, &mut sink, WIDEST, options)?;
+    match end {
+        Err(RunFault::Write) => Ok(()),
+        _ => Err(Fail::new("the run did not end by a write fault")),
+    }
 }

@@ -69,5 +69,5 @@ const SCRIPTS: [Script; 10] = [
 
 #[test]
 fn histories_are_followed(rt: HostRuntime) -> Result<(), Fail> {
-    check_all(&rt, rt.alloc(), &SCRIPTS)
+    check_all(rt.alloc(), &SCRIPTS)
 }

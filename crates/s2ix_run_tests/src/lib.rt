@@ -4,11 +4,17 @@
 #[cfg(test)]
 mod fault_tests;
 #[cfg(test)]
+mod grow_tests;
+#[cfg(test)]
 mod history_tests;
 #[cfg(test)]
 mod query_tests;
 #[cfg(test)]
 mod reading_tests;
+#[cfg(test)]
+mod region_tests;
+#[cfg(test)]
+mod runs;
 #[cfg(test)]
 mod script_tests;
 #[cfg(test)]

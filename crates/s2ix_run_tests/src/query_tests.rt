@@ -92,5 +92,5 @@ const SCRIPTS: [Script; 12] = [
 
 #[test]
 fn queries_are_answered(rt: HostRuntime) -> Result<(), Fail> {
-    check_all(&rt, rt.alloc(), &SCRIPTS)
+    check_all(rt.alloc(), &SCRIPTS)
 }

@@ -1,5 +1,6 @@
 // Worked scripts of fields, spellings, limits, paths, neighbors and squares. Their outputs are worked out by hand from the formats.
 use crate::scripts::{PLAIN, Script, check_all};
+use std::alloc::Global;
 use std::test::Fail;
 
 const SCRIPTS: [Script; 29] = [
@@ -184,24 +185,24 @@ const SCRIPTS: [Script; 29] = [
 
 #[test]
 fn lines_are_answered(rt: HostRuntime) -> Result<(), Fail> {
-    check_all(&rt, rt.alloc(), &SCRIPTS)
+    check_all(rt.alloc(), &SCRIPTS)
+}
+
+// Runs a comment of so many bytes, and then a dump.
+fn check_comment(alloc: Global, length: usize, output: &[u8]) -> Result<(), Fail> {
+    let mut input = Vec::from_elem(alloc, b'#', length)?;
+    input.extend_from_slice(b"\ndump\n")?;
+    let script = Script {
+        name: "a comment may have 65,536 bytes, and a line with one byte more is too long",
+        input: &input,
+        output,
+        ..PLAIN
+    };
+    check_all(alloc, &[script])
 }
 
 #[test]
 fn long_lines(rt: HostRuntime) -> Result<(), Fail> {
-    for (bytes, output) in [
-        (65_536, b"s2ix 1\nend 0 0\n".as_slice()),
-        (65_537, b"no LineTooLong\ns2ix 1\nend 0 0\n".as_slice()),
-    ] {
-        let mut input = Vec::from_elem(rt.alloc(), b'#', bytes)?;
-        input.extend_from_slice(b"\ndump\n")?;
-        let script = Script {
-            name: "a comment may have 65,536 bytes, and a line with one byte more is too long",
-            input: &input,
-            output,
-            ..PLAIN
-        };
-        check_all(&rt, rt.alloc(), &[script])?;
-    }
-    Ok(())
+    check_comment(rt.alloc(), 65_536, b"s2ix 1\nend 0 0\n")?;
+    check_comment(rt.alloc(), 65_537, b"no LineTooLong\ns2ix 1\nend 0 0\n")
 }

@@ -48,3 +48,11 @@ copies_from n = if nat_le 1 n && nat_le n 65535 then Some n else None
 -- the number of copies that a field names
 abbrev pub copies_spelled : List ℕ → Option ℕ
 copies_spelled text = option_and_then copies_from (script_number text)
+
+-- a level: from 0 to 30
+abbrev pub level_from : ℕ → Option ℕ
+level_from n = if nat_le n 30 then Some n else None
+
+-- the level that a field names
+abbrev pub level_spelled : List ℕ → Option ℕ
+level_spelled text = option_and_then level_from (script_number text)

@@ -7,14 +7,14 @@ use Rattle.s2id_union.specs.NormalForm.{normal_form}
 use Rattle.s2ix_bag.specs.declared.label.Label.{Label}
 use Rattle.s2ix_bag.specs.declared.pair.Pair.{Pair}
 use Rattle.s2ix_edit.specs.declared.edit.Edit.{Edit}
-use Rattle.s2ix_edit.specs.declared.edit.Edit.TheVariants.{Add, AddUnion, Remove, DropLabel, Relabel}
+use Rattle.s2ix_edit.specs.declared.edit.Edit.TheVariants.{Add, AddUnion, Remove, DropLabel, Relabel, Grow, Normalise}
 use Rattle.s2ix_script.specs.declared.instruction.Instruction.{Instruction}
 use Rattle.s2ix_script.specs.declared.instruction.Instruction.TheVariants as asks
 use Rattle.s2ix_script.specs.declared.line_fault.LineError.{LineError}
 use Rattle.s2ix_script.specs.declared.line_fault.LineError.TheVariants.{Fault, OutOfMemory}
 use Rattle.s2ix_script.specs.declared.line_fault.LineFault.{LineFault}
-use Rattle.s2ix_script.specs.declared.line_fault.LineFault.TheVariants.{LineTooLong, BadCommand, BadArguments, BadToken, BadLabel, BadCount}
-use Rattle.s2ix_script.specs.Fields.{fields_of, label_spelled, copies_spelled}
+use Rattle.s2ix_script.specs.declared.line_fault.LineFault.TheVariants.{LineTooLong, BadCommand, BadArguments, BadToken, BadLabel, BadCount, BadLevel}
+use Rattle.s2ix_script.specs.Fields.{fields_of, label_spelled, copies_spelled, level_spelled}
 
 -- the longest line that is read, in bytes
 abbrev pub LONGEST : ℕ
@@ -60,21 +60,49 @@ abbrev pub cell_named : List (List ℕ) → Result CellId LineFault
 cell_named (token ∷ []) = cell_with (cell_spelled token)
 cell_named fields = Err BadArguments
 
--- the one field LABEL, whose label is dropped
+-- the one field LABEL
+abbrev pub label_named : List (List ℕ) → Result Label LineFault
+label_named (label ∷ []) = label_with (label_spelled label)
+label_named fields = Err BadArguments
+
+-- two labels, where fields name both; the first that does not decides
+abbrev pub labels_with : Option Label → Option Label → Result (Label × Label) LineFault
+labels_with None second = Err BadLabel
+labels_with (Some first) None = Err BadLabel
+labels_with (Some first) (Some second) = Ok (first, second)
+
+-- the two fields LABEL LABEL
+abbrev pub labels_named : List (List ℕ) → Result (Label × Label) LineFault
+labels_named (first ∷ second ∷ []) = labels_with (label_spelled first) (label_spelled second)
+labels_named fields = Err BadArguments
+
+-- the edits of `drop`, `relabel` and `normal`
 abbrev pub drop_named : List (List ℕ) → Result Edit LineFault
-drop_named (label ∷ []) = map_ok DropLabel (label_with (label_spelled label))
-drop_named fields = Err BadArguments
+drop_named fields = map_ok DropLabel (label_named fields)
 
--- a label that becomes another, where fields name both; the first that does not decides
-abbrev pub relabel_with : Option Label → Option Label → Result Edit LineFault
-relabel_with None target = Err BadLabel
-relabel_with (Some source) None = Err BadLabel
-relabel_with (Some source) (Some target) = Ok (Relabel source target)
-
--- the fields SOURCE TARGET
 abbrev pub relabel_named : List (List ℕ) → Result Edit LineFault
-relabel_named (source ∷ target ∷ []) = relabel_with (label_spelled source) (label_spelled target)
-relabel_named fields = Err BadArguments
+relabel_named fields = map_ok (λ named. Relabel named.0 named.1) (labels_named fields)
+
+abbrev pub normal_named : List (List ℕ) → Result Edit LineFault
+normal_named fields = map_ok Normalise (label_named fields)
+
+-- the edit of `grow`, where fields name its label and its level; the first that does not decides
+abbrev pub grow_with : Option Label → Option ℕ → Result Edit LineFault
+grow_with None level = Err BadLabel
+grow_with (Some label) None = Err BadLevel
+grow_with (Some label) (Some level) = Ok (Grow label level)
+
+-- the two fields LABEL LEVEL
+abbrev pub grow_named : List (List ℕ) → Result Edit LineFault
+grow_named (label ∷ level ∷ []) = grow_with (label_spelled label) (level_spelled level)
+grow_named fields = Err BadArguments
+
+-- what `common` and `only` ask for
+abbrev pub common_named : List (List ℕ) → Result Instruction LineFault
+common_named fields = map_ok (λ named. asks.Common named.0 named.1) (labels_named fields)
+
+abbrev pub only_named : List (List ℕ) → Result Instruction LineFault
+only_named fields = map_ok (λ named. asks.Only named.0 named.1) (labels_named fields)
 
 -- ---- the cells that fields name
 
@@ -118,12 +146,17 @@ words =
     ∷ (codes "addunion", λ fields. map_ok asks.Edit (add_union_named fields))
     ∷ (codes "drop", λ fields. map_ok asks.Edit (drop_named fields))
     ∷ (codes "relabel", λ fields. map_ok asks.Edit (relabel_named fields))
+    ∷ (codes "grow", λ fields. map_ok asks.Edit (grow_named fields))
+    ∷ (codes "normal", λ fields. map_ok asks.Edit (normal_named fields))
     ∷ (codes "undo", bare asks.Undo)
     ∷ (codes "redo", bare asks.Redo)
     ∷ (codes "forget", bare asks.Forget)
     ∷ (codes "at", λ fields. map_ok asks.At (cell_named fields))
     ∷ (codes "meet", λ fields. map_ok asks.Meet (union_named fields))
     ∷ (codes "labels", λ fields. map_ok asks.Labels (union_named fields))
+    ∷ (codes "region", λ fields. map_ok asks.Region (label_named fields))
+    ∷ (codes "common", common_named)
+    ∷ (codes "only", only_named)
     ∷ (codes "ranges", bare asks.Ranges)
     ∷ (codes "path", λ fields. map_ok asks.Path (cell_named fields))
     ∷ (codes "neighbors", λ fields. map_ok asks.Neighbors (cell_named fields))

@@ -17,9 +17,10 @@ fault_name fault.BadArguments = codes "BadArguments"
 fault_name fault.BadToken = codes "BadToken"
 fault_name fault.BadLabel = codes "BadLabel"
 fault_name fault.BadCount = codes "BadCount"
+fault_name fault.BadLevel = codes "BadLevel"
 
 -- the name by which `at` is refused where its cell is no leaf
-abbrev pub not_leaf_name : List ℕ
+unfoldable pub not_leaf_name : List ℕ
 not_leaf_name = codes "NotLeaf"
 
 -- the name of an edit's refusal; want of memory is no answer of a line, and has a name all the same
@@ -27,6 +28,7 @@ abbrev pub edit_error_name : EditError → List ℕ
 edit_error_name edit.JournalFull = codes "JournalFull"
 edit_error_name edit.NoSuchLabel = codes "NoSuchLabel"
 edit_error_name edit.NotHeld = codes "NotHeld"
+edit_error_name edit.TooFine = codes "TooFine"
 edit_error_name edit.NoChange = codes "NoChange"
 edit_error_name edit.TooManyCopies = codes "TooManyCopies"
 edit_error_name edit.TooManyPairs = codes "TooManyPairs"

@@ -4,7 +4,7 @@ ghost use Rattle.std.specs.Prelude.{◌≡◌, Ok, None, ◌∷◌, true, MatchR
 ghost use Rattle.std.specs.Result.{result_err};
 ghost use Rattle.s2ix_script.specs.Meaning.{IsFault, Means, add_union_named as add_union_of, cells_named, is_on_union, union_named as union_in, union_of as union_that};
 
-use crate::fields::cell_spelled;
+use crate::fields::cell_from_field;
 use crate::instruction::Instruction;
 use crate::line_fault::{LineError, LineFault};
 use crate::numbers::label_spelled;
@@ -54,10 +54,10 @@ fn union_of(alloc: Global, first: &[u8], rest: Fields<'_>) -> Result<CellUnion, 
 fn count_cells(first: &[u8], rest: Fields<'_>) -> Result<usize, LineFault>
     ensures { result_err result ≡ result_err (cells_named (first.now ∷ rest.entry)) }
 {
-    cell_spelled(first)?;
+    cell_from_field(first)?;
     let mut count: usize = 1;
     'tokens: for token in rest {
-        cell_spelled(token)?;
+        cell_from_field(token)?;
         count = count.saturating_add(1);
     }
     Ok(count)
@@ -77,9 +77,9 @@ fn gather_cells(
         (λ error. IsFault (λ _. true) error (cells_named (first.now ∷ rest.entry))) }
 {
     let mut cells = Vec::with_capacity(alloc, count)?;
-    cells.push(cell_spelled(first)?)?;
+    cells.push(cell_from_field(first)?)?;
     'tokens: for token in rest {
-        cells.push(cell_spelled(token)?)?;
+        cells.push(cell_from_field(token)?)?;
     }
     Ok(cells)
 }

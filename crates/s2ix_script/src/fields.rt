@@ -1,14 +1,14 @@
 //! What the fields behind a word name.
 ghost use Rattle.std.specs.Prelude.{◌≡◌};
-ghost use Rattle.s2id_core.specs.Spelled.{cell_spelled as cell_that};
-ghost use Rattle.s2ix_script.specs.Meaning.{bare as bare_of, cell_named as cell_of, cell_with, drop_named as drop_of, pair_named as pair_of, relabel_named as relabel_of};
+ghost use Rattle.s2id_core.specs.Spelled.{cell_spelled};
+ghost use Rattle.s2ix_script.specs.Meaning.{bare as bare_of, cell_named as cell_of, cell_with, common_named as common_of, drop_named as drop_of, grow_named as grow_of, label_named as label_of, labels_named as labels_of, normal_named as normal_of, only_named as only_of, pair_named as pair_of, relabel_named as relabel_of};
 
 use crate::instruction::Instruction;
 use crate::line_fault::LineFault;
-use crate::numbers::{copies_spelled, label_spelled};
+use crate::numbers::{copies_spelled, label_spelled, level_spelled};
 use bstr::Fields;
 use s2id_core::CellId;
-use s2ix_bag::Pair;
+use s2ix_bag::{Label, Pair};
 use s2ix_edit::Edit;
 
 // An instruction that takes no field.
@@ -25,10 +25,10 @@ pub(crate) fn bare(
 }
 
 // The cell that a field names.
-pub(crate) fn cell_spelled(token: &[u8]) -> Result<CellId, LineFault>
-    ensures { result ≡ cell_with (cell_that token.now) }
+pub(crate) fn cell_from_field(field: &[u8]) -> Result<CellId, LineFault>
+    ensures { result ≡ cell_with (cell_spelled field.now) }
 {
-    Ok(CellId::from_token(token)?)
+    Ok(CellId::from_token(field)?)
 }
 
 // The cell that the one field TOKEN names.
@@ -41,12 +41,12 @@ pub(crate) fn cell_named(mut fields: Fields<'_>) -> Result<CellId, LineFault>
     if fields.next().is_some() {
         return Err(LineFault::BadArguments);
     }
-    cell_spelled(token)
+    cell_from_field(token)
 }
 
-// The edit of `drop`, whose label the one field LABEL names.
-pub(crate) fn drop_named(mut fields: Fields<'_>) -> Result<Edit, LineFault>
-    ensures { result ≡ drop_of fields.entry }
+// The label that the one field LABEL names.
+pub(crate) fn label_named(mut fields: Fields<'_>) -> Result<Label, LineFault>
+    ensures { result ≡ label_of fields.entry }
 {
     let Some(label) = fields.next() else {
         return Err(LineFault::BadArguments);
@@ -54,26 +54,83 @@ pub(crate) fn drop_named(mut fields: Fields<'_>) -> Result<Edit, LineFault>
     if fields.next().is_some() {
         return Err(LineFault::BadArguments);
     }
-    let label = label_spelled(label).ok_or(LineFault::BadLabel)?;
-    Ok(Edit::DropLabel { label })
+    Ok(label_spelled(label).ok_or(LineFault::BadLabel)?)
 }
 
-// The edit of `relabel`, whose labels the two fields SOURCE TARGET name.
-pub(crate) fn relabel_named(mut fields: Fields<'_>) -> Result<Edit, LineFault>
-    ensures { result ≡ relabel_of fields.entry }
+// The labels that the two fields LABEL LABEL name.
+pub(crate) fn labels_named(mut fields: Fields<'_>) -> Result<(Label, Label), LineFault>
+    ensures { result ≡ labels_of fields.entry }
 {
-    let Some(source) = fields.next() else {
+    let Some(first) = fields.next() else {
         return Err(LineFault::BadArguments);
     };
-    let Some(target) = fields.next() else {
+    let Some(second) = fields.next() else {
         return Err(LineFault::BadArguments);
     };
     if fields.next().is_some() {
         return Err(LineFault::BadArguments);
     }
-    let source = label_spelled(source).ok_or(LineFault::BadLabel)?;
-    let target = label_spelled(target).ok_or(LineFault::BadLabel)?;
+    let first = label_spelled(first).ok_or(LineFault::BadLabel)?;
+    let second = label_spelled(second).ok_or(LineFault::BadLabel)?;
+    Ok((first, second))
+}
+
+// The edit of `drop`, whose label the one field LABEL names.
+pub(crate) fn drop_named(fields: Fields<'_>) -> Result<Edit, LineFault>
+    ensures { result ≡ drop_of fields.entry }
+{
+    let label = label_named(fields)?;
+    Ok(Edit::DropLabel { label })
+}
+
+// The edit of `relabel`, whose labels the two fields SOURCE TARGET name.
+pub(crate) fn relabel_named(fields: Fields<'_>) -> Result<Edit, LineFault>
+    ensures { result ≡ relabel_of fields.entry }
+{
+    let (source, target) = labels_named(fields)?;
     Ok(Edit::Relabel { source, target })
+}
+
+// The edit of `grow`, whose label and level the two fields LABEL LEVEL name.
+pub(crate) fn grow_named(mut fields: Fields<'_>) -> Result<Edit, LineFault>
+    ensures { result ≡ grow_of fields.entry }
+{
+    let Some(label) = fields.next() else {
+        return Err(LineFault::BadArguments);
+    };
+    let Some(level) = fields.next() else {
+        return Err(LineFault::BadArguments);
+    };
+    if fields.next().is_some() {
+        return Err(LineFault::BadArguments);
+    }
+    let label = label_spelled(label).ok_or(LineFault::BadLabel)?;
+    let level = level_spelled(level).ok_or(LineFault::BadLevel)?;
+    Ok(Edit::Grow { label, level })
+}
+
+// The edit of `normal`, whose label the one field LABEL names.
+pub(crate) fn normal_named(fields: Fields<'_>) -> Result<Edit, LineFault>
+    ensures { result ≡ normal_of fields.entry }
+{
+    let label = label_named(fields)?;
+    Ok(Edit::Normalise { label })
+}
+
+// What `common` asks for, whose labels the two fields LABEL LABEL name.
+pub(crate) fn common_named(fields: Fields<'_>) -> Result<Instruction, LineFault>
+    ensures { result ≡ common_of fields.entry }
+{
+    let (first, second) = labels_named(fields)?;
+    Ok(Instruction::Common(first, second))
+}
+
+// What `only` asks for, whose labels the two fields LABEL LABEL name.
+pub(crate) fn only_named(fields: Fields<'_>) -> Result<Instruction, LineFault>
+    ensures { result ≡ only_of fields.entry }
+{
+    let (first, second) = labels_named(fields)?;
+    Ok(Instruction::Only(first, second))
 }
 
 // The pair and the copies that the fields TOKEN LABEL or TOKEN LABEL COPIES name.
@@ -90,7 +147,7 @@ pub(crate) fn pair_named(mut fields: Fields<'_>) -> Result<(Pair, u32), LineFaul
     if fields.next().is_some() {
         return Err(LineFault::BadArguments);
     }
-    let cell = cell_spelled(token)?;
+    let cell = cell_from_field(token)?;
     let label = label_spelled(label).ok_or(LineFault::BadLabel)?;
     let copies = match copies {
         None => 1,

@@ -1,11 +1,12 @@
 use s2id_core::CellId;
 use s2id_union::CellUnion;
+use s2ix_bag::Label;
 use s2ix_edit::Edit;
 
 /// What a line of a script asks for. This project's own.
 #[derive(Debug, Drop, PartialEq, Eq)]
 pub enum Instruction {
-    /// `add`, `addunion`, `remove`, `drop` and `relabel`.
+    /// `add`, `addunion`, `remove`, `drop`, `relabel`, `grow` and `normal`.
     Edit(Edit),
     /// `undo`.
     Undo,
@@ -19,6 +20,12 @@ pub enum Instruction {
     Meet(CellUnion),
     /// `labels`: the labels of these pairs.
     Labels(CellUnion),
+    /// `region`: the cells of the label's region.
+    Region(Label),
+    /// `common`: the cells of what the regions of both labels share.
+    Common(Label, Label),
+    /// `only`: the cells of the first label's region less the second's.
+    Only(Label, Label),
     /// `ranges`.
     Ranges,
     /// `path`.

@@ -16,4 +16,4 @@ pub use instruction::Instruction;
 pub use line_fault::{LineError, LineFault};
 pub use line_meaning::{LONGEST_LINE, meaning};
 pub use lines::Lines;
-pub use names::{NOT_LEAF_NAME, edit_error_name, redo_error_name, undo_error_name};
+pub use names::{edit_error_name, not_leaf_name, redo_error_name, undo_error_name};

@@ -28,6 +28,9 @@ pub enum LineFault {
     /// A field that should be a number of copies is no script number from 1 to 65535.
     #[error("field is no number of copies")]
     BadCount,
+    /// A field that should be a level is no script number of at most 30.
+    #[error("field is no level")]
+    BadLevel,
 }
 
 impl From<TokenError> for LineFault {

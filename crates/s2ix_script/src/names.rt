@@ -1,12 +1,9 @@
 //! The names by which refusals are printed. Want of memory ends a run and is never printed; its name is that of its variant.
 ghost use Rattle.std.specs.Prelude.{◌≡◌};
-ghost use Rattle.s2ix_script.specs.Names.{edit_error_name as name_of_edit_error, fault_name, redo_error_name as name_of_redo_error, undo_error_name as name_of_undo_error};
+ghost use Rattle.s2ix_script.specs.Names.{edit_error_name as name_of_edit_error, fault_name, not_leaf_name as name_of_not_leaf, redo_error_name as name_of_redo_error, undo_error_name as name_of_undo_error};
 
 use crate::line_fault::LineFault;
 use s2ix_edit::{EditError, RedoError, UndoError};
-
-/// The name by which a line `at` is answered where its cell is no leaf, as `no NAME`.
-pub const NOT_LEAF_NAME: &str = "NotLeaf";
 
 impl LineFault {
     /// The name by which a line with this fault is answered, as `no NAME`.
@@ -20,6 +17,7 @@ impl LineFault {
             LineFault::BadToken => "BadToken",
             LineFault::BadLabel => "BadLabel",
             LineFault::BadCount => "BadCount",
+            LineFault::BadLevel => "BadLevel",
         }
     }
 }
@@ -32,6 +30,7 @@ pub fn edit_error_name(error: EditError) -> &'static str
         EditError::JournalFull => "JournalFull",
         EditError::NoSuchLabel => "NoSuchLabel",
         EditError::NotHeld => "NotHeld",
+        EditError::TooFine => "TooFine",
         EditError::NoChange => "NoChange",
         EditError::TooManyCopies => "TooManyCopies",
         EditError::TooManyPairs => "TooManyPairs",
@@ -57,4 +56,12 @@ pub fn redo_error_name(error: RedoError) -> &'static str
         RedoError::NothingToRedo => "NothingToRedo",
         RedoError::OutOfMemory => "OutOfMemory",
     }
+}
+
+/// The name by which a line `at` is answered where its cell is no leaf, as `no NAME`.
+#[tactic(auto, unfolding(crate::specs::Names::not_leaf_name))]
+pub fn not_leaf_name() -> &'static str
+    ensures { result.now ≡ name_of_not_leaf }
+{
+    "NotLeaf"
 }

@@ -1,6 +1,6 @@
 //! The numbers and labels that fields write.
 ghost use Rattle.std.specs.Prelude.{◌≡◌};
-ghost use Rattle.s2ix_script.specs.Fields.{copies_spelled as copies_that, label_spelled as label_that, script_number as number_that};
+ghost use Rattle.s2ix_script.specs.Fields.{copies_spelled as copies_that, label_spelled as label_that, level_spelled as level_that, script_number as number_that};
 
 use s2ix_bag::Label;
 
@@ -38,6 +38,16 @@ pub(crate) fn copies_spelled(text: &[u8]) -> Option<u32>
 {
     match script_number(text)? {
         copies @ 1..=65535 => Some(copies as u32),
+        _ => None,
+    }
+}
+
+// The level that a field names, from 0 to 30.
+pub(crate) fn level_spelled(text: &[u8]) -> Option<u8>
+    ensures { result ≡ level_that text.now }
+{
+    match script_number(text)? {
+        level @ 0..=30 => Some(level as u8),
         _ => None,
     }
 }

@@ -5,3 +5,5 @@
 mod line_tests;
 #[cfg(test)]
 mod meaning_tests;
+#[cfg(test)]
+mod name_tests;

@@ -1,50 +1,39 @@
-// Lines, and the names that refused lines are answered by.
-use s2ix_edit::{EditError, RedoError, UndoError};
-use s2ix_script::{
-    LineError, LineFault, Lines, NOT_LEAF_NAME, edit_error_name, redo_error_name, undo_error_name,
-};
+// Texts as lines.
+use s2ix_script::Lines;
 use std::test::Fail;
 
-#[test]
-fn lines_end_at_line_feeds_alone(rt: HostRuntime) {
-    let mut lines = Lines::new(b"undo\r\n\na\rb\ndump");
-    assert_eq!(rt; lines.next_line(), Some(b"undo\r".as_slice()));
-    assert_eq!(rt; lines.next_line(), Some(b"".as_slice()));
-    assert_eq!(rt; lines.next_line(), Some(b"a\rb".as_slice()));
-    assert_eq!(rt; lines.next_line(), Some(b"dump".as_slice()));
-    assert_eq!(rt; lines.next_line(), None);
-}
+// Texts with their lines: a line ends at a line feed alone, and none follows the last line feed.
+const TEXTS: [(&[u8], &[&[u8]]); 7] = [
+    (b"undo\r\n\na\rb\ndump", &[b"undo\r", b"", b"a\rb", b"dump"]),
+    (b"", &[]),
+    (b"\n", &[b""]),
+    (b"undo", &[b"undo"]),
+    (b"undo\n", &[b"undo"]),
+    (b"undo\n\n", &[b"undo", b""]),
+    (b"undo\n ", &[b"undo", b" "]),
+];
 
-#[test]
-fn no_line_follows_the_last_line_feed(rt: HostRuntime) {
-    for (text, number) in [
-        (b"".as_slice(), 0),
-        (b"\n".as_slice(), 1),
-        (b"undo".as_slice(), 1),
-        (b"undo\n".as_slice(), 1),
-        (b"undo\n\n".as_slice(), 2),
-        (b"undo\n ".as_slice(), 2),
-    ] {
-        assert_eq!(rt; Lines::new(text).count(), number);
+// Whether a text has these lines, and as many of them.
+fn has_lines(text: &[u8], wanted: &[&[u8]]) -> bool {
+    let mut lines = Lines::new(text);
+    for &line in wanted {
+        if lines.next_line() != Some(line) {
+            return false;
+        }
     }
+    lines.next_line().is_none() && Lines::new(text).count() == wanted.len()
 }
 
-#[test]
-fn names_are_those_of_the_variants(rt: HostRuntime) {
-    assert_eq!(rt; LineFault::LineTooLong.name(), "LineTooLong");
-    assert_eq!(rt; LineFault::BadArguments.name(), "BadArguments");
-    assert_eq!(rt; edit_error_name(EditError::JournalFull), "JournalFull");
-    assert_eq!(rt; edit_error_name(EditError::TooManyPairs), "TooManyPairs");
-    assert_eq!(rt; undo_error_name(UndoError::NothingToUndo), "NothingToUndo");
-    assert_eq!(rt; redo_error_name(RedoError::NothingToRedo), "NothingToRedo");
-    assert_eq!(rt; NOT_LEAF_NAME, "NotLeaf");
-}
-
-#[test]
-fn faults_have_texts(rt: HostRuntime) -> Result<(), Fail> {
-    let text = format!(in rt.alloc(); "{}", LineError::Fault(LineFault::BadCommand))?;
-    assert_eq!(rt; text.as_str(), "no word of a script");
-    let text = format!(in rt.alloc(); "{}", LineError::OutOfMemory)?;
-    assert_eq!(rt; text.as_str(), "out of memory");
+fn check_texts(texts: &[(&[u8], &[&[u8]])]) -> Result<(), Fail> {
+    for &(text, lines) in texts {
+        if !has_lines(text, lines) {
+            return Err(Fail::new(format_args!("{text:?}")));
+        }
+    }
     Ok(())
+}
+
+#[test]
+fn lines_end_at_line_feeds_alone() -> Result<(), Fail> {
+    check_texts(&TEXTS)
 }

@@ -6,26 +6,63 @@ use s2ix_script::{Instruction, LineError, LineFault, meaning};
 use std::alloc::Global;
 use std::test::Fail;
 
-// The fault of a line, where it has one.
-fn fault_of(alloc: Global, line: &[u8]) -> Option<LineFault> {
-    match meaning(alloc, line) {
-        Err(LineError::Fault(fault)) => Some(fault),
-        _ => None,
-    }
+// What a line asks for, with the tokens of cells.
+#[derive(Clone, Copy)]
+enum Asked {
+    Nothing,
+    Undo,
+    Ranges,
+    // copies of the cell 04 under a label
+    Add(u32, u32),
+    At(&'static [u8]),
+    // a target of one cell
+    Meet(&'static [u8]),
+    Labels(&'static [u8]),
+    // a label, and a level or another label
+    Grow(u32, u8),
+    Normal(u32),
+    Region(u32),
+    Common(u32, u32),
+    Only(u32, u32),
+    // nothing, because of a fault
+    Fault(LineFault),
 }
 
-// Lines without fields, and comments.
-const NOTHING: [&[u8]; 5] = [b"", b" \t\r", b"# note", b"#undo", b"\xc2\xa0 #"];
-
-#[test]
-fn a_line_without_fields_and_a_comment_ask_for_nothing(rt: HostRuntime) {
-    for line in NOTHING {
-        assert!(rt; matches!(meaning(rt.alloc(), line), Ok(None)));
-    }
-}
+// Lines without fields, comments, and lines whose fields stand between white space of Unicode.
+const REQUESTS: [(&[u8], Asked); 25] = [
+    (b"", Asked::Nothing),
+    (b" \t\r", Asked::Nothing),
+    (b"# note", Asked::Nothing),
+    (b"#undo", Asked::Nothing),
+    (b"\xc2\xa0 #", Asked::Nothing),
+    // white space is that of Unicode
+    (b"undo\r", Asked::Undo),
+    (b"\tundo\x0b", Asked::Undo),
+    (b"\xc2\x85undo\xe2\x80\x83", Asked::Undo),
+    // fields name a pair and copies
+    (b"add 04 9", Asked::Add(9, 1)),
+    (b"add 04 9\r", Asked::Add(9, 1)),
+    (b"add\xc2\xa004\xc2\xa09", Asked::Add(9, 1)),
+    (b"add 04 0000000009", Asked::Add(9, 1)),
+    (b"add 04 9 0000000001", Asked::Add(9, 1)),
+    (b"add 04 9 65535", Asked::Add(9, 65535)),
+    (b"add 04 2147483647", Asked::Add(2147483647, 1)),
+    // tokens name a target
+    (b"meet 1c 04 14 0C 04", Asked::Meet(b"1")),
+    (b"labels 1 1d", Asked::Labels(b"1")),
+    (b"at 1", Asked::At(b"1")),
+    (b"ranges", Asked::Ranges),
+    // labels and levels
+    (b"grow 9 0", Asked::Grow(9, 0)),
+    (b"grow 9 030", Asked::Grow(9, 30)),
+    (b"normal 9", Asked::Normal(9)),
+    (b"region 9", Asked::Region(9)),
+    (b"common 9 3", Asked::Common(9, 3)),
+    (b"only 9 3", Asked::Only(9, 3)),
+];
 
 // Lines with the first of their faults.
-const FAULTS: [(&[u8], LineFault); 56] = [
+const FAULTS: [(&[u8], LineFault); 67] = [
     // no word of a script, or not as many fields as fit the word
     (b"ADD 04 9", LineFault::BadCommand),
     (b"addd 04 9", LineFault::BadCommand),
@@ -49,6 +86,12 @@ const FAULTS: [(&[u8], LineFault); 56] = [
     (b"meet", LineFault::BadArguments),
     (b"labels", LineFault::BadArguments),
     (b"ranges 1", LineFault::BadArguments),
+    (b"grow 4", LineFault::BadArguments),
+    (b"grow 4 1 1", LineFault::BadArguments),
+    (b"normal", LineFault::BadArguments),
+    (b"region 1 2", LineFault::BadArguments),
+    (b"common 1", LineFault::BadArguments),
+    (b"only 1 2 3", LineFault::BadArguments),
     // the first unfit field of a list
     (b"meet 04 X", LineFault::BadToken),
     (b"meet X 04", LineFault::BadToken),
@@ -79,6 +122,11 @@ const FAULTS: [(&[u8], LineFault); 56] = [
     (b"at x", LineFault::BadToken),
     (b"meet 04 2", LineFault::BadToken),
     (b"labels x 04", LineFault::BadToken),
+    (b"grow 4 31", LineFault::BadLevel),
+    (b"grow 4 x", LineFault::BadLevel),
+    (b"grow x 31", LineFault::BadLabel),
+    (b"common 1 x", LineFault::BadLabel),
+    (b"only x 1", LineFault::BadLabel),
     // U+00A0 separates
     (b"undo\xc2\xa0x", LineFault::BadArguments),
     // a byte before U+00A0 is a field
@@ -93,30 +141,7 @@ const FAULTS: [(&[u8], LineFault); 56] = [
     (b"undo\xa0", LineFault::BadCommand),
 ];
 
-#[test]
-fn the_first_fault_is_answered(rt: HostRuntime) {
-    for (line, fault) in FAULTS {
-        assert_eq!(rt; fault_of(rt.alloc(), line), Some(fault), "{line:?}");
-    }
-}
-
-// One field, between white space of Unicode.
-const UNDO: [&[u8]; 3] = [b"undo\r", b"\tundo\x0b", b"\xc2\x85undo\xe2\x80\x83"];
-
-#[test]
-fn white_space_is_that_of_unicode(rt: HostRuntime) {
-    for line in UNDO {
-        assert!(rt; matches!(meaning(rt.alloc(), line), Ok(Some(Instruction::Undo))));
-    }
-}
-
-#[test]
-fn a_line_may_have_65536_bytes(rt: HostRuntime) {
-    let blank = [b' '; 65537];
-    assert!(rt; matches!(meaning(rt.alloc(), &blank[..65536]), Ok(None)));
-    assert_eq!(rt; fault_of(rt.alloc(), &blank), Some(LineFault::LineTooLong));
-}
-
+// The pair of the cell 04 and a label.
 fn pair_04(label: u32) -> Result<Pair, Fail> {
     Ok(Pair {
         cell: CellId::from_token(b"04")?,
@@ -124,58 +149,93 @@ fn pair_04(label: u32) -> Result<Pair, Fail> {
     })
 }
 
-// Lines that add copies of the cell 04, with the label and how many.
-const ADDED: [(&[u8], u32, u32); 7] = [
-    (b"add 04 9", 9, 1),
-    (b"add 04 9\r", 9, 1),
-    (b"add\xc2\xa004\xc2\xa09", 9, 1),
-    (b"add 04 0000000009", 9, 1),
-    (b"add 04 9 0000000001", 9, 1),
-    (b"add 04 9 65535", 9, 65535),
-    (b"add 04 2147483647", 2147483647, 1),
-];
+// Whether the one cell of a target has this token.
+fn is_cell(cells: &[CellId], token: &[u8]) -> Result<bool, Fail> {
+    Ok(cells == [CellId::from_token(token)?].as_slice())
+}
 
-// The pair and the copies that a line asks to add.
-fn added_by(alloc: Global, line: &[u8]) -> Option<(Pair, u32)> {
+// Whether two labels have these numbers.
+fn are_labels(first: Label, second: Label, numbers: (u32, u32)) -> bool {
+    (first.get(), second.get()) == numbers
+}
+
+// Whether an instruction is on labels as it is asked for.
+fn is_on_labels(instruction: &Instruction, asked: Asked) -> bool {
+    match (instruction, asked) {
+        (Instruction::Edit(Edit::Grow { label, level }), Asked::Grow(number, wanted)) => {
+            label.get() == number && *level == wanted
+        }
+        (Instruction::Edit(Edit::Normalise { label }), Asked::Normal(number))
+        | (Instruction::Region(label), Asked::Region(number)) => label.get() == number,
+        (Instruction::Common(first, second), Asked::Common(one, other))
+        | (Instruction::Only(first, second), Asked::Only(one, other)) => {
+            are_labels(*first, *second, (one, other))
+        }
+        _ => false,
+    }
+}
+
+// Whether an instruction is what is asked for.
+fn is_asked(instruction: &Instruction, asked: Asked) -> Result<bool, Fail> {
+    match (instruction, asked) {
+        (Instruction::Undo, Asked::Undo) | (Instruction::Ranges, Asked::Ranges) => Ok(true),
+        (Instruction::Edit(Edit::Add { pair, copies }), Asked::Add(label, wanted)) => {
+            Ok(*pair == pair_04(label)? && *copies == wanted)
+        }
+        (Instruction::At(cell), Asked::At(token)) => is_cell(&[*cell], token),
+        (Instruction::Meet(target), Asked::Meet(token))
+        | (Instruction::Labels(target), Asked::Labels(token)) => is_cell(target.cells(), token),
+        _ => Ok(is_on_labels(instruction, asked)),
+    }
+}
+
+// Whether a line asks for this.
+fn asks_for(alloc: Global, line: &[u8], asked: Asked) -> Result<bool, Fail> {
     match meaning(alloc, line) {
-        Ok(Some(Instruction::Edit(Edit::Add { pair, copies }))) => Some((pair, copies)),
-        _ => None,
+        Ok(Some(instruction)) => is_asked(&instruction, asked),
+        Ok(None) => Ok(matches!(asked, Asked::Nothing)),
+        Err(LineError::Fault(fault)) => Ok(
+            matches!(asked, Asked::Fault(wanted) if wanted == fault),
+        ),
+        Err(LineError::OutOfMemory) => Ok(false),
     }
 }
 
-#[test]
-fn fields_name_a_pair_and_copies(rt: HostRuntime) -> Result<(), Fail> {
-    for (line, label, copies) in ADDED {
-        let wanted = pair_04(label)?;
-        assert_eq!(rt; added_by(rt.alloc(), line), Some((wanted, copies)));
+fn check_line(alloc: Global, line: &[u8], asked: Asked) -> Result<(), Fail> {
+    if asks_for(alloc, line, asked)? {
+        Ok(())
+    } else {
+        Err(Fail::new(format_args!("{line:?}")))
+    }
+}
+
+fn check_lines(alloc: Global, lines: &[(&[u8], Asked)]) -> Result<(), Fail> {
+    for &(line, asked) in lines {
+        check_line(alloc, line, asked)?;
     }
     Ok(())
 }
 
 #[test]
-fn tokens_name_a_target(rt: HostRuntime) -> Result<(), Fail> {
-    let face = CellId::from_token(b"1")?;
-    let asked = meaning(rt.alloc(), b"meet 1c 04 14 0C 04");
-    assert!(rt;
-        matches!(
-            &asked,
-            Ok(Some(Instruction::Meet(target))) if target.cells() == [face].as_slice()
-        )
-    );
-    let asked = meaning(rt.alloc(), b"labels 1 1d");
-    assert!(rt;
-        matches!(
-            &asked,
-            Ok(Some(Instruction::Labels(target))) if target.cells() == [face].as_slice()
-        )
-    );
-    let asked = meaning(rt.alloc(), b"at 1");
-    assert!(rt; matches!(&asked, Ok(Some(Instruction::At(cell))) if *cell == face));
-    assert!(rt;
-        matches!(
-            meaning(rt.alloc(), b"ranges"),
-            Ok(Some(Instruction::Ranges))
-        )
-    );
+fn fields_say_what_a_line_asks_for(rt: HostRuntime) -> Result<(), Fail> {
+    check_lines(rt.alloc(), &REQUESTS)
+}
+
+fn check_faults(alloc: Global, lines: &[(&[u8], LineFault)]) -> Result<(), Fail> {
+    for &(line, fault) in lines {
+        check_line(alloc, line, Asked::Fault(fault))?;
+    }
     Ok(())
+}
+
+#[test]
+fn the_first_fault_is_answered(rt: HostRuntime) -> Result<(), Fail> {
+    check_faults(rt.alloc(), &FAULTS)
+}
+
+#[test]
+fn a_line_may_have_65536_bytes(rt: HostRuntime) -> Result<(), Fail> {
+    let blank = [b' '; 65537];
+    check_line(rt.alloc(), &blank[..65536], Asked::Nothing)?;
+    check_line(rt.alloc(), &blank, Asked::Fault(LineFault::LineTooLong))
 }

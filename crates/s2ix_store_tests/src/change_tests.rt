@@ -1,45 +1,55 @@
 // Changes between bags.
-use crate::checks::{EntryRow, check_applied, check_change};
-use crate::samples::{Counted, bag_of};
-use s2ix_bag::Change;
+use crate::checks::{check_applied, check_change};
+use crate::samples::bag_of;
+use s2ix_bag::{Bag, Change};
 use std::alloc::Global;
-use std::test::Fail;
+use std::process::Abort;
 
-const OLD: [Counted; 2] = [(b"04", 7, 1), (b"04", 9, 2)];
+const OLD: &str = "04:7:1 04:9:2";
 
-const NEW: [Counted; 2] = [(b"04", 7, 1), (b"1", 7, 3)];
+const NEW: &str = "04:7:1 1:7:3";
 
 // What leads from the old pairs to the new ones.
-const ENTRIES: [EntryRow; 2] = [(b"04", 9, 2, 0), (b"1", 7, 0, 3)];
+const ENTRIES: &str = "04:9:2:0 1:7:0:3";
+
+fn bag_with(rt: &impl Abort, alloc: Global, pairs: &str) -> Bag {
+    bag_of(rt, alloc, (3, 3, 1), pairs)
+}
 
 // The change that leads from the old pairs to the new ones.
-fn change_there(alloc: Global) -> Result<Change, Fail> {
-    let old = bag_of(alloc, (3, 3, 1), &OLD)?;
-    let new = bag_of(alloc, (3, 3, 1), &NEW)?;
-    Ok(Change::between(alloc, &old, &new)?)
+fn change_there(rt: &impl Abort, alloc: Global) -> Change {
+    let old = bag_with(rt, alloc, OLD);
+    let new = bag_with(rt, alloc, NEW);
+    Change::between(alloc, &old, &new).expect(rt, "memory")
+}
+
+// The change that leads back.
+fn change_back(rt: &impl Abort, alloc: Global) -> Change {
+    let change = change_there(rt, alloc);
+    change.inverse(alloc).expect(rt, "memory")
 }
 
 #[test]
-fn a_change_leads_there(rt: HostRuntime) -> Result<(), Fail> {
-    let change = change_there(rt.alloc())?;
-    check_change(&rt, rt.alloc(), &change, &ENTRIES)?;
+fn a_change_leads_there(rt: HostRuntime) {
+    let change = change_there(&rt, rt.alloc());
+    check_change(&rt, &change, ENTRIES);
     check_applied(
         &rt,
         rt.alloc(),
-        &bag_of(rt.alloc(), (3, 3, 1), &OLD)?,
+        &bag_with(&rt, rt.alloc(), OLD),
         &change,
-        &NEW,
-    )
+        NEW,
+    );
 }
 
 #[test]
-fn its_inverse_leads_back(rt: HostRuntime) -> Result<(), Fail> {
-    let inverse = change_there(rt.alloc())?.inverse(rt.alloc())?;
+fn its_inverse_leads_back(rt: HostRuntime) {
+    let change = change_back(&rt, rt.alloc());
     check_applied(
         &rt,
         rt.alloc(),
-        &bag_of(rt.alloc(), (3, 3, 1), &NEW)?,
-        &inverse,
-        &OLD,
-    )
+        &bag_with(&rt, rt.alloc(), NEW),
+        &change,
+        OLD,
+    );
 }

@@ -1,17 +1,13 @@
-//! Comparisons of bags, changes and stores with plain data.
+//! Comparisons of bags, changes and stores with plain data. Each ends the test where its row is wrong, and names it.
 
-use crate::samples::{Counted, EditRow, edit_of, pair_of};
-use s2ix_bag::{Bag, Change, Entry, Held};
-use s2ix_edit::{EditError, RedoError, Store, UndoError};
+use crate::samples::{EditRow, LimitRow, edit_of, entry_of, held_of, store_of};
+use s2ix_bag::{Bag, Change, Held};
+use s2ix_edit::{Edit, EditError, RedoError, Store, UndoError};
 use std::alloc::Global;
 use std::process::Abort;
-use std::test::Fail;
-
-/// A pair whose count changes: the token of its cell, its label, and the counts before and after.
-pub(crate) type EntryRow = (&'static [u8], u32, u32, u32);
 
 /// A call that leads a store on.
-#[derive(Clone, Copy, Debug)]
+#[derive(Clone, Copy)]
 pub(crate) enum Step {
     Edit(EditRow),
     Undo,
@@ -20,7 +16,7 @@ pub(crate) enum Step {
 }
 
 /// Why a step is refused.
-#[derive(Clone, Copy, Debug, PartialEq, Eq)]
+#[derive(Clone, Copy, PartialEq, Eq)]
 pub(crate) enum Refusal {
     Edit(EditError),
     Undo(UndoError),
@@ -30,81 +26,99 @@ pub(crate) enum Refusal {
 /// What a step answers: how many pairs changed their counts, none where it forgets.
 pub(crate) type Answer = Result<usize, Refusal>;
 
-/// A step with its answer; then what the store has behind it: its pairs, rising, and how many changes can be undone and redone.
-pub(crate) type Row = (Step, Answer, &'static [Counted], (usize, usize));
+/// A step with its answer; then what the store has behind it: its pairs with their counts, rising, and how many changes can be undone and
+/// redone.
+pub(crate) type Row = (Step, Answer, &'static str, (usize, usize));
+
+/// Ends the test with the row's name where the row doesn't hold.
+pub(crate) fn check(rt: &impl Abort, holds: bool, row: &str) {
+    assert!(rt; holds, "wrong at {row}");
+}
+
+/// Whether a bag has a pair with its count at a place.
+fn holds_at(bag: &Bag, place: usize, wanted: Held) -> bool {
+    place < bag.len() && bag.held(place) == wanted && bag.count(wanted.pair) == wanted.count
+}
+
+/// Whether a bag holds these pairs, in rising order, and no others.
+fn holds_pairs(rt: &impl Abort, bag: &Bag, pairs: &str) -> bool {
+    let mut place = 0usize;
+    let mut holds = true;
+    for text in pairs.split_ascii_whitespace() {
+        holds = holds && holds_at(bag, place, held_of(rt, text));
+        place = place.wrapping_add(1);
+    }
+    holds && place == bag.len()
+}
 
 /// Compares what a bag holds with pairs in rising order.
-pub(crate) fn check_bag(rt: &impl Abort, bag: &Bag, pairs: &[Counted]) -> Result<(), Fail> {
-    assert_eq!(rt; bag.len(), pairs.len());
-    for (k, &(token, label, count)) in pairs.iter().enumerate() {
-        let pair = pair_of(token, label)?;
-        assert!(rt; k < bag.len());
-        assert_eq!(rt; bag.held(k), Held { pair, count });
-        assert_eq!(rt; bag.count(pair), count);
-    }
-    Ok(())
+pub(crate) fn check_bag(rt: &impl Abort, bag: &Bag, pairs: &str) {
+    check(rt, holds_pairs(rt, bag, pairs), pairs);
 }
 
 /// Compares the entries of a change.
-pub(crate) fn check_change(
-    rt: &impl Abort,
-    alloc: Global,
-    change: &Change,
-    entries: &[EntryRow],
-) -> Result<(), Fail> {
-    let mut wanted = Vec::new(alloc);
-    for &(token, label, before, after) in entries {
-        let pair = pair_of(token, label)?;
-        wanted.push(Entry {
-            pair,
-            before,
-            after,
-        })?;
+pub(crate) fn check_change(rt: &impl Abort, change: &Change, entries: &str) {
+    let mut left = change.entries().iter();
+    for text in entries.split_ascii_whitespace() {
+        check(rt, left.next() == Some(&entry_of(rt, text)), entries);
     }
-    assert_eq!(rt; change.entries(), wanted.as_slice());
-    Ok(())
+    check(rt, left.next().is_none(), entries);
+}
+
+fn edit_answer(store: &mut Store, edit: &Edit) -> Answer {
+    match store.edit(edit) {
+        Ok(number) => Ok(number),
+        Err(error) => Err(Refusal::Edit(error)),
+    }
+}
+
+fn undo_answer(store: &mut Store) -> Answer {
+    match store.undo() {
+        Ok(number) => Ok(number),
+        Err(error) => Err(Refusal::Undo(error)),
+    }
+}
+
+fn redo_answer(store: &mut Store) -> Answer {
+    match store.redo() {
+        Ok(number) => Ok(number),
+        Err(error) => Err(Refusal::Redo(error)),
+    }
+}
+
+fn forget_answer(store: &mut Store) -> Answer {
+    store.forget();
+    Ok(0)
 }
 
 /// Carries a step out, and gives its answer.
-pub(crate) fn answer_of(alloc: Global, store: &mut Store, step: Step) -> Result<Answer, Fail> {
+pub(crate) fn answer_of(rt: &impl Abort, alloc: Global, store: &mut Store, step: Step) -> Answer {
     match step {
-        Step::Edit(row) => {
-            let edit = edit_of(alloc, row)?;
-            Ok(store.edit(&edit).map_err(Refusal::Edit))
-        }
-        Step::Undo => Ok(store.undo().map_err(Refusal::Undo)),
-        Step::Redo => Ok(store.redo().map_err(Refusal::Redo)),
-        Step::Forget => {
-            store.forget();
-            Ok(Ok(0))
-        }
+        Step::Edit(row) => edit_answer(store, &edit_of(rt, alloc, row)),
+        Step::Undo => undo_answer(store),
+        Step::Redo => redo_answer(store),
+        Step::Forget => forget_answer(store),
     }
 }
 
-/// Carries a step out, and compares its answer and what the store has behind it.
-fn check_step(rt: &impl Abort, alloc: Global, store: &mut Store, row: Row) -> Result<(), Fail> {
-    let (step, wanted, pairs, kept) = row;
-    let answer = answer_of(alloc, store, step)?;
-    assert_eq!(rt; answer, wanted, "{step:?}");
-    assert_eq!(rt;
-        (store.done().len(), store.undone().len()),
-        kept,
-        "{step:?}"
-    );
-    check_bag(rt, store.bag(), pairs)
+/// Whether so many changes can be undone and redone.
+fn keeps(store: &Store, (done, undone): (usize, usize)) -> bool {
+    store.done().len() == done && store.undone().len() == undone
 }
 
-/// Carries out one step after the other, with their comparisons.
-pub(crate) fn check_steps(
-    rt: &impl Abort,
-    alloc: Global,
-    store: &mut Store,
-    rows: &[Row],
-) -> Result<(), Fail> {
-    for &row in rows {
-        check_step(rt, alloc, store, row)?;
+/// Carries out one step after the other. Compares the answer of each, and what the store has behind it.
+pub(crate) fn check_steps(rt: &impl Abort, alloc: Global, store: &mut Store, rows: &[Row]) {
+    for (place, &(step, wanted, pairs, kept)) in rows.iter().enumerate() {
+        let answer = answer_of(rt, alloc, store, step);
+        let holds = answer == wanted && keeps(store, kept) && holds_pairs(rt, store.bag(), pairs);
+        assert!(rt; holds, "wrong at step {place}");
     }
-    Ok(())
+}
+
+/// Carries out steps on the empty store within some limits.
+pub(crate) fn check_history(rt: &impl Abort, alloc: Global, limits: LimitRow, rows: &[Row]) {
+    let mut store = store_of(rt, alloc, limits);
+    check_steps(rt, alloc, &mut store, rows);
 }
 
 /// Compares what a change makes of a bag.
@@ -113,18 +127,14 @@ pub(crate) fn check_applied(
     alloc: Global,
     bag: &Bag,
     change: &Change,
-    pairs: &[Counted],
-) -> Result<(), Fail> {
-    check_bag(rt, &bag.applied(alloc, change)?, pairs)
+    pairs: &str,
+) {
+    let bag = bag.applied(alloc, change).expect(rt, pairs);
+    check_bag(rt, &bag, pairs);
 }
 
 /// Compares the entries of the last change that can be undone.
-pub(crate) fn check_last(
-    rt: &impl Abort,
-    alloc: Global,
-    store: &Store,
-    entries: &[EntryRow],
-) -> Result<(), Fail> {
-    let last = store.done().last().ok_or("nothing can be undone")?;
-    check_change(rt, alloc, last, entries)
+pub(crate) fn check_last(rt: &impl Abort, store: &Store, entries: &str) {
+    let last = store.done().last().expect(rt, entries);
+    check_change(rt, last, entries);
 }

@@ -12,11 +12,11 @@ mod edit_tests;
 #[cfg(test)]
 mod limit_tests;
 #[cfg(test)]
-mod move_tests;
-#[cfg(test)]
 mod same_tests;
 #[cfg(test)]
 mod samples;
+#[cfg(test)]
+mod step_tests;
 #[cfg(test)]
 mod store_tests;
 #[cfg(test)]

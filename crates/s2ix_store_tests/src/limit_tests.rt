@@ -4,19 +4,22 @@ use s2ix_bag::{Label, Limits};
 #[test]
 fn labels_have_31_bits(rt: HostRuntime) {
     let greatest = Label::new(2147483647).expect(&rt, "the greatest label");
-    assert_eq!(rt; greatest.get(), 2147483647);
+    assert!(rt; greatest.get() == 2147483647);
     assert!(rt; Label::new(2147483648).is_none());
 }
 
 #[test]
 fn limits_are_within_their_ranges(rt: HostRuntime) {
     let widest = Limits::new(1_000_000, 65_535, 100_000).expect(&rt, "the widest limits");
-    assert_eq!(rt;
-        (widest.pairs(), widest.count(), widest.changes()),
-        (1_000_000, 65_535, 100_000)
-    );
-    assert_eq!(rt; Limits::default(), widest);
+    assert!(rt; widest.pairs() == 1_000_000);
+    assert!(rt; widest.count() == 65_535);
+    assert!(rt; widest.changes() == 100_000);
+    assert!(rt; Limits::default() == widest);
     assert!(rt; Limits::new(1, 1, 1).is_some());
+}
+
+#[test]
+fn no_limits_out_of_range(rt: HostRuntime) {
     for (pairs, count, changes) in [
         (0, 1, 1),
         (1, 0, 1),

@@ -1,16 +1,18 @@
 //! The range table of a store, step by step.
-use crate::checks::{Step, answer_of};
-use crate::samples::{EditRow, WIDEST, store_of, union_of};
+use crate::checks::{Step, answer_of, check};
+use crate::samples::{EditRow, WIDEST, number_of, store_of, union_of};
+use s2id_core::sixteen_digits;
 use s2id_union::CellUnion;
+use s2ix_bag::Held;
 use s2ix_edit::{Store, StoreTable};
 use s2ix_table::{RangeTable, ranges};
 use std::alloc::Global;
-use std::test::Fail;
+use std::process::Abort;
 
 // Adds a face, and a cell in it.
-const ADD_FACE: Step = Step::Edit(EditRow::Add((b"1", 7, 1)));
+const ADD_FACE: Step = Step::Edit(EditRow::Add("1:7:1"));
 
-const ADD_CELL: Step = Step::Edit(EditRow::Add((b"04", 9, 1)));
+const ADD_CELL: Step = Step::Edit(EditRow::Add("04:9:1"));
 
 // Steps, and how many ranges the table has behind each.
 const COUNTS: [(Step, usize); 5] = [
@@ -21,55 +23,98 @@ const COUNTS: [(Step, usize); 5] = [
     (Step::Forget, 3),
 ];
 
-#[test]
-fn the_table_follows_the_bag(rt: HostRuntime) -> Result<(), Fail> {
-    let mut store = store_of(rt.alloc(), WIDEST)?;
-    assert_eq!(rt; store.table().range_count(), 1);
-    for (step, count) in COUNTS {
-        assert!(rt; answer_of(rt.alloc(), &mut store, step)?.is_ok());
-        assert_eq!(rt; store.table().range_count(), count);
-    }
-    let copy = Store::from_bag(rt.alloc(), store.bag().copied(rt.alloc())?)?;
-    assert_eq!(rt; copy.table().range_count(), 3);
-    Ok(())
+// Compares how many ranges the table of a store has.
+fn check_count(rt: &impl Abort, store: &Store, count: usize) {
+    assert!(rt; store.table().range_count() == count, "no {count} ranges");
 }
 
-// Where the ranges of a table end.
-fn ends_of(alloc: Global, table: &StoreTable) -> Result<Vec<u64>, Fail> {
-    let mut ends = Vec::new(alloc);
+fn check_counts(rt: &impl Abort, alloc: Global, store: &mut Store, rows: &[(Step, usize)]) {
+    for &(step, count) in rows {
+        assert!(rt;
+            answer_of(rt, alloc, store, step).is_ok(),
+            "refused before {count}"
+        );
+        check_count(rt, store, count);
+    }
+}
+
+// A store that starts from what another one holds.
+fn copy_of(rt: &impl Abort, alloc: Global, store: &Store) -> Store {
+    let bag = store.bag().copied(alloc).expect(rt, "memory");
+    Store::from_bag(alloc, bag).expect(rt, "memory")
+}
+
+#[test]
+fn the_table_follows_the_bag(rt: HostRuntime) {
+    let mut store = store_of(&rt, rt.alloc(), WIDEST);
+    check_count(&rt, &store, 1);
+    check_counts(&rt, rt.alloc(), &mut store, &COUNTS);
+    check_count(&rt, &copy_of(&rt, rt.alloc(), &store), 3);
+}
+
+// Whether a text is a leaf number's sixteen digits.
+fn is_number(text: Option<&str>, number: u64) -> bool {
+    match text {
+        Some(text) => text.as_bytes() == sixteen_digits(number).as_slice(),
+        None => false,
+    }
+}
+
+// Compares where the ranges of a table end.
+fn check_ends(rt: &impl Abort, table: &StoreTable, ends: &str) {
+    let mut left = ends.split_ascii_whitespace();
     for (_, row) in ranges(table) {
-        ends.push(row.limit)?;
+        check(rt, is_number(left.next(), row.limit), ends);
     }
-    Ok(ends)
+    check(rt, left.next().is_none(), ends);
 }
 
-// The labels of the pairs that meet a target, in their order.
-fn labels_met(alloc: Global, table: &StoreTable, target: &CellUnion) -> Result<Vec<u32>, Fail> {
-    let mut labels = Vec::new(alloc);
-    for held in table.meeting(alloc, target)?.as_slice() {
-        labels.push(held.pair.label.get())?;
+// Compares the labels of some pairs, in their order.
+fn check_labels(rt: &impl Abort, pairs: &[Held], labels: &str) {
+    let mut left = pairs.iter();
+    for text in labels.split_ascii_whitespace() {
+        let held = left.next().expect(rt, labels);
+        check(rt, held.pair.label.get() == number_of(rt, text), labels);
     }
-    Ok(labels)
+    check(rt, left.next().is_none(), labels);
+}
+
+// Compares the labels of the pairs that meet a target.
+fn check_met(rt: &impl Abort, alloc: Global, table: &StoreTable, target: &CellUnion, labels: &str) {
+    let pairs = table.meeting(alloc, target).expect(rt, "memory");
+    check_labels(rt, &pairs, labels);
+}
+
+// A step, where the ranges of the table end behind it, and the labels of the pairs that meet the first leaf.
+type TableRow = (Step, &'static str, &'static str);
+
+const TABLES: [TableRow; 3] = [
+    (ADD_FACE, "2000000000000001 c000000000000001", "7"),
+    (
+        ADD_CELL,
+        "0800000000000001 2000000000000001 c000000000000001",
+        "9 7",
+    ),
+    (Step::Undo, "2000000000000001 c000000000000001", "7"),
+];
+
+fn check_tables(
+    rt: &impl Abort,
+    alloc: Global,
+    store: &mut Store,
+    target: &CellUnion,
+    rows: &[TableRow],
+) {
+    for &(step, ends, labels) in rows {
+        check(rt, answer_of(rt, alloc, store, step).is_ok(), ends);
+        check_ends(rt, store.table(), ends);
+        check_met(rt, alloc, store.table(), target, labels);
+    }
 }
 
 #[test]
-fn the_table_has_what_the_bag_holds(rt: HostRuntime) -> Result<(), Fail> {
-    let mut store = store_of(rt.alloc(), WIDEST)?;
-    let first_leaf = union_of(rt.alloc(), &[b"0000000000000001"])?;
-    let wanted: [(Step, &[u64], &[u32]); 3] = [
-        (ADD_FACE, &[0x2000000000000001, 0xc000000000000001], &[7]),
-        (
-            ADD_CELL,
-            &[0x0800000000000001, 0x2000000000000001, 0xc000000000000001],
-            &[9, 7],
-        ),
-        (Step::Undo, &[0x2000000000000001, 0xc000000000000001], &[7]),
-    ];
-    for (step, ends, labels) in wanted {
-        assert!(rt; answer_of(rt.alloc(), &mut store, step)?.is_ok());
-        assert_eq!(rt; ends_of(rt.alloc(), store.table())?.as_slice(), ends);
-        let met = labels_met(rt.alloc(), store.table(), &first_leaf)?;
-        assert_eq!(rt; met.as_slice(), labels);
-    }
-    Ok(())
+fn the_table_has_what_the_bag_holds(rt: HostRuntime) {
+    let mut store = store_of(&rt, rt.alloc(), WIDEST);
+    let first_leaf = union_of(&rt, rt.alloc(), "0000000000000001");
+    check_tables(&rt, rt.alloc(), &mut store, &first_leaf, &TABLES);
 }

@@ -4,6 +4,7 @@
 //! order, and with each of them its contents: the pairs whose cells have its leaves, the innermost cell first.
 #![tactic(auto)]
 
+mod chains;
 mod copied;
 mod copied_range;
 mod filter;
@@ -11,9 +12,7 @@ mod iter;
 mod labels;
 pub mod laws;
 mod met;
-mod pairs;
 mod row;
-mod span;
 mod table;
 mod walk_state;
 

@@ -6,8 +6,7 @@ ghost use Rattle.s2id_union.specs.Covers.{IsChain};
 ghost use Rattle.s2ix_table.specs.Meeting.{meeting_from, meeting_of};
 ghost use Rattle.s2ix_table.specs.WalkState.{left_of, IsWalkState, ArePassed};
 
-use crate::pairs::{new_pair, range_from};
-use crate::span::limit_of;
+use crate::chains::{new_pair, range_from};
 use crate::table::RangeTable;
 use crate::walk_state::WalkState;
 use s2id_core::CellId;
@@ -85,7 +84,7 @@ fn advance<T: RangeTable>(
     }
     let target = cells[cell];
     let range = range_from(table, target, walk.range, walk.seen);
-    let end = limit_of(target);
+    let end = target.span_end();
     let row = table.range(range);
     let (next, seen) = if row.limit <= end {
         (range + 1, row.limit)
@@ -111,7 +110,7 @@ fn first_beyond(cells: &[CellId], k: usize, seen: u64) -> usize
 {
     let mut cell = k;
     while cell < cells.len() {
-        if seen < limit_of(cells[cell]) {
+        if seen < cells[cell].span_end() {
             return cell;
         }
         cell += 1;

@@ -1,216 +1,146 @@
 //! Worked tables, and what they answer.
-use crate::samples::{
-    PairRow, all_held, collected, held_of, leaf_numbered, sought, table_of, union_of, visited,
-};
+use crate::checks::{check_range, check_ranges, check_target};
+use crate::samples::{PairRow, labels_of, list_of, table_of, union_of};
 use s2id_union::CellUnion;
-use s2ix_bag::Held;
-use s2ix_table::{CopiedTable, RangeRow, RangeTable, chain_at, contents, ranges};
+use s2ix_table::{CopiedTable, RangeRow};
 use std::alloc::Global;
-use std::process::Abort;
 use std::test::Fail;
 
-// A face, and a cell in it.
-const NESTED: [PairRow; 2] = [(b"1", 7), (b"04", 9)];
-
-// Their ranges, each with its last leaf and what lies over it.
-const RANGES: [(u64, u64, u64, &[PairRow]); 3] = [
-    (
-        1,
-        0x0800000000000001,
-        0x07ffffffffffffff,
-        &[(b"04", 9), (b"1", 7)],
-    ),
-    (
-        0x0800000000000001,
-        0x2000000000000001,
-        0x1fffffffffffffff,
-        &[(b"1", 7)],
-    ),
-    (
-        0x2000000000000001,
-        0xc000000000000001,
-        0xbfffffffffffffff,
-        &[],
-    ),
-];
-
-// Compares what lies over a range, and over a leaf in it.
-fn check_contents(
-    rt: &impl Abort,
-    alloc: Global,
-    table: &CopiedTable,
-    k: usize,
-    leaf: u64,
-    wanted: &[Held],
-) -> Result<(), Fail> {
-    let leaf = leaf_numbered(leaf)?;
-    assert_eq!(rt; table.find(leaf), k);
-    assert!(rt; k < table.range_count());
-    let over_range = collected(alloc, contents(table, k))?;
-    assert_eq!(rt; over_range.as_slice(), wanted);
-    let over_leaf = collected(alloc, chain_at(table, leaf))?;
-    assert_eq!(rt; over_leaf.as_slice(), wanted);
-    Ok(())
+// Pairs, the ranges of their table, and what lies over each range.
+struct Worked {
+    pairs: &'static [PairRow],
+    ranges: &'static [RangeRow],
+    over: &'static [&'static [PairRow]],
 }
 
-#[test]
-fn nested_cells_make_three_ranges(rt: HostRuntime) -> Result<(), Fail> {
-    let table = table_of(rt.alloc(), &NESTED)?;
-    assert_eq!(rt; table.range_count(), 3);
-    let mut rows = ranges(&table);
-    for (k, (start, limit, leaf, pairs)) in RANGES.iter().copied().enumerate() {
-        assert_eq!(rt; rows.next(), Some((k, RangeRow { start, limit })));
-        let wanted = all_held(rt.alloc(), pairs)?;
-        check_contents(&rt, rt.alloc(), &table, k, leaf, &wanted)?;
-    }
-    assert_eq!(rt; rows.next(), None);
-    Ok(())
-}
-
-// Compares what ranges give from a leaf on: the one that has it, by its place and first leaf.
-fn check_sought(
-    rt: &impl Abort,
-    table: &CopiedTable,
-    leaf: u64,
-    wanted: (usize, RangeRow),
-) -> Result<(), Fail> {
-    let leaf = leaf_numbered(leaf)?;
-    let mut rows = ranges(table);
-    rows.seek(leaf);
-    assert_eq!(rt; rows.next(), Some(wanted));
-    assert_eq!(rt; sought(table, leaf), Some(wanted));
-    Ok(())
-}
-
-#[test]
-fn seek_leads_to_the_range_of_a_leaf(rt: HostRuntime) -> Result<(), Fail> {
-    let table = table_of(rt.alloc(), &NESTED)?;
-    for (k, (start, limit, leaf, _)) in RANGES.iter().copied().enumerate() {
-        check_sought(&rt, &table, leaf, (k, RangeRow { start, limit }))?;
-    }
-    Ok(())
-}
-
-#[test]
-fn seek_leads_back_from_the_end(rt: HostRuntime) -> Result<(), Fail> {
-    let table = table_of(rt.alloc(), &NESTED)?;
-    let mut rows = ranges(&table);
-    for _ in 0..3 {
-        assert!(rt; rows.next().is_some());
-    }
-    assert!(rt; rows.next().is_none());
-    rows.seek(leaf_numbered(0xbfffffffffffffff)?);
-    let last = rows.next().ok_or("no last range")?;
-    assert_eq!(rt;
-        last,
-        (
-            2,
+// No pair, and a cell in a face.
+const TABLES: [Worked; 2] = [
+    Worked {
+        pairs: &[],
+        ranges: &[RangeRow {
+            start: 1,
+            limit: 0xc000000000000001,
+        }],
+        over: &[&[]],
+    },
+    Worked {
+        pairs: &[(b"1", 7), (b"04", 9)],
+        ranges: &[
+            RangeRow {
+                start: 1,
+                limit: 0x0800000000000001,
+            },
+            RangeRow {
+                start: 0x0800000000000001,
+                limit: 0x2000000000000001,
+            },
             RangeRow {
                 start: 0x2000000000000001,
-                limit: 0xc000000000000001
-            }
-        )
-    );
-    assert!(rt; rows.next().is_none());
-    Ok(())
-}
-
-#[test]
-fn empty_table_has_one_range(rt: HostRuntime) -> Result<(), Fail> {
-    let table = table_of(rt.alloc(), &[])?;
-    assert_eq!(rt; table.range_count(), 1);
-    assert_eq!(rt;
-        table.range(0),
-        RangeRow {
-            start: 1,
-            limit: 0xc000000000000001
-        }
-    );
-    assert!(rt; table.first(0).is_none());
-    Ok(())
-}
-
-#[test]
-fn places_lead_outwards(rt: HostRuntime) -> Result<(), Fail> {
-    let table = table_of(rt.alloc(), &NESTED)?;
-    assert!(rt; 0 < table.range_count());
-    let place = table.first(0).ok_or("no pair over the first range")?;
-    assert_eq!(rt; table.held_at(place), held_of(NESTED[1])?);
-    let next = table.outer(place).ok_or("no pair around it")?;
-    assert_eq!(rt; table.held_at(next), held_of(NESTED[0])?);
-    assert!(rt; table.outer(next).is_none());
-    Ok(())
-}
-
-// Pairs and the cells of a target, with the pairs that meet it in their order, and their labels.
-const MEETINGS: [(&[PairRow], &[&[u8]], &[PairRow], &[u32]); 3] = [
-    (&[(b"1", 7), (b"04", 9)], &[b"0c"], &[(b"1", 7)], &[7]),
-    (
-        &[(b"1", 7), (b"04", 9), (b"1c", 2)],
-        &[b"1c", b"04"],
-        &[(b"04", 9), (b"1", 7), (b"1c", 2)],
-        &[2, 7, 9],
-    ),
-    (
-        &[(b"04", 9), (b"5", 3), (b"44", 6), (b"4c", 1)],
-        &[b"04", b"4c"],
-        &[(b"04", 9), (b"4c", 1), (b"5", 3)],
-        &[1, 3, 9],
-    ),
+                limit: 0xc000000000000001,
+            },
+        ],
+        over: &[&[(b"04", 9), (b"1", 7)], &[(b"1", 7)], &[]],
+    },
 ];
 
-// The numbers of the labels of the pairs that meet a target.
-fn labels_met(alloc: Global, table: &CopiedTable, target: &CellUnion) -> Result<Vec<u32>, Fail> {
-    let mut numbers = Vec::new(alloc);
-    for label in &table.labels(alloc, target)? {
-        numbers.push(label.get())?;
-    }
-    Ok(numbers)
+// Compares the ranges of a table and what lies over each of them.
+fn check_table(alloc: Global, row: usize, worked: &Worked) -> Result<(), Fail> {
+    let table = table_of(alloc, worked.pairs)?;
+    check_ranges(row, &table, worked.ranges)?;
+    check_over(alloc, row, &table, worked)
 }
 
-#[test]
-fn meeting_lists_rise_by_their_first_shared_leaf(rt: HostRuntime) -> Result<(), Fail> {
-    for (pairs, tokens, met, labels) in MEETINGS {
-        let table = table_of(rt.alloc(), pairs)?;
-        let target = union_of(rt.alloc(), tokens)?;
-        let wanted = all_held(rt.alloc(), met)?;
-        let list = table.meeting(rt.alloc(), &target)?;
-        assert_eq!(rt; list.as_slice(), wanted.as_slice());
-        let found = labels_met(rt.alloc(), &table, &target)?;
-        assert_eq!(rt; found.as_slice(), labels);
+fn check_over(alloc: Global, row: usize, table: &CopiedTable, worked: &Worked) -> Result<(), Fail> {
+    for (k, (&range, over)) in worked.ranges.iter().zip(worked.over).enumerate() {
+        let over = list_of(alloc, over)?;
+        check_range(row, table, k, range, &over)?;
     }
     Ok(())
 }
 
-#[test]
-fn visit_ends_at_the_first_false(rt: HostRuntime) -> Result<(), Fail> {
-    let table = table_of(rt.alloc(), &[(b"1", 7), (b"04", 9), (b"1c", 2)])?;
-    let target = union_of(rt.alloc(), &[b"1c", b"04"])?;
-    let mut given = None;
-    let mut refused = None;
-    let whole = visited(
-        &table,
-        &target,
-        &mut |held| {
-            if given.is_none() {
-                given = Some(held);
-                true
-            } else {
-                refused = Some(held);
-                false
-            }
-        },
-    );
-    assert!(rt; !whole);
-    assert_eq!(rt; given, Some(held_of((b"04", 9))?));
-    assert_eq!(rt; refused, Some(held_of((b"1", 7))?));
+fn check_tables(alloc: Global, tables: &[Worked]) -> Result<(), Fail> {
+    for (row, worked) in tables.iter().enumerate() {
+        check_table(alloc, row, worked)?;
+    }
     Ok(())
 }
 
 #[test]
-fn visit_goes_on_to_the_end(rt: HostRuntime) -> Result<(), Fail> {
-    let table = table_of(rt.alloc(), &NESTED)?;
-    let target = union_of(rt.alloc(), &[b"1c", b"04"])?;
-    assert!(rt; visited(&table, &target, &mut |_| true));
+fn nested_cells_make_ranges(rt: HostRuntime) -> Result<(), Fail> {
+    check_tables(rt.alloc(), &TABLES)
+}
+
+// Pairs, the cells of a target, the pairs that meet it in their order, and the labels of these.
+struct Meeting {
+    pairs: &'static [PairRow],
+    cells: &'static [&'static [u8]],
+    met: &'static [PairRow],
+    labels: &'static [u32],
+}
+
+const MEETINGS: [Meeting; 4] = [
+    Meeting {
+        pairs: &[(b"1", 7), (b"04", 9)],
+        cells: &[b"0c"],
+        met: &[(b"1", 7)],
+        labels: &[7],
+    },
+    Meeting {
+        pairs: &[(b"1", 7), (b"04", 9)],
+        cells: &[b"1c", b"04"],
+        met: &[(b"04", 9), (b"1", 7)],
+        labels: &[7, 9],
+    },
+    Meeting {
+        pairs: &[(b"1", 7), (b"04", 9), (b"1c", 2)],
+        cells: &[b"1c", b"04"],
+        met: &[(b"04", 9), (b"1", 7), (b"1c", 2)],
+        labels: &[2, 7, 9],
+    },
+    Meeting {
+        pairs: &[(b"04", 9), (b"5", 3), (b"44", 6), (b"4c", 1)],
+        cells: &[b"04", b"4c"],
+        met: &[(b"04", 9), (b"4c", 1), (b"5", 3)],
+        labels: &[1, 3, 9],
+    },
+];
+
+// Compares the pairs that meet a target, and their labels.
+fn check_meeting(alloc: Global, row: usize, meeting: &Meeting) -> Result<(), Fail> {
+    let table = table_of(alloc, meeting.pairs)?;
+    check_cells(alloc, row, &table, meeting)
+}
+
+fn check_cells(
+    alloc: Global,
+    row: usize,
+    table: &CopiedTable,
+    meeting: &Meeting,
+) -> Result<(), Fail> {
+    let target = union_of(alloc, meeting.cells)?;
+    check_met(alloc, row, table, &target, meeting)
+}
+
+fn check_met(
+    alloc: Global,
+    row: usize,
+    table: &CopiedTable,
+    target: &CellUnion,
+    meeting: &Meeting,
+) -> Result<(), Fail> {
+    let met = list_of(alloc, meeting.met)?;
+    let labels = labels_of(alloc, meeting.labels)?;
+    check_target(row, alloc, table, target, &met, &labels)
+}
+
+fn check_meetings(alloc: Global, meetings: &[Meeting]) -> Result<(), Fail> {
+    for (row, meeting) in meetings.iter().enumerate() {
+        check_meeting(alloc, row, meeting)?;
+    }
     Ok(())
+}
+
+#[test]
+fn pairs_meet_a_target_by_their_first_shared_leaf(rt: HostRuntime) -> Result<(), Fail> {
+    check_meetings(rt.alloc(), &MEETINGS)
 }

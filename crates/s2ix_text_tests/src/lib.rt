@@ -1,6 +1,8 @@
-//! Tests of the texts that go out: dumps, journals and lists.
+//! Tests of the texts that go out: dumps, journals, lists and answers of one line.
 #![tactic(auto)]
 
+#[cfg(test)]
+mod answer_tests;
 #[cfg(test)]
 mod dump_tests;
 #[cfg(test)]
@@ -9,3 +11,5 @@ mod journal_tests;
 mod list_tests;
 #[cfg(test)]
 mod samples;
+#[cfg(test)]
+mod texts;

@@ -4,6 +4,7 @@
 mod add;
 mod add_union;
 mod drop_label;
+mod grow;
 mod normalise;
 mod parts;
 mod relabel;
@@ -31,6 +32,7 @@ pub fn plan(alloc: Global, bag: &Bag, edit: &Edit) -> Result<Change, PlanError>
         Edit::Remove { pair, copies } => remove::plan(alloc, bag, *pair, *copies),
         Edit::DropLabel { label } => drop_label::plan(alloc, bag, *label),
         Edit::Relabel { source, target } => relabel::plan(alloc, bag, *source, *target),
+        Edit::Grow { label, level } => grow::plan(alloc, bag, *label, *level),
         Edit::Normalise { label } => normalise::plan(alloc, bag, *label),
     }
 }

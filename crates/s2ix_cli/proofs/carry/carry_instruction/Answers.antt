@@ -24,6 +24,15 @@ returns-in-Redo-clause-carries g c =
     let told = c.redo.ensures in
     rw c.in-Redo.is (c.tell_step-in-Redo.ensures.carries _ _ _ (redo_is_told _ _ _ told.nothing told.state told.number told.unchanged))
 
+pub returns-in-Region-clause-carries : goal.returns-in-Region-clause-carries
+returns-in-Region-clause-carries g c = rw c.in-Region.is (c.print_region.ensures.carries _ _ c.region.ensures.form)
+
+pub returns-in-Common-clause-carries : goal.returns-in-Common-clause-carries
+returns-in-Common-clause-carries g c = rw c.in-Common.is (c.print_region-in-Common.ensures.carries _ _ c.common.ensures)
+
+pub returns-in-Only-clause-carries : goal.returns-in-Only-clause-carries
+returns-in-Only-clause-carries g c = rw c.in-Only.is (c.print_region-in-Only.ensures.carries _ _ c.only.ensures)
+
 pub returns-in_ok-write_ranges-in-Ranges-clause-carries : goal.returns-in_ok-write_ranges-in-Ranges-clause-carries
 returns-in_ok-write_ranges-in-Ranges-clause-carries g c =
     let Took : List Range → Type 0 = λ runs. Appends (g.K.Sink.taken c.args.sink.now) (g.K.Sink.taken c.write_ranges.new.sink) (list_text range_line runs) in

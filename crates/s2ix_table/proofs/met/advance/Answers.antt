@@ -36,7 +36,7 @@ step_past g c =
       is = c.index-cells-cell.is;
       beyond = omega arith;
       found = c.range_from-range.ensures;
-    }) c.first-place.ensures c.range-row.ensures.limit c.limit_of-end.ensures (elim c.if-row-end.branch [
+    }) c.first-place.ensures c.range-row.ensures.limit c.span_end-end.ensures (elim c.if-row-end.branch [
       | then-row-end w ↦ inl (w.if-row-end.true, w.next-is)
       | else-row-end w ↦ inr (w.if-row-end.false, w.next-is)
     ])

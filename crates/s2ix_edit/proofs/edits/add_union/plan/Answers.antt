@@ -23,7 +23,7 @@ returns-in_default-clause-refused c =
     let within = c.count-before.ensures.within in
     let cells = c.cells-cell-items.result.now in
     subst Refused listed.list
-    (too_high bag (AddUnion cells label) within refl refl
+    (too_high bag (AddUnion cells label) within refl refl refl
     (addition_above bag label cells c.cell-item.result within (subst Rise (sym listed.list) listed.normal.rises) (c.loop-cell.cell-index, omega arith, sym c.cell-item.is) (omega (arith, c.count-before.ensures.count, c.in_default.ensures))))
 
 pub from_vec-requires : goal.from_vec-requires
@@ -41,4 +41,4 @@ returns-clause-plan c =
     let cells = c.cells-cell-items.result.now in
     let all = c.loop-cell.invariant ∙ ap (λ cs. map (addition c.args.bag.now.held c.args.label) cs) (take_all c.loop-cell.cell-index cells (omega arith) ∙ listed.list) in
     subst Planned (sym (c.from_vec.ensures ∙ all))
-    (plans_from_makes c.args.bag.now (AddUnion c.args.union.now c.args.label) _ refl refl (additions_make c.args.bag.now c.args.label c.args.union.now listed.normal.rises))
+    (plans_from_makes c.args.bag.now (AddUnion c.args.union.now c.args.label) _ refl refl refl (additions_make c.args.bag.now c.args.label c.args.union.now listed.normal.rises))

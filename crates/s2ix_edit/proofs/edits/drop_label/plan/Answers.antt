@@ -16,5 +16,5 @@ pub returns-clause-plan : goal.returns-clause-plan
 returns-clause-plan c =
     let Planned : List Entry → Type 0 = λ es. Plans c.args.bag.now (DropLabel c.args.label) es in
     subst Planned (sym (c.from_vec.ensures ∙ c.in_ok-removals.ensures))
-    (plans_from_makes c.args.bag.now (DropLabel c.args.label) _ (sym c.lacks_label.ensures.lacks ∙ c.if-lacks_label.false) refl
+    (plans_from_makes c.args.bag.now (DropLabel c.args.label) _ (sym c.lacks_label.ensures.lacks ∙ c.if-lacks_label.false) refl refl
     (removals_make c.args.bag.now c.args.label c.lacks_label.ensures.within.rises))

@@ -35,5 +35,5 @@ returns-clause-plan c =
     ∙ ap₂ (λ (old new : Collection). change_between old new) (c.as_slice.ensures.value ∙ c.in_ok-old.ensures)
     (c.as_slice-2.ensures.value ∙ c.in_ok-new.ensures ∙ ap (λ cs. ones label cs) cells) in
     subst Planned (sym change)
-    (plans_from_makes c.args.bag.now (Normalise label) _ (sym c.lacks_label.ensures.lacks ∙ c.if-lacks_label.false) refl
+    (plans_from_makes c.args.bag.now (Normalise label) _ (sym c.lacks_label.ensures.lacks ∙ c.if-lacks_label.false) refl refl
     (replacement_makes c.args.bag.now label (region_of label hs) c.lacks_label.ensures.within.rises rises))

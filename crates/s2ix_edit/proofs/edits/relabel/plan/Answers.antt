@@ -13,6 +13,7 @@ returns-then-get-clause-plan c =
     (record {
       known = sym c.lacks_label.ensures.lacks ∙ c.if-lacks_label.false;
       allowed = refl;
+      fits = refl;
       rises = tt;
       matches = refl;
       result = sym (moved_to_itself c.args.source c.args.target c.args.bag.now.held c.lacks_label.ensures.within.rises one);

@@ -1,0 +1,106 @@
+// Random labels that grow: cells of mixed levels on all faces, over edges and corners of the cube.
+use crate::plain::ring;
+use s2id_core::CellId;
+use s2ix_bag::{Entry, Label, Limits, Pair};
+use s2ix_edit::{Edit, EditError, Store};
+use std::alloc::Global;
+use std::test::Fail;
+
+// A generator: each number is a fixed function of the one before.
+#[derive(Drop)]
+struct Random {
+    state: u64,
+}
+
+// The greatest place of a leaf on its face.
+const LAST_PLACE: u64 = 1152921504606846975;
+
+impl Random {
+    // The next number below a bound of at most 32 bits.
+    fn below(&mut self, bound: u64) -> u64 {
+        self.state = self
+            .state
+            .wrapping_mul(6364136223846793005)
+            .wrapping_add(1442695040888963407);
+        (self.state >> 32).wrapping_mul(bound) >> 32
+    }
+
+    // The next cell of any face, at a level below `levels`. Half of them lie at an end of their face's curve, at a corner of the cube.
+    fn cell(&mut self, levels: u64) -> Option<CellId> {
+        let place = match self.below(4) {
+            0 => 0,
+            1 => LAST_PLACE,
+            _ => self.below(1 << 30) << 30 | self.below(1 << 30),
+        };
+        let leaf = CellId::from_raw(self.below(6) << 61 | place << 1 | 1)?;
+        leaf.parent(u8::try_from(self.below(levels)).ok()?)
+    }
+
+    // From one cell to five, of levels 0 to 6.
+    fn cells(&mut self, alloc: Global) -> Result<Vec<CellId>, Fail> {
+        let mut cells = Vec::new(alloc);
+        for _ in 0..=self.below(5) {
+            cells.push(self.cell(7).ok_or("no cell")?)?;
+        }
+        Ok(cells)
+    }
+}
+
+// Adds a pair of each cell and a label.
+fn add_cells(store: &mut Store, cells: &[CellId], label: Label) -> Result<(), Fail> {
+    for &cell in cells {
+        let pair = Pair { cell, label };
+        store.edit(&Edit::Add { pair, copies: 1 })?;
+    }
+    Ok(())
+}
+
+// Whether the entries are a first copy of each cell under the label, in order.
+fn add_each(entries: &[Entry], cells: &[CellId], label: Label) -> bool {
+    if entries.len() != cells.len() {
+        return false;
+    }
+    for (entry, &cell) in entries.iter().zip(cells) {
+        let pair = Pair { cell, label };
+        if entry.pair != pair || entry.before != 0 || entry.after != 1 {
+            return false;
+        }
+    }
+    true
+}
+
+// Whether the label grows by these cells: none is no change, and any are the change that is recorded.
+fn grows_by(store: &mut Store, label: Label, level: u8, cells: &[CellId]) -> bool {
+    match store.edit(&Edit::Grow { label, level }) {
+        Ok(number) => match store.done().last() {
+            Some(change) => number == cells.len() && add_each(change.entries(), cells, label),
+            None => false,
+        },
+        Err(error) => error == EditError::NoChange && cells.is_empty(),
+    }
+}
+
+// Lets a label of random cells grow at a level, beside another label, and compares it with the plain search.
+fn check_growth(alloc: Global, random: &mut Random, level: u8) -> Result<(), Fail> {
+    let label = Label::new(7).ok_or("no label")?;
+    let other = Label::new(8).ok_or("no label")?;
+    let mut store = Store::new(alloc, Limits::default())?;
+    let cells = random.cells(alloc)?;
+    add_cells(&mut store, &cells, label)?;
+    add_cells(&mut store, random.cells(alloc)?.as_slice(), other)?;
+    let wanted = ring(alloc, &cells, level)?;
+    if grows_by(&mut store, label, level, &wanted) {
+        Ok(())
+    } else {
+        Err("a label grows by other cells than the plain search finds".into())
+    }
+}
+
+#[test]
+fn labels_grow_as_a_plain_search_says(rt: HostRuntime) -> Result<(), Fail> {
+    let mut random = Random { state: 1 };
+    for round in 0..100u8 {
+        check_growth(rt.alloc(), &mut random, round % 5)?;
+    }
+    Ok(())
+}
