@@ -99,7 +99,7 @@ fn check_growth(alloc: Global, random: &mut Random, level: u8) -> Result<(), Fai
 #[test]
 fn labels_grow_as_a_plain_search_says(rt: HostRuntime) -> Result<(), Fail> {
     let mut random = Random { state: 1 };
-    for round in 0..100u8 {
+    for round in 0..40u8 {
         check_growth(rt.alloc(), &mut random, round % 5)?;
     }
     Ok(())
