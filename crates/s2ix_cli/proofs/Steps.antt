@@ -4,7 +4,7 @@ use Rattle.std.specs.Prelude.{IfErr, slice_get}
 use Rattle.std.proofs.lemmas.Option.{slice_get-get_or}
 use Rattle.s2ix_edit.specs.declared.edit.Edit.{Edit}
 use Rattle.s2ix_edit.specs.declared.errors.EditError.{EditError}
-use Rattle.s2ix_edit.specs.declared.errors.EditError.TheVariants.{JournalFull, NoSuchLabel, NotHeld, NoChange, TooManyCopies, TooManyPairs, OutOfMemory}
+use Rattle.s2ix_edit.specs.declared.errors.EditError.TheVariants.{JournalFull, NoSuchLabel, NotHeld, TooFine, NoChange, TooManyCopies, TooManyPairs, OutOfMemory}
 use Rattle.s2ix_edit.specs.declared.errors.RedoError.{RedoError}
 use Rattle.s2ix_edit.specs.declared.errors.RedoError.TheVariants as redo
 use Rattle.s2ix_edit.specs.declared.errors.UndoError.{UndoError}
@@ -44,6 +44,7 @@ unfolding edit_step
 edit_step-refused s edit JournalFull name e other is = ap (edit_step_at s edit) e ∙ ap (no_step s) (sym is)
 edit_step-refused s edit NoSuchLabel name e other is = ap (edit_step_at s edit) e ∙ ap (no_step s) (sym is)
 edit_step-refused s edit NotHeld name e other is = ap (edit_step_at s edit) e ∙ ap (no_step s) (sym is)
+edit_step-refused s edit TooFine name e other is = ap (edit_step_at s edit) e ∙ ap (no_step s) (sym is)
 edit_step-refused s edit NoChange name e other is = ap (edit_step_at s edit) e ∙ ap (no_step s) (sym is)
 edit_step-refused s edit TooManyCopies name e other is = ap (edit_step_at s edit) e ∙ ap (no_step s) (sym is)
 edit_step-refused s edit TooManyPairs name e other is = ap (edit_step_at s edit) e ∙ ap (no_step s) (sym is)

@@ -1,6 +1,6 @@
 -- The cells that a label grows by, and the entries that give each its first copy.
-use Rattle.std.proofs.Common.{◌≡◌, ◌≢◌, ◌↔◌, inl, inr, ℕ, suc, ◌+◌, ◌*◌, ◌^◌, ◌<◌, ◌≤◌, Bool, true, false, not, List, [], ◌∷◌, length, get_or, map, All, Any, AllPairs, Contains, refl, sym, ap, ap₂, ◌∙◌, subst, arith, ⊎_elim, le-ltb, lt-ltb}
-use Rattle.std.specs.Prelude.{◌==◌, ◌&&◌, ◌||◌, nat_lt}
+use Rattle.std.proofs.Common.{◌≡◌, ◌≢◌, ◌↔◌, inl, inr, ℕ, ◌+◌, ◌*◌, ◌^◌, ◌<◌, ◌≤◌, Bool, true, false, not, List, [], ◌∷◌, get_or, map, All, Any, Contains, refl, sym, ap, ap₂, ◌∙◌, subst, arith, ⊎_elim, le-ltb, lt-ltb}
+use Rattle.std.specs.Prelude.{◌&&◌, ◌||◌, nat_lt}
 use Rattle.std.specs.Bool.{Decides, one_answer}
 use Rattle.std.specs.List.{filter, list_any}
 use Rattle.std.proofs.lemmas.Bool.{both_ways, cases_lt, or_left, or_right}
@@ -15,7 +15,6 @@ use Rattle.s2id_core.specs.Path.{first_leaf}
 use Rattle.s2id_core.proofs.Nested.{crossing}
 use Rattle.s2id_core.proofs.Spans.{leaf_of_first}
 use Rattle.s2id_cube.specs.Edge.{ShareEdge}
-use Rattle.s2id_cube.specs.Neighbor.{share_edge}
 use Rattle.s2id_cube.proofs.OverSides.{share_edge-decides}
 use Rattle.s2id_union.specs.Region.{HaveSameRegion, Meets}
 use Rattle.s2id_union.proofs.Largest.{each_below, kept, rises_below}
@@ -25,7 +24,7 @@ use Rattle.s2ix_bag.specs.declared.label.Label.{Label}
 use Rattle.s2ix_bag.specs.declared.pair.Entry.{Entry}
 use Rattle.s2ix_bag.specs.declared.pair.Held.{Held}
 use Rattle.s2ix_bag.specs.declared.pair.Pair.{Pair}
-use Rattle.s2ix_bag.specs.Collection.{Collection, LimitedCollection, count_at, count_in}
+use Rattle.s2ix_bag.specs.Collection.{Collection, LimitedCollection, count_in}
 use Rattle.s2ix_bag.specs.OfLabel.{held_of}
 use Rattle.s2ix_bag.specs.Pair.{rank_of}
 use Rattle.s2ix_bag.proofs.Counts.{count_tail}
@@ -139,15 +138,20 @@ grown_from_next level cells x a outside =
 next_from_grown : (level : ℕ) (cells : List CellId) (x : CellId) → IsGrown level cells x → Any (λ cell. IsNextTo level cell x) cells
 next_from_grown level cells x g =
     let m = g.touched in
-    let at = m.2 in
-    (at.0, at.1, at.2, at.3, record {
-      level_is = g.level_is;
-      outside = λ o. g.outside (o.0, o.2, (at.0, at.1, at.2, at.3, o.1));
-      near = g.near;
-      near_level = g.near_level;
-      touched = (m.0, at.4, m.1);
-      shares = g.shares;
-    })
+    let at = m.2 in (
+      at.0,
+      at.1,
+      at.2,
+      at.3,
+      record {
+        level_is = g.level_is;
+        outside = λ o. g.outside (o.0, o.2, (at.0, at.1, at.2, at.3, o.1));
+        near = g.near;
+        near_level = g.near_level;
+        touched = (m.0, at.4, m.1);
+        shares = g.shares;
+      },
+    )
 
 in_filter : (test : CellId → Bool) (xs : List CellId) (x : CellId) → Contains (filter test xs) x → Contains xs x
 in_filter test xs x c = All-contains (Contains xs) (filter test xs) x (All-filter test (Contains xs) xs (All-contains_itself xs)) c

@@ -27,6 +27,7 @@ abbrev pub edit_error_name : EditError → List ℕ
 edit_error_name edit.JournalFull = codes "JournalFull"
 edit_error_name edit.NoSuchLabel = codes "NoSuchLabel"
 edit_error_name edit.NotHeld = codes "NotHeld"
+edit_error_name edit.TooFine = codes "TooFine"
 edit_error_name edit.NoChange = codes "NoChange"
 edit_error_name edit.TooManyCopies = codes "TooManyCopies"
 edit_error_name edit.TooManyPairs = codes "TooManyPairs"

@@ -32,6 +32,7 @@ pub fn edit_error_name(error: EditError) -> &'static str
         EditError::JournalFull => "JournalFull",
         EditError::NoSuchLabel => "NoSuchLabel",
         EditError::NotHeld => "NotHeld",
+        EditError::TooFine => "TooFine",
         EditError::NoChange => "NoChange",
         EditError::TooManyCopies => "TooManyCopies",
         EditError::TooManyPairs => "TooManyPairs",

@@ -36,7 +36,10 @@ pub fn plan(alloc: Global, bag: &Bag, label: Label, level: u8) -> Result<Change,
 fn is_too_fine(bag: &Bag, label: Label, level: u8) -> bool
     ensures { result ≡ is_level_too_fine level (cells_of label bag.now.held) }
 {
-    level > 30 || bag.of_label(label).any(|held| held.pair.cell.level() + 8 < level)
+    level > 30
+        || bag
+            .of_label(label)
+            .any(|held| held.pair.cell.level() + 8 < level)
 }
 
 /// The cells that the label grows by, in rising order.
