@@ -1,4 +1,4 @@
-use Rattle.std.proofs.Common.{◌≡◌, ◌<◌, ◌≤◌, ⊎_elim, arith, refl}
+use Rattle.std.proofs.Common.{◌≤◌, ⊎_elim, arith, refl}
 use Rattle.std.proofs.lemmas.Bool.{cases_lt}
 use Rattle.s2id_core.specs.CellId.{level_of}
 use Rattle.s2ix_edit.proofs.Beside.{gained, next_in_border, sides_are_next}
