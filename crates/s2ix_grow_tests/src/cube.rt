@@ -24,7 +24,11 @@ fn point_of(face: u8, level: u8, i: u32, j: u32) -> Point {
 
 pub(crate) fn corners_of(cell: CellId) -> Corners {
     let FaceIj {
-        face, level, i, j, ..
+        face,
+        level,
+        i,
+        j,
+        ..
     } = to_face_ij(cell);
     let (right, above) = (i.wrapping_add(1), j.wrapping_add(1));
     [

@@ -1,7 +1,7 @@
 // The names that refused lines are answered by, and the texts of faults.
 use s2ix_edit::{EditError, RedoError, UndoError};
 use s2ix_script::{
-    LineError, LineFault, not_leaf_name, edit_error_name, redo_error_name, undo_error_name,
+    LineError, LineFault, edit_error_name, not_leaf_name, redo_error_name, undo_error_name,
 };
 use std::alloc::Global;
 use std::test::Fail;
