@@ -46,8 +46,8 @@ const SCRIPTS: [Script; 7] = [
     Script {
         name: "a leaf grows by leaves, and an undo takes them away",
         input: b"add 0000000000000001 2\ngrow 2 30\nregion 2\nundo\nregion 2\n",
-        output: b"ok 1\nok 4\n0000000000000001\n0000000000000003\n0000000000000007\n9555555555555557\n\
-              b555555555555555\nend 5\nok 4\n0000000000000001\nend 1\n",
+        output: b"ok 1\nok 4\n0000000000000001\n0000000000000003\n0000000000000007\n9555555555555555\n\
+              bfffffffffffffff\nend 5\nok 4\n0000000000000001\nend 1\n",
         ..PLAIN
     },
 ];
