@@ -15,7 +15,7 @@ use Rattle.s2ix_bag.proofs.Refusals.{no_mismatch}
 use Rattle.s2ix_edit.specs.Edit.{pair_of, with_each, with_more}
 use Rattle.s2ix_edit.proofs.Plans.{Makes}
 use Rattle.s2ix_edit.specs.Refusals.{has_count_above}
-use Rattle.s2ix_edit.proofs.Taken.{above_from_count}
+use Rattle.s2ix_edit.proofs.Above.{above_from_count}
 
 -- the entry that gives one cell a copy more
 abbrev pub addition : Collection → Label → CellId → Entry

@@ -1,7 +1,9 @@
 -- What an edit makes of the collection that a store holds.
-use Rattle.std.proofs.Common.{◌≡◌, ◌+◌, ◌-◌, [], ◌∷◌, ◌++◌, reverse, get_or, refl, sym, ap, ◌∙◌, subst}
-use Rattle.std.proofs.lemmas.List.{length-reverse}
+use Rattle.std.proofs.Common.{◌≡◌, ◌+◌, ◌-◌, List, [], ◌∷◌, ◌++◌, length, reverse, get_or, refl, sym, ap, ◌∙◌, subst, arith}
+use Rattle.std.proofs.lemmas.List.{length-append, length-reverse}
 use Rattle.std.proofs.Math.Seq.{get_or-append_seam}
+use Rattle.s2ix_bag.specs.declared.pair.Entry.{Entry}
+use Rattle.s2ix_bag.specs.Change.{changed, inverse_of}
 use Rattle.s2ix_bag.specs.Collection.{Collection, IsCollection, count_in}
 use Rattle.s2ix_bag.specs.OfLabel.{held_of}
 use Rattle.s2ix_bag.proofs.Collections.{set_keeps}
@@ -14,8 +16,14 @@ use Rattle.s2ix_edit.specs.State.{State, earlier, history_of, later}
 use Rattle.s2ix_edit.specs.History.{History, at_cursor}
 use Rattle.s2ix_edit.proofs.DropLabel.{without_keeps}
 use Rattle.s2ix_edit.proofs.Relabel.{with_all_moved_keeps}
-use Rattle.s2ix_edit.proofs.Places.{length-earlier}
 use Rattle.s2ix_edit.proofs.AddUnion.{with_each_keeps}
+
+-- there are as many collections before the store's as changes that were done
+pub length-earlier : (hs : Collection) (done : List (List Entry)) → length (earlier hs done) ≡ length done
+length-earlier hs [] = refl
+length-earlier hs (es ∷ older) =
+    let e = length-earlier (changed hs (inverse_of es)) older in
+    omega (arith, e, length-append (earlier (changed hs (inverse_of es)) older) (changed hs (inverse_of es) ∷ []))
 
 -- the collection at the cursor is the store's
 pub held_at_cursor : (s : State) → at_cursor (history_of s) ≡ s.bag.held

@@ -1,17 +1,11 @@
+mod Above
 pub mod AddUnion
-pub mod Along
 mod Beside
 mod DropLabel
 pub mod Edited
-pub mod Followed
 mod Grow
 mod LabelCells
-pub mod Led
 mod Normalise
-pub mod Places
-mod Plans
-pub mod Redone
-mod Refused
+pub mod Plans
+pub mod Refused
 mod Relabel
-pub mod Taken
-pub mod Undone

@@ -13,10 +13,10 @@ use Rattle.s2ix_edit.specs.declared.edit.Edit.TheVariants.{Add, Remove}
 use Rattle.s2ix_edit.specs.Edit.{edited_alone}
 use Rattle.s2ix_edit.specs.Plan.{Plans, one_entry}
 use Rattle.s2ix_edit.specs.Refusals.{asks_too_fine, lacks_label, takes_too_many}
-use Rattle.s2ix_bag.proofs.Applied.{before_from_counts}
+use Rattle.s2ix_bag.proofs.Applied.{before_from_counts, change_between-changed}
 use Rattle.s2ix_bag.proofs.Collections.{set_count_in}
 use Rattle.s2ix_bag.proofs.Differences.{between_is_change, changed_between, counts_between_at}
-use Rattle.s2ix_bag.proofs.Refusals.{no_mismatch}
+use Rattle.s2ix_bag.proofs.Refusals.{before_from_no_mismatch, no_mismatch}
 
 -- the entries make this collection of the bag's: the counts before are the bag's, and those after the collection's
 pub record Makes (bag : LimitedCollection) (new : Collection) (es : List Entry) : Type 0 where
@@ -35,6 +35,11 @@ makes_between bag new es is new_is es_is =
       matches = no_mismatch bag.held change (before_from_counts 0 bag.held new change rises (λ k le. counts_between_at bag.held new k is new_is));
       result = changed_between bag.held new is new_is;
     })
+
+-- the change to a changed collection is the change itself
+pub between_changed : (bag : LimitedCollection) (es : List Entry) → IsCollection bag.held → IsChangeList es → first_mismatch bag es ≡ None → change_between bag.held (changed bag.held es) ≡ es
+between_changed bag es c rises matches =
+    change_between-changed bag.held es c rises (before_from_no_mismatch bag.held es matches)
 
 -- ---- the entries of one pair
 

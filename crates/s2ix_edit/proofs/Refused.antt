@@ -1,7 +1,6 @@
 -- Which refusal of an edit stands first.
-use Rattle.std.proofs.Common.{◌≡◌, ℕ, ◌+◌, ◌<◌, ◌≤◌, ◌==◌, Bool, true, false, cond, ltb, List, [], ◌∷◌, length, Option, Some, None, refl, ⊎_elim, sym, ap, ap₂, ◌++◌, ◌∙◌, arith}
-use Rattle.std.proofs.lemmas.Bool.{cases_Bool, cond-false, eqb-true}
-use borrow.Author.Tests.{lt-leb}
+use Rattle.std.proofs.Common.{◌≡◌, ℕ, ◌+◌, ◌<◌, ◌≤◌, ◌==◌, Bool, true, false, cond, ltb, List, [], ◌∷◌, length, Option, Some, None, refl, ⊎_elim, sym, ap, ◌∙◌, arith}
+use Rattle.std.proofs.lemmas.Bool.{cases_Bool, cond-false, eqb-true, lt-leb}
 use Rattle.std.specs.List.{list_any}
 use Rattle.s2ix_bag.specs.declared.pair.Pair.{Pair}
 use Rattle.s2ix_bag.specs.declared.pair.Entry.{Entry}
@@ -13,10 +12,11 @@ use Rattle.s2ix_edit.specs.declared.edit.Edit.TheVariants.{Add}
 use Rattle.s2ix_edit.specs.declared.errors.EditError.{EditError}
 use Rattle.s2ix_edit.specs.declared.errors.EditError.TheVariants.{NoSuchLabel, NotHeld, TooFine, NoChange, TooManyCopies, TooManyPairs}
 use Rattle.s2ix_edit.specs.Edit.{edited_alone}
-use Rattle.s2ix_edit.specs.State.{State, IsStore, after_edit, change_of, with_held}
-use Rattle.s2ix_edit.specs.Plan.{Plans, after_record, entries_refusal, starting_at}
+use Rattle.s2ix_edit.specs.State.{State, change_of, starting_at}
+use Rattle.s2ix_edit.specs.Plan.{Plans, entries_refusal}
 use Rattle.s2ix_edit.specs.Refusals.{asks_too_fine, edit_refusal, has_count_above, lacks_label, takes_too_many}
-use Rattle.s2ix_edit.proofs.Taken.{above_from_count, any_above_changed, between_changed, none_above}
+use Rattle.s2ix_edit.proofs.Above.{above_from_count, any_above_changed, none_above}
+use Rattle.s2ix_edit.proofs.Plans.{between_changed}
 use Rattle.s2ix_edit.proofs.Edited.{edited_held, edited_is_collection}
 use Rattle.s2ix_bag.proofs.Collections.{count_in-set_count_same}
 use Rattle.s2ix_bag.proofs.Differences.{changed_between}
@@ -126,14 +126,3 @@ sum_too_high bag p copies before b is_before high =
 pub change_planned : (s : State) (edit : Edit) (es : List Entry) → IsBag s.bag → Plans s.bag edit es → change_of s edit ≡ es
 change_planned s edit es b plans =
     ap (λ hs. change_between s.bag.held hs) (edited_held s edit) ∙ planned_change s.bag edit es b plans
-
--- an edit makes what its planned entries make
-pub planned_state : (s : State) (edit : Edit) (es : List Entry) → IsBag s.bag → Plans s.bag edit es → after_record s es ≡ after_edit s edit
-planned_state s edit es b plans =
-    ap₂ (λ (hs : Collection) (ds : List Entry). let after : State = record { bag = with_held s.bag hs; done = s.done ++ ds ∷ []; undone = [] } in after)
-    (plans.result ∙ sym (edited_held s edit)) (sym (change_planned s edit es b plans))
-
--- the refusal of an edit, read off its planned entries or off a store with no history
-pub refusal_of_entries : (s : State) (edit : Edit) (es : List Entry) → IsStore s → length s.done < changes_limit s.bag.limits → Plans s.bag edit es → entries_refusal s.bag es ≡ edit_refusal s edit
-refusal_of_entries s edit es st room plans =
-    sym (with_room s edit room ∙ planned_refusal s.bag edit es st.bag plans)

@@ -26,7 +26,7 @@ use Rattle.s2ix_edit.specs.Edit.{with_all_moved, with_moved, pair_of}
 use Rattle.s2ix_edit.specs.Plan.{move_entries}
 use Rattle.s2ix_edit.proofs.Plans.{Makes}
 use Rattle.s2ix_edit.specs.Refusals.{has_count_above}
-use Rattle.s2ix_edit.proofs.Taken.{above_from_count}
+use Rattle.s2ix_edit.proofs.Above.{above_from_count}
 use Rattle.s2ix_edit.proofs.DropLabel.{same_value}
 
 -- ---- the counts of two pairs set

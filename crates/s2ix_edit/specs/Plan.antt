@@ -1,5 +1,5 @@
--- Carrying an edit out: the entries that it plans, and what a store makes of planned entries.
-use Rattle.std.specs.Prelude.{◌≡◌, ℕ, ◌==◌, nat_lt, if◌then◌else◌, false, Option, Some, None, List, [], ◌∷◌, ◌++◌, length}
+-- Carrying an edit out: the entries that it plans, and where a store refuses them.
+use Rattle.std.specs.Prelude.{◌≡◌, ℕ, ◌==◌, nat_lt, if◌then◌else◌, false, Option, Some, None, List, [], ◌∷◌, length}
 use Rattle.std.specs.List.{list_any}
 use Rattle.s2id_core.specs.declared.cell_id.CellId.{CellId}
 use Rattle.s2ix_bag.specs.declared.label.Label.{Label}
@@ -15,13 +15,9 @@ use Rattle.s2ix_edit.specs.declared.edit.Edit.{Edit}
 use Rattle.s2ix_edit.specs.declared.errors.EditError.{EditError}
 use Rattle.s2ix_edit.specs.declared.errors.EditError.TheVariants.{NoChange, TooManyCopies, TooManyPairs}
 use Rattle.s2ix_edit.specs.Edit.{edited_alone, pair_of}
-use Rattle.s2ix_edit.specs.State.{State, with_held}
+use Rattle.s2ix_edit.specs.State.{starting_at}
 use Rattle.s2ix_edit.specs.declared.errors.PlanError.{PlanError}
 use Rattle.s2ix_edit.specs.Refusals.{lacks_label, takes_too_many, asks_too_fine, edit_error, edit_refusal, IsEditRefusal}
-
--- a store that stands at a bag and has no history
-abbrev pub starting_at : LimitedCollection → State
-starting_at bag = record { bag = bag; done = []; undone = [] }
 
 -- the entries that change the count of one pair: none where it stays
 abbrev pub one_entry : Pair → ℕ → ℕ → List Entry
@@ -63,18 +59,3 @@ first_copy label cell = record { pair = pair_of cell label; before = 0; after = 
 -- a cell's pair under the label, held with one copy
 abbrev pub one_copy : Label → CellId → Held
 one_copy label cell = record { pair = pair_of cell label; count = 1 }
-
--- the store after planned entries: its bag has the counts after, and they are the last change that was done
-abbrev pub after_record : State → List Entry → State
-after_record s es = record {
-  bag = with_held s.bag (changed s.bag.held es);
-  done = s.done ++ es ∷ [];
-  undone = [];
-}
-
--- the last change of one list is now at the end of the other, and has this many entries
-pub record IsShifted (from to from_after to_after : List (List Entry)) (number : ℕ) : Type 0 where
-  pub last : List Entry
-  pub taken : from ≡ from_after ++ last ∷ []
-  pub put : to_after ≡ to ++ last ∷ []
-  pub size : number ≡ length last

@@ -72,17 +72,22 @@ impl From<PlanError> for EditError {
 }
 
 /// Why an edit has no plan: the cases of [`EditError`] that are found before any limit is looked at.
-#[derive(Clone, Copy, Debug, PartialEq, Eq)]
+#[derive(Clone, Copy, Debug, PartialEq, Eq, Error)]
 pub enum PlanError {
     /// No pair of the label is held.
+    #[error("no pair of the label is held")]
     NoSuchLabel,
     /// Fewer copies are held than the edit takes.
+    #[error("fewer copies are held")]
     NotHeld,
     /// The level is above 30, or more than 8 above the level of a cell of the label.
+    #[error("the level is too fine")]
     TooFine,
     /// A count would pass every limit.
+    #[error("a count would pass every limit")]
     TooManyCopies,
     /// A growth was refused.
+    #[error("out of memory")]
     OutOfMemory,
 }
 
@@ -108,7 +113,7 @@ impl From<OutOfMemory> for PlanError {
     }
 }
 
-/// Why [`Store::undo`](crate::Store::undo) was refused.
+/// Why an undo was refused. It stands here and not beside the store, since a script names the refusals of all its steps.
 #[derive(Clone, Copy, Debug, PartialEq, Eq, Error)]
 pub enum UndoError {
     /// No change can be undone.
@@ -130,7 +135,7 @@ impl From<OutOfMemory> for UndoError {
     }
 }
 
-/// Why [`Store::redo`](crate::Store::redo) was refused.
+/// Why a redo was refused.
 #[derive(Clone, Copy, Debug, PartialEq, Eq, Error)]
 pub enum RedoError {
     /// No change can be redone.

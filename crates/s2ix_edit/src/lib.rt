@@ -1,9 +1,8 @@
-//! An editable collection: edits that record exactly what they change, undo and redo.
+//! Edits of a collection: what each makes of it, where it is refused, and the change that carries it out.
 //!
-//! A [`Store`] stands at one place of a history of collections. An accepted [`Edit`] makes the next collection and
-//! records the change between the two; `undo` goes back by one, `redo` on by one, and `forget` keeps the
-//! collection alone. A refused step leaves the store as it was. The store keeps the range table of its collection
-//! beside it, for queries.
+//! An [`Edit`] is a step from one collection to the next. [`plan`] says which counts it changes in a bag, and changes nothing
+//! itself: the planned change is applied by the bag, and recorded by the store that stands above this crate, with its
+//! history. So what a script asks for, and why a step is refused, can be named without a store.
 #![tactic(auto)]
 
 mod edit;
@@ -11,11 +10,8 @@ mod edits;
 mod errors;
 pub mod laws;
 mod region;
-mod steps;
-mod store;
-mod store_table;
 
 pub use edit::Edit;
-pub use errors::{EditError, RedoError, UndoError};
-pub use store::Store;
-pub use store_table::StoreTable;
+pub use edits::plan;
+pub use errors::{EditError, PlanError, RedoError, UndoError};
+pub use region::region_of;

@@ -10,8 +10,8 @@ use s2id_union::CellUnion;
 use s2ix_bag::{Bag, Held, Label};
 use std::alloc::{AllocError, Global};
 
-/// The normal union of the cells that are held with a label, which is empty where none is. O(n + m log m) for n pairs
-/// held, m of them with the label.
+/// The region of a label: the normal union of the cells that a bag holds with it, which is empty where it holds none.
+/// `OutOfMemory` where a growth is refused. O(n + m log m) for n pairs held, m of them with the label.
 pub fn region_of(alloc: Global, bag: &Bag, label: Label) -> Result<CellUnion, OutOfMemory>
     ensures region { IfOk result (λ union. HaveSameRegion union (cells_of label bag.now.held)) }
     ensures form { IfOk result (λ union. union ≡ region_in label bag.now.held) }

@@ -11,7 +11,6 @@ mod relabel;
 mod remove;
 
 ghost use Rattle.std.specs.Prelude.{IfOk, IfErr};
-ghost use Rattle.s2ix_bag.specs.Collection.{IsBag};
 ghost use Rattle.s2ix_edit.specs.Plan.{IsPlanRefusal, Plans};
 
 use crate::edit::Edit;
@@ -19,10 +18,17 @@ use crate::errors::PlanError;
 use s2ix_bag::{Bag, Change};
 use std::alloc::Global;
 
-/// The change that carries an edit out on a bag, or why the bag has none. It looks at no limit: a sum that no
-/// `u32` holds is above every one.
+/// The change that carries an edit out on a bag: an entry for each pair whose count the edit changes, and none where nothing
+/// would change. The bag stays as it is; [`Bag::applied`] makes the next one of the change.
+///
+/// A plan looks at no limit: whether the counts and the pairs fit the bag is found when the change is applied. Of the errors of
+/// [`PlanError`] the first that stands is answered; `TooManyCopies` is a sum that no `u32` holds, which is above every limit,
+/// and `OutOfMemory` may come in its place.
+///
+/// For n pairs held, `Add` and `Remove` take O(log n), `AddUnion` O(m log n) for m cells, `DropLabel` O(n), `Relabel`
+/// O(n + m log n) and `Normalise` O(n + m log m) for m pairs of the label, and `Grow` O(n + b log b) for b cells beside those of
+/// the label. This project's own.
 pub fn plan(alloc: Global, bag: &Bag, edit: &Edit) -> Result<Change, PlanError>
-    requires { IsBag bag.now }
     ensures plan { IfOk result (Plans bag.now edit.now) }
     ensures refused { IfErr result (IsPlanRefusal bag.now edit.now) }
 {

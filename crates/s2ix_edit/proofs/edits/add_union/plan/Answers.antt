@@ -6,8 +6,9 @@ use Rattle.s2ix_bag.specs.declared.pair.Entry.{Entry}
 use Rattle.s2ix_bag.specs.Change.{IsChangeList}
 use Rattle.s2ix_edit.specs.declared.edit.Edit.TheVariants.{AddUnion}
 use Rattle.s2ix_edit.specs.declared.errors.EditError.TheVariants.{TooManyCopies}
-use Rattle.s2ix_edit.specs.Plan.{Plans, starting_at}
+use Rattle.s2ix_edit.specs.Plan.{Plans}
 use Rattle.s2ix_edit.specs.Refusals.{edit_refusal}
+use Rattle.s2ix_edit.specs.State.{starting_at}
 use Rattle.s2ix_edit.proofs.AddUnion.{addition, addition_above, additions_make}
 use Rattle.s2ix_edit.proofs.Plans.{plans_from_makes}
 use Rattle.s2ix_edit.proofs.Refused.{too_high}

@@ -1,0 +1,11 @@
+pub mod Steps
+pub mod Store
+pub use Rattle.s2ix_bag.specs.Change
+pub use Rattle.s2ix_bag.specs.Collection
+pub use Rattle.s2ix_bag.specs.Limits
+pub use Rattle.s2ix_edit.specs.Edit
+pub use Rattle.s2ix_edit.specs.History
+pub use Rattle.s2ix_edit.specs.Refusals
+pub use Rattle.s2ix_edit.specs.Region
+pub use Rattle.s2ix_edit.specs.State
+pub use Rattle.s2ix_table.specs.Table

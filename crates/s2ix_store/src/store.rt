@@ -1,0 +1,227 @@
+ghost use Rattle.std.specs.Prelude.{◌≡◌, ◌≢◌, ◌↔◌, ◌<◌, [], ◌∷◌, length, None, IfOk, IfErr, OnOk, OnErr};
+ghost use Rattle.s2id_union.specs.Region.{HaveSameRegion, IsNormal};
+ghost use Rattle.s2ix_bag.specs.Apply.{first_mismatch};
+ghost use Rattle.s2ix_bag.specs.declared.pair.Pair.{Pair};
+ghost use Rattle.s2ix_bag.specs.Change.{counts_at, difference_of};
+ghost use Rattle.s2ix_bag.specs.Collection.{count_in};
+ghost use Rattle.s2ix_bag.specs.Limits.{changes_limit};
+ghost use Rattle.s2ix_bag.specs.Pair.{rank_of};
+ghost use Rattle.s2ix_edit.specs.Edit.{edited};
+ghost use Rattle.s2ix_edit.specs.History.{alone, cursor_alone, one_back, one_on, with_next};
+ghost use Rattle.s2ix_edit.specs.Plan.{entries_refusal};
+ghost use Rattle.s2ix_edit.specs.Refusals.{edit_refusal, IsEditRefusal};
+ghost use Rattle.s2ix_edit.specs.Region.{cells_of, region_of as region_in};
+ghost use Rattle.s2ix_edit.specs.State.{State, change_of, history_of, starting_at};
+ghost use Rattle.s2ix_store.specs.Steps.{after_edit, after_forget, after_record, after_redo, after_undo, redo_size, undo_size};
+ghost use Rattle.s2ix_store.specs.Store.{IsStore};
+ghost use Rattle.s2ix_table.specs.Table.{IsRangeTable};
+
+use crate::steps::{apply_planned, apply_recorded, shift_last};
+use crate::store_table::StoreTable;
+use s2id_core::OutOfMemory;
+use s2id_union::CellUnion;
+use s2ix_bag::{Bag, Change, Label, Limits};
+use s2ix_edit::{Edit, EditError, RedoError, UndoError, plan, region_of};
+use s2ix_table::RangeTable;
+use std::alloc::Global;
+use std::marker::Model;
+
+/// A collection with its history and its range table. Contracts see a store as its bag with the changes that were
+/// done and undone; the table is always that of the bag. This project's own.
+#[derive(Debug, Drop)]
+pub struct Store {
+    alloc: Global,
+    bag: Bag,
+    table: StoreTable,
+    done: Vec<Change>,
+    undone: Vec<Change>,
+}
+
+impl Model for Store {
+    ghost use Rattle.std.specs.Prelude.{◌≡◌};
+    ghost use Rattle.s2ix_edit.specs.State.{State};
+    ghost use Rattle.s2ix_store.specs.Store.{IsStore};
+
+    ghost Value = { State };
+
+    ghost view = { λ s. record { bag = s.bag; done = s.done.items; undone = s.undone.items } };
+
+    ghost invariant = { λ s.
+        IsStore (record { bag = s.bag; done = s.done.items; undone = s.undone.items })
+        × (⟦<StoreTable as RangeTable>⟧.pairs s.table ≡ s.bag.held) };
+}
+
+impl Store {
+    /// A store of the empty collection, with nothing to undo or redo. `OutOfMemory` where a growth of its table is
+    /// refused. O(1).
+    pub fn new(alloc: Global, limits: Limits) -> Result<Store, OutOfMemory>
+        ensures state { IfOk result (λ store.
+            store ≡ starting_at (record { limits = limits; held = [] })) }
+        ensures history { IfOk result (λ store. history_of store ≡ alone []) }
+    {
+        Store::from_bag(alloc, Bag::empty(alloc, limits))
+    }
+
+    /// A store that starts from its bag, with the bag's limits and nothing to undo or redo. `OutOfMemory` where a
+    /// growth of its table is refused; the bag is let go then. It takes what [`StoreTable`] takes to be built of the bag.
+    pub fn from_bag(alloc: Global, bag: Bag) -> Result<Store, OutOfMemory>
+        ensures state { IfOk result (λ store. store ≡ starting_at bag) }
+        ensures history { IfOk result (λ store. history_of store ≡ alone bag.held) }
+    {
+        let table = StoreTable::build(alloc, &bag)?;
+        Ok(Store {
+            alloc,
+            bag,
+            table,
+            done: Vec::new(alloc),
+            undone: Vec::new(alloc),
+        })
+    }
+
+    /// Carries an edit out, and answers how many pairs changed their counts. An accepted edit records the change
+    /// at the end of `done` and empties `undone`; a refused one changes nothing. [`EditError`] says when each
+    /// refusal stands. It takes what [`plan`] takes, O(n + m) to apply its m entries to n pairs held, what it takes to let the
+    /// undone changes go, and what [`StoreTable`] takes to be built of the new bag.
+    pub fn edit(&mut self, edit: &Edit) -> Result<usize, EditError>
+        ensures state { OnOk result (self.new ≡ after_edit self.old edit.now) }
+        ensures history { OnOk result (history_of self.new
+            ≡ with_next (history_of self.old) (edited (history_of self.old) edit.now)) }
+        ensures number { IfOk result (λ n. n ≡ length (change_of self.old edit.now)) }
+        ensures records { OnOk result ((pair : Pair)
+            → counts_at (change_of self.old edit.now) (rank_of pair)
+            ≡ difference_of (count_in self.old.bag.held pair) (count_in self.new.bag.held pair)) }
+        ensures accepted { OnOk result (edit_refusal self.old edit.now ≡ None) }
+        ensures refused { IfErr result (λ error.
+            IsEditRefusal error (edit_refusal self.old edit.now)) }
+        ensures unchanged { OnErr result (self.new ≡ self.old) }
+    {
+        if self.done.len() >= self.bag.limits().changes() as usize {
+            return Err(EditError::JournalFull);
+        }
+        let change = plan(self.alloc, &self.bag, edit)?;
+        self.record_change(change)
+    }
+
+    /// Carries planned entries out, whatever edit they come from.
+    fn record_change(&mut self, change: Change) -> Result<usize, EditError>
+        requires room { length self.old.done < changes_limit self.old.bag.limits }
+        requires matches { first_mismatch self.old.bag change ≡ None }
+        ensures state { OnOk result (self.new ≡ after_record self.old change) }
+        ensures number { IfOk result (λ n. n ≡ length change) }
+        ensures accepted { OnOk result (entries_refusal self.old.bag change ≡ None) }
+        ensures refused { IfErr result (λ error.
+            IsEditRefusal error (entries_refusal self.old.bag change)) }
+        ensures unchanged { OnErr result (self.new ≡ self.old) }
+    {
+        let number = change.entries().len();
+        let (bag, table) = apply_planned(self.alloc, &self.bag, &change)?;
+        self.done.push(change)?;
+        self.undone.clear();
+        self.bag = bag;
+        self.table = table;
+        Ok(number)
+    }
+
+    /// Takes the last change back, and answers how many pairs it had. The change goes to the end of `undone`.
+    /// `NothingToUndo` is tested first; after it only memory can be wanting. O(n + m) for n pairs held and m in
+    /// the change, and what [`StoreTable`] takes to be built of the new bag.
+    pub fn undo(&mut self) -> Result<usize, UndoError>
+        ensures state { OnOk result (self.new ≡ after_undo self.old) }
+        ensures history { OnOk result (history_of self.new ≡ one_back (history_of self.old)) }
+        ensures number { IfOk result (λ n. n ≡ undo_size self.old) }
+        ensures restores { OnOk result ((s : State) (edit : Edit)
+            → IsStore s
+            → self.old ≡ after_edit s edit
+            → (self.new.bag ≡ s.bag) × (self.new.done ≡ s.done)
+            × (self.new.undone ≡ change_of s edit ∷ [])) }
+        ensures nothing { (result ≡ Err UndoError.NothingToUndo) ↔ (self.old.done ≡ []) }
+        ensures unchanged { OnErr result (self.new ≡ self.old) }
+    {
+        let Some(last) = self.done.last() else {
+            return Err(UndoError::NothingToUndo);
+        };
+        let inverse = last.inverse(self.alloc)?;
+        let (bag, table) = apply_recorded(self.alloc, &self.bag, &inverse)?;
+        let number = shift_last(&mut self.done, &mut self.undone)?;
+        self.bag = bag;
+        self.table = table;
+        Ok(number)
+    }
+
+    /// Does the last undone change again, and answers how many pairs it has. The change goes back to the end of
+    /// `done`. `NothingToRedo` is tested first; after it only memory can be wanting, and the journal is never
+    /// full: an undo keeps the room of its change. O(n + m) for n pairs held and m in the change, and what
+    /// [`StoreTable`] takes to be built of the new bag.
+    pub fn redo(&mut self) -> Result<usize, RedoError>
+        ensures state { OnOk result (self.new ≡ after_redo self.old) }
+        ensures history { OnOk result (history_of self.new ≡ one_on (history_of self.old)) }
+        ensures number { IfOk result (λ n. n ≡ redo_size self.old) }
+        ensures restores { OnOk result ((s : State)
+            → IsStore s
+            → s.done ≢ []
+            → self.old ≡ after_undo s
+            → (self.new.bag ≡ s.bag) × (self.new.done ≡ s.done) × (self.new.undone ≡ s.undone)) }
+        ensures nothing { (result ≡ Err RedoError.NothingToRedo) ↔ (self.old.undone ≡ []) }
+        ensures unchanged { OnErr result (self.new ≡ self.old) }
+    {
+        let Some(last) = self.undone.last() else {
+            return Err(RedoError::NothingToRedo);
+        };
+        let (bag, table) = apply_recorded(self.alloc, &self.bag, last)?;
+        let number = shift_last(&mut self.undone, &mut self.done)?;
+        self.bag = bag;
+        self.table = table;
+        Ok(number)
+    }
+
+    /// Keeps the collection and lets all changes go: nothing is left to undo or redo. It takes no memory.
+    pub fn forget(&mut self)
+        ensures state { self.new ≡ after_forget self.old }
+        ensures history { history_of self.new ≡ cursor_alone (history_of self.old) }
+    {
+        self.done.clear();
+        self.undone.clear();
+    }
+
+    /// The collection that the store stands at.
+    pub fn bag(&self) -> &Bag
+        ensures bag { result.now ≡ self.now.bag }
+        ensures within { IsStore self.now }
+    {
+        &self.bag
+    }
+
+    /// The range table of the collection that the store stands at: what queries read.
+    pub fn table(&self) -> &StoreTable
+        ensures pairs { ⟦<StoreTable as RangeTable>⟧.pairs result.now ≡ self.now.bag.held }
+        ensures table { IsRangeTable self.now.bag.held (⟦<StoreTable as RangeTable>⟧.ranges result.now) }
+        ensures within { IsStore self.now }
+    {
+        &self.table
+    }
+
+    /// The region of a label: the normal union of the cells that are held with it, which is empty where none is.
+    /// `OutOfMemory` where a growth is refused. O(n + m log m) for n pairs held, m of them with the label.
+    pub fn region(&self, label: Label) -> Result<CellUnion, OutOfMemory>
+        ensures region { IfOk result (λ union.
+            HaveSameRegion union (cells_of label self.now.bag.held)) }
+        ensures form { IfOk result (λ union. union ≡ region_in label self.now.bag.held) }
+        ensures normal { IfOk result IsNormal }
+    {
+        region_of(self.alloc, &self.bag, label)
+    }
+
+    /// The changes that can be undone, the oldest first.
+    pub fn done(&self) -> &[Change]
+        ensures { result.now ≡ self.now.done }
+    {
+        self.done.as_slice()
+    }
+
+    /// The changes that can be redone. The one that was undone last stands at the end, and is redone first.
+    pub fn undone(&self) -> &[Change]
+        ensures { result.now ≡ self.now.undone }
+    {
+        self.undone.as_slice()
+    }
+}
