@@ -7,8 +7,8 @@ ghost use Rattle.std.specs.Process.{exit_status};
 
 use s2ix_bag::Limits;
 use s2ix_cli::{RunEnd, RunFault, RunOptions};
-use s2ix_edit::Store;
 use s2ix_io::{FromRead, ToWrite};
+use s2ix_store::Store;
 use std::io::BufWriter;
 use std::process::ExitCode;
 

@@ -9,8 +9,9 @@ use Rattle.s2ix_edit.specs.declared.errors.RedoError.{RedoError}
 use Rattle.s2ix_edit.specs.declared.errors.RedoError.TheVariants as redo
 use Rattle.s2ix_edit.specs.declared.errors.UndoError.{UndoError}
 use Rattle.s2ix_edit.specs.declared.errors.UndoError.TheVariants as undo
-use Rattle.s2ix_edit.specs.State.{State, after_edit, after_undo, after_redo, change_of, undo_size, redo_size}
 use Rattle.s2ix_edit.specs.Refusals.{edit_refusal, IsEditRefusal}
+use Rattle.s2ix_edit.specs.State.{State, change_of}
+use Rattle.s2ix_store.specs.Steps.{after_edit, after_undo, after_redo, undo_size, redo_size}
 use Rattle.s2ix_script.specs.Names.{edit_error_name, redo_error_name, undo_error_name}
 use Rattle.s2ix_cli.specs.Carry.{IsTold}
 use Rattle.s2ix_cli.specs.Step.{edit_step, edit_step_at, no_step, ok_step, redo_step, redo_step_at, undo_step, undo_step_at}

@@ -8,9 +8,10 @@ use Rattle.s2ix_edit.specs.declared.edit.Edit.{Edit}
 use Rattle.s2ix_edit.specs.declared.errors.EditError.{EditError}
 use Rattle.s2ix_edit.specs.declared.errors.RedoError.TheVariants.{NothingToRedo}
 use Rattle.s2ix_edit.specs.declared.errors.UndoError.TheVariants.{NothingToUndo}
-use Rattle.s2ix_edit.specs.State.{State, after_edit, after_forget, after_undo, after_redo, change_of, last_done, last_undone, undo_size, redo_size}
 use Rattle.s2ix_edit.specs.Refusals.{edit_refusal}
-use Rattle.s2ix_edit.specs.Region.{region_of}
+use Rattle.s2ix_edit.specs.Region.{common_of, only_of, region_of}
+use Rattle.s2ix_edit.specs.State.{State, change_of}
+use Rattle.s2ix_store.specs.Steps.{after_edit, after_forget, after_undo, after_redo, last_done, last_undone, undo_size, redo_size}
 use Rattle.s2ix_text.specs.Answers.{neighbors_line, no_line, ok_line, path_line, square_line}
 use Rattle.s2ix_text.specs.Dump.{dump_text}
 use Rattle.s2ix_table.specs.Contents.{contents_at}
@@ -24,7 +25,6 @@ use Rattle.s2ix_script.specs.declared.instruction.Instruction.TheVariants as ask
 use Rattle.s2ix_script.specs.declared.line_fault.LineFault.{LineFault}
 use Rattle.s2ix_script.specs.Meaning.{meaning_of}
 use Rattle.s2ix_script.specs.Names.{edit_error_name, fault_name, not_leaf_name, redo_error_name, undo_error_name}
-use Rattle.s2ix_cli.specs.Regions.{common_of, only_of}
 
 -- the store after a line, what the line prints, and whether it counts as a line and as a refused one
 pub record Step : Type 0 where

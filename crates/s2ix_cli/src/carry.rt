@@ -10,9 +10,9 @@ use crate::regions::{common, only, print_region};
 use crate::steps::tell_step;
 use s2id_core::CellId;
 use s2id_cube::to_face_ij;
-use s2ix_edit::Store;
 use s2ix_io::{RunFault, Sink};
 use s2ix_script::{Instruction, LineError, meaning, not_leaf_name};
+use s2ix_store::Store;
 use s2ix_table::RangeTable;
 use s2ix_text::{
     write_contents, write_dump, write_journal, write_list, write_neighbors, write_no, write_ok,

@@ -1,19 +1,19 @@
 //! The regions of labels: two beside each other, and printed.
 ghost use Rattle.std.specs.Prelude.{◌≡◌, ◌+◌, List, IfOk};
 ghost use Rattle.s2id_core.specs.declared.cell_id.CellId.{CellId};
+ghost use Rattle.s2ix_edit.specs.Region.{common_of, only_of};
 ghost use Rattle.s2ix_edit.specs.State.{State};
 ghost use Rattle.s2ix_io.specs.Faults.{CanCount, sink_faults};
 ghost use Rattle.s2ix_text.specs.Queries.{list_text, token_line};
 ghost use Rattle.s2ix_cli.specs.Carry.{Carries};
-ghost use Rattle.s2ix_cli.specs.Regions.{common_of, only_of};
 ghost use Rattle.s2ix_cli.specs.Step.{text_step};
 
 use crate::outcome::LineOutcome;
 use s2id_core::OutOfMemory;
 use s2id_union::CellUnion;
 use s2ix_bag::Label;
-use s2ix_edit::Store;
 use s2ix_io::{RunFault, Sink};
+use s2ix_store::Store;
 use s2ix_text::write_list;
 use std::alloc::Global;
 

@@ -9,9 +9,9 @@ ghost use Rattle.s2ix_cli.specs.Wants.{WantsAmong};
 
 use crate::carry::carry_out;
 use crate::outcome::{RunEnd, RunOptions};
-use s2ix_edit::Store;
 use s2ix_io::{RunFault, Sink, Source, read_whole};
 use s2ix_script::Lines;
+use s2ix_store::Store;
 use std::alloc::Global;
 
 /// Carries out the lines of a script over a store, and writes their answers: all of them, or with `stop` up to and with the first that

@@ -2,7 +2,8 @@
 use crate::plain::ring;
 use s2id_core::CellId;
 use s2ix_bag::{Entry, Label, Limits, Pair};
-use s2ix_edit::{Edit, EditError, Store};
+use s2ix_edit::{Edit, EditError};
+use s2ix_store::Store;
 use std::alloc::Global;
 use std::test::Fail;
 

@@ -7,8 +7,8 @@ use crate::model::{
 };
 use s2ix_bag::Limits;
 use s2ix_cli::{RunEnd, RunOptions, run};
-use s2ix_edit::Store;
 use s2ix_io::{KeepingSink, Sink, SliceSource};
+use s2ix_store::Store;
 use std::alloc::{AllocError, Global};
 use std::test::Fail;
 

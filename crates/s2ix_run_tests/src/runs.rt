@@ -3,8 +3,8 @@ ghost use Rattle.s2ix_io.specs.Faults.{CanCount};
 
 use s2ix_bag::Limits;
 use s2ix_cli::{RunEnd, RunFault, RunOptions, run};
-use s2ix_edit::Store;
 use s2ix_io::{Sink, Source};
+use s2ix_store::Store;
 use std::alloc::Global;
 use std::test::Fail;
 

@@ -2,7 +2,8 @@
 
 use crate::samples::{EditRow, LimitRow, edit_of, entry_of, held_of, store_of};
 use s2ix_bag::{Bag, Change, Held};
-use s2ix_edit::{Edit, EditError, RedoError, Store, UndoError};
+use s2ix_edit::{Edit, EditError, RedoError, UndoError};
+use s2ix_store::Store;
 use std::alloc::Global;
 use std::process::Abort;
 

@@ -5,7 +5,8 @@ use crate::checks::{
 };
 use crate::samples::{EditRow, WIDEST, edit_of, store_of};
 use s2ix_bag::{ApplyError, Bag, Change};
-use s2ix_edit::{Edit, EditError, Store};
+use s2ix_edit::{Edit, EditError};
+use s2ix_store::Store;
 use std::alloc::Global;
 use std::process::Abort;
 

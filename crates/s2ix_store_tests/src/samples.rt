@@ -4,7 +4,8 @@
 use s2id_core::CellId;
 use s2id_union::CellUnion;
 use s2ix_bag::{Bag, Change, Entry, Held, Label, Limits, Pair};
-use s2ix_edit::{Edit, Store};
+use s2ix_edit::Edit;
+use s2ix_store::Store;
 use std::alloc::Global;
 use std::process::Abort;
 

@@ -1,7 +1,8 @@
 //! Undo, redo and forget, call by call.
 use crate::checks::{Refusal, Row, Step, check_history, check_last, check_steps};
 use crate::samples::{EditRow, LimitRow, WIDEST, bag_of, store_of};
-use s2ix_edit::{EditError, RedoError, Store, UndoError};
+use s2ix_edit::{EditError, RedoError, UndoError};
+use s2ix_store::Store;
 use std::alloc::Global;
 use std::process::Abort;
 

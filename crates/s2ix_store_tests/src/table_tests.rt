@@ -4,7 +4,7 @@ use crate::samples::{EditRow, WIDEST, number_of, store_of, union_of};
 use s2id_core::sixteen_digits;
 use s2id_union::CellUnion;
 use s2ix_bag::Held;
-use s2ix_edit::{Store, StoreTable};
+use s2ix_store::{Store, StoreTable};
 use s2ix_table::{RangeTable, ranges};
 use std::alloc::Global;
 use std::process::Abort;
