@@ -1,5 +1,5 @@
 -- What a line of a script asks for.
-use Rattle.std.specs.Prelude.{◌≡◌, ℕ, ◌==◌, nat_lt, if◌then◌else◌, Bool, true, false, codes, Option, Some, None, Result, Ok, Err, List, [], ◌∷◌, length, slice_index}
+use Rattle.std.specs.Prelude.{◌≡◌, ℕ, ◌==◌, nat_lt, if◌then◌else◌, Bool, true, false, codes, Option, Some, None, Result, Ok, Err, List, [], ◌∷◌, ◌++◌, length, slice_index}
 use Rattle.std.specs.Str.{bytes_eq}
 use Rattle.s2id_core.specs.declared.cell_id.CellId.{CellId}
 use Rattle.s2id_core.specs.Spelled.{cell_spelled}
@@ -138,9 +138,13 @@ add_union_named fields = Err BadArguments
 
 -- ---- the words
 
--- each word, and what the fields behind it ask for
-abbrev pub words : List (List ℕ × (List (List ℕ) → Result Instruction LineFault))
-words =
+-- words, and what the fields behind each ask for
+abbrev pub Words : Type 0
+Words = List (List ℕ × (List (List ℕ) → Result Instruction LineFault))
+
+-- the words that ask for an edit
+abbrev pub edit_words : Words
+edit_words =
     (codes "add", λ fields. map_ok (λ named. asks.Edit (Add named.0 named.1)) (pair_named fields))
     ∷ (codes "remove", λ fields. map_ok (λ named. asks.Edit (Remove named.0 named.1)) (pair_named fields))
     ∷ (codes "addunion", λ fields. map_ok asks.Edit (add_union_named fields))
@@ -148,25 +152,44 @@ words =
     ∷ (codes "relabel", λ fields. map_ok asks.Edit (relabel_named fields))
     ∷ (codes "grow", λ fields. map_ok asks.Edit (grow_named fields))
     ∷ (codes "normal", λ fields. map_ok asks.Edit (normal_named fields))
-    ∷ (codes "undo", bare asks.Undo)
+    ∷ []
+
+-- the words that go along the history
+abbrev pub history_words : Words
+history_words =
+    (codes "undo", bare asks.Undo)
     ∷ (codes "redo", bare asks.Redo)
     ∷ (codes "forget", bare asks.Forget)
-    ∷ (codes "at", λ fields. map_ok asks.At (cell_named fields))
+    ∷ []
+
+-- the words that ask for what is held
+abbrev pub query_words : Words
+query_words =
+    (codes "at", λ fields. map_ok asks.At (cell_named fields))
     ∷ (codes "meet", λ fields. map_ok asks.Meet (union_named fields))
     ∷ (codes "labels", λ fields. map_ok asks.Labels (union_named fields))
     ∷ (codes "region", λ fields. map_ok asks.Region (label_named fields))
     ∷ (codes "common", common_named)
     ∷ (codes "only", only_named)
     ∷ (codes "ranges", bare asks.Ranges)
-    ∷ (codes "path", λ fields. map_ok asks.Path (cell_named fields))
-    ∷ (codes "neighbors", λ fields. map_ok asks.Neighbors (cell_named fields))
-    ∷ (codes "face", λ fields. map_ok asks.Face (cell_named fields))
     ∷ (codes "dump", bare asks.Dump)
     ∷ (codes "journal", bare asks.Journal)
     ∷ []
 
+-- the words that ask for a cell alone
+abbrev pub cell_words : Words
+cell_words =
+    (codes "path", λ fields. map_ok asks.Path (cell_named fields))
+    ∷ (codes "neighbors", λ fields. map_ok asks.Neighbors (cell_named fields))
+    ∷ (codes "face", λ fields. map_ok asks.Face (cell_named fields))
+    ∷ []
+
+-- the words of a script
+abbrev pub words : Words
+words = edit_words ++ history_words ++ query_words ++ cell_words
+
 -- what a word of these and the fields behind it ask for: the first entry with that word decides
-abbrev pub asked_in : List (List ℕ × (List (List ℕ) → Result Instruction LineFault)) → List ℕ → List (List ℕ) → Result Instruction LineFault
+abbrev pub asked_in : Words → List ℕ → List (List ℕ) → Result Instruction LineFault
 asked_in [] word fields = Err BadCommand
 asked_in (entry ∷ entries) word fields = if bytes_eq word entry.0 then entry.1 fields else asked_in entries word fields
 

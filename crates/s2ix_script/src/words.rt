@@ -1,5 +1,9 @@
 //! The words of a script.
-ghost use Rattle.s2ix_script.specs.Meaning.{Means, asked_by as asked_of, is_on_union};
+//!
+//! A word is looked for among those that ask for an edit, then among those that go along the history, then among
+//! the queries, and last among those of a cell alone: a word that is none of the first is left to the next.
+ghost use Rattle.std.specs.Prelude.{◌≡◌, ◌++◌};
+ghost use Rattle.s2ix_script.specs.Meaning.{Means, asked_by as asked_of, asked_in, cell_words, history_words, is_on_union, query_words};
 
 use crate::cells::{add_union_named, union_named};
 use crate::fields::{
@@ -14,7 +18,6 @@ use std::alloc::Global;
 use std::str::from_utf8;
 
 // What a word and the fields behind it ask for.
-#[tactic(auto, using(crate::proofs::WantedMemory::wanting))]
 pub(crate) fn asked_by(
     alloc: Global,
     word: &[u8],
@@ -22,9 +25,17 @@ pub(crate) fn asked_by(
 ) -> Result<Instruction, LineError>
     ensures { Means is_on_union result (asked_of word.now fields.entry) }
 {
-    let Ok(word) = from_utf8(word) else {
-        return Err(LineError::Fault(LineFault::BadCommand));
-    };
+    match from_utf8(word) {
+        Ok(word) => by_edit(alloc, word, fields),
+        Err(_) => Err(LineError::Fault(LineFault::BadCommand)),
+    }
+}
+
+// The same of a word that is text.
+#[tactic(auto, using(crate::proofs::WantedMemory::wanting))]
+fn by_edit(alloc: Global, word: &str, fields: Fields<'_>) -> Result<Instruction, LineError>
+    ensures { Means is_on_union result (asked_of word.now fields.entry) }
+{
     match word {
         "add" => {
             let (pair, copies) = pair_named(fields)?;
@@ -39,9 +50,29 @@ pub(crate) fn asked_by(
         "relabel" => Ok(Instruction::Edit(relabel_named(fields)?)),
         "grow" => Ok(Instruction::Edit(grow_named(fields)?)),
         "normal" => Ok(Instruction::Edit(normal_named(fields)?)),
+        _ => by_history(alloc, word, fields),
+    }
+}
+
+// What a word asks for that asks for no edit.
+#[tactic(auto, using(crate::proofs::WantedMemory::wanting))]
+fn by_history(alloc: Global, word: &str, fields: Fields<'_>) -> Result<Instruction, LineError>
+    ensures { Means is_on_union result (asked_in (history_words ++ query_words ++ cell_words) word.now fields.entry) }
+{
+    match word {
         "undo" => Ok(bare(Instruction::Undo, fields)?),
         "redo" => Ok(bare(Instruction::Redo, fields)?),
         "forget" => Ok(bare(Instruction::Forget, fields)?),
+        _ => by_query(alloc, word, fields),
+    }
+}
+
+// What a word asks for that neither edits nor goes along the history.
+#[tactic(auto, using(crate::proofs::WantedMemory::wanting))]
+fn by_query(alloc: Global, word: &str, fields: Fields<'_>) -> Result<Instruction, LineError>
+    ensures { Means is_on_union result (asked_in (query_words ++ cell_words) word.now fields.entry) }
+{
+    match word {
         "at" => Ok(Instruction::At(cell_named(fields)?)),
         "meet" => Ok(Instruction::Meet(union_named(alloc, fields)?)),
         "labels" => Ok(Instruction::Labels(union_named(alloc, fields)?)),
@@ -49,11 +80,20 @@ pub(crate) fn asked_by(
         "common" => Ok(common_named(fields)?),
         "only" => Ok(only_named(fields)?),
         "ranges" => Ok(bare(Instruction::Ranges, fields)?),
+        "dump" => Ok(bare(Instruction::Dump, fields)?),
+        "journal" => Ok(bare(Instruction::Journal, fields)?),
+        _ => Ok(by_cell(word, fields)?),
+    }
+}
+
+// What a word asks for that asks for a cell alone.
+fn by_cell(word: &str, fields: Fields<'_>) -> Result<Instruction, LineFault>
+    ensures { result ≡ asked_in cell_words word.now fields.entry }
+{
+    match word {
         "path" => Ok(Instruction::Path(cell_named(fields)?)),
         "neighbors" => Ok(Instruction::Neighbors(cell_named(fields)?)),
         "face" => Ok(Instruction::Face(cell_named(fields)?)),
-        "dump" => Ok(bare(Instruction::Dump, fields)?),
-        "journal" => Ok(bare(Instruction::Journal, fields)?),
-        _ => Err(LineError::Fault(LineFault::BadCommand)),
+        _ => Err(LineFault::BadCommand),
     }
 }

@@ -2,5 +2,5 @@
 use Rattle.s2ix_script.proofs.PlainWords.{asked_by-no_text}
 use Rattle.s2ix_script.proofs.words.asked_by.Goals as goal
 
-pub returns-in_default : goal.returns-in_default
-returns-in_default c = asked_by-no_text c.args.word.now c.args.fields c.in_default.ensures.cases.0
+pub returns-in-Err : goal.returns-in-Err
+returns-in-Err c = asked_by-no_text c.args.word.now c.args.fields c.in-Err.ensures.cases.0
