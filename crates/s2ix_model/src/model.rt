@@ -1,211 +1,267 @@
-//! A plain model of an editable collection: it keeps each collection of its history whole, and answers and prints by itself.
-//! Its cells are those of levels 0 to 2 on faces 0 and 1. Only the first byte of such a cell's number is not 0, so that byte names it.
+//! A plain model of an editable collection: it keeps each collection of its history whole, and answers by itself.
+use crate::cells::{Copies, normal_of, ring_of};
 use std::alloc::{AllocError, Global};
 
-// The limits of the model: pairs of a collection, copies of a pair, changes of a history.
-pub(crate) const PAIRS: u32 = 12;
+/// The greatest number of pairs of a collection.
+pub const PAIRS: u32 = 60;
 
-pub(crate) const COPIES: u32 = 5;
+/// The greatest number of copies of a pair.
+pub const COPIES: u32 = 5;
 
-pub(crate) const CHANGES: u32 = 40;
+/// The greatest number of changes of a history.
+pub const CHANGES: u32 = 40;
 
-// A collection: the copies of each pair. A pair stands at four times its cell's byte, and so much further as its label's place tells.
-// So the pairs of a collection rise by cell, then by label.
-pub(crate) type Counts = [u32; 256];
+/// A collection: the copies under each label, by the label's place from 0 to 3.
+pub type Counts = [Copies; 4];
 
-// How many pairs changed, or the name of the refusal.
-pub(crate) type Answer = Result<u32, &'static str>;
+/// How many pairs changed, or the name of the refusal.
+pub type Answer = Result<u32, &'static str>;
 
-// The label of a place from 0 to 3.
-pub(crate) fn label_at(place: u8) -> u32 {
-    match place {
-        0 => 1,
-        1 => 2,
-        2 => 30,
-        _ => 2147483647,
+/// An edit of cells, by their bytes, and labels, by their places.
+#[derive(Clone, Copy)]
+pub enum Edit {
+    /// So many copies of a cell under a label.
+    Add(u8, u8, u32),
+    /// The same to be taken away.
+    Remove(u8, u8, u32),
+    /// A copy of each cell of the normal union of some.
+    AddUnion([u8; 7], u8),
+    /// A label with all its copies.
+    Drop(u8),
+    /// The first label's copies to the second.
+    Relabel(u8, u8),
+    /// A label, by the cells of a level beside its own.
+    Grow(u8, u8),
+    /// A label, to its fewest cells.
+    Normal(u8),
+}
+
+// No copy of any cell.
+const NONE: Copies = [0; 256];
+
+// One place more than a history has changes.
+const PLACES: usize = 41;
+
+/// The copies under a label.
+pub(crate) fn under(counts: &Counts, label: u8) -> Copies {
+    counts[usize::from(label % 4)]
+}
+
+// The same collection, but for the copies under a label.
+fn with_label(counts: &Counts, label: u8, copies: &Copies) -> Counts {
+    let mut next = *counts;
+    next[usize::from(label % 4)] = *copies;
+    next
+}
+
+// The copies of both for each cell.
+fn sum(first: &Copies, second: &Copies) -> Copies {
+    let mut sum = *first;
+    for cell in 0..256 {
+        sum[cell] = first[cell].saturating_add(second[cell]);
+    }
+    sum
+}
+
+// So many copies of one cell.
+fn copies_of(cell: u8, number: u32) -> Copies {
+    let mut copies = NONE;
+    copies[usize::from(cell)] = number;
+    copies
+}
+
+// One copy of each of some cells.
+fn one_each(cells: &[u8; 7]) -> Copies {
+    let mut copies = NONE;
+    for &cell in cells {
+        copies[usize::from(cell)] = 1;
+    }
+    copies
+}
+
+// The same with copies more under a label.
+fn with_more(counts: &Counts, label: u8, more: &Copies) -> Counts {
+    with_label(counts, label, &sum(&under(counts, label), more))
+}
+
+// The collection without so many copies of a pair, where they are held.
+fn without(counts: &Counts, cell: u8, label: u8, number: u32) -> Result<Counts, &'static str> {
+    let mut copies = under(counts, label);
+    let place = usize::from(cell);
+    if copies[place] < number {
+        return Err("NotHeld");
+    }
+    copies[place] = copies[place].saturating_sub(number);
+    Ok(with_label(counts, label, &copies))
+}
+
+// Whether there is no copy of any cell.
+fn is_none(copies: &Copies) -> bool {
+    for &number in copies {
+        if number > 0 {
+            return false;
+        }
+    }
+    true
+}
+
+// The copies under a label, where there are any.
+fn held_under(counts: &Counts, label: u8) -> Result<Copies, &'static str> {
+    let copies = under(counts, label);
+    if is_none(&copies) {
+        return Err("NoSuchLabel");
+    }
+    Ok(copies)
+}
+
+// The collection with all copies under a label moved to another one.
+fn relabelled(counts: &Counts, source: u8, target: u8) -> Result<Counts, &'static str> {
+    let copies = held_under(counts, source)?;
+    let rest = with_label(counts, source, &NONE);
+    Ok(with_more(&rest, target, &copies))
+}
+
+// The collection with a label grown. The cells here are of level 2 at most, so a level above 10 is too fine for each.
+fn grown(counts: &Counts, label: u8, level: u8) -> Result<Counts, &'static str> {
+    let copies = held_under(counts, label)?;
+    if level > 10 {
+        return Err("TooFine");
+    }
+    Ok(with_more(counts, label, &ring_of(&copies, level)))
+}
+
+// The collection that an edit makes, or what is wrong with the edit itself.
+fn edited(counts: &Counts, edit: Edit) -> Result<Counts, &'static str> {
+    match edit {
+        Edit::Add(cell, label, number) => Ok(with_more(counts, label, &copies_of(cell, number))),
+        Edit::Remove(cell, label, number) => without(counts, cell, label, number),
+        Edit::AddUnion(cells, label) => {
+            Ok(with_more(counts, label, &normal_of(&one_each(&cells))))
+        }
+        Edit::Drop(label) => {
+            held_under(counts, label)?;
+            Ok(with_label(counts, label, &NONE))
+        }
+        Edit::Relabel(source, target) => relabelled(counts, source, target),
+        Edit::Grow(label, level) => grown(counts, label, level),
+        Edit::Normal(label) => {
+            let copies = held_under(counts, label)?;
+            Ok(with_label(counts, label, &normal_of(&copies)))
+        }
     }
 }
 
-// The pair of a cell's byte and a label's place.
-fn pair_of(cell: u8, label: u8) -> u8 {
-    cell.wrapping_mul(4).wrapping_add(label)
-}
-
-// How many pairs have another count in the second collection than in the first.
-fn differences(first: &Counts, second: &Counts) -> u32 {
+// How many cells have other copies in the second than in the first.
+fn different(first: &Copies, second: &Copies) -> u32 {
     let mut number: u32 = 0;
-    for pair in 0..256 {
-        if first[pair] != second[pair] {
+    for cell in 0..256 {
+        if first[cell] != second[cell] {
             number = number.saturating_add(1);
         }
     }
     number
 }
 
-// The answer to a step from one collection to another.
-fn answer_to(held: &Counts, next: &Counts) -> Answer {
-    let mut pairs: u32 = 0;
+/// How many pairs have another count in the second collection than in the first.
+pub(crate) fn differences(first: &Counts, second: &Counts) -> u32 {
+    let mut number: u32 = 0;
+    for label in 0..4 {
+        number = number.saturating_add(different(&first[label], &second[label]));
+    }
+    number
+}
+
+// The most copies of a pair.
+fn most(counts: &Counts) -> u32 {
     let mut most = 0;
-    for &count in next {
-        if count > 0 {
-            pairs = pairs.saturating_add(1);
-        }
-        if count > most {
-            most = count;
+    for copies in counts {
+        for &number in copies {
+            if number > most {
+                most = number;
+            }
         }
     }
+    most
+}
+
+// The answer to a step from one collection to another.
+fn answer_to(held: &Counts, next: &Counts) -> Answer {
     let number = differences(held, next);
     if number == 0 {
         Err("NoChange")
-    } else if most > COPIES {
+    } else if most(next) > COPIES {
         Err("TooManyCopies")
-    } else if pairs > PAIRS {
+    } else if differences(&[NONE; 4], next) > PAIRS {
         Err("TooManyPairs")
     } else {
         Ok(number)
     }
 }
 
-pub(crate) fn add(counts: &mut Counts, pair: u8, copies: u32) {
-    let place = usize::from(pair);
-    counts[place] = counts[place].saturating_add(copies);
-}
-
-// Whether so many were held, and are now taken away.
-pub(crate) fn remove(counts: &mut Counts, pair: u8, copies: u32) -> bool {
-    let place = usize::from(pair);
-    let is_held = counts[place] >= copies;
-    counts[place] = counts[place].saturating_sub(copies);
-    is_held
-}
-
-// Whether a label was held. Its copies move to the target, where there is one.
-pub(crate) fn take_label(counts: &mut Counts, label: u8, target: Option<u8>) -> bool {
-    let mut is_held = false;
-    for cell in 0..64u8 {
-        let place = usize::from(pair_of(cell, label));
-        let copies = counts[place];
-        is_held = is_held || copies > 0;
-        counts[place] = 0;
-        if let Some(target) = target {
-            add(counts, pair_of(cell, target), copies);
-        }
-    }
-    is_held
-}
-
-// The cells that have children here, by their bytes, the smaller ones first, with the distance from their middle to their inner children.
-const PARENTS: [(u8, u8); 10] = [
-    (4, 1),
-    (12, 1),
-    (20, 1),
-    (28, 1),
-    (36, 1),
-    (44, 1),
-    (52, 1),
-    (60, 1),
-    (16, 4),
-    (48, 4),
-];
-
-// Puts a parent in the place of its four children.
-fn join(cells: &mut [bool; 256], parent: u8, distance: u8) {
-    let outer = distance.wrapping_mul(3);
-    let children = [
-        usize::from(parent.wrapping_sub(outer)),
-        usize::from(parent.wrapping_sub(distance)),
-        usize::from(parent.wrapping_add(distance)),
-        usize::from(parent.wrapping_add(outer)),
-    ];
-    if cells[children[0]] && cells[children[1]] && cells[children[2]] && cells[children[3]] {
-        for child in children {
-            cells[child] = false;
-        }
-        cells[usize::from(parent)] = true;
-    }
-}
-
-// Whether a cell of level 2 lies in a cell: its byte is nearer to the cell's than the lowest bit of the cell's is worth.
-fn covers(cell: u8, finest: u8) -> bool {
-    let lowest = cell & cell.wrapping_neg();
-    cell.abs_diff(finest) < lowest
-}
-
-// Adds a copy of each cell of the normal union of some cells.
-pub(crate) fn add_union(counts: &mut Counts, cells: &[u8], label: u8) {
-    let mut normal = [false; 256];
-    for &cell in cells {
-        for half in 0..32u8 {
-            let finest = half.wrapping_mul(2).wrapping_add(1);
-            if covers(cell, finest) {
-                normal[usize::from(finest)] = true;
-            }
-        }
-    }
-    for (parent, distance) in PARENTS {
-        join(&mut normal, parent, distance);
-    }
-    for cell in 0..64u8 {
-        if normal[usize::from(cell)] {
-            add(counts, pair_of(cell, label), 1);
-        }
-    }
-}
-
-// A history of whole collections.
+/// A history of whole collections.
 #[derive(Drop)]
-pub(crate) struct Model {
+pub struct Model {
     collections: Vec<Counts>,
-    // The place of the collection that is held.
+    // The places of the collection that is held, and of the last one.
     cursor: usize,
+    last: usize,
 }
 
 impl Model {
-    pub(crate) fn new(alloc: Global) -> Result<Model, AllocError> {
-        let mut collections = Vec::new(alloc);
-        collections.push([0; 256])?;
+    /// The history of the empty collection.
+    pub fn new(alloc: Global) -> Result<Model, AllocError> {
         Ok(Model {
-            collections,
+            collections: vec![in alloc; [NONE; 4]; PLACES]?,
             cursor: 0,
+            last: 0,
         })
     }
 
-    // The collection at a place; there is nothing beyond the ends.
-    fn at(&self, place: usize) -> Counts {
+    /// The collection at a place; there is nothing beyond the ends.
+    pub(crate) fn at(&self, place: usize) -> Counts {
         match self.collections.get(place) {
             Some(counts) => *counts,
-            None => [0; 256],
+            None => [NONE; 4],
         }
     }
 
-    pub(crate) fn held(&self) -> Counts {
+    /// How many changes can be undone.
+    pub(crate) fn done(&self) -> usize {
+        self.cursor
+    }
+
+    /// The collection that is held.
+    pub fn held(&self) -> Counts {
         self.at(self.cursor)
     }
 
-    // Makes this the next collection. A full history is refused first, then for a reason of the edit's own.
-    pub(crate) fn go_on_to(
-        &mut self,
-        next: &Counts,
-        refusal: Option<&'static str>,
-    ) -> Result<Answer, AllocError> {
+    // Keeps a collection as the last one.
+    fn keep(&mut self, place: usize, counts: &Counts) {
+        if let Some(kept) = self.collections.get_mut(place) {
+            *kept = *counts;
+        }
+        self.cursor = place;
+        self.last = place;
+    }
+
+    /// Makes what the edit makes the next collection, unless it is refused: an unfit field first, then a full history.
+    pub fn edit(&mut self, edit: Edit) -> Answer {
+        if let Edit::Grow(_, 31..) = edit {
+            return Err("BadLevel");
+        }
         if self.cursor >= CHANGES as usize {
-            return Ok(Err("JournalFull"));
+            return Err("JournalFull");
         }
-        if let Some(name) = refusal {
-            return Ok(Err(name));
-        }
-        let answer = answer_to(&self.held(), next);
-        if answer.is_ok() {
-            self.cursor = self.cursor.saturating_add(1);
-            self.collections.truncate(self.cursor);
-            self.collections.push(*next)?;
-        }
-        Ok(answer)
+        let held = self.held();
+        let next = edited(&held, edit)?;
+        let number = answer_to(&held, &next)?;
+        self.keep(self.cursor.wrapping_add(1), &next);
+        Ok(number)
     }
 
     // Holds the collection of another place, where there is one.
     fn move_to(&mut self, place: usize, refusal: &'static str) -> Answer {
-        if place >= self.collections.len() {
+        if place > self.last {
             return Err(refusal);
         }
         let number = differences(&self.held(), &self.at(place));
@@ -213,89 +269,20 @@ impl Model {
         Ok(number)
     }
 
-    pub(crate) fn undo(&mut self) -> Answer {
+    /// Goes back by one change.
+    pub fn undo(&mut self) -> Answer {
         self.move_to(self.cursor.wrapping_sub(1), "NothingToUndo")
     }
 
-    pub(crate) fn redo(&mut self) -> Answer {
+    /// Goes forward by one change.
+    pub fn redo(&mut self) -> Answer {
         self.move_to(self.cursor.wrapping_add(1), "NothingToRedo")
     }
 
-    pub(crate) fn forget(&mut self) -> Result<Answer, AllocError> {
+    /// Keeps the collection that is held, and no other.
+    pub fn forget(&mut self) -> Answer {
         let held = self.held();
-        self.collections.clear();
-        self.collections.push(held)?;
-        self.cursor = 0;
-        Ok(Ok(0))
+        self.keep(0, &held);
+        Ok(0)
     }
-
-    pub(crate) fn put_dump(&self, out: &mut String) -> Result<(), AllocError> {
-        let held = self.held();
-        let mut pairs: u32 = 0;
-        let mut copies: u32 = 0;
-        out.push_str("s2ix 1\n")?;
-        for pair in 0..=255u8 {
-            let count = held[usize::from(pair)];
-            if count > 0 {
-                put_pair(out, pair)?;
-                put_number(out, count)?;
-                out.push_str("\n")?;
-                pairs = pairs.saturating_add(1);
-                copies = copies.saturating_add(count);
-            }
-        }
-        out.push_str("end")?;
-        put_number(out, pairs)?;
-        put_number(out, copies)?;
-        out.push_str("\n")
-    }
-
-    pub(crate) fn put_journal(&self, out: &mut String) -> Result<(), AllocError> {
-        let mut changes: u32 = 0;
-        out.push_str("s2ix-journal 1\n")?;
-        for place in 0..self.cursor {
-            put_change(out, &self.at(place), &self.at(place.wrapping_add(1)))?;
-            changes = changes.saturating_add(1);
-        }
-        out.push_str("end")?;
-        put_number(out, changes)?;
-        out.push_str("\n")
-    }
-}
-
-// Writes a change as a journal does, pairs rising.
-fn put_change(out: &mut String, before: &Counts, after: &Counts) -> Result<(), AllocError> {
-    out.push_str("change")?;
-    put_number(out, differences(before, after))?;
-    out.push_str("\n")?;
-    for pair in 0..=255u8 {
-        let (old, new) = (before[usize::from(pair)], after[usize::from(pair)]);
-        if old != new {
-            put_pair(out, pair)?;
-            put_number(out, old)?;
-            put_number(out, new)?;
-            out.push_str("\n")?;
-        }
-    }
-    Ok(())
-}
-
-// Writes a pair as its token and its label.
-fn put_pair(out: &mut String, pair: u8) -> Result<(), AllocError> {
-    put_token(out, pair / 4)?;
-    put_number(out, label_at(pair % 4))
-}
-
-// Writes a cell's byte without the zeros at its end.
-pub(crate) fn put_token(out: &mut String, cell: u8) -> Result<(), AllocError> {
-    if cell % 16 == 0 {
-        write!(out, "{:x}", cell / 16)
-    } else {
-        write!(out, "{cell:02x}")
-    }
-}
-
-// Writes a number behind a space.
-pub(crate) fn put_number(out: &mut String, number: u32) -> Result<(), AllocError> {
-    write!(out, " {number}")
 }
