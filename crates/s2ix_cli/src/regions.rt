@@ -1,9 +1,9 @@
 //! The regions of labels: two beside each other, and printed.
-ghost use Rattle.std.specs.Prelude.{◌≡◌, ◌+◌, List, IfOk};
+ghost use Rattle.std.specs.Prelude.{◌≡◌, ◌+◌, List, IfOk, IfErr, IsErr};
 ghost use Rattle.s2id_core.specs.declared.cell_id.CellId.{CellId};
 ghost use Rattle.s2ix_edit.specs.Region.{common_of, only_of};
 ghost use Rattle.s2ix_edit.specs.State.{State};
-ghost use Rattle.s2ix_io.specs.Faults.{CanCount, sink_faults};
+ghost use Rattle.s2ix_io.specs.Faults.{CanCount, sink_faults, IsWantOnlyIf};
 ghost use Rattle.s2ix_text.specs.Queries.{list_text, token_line};
 ghost use Rattle.s2ix_cli.specs.Carry.{Carries};
 ghost use Rattle.s2ix_cli.specs.Step.{text_step};
@@ -54,6 +54,7 @@ pub(crate) fn print_region<K: Sink>(
     ensures carries { (s : State) (cells : List CellId)
         → IfOk region (λ union. union ≡ cells)
         → Carries (text_step s (list_text token_line cells)) s s (K.taken sink.old) (K.taken sink.new) result }
+    ensures memory { IfErr result (IsWantOnlyIf (IsErr region)) }
     ensures faults { K.fault_count sink.new ≡ K.fault_count sink.old + sink_faults result }
 {
     write_list(region?.cells(), sink)?;

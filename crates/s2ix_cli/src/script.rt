@@ -20,9 +20,9 @@ use std::alloc::Global;
 ///
 /// The first fault ends the run: `Read` and `Write` at the first fault of the source and the sink (a failed flush is `Write`),
 /// `OutOfMemory` where a growth was refused, `ReaderTooLong` where `turns` pieces were read and none was the end. A line that memory
-/// was refused for has changed nothing and printed nothing, and it is an edit, an undo, a redo or a line with a list of cells. After a
-/// fault the store keeps what the lines before it did, and their whole output went out; where the sink failed in a line's answer, the
-/// store keeps what that line did too, and a front of its answer went out.
+/// was refused for has changed nothing and printed nothing, and it is an edit, an undo, a redo, a line with a list of cells or one that
+/// asks for regions. After a fault the store keeps what the lines before it did, and their whole output went out; where the sink failed
+/// in a line's answer, the store keeps what that line did too, and a front of its answer went out.
 pub fn run<S: Source, K: Sink>(
     alloc: Global,
     source: &mut S,

@@ -2,6 +2,4 @@
 #![tactic(auto)]
 
 #[cfg(test)]
-mod model;
-#[cfg(test)]
 mod model_tests;

@@ -1,73 +1,16 @@
 // Long scripts of a fixed generator, with what a plain model answers to them.
 ghost use Rattle.s2ix_io.specs.Faults.{CanCount};
 
-use crate::model::{
-    Answer, CHANGES, COPIES, Counts, Model, PAIRS, add, add_union, label_at, put_number, put_token,
-    remove, take_label,
-};
 use s2ix_bag::Limits;
 use s2ix_cli::{RunEnd, RunOptions, run};
 use s2ix_io::{KeepingSink, Sink, SliceSource};
+use s2ix_model::{
+    Answer, CHANGES, COPIES, Chance, Edit, Line, Model, PAIRS, label_at, put_dump, put_journal,
+    put_token,
+};
 use s2ix_store::Store;
 use std::alloc::{AllocError, Global};
 use std::test::Fail;
-
-// The cells of level 2 that lie in the first of level 1 on each of the two faces, with the other three of level 1 there.
-const SIBLINGS: [[u8; 7]; 2] = [[1, 3, 5, 7, 12, 20, 28], [33, 35, 37, 39, 44, 52, 60]];
-
-// A generator of numbers that look like chance.
-#[derive(Drop)]
-struct Chance {
-    state: u64,
-}
-
-impl Chance {
-    // A number below a bound.
-    fn below(&mut self, bound: u8) -> u8 {
-        self.state = self
-            .state
-            .wrapping_mul(6364136223846793005)
-            .wrapping_add(1442695040888963407);
-        let drawn = (self.state >> 32) as u32 as u64;
-        (drawn.wrapping_mul(bound as u64) >> 32) as u8
-    }
-
-    // The byte of a cell of a level from 0 to 2 on face 0 or 1.
-    fn cell(&mut self) -> u8 {
-        match self.below(3) {
-            0 => self.below(2).wrapping_mul(32).wrapping_add(16),
-            1 => self.below(8).wrapping_mul(8).wrapping_add(4),
-            _ => self.below(32).wrapping_mul(2).wrapping_add(1),
-        }
-    }
-
-    // Two to five cells of any place, or four siblings, at times with the siblings of their parent: so many of the first.
-    fn cells(&mut self) -> ([u8; 7], usize) {
-        let mut cells = SIBLINGS[usize::from(self.below(2)) % 2];
-        let mut number = if self.below(2) == 0 { 4 } else { 7 };
-        if self.below(3) > 0 {
-            number = usize::from(self.below(4)).wrapping_add(2);
-            for cell in &mut cells {
-                *cell = self.cell();
-            }
-        }
-        (cells, number)
-    }
-
-    // A pair: two times in three the next one that is held, where any is.
-    fn pair(&mut self, held: &Counts) -> u8 {
-        let drawn = self.cell().wrapping_mul(4).wrapping_add(self.below(4));
-        if self.below(3) > 0 {
-            for further in 0..=255u8 {
-                let pair = drawn.wrapping_add(further);
-                if held[usize::from(pair)] > 0 {
-                    return pair;
-                }
-            }
-        }
-        drawn
-    }
-}
 
 // A script as it is written, with what a run of it is to come to.
 #[derive(Drop)]
@@ -83,32 +26,13 @@ struct Record {
 impl Record {
     fn new(alloc: Global, seed: u64) -> Result<Record, AllocError> {
         Ok(Record {
-            chance: Chance { state: seed },
+            chance: Chance::new(seed),
             model: Model::new(alloc)?,
             script: String::new(alloc),
             output: String::new(alloc),
             lines: 0,
             refused: 0,
         })
-    }
-
-    // Ends a line, takes its answer down, and tells whether it was accepted.
-    fn take(&mut self, answer: Answer) -> Result<bool, AllocError> {
-        self.script.push_str("\n")?;
-        self.lines = self.lines.saturating_add(1);
-        match answer {
-            Ok(number) => {
-                self.output.push_str("ok")?;
-                put_number(&mut self.output, number)?;
-            }
-            Err(name) => {
-                self.refused = self.refused.saturating_add(1);
-                self.output.push_str("no ")?;
-                self.output.push_str(name)?;
-            }
-        }
-        self.output.push_str("\n")?;
-        Ok(answer.is_ok())
     }
 
     // Writes a cell: as a dump does, or with all its digits in either case.
@@ -121,149 +45,127 @@ impl Record {
         }
     }
 
-    // Draws a label's place, and writes the label.
-    fn label(&mut self) -> Result<u8, AllocError> {
-        let place = self.chance.below(4);
-        put_number(&mut self.script, label_at(place))?;
-        Ok(place)
+    // Writes a line of a pair. One copy is left out of it at times.
+    fn put_pair(&mut self, word: &str, cell: u8, label: u8, copies: u32) -> Result<(), AllocError> {
+        self.script.push_str(word)?;
+        self.spell(cell)?;
+        if copies == 1 && self.chance.below(2) == 0 {
+            write!(self.script, " {}\n", label_at(label))
+        } else {
+            write!(self.script, " {} {copies}\n", label_at(label))
+        }
     }
 
-    // Adds or removes from one to three copies of a pair. One copy is left out of the line at times.
-    fn copies(&mut self, is_add: bool) -> Result<bool, AllocError> {
-        let mut next = self.model.held();
-        let pair = self.chance.pair(&next);
-        let copies = u32::from(self.chance.below(3)).saturating_add(1);
-        self.script.push_str(if is_add { "add" } else { "remove" })?;
-        self.spell(pair / 4)?;
-        put_number(&mut self.script, label_at(pair % 4))?;
-        if copies != 1 || self.chance.below(2) == 0 {
-            put_number(&mut self.script, copies)?;
-        }
-        let mut refusal = None;
-        if is_add {
-            add(&mut next, pair, copies);
-        } else if !remove(&mut next, pair, copies) {
-            refusal = Some("NotHeld");
-        }
-        let answer = self.model.go_on_to(&next, refusal)?;
-        self.take(answer)
-    }
-
-    fn spell_all(&mut self, cells: &[u8]) -> Result<(), AllocError> {
+    fn put_union(&mut self, cells: &[u8; 7], label: u8) -> Result<(), AllocError> {
+        write!(self.script, "addunion {}", label_at(label))?;
         for &cell in cells {
             self.spell(cell)?;
         }
+        self.script.push_str("\n")
+    }
+
+    fn put_edit(&mut self, edit: Edit) -> Result<(), AllocError> {
+        match edit {
+            Edit::Add(cell, label, copies) => self.put_pair("add", cell, label, copies),
+            Edit::Remove(cell, label, copies) => self.put_pair("remove", cell, label, copies),
+            Edit::AddUnion(cells, label) => self.put_union(&cells, label),
+            Edit::Drop(label) => write!(self.script, "drop {}\n", label_at(label)),
+            Edit::Relabel(source, target) => {
+                let (source, target) = (label_at(source), label_at(target));
+                write!(self.script, "relabel {source} {target}\n")
+            }
+            Edit::Grow(label, level) => {
+                write!(self.script, "grow {} {level}\n", label_at(label))
+            }
+            Edit::Normal(label) => write!(self.script, "normal {}\n", label_at(label)),
+        }
+    }
+
+    // Takes the answer to a line down, and tells whether it was accepted.
+    fn take(&mut self, answer: Answer) -> Result<bool, AllocError> {
+        match answer {
+            Ok(number) => {
+                write!(self.output, "ok {number}\n")?;
+                Ok(true)
+            }
+            Err(name) => {
+                self.refused = self.refused.saturating_add(1);
+                write!(self.output, "no {name}\n")?;
+                Ok(false)
+            }
+        }
+    }
+
+    // Writes a line and what is printed for it, and tells whether it was accepted.
+    fn put(&mut self, line: Line) -> Result<bool, AllocError> {
+        self.lines = self.lines.saturating_add(1);
+        let answer = match line {
+            Line::Edit(edit) => {
+                self.put_edit(edit)?;
+                self.model.edit(edit)
+            }
+            Line::Undo => {
+                self.script.push_str("undo\n")?;
+                self.model.undo()
+            }
+            Line::Redo => {
+                self.script.push_str("redo\n")?;
+                self.model.redo()
+            }
+            Line::Forget => {
+                self.script.push_str("forget\n")?;
+                self.model.forget()
+            }
+            Line::Dump => {
+                self.script.push_str("dump\n")?;
+                put_dump(&mut self.output, &self.model)?;
+                return Ok(true);
+            }
+            Line::Journal => {
+                self.script.push_str("journal\n")?;
+                put_journal(&mut self.output, &self.model)?;
+                return Ok(true);
+            }
+        };
+        self.take(answer)
+    }
+
+    // Writes the same line until it is refused, and a dump.
+    fn put_all(&mut self, line: Line) -> Result<(), AllocError> {
+        for _ in 0..=CHANGES {
+            if !self.put(line)? {
+                break;
+            }
+        }
+        self.put(Line::Dump)?;
         Ok(())
     }
 
-    // Adds the cells of a union.
-    fn union(&mut self) -> Result<bool, AllocError> {
-        let mut next = self.model.held();
-        self.script.push_str("addunion")?;
-        let label = self.label()?;
-        let (cells, number) = self.chance.cells();
-        let cells = cells.get(..number).unwrap_or(&[]);
-        self.spell_all(cells)?;
-        add_union(&mut next, cells, label);
-        let answer = self.model.go_on_to(&next, None)?;
-        self.take(answer)
-    }
-
-    // Drops a label, or moves its copies to another one.
-    fn take_label(&mut self, is_drop: bool) -> Result<bool, AllocError> {
-        let mut next = self.model.held();
-        self.script
-            .push_str(if is_drop { "drop" } else { "relabel" })?;
-        let label = self.label()?;
-        let target = if is_drop { None } else { Some(self.label()?) };
-        let is_held = take_label(&mut next, label, target);
-        let refusal = if is_held { None } else { Some("NoSuchLabel") };
-        let answer = self.model.go_on_to(&next, refusal)?;
-        self.take(answer)
-    }
-
-    fn undo(&mut self) -> Result<bool, AllocError> {
-        self.script.push_str("undo")?;
-        let answer = self.model.undo();
-        self.take(answer)
-    }
-
-    fn redo(&mut self) -> Result<bool, AllocError> {
-        self.script.push_str("redo")?;
-        let answer = self.model.redo();
-        self.take(answer)
-    }
-
-    fn forget(&mut self) -> Result<bool, AllocError> {
-        self.script.push_str("forget")?;
-        let answer = self.model.forget()?;
-        self.take(answer)
-    }
-
-    fn dump(&mut self) -> Result<bool, AllocError> {
-        self.script.push_str("dump\n")?;
-        self.lines = self.lines.saturating_add(1);
-        self.model.put_dump(&mut self.output)?;
-        Ok(true)
-    }
-
-    fn journal(&mut self) -> Result<bool, AllocError> {
-        self.script.push_str("journal\n")?;
-        self.lines = self.lines.saturating_add(1);
-        self.model.put_journal(&mut self.output)?;
-        Ok(true)
-    }
-
-    // Any line.
-    fn step(&mut self) -> Result<bool, AllocError> {
-        match self.chance.below(64) {
-            0..=20 => self.copies(true),
-            21..=32 => self.copies(false),
-            33..=40 => self.union(),
-            41..=43 => self.take_label(true),
-            44..=47 => self.take_label(false),
-            48..=53 => self.undo(),
-            54..=57 => self.redo(),
-            58..=62 => self.dump(),
-            _ => self.journal(),
-        }
-    }
-
     // Any lines; then back to the beginning and on to the end, each with a dump; then back by some, or forget.
-    fn round(&mut self, steps: u32) -> Result<(), AllocError> {
-        for _ in 0..steps {
-            self.step()?;
+    fn round(&mut self, lines: u32) -> Result<(), AllocError> {
+        for _ in 0..lines {
+            let line = self.chance.line(&self.model.held());
+            self.put(line)?;
         }
-        for _ in 0..LONGEST {
-            if !self.undo()? {
-                break;
-            }
-        }
-        self.dump()?;
-        for _ in 0..LONGEST {
-            if !self.redo()? {
-                break;
-            }
-        }
-        self.dump()?;
+        self.put_all(Line::Undo)?;
+        self.put_all(Line::Redo)?;
         if self.chance.below(3) == 0 {
-            self.forget()?;
+            self.put(Line::Forget)?;
         }
         for _ in 0..self.chance.below(30) {
-            self.undo()?;
+            self.put(Line::Undo)?;
         }
         Ok(())
     }
 }
 
-// More lines than lead from one end of a history to the other.
-const LONGEST: u32 = 50;
-
 // Each way in which a line of the scripts may be refused.
-const NAMES: [&str; 8] = [
+const NAMES: [&str; 10] = [
+    "BadLevel",
     "JournalFull",
     "NoSuchLabel",
     "NotHeld",
+    "TooFine",
     "NoChange",
     "TooManyCopies",
     "TooManyPairs",
@@ -309,7 +211,7 @@ fn refusal_left_out(output: &str) -> Option<&'static str> {
 // The record of a long script.
 fn record_of(alloc: Global, seed: u64) -> Result<Record, AllocError> {
     let mut record = Record::new(alloc, seed)?;
-    for _ in 0..8 {
+    for _ in 0..10 {
         record.round(80)?;
     }
     Ok(record)

@@ -7,7 +7,7 @@ use std::alloc::{AllocError, AllocFailed};
 use thiserror::Error;
 
 /// What is wrong with a line: the first thing that is, of its length, its word, the number of its further fields, and then each of these
-/// fields from the left.
+/// fields from the left. This project's own.
 #[derive(Clone, Copy, Debug, PartialEq, Eq, Error)]
 pub enum LineFault {
     /// The line has more than 65,536 bytes.
@@ -41,7 +41,7 @@ impl From<TokenError> for LineFault {
     }
 }
 
-/// Why the meaning of a line was not found.
+/// Why the meaning of a line was not found. This project's own.
 #[derive(Clone, Copy, Debug, PartialEq, Eq, Error)]
 pub enum LineError {
     /// Something is wrong with the line.

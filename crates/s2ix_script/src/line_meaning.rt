@@ -8,7 +8,7 @@ use crate::words::asked_by;
 use bstr::{ByteSlice, Fields};
 use std::alloc::Global;
 
-/// The most bytes that a line of a script may have, its line feed not counted.
+/// The most bytes that a line of a script may have, its line feed not counted. This project's own.
 pub const LONGEST_LINE: usize = 65536;
 
 /// What a line asks for: nothing where it has no field, or its first field begins with `#`. The line comes
@@ -17,7 +17,7 @@ pub const LONGEST_LINE: usize = 65536;
 /// where the line asks for something.
 ///
 /// The first of these faults that applies is answered: too long, no word of a script, a number of fields that does
-/// not fit the word, then the first unfit field from the left.
+/// not fit the word, then the first unfit field from the left. This project's own.
 #[tactic(auto, unfolding(crate::specs::Meaning::meaning_of, crate::specs::Fields::fields_of))]
 pub fn meaning(alloc: Global, line: &[u8]) -> Result<Option<Instruction>, LineError>
     ensures { Means asks_on_union result (meaning_of line.now) }

@@ -6,7 +6,7 @@ ghost use Rattle.s2ix_script.specs.Lines.{CutsLine, lines_of};
 use bstr::ByteSlice;
 use std::marker::Model;
 
-/// The lines of a script that are still to come. Contracts see the bytes that are left.
+/// The lines of a script that are still to come. Contracts see the bytes that are left. This project's own.
 #[derive(Debug, Drop)]
 pub struct Lines<'a> {
     text: &'a [u8],
@@ -19,7 +19,7 @@ impl<'a> Model for Lines<'a> {
 }
 
 impl<'a> Lines<'a> {
-    /// The lines of a script.
+    /// The lines of a script. This project's own.
     pub fn new(text: &'a [u8]) -> Lines<'a>
         ensures { result ≡ text.now }
     {
@@ -28,7 +28,7 @@ impl<'a> Lines<'a> {
 
     /// The next line, without its line feed, or `None` where no byte is left. A carriage return belongs to its
     /// line, a last line needs no line feed, and behind the last line feed there is no line. O(n) for a line of
-    /// n bytes.
+    /// n bytes. This project's own.
     pub fn next_line(&mut self) -> Option<&'a [u8]>
         ensures none { IsNone result ↔ (self.old ≡ []) }
         ensures end { IfNone result (self.new ≡ []) }

@@ -6,7 +6,7 @@ use crate::line_fault::LineFault;
 use s2ix_edit::{EditError, RedoError, UndoError};
 
 impl LineFault {
-    /// The name by which a line with this fault is answered, as `no NAME`.
+    /// The name by which a line with this fault is answered, as `no NAME`. This project's own.
     pub fn name(self) -> &'static str
         ensures { result.now ≡ fault_name self }
     {
@@ -22,7 +22,7 @@ impl LineFault {
     }
 }
 
-/// The name by which a line whose edit is refused is answered, as `no NAME`.
+/// The name by which a line whose edit is refused is answered, as `no NAME`. This project's own.
 pub fn edit_error_name(error: EditError) -> &'static str
     ensures { result.now ≡ name_of_edit_error error }
 {
@@ -38,7 +38,7 @@ pub fn edit_error_name(error: EditError) -> &'static str
     }
 }
 
-/// The name by which a refused `undo` is answered, as `no NAME`.
+/// The name by which a refused `undo` is answered, as `no NAME`. This project's own.
 pub fn undo_error_name(error: UndoError) -> &'static str
     ensures { result.now ≡ name_of_undo_error error }
 {
@@ -48,7 +48,7 @@ pub fn undo_error_name(error: UndoError) -> &'static str
     }
 }
 
-/// The name by which a refused `redo` is answered, as `no NAME`.
+/// The name by which a refused `redo` is answered, as `no NAME`. This project's own.
 pub fn redo_error_name(error: RedoError) -> &'static str
     ensures { result.now ≡ name_of_redo_error error }
 {
@@ -58,7 +58,7 @@ pub fn redo_error_name(error: RedoError) -> &'static str
     }
 }
 
-/// The name by which a line `at` is answered where its cell is no leaf, as `no NAME`.
+/// The name by which a line `at` is answered where its cell is no leaf, as `no NAME`. This project's own.
 #[tactic(auto, unfolding(crate::specs::Names::not_leaf_name))]
 pub fn not_leaf_name() -> &'static str
     ensures { result.now ≡ name_of_not_leaf }

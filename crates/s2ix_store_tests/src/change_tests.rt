@@ -1,7 +1,7 @@
 // Changes between bags.
 use crate::checks::{check_applied, check_change};
-use crate::samples::bag_of;
-use s2ix_bag::{Bag, Change};
+use crate::samples::{bag_of, held_of};
+use s2ix_bag::{Bag, Change, Held};
 use std::alloc::Global;
 use std::process::Abort;
 
@@ -52,4 +52,22 @@ fn its_inverse_leads_back(rt: HostRuntime) {
         &change,
         OLD,
     );
+}
+
+// The change that leads from one held pair alone to another alone.
+fn change_between(rt: &impl Abort, alloc: Global, old: Held, new: Held) -> Change {
+    assert!(rt; old.count > 0 && new.count > 0);
+    Change::between_lists(alloc, &[old], &[new]).expect(rt, "memory")
+}
+
+#[test]
+fn a_change_leads_from_list_to_list(rt: HostRuntime) {
+    for (old, new, entries) in [
+        ("04:9:2", "1:7:3", ENTRIES),
+        ("04:9:2", "04:9:3", "04:9:2:3"),
+        ("04:9:2", "04:9:2", ""),
+    ] {
+        let (old, new) = (held_of(&rt, old), held_of(&rt, new));
+        check_change(&rt, &change_between(&rt, rt.alloc(), old, new), entries);
+    }
 }

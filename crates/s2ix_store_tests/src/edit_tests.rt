@@ -214,3 +214,116 @@ const REFUSED_RELABELS: [Row; 5] = [
 fn a_label_that_is_not_held_is_refused_first(rt: HostRuntime) {
     check_history(&rt, rt.alloc(), (1_000_000, 3, 100_000), &REFUSED_RELABELS);
 }
+
+// Labels that grow within a limit of five pairs: to the level's neighbours, exactly eight levels finer and past that, and not held.
+const GROWTHS: [Row; 8] = [
+    (
+        Step::Edit(EditRow::Grow(3, 31)),
+        Err(Refusal::Edit(EditError::NoSuchLabel)),
+        "",
+        (0, 0),
+    ),
+    (Step::Edit(EditRow::Add("1d:3:2")), Ok(1), "1d:3:2", (1, 0)),
+    (
+        Step::Edit(EditRow::Grow(3, 11)),
+        Err(Refusal::Edit(EditError::TooFine)),
+        "1d:3:2",
+        (1, 0),
+    ),
+    (
+        Step::Edit(EditRow::Grow(3, 10)),
+        Err(Refusal::Edit(EditError::TooManyPairs)),
+        "1d:3:2",
+        (1, 0),
+    ),
+    (
+        Step::Edit(EditRow::Grow(9, 1)),
+        Err(Refusal::Edit(EditError::NoSuchLabel)),
+        "1d:3:2",
+        (1, 0),
+    ),
+    (
+        Step::Edit(EditRow::Grow(3, 1)),
+        Ok(4),
+        "04:3:1 14:3:1 1d:3:2 24:3:1 b4:3:1",
+        (2, 0),
+    ),
+    (
+        Step::Edit(EditRow::Grow(3, 1)),
+        Err(Refusal::Edit(EditError::TooManyPairs)),
+        "04:3:1 14:3:1 1d:3:2 24:3:1 b4:3:1",
+        (2, 0),
+    ),
+    (Step::Undo, Ok(4), "1d:3:2", (1, 1)),
+];
+
+// A face grows to the whole sphere, and no further.
+const TO_THE_SPHERE: [Row; 4] = [
+    (Step::Edit(EditRow::Add("1:4:1")), Ok(1), "1:4:1", (1, 0)),
+    (
+        Step::Edit(EditRow::Grow(4, 0)),
+        Ok(4),
+        "1:4:1 3:4:1 5:4:1 9:4:1 b:4:1",
+        (2, 0),
+    ),
+    (
+        Step::Edit(EditRow::Grow(4, 0)),
+        Ok(1),
+        "1:4:1 3:4:1 5:4:1 7:4:1 9:4:1 b:4:1",
+        (3, 0),
+    ),
+    (
+        Step::Edit(EditRow::Grow(4, 0)),
+        Err(Refusal::Edit(EditError::NoChange)),
+        "1:4:1 3:4:1 5:4:1 7:4:1 9:4:1 b:4:1",
+        (3, 0),
+    ),
+];
+
+#[test]
+fn a_label_grows_by_its_neighbors(rt: HostRuntime) {
+    check_history(&rt, rt.alloc(), (5, 2, 100_000), &GROWTHS);
+    check_history(&rt, rt.alloc(), WIDEST, &TO_THE_SPHERE);
+}
+
+// Four siblings, a copy of each and two more of the last.
+const SIBLINGS: &str = "04:9:1 0c:9:1 14:9:1 1c:9:3";
+
+const NORMALISE_NINE: Step = Step::Edit(EditRow::Normalise(9));
+
+// Labels that are written in their fewest cells.
+const NORMALISATIONS: [Row; 8] = [
+    (
+        NORMALISE_NINE,
+        Err(Refusal::Edit(EditError::NoSuchLabel)),
+        "",
+        (0, 0),
+    ),
+    (
+        Step::Edit(EditRow::AddUnion("04 0c 14", 9)),
+        Ok(3),
+        "04:9:1 0c:9:1 14:9:1",
+        (1, 0),
+    ),
+    (
+        NORMALISE_NINE,
+        Err(Refusal::Edit(EditError::NoChange)),
+        "04:9:1 0c:9:1 14:9:1",
+        (1, 0),
+    ),
+    (Step::Edit(EditRow::Add("1c:9:3")), Ok(1), SIBLINGS, (2, 0)),
+    (NORMALISE_NINE, Ok(5), "1:9:1", (3, 0)),
+    (Step::Undo, Ok(5), SIBLINGS, (2, 1)),
+    (
+        Step::Edit(EditRow::Remove("04:9:1")),
+        Ok(1),
+        "0c:9:1 14:9:1 1c:9:3",
+        (3, 0),
+    ),
+    (NORMALISE_NINE, Ok(1), "0c:9:1 14:9:1 1c:9:1", (4, 0)),
+];
+
+#[test]
+fn a_label_is_written_in_its_fewest_cells(rt: HostRuntime) {
+    check_history(&rt, rt.alloc(), WIDEST, &NORMALISATIONS);
+}

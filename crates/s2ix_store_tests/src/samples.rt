@@ -23,6 +23,8 @@ pub(crate) enum EditRow {
     Remove(&'static str),
     DropLabel(u32),
     Relabel(u32, u32),
+    Grow(u32, u8),
+    Normalise(u32),
 }
 
 /// The number that a text is.
@@ -70,7 +72,7 @@ pub(crate) fn entry_of(rt: &impl Abort, text: &str) -> Entry {
 }
 
 /// The cells that some tokens name.
-fn cells_of(rt: &impl Abort, alloc: Global, tokens: &str) -> Vec<CellId> {
+pub(crate) fn cells_of(rt: &impl Abort, alloc: Global, tokens: &str) -> Vec<CellId> {
     let mut cells = Vec::new(alloc);
     for token in tokens.split_ascii_whitespace() {
         cells.push(cell_of(rt, token)).expect(rt, "memory");
@@ -111,6 +113,13 @@ pub(crate) fn edit_of(rt: &impl Abort, alloc: Global, row: EditRow) -> Edit {
         EditRow::Relabel(source, target) => Edit::Relabel {
             source: label_of(rt, source),
             target: label_of(rt, target),
+        },
+        EditRow::Grow(label, level) => Edit::Grow {
+            label: label_of(rt, label),
+            level,
+        },
+        EditRow::Normalise(label) => Edit::Normalise {
+            label: label_of(rt, label),
         },
     }
 }

@@ -1,7 +1,9 @@
 // Stores step by step: what they refuse, and what a refusal leaves.
-use crate::checks::{Refusal, Row, Step, check_bag, check_history, check_steps};
-use crate::samples::{EditRow, WIDEST, store_of};
-use s2ix_edit::EditError;
+use crate::checks::{Refusal, Row, Step, check, check_bag, check_history, check_steps};
+use crate::samples::{EditRow, WIDEST, bag_of, cells_of, label_of, store_of};
+use s2ix_edit::{EditError, Store};
+use std::alloc::Global;
+use std::process::Abort;
 
 // No copies to add, more copies to take than are held, and all copies.
 const REMOVALS: [Row; 5] = [
@@ -94,4 +96,23 @@ fn a_refused_removal_leaves_the_bag(rt: HostRuntime) {
     check_steps(&rt, rt.alloc(), &mut store, &REFUSED);
     let copy = store.bag().copied(rt.alloc()).expect(&rt, "memory");
     check_bag(&rt, &copy, "04:9:1");
+}
+
+// Compares the cells of a label's region, rising.
+fn check_region(rt: &impl Abort, alloc: Global, store: &Store, label: u32, tokens: &str) {
+    let region = store.region(label_of(rt, label)).expect(rt, "memory");
+    let cells = cells_of(rt, alloc, tokens);
+    check(rt, region.cells() == cells.as_slice(), tokens);
+}
+
+// Two sets of four siblings under one label, at two levels, and a cell of another.
+const TWO_SETS: &str = "01:9:1 03:9:2 05:9:1 07:9:1 0c:7:1 24:9:1 2c:9:1 34:9:3 3c:9:1";
+
+#[test]
+fn a_region_has_the_fewest_cells(rt: HostRuntime) {
+    let bag = bag_of(&rt, rt.alloc(), WIDEST, TWO_SETS);
+    let store = Store::from_bag(rt.alloc(), bag).expect(&rt, "memory");
+    for (label, tokens) in [(9, "04 3"), (7, "0c"), (8, "")] {
+        check_region(&rt, rt.alloc(), &store, label, tokens);
+    }
 }

@@ -1,4 +1,4 @@
-// Lists of pairs, labels and entries, contents of leaves and ranges of tables, by their calls with no script.
+// Lists of pairs, labels, cells and entries, contents of leaves and ranges of tables, by their calls with no script.
 use crate::samples::Counted;
 use crate::texts::{Row, Text, check_all};
 use std::test::Fail;
@@ -6,7 +6,7 @@ use std::test::Fail;
 // A face under label 7, and a cell in it under label 9, twice.
 const NESTED: &[Counted] = &[(b"1", 7, 1), (b"04", 9, 2)];
 
-const LISTS: [Row; 5] = [
+const LISTS: [Row; 6] = [
     // a list has its items and their number
     Row {
         texts: &[
@@ -17,6 +17,16 @@ const LISTS: [Row; 5] = [
         put_len: 3,
         fault_at: 0,
         kept: b"04:9:2\n1:7:1\nend 2\n7\n9\nend 2\n04 9 2 0\nend 1\n",
+    },
+    // a cell is its token, the shortest that names it
+    Row {
+        texts: &[
+            Text::Cells(&[b"0000000000000001", b"0400000000000000", b"b"]),
+            Text::Cells(&[]),
+        ],
+        put_len: 5,
+        fault_at: 0,
+        kept: b"0000000000000001\n04\nb\nend 3\nend 0\n",
     },
     // an item is a line
     Row {

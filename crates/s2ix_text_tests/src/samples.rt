@@ -33,6 +33,15 @@ pub(crate) fn cell_of(token: &[u8]) -> Result<CellId, Fail> {
     Ok(CellId::from_token(token)?)
 }
 
+/// The cells that these tokens name.
+pub(crate) fn cells_of(alloc: Global, tokens: &[&[u8]]) -> Result<Vec<CellId>, Fail> {
+    let mut cells = Vec::new(alloc);
+    for &token in tokens {
+        cells.push(cell_of(token)?)?;
+    }
+    Ok(cells)
+}
+
 /// The leaf that a token names.
 pub(crate) fn leaf_of(token: &[u8]) -> Result<CellId, Fail>
     ensures { IfOk result (λ leaf. level_of leaf ≡ 30) }

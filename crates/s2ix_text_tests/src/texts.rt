@@ -2,8 +2,8 @@
 ghost use Rattle.s2ix_io.specs.Faults.{CanCount};
 
 use crate::samples::{
-    Counted, Step, bag_of, cell_of, change_of, changes_of, label_of, labels_of, leaf_of, list_of,
-    table_of,
+    Counted, Step, bag_of, cell_of, cells_of, change_of, changes_of, label_of, labels_of, leaf_of,
+    list_of, table_of,
 };
 use s2id_cube::FaceIj;
 use s2ix_io::{KeepingSink, Sink};
@@ -25,6 +25,8 @@ pub(crate) enum Text {
     Pairs(&'static [Counted]),
     /// A list of labels.
     Labels(&'static [u32]),
+    /// A list of the cells with these tokens.
+    Cells(&'static [&'static [u8]]),
     /// A list of the entries of a step's change.
     Entries(Step),
     /// The line of a label.
@@ -82,6 +84,13 @@ fn write_labels(alloc: Global, numbers: &[u32], sink: &mut KeepingSink) -> Resul
     Ok(write_list(&labels, sink).is_ok())
 }
 
+fn write_cells(alloc: Global, tokens: &[&[u8]], sink: &mut KeepingSink) -> Result<bool, Fail>
+    requires { CanCount (⟦<KeepingSink as Sink>⟧.fault_count sink.old) }
+{
+    let cells = cells_of(alloc, tokens)?;
+    Ok(write_list(&cells, sink).is_ok())
+}
+
 fn write_entries(alloc: Global, step: Step, sink: &mut KeepingSink) -> Result<bool, Fail>
     requires { CanCount (⟦<KeepingSink as Sink>⟧.fault_count sink.old) }
 {
@@ -118,6 +127,7 @@ fn write(alloc: Global, text: Text, sink: &mut KeepingSink) -> Result<bool, Fail
         Text::Journal(steps) => write_journal_of(alloc, steps, sink),
         Text::Pairs(pairs) => write_pairs(alloc, pairs, sink),
         Text::Labels(numbers) => write_labels(alloc, numbers, sink),
+        Text::Cells(tokens) => write_cells(alloc, tokens, sink),
         Text::Entries(step) => write_entries(alloc, step, sink),
         Text::Label(number) => Ok(label_of(number)?.write_line(sink).is_ok()),
         Text::Contents(pairs, token) => write_contents_over(alloc, pairs, token, sink),

@@ -10,7 +10,7 @@ use crate::edits::parts::lacks_label;
 use crate::errors::PlanError;
 use crate::region::label_cells;
 use s2id_core::{CellId, OutOfMemory};
-use s2id_cube::{border, edge_neighbors};
+use s2id_cube::{BorderError, border, edge_neighbors};
 use s2id_union::CellUnion;
 use s2ix_bag::{Bag, Change, Entry, Label, Pair};
 use std::alloc::{AllocError, Global};
@@ -100,10 +100,12 @@ fn add_beside(
     if let Some(outer) = cell.parent(level) {
         beside.extend_from_slice(&edge_neighbors(outer))?;
     } else {
-        let Ok(cells) = border(alloc, cell, level) else {
-            return Err(OutOfMemory);
-        };
-        beside.extend_from_slice(cells.as_slice())?;
+        match border(alloc, cell, level) {
+            Ok(cells) => beside.extend_from_slice(cells.as_slice())?,
+            Err(BorderError::Coarser) => unreachable!(),
+            Err(BorderError::TooFine) => unreachable!(),
+            Err(BorderError::OutOfMemory) => return Err(OutOfMemory),
+        }
     }
     Ok(())
 }
