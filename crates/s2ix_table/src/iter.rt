@@ -104,8 +104,8 @@ pub fn contents<T: RangeTable>(table: &T, k: usize) -> ChainIter<'_, T>
     ChainIter { table, next }
 }
 
-/// What lies over a leaf, innermost cell first, the labels of one cell rising. O(log n) for n pairs, and O(1) for each pair that it gives. This
-/// project's own.
+/// What lies over a leaf, innermost cell first, the labels of one cell rising. O(log n) for n pairs, and O(1) for each
+/// pair that it gives. This project's own.
 pub fn chain_at<T: RangeTable>(table: &T, leaf: CellId) -> ChainIter<'_, T>
     requires { level_of leaf ≡ 30 }
     ensures { AlwaysYields ⟦<ChainIter<'static, T> as Iterator>⟧.next_gives (λ held. held) result (contents_at (raw_of leaf) (T.pairs table.now)) }
