@@ -34,11 +34,11 @@ pub struct Token {
 }
 
 impl Token {
-    ghost use Rattle.s2id_core.specs.TokenText.{text_of};
+    ghost use Rattle.s2id_core.specs.TokenText.{text_of_token};
 
     /// The token's text, ASCII digits and lower-case letters.
     pub fn as_bytes(&self) -> &[u8]
-        ensures { result.now ≡ text_of self.now }
+        ensures { result.now ≡ text_of_token self.now }
     {
         &self.bytes[..self.len]
     }
@@ -64,7 +64,7 @@ impl CellId {
     ghost use Rattle.s2id_core.specs.Cell.{IsCellNumber};
     ghost use Rattle.s2id_core.specs.CellId.{raw_of};
     ghost use Rattle.s2id_core.specs.Spelled.{cell_spelled};
-    ghost use Rattle.s2id_core.specs.TokenText.{text_of};
+    ghost use Rattle.s2id_core.specs.TokenText.{text_of_token};
 
     /// The cell that a text spells: 1 to 16 hexadecimal digits of either case, where digits missing on the right
     /// are zeros (S2's `FromToken`). Faults are named in the order of `TokenError`.
@@ -94,7 +94,7 @@ impl CellId {
 
     /// The cell's canonical token (S2's `ToToken`).
     pub fn token(self) -> Token
-        ensures { text_of result ≡ canonical_token (raw_of self) }
+        ensures { text_of_token result ≡ canonical_token (raw_of self) }
     {
         let raw = self.raw();
         Token {

@@ -8,7 +8,7 @@ use Rattle.s2id_core.specs.CellId.{path_of}
 use Rattle.s2id_core.proofs.Numbers.{path_of_cell}
 use Rattle.s2id_core.proofs.Cells.{same_cell}
 use Rattle.s2id_cube.specs.declared.face_ij.FaceIj.{FaceIj}
-use Rattle.s2id_cube.specs.Border.{IsOverAt, IsOverFirst, IsOverSides}
+use Rattle.s2id_cube.specs.Loops.{IsOverAt, IsOverFirst, IsOverSides}
 use Rattle.s2id_cube.proofs.Round.{one_over}
 
 -- two cells of one path are one cell

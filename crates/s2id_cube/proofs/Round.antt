@@ -9,7 +9,8 @@ use Rattle.s2id_cube.specs.declared.face_ij.FaceIj.{FaceIj}
 use Rattle.s2id_cube.specs.Square.{square_of}
 use Rattle.s2id_cube.specs.Edge.{SharesSide}
 use Rattle.s2id_cube.specs.Grid.{IsBeside, column_on, row_on}
-use Rattle.s2id_cube.specs.Border.{IsOnBorder, IsOverAt, IsOverSides}
+use Rattle.s2id_cube.specs.Border.{IsOnBorder}
+use Rattle.s2id_cube.specs.Loops.{IsOverAt, IsOverSides}
 use Rattle.s2id_cube.proofs.Beside.{beside_moved}
 use Rattle.s2id_cube.proofs.Shared.{IsSquare-square_of, one_path, square_facts, shares_from_beside, at_side_second}
 use Rattle.s2id_cube.proofs.Nesting.{nested_path, within_of_square, cell_of_square, bounds_from_quotient, quotient_from_bounds}

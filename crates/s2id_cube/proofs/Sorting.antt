@@ -19,7 +19,8 @@ use Rattle.s2id_core.proofs.Numbers.{path_of_cell, cell_of_path, path_at-number}
 use Rattle.s2id_core.proofs.Cells.{same_cell}
 use Rattle.s2id_cube.specs.declared.face_ij.FaceIj.{FaceIj}
 use Rattle.s2id_cube.specs.Square.{square_of}
-use Rattle.s2id_cube.specs.Border.{IsOnBorder, IsOverSides}
+use Rattle.s2id_cube.specs.Border.{IsOnBorder}
+use Rattle.s2id_cube.specs.Loops.{IsOverSides}
 use Rattle.s2id_cube.proofs.Round.{border_from_over, over_from_border}
 use Rattle.s2id_cube.proofs.Gathering.{HasSides}
 

@@ -4,3 +4,4 @@ pub mod Edge
 pub mod Grid
 pub mod Neighbor
 pub mod Border
+pub mod Loops

@@ -4,7 +4,7 @@ ghost use Rattle.s2id_cube.specs.Square.{square_of, quarter, whole_face, quadran
 
 use s2id_core::CellId;
 
-/// A cell as a square of its level's grid on its face.
+/// A cell as a square of its level's grid on its face (S2's `(face, i, j)` coordinates, there of leaves).
 #[derive(Clone, Copy, PartialEq, Eq, Hash, Debug)]
 pub struct FaceIj {
     /// The face, 0 to 5.
@@ -58,6 +58,7 @@ pub fn from_face_ij(face: u8, i: u32, j: u32, level: u8) -> Option<CellId>
     }
 }
 
+// The cell of a square that lies in its level's grid: the curve is followed from the face down, a child position for each level.
 fn cell_of_square(face: u8, i: u32, j: u32, level: u8) -> CellId
     requires face { face < 6 }
     requires level { level ≤ 30 }
@@ -80,6 +81,7 @@ fn cell_of_square(face: u8, i: u32, j: u32, level: u8) -> CellId
     CellId::at_place(level, place)
 }
 
+// The square of a whole face; `i` and `j` are swapped on odd faces.
 fn face_square(face: u8) -> FaceIj
     ensures { result ≡ whole_face face }
 {
@@ -92,6 +94,7 @@ fn face_square(face: u8) -> FaceIj
     }
 }
 
+// The square of the child at a position: the quadrant that the orientation gives, half as wide.
 fn child_square(square: FaceIj, position: u8) -> FaceIj
     requires i { square.i < 2 ^ 31 }
     requires j { square.j < 2 ^ 31 }

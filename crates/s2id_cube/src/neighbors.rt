@@ -64,6 +64,8 @@ pub(crate) fn neighbor(face: u8, i: u32, j: u32, level: u8, side: u8) -> CellId
     from_face_ij(face_over, column, row, level).unwrap()
 }
 
+// The square over one side of a square, on the same face or over an edge of the cube: its face, column and row. `last` is the grid's
+// last column and row.
 fn beside(face: u8, i: u32, j: u32, last: u32, side: u8) -> (u8, u32, u32)
     requires face { face < 6 }
     requires column { i ≤ last }
@@ -99,6 +101,8 @@ fn beside(face: u8, i: u32, j: u32, last: u32, side: u8) -> (u8, u32, u32)
     }
 }
 
+// The square on the other face over an edge of the cube, from a place along that edge: its face, column and row. The place counts from
+// the far end where the two sides run against each other.
 fn over_edge(face: u8, side: u8, along: u32, last: u32) -> (u8, u32, u32)
     requires face { face < 6 }
     requires side { side < 4 }

@@ -1,5 +1,5 @@
 // Borders of cells.
-use crate::samples::{cell_of, check, check_cells};
+use crate::samples::{cell_of, check_cells, check_same};
 use s2id_core::CellId;
 use s2id_cube::{BorderError, border};
 use std::alloc::Global;
@@ -26,7 +26,7 @@ fn border_at_eight_levels_finer(rt: HostRuntime) {
 // Compares why a cell has no border of a level.
 fn check_refusal(rt: &impl Abort, alloc: Global, token: &str, level: u8, error: BorderError) {
     let cells = border(alloc, cell_of(rt, token), level);
-    check(rt, cells.err() == Some(error), token);
+    check_same(rt, &cells.err(), &Some(error), token);
 }
 
 #[test]

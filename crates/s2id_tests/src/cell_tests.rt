@@ -1,5 +1,5 @@
 // Cells: their numbers, their leaves, and their relatives.
-use crate::samples::{cell_of, cell_or_none, check};
+use crate::samples::{cell_of, cell_or_none, check_same};
 use s2id_core::{CellId, LEAF_END};
 use std::process::Abort;
 
@@ -33,9 +33,10 @@ fn face_level_and_lowest_bit(rt: HostRuntime) {
         ("bfffffffffffffff", 5, 30, 1),
     ] {
         let cell = cell_of(&rt, token);
-        check(&rt, cell.face() == face && cell.level() == level, token);
-        check(&rt, cell.lsb() == lsb, token);
-        check(&rt, cell.is_leaf() == (level == 30), token);
+        check_same(&rt, &cell.face(), &face, token);
+        check_same(&rt, &cell.level(), &level, token);
+        check_same(&rt, &cell.lsb(), &lsb, token);
+        check_same(&rt, &cell.is_leaf(), &(level == 30), token);
     }
 }
 
@@ -57,10 +58,10 @@ fn leaves_of_cells(rt: HostRuntime) {
     ] {
         let cell = cell_of(&rt, token);
         let first = cell_of(&rt, first);
-        check(&rt, cell.range_min() == first, token);
-        check(&rt, cell.range_max() == cell_of(&rt, last), token);
-        check(&rt, cell.span_start() == first.raw(), token);
-        check(&rt, cell.span_end() == end, token);
+        check_same(&rt, &cell.range_min(), &first, token);
+        check_same(&rt, &cell.range_max(), &cell_of(&rt, last), token);
+        check_same(&rt, &cell.span_start(), &first.raw(), token);
+        check_same(&rt, &cell.span_end(), &end, token);
     }
 }
 
@@ -68,10 +69,10 @@ fn leaves_of_cells(rt: HostRuntime) {
 fn places_along_the_curve(rt: HostRuntime) {
     let cell = cell_of(&rt, "1d");
     assert!(rt; cell.level() == 2);
-    check(&rt, cell.place_at(2) == 14, "level 2");
-    check(&rt, cell.place_at(1) == 3, "level 1");
-    check(&rt, CellId::at_place(2, 14) == cell, "1d");
-    check(&rt, CellId::at_place(0, 5) == cell_of(&rt, "b"), "b");
+    check_same(&rt, &cell.place_at(2), &14, "level 2");
+    check_same(&rt, &cell.place_at(1), &3, "level 1");
+    check_same(&rt, &CellId::at_place(2, 14), &cell, "1d");
+    check_same(&rt, &CellId::at_place(0, 5), &cell_of(&rt, "b"), "b");
 }
 
 #[test]
@@ -84,8 +85,8 @@ fn faces_contain_their_cells(rt: HostRuntime) {
     ] {
         let cell = cell_of(&rt, token);
         let other = cell_of(&rt, other);
-        check(&rt, cell.contains(other) == contains, token);
-        check(&rt, cell.intersects(other) == intersects, token);
+        check_same(&rt, &cell.contains(other), &contains, token);
+        check_same(&rt, &cell.intersects(other), &intersects, token);
     }
 }
 
@@ -93,7 +94,7 @@ fn faces_contain_their_cells(rt: HostRuntime) {
 fn parents(rt: HostRuntime) {
     let cell = cell_of(&rt, "1d");
     for (level, parent) in [(1, "1c"), (2, "1d"), (3, "")] {
-        check(&rt, cell.parent(level) == cell_or_none(&rt, parent), parent);
+        check_same(&rt, &cell.parent(level), &cell_or_none(&rt, parent), parent);
     }
 }
 
@@ -101,7 +102,7 @@ fn parents(rt: HostRuntime) {
 fn children(rt: HostRuntime) {
     for (token, position, child) in [("1", 3, "1c"), ("1", 4, ""), ("0000000000000001", 0, "")] {
         let cell = cell_of(&rt, token);
-        check(&rt, cell.child(position) == cell_or_none(&rt, child), token);
+        check_same(&rt, &cell.child(position), &cell_or_none(&rt, child), token);
     }
 }
 
@@ -124,7 +125,7 @@ fn next_cells(rt: HostRuntime) {
         ("bfffffffffffffff", "0000000000000001"),
     ] {
         let cell = cell_of(&rt, token);
-        check(&rt, cell.next_wrap() == cell_of(&rt, next), token);
+        check_same(&rt, &cell.next_wrap(), &cell_of(&rt, next), token);
     }
 }
 
@@ -136,6 +137,6 @@ fn common_levels(rt: HostRuntime) {
         ("1", "3", None),
     ] {
         let cell = cell_of(&rt, token);
-        check(&rt, cell.common_level(cell_of(&rt, other)) == level, token);
+        check_same(&rt, &cell.common_level(cell_of(&rt, other)), &level, token);
     }
 }

@@ -1,11 +1,12 @@
 //! Cells by their tokens, and the comparison of a row. Each call ends the test where it can't answer, and names the row.
 use s2id_core::CellId;
 use std::alloc::Global;
+use std::fmt::Debug;
 use std::process::Abort;
 
-/// Ends the test with the row's name where the row doesn't hold.
-pub(crate) fn check(rt: &impl Abort, holds: bool, row: &str) {
-    assert!(rt; holds, "wrong at {row}");
+/// Ends the test where what came out is not what is wanted, with the row's name and what came out.
+pub(crate) fn check_same<T: PartialEq + Debug>(rt: &impl Abort, found: &T, wanted: &T, row: &str) {
+    assert!(rt; found == wanted, "wrong at {row}: {found:?}");
 }
 
 /// The cell that a token names.
@@ -35,7 +36,7 @@ pub(crate) fn cells_of(rt: &impl Abort, alloc: Global, tokens: &str) -> Vec<Cell
 pub(crate) fn check_cells(rt: &impl Abort, cells: &[CellId], tokens: &str) {
     let mut left = cells.iter();
     for token in tokens.split_ascii_whitespace() {
-        check(rt, left.next() == Some(&cell_of(rt, token)), tokens);
+        check_same(rt, &left.next(), &Some(&cell_of(rt, token)), tokens);
     }
-    check(rt, left.next().is_none(), tokens);
+    check_same(rt, &left.next(), &None, tokens);
 }

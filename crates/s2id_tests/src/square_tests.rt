@@ -1,5 +1,5 @@
 // Squares of cells, and the cells of squares.
-use crate::samples::{cell_of, check};
+use crate::samples::{cell_of, check_same};
 use s2id_cube::{FaceIj, from_face_ij, to_face_ij};
 use std::process::Abort;
 
@@ -29,8 +29,8 @@ fn check_squares(rt: &impl Abort, rows: &[SquareRow]) {
             level,
             orientation,
         };
-        check(rt, to_face_ij(cell) == square, token);
-        check(rt, from_face_ij(face, i, j, level) == Some(cell), token);
+        check_same(rt, &to_face_ij(cell), &square, token);
+        check_same(rt, &from_face_ij(face, i, j, level), &Some(cell), token);
     }
 }
 

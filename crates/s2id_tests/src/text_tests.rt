@@ -1,5 +1,5 @@
 // Tokens, digits and paths of cells, as they are written and read.
-use crate::samples::{cell_of, cell_or_none, check};
+use crate::samples::{cell_of, cell_or_none, check_same};
 use s2id_core::{CellId, TokenError, sixteen_digits};
 use std::process::Abort;
 
@@ -16,8 +16,8 @@ const TOKENS: [(u64, &str); 6] = [
 fn check_tokens(rt: &impl Abort, rows: &[(u64, &str)]) {
     for &(raw, token) in rows {
         let cell = cell_of(rt, token);
-        check(rt, CellId::from_raw(raw) == Some(cell), token);
-        check(rt, cell.token().as_bytes() == token.as_bytes(), token);
+        check_same(rt, &CellId::from_raw(raw), &Some(cell), token);
+        check_same(rt, &cell.token().as_bytes(), &token.as_bytes(), token);
     }
 }
 
@@ -29,7 +29,7 @@ fn token_is_canonical(rt: HostRuntime) {
 #[test]
 fn from_token_reads_either_case(rt: HostRuntime) {
     for token in ["bc", "BC", "Bc000"] {
-        check(&rt, cell_of(&rt, token).raw() == 0xbc00000000000000, token);
+        check_same(&rt, &cell_of(&rt, token).raw(), &0xbc00000000000000, token);
     }
 }
 
@@ -45,7 +45,7 @@ const FAULTS: [(&str, TokenError); 6] = [
 
 fn check_faults(rt: &impl Abort, rows: &[(&str, TokenError)]) {
     for &(text, fault) in rows {
-        check(rt, CellId::from_token(text.as_bytes()) == Err(fault), text);
+        check_same(rt, &CellId::from_token(text.as_bytes()), &Err(fault), text);
     }
 }
 
@@ -57,10 +57,11 @@ fn from_token_names_each_fault(rt: HostRuntime) {
 #[test]
 fn faults_have_texts(rt: HostRuntime) {
     let text = format!(in rt.alloc(); "{}", TokenError::NotHex(1)).expect(&rt, "memory");
-    check(
+    check_same(
         &rt,
-        text.as_str() == "byte 1 of the token is no hexadecimal digit",
-        &text,
+        &text.as_str(),
+        &"byte 1 of the token is no hexadecimal digit",
+        "NotHex(1)",
     );
 }
 
@@ -71,9 +72,10 @@ fn digits_of_bounds(rt: HostRuntime) {
         (0xc000000000000001, "c000000000000001"),
         (0x0123456789abcdef, "0123456789abcdef"),
     ] {
-        check(
+        check_same(
             &rt,
-            sixteen_digits(number).as_slice() == digits.as_bytes(),
+            &sixteen_digits(number).as_slice(),
+            &digits.as_bytes(),
             digits,
         );
     }
@@ -110,9 +112,10 @@ const PATHS: [(&str, &str); 9] = [
 
 fn check_paths(rt: &impl Abort, rows: &[(&str, &str)]) {
     for (token, path) in rows {
-        check(
+        check_same(
             rt,
-            cell_of(rt, token).path().as_bytes() == path.as_bytes(),
+            &cell_of(rt, token).path().as_bytes(),
+            &path.as_bytes(),
             token,
         );
     }

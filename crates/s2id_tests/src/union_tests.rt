@@ -1,5 +1,5 @@
 // Unions of cells, with answers worked out by hand.
-use crate::samples::{cell_of, cells_of, check, check_cells};
+use crate::samples::{cell_of, cells_of, check_cells, check_same};
 use s2id_core::{CellId, LEAF_END};
 use s2id_union::{CellUnion, RangeError};
 use std::alloc::Global;
@@ -86,8 +86,8 @@ fn unions_contain_their_cells(rt: HostRuntime) {
     ] {
         let union = union_of(&rt, rt.alloc(), tokens);
         let cell = cell_of(&rt, token);
-        check(&rt, union.contains(cell) == contains, token);
-        check(&rt, union.intersects(cell) == intersects, token);
+        check_same(&rt, &union.contains(cell), &contains, token);
+        check_same(&rt, &union.intersects(cell), &intersects, token);
     }
 }
 
@@ -113,7 +113,7 @@ fn many_leaves_make_a_union(rt: HostRuntime) {
 
 // Compares how many cells a union has.
 fn check_count(rt: &impl Abort, union: &CellUnion, count: usize, name: &str) {
-    check(rt, union.cells().len() == count, name);
+    check_same(rt, &union.cells().len(), &count, name);
 }
 
 #[test]

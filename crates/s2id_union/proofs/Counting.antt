@@ -1,4 +1,4 @@
--- The leaves of a chain of cells, one by one.
+-- The leaves of cells that follow one another, one by one.
 use Rattle.std.proofs.Common.{◌≡◌, ℕ, zero, suc, ◌+◌, ◌-◌, ◌*◌, ◌/◌, ◌%◌, ◌<◌, ◌≤◌, inl, inr, List, [], ◌∷◌, ◌++◌, length, get_or, take, sym, ◌∙◌, ap, ap₂, refl, arith, subst, AllPairs, Contains}
 use Rattle.std.proofs.lemmas.Bool.{cases_lt}
 use Rattle.std.proofs.lemmas.List.{length-append, take_more, take_all, get_or_default}
@@ -13,7 +13,7 @@ use Rattle.s2id_core.proofs.Numbers.{path_at-number}
 use Rattle.s2id_core.proofs.Spans.{number_of_leaf}
 use Rattle.s2id_core.proofs.Nested.{span, leaf_of_odd}
 use Rattle.s2id_union.specs.Region.{IsLeafList}
-use Rattle.s2id_union.specs.Covers.{Covers, IsChain}
+use Rattle.s2id_union.specs.Covers.{Covers, FollowOneAnother}
 use Rattle.s2id_union.proofs.Lists.{head_pairs, tail_pairs, cons_cases, in_tail, at_head, none_in_nil}
 use Rattle.s2id_union.proofs.Covering.{region_from_covers, covers_from_region, covers_nil}
 
@@ -69,10 +69,10 @@ row_rises m q (suc n) rest le odd below h =
     let far : RisesFrom (q + 2 + 2 * n) rest = subst (λ x. RisesFrom x rest) place h in
     (omega arith, row_rises (number_of (path_at q) + 1) (q + 2) n rest (omega arith) (omega arith) (omega arith) far)
 
-leaves_rise : (m : ℕ) (cells : List CellId) → IsChain cells → ((c : CellId) → Contains cells c → m ≤ first_of c) → RisesFrom m (leaves_of cells)
+leaves_rise : (m : ℕ) (cells : List CellId) → FollowOneAnother cells → ((c : CellId) → Contains cells c → m ≤ first_of c) → RisesFrom m (leaves_of cells)
 unfolding RisesFrom leaves_of count_of
-leaves_rise m [] chain low = tt
-leaves_rise m (c ∷ cs) chain low =
+leaves_rise m [] follow low = tt
+leaves_rise m (c ∷ cs) follow low =
     let s = span (raw_of c) c.valid in
     let s1 = s.from in
     let s2 = s.to in
@@ -80,7 +80,7 @@ leaves_rise m (c ∷ cs) chain low =
     let odd_end = s.odd_end in
     let most = s.ends in
     let whole : first_of c + 2 * ((end_of c - first_of c) / 2) ≡ end_of c = omega arith in
-    let rest = leaves_rise (end_of c) cs (tail_pairs (λ a b. end_of a ≤ first_of b) c cs chain) (head_pairs (λ a b. end_of a ≤ first_of b) c cs chain) in
+    let rest = leaves_rise (end_of c) cs (tail_pairs (λ a b. end_of a ≤ first_of b) c cs follow) (head_pairs (λ a b. end_of a ≤ first_of b) c cs follow) in
     row_rises m (first_of c) ((end_of c - first_of c) / 2) (leaves_of cs) (low c (at_head c cs)) odd (omega arith) (subst (λ x. RisesFrom x (leaves_of cs)) (sym whole) rest)
 
 -- ---- members
@@ -163,9 +163,9 @@ has (x ∷ cs) p leaf v =
           Contains-append_right row (leaves_of cs) p (has cs p leaf (record { cell = v.cell; held = i; from = from; to = to }))
     ]
 
-leaf_list : (cells : List CellId) → IsChain cells → IsLeafList cells (leaves_of cells)
-leaf_list cells chain = record {
-  rises = pairs_from_rises 0 (leaves_of cells) (leaves_rise 0 cells chain (λ c h. omega arith));
+leaf_list : (cells : List CellId) → FollowOneAnother cells → IsLeafList cells (leaves_of cells)
+leaf_list cells follow = record {
+  rises = pairs_from_rises 0 (leaves_of cells) (leaves_rise 0 cells follow (λ c h. omega arith));
   leaf = λ p c. (member cells p c).leaf;
   only = λ p c. let m = member cells p c in region_from_covers cells p m.leaf m.covers;
   each = λ p leaf i. has cells p leaf (covers_from_region cells p i);
@@ -197,9 +197,9 @@ unfolding count_of
 total_more cells k x l is =
     ap total (take_more cells k x l ∙ ap (λ y. take k cells ++ y ∷ []) (sym is)) ∙ total-push (take k cells) x
 
-pub counted : (cells : List CellId) (k count : ℕ) → IsChain cells → length cells ≤ k → count ≡ total (take k cells) → (leaves : List Path) × IsLeafList cells leaves × (length leaves ≡ count)
-counted cells k count chain done e =
-    (leaves_of cells, leaf_list cells chain, length_leaves cells ∙ ap total (sym (take_all k cells done)) ∙ sym e)
+pub counted : (cells : List CellId) (k count : ℕ) → FollowOneAnother cells → length cells ≤ k → count ≡ total (take k cells) → (leaves : List Path) × IsLeafList cells leaves × (length leaves ≡ count)
+counted cells k count follow done e =
+    (leaves_of cells, leaf_list cells follow, length_leaves cells ∙ ap total (sym (take_all k cells done)) ∙ sym e)
 
 -- what the loop adds
 pub cell_width : (c : CellId) → (first_of c + 2 ≤ end_of c) × (end_of c ≤ leaf_end) × (first_of c % 2 ≡ 1) × (end_of c % 2 ≡ 1)
@@ -210,10 +210,10 @@ cell_width c =
     (omega arith, s.ends, s.odd, s.odd_end)
 
 -- the bound on the sum goes on to the next cell
-pub next_bound : (cells : List CellId) (k count next : ℕ) → IsChain cells → (x : CellId) → k < length cells → x ≡ get_or cells k x → 2 * count + 1 ≤ first_of x → next ≡ count + (end_of x - first_of x) / 2 → (j : ℕ) (d : CellId) → k + 1 ≤ j → j < length cells → 2 * next + 1 ≤ first_of (get_or cells j d)
-next_bound cells k count next chain x l is bound e j d le within =
+pub next_bound : (cells : List CellId) (k count next : ℕ) → FollowOneAnother cells → (x : CellId) → k < length cells → x ≡ get_or cells k x → 2 * count + 1 ≤ first_of x → next ≡ count + (end_of x - first_of x) / 2 → (j : ℕ) (d : CellId) → k + 1 ≤ j → j < length cells → 2 * next + 1 ≤ first_of (get_or cells j d)
+next_bound cells k count next follow x l is bound e j d le within =
     let w = cell_width x in
     let w0 = w.0 in
     let f = ap (λ (c : CellId). end_of c) (is ∙ get_or_default cells k x d l) in
-    let c = chain k j d (omega arith) within in
+    let c = follow k j d (omega arith) within in
     omega arith

@@ -10,14 +10,14 @@ use Rattle.s2id_core.specs.Span.{leaf_end}
 use Rattle.s2id_core.proofs.Nested.{span}
 use Rattle.s2id_union.specs.Region.{IsNormal}
 use Rattle.s2id_union.specs.Covers.{Covers}
-use Rattle.s2id_union.specs.Loops.{InSpan, IsGrown, IsAdded}
+use Rattle.s2id_union.specs.Loops.{InSpan, AreMaximalBelow, IsAdded}
 use Rattle.s2id_union.proofs.Covering.{covers_nil, covers_push_left, covers_push_right, covers_push_cases}
-use Rattle.s2id_union.proofs.Growing.{grown_nil, grown_later}
-use Rattle.s2id_union.proofs.Normal.{normal_from_grown}
+use Rattle.s2id_union.proofs.Adding.{maximal_nil, maximal_later}
+use Rattle.s2id_union.proofs.Normal.{normal_from_maximal}
 
 -- what the first k cells of a list cover, as the cells so far and the open span from `start` to `at`
 pub record IsJoined (sorted cells : List CellId) (k start at : ℕ) : Type 0 where
-  pub grown : IsGrown cells start
+  pub maximal : AreMaximalBelow cells start
   pub covers : (q : ℕ) → (Covers cells q ⊎ InSpan start at q) ↔ Covers (take k sorted) q
   pub ahead : (j : ℕ) (d : CellId) → k ≤ j → j < length sorted → start ≤ first_of (get_or sorted j d)
 
@@ -32,7 +32,7 @@ more sorted k x l is q =
 
 pub joined_start : (sorted cells : List CellId) → cells ≡ [] → IsJoined sorted cells 0 1 1
 joined_start sorted cells e = subst (λ xs. IsJoined sorted xs 0 1 1) (sym e) (record {
-  grown = grown_nil 1;
+  maximal = maximal_nil 1;
   covers = λ q. (
     λ v. elim v [ inl c ↦ absurd (covers_nil q c) | inr r ↦ absurd (let a = r.from in let b = r.to in omega arith) ],
     λ c. absurd (covers_nil q c),
@@ -42,7 +42,7 @@ joined_start sorted cells e = subst (λ xs. IsJoined sorted xs 0 1 1) (sym e) (r
 
 pub joined_gap : (sorted old cells : List CellId) (k start at : ℕ) → IsNonDecreasingBy (λ c. first_of c) sorted → IsJoined sorted old k start at → IsAdded old cells start at → (x : CellId) → k < length sorted → x ≡ get_or sorted k x → at < first_of x → IsJoined sorted cells (k + 1) (first_of x) (end_of x)
 joined_gap sorted old cells k start at rises h added x l is gap = record {
-  grown = grown_later cells (at + 1) (first_of x) added.grown (omega arith);
+  maximal = maximal_later cells (at + 1) (first_of x) added.maximal (omega arith);
   covers = λ q. (
     λ v. elim v [
       | inl c ↦ (more sorted k x l is q).1 (inl ((h.covers q).0 ((added.covers q).0 c)))
@@ -59,12 +59,12 @@ joined_gap sorted old cells k start at rises h added x l is gap = record {
       omega arith;
 }
 
-pub joined_touch : (sorted cells : List CellId) (k start at behind : ℕ) → IsJoined sorted cells k start at → start ≤ at → (x : CellId) → k < length sorted → x ≡ get_or sorted k x → first_of x ≤ at → at ≤ behind → end_of x ≤ behind → ((at ≡ behind) ⊎ (end_of x ≡ behind)) → IsJoined sorted cells (k + 1) start behind
-joined_touch sorted cells k start at behind h rise x l is touch longer whole which =
+pub joined_no_gap : (sorted cells : List CellId) (k start at behind : ℕ) → IsJoined sorted cells k start at → start ≤ at → (x : CellId) → k < length sorted → x ≡ get_or sorted k x → first_of x ≤ at → at ≤ behind → end_of x ≤ behind → ((at ≡ behind) ⊎ (end_of x ≡ behind)) → IsJoined sorted cells (k + 1) start behind
+joined_no_gap sorted cells k start at behind h rise x l is near longer whole which =
     let begins = h.ahead k x (omega arith) l in
     let first = ap (λ (c : CellId). first_of c) is in
     record {
-      grown = h.grown;
+      maximal = h.maximal;
       covers = λ q. (
         λ v. elim v [
           | inl c ↦ (more sorted k x l is q).1 (inl ((h.covers q).0 (inl c)))
@@ -99,7 +99,7 @@ pub record IsJoinedWhole (sorted cells : List CellId) : Type 0 where
 
 pub joined_end : (sorted old cells : List CellId) (k start at : ℕ) → length sorted ≤ k → IsJoined sorted old k start at → IsAdded old cells start at → IsJoinedWhole sorted cells
 joined_end sorted old cells k start at done h added = record {
-  normal = normal_from_grown cells (at + 1) added.grown;
+  normal = normal_from_maximal cells (at + 1) added.maximal;
   covers = λ q.
       let all : Covers (take k sorted) q ↔ Covers sorted q = subst (λ xs. Covers (take k sorted) q ↔ Covers xs q) (take_all k sorted done) ((λ v. v), (λ v. v)) in (
         λ v. all.0 ((h.covers q).0 ((added.covers q).0 v)),
@@ -132,12 +132,12 @@ joined_next_gap sorted old cells next k start at start_next at_next rises h adde
       omega arith,
     )
 
-pub joined_next_touch : (sorted cells next : List CellId) (k start at start_next at_next : ℕ) → IsJoined sorted cells k start at → start ≤ at → at ≤ leaf_end → at % 2 ≡ 1 → start % 2 ≡ 1 → (x : CellId) → k < length sorted → x ≡ get_or sorted k x → first_of x ≤ at → at ≤ at_next → end_of x ≤ at_next → ((at ≡ at_next) ⊎ (end_of x ≡ at_next)) → next ≡ cells → start_next ≡ start → IsJoined sorted next (k + 1) start_next at_next × (start_next ≤ at_next) × (at_next ≤ leaf_end) × (at_next % 2 ≡ 1) × (start_next % 2 ≡ 1)
-joined_next_touch sorted cells next k start at start_next at_next h rise most odd odd_start x l is touch longer whole which e f =
+pub joined_next_no_gap : (sorted cells next : List CellId) (k start at start_next at_next : ℕ) → IsJoined sorted cells k start at → start ≤ at → at ≤ leaf_end → at % 2 ≡ 1 → start % 2 ≡ 1 → (x : CellId) → k < length sorted → x ≡ get_or sorted k x → first_of x ≤ at → at ≤ at_next → end_of x ≤ at_next → ((at ≡ at_next) ⊎ (end_of x ≡ at_next)) → next ≡ cells → start_next ≡ start → IsJoined sorted next (k + 1) start_next at_next × (start_next ≤ at_next) × (at_next ≤ leaf_end) × (at_next % 2 ≡ 1) × (start_next % 2 ≡ 1)
+joined_next_no_gap sorted cells next k start at start_next at_next h rise most odd odd_start x l is near longer whole which e f =
     let s = span (raw_of x) x.valid in
     let s3 = s.ends in
     let s5 = s.odd_end in
-    let j = joined_touch sorted cells k start at at_next h rise x l is touch longer whole which in (
+    let j = joined_no_gap sorted cells k start at at_next h rise x l is near longer whole which in (
       subst (λ z. IsJoined sorted next (k + 1) z at_next) (sym f) (subst (λ zs. IsJoined sorted zs (k + 1) start at_next) (sym e) j),
       omega arith,
       elim which [ inl a ↦ omega arith | inr a ↦ omega arith ],

@@ -19,12 +19,12 @@ use Rattle.s2id_core.proofs.Nested.{span, leaf_span, nested_from_within, within_
 use Rattle.s2id_core.proofs.Numbers.{path_of_cell, cell_of_path, path_at-number}
 use Rattle.s2id_core.proofs.Spelled.{numbered, numbered-raw}
 use Rattle.s2id_union.specs.Covers.{Covers}
-use Rattle.s2id_union.specs.Loops.{IsMaximal, IsGrown}
+use Rattle.s2id_union.specs.Loops.{IsMaximal, AreMaximalBelow}
 use Rattle.s2id_union.specs.NormalForm.{lies_whole, parent_of, is_largest, cells_below, cells_where}
 use Rattle.s2id_union.specs.Region.{InRegion, IsNormal}
 use Rattle.s2id_union.proofs.Covering.{region_from_covers, covers_from_region}
 use Rattle.s2id_union.proofs.Lists.{cons_cases, in_tail, at_head}
-use Rattle.s2id_union.proofs.Normal.{normal_from_grown}
+use Rattle.s2id_union.proofs.Normal.{normal_from_maximal}
 use Rattle.s2id_union.proofs.Unique.{Rises}
 
 -- ---- what the tests say
@@ -246,9 +246,9 @@ covers_where passes q = (
       record { cell = r.0; held = in_where passes r.0 r.2; from = omega arith; to = omega arith },
 )
 
-where_grown : (passes : ℕ → Bool) → IsGrown (cells_where passes) leaf_end
-where_grown passes = record {
-  chain = λ i j d lt l.
+where_maximal : (passes : ℕ → Bool) → AreMaximalBelow (cells_where passes) leaf_end
+where_maximal passes = record {
+  follow = λ i j d lt l.
       largest_apart passes (get_or (cells_where passes) i d) (get_or (cells_where passes) j d) (all_largest passes i d (omega arith)) (all_largest passes j d l) (where_rises passes i j d lt l);
   below = λ c held. (span (raw_of c) c.valid).ends;
   maximal = λ c held b cell nest all.
@@ -256,7 +256,7 @@ where_grown passes = record {
 }
 
 pub where_normal : (passes : ℕ → Bool) → IsNormal (cells_where passes)
-where_normal passes = normal_from_grown (cells_where passes) leaf_end (where_grown passes)
+where_normal passes = normal_from_maximal (cells_where passes) leaf_end (where_maximal passes)
 
 -- ---- its leaves
 

@@ -1,7 +1,7 @@
 pub mod Lists
 pub mod Unique
 mod Covering
-mod Growing
+mod Adding
 mod Normal
 mod Greatest
 pub mod Searching

@@ -11,10 +11,10 @@ use Rattle.s2id_union.specs.declared.sweep.Operation.TheVariants.{Union, Interse
 use Rattle.s2id_union.specs.Operation.{Keeps}
 use Rattle.s2id_union.proofs.Sweeping.{keeps_same}
 use Rattle.s2id_union.proofs.Covering.{region_from_covers, covers_from_region, covers_nil}
-use Rattle.s2id_union.proofs.Normal.{normal_from_grown}
+use Rattle.s2id_union.proofs.Normal.{normal_from_maximal}
 
 pub normal_from_added : (old cells : List CellId) (start limit : ℕ) → IsAdded old cells start limit → IsNormal cells
-normal_from_added old cells start limit h = normal_from_grown cells (limit + 1) h.grown
+normal_from_added old cells start limit h = normal_from_maximal cells (limit + 1) h.maximal
 
 pub span_leaves : (old cells : List CellId) (start limit : ℕ) → old ≡ [] → IsAdded old cells start limit → (leaf : Path) → IsLeafPath leaf → InRegion cells leaf ↔ ((start ≤ number_of leaf) × (number_of leaf < limit))
 span_leaves old cells start limit none h leaf deep = (

@@ -1,4 +1,4 @@
--- A grown list is normal.
+-- A list of maximal cells that follow one another is normal.
 use Rattle.std.proofs.Common.{◌≡◌, ℕ, suc, ◌+◌, ◌-◌, ◌*◌, ◌^◌, ◌<◌, ◌≤◌, inl, inr, List, [], ◌∷◌, length, get_or, sym, ◌∙◌, ap, arith, subst, Any}
 use Rattle.std.proofs.lemmas.Bool.{cases_lt}
 use Rattle.std.proofs.lemmas.List.{length_push, get_or_append_left}
@@ -15,7 +15,7 @@ use Rattle.s2id_core.proofs.Spans.{width, start}
 use Rattle.s2id_core.proofs.Nested.{by_width, span, nested_from_within}
 use Rattle.s2id_union.specs.Region.{IsNormal}
 use Rattle.s2id_union.specs.Covers.{Covers}
-use Rattle.s2id_union.specs.Loops.{IsGrown}
+use Rattle.s2id_union.specs.Loops.{AreMaximalBelow}
 use Rattle.s2id_union.proofs.Lists.{pair_cases}
 use Rattle.s2id_union.proofs.Unique.{child_level, child_within}
 
@@ -107,7 +107,7 @@ path_from_child d p h =
       digits_below = λ k e l. subst (λ x. x < 4) (get_or_append_left p.digits (d ∷ []) e k l) (h.digits_below k e (omega arith));
     }
 
-none_of_four : (cells : List CellId) (free b : ℕ) → IsGrown cells free → IsCellNumber b → length (path_at b).digits < 30 → ((d : ℕ) → d < 4 → HasChild cells d (path_at b)) → ⊥
+none_of_four : (cells : List CellId) (free b : ℕ) → AreMaximalBelow cells free → IsCellNumber b → length (path_at b).digits < 30 → ((d : ℕ) → d < 4 → HasChild cells d (path_at b)) → ⊥
 none_of_four cells free b h cell level has =
     let c = has 0 (omega arith) in
     let within : IsWithin (path_of c.1) (path_at b) = subst (λ (x : Path). IsWithin x (path_at b)) (sym c.4) (child_within 0 (path_at b)) in
@@ -117,12 +117,12 @@ none_of_four cells free b h cell level has =
     let f = ap (λ (x : Path). length x.digits) c.4 in
     omega arith
 
-pub normal_from_grown : (cells : List CellId) (free : ℕ) → IsGrown cells free → IsNormal cells
-normal_from_grown cells free h = record {
+pub normal_from_maximal : (cells : List CellId) (free : ℕ) → AreMaximalBelow cells free → IsNormal cells
+normal_from_maximal cells free h = record {
   rises = λ i j d lt l.
       let a = get_or cells i d in
       let b = get_or cells j d in
-      let le = h.chain i j d lt l in
+      let le = h.follow i j d lt l in
       let sa = (span (raw_of a) a.valid).to in
       let sb = (span (raw_of b) b.valid).from in
       omega arith;
@@ -133,7 +133,7 @@ normal_from_grown cells free h = record {
       let sa = span (raw_of a) a.valid in
       let a1 = sa.from in
       let a2 = sa.to in
-      elim (pair_cases (λ a b. end_of a ≤ first_of b) cells h.chain a b held_a held_b) [
+      elim (pair_cases (λ a b. end_of a ≤ first_of b) cells h.follow a b held_a held_b) [
         | inl e ↦ e
         | inr r ↦ elim r [ inl lt ↦ absurd (omega arith) | inr gt ↦ absurd (omega arith) ]
       ];

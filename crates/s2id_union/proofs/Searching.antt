@@ -10,13 +10,13 @@ use Rattle.s2id_core.proofs.Numbers.{path_of_cell}
 use Rattle.s2id_core.proofs.Spans.{leaves_iff_within}
 use Rattle.s2id_core.proofs.Nested.{span, span_from_leaf, nested_from_within, within_from_nested, nested_from_crossing_spans}
 use Rattle.s2id_union.specs.Region.{IsNormal, HasAllOf, Meets}
-use Rattle.s2id_union.specs.Covers.{IsChain}
+use Rattle.s2id_union.specs.Covers.{FollowOneAnother}
 use Rattle.s2id_union.specs.Loops.{IsAhead}
 use Rattle.s2id_union.proofs.Unique.{around_from_all}
 
 -- the cells of a normal list stand one behind the other
-pub chain_from_normal : (cells : List CellId) → IsNormal cells → IsChain cells
-chain_from_normal cells h i j d lt l =
+pub follow_from_normal : (cells : List CellId) → IsNormal cells → FollowOneAnother cells
+follow_from_normal cells h i j d lt l =
     let a = get_or cells i d in
     let b = get_or cells j d in
     let rise = h.rises i j d lt l in
@@ -39,11 +39,11 @@ chain_from_normal cells h i j d lt l =
     ]
 
 -- ends rise
-pub ends_rise : (cells : List CellId) → IsChain cells → (i j : ℕ) (d : CellId) → i ≤ j → j < length cells → end_of (get_or cells i d) ≤ end_of (get_or cells j d)
-ends_rise cells chain i j d le l =
+pub ends_rise : (cells : List CellId) → FollowOneAnother cells → (i j : ℕ) (d : CellId) → i ≤ j → j < length cells → end_of (get_or cells i d) ≤ end_of (get_or cells j d)
+ends_rise cells follow i j d le l =
     elim (cases_lt i j) [
       | inl lt ↦
-          (let c = chain i j d lt l in
+          (let c = follow i j d lt l in
           let s = span (raw_of (get_or cells j d)) (get_or cells j d).valid in
           let a = s.from in
           let b = s.to in
@@ -52,29 +52,29 @@ ends_rise cells chain i j d le l =
     ]
 
 -- the same by a cell of the list
-pub ends_from : (cells : List CellId) → IsChain cells → (k : ℕ) (x : CellId) → k < length cells → x ≡ get_or cells k x → (j : ℕ) (d : CellId) → k ≤ j → j < length cells → end_of x ≤ end_of (get_or cells j d)
-ends_from cells chain k x l is j d le within =
+pub ends_from : (cells : List CellId) → FollowOneAnother cells → (k : ℕ) (x : CellId) → k < length cells → x ≡ get_or cells k x → (j : ℕ) (d : CellId) → k ≤ j → j < length cells → end_of x ≤ end_of (get_or cells j d)
+ends_from cells follow k x l is j d le within =
     let e = ap (λ (c : CellId). end_of c) (is ∙ get_or_default cells k x d l) in
-    let r = ends_rise cells chain k j d le within in
+    let r = ends_rise cells follow k j d le within in
     omega arith
 
-pub ends_to : (cells : List CellId) → IsChain cells → (k : ℕ) (x : CellId) → k < length cells → x ≡ get_or cells k x → (j : ℕ) (d : CellId) → j < k + 1 → j < length cells → end_of (get_or cells j d) ≤ end_of x
-ends_to cells chain k x l is j d lt within =
+pub ends_to : (cells : List CellId) → FollowOneAnother cells → (k : ℕ) (x : CellId) → k < length cells → x ≡ get_or cells k x → (j : ℕ) (d : CellId) → j < k + 1 → j < length cells → end_of (get_or cells j d) ≤ end_of x
+ends_to cells follow k x l is j d lt within =
     let e = ap (λ (c : CellId). end_of c) (is ∙ get_or_default cells k x d l) in
-    let r = ends_rise cells chain j k d (omega arith) l in
+    let r = ends_rise cells follow j k d (omega arith) l in
     omega arith
 
 pub ahead_start : (cells : List CellId) (at : ℕ) → ((j : ℕ) (d : CellId) → 0 ≤ j → j < length cells → at < end_of (get_or cells j d)) → IsAhead cells 0 at
 ahead_start cells at h = record { passed = λ j d lt l. absurd (omega arith); ahead = h }
 
 -- a cell that begins at the place and lies within one of the list lies within the first that is not passed
-pub at_ahead : (cells : List CellId) → IsChain cells → (k at : ℕ) → IsAhead cells k at → (j : ℕ) (d : CellId) → j < length cells → first_of (get_or cells j d) ≤ at → at < end_of (get_or cells j d) → j ≡ k
-at_ahead cells chain k at h j d l from to =
+pub at_ahead : (cells : List CellId) → FollowOneAnother cells → (k at : ℕ) → IsAhead cells k at → (j : ℕ) (d : CellId) → j < length cells → first_of (get_or cells j d) ≤ at → at < end_of (get_or cells j d) → j ≡ k
+at_ahead cells follow k at h j d l from to =
     elim (cases_lt j k) [
       | inl lt ↦ absurd (let p = h.passed j d lt l in omega arith)
       | inr ge ↦
           elim (cases_lt k j) [
-            | inl gt ↦ absurd (let c = chain k j d gt l in let a = h.ahead k d (omega arith) (omega arith) in omega arith)
+            | inl gt ↦ absurd (let c = follow k j d gt l in let a = h.ahead k d (omega arith) (omega arith) in omega arith)
             | inr le ↦ omega arith
           ]
     ]
@@ -99,7 +99,7 @@ within_ahead cells normal k at cell begins h all =
     let s2 = s.to in
     let f = ap (λ (c : CellId). first_of c) a.3 in
     let e = ap (λ (c : CellId). end_of c) a.3 in
-    let same : a.0 ≡ k = at_ahead cells (chain_from_normal cells normal) k at h a.0 y a.2 (omega arith) (omega arith) in
+    let same : a.0 ≡ k = at_ahead cells (follow_from_normal cells normal) k at h a.0 y a.2 (omega arith) (omega arith) in
     let short = a.2 in
     let here : k < length cells = omega arith in (
       here,
@@ -130,7 +130,7 @@ meets_ahead cells normal k at cell begins h m =
     let here : k < length cells = omega arith in
     let first_le : first_of (get_or cells k y) ≤ first_of (get_or cells j y) = elim (cases_lt k j) [
       | inl lt ↦
-          (let chain = chain_from_normal cells normal k j y lt l in
+          (let follow = follow_from_normal cells normal k j y lt l in
           let s = span (raw_of (get_or cells k y)) (get_or cells k y).valid in
           let a = s.from in
           let b = s.to in

@@ -1,4 +1,4 @@
--- One sweep over two chains of cells.
+-- One sweep over two lists of cells that follow one another.
 use Rattle.std.proofs.Common.{◌≡◌, ◌↔◌, ℕ, ◌+◌, ◌%◌, ◌<◌, ◌≤◌, ◌⊎◌, inl, inr, Bool, true, false, IsTrue, List, [], length, get_or, sym, ◌∙◌, ap, refl, arith, subst}
 use Rattle.std.specs.Prelude.{min}
 use Rattle.std.proofs.lemmas.Bool.{cases_lt, false≢true}
@@ -10,17 +10,17 @@ use Rattle.s2id_core.proofs.Nested.{span}
 use Rattle.s2id_union.specs.declared.sweep.Operation.{Operation}
 use Rattle.s2id_union.specs.declared.sweep.Operation.TheVariants.{Union, Intersection, Difference}
 use Rattle.s2id_union.specs.Operation.{Keeps}
-use Rattle.s2id_union.specs.Loops.{InSpan, IsGrown, IsAdded, IsAhead, IsReached, IsConstant}
+use Rattle.s2id_union.specs.Loops.{InSpan, AreMaximalBelow, IsAdded, IsAhead, IsReached, IsConstant}
 use Rattle.s2id_union.specs.Region.{IsNormal}
-use Rattle.s2id_union.specs.Covers.{Covers, IsChain}
+use Rattle.s2id_union.specs.Covers.{Covers, FollowOneAnother}
 use Rattle.s2id_union.proofs.Covering.{covers_nil, covers_bounds}
-use Rattle.s2id_union.proofs.Growing.{grown_nil, grown_later}
-use Rattle.s2id_union.proofs.Normal.{normal_from_grown}
+use Rattle.s2id_union.proofs.Adding.{maximal_nil, maximal_later}
+use Rattle.s2id_union.proofs.Normal.{normal_from_maximal}
 use Rattle.s2id_union.proofs.Searching.{ends_rise, ends_from, ends_to, ahead_start}
 
 -- what the operation keeps below `at`: the cells so far, and the open span from `start` on
 pub record IsSwept (o : Operation) (xs ys cells : List CellId) (start at : ℕ) : Type 0 where
-  pub grown : IsGrown cells start
+  pub maximal : AreMaximalBelow cells start
   pub covers : (q : ℕ) → (Covers cells q ⊎ InSpan start at q) ↔ ((q < at) × Keeps o (Covers xs q) (Covers ys q))
 
 -- a covering cell, by its index
@@ -65,8 +65,8 @@ pub record IsStretch (cells : List CellId) (k at end : ℕ) (inside : Bool) : Ty
   pub reached : IsReached cells k end
   pub constant : IsConstant cells at end inside
 
-pub before_first : (cells : List CellId) → IsChain cells → (k at end : ℕ) → IsAhead cells k at → (x : CellId) → k < length cells → x ≡ get_or cells k x → end ≡ first_of x → at < end → IsStretch cells k at end false
-before_first cells chain k at end h x l is here rises =
+pub before_first : (cells : List CellId) → FollowOneAnother cells → (k at end : ℕ) → IsAhead cells k at → (x : CellId) → k < length cells → x ≡ get_or cells k x → end ≡ first_of x → at < end → IsStretch cells k at end false
+before_first cells follow k at end h x l is here rises =
     let s = span (raw_of x) x.valid in
     let s1 = s.from in
     let s2 = s.to in
@@ -76,7 +76,7 @@ before_first cells chain k at end h x l is here rises =
       rises = rises;
       on_curve = omega arith;
       odd = omega arith;
-      reached = λ j d le within. let r = ends_from cells chain k x l is j d le within in omega arith;
+      reached = λ j d le within. let r = ends_from cells follow k x l is j d le within in omega arith;
       constant = λ q from to. (
         λ v.
             let w = by_index cells q v in
@@ -89,7 +89,7 @@ before_first cells chain k at end h x l is here rises =
               | inr ge ↦
                   elim (cases_lt k w.at) [
                     | inl behind ↦
-                        absurd (let e = ap (λ (c : CellId). end_of c) (is ∙ get_or_default cells k x w.cell l) in let c = chain k w.at w.cell behind l2 in omega arith)
+                        absurd (let e = ap (λ (c : CellId). end_of c) (is ∙ get_or_default cells k x w.cell l) in let c = follow k w.at w.cell behind l2 in omega arith)
                     | inr le ↦
                         absurd (let m = ap (λ i. first_of (get_or cells i w.cell)) (let n : w.at ≡ k = omega arith in n) in omega arith)
                   ]
@@ -98,8 +98,8 @@ before_first cells chain k at end h x l is here rises =
       );
     }
 
-pub within_cell : (cells : List CellId) → IsChain cells → (k at first end : ℕ) → IsAhead cells k at → (x y : CellId) → k < length cells → x ≡ get_or cells k x → y ≡ get_or cells k y → first ≡ first_of x → end ≡ end_of y → first ≤ at → IsStretch cells k at end true
-within_cell cells chain k at first end h x y l is is_y begins here le =
+pub within_cell : (cells : List CellId) → FollowOneAnother cells → (k at first end : ℕ) → IsAhead cells k at → (x y : CellId) → k < length cells → x ≡ get_or cells k x → y ≡ get_or cells k y → first ≡ first_of x → end ≡ end_of y → first ≤ at → IsStretch cells k at end true
+within_cell cells follow k at first end h x y l is is_y begins here le =
     let s = span (raw_of y) y.valid in
     let s3 = s.ends in
     let s5 = s.odd_end in
@@ -110,17 +110,17 @@ within_cell cells chain k at first end h x y l is is_y begins here le =
       rises = omega arith;
       on_curve = omega arith;
       odd = omega arith;
-      reached = λ j d ge within. let r = ends_from cells chain k y l is_y j d ge within in omega arith;
+      reached = λ j d ge within. let r = ends_from cells follow k y l is_y j d ge within in omega arith;
       constant = λ q from to. (λ _. refl, λ _. record { cell = y; held = (k, l, sym is_y); from = omega arith; to = omega arith });
     }
 
 -- ---- on to the end of a stretch
 
-pub ahead_passed : (cells : List CellId) → IsChain cells → (k at end : ℕ) → IsAhead cells k at → at ≤ end → (x : CellId) → k < length cells → x ≡ get_or cells k x → end_of x ≤ end → IsReached cells k end → IsAhead cells (k + 1) end
-ahead_passed cells chain k at end h le x l is done reached = record {
-  passed = λ j d lt within. let r = ends_to cells chain k x l is j d lt within in omega arith;
+pub ahead_passed : (cells : List CellId) → FollowOneAnother cells → (k at end : ℕ) → IsAhead cells k at → at ≤ end → (x : CellId) → k < length cells → x ≡ get_or cells k x → end_of x ≤ end → IsReached cells k end → IsAhead cells (k + 1) end
+ahead_passed cells follow k at end h le x l is done reached = record {
+  passed = λ j d lt within. let r = ends_to cells follow k x l is j d lt within in omega arith;
   ahead = λ j d ge within.
-      let c = chain k j d (omega arith) within in
+      let c = follow k j d (omega arith) within in
       let r = reached k d (omega arith) l in
       let s = span (raw_of (get_or cells j d)) (get_or cells j d).valid in
       let a = s.from in
@@ -128,10 +128,10 @@ ahead_passed cells chain k at end h le x l is done reached = record {
       omega arith;
 }
 
-pub ahead_stays : (cells : List CellId) → IsChain cells → (k at end : ℕ) → IsAhead cells k at → at ≤ end → ((d : CellId) → k < length cells → end < end_of (get_or cells k d)) → IsAhead cells k end
-ahead_stays cells chain k at end h le more = record {
+pub ahead_stays : (cells : List CellId) → FollowOneAnother cells → (k at end : ℕ) → IsAhead cells k at → at ≤ end → ((d : CellId) → k < length cells → end < end_of (get_or cells k d)) → IsAhead cells k end
+ahead_stays cells follow k at end h le more = record {
   passed = λ j d lt within. let p = h.passed j d lt within in omega arith;
-  ahead = λ j d ge within. let m = more d (omega arith) in let r = ends_rise cells chain k j d ge within in omega arith;
+  ahead = λ j d ge within. let m = more d (omega arith) in let r = ends_rise cells follow k j d ge within in omega arith;
 }
 
 -- ---- the sweep
@@ -150,7 +150,7 @@ keeps_bounds Difference xs ys q (x, y) = covers_bounds xs q x
 
 pub swept_start : (o : Operation) (xs ys : List CellId) → IsSwept o xs ys [] 1 1
 swept_start o xs ys = record {
-  grown = grown_nil 1;
+  maximal = maximal_nil 1;
   covers = λ q. (
     λ v. elim v [ inl c ↦ absurd (covers_nil q c) | inr r ↦ absurd (let a = r.from in let b = r.to in omega arith) ],
     λ v. absurd (let b = keeps_bounds o xs ys q v.1 in let lo = b.0 in let hi = v.0 in omega arith),
@@ -162,7 +162,7 @@ flip h = (h.1, h.0)
 
 pub swept_on : (o : Operation) (xs ys cells : List CellId) (start at end : ℕ) (x y : Bool) → IsSwept o xs ys cells start at → start ≤ at → at < end → IsConstant xs at end x → IsConstant ys at end y → Keeps o (IsTrue x) (IsTrue y) → IsSwept o xs ys cells start end
 swept_on o xs ys cells start at end x y h rises more cx cy keep = record {
-  grown = h.grown;
+  maximal = h.maximal;
   covers = λ q. (
     λ v. elim v [
       | inl c ↦ (let w = (h.covers q).0 (inl c) in let lt = w.0 in (omega arith, w.1))
@@ -185,7 +185,7 @@ swept_on o xs ys cells start at end x y h rises more cx cy keep = record {
 
 pub swept_off : (o : Operation) (xs ys old cells : List CellId) (start at end : ℕ) (x y : Bool) → IsSwept o xs ys old start at → IsAdded old cells start at → at < end → IsConstant xs at end x → IsConstant ys at end y → (Keeps o (IsTrue x) (IsTrue y) → ⊥) → IsSwept o xs ys cells end end
 swept_off o xs ys old cells start at end x y h added more cx cy drop = record {
-  grown = grown_later cells (at + 1) end added.grown (omega arith);
+  maximal = maximal_later cells (at + 1) end added.maximal (omega arith);
   covers = λ q. (
     λ v. elim v [
       | inl c ↦ (let w = (h.covers q).0 ((added.covers q).0 c) in let lt = w.0 in (omega arith, w.1))
@@ -205,7 +205,7 @@ pub record IsWhole (o : Operation) (xs ys cells : List CellId) : Type 0 where
 
 pub swept_end : (o : Operation) (xs ys old cells : List CellId) (start at : ℕ) → IsSwept o xs ys old start at → leaf_end ≤ at → IsAdded old cells start at → IsWhole o xs ys cells
 swept_end o xs ys old cells start at h done added = record {
-  normal = normal_from_grown cells (at + 1) added.grown;
+  normal = normal_from_maximal cells (at + 1) added.maximal;
   covers = λ q. (
     λ v. ((h.covers q).0 ((added.covers q).0 v)).1,
     λ k. (added.covers q).1 ((h.covers q).1 ((let b = keeps_bounds o xs ys q k in let hi = b.1 in omega arith), k)),

@@ -4,7 +4,7 @@ use Rattle.s2id_core.specs.declared.cell_id.CellId.{CellId}
 use Rattle.s2id_core.specs.CellId.{raw_of, end_of}
 use Rattle.s2id_core.specs.Cell.{IsCellNumber}
 use Rattle.s2id_core.specs.Span.{first_at, end_at, IsNested}
-use Rattle.s2id_union.specs.Covers.{Covers, IsChain}
+use Rattle.s2id_union.specs.Covers.{Covers, FollowOneAnother}
 
 -- a number lies from `start` up to and without `limit`
 pub record InSpan (start limit q : ℕ) : Type 0 where
@@ -16,9 +16,9 @@ abbrev pub IsMaximal : (ℕ → Type 0) → ℕ → ℕ → Type 0
 IsMaximal In free n =
     (b : ℕ) → IsCellNumber b → IsNested n b → ((q : ℕ) → first_at b ≤ q → q < end_at b → q < free → In q) → b ≡ n
 
--- a chain that ends by `free`, of cells that are maximal in what lies below it
-pub record IsGrown (cells : List CellId) (free : ℕ) : Type 0 where
-  pub chain : IsChain cells
+-- cells that follow one another and end by `free`, each maximal in what lies below it
+pub record AreMaximalBelow (cells : List CellId) (free : ℕ) : Type 0 where
+  pub follow : FollowOneAnother cells
   pub below : (c : CellId) → HasElement cells c → end_of c ≤ free
   pub maximal : (c : CellId) → HasElement cells c → IsMaximal (Covers cells) free (raw_of c)
 
@@ -30,7 +30,7 @@ pub record IsGreatest (c at limit : ℕ) : Type 0 where
 
 -- the whole span is added
 pub record IsAdded (old cells : List CellId) (start limit : ℕ) : Type 0 where
-  pub grown : IsGrown cells (limit + 1)
+  pub maximal : AreMaximalBelow cells (limit + 1)
   pub covers : (q : ℕ) → Covers cells q ↔ (Covers old q ⊎ InSpan start limit q)
 
 -- the first k cells end by `at`, and the others behind it

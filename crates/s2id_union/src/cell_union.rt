@@ -39,7 +39,7 @@ impl CellUnion {
     /// The leaves from the number `start` up to and without `limit` (S2's `FromBeginEnd()`). Leaf numbers are odd;
     /// equal bounds give the empty union. `BadRange` where a bound is even, or not
     /// `1 <= start <= limit <= LEAF_END`. O(cells made): at most 184, three of each level 1 to 30 at either end of the
-    /// span and four whole faces between.
+    /// span and four whole faces between. `OutOfMemory` where a growth is refused.
     pub fn from_leaves(alloc: Global, start: u64, limit: u64) -> Result<CellUnion, RangeError>
         ensures leaves { IfOk result (λ union. (leaf : Path) → IsLeafPath leaf → InRegion union leaf
             ↔ ((start ≤ number_of leaf) × (number_of leaf < limit))) }

@@ -3,14 +3,14 @@
 ghost use Rattle.std.specs.Prelude.{◌≤◌, ◌↔◌, IsTrue, length};
 ghost use Rattle.s2id_core.specs.CellId.{path_of};
 ghost use Rattle.s2id_union.specs.Region.{IsNormal, HasAllOf, Meets};
-ghost use Rattle.s2id_union.specs.Covers.{IsChain};
+ghost use Rattle.s2id_union.specs.Covers.{FollowOneAnother};
 ghost use Rattle.s2id_union.specs.Loops.{IsAhead};
 
 use s2id_core::CellId;
 
 // How many cells end by a place. O(log n).
 fn count_passed(cells: &[CellId], at: u64) -> usize
-    requires { IsChain cells.now }
+    requires { FollowOneAnother cells.now }
     ensures within { result ≤ length cells.now }
     ensures ahead { IsAhead cells.now result at }
 {

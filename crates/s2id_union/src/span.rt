@@ -3,7 +3,7 @@
 ghost use Rattle.std.specs.Prelude.{◌≡◌, ◌%◌, ◌<◌, ◌≤◌, IfOk};
 ghost use Rattle.s2id_core.specs.CellId.{raw_of};
 ghost use Rattle.s2id_core.specs.Span.{leaf_end};
-ghost use Rattle.s2id_union.specs.Loops.{IsGreatest, IsGrown, IsAdded};
+ghost use Rattle.s2id_union.specs.Loops.{IsGreatest, AreMaximalBelow, IsAdded};
 
 use s2id_core::{CellId, OutOfMemory};
 
@@ -28,7 +28,7 @@ fn greatest_at(at: u64, limit: u64) -> CellId
 
 // Adds the span of leaves from `start` up to and without `limit`, as the fewest cells. O(cells added).
 pub(crate) fn add_span(cells: &mut Vec<CellId>, start: u64, limit: u64) -> Result<(), OutOfMemory>
-    requires grown { IsGrown cells.old.items start }
+    requires maximal { AreMaximalBelow cells.old.items start }
     requires odd { start % 2 ≡ 1 }
     requires odd_limit { limit % 2 ≡ 1 }
     requires rises { start ≤ limit }

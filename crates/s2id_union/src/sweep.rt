@@ -3,7 +3,7 @@
 ghost use Rattle.std.specs.Prelude.{◌≡◌, ◌+◌, ◌%◌, ◌<◌, ◌≤◌, ◌↔◌, ℕ, IsTrue, IfOk, length, slice_index_or};
 ghost use Rattle.s2id_core.specs.declared.cell_id.CellId.{CellId};
 ghost use Rattle.s2id_core.specs.Span.{leaf_end};
-ghost use Rattle.s2id_union.specs.Covers.{Covers, IsChain};
+ghost use Rattle.s2id_union.specs.Covers.{Covers, FollowOneAnother};
 ghost use Rattle.s2id_union.specs.Loops.{IsAhead, IsReached, IsConstant};
 ghost use Rattle.s2id_union.specs.Region.{IsNormal};
 ghost use Rattle.s2id_union.specs.Operation.{Keeps};
@@ -40,7 +40,7 @@ struct Stretch {
 
 // The stretch from a place on, where the first k cells are passed.
 fn stretch_at(cells: &[CellId], k: usize, at: u64) -> Stretch
-    requires chain { IsChain cells.now }
+    requires follow { FollowOneAnother cells.now }
     requires ahead { IsAhead cells.now k at }
     requires on_curve { at < leaf_end }
     ensures rises { at < result.end }
@@ -71,7 +71,7 @@ fn stretch_at(cells: &[CellId], k: usize, at: u64) -> Stretch
 
 // How many cells are passed at the end of a stretch.
 fn pass_cell(cells: &[CellId], k: usize, at: u64, end: u64) -> usize
-    requires chain { IsChain cells.now }
+    requires follow { FollowOneAnother cells.now }
     requires ahead { IsAhead cells.now k at }
     requires rises { at ≤ end }
     requires reached { IsReached cells.now k end }

@@ -1,4 +1,4 @@
--- What the definitions say, in other words: each of these is proved, by the function of `laws` of its name.
+-- What the definitions say, in other words: each of these is proved, and told in a sentence, by the function of `laws` of its name.
 use Rattle.std.specs.Prelude.{◌≡◌, ◌==◌, ◌<◌, ◌↔◌, ◌⊎◌, if◌then◌else◌, None, List, Contains, AllPairs}
 use Rattle.s2id_core.specs.CellId.{raw_of}
 use Rattle.s2ix_bag.specs.Apply.{apply_refusal}
@@ -17,65 +17,53 @@ abbrev pub ComesBefore : Pair → Pair → Type 0
 ComesBefore p q =
     (raw_of p.cell < raw_of q.cell) ⊎ ((raw_of p.cell ≡ raw_of q.cell) × (value_of p.label < value_of q.label))
 
--- the order by ranks is that by cell, then by label
 abbrev pub RanksOrderPairs : Type 0
 RanksOrderPairs = (p q : Pair) → (rank_of p < rank_of q) ↔ ComesBefore p q
 
--- no two pairs have the same rank
 abbrev pub RanksTellPairsApart : Type 0
 RanksTellPairsApart = (p q : Pair) → rank_of p ≡ rank_of q → p ≡ q
 
--- what a collection holds has its count
 abbrev pub HeldAreCounted : Type 0
 HeldAreCounted = (hs : Collection) (h : Held) → IsCollection hs → Contains hs h → count_in hs h.pair ≡ h.count
 
--- a pair with a count above 0 is held with it
 abbrev pub CountedAreHeld : Type 0
 CountedAreHeld =
     (hs : Collection) (p : Pair) → 0 < count_in hs p → Contains hs (record { pair = p; count = count_in hs p })
 
--- two collections with the same count of every pair are one
 abbrev pub CountsTellCollectionsApart : Type 0
 CountsTellCollectionsApart =
     (hs ks : Collection) → IsCollection hs → IsCollection ks → ((p : Pair) → count_in hs p ≡ count_in ks p) → hs ≡ ks
 
--- a changed collection is one, and has the count after of each entry's pair, and every other count as it was
 abbrev pub ChangeSetsCounts : Type 0
 ChangeSetsCounts =
     (hs : Collection) (es : List Entry) → IsCollection hs → IsChangeList es →
     IsCollection (changed hs es) × ((p : Pair) → count_in (changed hs es) p ≡ count_after (counts_at es (rank_of p)) (count_in hs p))
 
--- the change between two collections has exactly the pairs whose counts differ, with both counts
 abbrev pub ChangeListsDifferences : Type 0
 ChangeListsDifferences =
     (old new : Collection) → IsCollection old → IsCollection new →
     IsChangeList (change_between old new) × ((p : Pair) → counts_at (change_between old new) (rank_of p) ≡ difference_of (count_in old p) (count_in new p))
 
--- and no other change has
 abbrev pub OnlyChangeListsDifferences : Type 0
 OnlyChangeListsDifferences =
     (old new : Collection) (es : List Entry) → IsCollection old → IsCollection new → IsChangeList es →
     ((p : Pair) → counts_at es (rank_of p) ≡ difference_of (count_in old p) (count_in new p)) → es ≡ change_between old new
 
--- the change between two collections makes the second of the first, and its inverse the first of the second
 abbrev pub ChangeLeadsThereAndBack : Type 0
 ChangeLeadsThereAndBack =
     (old new : Collection) → IsCollection old → IsCollection new →
     (changed old (change_between old new) ≡ new) × (changed new (inverse_of (change_between old new)) ≡ old)
 
--- what a bag makes of a change that it doesn't refuse doesn't refuse the inverse, which gives the first bag
 abbrev pub InverseTakesBack : Type 0
 InverseTakesBack =
     (bag : LimitedCollection) (es : List Entry) → IsBag bag → IsChangeList es → apply_refusal bag es ≡ None →
     (apply_refusal (record { limits = bag.limits; held = changed bag.held es }) (inverse_of es) ≡ None) × (changed (changed bag.held es) (inverse_of es) ≡ bag.held)
 
--- what is held with a label is a collection, with the count of each pair of that label and of no other
 abbrev pub LabelsAreCounted : Type 0
 LabelsAreCounted =
     (label : Label) (hs : Collection) → IsCollection hs →
     IsCollection (held_of label hs) × ((p : Pair) → count_in (held_of label hs) p ≡ (if value_of p.label == value_of label then count_in hs p else 0))
 
--- and it rises by cell
 abbrev pub LabelsRiseByCell : Type 0
 LabelsRiseByCell =
     (label : Label) (hs : Collection) → IsCollection hs → AllPairs (λ (g h : Held). raw_of g.pair.cell < raw_of h.pair.cell) (held_of label hs)

@@ -52,7 +52,7 @@ impl Bag {
         self.limits
     }
 
-    /// The count of a pair: 0 where it is not held. O(log n).
+    /// The count of a pair: 0 where it is not held. O(log n) for n pairs.
     pub fn count(&self, pair: Pair) -> u32
         ensures count { result ≡ count_in self.now.held pair }
         ensures within { IsBag self.now }
@@ -60,7 +60,7 @@ impl Bag {
         count_of(self.held.as_slice(), pair)
     }
 
-    /// How many distinct pairs are held.
+    /// How many distinct pairs are held, at most 1,000,000.
     pub fn len(&self) -> usize
         ensures number { result ≡ length self.now.held }
         ensures within { IsBag self.now }
@@ -75,7 +75,7 @@ impl Bag {
         self.held.is_empty()
     }
 
-    /// The sum of the counts. O(n).
+    /// The sum of the counts, in copies. O(n) for n pairs.
     pub fn copies(&self) -> u64
         ensures { result ≡ copies_in self.now.held }
     {
@@ -111,7 +111,7 @@ impl Bag {
         self.held.as_slice()
     }
 
-    /// A bag with the same limits that holds the same pairs with the same counts. O(n).
+    /// A bag with the same limits that holds the same pairs with the same counts. O(n) for n pairs. `OutOfMemory` where a growth is refused.
     pub fn copied(&self, alloc: Global) -> Result<Bag, OutOfMemory>
         ensures { IfOk result (λ bag. bag ≡ self.now) }
     {
@@ -123,8 +123,8 @@ impl Bag {
     }
 
     /// The bag that a change makes of this one: each pair of the change has its count after, and no other count
-    /// differs. The three refusals are each tested over all entries, in their order, before any growth.
-    /// O(n + m) for n pairs and m entries.
+    /// differs. The three refusals are each tested over all entries, in their order, before any growth; `OutOfMemory` where
+    /// a growth is refused. O(n + m) for n pairs and m entries.
     pub fn applied(&self, alloc: Global, change: &Change) -> Result<Bag, ApplyError>
         ensures limits { IfOk result (λ bag. bag.limits ≡ self.now.limits) }
         ensures held { IfOk result (λ bag. bag.held ≡ changed self.now.held change.now) }
@@ -145,7 +145,7 @@ impl Bag {
     }
 }
 
-/// A bag with the same limits, pairs and counts, made with the bag's own allocator; `copied` is given one. O(n).
+/// A bag with the same limits, pairs and counts, made with the bag's own allocator; `copied` is given one. O(n) for n pairs.
 impl Clone for Bag {
     ghost is_clone = { λ bag copy. copy ≡ bag };
 

@@ -37,7 +37,8 @@ impl Change {
         Change { entries }
     }
 
-    /// The change that leads from `old` to `new`: exactly the pairs whose counts differ. O(n + m).
+    /// The change that leads from `old` to `new`: exactly the pairs whose counts differ. O(n + m) for their n and m pairs.
+    /// `OutOfMemory` where a growth is refused.
     pub fn between(alloc: Global, old: &Bag, new: &Bag) -> Result<Change, OutOfMemory>
         ensures { IfOk result (λ change. change ≡ change_between old.now.held new.now.held) }
     {
@@ -45,7 +46,7 @@ impl Change {
     }
 
     /// The same between two lists of held pairs, each rising strictly with counts above 0: what a bag holds, or a part of it.
-    /// O(n + m).
+    /// O(n + m) for their n and m pairs. `OutOfMemory` where a growth is refused.
     pub fn between_lists(alloc: Global, old: &[Held], new: &[Held]) -> Result<Change, OutOfMemory>
         requires old_rise { IsCollection old.now }
         requires new_rise { IsCollection new.now }
@@ -63,7 +64,8 @@ impl Change {
         self.entries.as_slice()
     }
 
-    /// The change that takes this one back: the same pairs with their two counts exchanged. O(n).
+    /// The change that takes this one back: the same pairs with their two counts exchanged. O(n) for n entries.
+    /// `OutOfMemory` where a growth is refused.
     pub fn inverse(&self, alloc: Global) -> Result<Change, OutOfMemory>
         ensures { IfOk result (λ change. change ≡ inverse_of self.now) }
     {
@@ -72,7 +74,7 @@ impl Change {
     }
 }
 
-/// A change with the same entries. O(n).
+/// A change with the same entries. O(n) for n entries.
 impl Clone for Change {
     ghost is_clone = { λ change copy. copy ≡ change };
 

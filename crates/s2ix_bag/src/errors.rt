@@ -4,7 +4,7 @@ ghost use Rattle.s2ix_bag.specs.declared.errors.ApplyError.TheVariants.{OutOfMem
 use std::alloc::AllocError;
 use thiserror::Error;
 
-/// Why [`Bag::applied`](crate::Bag::applied) refused a change, in the order of the tests.
+/// Why [`Bag::applied`](crate::Bag::applied) refused a change, in the order of the tests. This project's own.
 #[derive(Clone, Copy, Debug, PartialEq, Eq, Error)]
 pub enum ApplyError {
     /// The entry at this place, counted from 0, is the first whose count before is not the bag's.

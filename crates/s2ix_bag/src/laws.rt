@@ -45,12 +45,12 @@ pub fn counts_tell_collections_apart()
     ensures { CountsTellCollectionsApart }
 {}
 
-/// A change sets the count after of each of its pairs, and no other count.
+/// What a change makes of a collection is a collection: each of the change's pairs has its count after, and every other count is as it was.
 pub fn change_sets_counts()
     ensures { ChangeSetsCounts }
 {}
 
-/// The change between two collections lists exactly the pairs whose counts differ, with both counts.
+/// The change between two collections lists exactly the pairs whose counts differ, with both counts, and rises.
 pub fn change_lists_differences()
     ensures { ChangeListsDifferences }
 {}

@@ -36,5 +36,5 @@ pub record Writes {K A : Type 0} (taken : K → Option (List ℕ)) (flush_mark f
   pub faults : fault_count new ≡ fault_count old + write_faults result
 
 -- the texts that the parts refer to, one after the other
-abbrev pub text_of : List (Bor (List ℕ)) → List ℕ
-text_of parts = flat_map (λ (part : Bor (List ℕ)). part.now) parts
+abbrev pub text_of_parts : List (Bor (List ℕ)) → List ℕ
+text_of_parts parts = flat_map (λ (part : Bor (List ℕ)). part.now) parts

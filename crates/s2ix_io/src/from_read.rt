@@ -5,7 +5,8 @@ ghost use Rattle.s2ix_io.specs.Pieces.{Gave};
 use super::{ReadFault, Source};
 use std::io::Read;
 
-/// A source over a reader of std's. What the reader gives is the source's, and each error of the reader's is a fault.
+/// A source over a reader of std's. What the reader gives is the source's, and each error of the reader's is a fault. Each
+/// piece is one call of the reader's. This project's own.
 #[derive(Debug, Drop)]
 pub struct FromRead<R> {
     inner: R,

@@ -1,10 +1,10 @@
 ghost use Rattle.s2ix_io.specs.Faults.{CanCount};
-ghost use Rattle.s2ix_io.specs.Puts.{Writes, text_of};
+ghost use Rattle.s2ix_io.specs.Puts.{Writes, text_of_parts};
 
 use super::{Sink, WriteFault};
 
 /// Puts all of `bytes`, piece by piece: where the sink takes less than it is offered, the rest is offered next. It ends at the first
-/// fault, when a front of `bytes` went out. At most one call of `put` for each byte.
+/// fault, when a front of `bytes` went out. At most one call of `put` for each byte. This project's own.
 pub fn put_all<K: Sink>(sink: &mut K, bytes: &[u8]) -> Result<(), WriteFault>
     requires { CanCount (K.fault_count sink.old) }
     ensures { Writes K.taken K.flush_mark K.fault_count sink.old sink.new result bytes.now }
@@ -17,10 +17,11 @@ pub fn put_all<K: Sink>(sink: &mut K, bytes: &[u8]) -> Result<(), WriteFault>
     Ok(())
 }
 
-/// Puts the texts of `parts` one after the other, as one text. It ends at the first fault, when a front of that text went out.
+/// Puts the texts of `parts` one after the other, as one text. It ends at the first fault, when a front of that text
+/// went out. At most one call of `put` for each byte. This project's own.
 pub fn put_parts<K: Sink>(sink: &mut K, parts: &[&[u8]]) -> Result<(), WriteFault>
     requires { CanCount (K.fault_count sink.old) }
-    ensures { Writes K.taken K.flush_mark K.fault_count sink.old sink.new result (text_of parts.now) }
+    ensures { Writes K.taken K.flush_mark K.fault_count sink.old sink.new result (text_of_parts parts.now) }
 {
     for part in parts {
         put_all(sink, part)?;

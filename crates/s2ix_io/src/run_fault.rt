@@ -5,7 +5,7 @@ use crate::{ReadFault, WriteFault};
 use std::alloc::AllocError;
 use thiserror::Error;
 
-/// What ended a run, or the reading of a whole source, before its end: the first of these that happened.
+/// What ended a run, or the reading of a whole source, before its end: the first of these that happened. This project's own.
 #[derive(Clone, Copy, Debug, PartialEq, Eq, Error)]
 pub enum RunFault {
     /// The source failed.

@@ -5,12 +5,12 @@ ghost use Rattle.s2ix_io.specs.Faults.{CanCount, write_faults};
 
 use thiserror::Error;
 
-/// A sink failed to take bytes. It holds nothing more: the sink's own counter says how often it failed.
+/// A sink failed to take bytes. It holds nothing more: the sink's own counter says how often it failed. This project's own.
 #[derive(Clone, Copy, Debug, PartialEq, Eq, Hash, Error)]
 #[error("write fault")]
 pub struct WriteFault;
 
-/// Where a run's bytes go. A sink may take less than it is given, and may fail at any call.
+/// Where a run's bytes go. A sink may take less than it is given, and may fail at any call. This project's own.
 pub trait Sink {
     // The bytes that the sink took so far, where they are known.
     ghost taken: { Self → Option (List ℕ) };

@@ -5,7 +5,7 @@ ghost use Rattle.s2ix_io.specs.Pieces.{Gave};
 
 use crate::{ReadFault, Source};
 
-/// A source over a slice.
+/// A source over a slice. It takes no memory. This project's own.
 #[derive(Debug, Drop)]
 pub struct SliceSource<'a> {
     left: &'a [u8],

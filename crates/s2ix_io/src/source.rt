@@ -5,12 +5,12 @@ ghost use Rattle.s2ix_io.specs.Faults.{CanCount, read_faults};
 
 use thiserror::Error;
 
-/// A source failed to give bytes. It holds nothing more: the source's own counter says how often it failed.
+/// A source failed to give bytes. It holds nothing more: the source's own counter says how often it failed. This project's own.
 #[derive(Clone, Copy, Debug, PartialEq, Eq, Hash, Error)]
 #[error("read fault")]
 pub struct ReadFault;
 
-/// Where a run's bytes come from. A source is read piece by piece, and may fail at any piece.
+/// Where a run's bytes come from. A source is read piece by piece, and may fail at any piece. This project's own.
 pub trait Source {
     // The bytes that are still to come, where they are known.
     ghost left: { Self → Option (List ℕ) };

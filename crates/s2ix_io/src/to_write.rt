@@ -6,7 +6,8 @@ use super::{Sink, WriteFault};
 use std::io::Write;
 
 /// A sink over a writer of std's. What the writer takes is what the sink took, and each error of the writer's is a fault. A writer
-/// that takes none of a piece that has bytes would never be done: that is a fault too.
+/// that takes none of a piece that has bytes would never be done: that is a fault too. Each put and each flush is one call of the
+/// writer's. This project's own.
 #[derive(Debug, Drop)]
 pub struct ToWrite<W> {
     inner: W,

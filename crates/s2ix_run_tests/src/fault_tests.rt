@@ -11,6 +11,7 @@ const DUMP: &[u8] = b"s2ix 1\nend 0 0\n";
 // The devices of a run, and how it ends.
 #[derive(Clone, Copy)]
 struct Devices {
+    name: &'static str,
     // how many bytes a piece and a put have at most
     piece_len: usize,
     put_len: usize,
@@ -29,6 +30,7 @@ struct Devices {
 
 // A run that nothing ends.
 const WHOLE: Devices = Devices {
+    name: "sound devices",
     piece_len: ALL,
     put_len: ALL,
     piece_fault: 0,
@@ -45,6 +47,7 @@ const DUMP_LEN: usize = 15;
 
 // A run that the source ends: what came out before is a beginning of the dump.
 const UNREAD: Devices = Devices {
+    name: "a source that fails",
     turns: 100,
     ends_by: Some(RunFault::Read),
     least: 0,
@@ -55,34 +58,41 @@ const UNREAD: Devices = Devices {
 const RUNS: [Devices; 8] = [
     WHOLE,
     Devices {
+        name: "no turn for the end",
         turns: 1,
         ends_by: Some(RunFault::ReaderTooLong),
         ..UNREAD
     },
     Devices {
+        name: "a fault at the first piece",
         piece_fault: 1,
         ..UNREAD
     },
     Devices {
+        name: "a fault at the end",
         piece_fault: 2,
         ..UNREAD
     },
     Devices {
+        name: "short pieces, a fault at the first",
         piece_len: 2,
         piece_fault: 1,
         ..UNREAD
     },
     Devices {
+        name: "short pieces, a fault at the last",
         piece_len: 2,
         piece_fault: 3,
         ..UNREAD
     },
     Devices {
+        name: "short pieces, a fault at the end",
         piece_len: 2,
         piece_fault: 4,
         ..UNREAD
     },
     Devices {
+        name: "a flush that fails",
         flush_fails: true,
         ends_by: Some(RunFault::Write),
         flushed: 0,
@@ -90,8 +100,9 @@ const RUNS: [Devices; 8] = [
     },
 ];
 
-// Whether a run over these devices ends as they do.
-fn ends_as_told(alloc: Global, devices: &Devices) -> Result<bool, Fail> {
+// Runs `dump` over these devices, and compares how it ends. A failure names the devices and says what came out.
+fn check_run(alloc: Global, devices: &Devices) -> Result<(), Fail> {
+    let name = devices.name;
     let mut source = SliceSource::new(b"dump\n", devices.piece_len, devices.piece_fault);
     let mut sink = KeepingSink::new(
         alloc,
@@ -103,28 +114,24 @@ fn ends_as_told(alloc: Global, devices: &Devices) -> Result<bool, Fail> {
         stop: false,
         turns: devices.turns,
     };
-    let end = run_over_empty(alloc, &mut source, &mut sink, WIDEST, options)?;
+    let end = run_over_empty(alloc, &mut source, &mut sink, WIDEST, options)?.err();
     let kept = sink.kept();
-    Ok(
-        end.err() == devices.ends_by
-            && DUMP.starts_with(kept)
-            && devices.least <= kept.len()
-            && kept.len() <= devices.most
-            && sink.flushed_len() == devices.flushed,
-    )
-}
-
-fn check_run(alloc: Global, place: usize, devices: &Devices) -> Result<(), Fail> {
-    if ends_as_told(alloc, devices)? {
+    let flushed = sink.flushed_len();
+    if end == devices.ends_by
+        && DUMP.starts_with(kept)
+        && devices.least <= kept.len()
+        && kept.len() <= devices.most
+        && flushed == devices.flushed
+    {
         Ok(())
     } else {
-        Err(Fail::new(format_args!("run {place}")))
+        Err(Fail::new(format_args!("{name}: {end:?}, {kept:?}, {flushed} flushed")))
     }
 }
 
 fn check_runs(alloc: Global, runs: &[Devices]) -> Result<(), Fail> {
-    for (place, devices) in runs.iter().enumerate() {
-        check_run(alloc, place, devices)?;
+    for devices in runs {
+        check_run(alloc, devices)?;
     }
     Ok(())
 }
@@ -138,6 +145,7 @@ fn a_run_ends_as_its_devices_do(rt: HostRuntime) -> Result<(), Fail> {
 fn a_fault_of_any_put_ends_a_run(rt: HostRuntime) -> Result<(), Fail> {
     for count in 0..DUMP_LEN {
         let devices = Devices {
+            name: "a put that fails",
             put_len: 1,
             put_fault: count as u64 + 1,
             ends_by: Some(RunFault::Write),
@@ -146,7 +154,7 @@ fn a_fault_of_any_put_ends_a_run(rt: HostRuntime) -> Result<(), Fail> {
             flushed: 0,
             ..WHOLE
         };
-        check_run(rt.alloc(), count, &devices)?;
+        check_run(rt.alloc(), &devices)?;
     }
     Ok(())
 }

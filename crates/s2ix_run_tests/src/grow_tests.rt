@@ -37,7 +37,7 @@ const SCRIPTS: [Script; 7] = [
         ..PLAIN
     },
     Script {
-        name: "a ring past the limit of pairs is refused whole",
+        name: "cells past the limit of pairs are refused whole",
         limits: [4, 65_535, 100_000],
         input: b"add 04 2\ngrow 2 1\ndump\n",
         output: b"ok 1\nno TooManyPairs\ns2ix 1\n04 2 1\nend 1 1\n",

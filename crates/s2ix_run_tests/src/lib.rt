@@ -10,8 +10,6 @@ mod history_tests;
 #[cfg(test)]
 mod query_tests;
 #[cfg(test)]
-mod reading_tests;
-#[cfg(test)]
 mod region_tests;
 #[cfg(test)]
 mod runs;

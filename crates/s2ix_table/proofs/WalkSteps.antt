@@ -5,7 +5,7 @@ use Rattle.std.proofs.lemmas.List.{get_or_default}
 use Rattle.s2id_core.specs.declared.cell_id.CellId.{CellId}
 use Rattle.s2id_core.specs.CellId.{raw_of, first_of, end_of}
 use Rattle.s2id_core.proofs.Nested.{span}
-use Rattle.s2id_union.specs.Covers.{Covers, IsChain}
+use Rattle.s2id_union.specs.Covers.{Covers, FollowOneAnother}
 use Rattle.s2ix_bag.specs.Collection.{Collection}
 use Rattle.s2ix_bag.specs.declared.pair.Held.{Held}
 use Rattle.s2ix_table.specs.Meeting.{meeting_from}
@@ -34,8 +34,8 @@ passed_all target k seen passed le q v =
     omega arith
 
 -- no leaf of the target lies between the passed cells and the next
-gap_from : (target : List CellId) (k seen : ℕ) (x : CellId) → IsChain target → ArePassed target k seen → k < length target → x ≡ get_or target k x → (q : ℕ) → Covers target q → seen ≤ q → first_of x ≤ q
-gap_from target k seen x chain passed lt is q v le =
+gap_from : (target : List CellId) (k seen : ℕ) (x : CellId) → FollowOneAnother target → ArePassed target k seen → k < length target → x ≡ get_or target k x → (q : ℕ) → Covers target q → seen ≤ q → first_of x ≤ q
+gap_from target k seen x follow passed lt is q v le =
     let j = v.held.0 in
     let within = v.held.1 in
     let from = v.from in
@@ -51,7 +51,7 @@ gap_from target k seen x chain passed lt is q v le =
           elim other [
             | inl less ↦ absurd (let p = passed j v.cell less within in omega arith)
             | inr more ↦
-                (let c = chain k j v.cell more within in
+                (let c = follow k j v.cell more within in
                 let e = ap (λ (y : CellId). end_of y) (is ∙ get_or_default target k x v.cell lt) in
                 let s = span (raw_of x) x.valid in
                 let s1 = s.from in
@@ -100,7 +100,7 @@ stays_in hs ranges t k at found odd h q held odd_q from to over =
 
 -- what is known of a walk that has passed to a cell of the target and the range with its first leaf that is left
 pub record IsAt (target : List CellId) (hs : Collection) (ranges : List Range) (k seen range : ℕ) (x : CellId) : Type 0 where
-  pub chain : IsChain target
+  pub follow : FollowOneAnother target
   pub table : IsRangeTable hs ranges
   pub odd : seen % 2 ≡ 1
   pub tight : (q : ℕ) → 1 ≤ q → q + 2 ≡ seen → Covers target q
@@ -148,7 +148,7 @@ walk_past {P} chain target hs ranges range limit end x walk a leads is_limit is_
       after = after;
       on_curve = omega arith;
       here = covers at (omega arith) (omega arith);
-      gap = λ q v le. let g = gap_from target walk.cell seen x a.chain a.passed a.within a.is q v le in omega arith;
+      gap = λ q v le. let g = gap_from target walk.cell seen x a.follow a.passed a.within a.is q v le in omega arith;
       tight = a.tight;
       stays = λ h q held odd_q from to over. stays_in hs ranges a.table range at a.found odd_at h q held odd_q from (omega arith) over;
     } in

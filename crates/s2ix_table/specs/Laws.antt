@@ -1,4 +1,4 @@
--- What the definitions say, in other words: each of these is proved, by the function of `laws` of its name.
+-- What the definitions say, in other words: each of these is proved, and told in a sentence, by the function of `laws` of its name.
 use Rattle.std.specs.Prelude.{◌≡◌, List}
 use Rattle.s2id_core.specs.declared.cell_id.CellId.{CellId}
 use Rattle.s2id_core.specs.Leaves.{IsLeafPath}
@@ -9,30 +9,24 @@ use Rattle.s2ix_table.specs.Contents.{IsContents, contents_at}
 use Rattle.s2ix_table.specs.Table.{Range, IsRangeTable}
 use Rattle.s2ix_table.specs.Meeting.{IsMeetingList, IsLabelList, meeting_of}
 
--- the contents that are read from a leaf's number are those of the leaf
 abbrev pub ContentsAreOfTheLeaf : Type 0
 ContentsAreOfTheLeaf =
     (held : Collection) (leaf : Path) → IsCollection held → IsLeafPath leaf → IsContents leaf held (contents_at (number_of leaf) held)
 
--- a leaf has one list of contents
 abbrev pub OneListOfContents : Type 0
 OneListOfContents =
     (held : Collection) (leaf : Path) (xs ys : Collection) → IsContents leaf held xs → IsContents leaf held ys → xs ≡ ys
 
--- a collection has one range table
 abbrev pub OneRangeTable : Type 0
 OneRangeTable = (held : Collection) (xs ys : List Range) → IsRangeTable held xs → IsRangeTable held ys → xs ≡ ys
 
--- the meeting list that is computed is the target's
 abbrev pub MeetingListIsTheTargets : Type 0
 MeetingListIsTheTargets =
     (target : List CellId) (held : Collection) → IsCollection held → IsMeetingList target held (meeting_of target held)
 
--- a target has one meeting list
 abbrev pub OneMeetingList : Type 0
 OneMeetingList =
     (target : List CellId) (held xs ys : Collection) → IsMeetingList target held xs → IsMeetingList target held ys → xs ≡ ys
 
--- a meeting list has one label list
 abbrev pub OneLabelList : Type 0
 OneLabelList = (meeting : Collection) (xs ys : List Label) → IsLabelList meeting xs → IsLabelList meeting ys → xs ≡ ys

@@ -15,6 +15,7 @@ use std::snapshot::Snapshot;
 
 /// A range table that keeps a list of its own for each range. Building takes O(r * n) for n pairs and r ranges, at most 2 * n + 1, and for
 /// each range what it takes to put its pairs in order: O(m log m) for m labels of one cell, at worst O(m * m) for m pairs of nested cells.
+/// This project's own.
 #[derive(Drop)]
 #[derive_where(Debug)]
 pub struct CopiedTable {
@@ -27,7 +28,7 @@ pub struct CopiedTable {
     ghost few: { length held.value.items ≤ 1000000 },
 }
 
-/// A pair of a range's list, by the range and its place in that list.
+/// A pair of a range's list, by the range and its place in that list, both counted from 0. This project's own.
 #[derive(Clone, Copy, Debug, PartialEq, Eq, Hash)]
 pub struct CopiedPlace {
     range: usize,

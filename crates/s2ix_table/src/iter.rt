@@ -11,7 +11,7 @@ use crate::table::RangeTable;
 use s2id_core::CellId;
 use s2ix_bag::Held;
 
-/// The ranges of a table with their places, in order (S2's `RangeIterator`).
+/// The ranges of a table with their places, in order (S2's `RangeIterator`). O(1) for each.
 #[derive(Drop)]
 #[derive_where(Clone)]
 pub struct RangeIter<'a, T> {
@@ -29,7 +29,7 @@ impl<'a, T: RangeTable> RangeIter<'a, T> {
         RangeIter { table, next: 0 }
     }
 
-    /// Goes to the range that has a leaf (S2's `Seek()`). O(log n) for n ranges.
+    /// Goes to the range that has a leaf (S2's `Seek()`). O(log n) for n pairs.
     pub fn seek(&mut self, leaf: CellId)
         requires { level_of leaf ≡ 30 }
         ensures { (k : ℕ)
@@ -59,7 +59,7 @@ impl<T: RangeTable> Iterator for RangeIter<'_, T> {
     }
 }
 
-/// The ranges of a table with their places, in order.
+/// The ranges of a table with their places, in order (S2's `RangeIterator`). O(1), and O(1) for each.
 pub fn ranges<T: RangeTable>(table: &T) -> RangeIter<'_, T>
     ensures start { IsAtRange T.ranges table.now result 0 }
     ensures gives { AlwaysYields
@@ -71,7 +71,8 @@ pub fn ranges<T: RangeTable>(table: &T) -> RangeIter<'_, T>
     RangeIter::new(table)
 }
 
-/// The pairs of a chain, innermost cell first, the labels of one cell rising (S2's `ContentsIterator`, without its memory of what it gave).
+/// The pairs of a chain, innermost cell first, the labels of one cell rising (S2's `ContentsIterator`, without its memory of what it gave). O(1)
+/// for each.
 #[derive(Drop)]
 pub struct ChainIter<'a, T: RangeTable> {
     table: &'a T,
@@ -94,7 +95,7 @@ impl<T: RangeTable> Iterator for ChainIter<'_, T> {
     }
 }
 
-/// What lies over a range, innermost cell first, the labels of one cell rising.
+/// What lies over a range, innermost cell first, the labels of one cell rising (S2's `StartUnion()`). O(1), and O(1) for each pair.
 pub fn contents<T: RangeTable>(table: &T, k: usize) -> ChainIter<'_, T>
     requires { k < length (T.ranges table.now) }
     ensures { AlwaysYields ⟦<ChainIter<'static, T> as Iterator>⟧.next_gives (λ held. held) result (range_at (T.ranges table.now) k).contents }
@@ -103,7 +104,8 @@ pub fn contents<T: RangeTable>(table: &T, k: usize) -> ChainIter<'_, T>
     ChainIter { table, next }
 }
 
-/// What lies over a leaf, innermost cell first, the labels of one cell rising. O(log n) for n ranges.
+/// What lies over a leaf, innermost cell first, the labels of one cell rising. O(log n) for n pairs, and O(1) for each
+/// pair that it gives. This project's own.
 pub fn chain_at<T: RangeTable>(table: &T, leaf: CellId) -> ChainIter<'_, T>
     requires { level_of leaf ≡ 30 }
     ensures { AlwaysYields ⟦<ChainIter<'static, T> as Iterator>⟧.next_gives (λ held. held) result (contents_at (raw_of leaf) (T.pairs table.now)) }

@@ -2,7 +2,7 @@
 ghost use Rattle.std.specs.Prelude.{◌≡◌, ◌<◌, ◌+◌, ◌∷◌, [], None, IfSome, length, slice_index_or};
 ghost use Rattle.s2id_core.specs.declared.cell_id.CellId.{CellId};
 ghost use Rattle.s2id_core.specs.CellId.{end_of};
-ghost use Rattle.s2id_union.specs.Covers.{IsChain};
+ghost use Rattle.s2id_union.specs.Covers.{FollowOneAnother};
 ghost use Rattle.s2ix_table.specs.Meeting.{meeting_from, meeting_of};
 ghost use Rattle.s2ix_table.specs.WalkState.{left_of, IsWalkState, ArePassed};
 
@@ -40,7 +40,7 @@ pub(crate) fn next_met<T: RangeTable>(
     cells: &[CellId],
     walk: WalkState<T::Place>,
 ) -> Option<Met<T::Place>>
-    requires chain { IsChain cells.now }
+    requires follow { FollowOneAnother cells.now }
     requires walk { IsWalkState (T.chain table.now) cells.now (T.ranges table.now) walk }
     ensures ends { result ≡ None → left_of (T.chain table.now) cells.now (T.pairs table.now) walk ≡ [] }
     ensures gives { IfSome result (λ met. left_of (T.chain table.now) cells.now (T.pairs table.now) walk
@@ -70,7 +70,7 @@ fn advance<T: RangeTable>(
     cells: &[CellId],
     walk: WalkState<T::Place>,
 ) -> Option<WalkState<T::Place>>
-    requires chain { IsChain cells.now }
+    requires follow { FollowOneAnother cells.now }
     requires walk { IsWalkState (T.chain table.now) cells.now (T.ranges table.now) walk }
     ensures ends { result ≡ None → meeting_from cells.now walk.seen (T.pairs table.now) ≡ [] }
     ensures left { IfSome result (λ next. meeting_from cells.now walk.seen (T.pairs table.now)

@@ -17,6 +17,8 @@ use std::alloc::Global;
 
 /// The range table of a collection: the maximal spans of leaves over which the same pairs lie, in order, each with a
 /// chain of these pairs (S2's `S2CellIndex`, its ranges and its contents). The ranges cover all leaves, empty ones too.
+///
+/// Costs are in n, the number of the table's pairs: there are at most 2 * n + 1 ranges.
 pub trait RangeTable: Sized {
     /// Where a table keeps a pair of a chain.
     type Place: Copy;
@@ -30,36 +32,36 @@ pub trait RangeTable: Sized {
     // the pairs from a place on, outwards; none at what is no place of the table
     ghost chain: { Self → Self.Place → Collection };
 
-    /// The table of a bag. `OutOfMemory` where a growth is refused.
+    /// The table of a bag, at the cost that the type names. `OutOfMemory` where a growth is refused.
     fn build(alloc: Global, bag: &Bag) -> Result<Self, OutOfMemory>
         ensures { IfOk result (λ table. pairs table ≡ bag.now.held) };
 
-    /// How many ranges there are, at least 1.
+    /// How many ranges there are: at least 1, at most 2 * n + 1. O(1).
     fn range_count(&self) -> usize
         ensures { result ≡ length (ranges self.now) };
 
-    /// The leaves of a range.
+    /// The leaves of a range. O(1).
     fn range(&self, k: usize) -> RangeRow
         requires { k < length (ranges self.now) }
         ensures start { result.start ≡ (range_at (ranges self.now) k).start }
         ensures limit { result.limit ≡ (range_at (ranges self.now) k).limit };
 
-    /// The place of a range's innermost pair, or `None` where nothing lies over it.
+    /// The place of a range's innermost pair, or `None` where nothing lies over it. O(1).
     fn first(&self, k: usize) -> Option<Self::Place>
         requires { k < length (ranges self.now) }
         ensures { LeadsTo (chain self.now) result (range_at (ranges self.now) k).contents };
 
-    /// The pair at a place, with its count.
+    /// The pair at a place, with its count. O(1).
     fn held_at(&self, place: Self::Place) -> Held
         requires { IsPlace (chain self.now) place }
         ensures { chain self.now place ≡ result ∷ drop 1 (chain self.now place) };
 
-    /// The place of the next pair outwards, or `None` at the outermost.
+    /// The place of the next pair outwards, or `None` at the outermost. O(1).
     fn outer(&self, place: Self::Place) -> Option<Self::Place>
         requires { IsPlace (chain self.now) place }
         ensures { LeadsTo (chain self.now) result (drop 1 (chain self.now place)) };
 
-    /// The range that has a leaf. O(log n) for n ranges.
+    /// The range that has a leaf. O(log n).
     fn find(&self, leaf: CellId) -> usize
         requires { level_of leaf ≡ 30 }
         ensures within { result < length (ranges self.now) }
@@ -77,7 +79,7 @@ pub trait RangeTable: Sized {
 
     /// Calls `f` on each pair of the target's meeting list, in order, up to and with the first call that answers false;
     /// whether every call answered true (S2's `VisitIntersectingCells()`). Takes no memory; `f` need only be callable on
-    /// the pairs of the list. O(k + r + t log n) for k pairs over the r ranges that the target meets, t cells of it and n ranges.
+    /// the pairs of the list. O(k + r + t log n) for k pairs over the r ranges that the target meets, and t cells of it.
     final fn visit<F: FnMut(Held) -> bool>(&self, target: &CellUnion, f: &mut F) -> bool
         requires { MayVisit F.pre F.step f.old (meeting_of target.now (pairs self.now)) }
         ensures { Visits F.step f.old (meeting_of target.now (pairs self.now)) result f.new }

@@ -11,14 +11,29 @@ use s2ix_table::{
     ChainIter, CopiedTable, RangeIter, RangeRow, RangeTable, chain_at, contents, ranges,
 };
 use std::alloc::Global;
+use std::fmt::{Debug, Display};
 use std::test::Fail;
 
 // Fails where a comparison does not hold, and tells the table by its row.
-fn expect(holds: bool, row: usize, subject: &'static str) -> Result<(), Fail> {
+fn expect<R: Display>(holds: bool, row: &R, subject: &'static str) -> Result<(), Fail> {
     if holds {
         Ok(())
     } else {
-        Err(Fail::new(format_args!("table {row}: {subject}")))
+        Err(Fail::new(format_args!("{row}: {subject}")))
+    }
+}
+
+// Fails where a list is not the one that is wanted, and tells the table by its row, and what came out.
+fn expect_list<R: Display, A: PartialEq + Debug>(
+    found: &[A],
+    wanted: &[A],
+    row: &R,
+    subject: &'static str,
+) -> Result<(), Fail> {
+    if found == wanted {
+        Ok(())
+    } else {
+        Err(Fail::new(format_args!("{row}: {subject}: {found:?}")))
     }
 }
 
@@ -111,8 +126,8 @@ fn is_found(table: &CopiedTable, leaf: u64, k: usize, range: RangeRow) -> Result
 }
 
 /// Compares the k-th range of a table, and what lies over it, by its place and by its first leaf and its last.
-pub(crate) fn check_range(
-    row: usize,
+pub(crate) fn check_range<R: Display>(
+    row: &R,
     table: &CopiedTable,
     k: usize,
     range: RangeRow,
@@ -164,8 +179,8 @@ fn leads_back(rows: &mut RangeIter<'_, CopiedTable>, wanted: &[RangeRow]) -> Res
 }
 
 /// Compares the ranges of a table, in order.
-pub(crate) fn check_ranges(
-    row: usize,
+pub(crate) fn check_ranges<R: Display>(
+    row: &R,
     table: &CopiedTable,
     wanted: &[RangeRow],
 ) -> Result<(), Fail> {
@@ -202,45 +217,19 @@ fn visits(table: &CopiedTable, target: &CellUnion, pairs: &[Held], stop: usize) 
     in_order && calls == stop.min(pairs.len()) && whole == (pairs.len() < stop)
 }
 
-// Whether these pairs meet a target, as a list.
-fn has_meeting(
-    alloc: Global,
-    table: &CopiedTable,
-    target: &CellUnion,
-    pairs: &[Held],
-) -> Result<bool, Fail> {
-    Ok(table.meeting(alloc, target)?.as_slice() == pairs)
-}
-
-// Whether the pairs that meet a target have these labels.
-fn has_labels(
-    alloc: Global,
-    table: &CopiedTable,
-    target: &CellUnion,
-    labels: &[Label],
-) -> Result<bool, Fail> {
-    Ok(table.labels(alloc, target)?.as_slice() == labels)
-}
-
 /// Compares the pairs that meet a target, with the first call of a visit, the second, the last or none that answers false, and their labels.
-pub(crate) fn check_target(
-    row: usize,
+pub(crate) fn check_target<R: Display>(
+    row: &R,
     alloc: Global,
     table: &CopiedTable,
     target: &CellUnion,
     pairs: &[Held],
     labels: &[Label],
 ) -> Result<(), Fail> {
-    expect(
-        has_meeting(alloc, table, target, pairs)?,
-        row,
-        "the pairs that meet a target",
-    )?;
-    expect(
-        has_labels(alloc, table, target, labels)?,
-        row,
-        "the labels that meet a target",
-    )?;
+    let met = table.meeting(alloc, target)?;
+    expect_list(&met, pairs, row, "the pairs that meet a target")?;
+    let met_labels = table.labels(alloc, target)?;
+    expect_list(&met_labels, labels, row, "the labels that meet a target")?;
     for stop in [1, 2, pairs.len().max(1), usize::MAX] {
         expect(
             visits(table, target, pairs, stop),

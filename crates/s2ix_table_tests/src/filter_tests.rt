@@ -57,10 +57,10 @@ struct Sample<'a> {
 
 // Compares ranges, and what lies over them.
 fn check_rows(alloc: Global, sample: Sample, wanted: &[RangeRow]) -> Result<(), Fail> {
-    check_ranges(sample.number, sample.table, wanted)?;
+    check_ranges(&sample.number, sample.table, wanted)?;
     for (k, &range) in wanted.iter().enumerate() {
         let over = plain::chain(alloc, sample.bag, range.start)?;
-        check_range(sample.number, sample.table, k, range, &over)?;
+        check_range(&sample.number, sample.table, k, range, &over)?;
     }
     Ok(())
 }
@@ -79,7 +79,7 @@ fn check_cells(alloc: Global, sample: Sample, cells: &[CellId]) -> Result<(), Fa
 
 fn check_met(alloc: Global, sample: Sample, target: &CellUnion, met: &[Held]) -> Result<(), Fail> {
     let labels = plain::labels(alloc, met, LABELS)?;
-    check_target(sample.number, alloc, sample.table, target, met, &labels)
+    check_target(&sample.number, alloc, sample.table, target, met, &labels)
 }
 
 // Compares what meets random targets.

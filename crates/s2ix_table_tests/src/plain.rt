@@ -63,43 +63,48 @@ pub(crate) fn labels(alloc: Global, pairs: &[Held], limit: u32) -> Result<Vec<La
 // The pairs over the leaf of a number, by falling level, then rising label.
 pub(crate) fn chain(alloc: Global, bag: &Bag, leaf: u64) -> Result<Vec<Held>, Fail> {
     let leaf = CellId::from_raw(leaf).ok_or("a leaf has no such number")?;
-    meeting(alloc, bag, &[leaf])
-}
-
-// The first leaf number above another one at which the cell of a pair begins or ends, or the end of all leaves.
-fn next_bound(bag: &Bag, at: u64) -> u64 {
-    let mut bound = LEAF_END;
+    let mut over = Vec::new(alloc);
     for k in 0..bag.len() {
-        let cell = bag.held(k).pair.cell;
-        for limit in [
-            cell.range_min().raw(),
-            cell.range_max().raw().wrapping_add(2),
-        ] {
-            if at < limit && limit < bound {
-                bound = limit;
-            }
+        let held = bag.held(k);
+        if held.pair.cell.contains(leaf) {
+            over.push(held)?;
         }
     }
-    bound
+    over.sort_unstable_by_key(|held| {
+        let height = 30u8.saturating_sub(held.pair.cell.level());
+        (height, held.pair.label.get())
+    });
+    Ok(over)
 }
 
-// The maximal spans of leaves with the same pairs over them: the ranges between bounds, joined where the pairs are the same.
+// All leaf numbers at which contents may change, once each and rising: the first, those at which a cell of the bag begins or ends, and
+// the end of all leaves.
+fn bounds(alloc: Global, bag: &Bag) -> Result<Vec<u64>, Fail> {
+    let mut bounds = vec![in alloc; 1, LEAF_END]?;
+    for k in 0..bag.len() {
+        let cell = bag.held(k).pair.cell;
+        bounds.push(cell.range_min().raw())?;
+        bounds.push(cell.range_max().raw().wrapping_add(2))?;
+    }
+    bounds.sort_unstable();
+    bounds.dedup();
+    Ok(bounds)
+}
+
+// The maximal spans of leaves with the same pairs over them: those between bounds, joined where the pairs are the same.
 pub(crate) fn ranges(alloc: Global, bag: &Bag) -> Result<Vec<RangeRow>, Fail> {
     let mut rows = Vec::new(alloc);
     let mut before = Vec::new(alloc);
     let mut start = 1;
-    for _ in 0..=bag.len().saturating_mul(2) {
-        if start < LEAF_END {
-            let limit = next_bound(bag, start);
-            let contents = chain(alloc, bag, start)?;
-            let same = contents.as_slice() == before.as_slice();
-            match rows.last_mut() {
-                Some(RangeRow { limit: end, .. }) if same => *end = limit,
-                _ => rows.push(RangeRow { start, limit })?,
-            }
-            before = contents;
-            start = limit;
+    for &limit in bounds(alloc, bag)?.iter().skip(1) {
+        let contents = chain(alloc, bag, start)?;
+        let same = contents.as_slice() == before.as_slice();
+        match rows.last_mut() {
+            Some(RangeRow { limit: end, .. }) if same => *end = limit,
+            _ => rows.push(RangeRow { start, limit })?,
         }
+        before = contents;
+        start = limit;
     }
     Ok(rows)
 }

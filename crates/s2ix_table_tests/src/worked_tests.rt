@@ -8,14 +8,15 @@ use std::test::Fail;
 
 // Pairs, the ranges of their table, and what lies over each range.
 struct Worked {
+    name: &'static str,
     pairs: &'static [PairRow],
     ranges: &'static [RangeRow],
     over: &'static [&'static [PairRow]],
 }
 
-// No pair, and a cell in a face.
 const TABLES: [Worked; 2] = [
     Worked {
+        name: "no pair",
         pairs: &[],
         ranges: &[RangeRow {
             start: 1,
@@ -24,6 +25,7 @@ const TABLES: [Worked; 2] = [
         over: &[&[]],
     },
     Worked {
+        name: "a cell in a face",
         pairs: &[(b"1", 7), (b"04", 9)],
         ranges: &[
             RangeRow {
@@ -44,23 +46,23 @@ const TABLES: [Worked; 2] = [
 ];
 
 // Compares the ranges of a table and what lies over each of them.
-fn check_table(alloc: Global, row: usize, worked: &Worked) -> Result<(), Fail> {
+fn check_table(alloc: Global, worked: &Worked) -> Result<(), Fail> {
     let table = table_of(alloc, worked.pairs)?;
-    check_ranges(row, &table, worked.ranges)?;
-    check_over(alloc, row, &table, worked)
+    check_ranges(&worked.name, &table, worked.ranges)?;
+    check_over(alloc, &table, worked)
 }
 
-fn check_over(alloc: Global, row: usize, table: &CopiedTable, worked: &Worked) -> Result<(), Fail> {
+fn check_over(alloc: Global, table: &CopiedTable, worked: &Worked) -> Result<(), Fail> {
     for (k, (&range, over)) in worked.ranges.iter().zip(worked.over).enumerate() {
         let over = list_of(alloc, over)?;
-        check_range(row, table, k, range, &over)?;
+        check_range(&worked.name, table, k, range, &over)?;
     }
     Ok(())
 }
 
 fn check_tables(alloc: Global, tables: &[Worked]) -> Result<(), Fail> {
-    for (row, worked) in tables.iter().enumerate() {
-        check_table(alloc, row, worked)?;
+    for worked in tables {
+        check_table(alloc, worked)?;
     }
     Ok(())
 }
@@ -72,6 +74,7 @@ fn nested_cells_make_ranges(rt: HostRuntime) -> Result<(), Fail> {
 
 // Pairs, the cells of a target, the pairs that meet it in their order, and the labels of these.
 struct Meeting {
+    name: &'static str,
     pairs: &'static [PairRow],
     cells: &'static [&'static [u8]],
     met: &'static [PairRow],
@@ -80,24 +83,28 @@ struct Meeting {
 
 const MEETINGS: [Meeting; 4] = [
     Meeting {
+        name: "the cell that is met lies in a face",
         pairs: &[(b"1", 7), (b"04", 9)],
         cells: &[b"0c"],
         met: &[(b"1", 7)],
         labels: &[7],
     },
     Meeting {
+        name: "cells on both sides of a gap",
         pairs: &[(b"1", 7), (b"04", 9)],
         cells: &[b"1c", b"04"],
         met: &[(b"04", 9), (b"1", 7)],
         labels: &[7, 9],
     },
     Meeting {
+        name: "a cell after the gap",
         pairs: &[(b"1", 7), (b"04", 9), (b"1c", 2)],
         cells: &[b"1c", b"04"],
         met: &[(b"04", 9), (b"1", 7), (b"1c", 2)],
         labels: &[2, 7, 9],
     },
     Meeting {
+        name: "two faces",
         pairs: &[(b"04", 9), (b"5", 3), (b"44", 6), (b"4c", 1)],
         cells: &[b"04", b"4c"],
         met: &[(b"04", 9), (b"4c", 1), (b"5", 3)],
@@ -106,36 +113,30 @@ const MEETINGS: [Meeting; 4] = [
 ];
 
 // Compares the pairs that meet a target, and their labels.
-fn check_meeting(alloc: Global, row: usize, meeting: &Meeting) -> Result<(), Fail> {
+fn check_meeting(alloc: Global, meeting: &Meeting) -> Result<(), Fail> {
     let table = table_of(alloc, meeting.pairs)?;
-    check_cells(alloc, row, &table, meeting)
+    check_cells(alloc, &table, meeting)
 }
 
-fn check_cells(
-    alloc: Global,
-    row: usize,
-    table: &CopiedTable,
-    meeting: &Meeting,
-) -> Result<(), Fail> {
+fn check_cells(alloc: Global, table: &CopiedTable, meeting: &Meeting) -> Result<(), Fail> {
     let target = union_of(alloc, meeting.cells)?;
-    check_met(alloc, row, table, &target, meeting)
+    check_met(alloc, table, &target, meeting)
 }
 
 fn check_met(
     alloc: Global,
-    row: usize,
     table: &CopiedTable,
     target: &CellUnion,
     meeting: &Meeting,
 ) -> Result<(), Fail> {
     let met = list_of(alloc, meeting.met)?;
     let labels = labels_of(alloc, meeting.labels)?;
-    check_target(row, alloc, table, target, &met, &labels)
+    check_target(&meeting.name, alloc, table, target, &met, &labels)
 }
 
 fn check_meetings(alloc: Global, meetings: &[Meeting]) -> Result<(), Fail> {
-    for (row, meeting) in meetings.iter().enumerate() {
-        check_meeting(alloc, row, meeting)?;
+    for meeting in meetings {
+        check_meeting(alloc, meeting)?;
     }
     Ok(())
 }

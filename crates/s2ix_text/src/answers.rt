@@ -7,9 +7,7 @@ use s2id_core::CellId;
 use s2id_cube::{FaceIj, edge_neighbors};
 use s2ix_io::{Sink, WriteFault, put_parts};
 
-/// Writes the line that says that a line of a script is refused: `no` and the name of the reason.
-///
-/// It takes no memory and does not flush. At the first fault of the sink it ends, when a front of the line went out. This project's own.
+/// Writes the line that says that a line of a script is refused: `no` and the name of the reason. This project's own.
 pub fn write_no<K: Sink>(name: &str, sink: &mut K) -> Result<(), WriteFault>
     requires { CanCount (K.fault_count sink.old) }
     ensures { Writes K.taken K.flush_mark K.fault_count sink.old sink.new result (no_line name.now) }
@@ -17,9 +15,7 @@ pub fn write_no<K: Sink>(name: &str, sink: &mut K) -> Result<(), WriteFault>
     put_parts(sink, &[b"no ", name.as_bytes(), b"\n"])
 }
 
-/// Writes the line that says that a line of a script is accepted: `ok` and how many pairs changed their counts.
-///
-/// It takes no memory and does not flush. At the first fault of the sink it ends, when a front of the line went out. This project's own.
+/// Writes the line that says that a line of a script is accepted: `ok` and how many pairs changed their counts. This project's own.
 pub fn write_ok<K: Sink>(pairs: usize, sink: &mut K) -> Result<(), WriteFault>
     requires { CanCount (K.fault_count sink.old) }
     ensures { Writes K.taken K.flush_mark K.fault_count sink.old sink.new result (ok_line pairs) }
@@ -29,9 +25,7 @@ pub fn write_ok<K: Sink>(pairs: usize, sink: &mut K) -> Result<(), WriteFault>
     put_parts(sink, &[b"ok ", number.as_bytes(), b"\n"])
 }
 
-/// Writes a cell's path on a line of its own.
-///
-/// It takes no memory and does not flush. At the first fault of the sink it ends, when a front of the line went out. This project's own.
+/// Writes a cell's path on a line of its own. This project's own.
 pub fn write_path<K: Sink>(cell: CellId, sink: &mut K) -> Result<(), WriteFault>
     requires { CanCount (K.fault_count sink.old) }
     ensures { Writes K.taken K.flush_mark K.fault_count sink.old sink.new result (path_line cell) }
@@ -40,9 +34,7 @@ pub fn write_path<K: Sink>(cell: CellId, sink: &mut K) -> Result<(), WriteFault>
     put_parts(sink, &[path.as_bytes(), b"\n"])
 }
 
-/// Writes the tokens of the cells over a cell's sides on one line: down, right, up and left.
-///
-/// It takes no memory and does not flush. At the first fault of the sink it ends, when a front of the line went out. This project's own.
+/// Writes the tokens of the cells over a cell's sides on one line: down, right, up and left. This project's own.
 pub fn write_neighbors<K: Sink>(cell: CellId, sink: &mut K) -> Result<(), WriteFault>
     requires { CanCount (K.fault_count sink.old) }
     ensures { Writes K.taken K.flush_mark K.fault_count sink.old sink.new result (neighbors_line cell) }
@@ -67,9 +59,7 @@ pub fn write_neighbors<K: Sink>(cell: CellId, sink: &mut K) -> Result<(), WriteF
     )
 }
 
-/// Writes a square on one line: its face, its column and row, its level and its orientation.
-///
-/// It takes no memory and does not flush. At the first fault of the sink it ends, when a front of the line went out. This project's own.
+/// Writes a square on one line: its face, its column and row, its level and its orientation. This project's own.
 pub fn write_square<K: Sink>(square: FaceIj, sink: &mut K) -> Result<(), WriteFault>
     requires { CanCount (K.fault_count sink.old) }
     ensures { Writes K.taken K.flush_mark K.fault_count sink.old sink.new result (square_line square) }

@@ -60,9 +60,8 @@ fn write_end<K: Sink>(bag: &Bag, sink: &mut K) -> Result<(), WriteFault>
     )
 }
 
-/// Writes the dump of a bag: one line for each held pair in rising order, between a header and the two sums.
-///
-/// It takes no memory and does not flush. At the first fault of the sink it ends, when a front of the dump went out. O(n) for n pairs.
+/// Writes the dump of a bag: one line for each held pair in rising order, between a header and the two sums. O(n) for n pairs.
+/// This project's own.
 pub fn write_dump<K: Sink>(bag: &Bag, sink: &mut K) -> Result<(), WriteFault>
     requires { CanCount (K.fault_count sink.old) }
     ensures { Writes K.taken K.flush_mark K.fault_count sink.old sink.new result (dump_text bag.now.held) }

@@ -72,10 +72,8 @@ fn write_groups<K: Sink>(changes: &[Change], sink: &mut K) -> Result<(), WriteFa
 }
 
 /// Writes the journal of a list of changes: for each change, the oldest first, a line that counts its entries and
-/// one line for each entry, between a header and a line that counts the changes.
-///
-/// It takes no memory and does not flush. At the first fault of the sink it ends, when a front of the journal went
-/// out. O(n) for n entries in all.
+/// one line for each entry, between a header and a line that counts the changes. O(n) for n entries in all.
+/// This project's own.
 pub fn write_journal<K: Sink>(changes: &[Change], sink: &mut K) -> Result<(), WriteFault>
     requires { CanCount (K.fault_count sink.old) }
     ensures { Writes K.taken K.flush_mark K.fault_count sink.old sink.new result (journal_text changes.now) }

@@ -2,7 +2,7 @@
 //! and its contract is the fact.
 ghost use Rattle.s2ix_text.specs.Laws.{DumpsTellBagsApart, DumpsTellCollectionsApart, JournalsTellListsApart};
 
-/// Two collections with one dump are one; so two bags with one dump hold the same.
+/// Two collections whose counts have 32 bits, with one dump, are one; so two bags with one dump hold the same.
 pub fn dumps_tell_collections_apart()
     ensures collections { DumpsTellCollectionsApart }
     ensures bags { DumpsTellBagsApart }

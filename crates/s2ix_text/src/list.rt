@@ -14,7 +14,7 @@ pub trait ListItem: Copy {
     // the line, with its line feed
     ghost line: { Self → List ℕ };
 
-    /// Writes the line. It takes no memory and does not flush. At the first fault of the sink it ends, when a front of the line went out.
+    /// Writes the line.
     fn write_line<K: Sink>(self, sink: &mut K) -> Result<(), WriteFault>
         requires { CanCount (K.fault_count sink.old) }
         ensures { Writes K.taken K.flush_mark K.fault_count sink.old sink.new result (line self) };
@@ -73,9 +73,7 @@ pub(crate) fn write_end_of_list<K: Sink>(count: usize, sink: &mut K) -> Result<(
     )
 }
 
-/// Writes a list: each item on a line of its own, in order, and then `end` with the number of items.
-///
-/// It takes no memory and does not flush. At the first fault of the sink it ends, when a front of the list went out. O(n) for n items.
+/// Writes a list: each item on a line of its own, in order, and then `end` with the number of items. O(n) for n items.
 /// This project's own.
 pub fn write_list<A: ListItem, K: Sink>(items: &[A], sink: &mut K) -> Result<(), WriteFault>
     requires { CanCount (K.fault_count sink.old) }

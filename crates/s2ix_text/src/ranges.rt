@@ -12,10 +12,8 @@ use s2id_core::{CellId, sixteen_digits};
 use s2ix_io::{Sink, WriteFault, put_all, put_parts};
 use s2ix_table::{RangeRow, RangeTable, chain_at, contents};
 
-/// Writes what lies over a leaf as a list of pairs, innermost cell first, the labels of one cell rising.
-///
-/// It takes no memory and does not flush. At the first fault of the sink it ends, when a front of the list went out. O(log n + m)
-/// for n ranges and m pairs over the leaf. This project's own.
+/// Writes what lies over a leaf as a list of pairs, innermost cell first, the labels of one cell rising. O(log n + m) for
+/// n ranges and m pairs over the leaf. This project's own.
 pub fn write_contents<T: RangeTable, K: Sink>(
     table: &T,
     leaf: CellId,
@@ -72,10 +70,8 @@ fn write_range<T: RangeTable, K: Sink>(table: &T, k: usize, sink: &mut K) -> Res
 }
 
 /// Writes the ranges of a table as a list, in order: on one line for each its bounds in sixteen hexadecimal digits, and
-/// its pairs, innermost cell first, the labels of one cell rising.
-///
-/// It takes no memory and does not flush. At the first fault of the sink it ends, when a front of the list went out. O(n + m) for
-/// n ranges with m pairs in all. This project's own.
+/// its pairs, innermost cell first, the labels of one cell rising. O(n + m) for n ranges with m pairs in all.
+/// This project's own.
 pub fn write_ranges<T: RangeTable, K: Sink>(table: &T, sink: &mut K) -> Result<(), WriteFault>
     requires { CanCount (K.fault_count sink.old) }
     ensures { Writes K.taken K.flush_mark K.fault_count sink.old sink.new result (list_text range_line (T.ranges table.now)) }

@@ -2,7 +2,7 @@ use Rattle.std.proofs.Common.{get_or, sym, ap, arith}
 use Rattle.s2id_core.specs.declared.cell_id.CellId.{CellId}
 use Rattle.s2id_core.specs.CellId.{raw_of, first_of}
 use Rattle.s2id_core.proofs.Nested.{span}
-use Rattle.s2id_union.proofs.Searching.{chain_from_normal}
+use Rattle.s2id_union.proofs.Searching.{follow_from_normal}
 use Rattle.s2id_union.proofs.Counting.{total-none, total_more, next_bound, cell_width, counted}
 use Rattle.s2id_union.proofs.count.count_leaves.Goals as goal
 
@@ -37,12 +37,12 @@ loop-cell-preserved c =
     let is = ap (λ (y : CellId). first_of y) c.cell-item.is in
     let so_far = c.loop-cell.invariant.0 in (
       omega arith,
-      next_bound cells k c.loop-cell.count _ (chain_from_normal cells c.requires) x l c.cell-item.is (omega arith) (omega arith),
+      next_bound cells k c.loop-cell.count _ (follow_from_normal cells c.requires) x l c.cell-item.is (omega arith) (omega arith),
     )
 
 pub returns : goal.returns
 returns c =
-    counted c.args.cells.now c.loop-cell.cell-index c.loop-cell.count (chain_from_normal c.args.cells.now c.requires) (omega arith) c.loop-cell.invariant.0
+    counted c.args.cells.now c.loop-cell.cell-index c.loop-cell.count (follow_from_normal c.args.cells.now c.requires) (omega arith) c.loop-cell.invariant.0
 
 pub overflow_sub-count : goal.overflow_sub-count
 overflow_sub-count c =

@@ -1,10 +1,10 @@
 use Rattle.std.proofs.Common.{sym, arith, Contains}
 use Rattle.std.proofs.lemmas.Bool.Decides.{nat_tests}
-use Rattle.s2id_union.proofs.Searching.{chain_from_normal, all_from_within, within_ahead}
+use Rattle.s2id_union.proofs.Searching.{follow_from_normal, all_from_within, within_ahead}
 use Rattle.s2id_union.proofs.search.has_all.Goals as goal
 
 pub count_passed-k-requires : goal.count_passed-k-requires
-count_passed-k-requires c = chain_from_normal c.args.cells.now c.requires
+count_passed-k-requires c = follow_from_normal c.args.cells.now c.requires
 
 pub returns-then-k-cells : goal.returns-then-k-cells
 returns-then-k-cells c =

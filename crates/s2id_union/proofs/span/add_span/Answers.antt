@@ -1,7 +1,7 @@
 use Rattle.std.proofs.Common.{arith}
 use Rattle.s2id_core.specs.CellId.{raw_of}
 use Rattle.s2id_core.proofs.Nested.{span}
-use Rattle.s2id_union.proofs.Growing.{growing_next}
+use Rattle.s2id_union.proofs.Adding.{adding_next}
 use Rattle.s2id_union.proofs.span.add_span.Goals as goal
 
 pub loop-at-smaller : goal.loop-at-smaller
@@ -17,4 +17,4 @@ loop-at-smaller c =
 pub loop-at-preserved : goal.loop-at-preserved
 loop-at-preserved c =
     let cell = c.greatest_at-cell.result in
-    growing_next _ _ _ _ _ _ _ c.loop-at.invariant.0 c.loop-at.invariant.1 c.loop-at-test.true cell c.greatest_at-cell.ensures c.in_ok-push.ensures.items c.span_end-at.ensures
+    adding_next _ _ _ _ _ _ _ c.loop-at.invariant.0 c.loop-at.invariant.1 c.loop-at-test.true cell c.greatest_at-cell.ensures c.in_ok-push.ensures.items c.span_end-at.ensures

@@ -1,22 +1,22 @@
 use Rattle.std.proofs.Common.{IsTrue, arith}
-use Rattle.s2id_union.proofs.Searching.{chain_from_normal}
+use Rattle.s2id_union.proofs.Searching.{follow_from_normal}
 use Rattle.s2id_union.proofs.Sweeping.{lower_of, swept_init, swept_next_on, swept_next_off, swept_end}
 use Rattle.s2id_union.proofs.sweep.sweep_both.Goals as goal
 
 pub loop-at-init : goal.loop-at-init
 loop-at-init c = swept_init c.args.operation c.args.first.now c.args.second.now _ c.new-cells.ensures.items
 
-pub stretch_at-of_first-requires-clause-chain : goal.stretch_at-of_first-requires-clause-chain
-stretch_at-of_first-requires-clause-chain c = chain_from_normal c.args.first.now c.requires.first_normal
+pub stretch_at-of_first-requires-clause-follow : goal.stretch_at-of_first-requires-clause-follow
+stretch_at-of_first-requires-clause-follow c = follow_from_normal c.args.first.now c.requires.first_normal
 
-pub stretch_at-of_second-requires-clause-chain : goal.stretch_at-of_second-requires-clause-chain
-stretch_at-of_second-requires-clause-chain c = chain_from_normal c.args.second.now c.requires.second_normal
+pub stretch_at-of_second-requires-clause-follow : goal.stretch_at-of_second-requires-clause-follow
+stretch_at-of_second-requires-clause-follow c = follow_from_normal c.args.second.now c.requires.second_normal
 
-pub pass_cell-i-requires-clause-chain : goal.pass_cell-i-requires-clause-chain
-pass_cell-i-requires-clause-chain c = chain_from_normal c.args.first.now c.requires.first_normal
+pub pass_cell-i-requires-clause-follow : goal.pass_cell-i-requires-clause-follow
+pass_cell-i-requires-clause-follow c = follow_from_normal c.args.first.now c.requires.first_normal
 
-pub pass_cell-j-requires-clause-chain : goal.pass_cell-j-requires-clause-chain
-pass_cell-j-requires-clause-chain c = chain_from_normal c.args.second.now c.requires.second_normal
+pub pass_cell-j-requires-clause-follow : goal.pass_cell-j-requires-clause-follow
+pass_cell-j-requires-clause-follow c = follow_from_normal c.args.second.now c.requires.second_normal
 
 pub loop-at-preserved-in_ok-add_span : goal.loop-at-preserved-in_ok-add_span
 loop-at-preserved-in_ok-add_span c =

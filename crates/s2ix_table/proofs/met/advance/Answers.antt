@@ -27,7 +27,7 @@ step_past g c =
     let ends = ap (λ (y : CellId). end_of y) c.index-cells-cell.is in
     let beyond = c.first_beyond-cell.ensures.beyond x (omega arith) in
     walk_past (g.T.RangeTable.chain t) c.args.cells.now (g.T.RangeTable.pairs t) (g.T.RangeTable.ranges t) c.range_from-range.result _ _ x _ (record {
-      chain = c.requires.chain;
+      follow = c.requires.follow;
       table = g.met.T.RangeTable.is_table t;
       odd = c.requires.walk.odd;
       tight = c.requires.walk.tight;

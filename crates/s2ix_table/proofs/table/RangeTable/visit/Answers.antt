@@ -1,5 +1,5 @@
 use Rattle.std.proofs.Common.{◌≡◌, ◌+◌, true, false, sym, ap, ◌∙◌, subst, rules}
-use Rattle.s2id_union.proofs.Searching.{chain_from_normal}
+use Rattle.s2id_union.proofs.Searching.{follow_from_normal}
 use Rattle.s2id_union.specs.Region.{IsNormal}
 use Rattle.s2ix_table.specs.Meeting.{meeting_of}
 use Rattle.s2ix_table.specs.WalkState.{left_of}
@@ -19,9 +19,9 @@ loop-met-init g c =
       λ k whole last calls. visits_same (λ p x r q. goal.F-step g p x r q) c.args.f.now left all k whole last same calls,
     )
 
-pub next_met-requires-clause-chain : goal.next_met-requires-clause-chain
-next_met-requires-clause-chain g c =
-    chain_from_normal c.cells-cells.result.now (subst IsNormal (sym c.cells-cells.ensures.list) c.cells-cells.ensures.normal)
+pub next_met-requires-clause-follow : goal.next_met-requires-clause-follow
+next_met-requires-clause-follow g c =
+    follow_from_normal c.cells-cells.result.now (subst IsNormal (sym c.cells-cells.ensures.list) c.cells-cells.ensures.normal)
 
 pub loop-met-preserved : goal.loop-met-preserved
 loop-met-preserved g c = (

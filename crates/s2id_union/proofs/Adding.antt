@@ -1,4 +1,4 @@
--- A list that grows by the greatest cells of a span of leaves.
+-- A list to which a span of leaves is added, by the greatest cells.
 use Rattle.std.proofs.Common.{◌≡◌, ◌↔◌, ℕ, ◌+◌, ◌%◌, ◌<◌, ◌≤◌, ◌⊎◌, inl, inr, List, [], ◌∷◌, ◌++◌, Contains, get_or, sym, ap, arith, subst}
 use Rattle.std.proofs.lemmas.Bool.{cases_lt}
 use Rattle.std.proofs.lemmas.List.Elements.{Contains-get_or, Contains-push_cases}
@@ -8,34 +8,34 @@ use Rattle.s2id_core.specs.CellId.{raw_of, first_of, end_of}
 use Rattle.s2id_core.specs.Cell.{IsCellNumber}
 use Rattle.s2id_core.specs.Span.{first_at, end_at}
 use Rattle.s2id_core.proofs.Nested.{span, nested_from_crossing_spans, same_span}
-use Rattle.s2id_union.specs.Covers.{Covers, IsChain}
-use Rattle.s2id_union.specs.Loops.{InSpan, IsMaximal, IsGrown, IsGreatest}
+use Rattle.s2id_union.specs.Covers.{Covers, FollowOneAnother}
+use Rattle.s2id_union.specs.Loops.{InSpan, IsMaximal, AreMaximalBelow, IsGreatest}
 use Rattle.s2id_union.proofs.Lists.{none_in_nil}
 use Rattle.s2id_union.proofs.Covering.{covers_push_left, covers_push_right, covers_push_cases}
 
--- as `IsGrown`, while the span from `start` to `limit` is being added to `old`, up to `at`
-pub record IsGrowing (old cells : List CellId) (start limit at : ℕ) : Type 0 where
-  pub chain : IsChain cells
+-- as `AreMaximalBelow`, while the span from `start` to `limit` is being added to `old`, up to `at`
+pub record IsBeingAdded (old cells : List CellId) (start limit at : ℕ) : Type 0 where
+  pub follow : FollowOneAnother cells
   pub below : (c : CellId) → Contains cells c → end_of c ≤ at
   pub maximal : (c : CellId) → Contains cells c → IsMaximal (λ q. Covers old q ⊎ InSpan start limit q) (limit + 1) (raw_of c)
   pub covers : (q : ℕ) → Covers cells q ↔ (Covers old q ⊎ InSpan start at q)
 
-pub grown_nil : (free : ℕ) → IsGrown [] free
-grown_nil free = record {
-  chain = λ i j d lt l. absurd (omega arith);
+pub maximal_nil : (free : ℕ) → AreMaximalBelow [] free
+maximal_nil free = record {
+  follow = λ i j d lt l. absurd (omega arith);
   below = λ c h. absurd (none_in_nil c h);
   maximal = λ c h. absurd (none_in_nil c h);
 }
 
-pub grown_later : (cells : List CellId) (free more : ℕ) → IsGrown cells free → free ≤ more → IsGrown cells more
-grown_later cells free more h le = record {
-  chain = h.chain;
+pub maximal_later : (cells : List CellId) (free more : ℕ) → AreMaximalBelow cells free → free ≤ more → AreMaximalBelow cells more
+maximal_later cells free more h le = record {
+  follow = h.follow;
   below = λ c held. let b = h.below c held in omega arith;
   maximal = λ c held b cell nest all. h.maximal c held b cell nest (λ q f t low. all q f t (omega arith));
 }
 
 -- it is maximal
-step_maximal : (old cells : List CellId) (start limit at : ℕ) → IsGrowing old cells start limit at → start ≤ at → at < limit → (c : ℕ) → IsCellNumber c → IsGreatest c at limit → IsMaximal (λ q. Covers old q ⊎ InSpan start limit q) (limit + 1) c
+step_maximal : (old cells : List CellId) (start limit at : ℕ) → IsBeingAdded old cells start limit at → start ≤ at → at < limit → (c : ℕ) → IsCellNumber c → IsGreatest c at limit → IsMaximal (λ q. Covers old q ⊎ InSpan start limit q) (limit + 1) c
 step_maximal old cells start limit at h from to c cell_c g b cell_b nest all =
     let sc = span c cell_c in
     let sb = span b cell_b in
@@ -77,14 +77,14 @@ step_maximal old cells start limit at h from to c cell_c g b cell_b nest all =
           ]
     ]
 
-pub growing_step : (old cells : List CellId) (start limit at : ℕ) → IsGrowing old cells start limit at → start ≤ at → at < limit → (c : CellId) → IsGreatest (raw_of c) at limit → IsGrowing old (cells ++ c ∷ []) start limit (end_of c)
-growing_step old cells start limit at h from to c g =
+pub adding_step : (old cells : List CellId) (start limit at : ℕ) → IsBeingAdded old cells start limit at → start ≤ at → at < limit → (c : CellId) → IsGreatest (raw_of c) at limit → IsBeingAdded old (cells ++ c ∷ []) start limit (end_of c)
+adding_step old cells start limit at h from to c g =
     let s = span (raw_of c) c.valid in
     let s1 = s.from in
     let s2 = s.to in
     let g1 = g.begins in
     record {
-      chain = all_pairs_push (λ a b. end_of a ≤ first_of b) cells c h.chain (λ k d l. let e = h.below (get_or cells k d) (Contains-get_or cells k d l) in omega arith);
+      follow = all_pairs_push (λ a b. end_of a ≤ first_of b) cells c h.follow (λ k d l. let e = h.below (get_or cells k d) (Contains-get_or cells k d l) in omega arith);
       below = λ x held. elim (Contains-push_cases cells c x held) [
         | inl old_one ↦ let e = h.below x old_one in omega arith
         | inr e ↦ let f = ap (λ (y : CellId). end_of y) e in omega arith
@@ -115,16 +115,16 @@ growing_step old cells start limit at h from to c g =
     }
 
 -- what the loop does with one cell
-pub growing_next : (old cells next : List CellId) (start limit at behind : ℕ) → IsGrowing old cells start limit at → start ≤ at → at < limit → (c : CellId) → IsGreatest (raw_of c) at limit → next ≡ cells ++ c ∷ [] → behind ≡ end_of c → IsGrowing old next start limit behind × (start ≤ behind) × (behind ≤ limit) × (behind % 2 ≡ 1)
-growing_next old cells next start limit at behind h from to c g list place =
+pub adding_next : (old cells next : List CellId) (start limit at behind : ℕ) → IsBeingAdded old cells start limit at → start ≤ at → at < limit → (c : CellId) → IsGreatest (raw_of c) at limit → next ≡ cells ++ c ∷ [] → behind ≡ end_of c → IsBeingAdded old next start limit behind × (start ≤ behind) × (behind ≤ limit) × (behind % 2 ≡ 1)
+adding_next old cells next start limit at behind h from to c g list place =
     let s = span (raw_of c) c.valid in
     let s1 = s.from in
     let s2 = s.to in
     let odd = s.odd_end in
     let g1 = g.begins in
     let g2 = g.ends in
-    let step = growing_step old cells start limit at h from to c g in (
-      subst (λ x. IsGrowing old next start limit x) (sym place) (subst (λ xs. IsGrowing old xs start limit (end_of c)) (sym list) step),
+    let step = adding_step old cells start limit at h from to c g in (
+      subst (λ x. IsBeingAdded old next start limit x) (sym place) (subst (λ xs. IsBeingAdded old xs start limit (end_of c)) (sym list) step),
       omega arith,
       omega arith,
       omega arith,

@@ -1,0 +1,24 @@
+-- Private words: what the private functions promise that gather a border. No public contract cites them. They speak of a square that is
+-- cut into 2 ^ depth columns and rows.
+use Rattle.std.specs.Prelude.{◌≡◌, ℕ, ◌+◌, ◌-◌, ◌*◌, ◌^◌, ◌<◌}
+use Rattle.s2id_core.specs.Path.{Path}
+use Rattle.s2id_cube.specs.declared.face_ij.FaceIj.{FaceIj}
+use Rattle.s2id_cube.specs.Square.{square_of}
+use Rattle.s2id_cube.specs.Grid.{IsBeside, column_on, row_on}
+
+-- the cell lies over side `side` of the finer square that lies at place `along` of that side of the square
+pub record IsOverAt (s : FaceIj) (depth side along : ℕ) (q : Path) : Type 0 where
+  pub level_is : (square_of q).level ≡ s.level + depth
+  pub beside : let t = square_of q in IsBeside (2 ^ (s.level + depth)) side s.face (s.i * 2 ^ depth + column_on side along (2 ^ depth - 1)) (s.j * 2 ^ depth + row_on side along (2 ^ depth - 1)) t.face t.i t.j
+
+-- the cell lies over one of the finer squares of the first `count` places of a side
+pub record IsOverFirst (s : FaceIj) (depth side count : ℕ) (q : Path) : Type 0 where
+  pub along : ℕ
+  pub is_along : along < count
+  pub over : IsOverAt s depth side along q
+
+-- the cell lies over one of the finer squares of the first `count` sides
+pub record IsOverSides (s : FaceIj) (depth count : ℕ) (q : Path) : Type 0 where
+  pub side : ℕ
+  pub is_side : side < count
+  pub over : IsOverFirst s depth side (2 ^ depth) q
