@@ -1,3 +1,1 @@
 mod Reached
-mod Told
-mod WantedMemory

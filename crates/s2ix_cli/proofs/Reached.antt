@@ -7,15 +7,16 @@ use Rattle.s2ix_edit.specs.State.{State}
 use Rattle.s2ix_io.specs.Faults.{IsWantOnlyIf}
 use Rattle.s2ix_io.specs.Puts.{AppendsFront, IsFront}
 use Rattle.s2ix_io.proofs.Fronts.{IsFront-nil, IsFront-refl, IsFront-append, IsFront-after}
-use Rattle.s2ix_cli.specs.declared.outcome.LineOutcome.{LineOutcome}
-use Rattle.s2ix_cli.specs.declared.outcome.RunEnd.{RunEnd}
+use Rattle.s2ix_step.specs.declared.outcome.LineOutcome.{LineOutcome}
+use Rattle.s2ix_cli.specs.declared.run_end.RunEnd.{RunEnd}
 use Rattle.s2ix_io.specs.declared.run_fault.RunFault.{RunFault}
 use Rattle.s2ix_io.specs.declared.run_fault.RunFault.TheVariants.{Read, Write, OutOfMemory, ReaderTooLong}
-use Rattle.s2ix_cli.specs.Carry.{is_counted, is_refused, Takes, StopsAt}
+use Rattle.s2ix_step.specs.Carry.{is_counted, is_refused, Takes, StopsAt}
 use Rattle.s2ix_script.specs.Lines.{lines_of}
 use Rattle.s2ix_cli.specs.Script.{after, output_of, counted_in, refused_in, carried_lines, MOST, Finishes, StopsAmong, StopsAfter}
-use Rattle.s2ix_cli.specs.Step.{Step, step_of}
-use Rattle.s2ix_cli.specs.Wants.{LineWants, WantsAmong}
+use Rattle.s2ix_step.specs.Step.{Step, step_of}
+use Rattle.s2ix_cli.specs.Wants.{WantsAmong}
+use Rattle.s2ix_step.specs.Wants.{LineWants}
 
 -- ---- lines and then one more
 

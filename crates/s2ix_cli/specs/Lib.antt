@@ -1,4 +1,2 @@
-pub mod Carry
 pub mod Script
-pub mod Step
 pub mod Wants

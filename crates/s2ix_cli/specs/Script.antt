@@ -3,11 +3,11 @@ use Rattle.std.specs.Prelude.{◌≡◌, ◌≢◌, ℕ, ◌+◌, ◌-◌, ◌^�
 use Rattle.std.specs.Io.KnownBytes.{Keeps, Appends, IsAtEnd}
 use Rattle.s2ix_edit.specs.State.{State}
 use Rattle.s2ix_io.specs.Puts.{AppendsBetween}
-use Rattle.s2ix_cli.specs.declared.outcome.RunEnd.{RunEnd}
+use Rattle.s2ix_cli.specs.declared.run_end.RunEnd.{RunEnd}
 use Rattle.s2ix_io.specs.declared.run_fault.RunFault.{RunFault}
 use Rattle.s2ix_io.specs.declared.run_fault.RunFault.TheVariants.{Write}
 use Rattle.s2ix_script.specs.Lines.{lines_of}
-use Rattle.s2ix_cli.specs.Step.{step_of}
+use Rattle.s2ix_step.specs.Step.{step_of}
 
 -- the store after lines
 abbrev pub after : State → List (List ℕ) → State

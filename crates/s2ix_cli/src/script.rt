@@ -6,11 +6,12 @@ ghost use Rattle.s2ix_script.specs.Lines.{lines_of};
 ghost use Rattle.s2ix_io.specs.Pieces.{ReadsToEnd, ReadsWithin};
 ghost use Rattle.s2ix_cli.specs.Script.{Finishes, FinishesFlushed, StopsAfter, StopsAmong};
 ghost use Rattle.s2ix_cli.specs.Wants.{WantsAmong};
+ghost use Rattle.s2ix_step.specs.Carry.{is_refused as is_refused_line};
 
-use crate::carry::carry_out;
-use crate::outcome::{RunEnd, RunOptions};
+use crate::run_end::{RunEnd, RunOptions};
 use s2ix_io::{RunFault, Sink, Source, read_whole};
 use s2ix_script::Lines;
+use s2ix_step::{LineOutcome, carry_out};
 use s2ix_store::Store;
 use std::alloc::Global;
 
@@ -72,9 +73,16 @@ fn carry_lines<K: Sink>(
     'lines: for line in Lines::new(text) {
         let outcome = carry_out(alloc, store, sink, line)?;
         told = told.with(outcome);
-        if stop && outcome.is_refused() {
+        if stop && is_refused(outcome) {
             return Ok(told);
         }
     }
     Ok(told)
+}
+
+// Whether a line that came out so was refused.
+fn is_refused(outcome: LineOutcome) -> bool
+    ensures { result ≡ is_refused_line outcome }
+{
+    matches!(outcome, LineOutcome::Refused)
 }

@@ -1,7 +1,7 @@
 -- The loop goes on behind a line, ends at one that is refused, or is stopped at one by a fault.
 use Rattle.std.proofs.Common.{◌≡◌, ◌&&◌, false, true, refl, sym, ap, ◌∙◌, arith}
 use Rattle.std.proofs.lemmas.Result.{err_from_is_err_and}
-use Rattle.s2ix_cli.specs.Carry.{is_refused}
+use Rattle.s2ix_step.specs.Carry.{is_refused}
 use Rattle.s2ix_cli.proofs.Reached.{Reached-on, Reached-last, Finishes-reached, StopsAmong-reached, WantsAmong-reached}
 use Rattle.s2ix_cli.proofs.script.carry_lines.Goals as goal
 use Rattle.s2ix_cli.proofs.script.carry_lines.Goals.{else-stop-via-then-stop+else-is_refused, else-stop-via-else-stop}

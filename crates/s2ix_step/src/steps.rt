@@ -6,8 +6,8 @@ ghost use Rattle.s2ix_edit.specs.declared.errors.RedoError.{RedoError};
 ghost use Rattle.s2ix_edit.specs.declared.errors.UndoError.{UndoError};
 ghost use Rattle.s2ix_io.specs.Faults.{CanCount, sink_faults, IsWantOnlyIf};
 ghost use Rattle.s2ix_script.specs.Names.{edit_error_name as name_of_edit_error, redo_error_name as name_of_redo_error, undo_error_name as name_of_undo_error};
-ghost use Rattle.s2ix_cli.specs.Carry.{Carries, IsTold};
-ghost use Rattle.s2ix_cli.specs.Step.{Step};
+ghost use Rattle.s2ix_step.specs.Carry.{Carries, IsTold};
+ghost use Rattle.s2ix_step.specs.Step.{Step};
 
 use crate::outcome::LineOutcome;
 use s2ix_edit::{EditError, RedoError, UndoError};

@@ -5,8 +5,8 @@ ghost use Rattle.s2ix_edit.specs.Region.{common_of, only_of};
 ghost use Rattle.s2ix_edit.specs.State.{State};
 ghost use Rattle.s2ix_io.specs.Faults.{CanCount, sink_faults, IsWantOnlyIf};
 ghost use Rattle.s2ix_text.specs.Queries.{list_text, token_line};
-ghost use Rattle.s2ix_cli.specs.Carry.{Carries};
-ghost use Rattle.s2ix_cli.specs.Step.{text_step};
+ghost use Rattle.s2ix_step.specs.Carry.{Carries};
+ghost use Rattle.s2ix_step.specs.Step.{text_step};
 
 use crate::outcome::LineOutcome;
 use s2id_core::OutOfMemory;

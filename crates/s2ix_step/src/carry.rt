@@ -1,9 +1,9 @@
 //! Carrying one line out: from its bytes to what it asks for, to the store's step and the answer.
 ghost use Rattle.std.specs.Prelude.{◌≡◌, ◌≢◌, ◌+◌, Err, IfErr};
 ghost use Rattle.s2ix_io.specs.Faults.{CanCount, sink_faults, IsWantOnlyIf};
-ghost use Rattle.s2ix_cli.specs.Carry.{Carries};
-ghost use Rattle.s2ix_cli.specs.Step.{at_step, instruction_step, step_of};
-ghost use Rattle.s2ix_cli.specs.Wants.{InstructionWants, LineWants};
+ghost use Rattle.s2ix_step.specs.Carry.{Carries};
+ghost use Rattle.s2ix_step.specs.Step.{at_step, instruction_step, step_of};
+ghost use Rattle.s2ix_step.specs.Wants.{InstructionWants, LineWants};
 
 use crate::outcome::LineOutcome;
 use crate::regions::{common, only, print_region};
@@ -20,9 +20,13 @@ use s2ix_text::{
 };
 use std::alloc::Global;
 
-// Carries a line out, and prints its answer.
+/// Carries a line out over a store, and prints its answer. The line comes without its line feed. A line that is refused prints `no`
+/// with the refusal's name, and changes nothing. It takes what the line's instruction takes, and O(n) for a line of n bytes.
+///
+/// `OutOfMemory` where a growth was refused: nothing has changed then, and nothing was printed. `Write` where the sink failed: what
+/// the line does is done, and a front of its answer went out. This project's own.
 #[tactic(auto, using(crate::proofs::WantedMemory::line_wants), unfolding(crate::specs::Step::step_of))]
-pub(crate) fn carry_out<K: Sink>(
+pub fn carry_out<K: Sink>(
     alloc: Global,
     store: &mut Store,
     sink: &mut K,

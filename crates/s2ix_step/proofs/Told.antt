@@ -13,8 +13,8 @@ use Rattle.s2ix_edit.specs.Refusals.{edit_refusal, IsEditRefusal}
 use Rattle.s2ix_edit.specs.State.{State, change_of}
 use Rattle.s2ix_store.specs.Steps.{after_edit, after_undo, after_redo, undo_size, redo_size}
 use Rattle.s2ix_script.specs.Names.{edit_error_name, redo_error_name, undo_error_name}
-use Rattle.s2ix_cli.specs.Carry.{IsTold}
-use Rattle.s2ix_cli.specs.Step.{edit_step, edit_step_at, no_step, ok_step, redo_step, redo_step_at, undo_step, undo_step_at}
+use Rattle.s2ix_step.specs.Carry.{IsTold}
+use Rattle.s2ix_step.specs.Step.{edit_step, edit_step_at, no_step, ok_step, redo_step, redo_step_at, undo_step, undo_step_at}
 
 -- ---- an edit
 

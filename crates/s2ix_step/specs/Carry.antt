@@ -3,11 +3,11 @@ use Rattle.std.specs.Prelude.{◌≡◌, ◌≢◌, ℕ, Bool, true, false, Opti
 use Rattle.std.specs.Io.KnownBytes.{Appends, Keeps}
 use Rattle.s2ix_edit.specs.State.{State}
 use Rattle.s2ix_io.specs.Puts.{AppendsFront}
-use Rattle.s2ix_cli.specs.declared.outcome.LineOutcome.{LineOutcome}
-use Rattle.s2ix_cli.specs.declared.outcome.LineOutcome.TheVariants.{PassedOver, Accepted, Refused}
+use Rattle.s2ix_step.specs.declared.outcome.LineOutcome.{LineOutcome}
+use Rattle.s2ix_step.specs.declared.outcome.LineOutcome.TheVariants.{PassedOver, Accepted, Refused}
 use Rattle.s2ix_io.specs.declared.run_fault.RunFault.{RunFault}
 use Rattle.s2ix_io.specs.declared.run_fault.RunFault.TheVariants.{Read, Write, OutOfMemory, ReaderTooLong}
-use Rattle.s2ix_cli.specs.Step.{Step, no_step, ok_step}
+use Rattle.s2ix_step.specs.Step.{Step, no_step, ok_step}
 
 -- whether a line counts
 abbrev pub is_counted : LineOutcome → Bool

@@ -1,6 +1,8 @@
 ghost use Rattle.std.specs.Prelude.{◌≡◌, ◌+◌, min, if◌then◌else◌};
-ghost use Rattle.s2ix_cli.specs.Carry.{is_counted, is_refused};
+ghost use Rattle.s2ix_step.specs.Carry.{is_counted, is_refused};
 ghost use Rattle.s2ix_cli.specs.Script.{MOST};
+
+use s2ix_step::LineOutcome;
 
 /// How a run goes on.
 #[derive(Clone, Copy, Debug, PartialEq, Eq)]
@@ -43,23 +45,5 @@ impl RunEnd {
                 refused: self.refused.saturating_add(1),
             },
         }
-    }
-}
-
-// How a line came out, as a run counts it.
-#[derive(Clone, Copy)]
-pub(crate) enum LineOutcome {
-    // A blank line or a comment.
-    PassedOver,
-    Accepted,
-    Refused,
-}
-
-impl LineOutcome {
-    // Whether the line was refused.
-    pub(crate) fn is_refused(self) -> bool
-        ensures { result ≡ is_refused self }
-    {
-        matches!(self, LineOutcome::Refused)
     }
 }

@@ -6,8 +6,8 @@ use Rattle.s2ix_table.proofs.RangeList.{is_range_table}
 use Rattle.s2ix_table.specs.Table.{Range}
 use Rattle.s2ix_io.specs.Puts.{AppendsFront}
 use Rattle.s2ix_text.specs.Queries.{list_text, range_line}
-use Rattle.s2ix_cli.proofs.Told.{edit_is_told, redo_is_told, undo_is_told}
-use Rattle.s2ix_cli.proofs.carry.carry_instruction.Goals as goal
+use Rattle.s2ix_step.proofs.Told.{edit_is_told, redo_is_told, undo_is_told}
+use Rattle.s2ix_step.proofs.carry.carry_instruction.Goals as goal
 
 pub returns-in-Edit-clause-carries : goal.returns-in-Edit-clause-carries
 returns-in-Edit-clause-carries g c =

@@ -1,0 +1,38 @@
+-- Where a line may want memory.
+use Rattle.std.specs.Prelude.{◌≡◌, ◌≢◌, ◌⊎◌, ℕ, true, Option, Some, None, Result, Ok, Err, List, []}
+use Rattle.s2ix_edit.specs.State.{State}
+use Rattle.s2ix_edit.specs.Refusals.{MayWantMemory, edit_refusal}
+use Rattle.s2ix_script.specs.declared.instruction.Instruction.{Instruction}
+use Rattle.s2ix_script.specs.declared.instruction.Instruction.TheVariants as asks
+use Rattle.s2ix_script.specs.declared.line_fault.LineFault.{LineFault}
+use Rattle.s2ix_script.specs.Meaning.{is_on_union, meaning_of}
+
+-- an instruction: an edit unless it is refused before its change is made, an undo or a redo of a change that there is, and what gathers
+-- the pairs, labels or cells that it prints
+abbrev pub InstructionWants : State → Instruction → Type 0
+InstructionWants s (asks.Edit edit) = MayWantMemory (edit_refusal s edit)
+InstructionWants s asks.Undo = s.done ≢ []
+InstructionWants s asks.Redo = s.undone ≢ []
+InstructionWants s asks.Forget = ⊥
+InstructionWants s (asks.At cell) = ⊥
+InstructionWants s (asks.Meet target) = Unit {0}
+InstructionWants s (asks.Labels target) = Unit {0}
+InstructionWants s (asks.Region label) = Unit {0}
+InstructionWants s (asks.Common first second) = Unit {0}
+InstructionWants s (asks.Only first second) = Unit {0}
+InstructionWants s asks.Ranges = ⊥
+InstructionWants s (asks.Path cell) = ⊥
+InstructionWants s (asks.Neighbors cell) = ⊥
+InstructionWants s (asks.Face cell) = ⊥
+InstructionWants s asks.Dump = ⊥
+InstructionWants s asks.Journal = ⊥
+
+-- a line of this meaning: while the union of its instruction is made, or when the instruction is carried out
+abbrev pub MeaningWants : State → Result (Option Instruction) LineFault → Type 0
+MeaningWants s (Ok None) = ⊥
+MeaningWants s (Ok (Some instruction)) = (is_on_union instruction ≡ true) ⊎ InstructionWants s instruction
+MeaningWants s (Err fault) = ⊥
+
+-- a line
+abbrev pub LineWants : State → List ℕ → Type 0
+LineWants s line = MeaningWants s (meaning_of line)

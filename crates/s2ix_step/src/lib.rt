@@ -1,0 +1,14 @@
+//! One line of a script, carried out over a store: what it asks for is done, and its answer printed.
+//!
+//! [`carry_out`] goes from the line's bytes to what it asks for, to the store's step or a query, and to the bytes of the answer. What
+//! a line comes to is said once, as a step: the store behind it, its answer, and whether it counts and is refused. A run is such
+//! steps, one after the other.
+#![tactic(auto)]
+
+mod carry;
+mod outcome;
+mod regions;
+mod steps;
+
+pub use carry::carry_out;
+pub use outcome::LineOutcome;
