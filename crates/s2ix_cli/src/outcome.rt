@@ -2,7 +2,7 @@ ghost use Rattle.std.specs.Prelude.{◌≡◌, ◌+◌, min, if◌then◌else◌
 ghost use Rattle.s2ix_cli.specs.Carry.{is_counted, is_refused};
 ghost use Rattle.s2ix_cli.specs.Script.{MOST};
 
-/// How a run goes on.
+/// How a run goes on. This project's own.
 #[derive(Clone, Copy, Debug, PartialEq, Eq)]
 pub struct RunOptions {
     /// Whether the first refused line ends the run.
@@ -11,7 +11,7 @@ pub struct RunOptions {
     pub turns: u64,
 }
 
-/// What a run that came to its end tells. Both numbers stay at 2^64 - 1 once there.
+/// What a run that came to its end tells. Both numbers stay at 2^64 - 1 once there. This project's own.
 #[derive(Clone, Copy, Debug, PartialEq, Eq)]
 pub struct RunEnd {
     /// How many lines were carried out or refused; blank lines and comments do not count.
