@@ -40,13 +40,13 @@ impl Record {
         })
     }
 
-    // Writes a cell: as a dump does, or with all its digits in either case.
+    // Writes a cell: as a dump does, or with all its digits in capitals.
     fn spell(&mut self, cell: u8) -> Result<(), AllocError> {
         self.script.push_str(" ")?;
-        match self.chance.below(3) {
-            0 => put_token(&mut self.script, cell),
-            1 => write!(self.script, "{cell:02x}00000000000000"),
-            _ => write!(self.script, "{cell:02X}00000000000000"),
+        if self.chance.below(2) == 0 {
+            put_token(&mut self.script, cell)
+        } else {
+            write!(self.script, "{cell:02X}00000000000000")
         }
     }
 
