@@ -4,7 +4,7 @@ ghost use Rattle.s2ix_cli.specs.Script.{MOST};
 
 use s2ix_step::LineOutcome;
 
-/// How a run goes on.
+/// How a run goes on. This project's own.
 #[derive(Clone, Copy, Debug, PartialEq, Eq)]
 pub struct RunOptions {
     /// Whether the first refused line ends the run.
@@ -13,7 +13,7 @@ pub struct RunOptions {
     pub turns: u64,
 }
 
-/// What a run that came to its end tells. Both numbers stay at 2^64 - 1 once there.
+/// What a run that came to its end tells. Both numbers stay at 2^64 - 1 once there. This project's own.
 #[derive(Clone, Copy, Debug, PartialEq, Eq)]
 pub struct RunEnd {
     /// How many lines were carried out or refused; blank lines and comments do not count.

@@ -6,7 +6,7 @@ use s2id_cube::edge_neighbors;
 pub(crate) const CELLS: u8 = 192;
 
 /// The copies of each cell under one label, by the cell's byte.
-pub type Copies = [u32; 256];
+pub(crate) type Copies = [u32; 256];
 
 // The cells of level 2 that some cells cover, by their bytes.
 type Region = [bool; 256];
@@ -91,7 +91,8 @@ pub(crate) fn normal_of(copies: &Copies) -> Copies {
     normal
 }
 
-// Whether a cell shares an edge with one of its level that has a leaf in common with a region.
+// Whether a cell shares an edge with one of its level that has a leaf in common with a region. What lies over the edges is the library's
+// to say: `s2ix_grow_tests` compares that with corners on the cube.
 fn touches(region: &Region, cell: u8) -> bool {
     let Some(id) = CellId::from_raw(u64::from(cell) << 56) else {
         return false;

@@ -4,7 +4,7 @@ use crate::model::{Counts, Edit, under};
 
 /// A line of a script.
 #[derive(Clone, Copy)]
-pub enum Line {
+pub(crate) enum Line {
     /// A step to a next collection.
     Edit(Edit),
     /// A step back.
@@ -21,18 +21,18 @@ pub enum Line {
 
 /// A generator of numbers that look like chance.
 #[derive(Drop)]
-pub struct Chance {
+pub(crate) struct Chance {
     state: u64,
 }
 
 impl Chance {
     /// The generator of a seed.
-    pub fn new(seed: u64) -> Chance {
+    pub(crate) fn new(seed: u64) -> Chance {
         Chance { state: seed }
     }
 
     /// A number below a bound.
-    pub fn below(&mut self, bound: u8) -> u8 {
+    pub(crate) fn below(&mut self, bound: u8) -> u8 {
         self.state = self
             .state
             .wrapping_mul(6364136223846793005)
@@ -108,7 +108,7 @@ impl Chance {
     }
 
     /// Any line, where this is held.
-    pub fn line(&mut self, held: &Counts) -> Line {
+    pub(crate) fn line(&mut self, held: &Counts) -> Line {
         match self.below(32) {
             0..=23 => Line::Edit(self.edit(held)),
             24..=26 => Line::Undo,

@@ -12,14 +12,14 @@ pub const COPIES: u32 = 5;
 pub const CHANGES: u32 = 40;
 
 /// A collection: the copies under each label, by the label's place from 0 to 3.
-pub type Counts = [Copies; 4];
+pub(crate) type Counts = [Copies; 4];
 
 /// How many pairs changed, or the name of the refusal.
-pub type Answer = Result<u32, &'static str>;
+pub(crate) type Answer = Result<u32, &'static str>;
 
 /// An edit of cells, by their bytes, and labels, by their places.
 #[derive(Clone, Copy)]
-pub enum Edit {
+pub(crate) enum Edit {
     /// So many copies of a cell under a label.
     Add(u8, u8, u32),
     /// The same to be taken away.
@@ -200,7 +200,7 @@ fn answer_to(held: &Counts, next: &Counts) -> Answer {
 
 /// A history of whole collections.
 #[derive(Drop)]
-pub struct Model {
+pub(crate) struct Model {
     collections: Vec<Counts>,
     // The places of the collection that is held, and of the last one.
     cursor: usize,
@@ -209,7 +209,7 @@ pub struct Model {
 
 impl Model {
     /// The history of the empty collection.
-    pub fn new(alloc: Global) -> Result<Model, AllocError> {
+    pub(crate) fn new(alloc: Global) -> Result<Model, AllocError> {
         Ok(Model {
             collections: vec![in alloc; [NONE; 4]; PLACES]?,
             cursor: 0,
@@ -231,7 +231,7 @@ impl Model {
     }
 
     /// The collection that is held.
-    pub fn held(&self) -> Counts {
+    pub(crate) fn held(&self) -> Counts {
         self.at(self.cursor)
     }
 
@@ -245,7 +245,7 @@ impl Model {
     }
 
     /// Makes what the edit makes the next collection, unless it is refused: an unfit field first, then a full history.
-    pub fn edit(&mut self, edit: Edit) -> Answer {
+    pub(crate) fn edit(&mut self, edit: Edit) -> Answer {
         if let Edit::Grow(_, 31..) = edit {
             return Err("BadLevel");
         }
@@ -270,17 +270,17 @@ impl Model {
     }
 
     /// Goes back by one change.
-    pub fn undo(&mut self) -> Answer {
+    pub(crate) fn undo(&mut self) -> Answer {
         self.move_to(self.cursor.wrapping_sub(1), "NothingToUndo")
     }
 
     /// Goes forward by one change.
-    pub fn redo(&mut self) -> Answer {
+    pub(crate) fn redo(&mut self) -> Answer {
         self.move_to(self.cursor.wrapping_add(1), "NothingToRedo")
     }
 
     /// Keeps the collection that is held, and no other.
-    pub fn forget(&mut self) -> Answer {
+    pub(crate) fn forget(&mut self) -> Answer {
         let held = self.held();
         self.keep(0, &held);
         Ok(0)

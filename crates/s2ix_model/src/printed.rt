@@ -4,7 +4,7 @@ use crate::model::{Counts, Model, differences, under};
 use std::alloc::AllocError;
 
 /// The label of a place from 0 to 3.
-pub fn label_at(place: u8) -> u32 {
+pub(crate) fn label_at(place: u8) -> u32 {
     match place {
         0 => 1,
         1 => 2,
@@ -14,7 +14,7 @@ pub fn label_at(place: u8) -> u32 {
 }
 
 /// Writes a cell's byte without the zeros at its end.
-pub fn put_token(out: &mut String, cell: u8) -> Result<(), AllocError> {
+pub(crate) fn put_token(out: &mut String, cell: u8) -> Result<(), AllocError> {
     if cell % 16 == 0 {
         write!(out, "{:x}", cell / 16)
     } else {
@@ -46,7 +46,7 @@ fn total(held: &Counts) -> u32 {
 }
 
 /// Writes the dump of what a model holds.
-pub fn put_dump(out: &mut String, model: &Model) -> Result<(), AllocError> {
+pub(crate) fn put_dump(out: &mut String, model: &Model) -> Result<(), AllocError> {
     let held = model.held();
     out.push_str("s2ix 1\n")?;
     for cell in 0..CELLS {
@@ -84,7 +84,7 @@ fn put_change(out: &mut String, before: &Counts, after: &Counts) -> Result<(), A
 }
 
 /// Writes the journal of a model.
-pub fn put_journal(out: &mut String, model: &Model) -> Result<(), AllocError> {
+pub(crate) fn put_journal(out: &mut String, model: &Model) -> Result<(), AllocError> {
     out.push_str("s2ix-journal 1\n")?;
     for place in 0..model.done() {
         put_change(out, &model.at(place), &model.at(place.wrapping_add(1)))?;
