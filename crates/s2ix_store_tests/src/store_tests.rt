@@ -1,7 +1,8 @@
 // Stores step by step: what they refuse, and what a refusal leaves.
 use crate::checks::{Refusal, Row, Step, check, check_bag, check_history, check_steps};
 use crate::samples::{EditRow, WIDEST, bag_of, cells_of, label_of, store_of};
-use s2ix_edit::{EditError, Store};
+use s2ix_edit::EditError;
+use s2ix_store::Store;
 use std::alloc::Global;
 use std::process::Abort;
 
