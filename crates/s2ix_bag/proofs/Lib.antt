@@ -13,3 +13,4 @@ pub mod Walks
 pub mod Comparing
 mod Labels
 pub mod OfLabel
+pub mod Unsorted
