@@ -1,0 +1,5 @@
+//! Tests of the readers of texts.
+#![tactic(auto)]
+
+#[cfg(test)]
+mod dump_tests;
