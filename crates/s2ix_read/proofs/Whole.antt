@@ -7,7 +7,7 @@ use Rattle.std.proofs.lemmas.Bool.{both_ways, cases_Bool, cases_lt, cond-false, 
 use Rattle.std.proofs.lemmas.List.{append-nil, length-append}
 use Rattle.std.proofs.lemmas.List.Elements.{All-cons, All-head, All-nil, All-tail}
 use Rattle.std.proofs.lemmas.Slice.Eq.{bytes_eq-Decides}
-use Rattle.s2ix_bag.specs.Collection.{Collection, IsBag, copies_in}
+use Rattle.s2ix_bag.specs.Collection.{Collection, IsBag, LimitedCollection, copies_in}
 use Rattle.s2ix_bag.specs.Limits.{count_limit, pairs_limit}
 use Rattle.s2ix_bag.specs.declared.limits.Limits.{Limits}
 use Rattle.s2ix_bag.specs.declared.pair.Held.{Held}
@@ -257,3 +257,22 @@ differs xs ys r is holds same = both_ways (bytes_eq xs ys) (not-true (bytes_eq x
 
 pub agrees : (xs ys : List ℕ) (r : Bool) → r ≡ not (bytes_eq xs ys) → r ≡ false → xs ≡ ys
 agrees xs ys r is fails = (bytes_eq-Decides xs ys).0 (not-false (bytes_eq xs ys) (sym is ∙ fails))
+
+-- ---- laws
+
+pub written_dumps_are_read_back : (bag : LimitedCollection) → IsBag bag
+    → (dump_fault bag.limits (dump_text bag.held) ≡ None) × ((other : LimitedCollection) → IsBag other → dump_text bag.held ≡ dump_text other.held → bag.held ≡ other.held)
+written_dumps_are_read_back bag is = (dump_is_sound bag.limits bag.held is, λ other other_is same. one_dump_of_bags bag other is other_is same)
+
+sound_lines : (limits : Limits) (front above : List (List ℕ)) (line : List ℕ) (below : List (List ℕ)) → fault_below line_fault limits front (above ++ line ∷ below) ≡ None → line_fault (place limits (front ++ above) line below) ≡ None
+sound_lines limits front [] line below none =
+    subst (λ (ls : List (List ℕ)). line_fault (place limits ls line below) ≡ None) (sym (append-nil front)) (none_here limits front line below none)
+sound_lines limits front (first ∷ above) line below none =
+    let sound = none_here limits front first (above ++ line ∷ below) none in
+    let rest = sym (found_later line_fault limits front first (above ++ line ∷ below) sound) ∙ none in
+    subst (λ (ls : List (List ℕ)). line_fault (place limits ls line below) ≡ None) (append_assoc front (first ∷ []) above) (sound_lines limits (front ++ first ∷ []) above line below rest)
+
+pub no_faulty_line_is_accepted : (limits : Limits) (text : List ℕ) → dump_fault limits text ≡ None → (above : List (List ℕ)) (line : List ℕ) (below : List (List ℕ)) → lines_of text ≡ above ++ line ∷ below
+    → line_fault (place limits above line below) ≡ None
+unfolding dump_fault
+no_faulty_line_is_accepted limits text none above line below are = sound_lines limits [] above line below (ap (fault_below line_fault limits []) (sym are) ∙ none)

@@ -30,6 +30,14 @@ fn is_end_of(pairs: usize, copies: u64, line: &[u8]) -> bool
     same_pairs && same_copies
 }
 
+// Room for as many pairs as a text has line feeds, within the limit.
+fn room_for(alloc: Global, limits: Limits, text: &[u8]) -> Result<Vec<Held>, AllocError>
+    ensures { IfOk result (λ room. room.items ≡ []) }
+{
+    let feeds = text.iter().filter(|byte| **byte == b'\n').count();
+    Vec::with_capacity(alloc, feeds.min(limits.pairs() as usize))
+}
+
 // Appends a held pair.
 fn push(held: &mut Vec<Held>, next: Held) -> Result<(), AllocError>
     ensures { OnOk result (held.new.items ≡ held.old.items ++ next ∷ []) }
@@ -109,7 +117,7 @@ pub fn read_dump(alloc: Global, limits: Limits, text: &[u8]) -> Result<Bag, Dump
             fault: DumpFault::BadHeader,
         });
     }
-    let room = Vec::new(alloc);
+    let room = room_for(alloc, limits, below)?;
     let held = read_below(limits, room, below)?;
     Ok(Bag::from_vec(limits, held))
 }

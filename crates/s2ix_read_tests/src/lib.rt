@@ -3,3 +3,5 @@
 
 #[cfg(test)]
 mod dump_tests;
+#[cfg(test)]
+mod round_trip_tests;

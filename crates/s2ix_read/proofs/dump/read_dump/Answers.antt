@@ -5,7 +5,8 @@ use Rattle.s2ix_bag.specs.Collection.{LimitedCollection}
 use Rattle.s2ix_text.specs.Dump.{dump_text}
 use Rattle.s2ix_read.specs.declared.errors.DumpFault.{DumpFault}
 use Rattle.s2ix_read.specs.DumpFaults.{IsDumpError}
-use Rattle.s2ix_read.proofs.Steps.{bad_header, below_header, no_header}
+use Rattle.s2ix_read.specs.Faults.{IsFromLine}
+use Rattle.s2ix_read.proofs.Steps.{bad_header, below_header, no_header, wants_below}
 use Rattle.s2ix_read.proofs.Whole.{agrees, differs, dump_put_together, never_refused, one_held, only_memory}
 use Rattle.s2ix_read.proofs.dump.read_dump.Goals as goal
 
@@ -24,15 +25,22 @@ returns-then-ne-clause-every c =
     λ hs is same. absurd (never_refused c.args.limits c.args.text.now hs _ is same
     (bad_header c.args.limits c.args.text.now c.in-Some.header.now c.in-Some.below.now c.in-Some.ensures.line (λ e. differs c.in-Some.header.now c.as_slice.result.now c.ne.result c.ne.ensures c.if-ne.true (e ∙ sym c.as_slice.ensures))))
 
+pub returns-in_err-room-clause-refused : goal.returns-in_err-room-clause-refused
+returns-in_err-room-clause-refused c =
+    let p = err_from_is_err_and c.from_residual.result c.from_residual.ensures.1 in
+    let header = agrees c.in-Some.header.now c.as_slice.result.now c.ne.result c.ne.ensures c.if-ne.false ∙ c.as_slice.ensures in
+    let below = sym (below_header c.args.limits c.args.text.now c.in-Some.header.now c.in-Some.below.now c.in-Some.ensures.line header) in
+    rw (p.1, p.2) (subst (λ (d : Option (ℕ × DumpFault)). IsFromLine 2 d) below (wants_below c.args.limits c.in-Some.below.now))
+
 pub returns-in_err-held-clause-refused : goal.returns-in_err-held-clause-refused
 returns-in_err-held-clause-refused c =
-    let p = err_from_is_err_and c.from_residual.result c.from_residual.ensures.1 in
+    let p = err_from_is_err_and c.from_residual-in_err-held.result c.from_residual-in_err-held.ensures.1 in
     let header = agrees c.in-Some.header.now c.as_slice.result.now c.ne.result c.ne.ensures c.if-ne.false ∙ c.as_slice.ensures in
     rw (p.1, p.2) (subst (λ (d : Option (ℕ × DumpFault)). IsDumpError c.in_err-held.field-0.0 d) (sym (below_header c.args.limits c.args.text.now c.in-Some.header.now c.in-Some.below.now c.in-Some.ensures.line header)) c.in_err-held.ensures.refused)
 
 pub returns-in_err-held-clause-every : goal.returns-in_err-held-clause-every
 returns-in_err-held-clause-every c =
-    let p = err_from_is_err_and c.from_residual.result c.from_residual.ensures.1 in
+    let p = err_from_is_err_and c.from_residual-in_err-held.result c.from_residual-in_err-held.ensures.1 in
     let header = agrees c.in-Some.header.now c.as_slice.result.now c.ne.result c.ne.ensures c.if-ne.false ∙ c.as_slice.ensures in
     let refused = subst (λ (d : Option (ℕ × DumpFault)). IsDumpError c.in_err-held.field-0.0 d) (sym (below_header c.args.limits c.args.text.now c.in-Some.header.now c.in-Some.below.now c.in-Some.ensures.line header)) c.in_err-held.ensures.refused in
     λ hs is same. rw (p.1, p.2) (only_memory c.args.limits c.args.text.now hs c.in_err-held.field-0.0 is same refused)
