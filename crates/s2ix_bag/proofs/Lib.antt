@@ -11,5 +11,6 @@ pub mod Refusals
 pub mod Parts
 pub mod Walks
 pub mod Comparing
-mod Labels
+pub mod Labels
 pub mod OfLabel
+pub mod Unsorted

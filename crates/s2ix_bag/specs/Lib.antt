@@ -1,6 +1,7 @@
 pub mod Apply
 pub mod Change
 pub mod Collection
+pub mod Entries
 pub mod Label
 pub mod Laws
 pub mod Limits

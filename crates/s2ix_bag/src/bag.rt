@@ -45,6 +45,14 @@ impl Bag {
         }
     }
 
+    /// The bag with these limits that holds these pairs with these counts. It takes no memory.
+    pub fn from_vec(limits: Limits, held: Vec<Held>) -> Bag
+        requires { IsBag (record { limits = limits; held = held.items }) }
+        ensures { result ≡ record { limits = limits; held = held.items } }
+    {
+        Bag { limits, held }
+    }
+
     /// The limits that the bag stays within.
     pub fn limits(&self) -> Limits
         ensures { result ≡ self.now.limits }

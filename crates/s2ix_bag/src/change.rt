@@ -1,9 +1,12 @@
-ghost use Rattle.std.specs.Prelude.{◌≡◌, IfOk, length, ◌≤◌};
+ghost use Rattle.std.specs.Prelude.{◌≡◌, IfErr, IfOk, None, OnOk, length, ◌≤◌};
 ghost use Rattle.s2ix_bag.specs.Change.{IsChangeList, change_between, inverse_of};
 ghost use Rattle.s2ix_bag.specs.Collection.{IsCollection};
+ghost use Rattle.s2ix_bag.specs.Entries.{IsChangeError, change_fault};
 
 use crate::bag::Bag;
 use crate::compare::{differences, exchanged_entries};
+use crate::entries::fault;
+use crate::errors::ChangeError;
 use crate::pair::{Entry, Held};
 use s2id_core::OutOfMemory;
 use std::alloc::{AllocError, Global};
@@ -35,6 +38,20 @@ impl Change {
         ensures { result ≡ entries.items }
     {
         Change { entries }
+    }
+
+    /// The change with a copy of these entries, the empty list among them. The two faults are each tested over all entries, in their
+    /// order, before any growth. `OutOfMemory` where one is refused. O(n).
+    pub fn from_entries(alloc: Global, entries: &[Entry]) -> Result<Change, ChangeError>
+        ensures list { IfOk result (λ change. change ≡ entries.now) }
+        ensures accepted { OnOk result (change_fault entries.now ≡ None) }
+        ensures refused { IfErr result (λ error. IsChangeError error (change_fault entries.now)) }
+    {
+        if let Some(error) = fault(entries) {
+            return Err(error);
+        }
+        let entries = Vec::from_slice(alloc, entries)?;
+        Ok(Change { entries })
     }
 
     /// The change that leads from `old` to `new`: exactly the pairs whose counts differ. O(n + m) for their n and m pairs.

@@ -1,5 +1,6 @@
 ghost use Rattle.std.specs.Prelude.{◌≡◌};
-ghost use Rattle.s2ix_bag.specs.declared.errors.ApplyError.TheVariants.{OutOfMemory};
+ghost use Rattle.s2ix_bag.specs.declared.errors.ApplyError.TheVariants as apply;
+ghost use Rattle.s2ix_bag.specs.declared.errors.ChangeError.TheVariants as change;
 
 use std::alloc::AllocError;
 use thiserror::Error;
@@ -22,9 +23,31 @@ pub enum ApplyError {
 }
 
 impl From<AllocError> for ApplyError {
-    ghost from_gives = { λ _ error. error ≡ OutOfMemory };
+    ghost from_gives = { λ _ error. error ≡ apply.OutOfMemory };
 
     fn from(_: AllocError) -> Self {
         ApplyError::OutOfMemory
+    }
+}
+
+/// Why [`Change::from_entries`](crate::Change::from_entries) refused a list of entries, in the order of the tests.
+#[derive(Clone, Copy, Debug, PartialEq, Eq, Error)]
+pub enum ChangeError {
+    /// The entry at this place, counted from 0, is the first whose pair is not above that of the entry before it.
+    #[error("entry {0} is not above the one before it")]
+    Unsorted(usize),
+    /// The entry at this place, counted from 0, is the first whose two counts are equal.
+    #[error("entry {0} has two equal counts")]
+    NoDifference(usize),
+    /// A growth was refused.
+    #[error("out of memory")]
+    OutOfMemory,
+}
+
+impl From<AllocError> for ChangeError {
+    ghost from_gives = { λ _ error. error ≡ change.OutOfMemory };
+
+    fn from(_: AllocError) -> Self {
+        ChangeError::OutOfMemory
     }
 }

@@ -9,6 +9,7 @@ mod apply;
 mod bag;
 mod change;
 mod compare;
+mod entries;
 mod errors;
 mod label;
 mod label_iter;
@@ -20,7 +21,7 @@ mod search;
 
 pub use bag::Bag;
 pub use change::Change;
-pub use errors::ApplyError;
+pub use errors::{ApplyError, ChangeError};
 pub use label::Label;
 pub use label_iter::LabelIter;
 pub use limits::Limits;

@@ -1,7 +1,7 @@
 // Changes between bags.
-use crate::checks::{check_applied, check_change};
-use crate::samples::{bag_of, held_of};
-use s2ix_bag::{Bag, Change, Held};
+use crate::checks::{check, check_applied, check_change};
+use crate::samples::{bag_of, entry_of, held_of};
+use s2ix_bag::{Bag, Change, ChangeError, Entry, Held};
 use std::alloc::Global;
 use std::process::Abort;
 
@@ -69,5 +69,43 @@ fn a_change_leads_from_list_to_list(rt: HostRuntime) {
     ] {
         let (old, new) = (held_of(&rt, old), held_of(&rt, new));
         check_change(&rt, &change_between(&rt, rt.alloc(), old, new), entries);
+    }
+}
+
+// Lists of entries that are no change: each with its fault.
+const FAULTY: [(&str, ChangeError); 5] = [
+    ("04:9:0:1 04:9:0:1", ChangeError::Unsorted(1)),
+    ("04:9:2:2", ChangeError::NoDifference(0)),
+    ("04:9:2:2 04:8:0:1", ChangeError::Unsorted(1)),
+    (
+        "04:9:1:2 1:7:0:3 04:7:1:0 04:6:1:0",
+        ChangeError::Unsorted(2),
+    ),
+    ("04:9:1:2 1:7:3:3 1:8:2:2", ChangeError::NoDifference(1)),
+];
+
+// The entries that a text lists.
+fn entries_of(rt: &impl Abort, alloc: Global, entries: &str) -> Vec<Entry> {
+    let mut all = Vec::new(alloc);
+    for text in entries.split_ascii_whitespace() {
+        all.push(entry_of(rt, text)).expect(rt, "memory");
+    }
+    all
+}
+
+fn from_entries(rt: &impl Abort, alloc: Global, entries: &str) -> Result<Change, ChangeError> {
+    let entries = entries_of(rt, alloc, entries);
+    Change::from_entries(alloc, &entries)
+}
+
+#[test]
+fn entries_make_a_change_or_tell_why_not(rt: HostRuntime) {
+    for list in ["", ENTRIES] {
+        let change = from_entries(&rt, rt.alloc(), list).expect(&rt, list);
+        check_change(&rt, &change, list);
+    }
+    for (list, fault) in FAULTY {
+        let error = from_entries(&rt, rt.alloc(), list).err();
+        check(&rt, error == Some(fault), list);
     }
 }
