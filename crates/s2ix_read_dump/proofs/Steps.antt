@@ -2,7 +2,6 @@
 use Rattle.std.proofs.Common.{◌≡◌, ◌==◌, ℕ, ◌+◌, ◌≤◌, Bool, true, false, not, ◌||◌, cond, Option, Some, None, List, [], ◌∷◌, ◌++◌, length, map, refl, sym, ap, ap₂, ◌∙◌, arith, append_assoc}
 use Rattle.std.specs.Prelude.{codes, flat_map}
 use Rattle.std.specs.List.{join_with_byte}
-use Rattle.std.specs.Option.{option_map, option_or}
 use Rattle.std.specs.Str.{bytes_eq}
 use Rattle.std.proofs.lemmas.Bool.{cond-false, cond-true, eqb-true, false_from_ne_true}
 use Rattle.std.proofs.lemmas.List.{flat_map_more, length-map, length_push, map_push, nil_from_length}
@@ -16,7 +15,7 @@ use Rattle.s2ix_text.specs.Dump.{end_line, pair_line}
 use Rattle.s2ix_read_dump.specs.declared.errors.DumpFault.{DumpFault}
 use Rattle.s2ix_read_dump.specs.declared.errors.DumpFault.TheVariants.{Truncated, BadHeader, BadEnd, TrailingBytes}
 use Rattle.s2ix_read_dump.specs.DumpFaults.{dump_fault, end_of, is_end, line_fault}
-use Rattle.s2ix_parts.specs.Faults.{IsFromLine, Place, fault_below}
+use Rattle.s2ix_parts.specs.Faults.{IsFromLine, fault_below}
 use Rattle.s2ix_parts.specs.Lines.{is_nil, lines_of, part}
 use Rattle.s2ix_read_dump.specs.PairLines.{IsNext, line_text, lines_down_to, place_below}
 use Rattle.s2ix_read_dump.proofs.Appended.{counts_are}

@@ -24,9 +24,10 @@ use Rattle.s2ix_read_dump.specs.PairLines.{IsNext, held_written, last_pair, line
 use Rattle.s2ix_parts.specs.Written.{comes_before}
 use Rattle.s2ix_read_dump.proofs.Appended.{counts_are, front_is_bag, here_has, next_before}
 use Rattle.s2ix_read_dump.proofs.PairTexts.{HasCount, end_is_end, end_lacks_feed, end_with_feed, held_of_line, line_is_no_end, line_lacks_feed, line_with_feed}
+use Rattle.s2ix_parts.proofs.FirstFault.{found_here, found_later, place}
 use Rattle.s2ix_parts.proofs.Pieces.{Lacks, lines_apart, lines_joined, lines_some}
 use Rattle.s2ix_read_dump.proofs.Rows.{header_row, next_fault, next_is, not_over, pair_row, truncated_row}
-use Rattle.s2ix_read_dump.proofs.Steps.{below_header, bytes_behind, copies_small, end_fault, fault_after_next, fault_left, found_here, found_later, nothing_behind, place}
+use Rattle.s2ix_read_dump.proofs.Steps.{below_header, bytes_behind, copies_small, end_fault, fault_after_next, fault_left, nothing_behind}
 
 -- the lines of a dump below those of some held pairs: of the others, and the end line
 abbrev pub lines_left : Collection → Collection → List (List ℕ)
