@@ -1,6 +1,6 @@
 // Dumps, read back or refused.
 use s2ix_bag::Limits;
-use s2ix_read::{DumpError, DumpFault, read_dump};
+use s2ix_read_dump::{DumpError, DumpFault, read_dump};
 use std::alloc::Global;
 use std::process::Abort;
 
@@ -75,7 +75,7 @@ const LIMITED: [(&[u8], Answer); 4] = [
 ];
 
 fn answer(rt: &impl Abort, alloc: Global, limits: Limits, text: &[u8]) -> Answer {
-    match read_dump(alloc, limits, text) {
+    match read_dump(alloc, text, limits) {
         Ok(bag) => Ok((bag.len(), bag.copies())),
         Err(DumpError::At { line, fault }) => Err((line, fault)),
         Err(DumpError::OutOfMemory) => panic!(rt; "memory"),

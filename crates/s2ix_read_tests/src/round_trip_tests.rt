@@ -2,7 +2,7 @@
 use s2id_core::CellId;
 use s2ix_bag::{Bag, Change, Entry, Label, Limits, Pair};
 use s2ix_io::KeepingSink;
-use s2ix_read::read_dump;
+use s2ix_read_dump::read_dump;
 use s2ix_text::write_dump;
 use std::alloc::Global;
 use std::process::Abort;

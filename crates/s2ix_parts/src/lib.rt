@@ -1,0 +1,9 @@
+//! What the readers of texts share: a text cut into lines and a line into parts, and the cell, the label or the number that a part writes.
+//! Its definitions say what the first fault of a text is, whatever a line's fault is.
+#![tactic(auto)]
+
+mod cuts;
+mod written;
+
+pub use cuts::{cut_line, cut_part, first_part, three_parts};
+pub use written::{cell_written, count_written, label_written, number_written};

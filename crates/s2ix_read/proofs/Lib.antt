@@ -1,7 +1,0 @@
-pub mod Pieces
-pub mod Numerals
-pub mod PairTexts
-pub mod Appended
-pub mod Rows
-pub mod Steps
-pub mod Whole

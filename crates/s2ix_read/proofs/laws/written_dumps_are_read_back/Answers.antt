@@ -1,5 +1,0 @@
-use Rattle.s2ix_read.proofs.Whole.{written_dumps_are_read_back}
-use Rattle.s2ix_read.proofs.laws.written_dumps_are_read_back.Goals as goal
-
-pub returns : goal.returns
-returns c = written_dumps_are_read_back

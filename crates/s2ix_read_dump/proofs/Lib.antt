@@ -1,0 +1,5 @@
+pub mod PairTexts
+pub mod Appended
+pub mod Rows
+pub mod Steps
+pub mod Whole

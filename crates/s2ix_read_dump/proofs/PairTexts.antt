@@ -1,0 +1,162 @@
+-- The line of a held pair, and the end line: how they are cut.
+use Rattle.std.proofs.Common.{◌≡◌, ◌==◌, ℕ, ◌^◌, ◌<◌, ◌≤◌, Bool, true, false, ◌&&◌, Option, Some, Ok, Err, List, [], ◌∷◌, ◌++◌, All, length, get_or, refl, sym, ap, ◌∙◌, subst, arith, append_assoc}
+use Rattle.std.specs.Prelude.{codes, decimal, slice_index_or}
+use Rattle.std.specs.Bool.{Decides}
+use Rattle.std.specs.Str.{bytes_eq}
+use Rattle.std.proofs.lemmas.Bool.{and_from, and_parts, cond-true, cond-false, false_from_ne_true, ne_eqb}
+use Rattle.std.proofs.lemmas.Fmt.{decimal_nonempty}
+use Rattle.std.proofs.lemmas.List.Elements.{All-append, All-cons, All-head, All-nil, All-tail}
+use Rattle.std.proofs.lemmas.Slice.Eq.{bytes_eq-Decides}
+use Rattle.s2id_core.specs.CellId.{raw_of}
+use Rattle.s2id_core.specs.Token.{IsLowerHex, canonical_token}
+use Rattle.s2id_core.proofs.Canonical.{canonical_spells, lower-canonical_token}
+use Rattle.s2id_core.specs.declared.cell_id.CellId.{CellId}
+use Rattle.s2ix_bag.specs.Collection.{Collection, copies_in}
+use Rattle.s2ix_bag.specs.Label.{value_of}
+use Rattle.s2ix_bag.specs.declared.label.Label.{Label}
+use Rattle.s2ix_bag.specs.declared.pair.Held.{Held}
+use Rattle.s2ix_text.specs.Dump.{end_line, pair_line}
+use Rattle.s2ix_text.proofs.Journals.{IsGraphic, decimal_graphic, token_graphic}
+use Rattle.s2ix_read_dump.specs.DumpFaults.{end_of, is_end}
+use Rattle.s2ix_parts.specs.Lines.{has_parts, is_nil, parts_of}
+use Rattle.s2ix_read_dump.specs.PairLines.{held_of_parts, held_written, line_text}
+use Rattle.s2ix_parts.specs.Written.{cell_written, count_of_line, count_written, label_written, pair_with, pair_written}
+use Rattle.s2ix_read_dump.specs.declared.errors.DumpFault.TheVariants.{BadLine}
+use Rattle.s2ix_parts.proofs.Pieces.{Lacks, is_some_text, parts_apart, parts_joined, three_from_parts}
+use Rattle.s2ix_parts.proofs.Numerals.{cell_of_token, count_of_digits, label_of_digits, written_cell, written_count, written_label}
+
+-- a text of graphic bytes has no space and no line feed
+pub graphic_lacks : (x : ℕ) (text : List ℕ) → x ≤ 32 → All IsGraphic text → Lacks x text
+graphic_lacks x text low graphic = λ k d within. let above : 32 < get_or text k d = graphic k d within in ne_eqb (get_or text k d) x (λ same. omega (arith, same))
+
+-- a count that digits below 2^64 write
+abbrev pub HasCount : Held → Type 0
+HasCount h = (1 ≤ h.count) × (h.count ≤ 65535)
+
+small_label : (label : Label) → value_of label < 2 ^ 64
+small_label label = let within : value_of label ≤ 2147483647 = label.in_range in omega arith
+
+-- ---- three parts
+
+pub parts_of_three : (a b c : List ℕ) → All IsGraphic a → All IsGraphic b → All IsGraphic c → parts_of (a ++ 32 ∷ (b ++ 32 ∷ c)) ≡ a ∷ b ∷ c ∷ []
+parts_of_three a b c ga gb gc = parts_apart a b c (graphic_lacks 32 a (omega arith) ga) (graphic_lacks 32 b (omega arith) gb) (graphic_lacks 32 c (omega arith) gc)
+
+pub no_feed : (a b c : List ℕ) → All IsGraphic a → All IsGraphic b → All IsGraphic c → Lacks 10 (a ++ 32 ∷ (b ++ 32 ∷ c))
+no_feed a b c ga gb gc =
+    let Other : ℕ → Type 0 = λ byte. (byte == 10) ≡ false in
+    All-append Other a (32 ∷ (b ++ 32 ∷ c)) (graphic_lacks 10 a (omega arith) ga)
+    (All-cons Other 32 (b ++ 32 ∷ c) refl
+    (All-append Other b (32 ∷ c) (graphic_lacks 10 b (omega arith) gb) (All-cons Other 32 c refl (graphic_lacks 10 c (omega arith) gc))))
+
+-- ---- the line of a held pair
+
+pub line_parts : (h : Held) → HasCount h → parts_of (line_text h) ≡ canonical_token (raw_of h.pair.cell) ∷ decimal (value_of h.pair.label) ∷ decimal h.count ∷ []
+unfolding line_text
+line_parts h counted =
+    parts_of_three _ _ _ (token_graphic (raw_of h.pair.cell)) (decimal_graphic _ (small_label h.pair.label)) (decimal_graphic h.count (omega (arith, counted.1)))
+
+pub line_lacks_feed : (h : Held) → HasCount h → Lacks 10 (line_text h)
+unfolding line_text
+line_lacks_feed h counted =
+    no_feed _ _ _ (token_graphic (raw_of h.pair.cell)) (decimal_graphic _ (small_label h.pair.label)) (decimal_graphic h.count (omega (arith, counted.1)))
+
+pub line_with_feed : (h : Held) → pair_line h ≡ line_text h ++ 10 ∷ []
+unfolding pair_line line_text
+line_with_feed h = simp append_assoc
+
+token_some : (cell : CellId) → is_nil (canonical_token (raw_of cell)) ≡ false
+token_some cell = is_some_text _ (canonical_spells (raw_of cell) cell.valid).some
+
+pub line_has_parts : (h : Held) → HasCount h → has_parts 3 (line_text h) ≡ true
+line_has_parts h counted =
+    three_from_parts (line_text h) _ _ _ (line_parts h counted) (token_some h.pair.cell) (is_some_text _ (decimal_nonempty _ (small_label h.pair.label))) (is_some_text _ (decimal_nonempty h.count (omega (arith, counted.1))))
+
+-- what a line writes, from its parts
+pub held_from : (line a b c : List ℕ) → has_parts 3 line ≡ true → parts_of line ≡ a ∷ b ∷ c ∷ [] → held_written line ≡ held_of_parts (cell_written a) (label_written b) (count_written c)
+unfolding held_written
+held_from line a b c three are =
+    cond-true (has_parts 3 line) _ _ three
+    ∙ ap (λ (ps : List (List ℕ)). held_of_parts (cell_written (slice_index_or ps 0 [])) (label_written (slice_index_or ps 1 [])) (count_written (slice_index_or ps 2 []))) are
+
+pub held_by : (line a b c : List ℕ) (cell : Option CellId) (label : Option Label) (count : Option ℕ) → has_parts 3 line ≡ true → parts_of line ≡ a ∷ b ∷ c ∷ [] → cell_written a ≡ cell → label_written b ≡ label → count_written c ≡ count
+    → held_written line ≡ held_of_parts cell label count
+held_by line a b c cell label count three are x y z = held_from line a b c three are ∙ rw (x, y, z) refl
+
+pub held_unless : (line : List ℕ) → has_parts 3 line ≡ false → held_written line ≡ Err BadLine
+unfolding held_written
+held_unless line three = cond-false (has_parts 3 line) _ _ three
+
+pub held_of_line : (h : Held) → HasCount h → held_written (line_text h) ≡ Ok h
+held_of_line h counted =
+    held_from (line_text h) _ _ _ (line_has_parts h counted) (line_parts h counted)
+    ∙ rw (cell_of_token h.pair.cell, label_of_digits h.pair.label, count_of_digits h.count counted.0 counted.1) refl
+
+-- the pair and the count of that line
+pub pair_of_line : (h : Held) → HasCount h → pair_written (line_text h) ≡ Some h.pair
+unfolding pair_written
+pair_of_line h counted =
+    ap (λ (ps : List (List ℕ)). pair_with (cell_written (slice_index_or ps 0 [])) (label_written (slice_index_or ps 1 []))) (line_parts h counted)
+    ∙ rw (cell_of_token h.pair.cell, label_of_digits h.pair.label) refl
+
+pub count_of_text : (h : Held) → HasCount h → count_of_line (line_text h) ≡ h.count
+unfolding count_of_line
+count_of_text h counted =
+    rw (line_parts h counted, count_of_digits h.count counted.0 counted.1) refl
+
+-- and no other line writes it
+pub written_held : (line a b c : List ℕ) (h : Held) → parts_of line ≡ a ∷ b ∷ c ∷ [] → cell_written a ≡ Some h.pair.cell → label_written b ≡ Some h.pair.label → count_written c ≡ Some h.count → line ≡ line_text h
+unfolding line_text
+written_held line a b c h are cell label count =
+    parts_joined line a b c are
+    ∙ rw (written_cell a h.pair.cell cell, written_label b h.pair.label label, (written_count c h.count count).0) refl
+
+-- no line of a held pair is an end line: a token has no letter n
+pub line_is_no_end : (h : Held) → HasCount h → is_end (line_text h) ≡ false
+line_is_no_end h counted =
+    let token = canonical_token (raw_of h.pair.cell) in
+    ap (λ (ps : List (List ℕ)). bytes_eq (slice_index_or ps 0 []) (codes "end")) (line_parts h counted)
+    ∙ false_from_ne_true (bytes_eq token (codes "end"))
+    (λ same.
+    let is : token ≡ 101 ∷ 110 ∷ 100 ∷ [] = (bytes_eq-Decides token (codes "end")).0 same in
+    let lower = subst (λ (digits : List ℕ). All IsLowerHex digits) is (lower-canonical_token (raw_of h.pair.cell)) in
+    let n : IsLowerHex 110 = All-head IsLowerHex 110 (100 ∷ []) (All-tail IsLowerHex 101 (110 ∷ 100 ∷ []) lower) in
+    omega (arith, n))
+
+-- ---- the end line
+
+end_graphic : All IsGraphic (codes "end")
+end_graphic = All-cons IsGraphic 101 (110 ∷ 100 ∷ []) (omega arith) (All-cons IsGraphic 110 (100 ∷ []) (omega arith) (All-cons IsGraphic 100 [] (omega arith) (All-nil IsGraphic)))
+
+pub end_parts : (pairs copies : ℕ) → pairs < 2 ^ 64 → copies < 2 ^ 64 → parts_of (end_of pairs copies) ≡ codes "end" ∷ decimal pairs ∷ decimal copies ∷ []
+end_parts pairs copies few small = parts_of_three (codes "end") (decimal pairs) (decimal copies) end_graphic (decimal_graphic pairs few) (decimal_graphic copies small)
+
+pub end_lacks_feed : (pairs copies : ℕ) → pairs < 2 ^ 64 → copies < 2 ^ 64 → Lacks 10 (end_of pairs copies)
+end_lacks_feed pairs copies few small = no_feed (codes "end") (decimal pairs) (decimal copies) end_graphic (decimal_graphic pairs few) (decimal_graphic copies small)
+
+pub end_has_parts : (pairs copies : ℕ) → pairs < 2 ^ 64 → copies < 2 ^ 64 → has_parts 3 (end_of pairs copies) ≡ true
+end_has_parts pairs copies few small =
+    three_from_parts (end_of pairs copies) (codes "end") (decimal pairs) (decimal copies) (end_parts pairs copies few small) refl (is_some_text _ (decimal_nonempty pairs few)) (is_some_text _ (decimal_nonempty copies small))
+
+pub end_is_end : (pairs copies : ℕ) → pairs < 2 ^ 64 → copies < 2 ^ 64 → is_end (end_of pairs copies) ≡ true
+end_is_end pairs copies few small = ap (λ (ps : List (List ℕ)). bytes_eq (slice_index_or ps 0 []) (codes "end")) (end_parts pairs copies few small)
+
+pub end_with_feed : (hs : Collection) → end_line hs ≡ end_of (length hs) (copies_in hs) ++ 10 ∷ []
+unfolding end_line
+end_with_feed hs = simp append_assoc
+
+-- what the code tests of an end line
+pub end_tested : (line a b c pairs_digits copies_digits : List ℕ) (pairs copies : ℕ) (p q : Bool) → is_end line ≡ true → parts_of line ≡ a ∷ b ∷ c ∷ [] → pairs < 2 ^ 64 → copies < 2 ^ 64
+    → p ≡ bytes_eq b pairs_digits → pairs_digits ≡ decimal pairs → q ≡ bytes_eq c copies_digits → copies_digits ≡ decimal copies → Decides (p && q) (line ≡ end_of pairs copies)
+end_tested line a b c pairs_digits copies_digits pairs copies p q end are few small p_is pairs_are q_is copies_are = (
+  λ both.
+      let parts = and_parts p q both in
+      let first : a ≡ codes "end" = (bytes_eq-Decides a (codes "end")).0 (sym (ap (λ (ps : List (List ℕ)). bytes_eq (slice_index_or ps 0 []) (codes "end")) are) ∙ end) in
+      let second : b ≡ decimal pairs = (bytes_eq-Decides b pairs_digits).0 (sym p_is ∙ parts.0) ∙ pairs_are in
+      let third : c ≡ decimal copies = (bytes_eq-Decides c copies_digits).0 (sym q_is ∙ parts.1) ∙ copies_are in
+      parts_joined line a b c are ∙ rw (first, second, third) refl,
+  λ is.
+      let same : a ∷ b ∷ c ∷ [] ≡ codes "end" ∷ decimal pairs ∷ decimal copies ∷ [] = sym are ∙ ap parts_of is ∙ end_parts pairs copies few small in
+      let second : b ≡ decimal pairs = ap (λ (ps : List (List ℕ)). slice_index_or ps 1 []) same in
+      let third : c ≡ decimal copies = ap (λ (ps : List (List ℕ)). slice_index_or ps 2 []) same in
+      and_from p q (p_is ∙ (bytes_eq-Decides b pairs_digits).1 (second ∙ sym pairs_are)) (q_is ∙ (bytes_eq-Decides c copies_digits).1 (third ∙ sym copies_are)),
+)

@@ -1,0 +1,217 @@
+-- The first fault of a text, one line further.
+use Rattle.std.proofs.Common.{◌≡◌, ◌==◌, ℕ, ◌+◌, ◌≤◌, Bool, true, false, not, ◌||◌, cond, Option, Some, None, List, [], ◌∷◌, ◌++◌, length, map, refl, sym, ap, ap₂, ◌∙◌, arith, append_assoc}
+use Rattle.std.specs.Prelude.{codes, flat_map}
+use Rattle.std.specs.List.{join_with_byte}
+use Rattle.std.specs.Str.{bytes_eq}
+use Rattle.std.proofs.lemmas.Bool.{cond-false, cond-true, eqb-true, false_from_ne_true}
+use Rattle.std.proofs.lemmas.List.{flat_map_more, length-map, length_push, map_push, nil_from_length}
+use Rattle.std.proofs.lemmas.List.Sums.{sum_by-append}
+use Rattle.std.proofs.lemmas.Slice.Eq.{bytes_eq-Decides}
+use Rattle.s2ix_bag.specs.Collection.{Collection, IsBag, copies_in}
+use Rattle.s2ix_bag.specs.declared.limits.Limits.{Limits}
+use Rattle.s2ix_bag.specs.declared.pair.Held.{Held}
+use Rattle.s2ix_bag.proofs.Refusals.{copies_bound}
+use Rattle.s2ix_text.specs.Dump.{end_line, pair_line}
+use Rattle.s2ix_read_dump.specs.declared.errors.DumpFault.{DumpFault}
+use Rattle.s2ix_read_dump.specs.declared.errors.DumpFault.TheVariants.{Truncated, BadHeader, BadEnd, TrailingBytes}
+use Rattle.s2ix_read_dump.specs.DumpFaults.{dump_fault, end_of, is_end, line_fault}
+use Rattle.s2ix_parts.specs.Faults.{IsFromLine, fault_below}
+use Rattle.s2ix_parts.specs.Lines.{is_nil, lines_of, part}
+use Rattle.s2ix_read_dump.specs.PairLines.{IsNext, line_text, lines_down_to, place_below}
+use Rattle.s2ix_read_dump.proofs.Appended.{counts_are}
+use Rattle.s2ix_parts.proofs.FirstFault.{ended, found_from, found_here, found_later, found_nowhere, place}
+use Rattle.s2ix_parts.proofs.Pieces.{lines_joined, lines_some}
+use Rattle.s2ix_read_dump.proofs.PairTexts.{end_with_feed, line_with_feed}
+use Rattle.s2ix_read_dump.proofs.Rows.{behind_row, end_row, header_row, not_over, over_behind, truncated_row}
+
+-- ---- a dump, so far
+
+-- the first fault of what is left below the lines of some held pairs
+abbrev pub fault_left : Limits → Collection → List (List ℕ) → Option (ℕ × DumpFault)
+fault_left limits hs lines = fault_below line_fault limits (lines_down_to hs) lines
+
+-- the text below the header up to here is the lines of these held pairs, and they are sound
+pub record IsReadSoFar (limits : Limits) (whole : List ℕ) (hs : Collection) (sum : ℕ) (rest : List ℕ) : Type 0 where
+  pub bag : IsBag (record { limits = limits; held = hs })
+  pub text : whole ≡ flat_map pair_line hs ++ rest
+  pub fault : fault_left limits [] (lines_of whole) ≡ fault_left limits hs (lines_of rest)
+  pub copies : sum ≡ copies_in hs
+
+pub read_start : (limits : Limits) (text : List ℕ) → IsReadSoFar limits text [] 0 text
+read_start limits text = record {
+  bag = record { rises = tt; few = omega arith; small = λ k d within. absurd (omega arith) };
+  text = refl;
+  fault = refl;
+  copies = refl;
+}
+
+-- the number of a line below the lines of these pairs
+line_number : (limits : Limits) (hs : Collection) (line : List ℕ) (lines : List (List ℕ)) (fault : DumpFault) → line_fault (place limits (lines_down_to hs) line lines) ≡ Some fault → fault_left limits hs (line ∷ lines) ≡ Some (length hs + 2, fault)
+line_number limits hs line lines fault is =
+    found_here line_fault limits (lines_down_to hs) line lines fault is
+    ∙ ap (λ n. Some (n, fault)) (let same : length (lines_down_to hs) + 1 ≡ length hs + 2 = omega (arith, length-map hs line_text) in same)
+
+next_lines : (hs : Collection) (line : List ℕ) (h : Held) → line ≡ line_text h → lines_down_to hs ++ line ∷ [] ≡ lines_down_to (hs ++ h ∷ [])
+next_lines hs line h is = ap (λ (ls : List (List ℕ)). codes "s2ix 1" ∷ ls) (ap (λ x. map line_text hs ++ x ∷ []) is ∙ sym (map_push line_text hs h))
+
+pub fault_after_next : (limits : Limits) (hs : Collection) (line : List ℕ) (lines : List (List ℕ)) (h : Held) → is_nil lines ≡ false → IsNext limits hs line h → fault_left limits hs (line ∷ lines) ≡ fault_left limits (hs ++ h ∷ []) lines
+fault_after_next limits hs line lines h some next =
+    found_later line_fault limits (lines_down_to hs) line lines (ap line_fault (ended limits (lines_down_to hs) line lines some) ∙ next.sound)
+    ∙ ap (λ (above : List (List ℕ)). fault_below line_fault limits above lines) (next_lines hs line h next.text)
+
+copies_more : (hs : Collection) (h : Held) → copies_in (hs ++ h ∷ []) ≡ copies_in hs + h.count
+copies_more hs h = omega (arith, sum_by-append (λ (x : Held). x.count) hs (h ∷ []))
+
+-- one held pair more
+pub read_more : (limits : Limits) (text : List ℕ) (hs : Collection) (copies : ℕ) (rest line below : List ℕ) (h : Held) → IsReadSoFar limits text hs copies rest → rest ≡ line ++ 10 ∷ below → lines_of rest ≡ line ∷ lines_of below → IsNext limits hs line h
+    → IsReadSoFar limits text (hs ++ h ∷ []) (copies + h.count) below
+read_more limits text hs copies rest line below h was cut lines next = record {
+  bag = next.bag;
+  text =
+      was.text ∙ ap (λ x. flat_map pair_line hs ++ x) (cut ∙ ap (λ x. x ++ 10 ∷ below) next.text ∙ sym (append_assoc (line_text h) (10 ∷ []) below) ∙ ap (λ x. x ++ below) (sym (line_with_feed h)))
+      ∙ sym (append_assoc (flat_map pair_line hs) (pair_line h) below)
+      ∙ ap (λ x. x ++ below) (flat_map_more pair_line [] hs h);
+  fault = was.fault ∙ ap (fault_left limits hs) lines ∙ fault_after_next limits hs line (lines_of below) h (lines_some below) next;
+  copies = omega (arith, copies_more hs h, was.copies);
+}
+
+-- a fault of the next line
+pub read_fault : (limits : Limits) (text : List ℕ) (hs : Collection) (copies : ℕ) (rest line below : List ℕ) (fault : DumpFault) → IsReadSoFar limits text hs copies rest → lines_of rest ≡ line ∷ lines_of below → line_fault (place_below limits hs line) ≡ Some fault
+    → fault_left limits [] (lines_of text) ≡ Some (length hs + 2, fault)
+read_fault limits text hs copies rest line below fault was lines is =
+    was.fault ∙ ap (fault_left limits hs) lines
+    ∙ line_number limits hs line (lines_of below) fault (ap line_fault (ended limits (lines_down_to hs) line (lines_of below) (lines_some below)) ∙ is)
+
+-- no line feed where a line is wanted
+pub read_truncated : (limits : Limits) (text : List ℕ) (hs : Collection) (copies : ℕ) (rest : List ℕ) → IsReadSoFar limits text hs copies rest → lines_of rest ≡ rest ∷ [] → fault_left limits [] (lines_of text) ≡ Some (length hs + 2, Truncated)
+read_truncated limits text hs copies rest was lines =
+    was.fault ∙ ap (fault_left limits hs) lines
+    ∙ line_number limits hs rest [] Truncated (truncated_row (place limits (lines_down_to hs) rest []) (not_over hs (counts_are limits hs was.bag)) refl)
+
+-- ---- the end line
+
+end_sound : (limits : Limits) (hs : Collection) (line : List ℕ) → IsBag (record { limits = limits; held = hs }) → is_end line ≡ true → line ≡ end_of (length hs) (copies_in hs) → line_fault (place_below limits hs line) ≡ None
+end_sound limits hs line bag end is =
+    end_row limits hs line bag end ∙ cond-false _ _ _ (ap not ((bytes_eq-Decides line (end_of (length hs) (copies_in hs))).1 is))
+
+pub end_fault : (limits : Limits) (hs : Collection) (line : List ℕ) → IsBag (record { limits = limits; held = hs }) → is_end line ≡ true → (line ≡ end_of (length hs) (copies_in hs) → ⊥) → line_fault (place_below limits hs line) ≡ Some BadEnd
+end_fault limits hs line bag end other =
+    end_row limits hs line bag end
+    ∙ cond-true _ _ _ (ap not (false_from_ne_true (bytes_eq line (end_of (length hs) (copies_in hs))) (λ same. other ((bytes_eq-Decides line (end_of (length hs) (copies_in hs))).0 same))))
+
+-- what is left behind the end line
+pub fault_behind : (limits : Limits) (hs : Collection) (line : List ℕ) (last : List ℕ) (lines : List (List ℕ)) → IsBag (record { limits = limits; held = hs }) → is_end line ≡ true → line ≡ end_of (length hs) (copies_in hs)
+    → fault_left limits hs (line ∷ last ∷ lines) ≡ fault_below line_fault limits (lines_down_to hs ++ line ∷ []) (last ∷ lines)
+fault_behind limits hs line last lines bag end is =
+    found_later line_fault limits (lines_down_to hs) line (last ∷ lines) (end_sound limits hs line bag end is)
+
+last_fault : (limits : Limits) (hs : Collection) (line last : List ℕ) (lines : List (List ℕ)) → is_end line ≡ true
+    → line_fault (place limits (lines_down_to hs ++ line ∷ []) last lines) ≡ cond (not (is_nil lines) || not (is_nil last)) (Some TrailingBytes) None
+last_fault limits hs line last lines end =
+    behind_row (place limits (lines_down_to hs ++ line ∷ []) last lines) refl (over_behind hs line end)
+
+pub nothing_behind : (limits : Limits) (hs : Collection) (line : List ℕ) → IsBag (record { limits = limits; held = hs }) → is_end line ≡ true → line ≡ end_of (length hs) (copies_in hs) → fault_left limits hs (line ∷ [] ∷ []) ≡ None
+nothing_behind limits hs line bag end is =
+    fault_behind limits hs line [] [] bag end is
+    ∙ found_later line_fault limits (lines_down_to hs ++ line ∷ []) [] [] (last_fault limits hs line [] [] end)
+    ∙ found_nowhere line_fault limits ((lines_down_to hs ++ line ∷ []) ++ [] ∷ [])
+
+pub bytes_behind : (limits : Limits) (hs : Collection) (line last : List ℕ) (lines : List (List ℕ)) → IsBag (record { limits = limits; held = hs }) → is_end line ≡ true → line ≡ end_of (length hs) (copies_in hs)
+    → (not (is_nil lines) || not (is_nil last)) ≡ true → fault_left limits hs (line ∷ last ∷ lines) ≡ Some (length hs + 3, TrailingBytes)
+bytes_behind limits hs line last lines bag end is some =
+    fault_behind limits hs line last lines bag end is
+    ∙ found_here line_fault limits (lines_down_to hs ++ line ∷ []) last lines TrailingBytes (last_fault limits hs line last lines end ∙ cond-true _ _ _ some)
+    ∙ ap (λ n. Some (n, TrailingBytes)) (let same : length (lines_down_to hs ++ line ∷ []) + 1 ≡ length hs + 3 = omega (arith, length_push (lines_down_to hs) line, length-map hs line_text) in same)
+
+-- the whole text, where nothing is behind the end line
+pub read_end : (limits : Limits) (text : List ℕ) (hs : Collection) (copies : ℕ) (rest line : List ℕ) → IsReadSoFar limits text hs copies rest → rest ≡ line ++ 10 ∷ [] → lines_of rest ≡ line ∷ lines_of [] → is_end line ≡ true → line ≡ end_of (length hs) copies
+    → (text ≡ flat_map pair_line hs ++ end_line hs) × (fault_left limits [] (lines_of text) ≡ None)
+unfolding lines_of
+read_end limits text hs copies rest line was cut lines end is =
+    let same : line ≡ end_of (length hs) (copies_in hs) = is ∙ ap (λ n. end_of (length hs) n) was.copies in (
+      was.text ∙ ap (λ x. flat_map pair_line hs ++ x) (cut ∙ ap (λ x. x ++ 10 ∷ []) same ∙ sym (end_with_feed hs)),
+      was.fault ∙ ap (fault_left limits hs) lines ∙ nothing_behind limits hs line was.bag end same,
+    )
+
+-- what is left, where it has bytes
+some_behind : (below last : List ℕ) (lines : List (List ℕ)) → is_nil below ≡ false → lines_of below ≡ last ∷ lines → (not (is_nil lines) || not (is_nil last)) ≡ true
+some_behind below last (line ∷ lines) some is = refl
+some_behind below (byte ∷ last) [] some is = refl
+some_behind below [] [] some is =
+    let joined : below ≡ [] = sym (lines_joined below) ∙ ap (join_with_byte 10) is in
+    let clash : false ≡ true = sym some ∙ ap is_nil joined in
+    cc
+
+lines_split : (lines : List (List ℕ)) → is_nil lines ≡ false → (last : List ℕ) × (more : List (List ℕ)) × (lines ≡ last ∷ more)
+lines_split [] some = cc
+lines_split (last ∷ more) some = (last, more, refl)
+
+pub read_trailing : (limits : Limits) (text : List ℕ) (hs : Collection) (copies : ℕ) (rest line below : List ℕ) → IsReadSoFar limits text hs copies rest → lines_of rest ≡ line ∷ lines_of below → is_end line ≡ true → line ≡ end_of (length hs) copies → is_nil below ≡ false
+    → fault_left limits [] (lines_of text) ≡ Some (length hs + 3, TrailingBytes)
+read_trailing limits text hs copies rest line below was lines end is some =
+    let same : line ≡ end_of (length hs) (copies_in hs) = is ∙ ap (λ n. end_of (length hs) n) was.copies in
+    let parts = lines_split (lines_of below) (lines_some below) in
+    was.fault ∙ ap (fault_left limits hs) (lines ∙ ap (λ ls. line ∷ ls) parts.2)
+    ∙ bytes_behind limits hs line parts.0 parts.1 was.bag end same (some_behind below parts.0 parts.1 some parts.2)
+
+-- ---- from the top
+
+-- below the header the first fault is that of what is left
+pub below_header : (limits : Limits) (text header below : List ℕ) → lines_of text ≡ header ∷ lines_of below → header ≡ codes "s2ix 1" → dump_fault limits text ≡ fault_left limits [] (lines_of below)
+unfolding dump_fault
+below_header limits text header below lines is =
+    ap (fault_below line_fault limits []) lines
+    ∙ found_later line_fault limits [] header (lines_of below) (ap line_fault (ended limits [] header (lines_of below) (lines_some below)) ∙ header_row limits header ∙ cond-false _ _ _ (ap not ((bytes_eq-Decides header (codes "s2ix 1")).1 is)))
+    ∙ ap (λ h. fault_below line_fault limits (h ∷ []) (lines_of below)) is
+
+pub bad_header : (limits : Limits) (text header below : List ℕ) → lines_of text ≡ header ∷ lines_of below → (header ≡ codes "s2ix 1" → ⊥) → dump_fault limits text ≡ Some (1, BadHeader)
+unfolding dump_fault
+bad_header limits text header below lines other =
+    ap (fault_below line_fault limits []) lines
+    ∙ found_here line_fault limits [] header (lines_of below) BadHeader
+    (ap line_fault (ended limits [] header (lines_of below) (lines_some below)) ∙ header_row limits header
+    ∙ cond-true _ _ _ (ap not (false_from_ne_true (bytes_eq header (codes "s2ix 1")) (λ same. other ((bytes_eq-Decides header (codes "s2ix 1")).0 same)))))
+
+pub no_header : (limits : Limits) (text : List ℕ) → lines_of text ≡ text ∷ [] → dump_fault limits text ≡ Some (1, Truncated)
+unfolding dump_fault
+no_header limits text lines =
+    ap (fault_below line_fault limits []) lines
+    ∙ found_here line_fault limits [] text [] Truncated (truncated_row (place limits [] text []) refl refl)
+
+-- the sum of the counts fits, and one pair more
+pub copies_small : (limits : Limits) (hs : Collection) → IsBag (record { limits = limits; held = hs }) → (length hs ≤ 1000000) × (copies_in hs ≤ 65535000000)
+copies_small limits hs bag = (omega (arith, bag.few, limits.in_range.1), copies_bound (record { limits = limits; held = hs }) bag)
+
+-- ---- what the code of `read_below` tests
+
+pub end_test : (line first word : List ℕ) (r : Bool) → r ≡ bytes_eq first word → first ≡ part 0 line → word ≡ codes "end" → r ≡ is_end line
+end_test line first word r is first_is word_is = is ∙ ap₂ (λ (x y : List ℕ). bytes_eq x y) first_is word_is
+
+pub some_test : (text : List ℕ) (r : Bool) → r ≡ (length text == 0) → r ≡ false → is_nil text ≡ false
+some_test [] r is fails = let clash : true ≡ false = sym is ∙ fails in cc
+some_test (byte ∷ text) r is fails = refl
+
+pub none_test : (text : List ℕ) (r : Bool) → r ≡ (length text == 0) → r ≡ true → text ≡ []
+none_test text r is holds = nil_from_length text (eqb-true (length text) 0 (sym is ∙ holds))
+
+pub read_to_end : (limits : Limits) (text : List ℕ) (hs : Collection) (copies : ℕ) (rest line below : List ℕ) → IsReadSoFar limits text hs copies rest → rest ≡ line ++ 10 ∷ below → lines_of rest ≡ line ∷ lines_of below → is_end line ≡ true → line ≡ end_of (length hs) copies → below ≡ []
+    → (text ≡ flat_map pair_line hs ++ end_line hs) × (fault_left limits [] (lines_of text) ≡ None)
+read_to_end limits text hs copies rest line below was cut lines end is none =
+    read_end limits text hs copies rest line was (cut ∙ ap (λ x. line ++ 10 ∷ x) none) (lines ∙ ap (λ x. line ∷ lines_of x) none) end is
+
+pub read_bad_end : (limits : Limits) (text : List ℕ) (hs : Collection) (copies : ℕ) (rest line below : List ℕ) → IsReadSoFar limits text hs copies rest → lines_of rest ≡ line ∷ lines_of below → is_end line ≡ true → (line ≡ end_of (length hs) copies → ⊥)
+    → fault_left limits [] (lines_of text) ≡ Some (length hs + 2, BadEnd)
+read_bad_end limits text hs copies rest line below was lines end other =
+    read_fault limits text hs copies rest line below BadEnd was lines
+    (end_fault limits hs line was.bag end (λ is. other (is ∙ ap (λ n. end_of (length hs) n) (sym was.copies))))
+
+-- the sum of the counts with the next one fits
+pub next_sum : (limits : Limits) (hs : Collection) (line : List ℕ) (h : Held) → IsNext limits hs line h → copies_in hs + h.count ≤ 65535000000
+next_sum limits hs line h next = omega (arith, copies_more hs h, (copies_small limits (hs ++ h ∷ []) next.bag).1)
+
+-- want of memory below the header
+pub wants_below : (limits : Limits) (text : List ℕ) → IsFromLine 2 (fault_left limits [] (lines_of text))
+wants_below limits text = found_from line_fault limits 2 (lines_down_to []) (lines_of text) (omega arith)
+
+pub at_line : (m n : ℕ) (fault : DumpFault) → m ≡ n → ◌≡◌ {A = Option (ℕ × DumpFault)} (Some (m, fault)) (Some (n, fault))
+at_line m n fault same = ap (λ (k : ℕ). let found : Option (ℕ × DumpFault) = Some (k, fault) in found) same

@@ -1,0 +1,279 @@
+-- A text has no fault exactly where it is a dump.
+use Rattle.std.proofs.Common.{◌≡◌, ◌==◌, ℕ, ◌+◌, ◌^◌, ◌<◌, ◌≤◌, ◌↔◌, Bool, true, false, not, Option, Some, None, Result, Ok, Err, List, [], ◌∷◌, ◌++◌, All, length, map, refl, sym, ap, ap₂, ◌∙◌, subst, arith, append_assoc, ⊎_elim}
+use Rattle.std.specs.Prelude.{codes, flat_map}
+use Rattle.std.specs.List.{join_with_byte}
+use Rattle.std.specs.Str.{bytes_eq}
+use Rattle.std.proofs.lemmas.Bool.{both_ways, cases_Bool, cases_lt, cond-false, cond-true, le-leb, le-ltb, lt-ltb, not-false, not-true}
+use Rattle.std.proofs.lemmas.List.{append-nil, length-append}
+use Rattle.std.proofs.lemmas.List.Elements.{All-cons, All-head, All-nil, All-tail}
+use Rattle.std.proofs.lemmas.Slice.Eq.{bytes_eq-Decides}
+use Rattle.s2ix_bag.specs.Collection.{Collection, IsBag, LimitedCollection, copies_in}
+use Rattle.s2ix_bag.specs.Limits.{count_limit, pairs_limit}
+use Rattle.s2ix_bag.specs.declared.limits.Limits.{Limits}
+use Rattle.s2ix_bag.specs.declared.pair.Held.{Held}
+use Rattle.s2ix_text.specs.Dump.{dump_text, end_line, pair_line}
+use Rattle.s2ix_text.proofs.Dumps.{one_dump_of_bags}
+use Rattle.s2ix_read_dump.specs.declared.errors.DumpError.{DumpError}
+use Rattle.s2ix_read_dump.specs.declared.errors.DumpError.TheVariants.{At, OutOfMemory}
+use Rattle.s2ix_read_dump.specs.declared.errors.DumpFault.{DumpFault}
+use Rattle.s2ix_read_dump.specs.declared.errors.DumpFault.TheVariants.{Truncated, BadHeader, BadEnd, Unsorted, TooManyCopies, TooManyPairs, TrailingBytes}
+use Rattle.s2ix_read_dump.specs.DumpFaults.{IsDumpError, dump_fault, end_of, is_end, line_fault}
+use Rattle.s2ix_parts.specs.Faults.{fault_below}
+use Rattle.s2ix_parts.specs.Lines.{is_nil, lines_of}
+use Rattle.s2ix_read_dump.specs.PairLines.{IsNext, held_written, last_pair, line_text, lines_down_to, place_below}
+use Rattle.s2ix_parts.specs.Written.{comes_before}
+use Rattle.s2ix_read_dump.proofs.Appended.{counts_are, front_is_bag, here_has, next_before}
+use Rattle.s2ix_read_dump.proofs.PairTexts.{HasCount, end_is_end, end_lacks_feed, end_with_feed, held_of_line, line_is_no_end, line_lacks_feed, line_with_feed}
+use Rattle.s2ix_parts.proofs.FirstFault.{found_here, found_later, place}
+use Rattle.s2ix_parts.proofs.Pieces.{Lacks, lines_apart, lines_joined, lines_some}
+use Rattle.s2ix_read_dump.proofs.Rows.{header_row, next_fault, next_is, not_over, pair_row, truncated_row}
+use Rattle.s2ix_read_dump.proofs.Steps.{below_header, bytes_behind, copies_small, end_fault, fault_after_next, fault_left, nothing_behind}
+
+-- the lines of a dump below those of some held pairs: of the others, and the end line
+abbrev pub lines_left : Collection → Collection → List (List ℕ)
+lines_left hs ks = map line_text ks ++ end_of (length (hs ++ ks)) (copies_in (hs ++ ks)) ∷ [] ∷ []
+
+-- ---- a dump has no fault
+
+some_left : (lines : List (List ℕ)) (line : List ℕ) (more : List (List ℕ)) → is_nil (lines ++ line ∷ more) ≡ false
+some_left [] line more = refl
+some_left (first ∷ lines) line more = refl
+
+sound_left : (limits : Limits) (hs ks : Collection) → IsBag (record { limits = limits; held = hs ++ ks }) → fault_left limits hs (lines_left hs ks) ≡ None
+sound_left limits hs [] is =
+    let bag = front_is_bag limits hs [] is in
+    let sizes = copies_small limits hs bag in
+    ap (λ (x : Collection). fault_left limits hs (end_of (length x) (copies_in x) ∷ [] ∷ [])) (append-nil hs)
+    ∙ nothing_behind limits hs (end_of (length hs) (copies_in hs)) bag (end_is_end (length hs) (copies_in hs) (omega (arith, sizes.0)) (omega (arith, sizes.1))) refl
+sound_left limits hs (k ∷ ks) is =
+    let bag = front_is_bag limits hs (k ∷ ks) is in
+    let counted : HasCount k = here_has HasCount hs k ks (counts_are limits (hs ++ k ∷ ks) is) in
+    let small = here_has (λ (h : Held). h.count ≤ count_limit limits) hs k ks is.small in
+    let few : length hs < pairs_limit limits = omega (arith, length-append hs (k ∷ ks), is.few) in
+    let next = next_is limits hs (line_text k) k bag (line_is_no_end k counted) (held_of_line k counted) (next_before hs k ks is.rises) small few in
+    let With : Collection → Type 0 = λ x. IsBag (record { limits = limits; held = x }) in
+    let assoc : hs ++ k ∷ ks ≡ (hs ++ k ∷ []) ++ ks = sym (append_assoc hs (k ∷ []) ks) in
+    fault_after_next limits hs (line_text k) (map line_text ks ++ end_of (length (hs ++ k ∷ ks)) (copies_in (hs ++ k ∷ ks)) ∷ [] ∷ []) k (some_left (map line_text ks) _ _) next
+    ∙ ap (λ (x : Collection). fault_left limits (hs ++ k ∷ []) (map line_text ks ++ end_of (length x) (copies_in x) ∷ [] ∷ [])) assoc
+    ∙ sound_left limits (hs ++ k ∷ []) ks (subst With assoc is)
+
+-- the lines of a dump
+no_lines : lines_of [] ≡ [] ∷ []
+unfolding lines_of
+no_lines = refl
+
+lines_written : (ks all : Collection) → All HasCount ks → length all < 2 ^ 64 → copies_in all < 2 ^ 64 → lines_of (flat_map pair_line ks ++ end_line all) ≡ map line_text ks ++ end_of (length all) (copies_in all) ∷ [] ∷ []
+lines_written [] all counted few small =
+    ap lines_of (end_with_feed all) ∙ lines_apart (end_of (length all) (copies_in all)) [] (end_lacks_feed (length all) (copies_in all) few small)
+    ∙ ap (λ ls. end_of (length all) (copies_in all) ∷ ls) no_lines
+lines_written (k ∷ ks) all counted few small =
+    ap lines_of
+    (append_assoc (pair_line k) (flat_map pair_line ks) (end_line all) ∙ ap (λ x. x ++ (flat_map pair_line ks ++ end_line all)) (line_with_feed k)
+    ∙ append_assoc (line_text k) (10 ∷ []) (flat_map pair_line ks ++ end_line all))
+    ∙ lines_apart (line_text k) (flat_map pair_line ks ++ end_line all) (line_lacks_feed k (All-head HasCount k ks counted))
+    ∙ ap (λ ls. line_text k ∷ ls) (lines_written ks all (All-tail HasCount k ks counted) few small)
+
+header_lacks_feed : Lacks 10 (codes "s2ix 1")
+header_lacks_feed =
+    let Other : ℕ → Type 0 = λ byte. (byte == 10) ≡ false in
+    All-cons Other 115 (50 ∷ 105 ∷ 120 ∷ 32 ∷ 49 ∷ []) refl
+    (All-cons Other 50 (105 ∷ 120 ∷ 32 ∷ 49 ∷ []) refl
+    (All-cons Other 105 (120 ∷ 32 ∷ 49 ∷ []) refl
+    (All-cons Other 120 (32 ∷ 49 ∷ []) refl
+    (All-cons Other 32 (49 ∷ []) refl
+    (All-cons Other 49 [] refl (All-nil Other))))))
+
+-- a dump of a collection within the limits has no fault
+pub dump_is_sound : (limits : Limits) (hs : Collection) → IsBag (record { limits = limits; held = hs }) → dump_fault limits (dump_text hs) ≡ None
+unfolding dump_text
+dump_is_sound limits hs is =
+    let sizes = copies_small limits hs is in
+    let below = flat_map pair_line hs ++ end_line hs in
+    below_header limits (codes "s2ix 1" ++ 10 ∷ below) (codes "s2ix 1") below (lines_apart (codes "s2ix 1") below header_lacks_feed) refl
+    ∙ ap (fault_left limits []) (lines_written hs hs (counts_are limits hs is) (omega (arith, sizes.0)) (omega (arith, sizes.1)))
+    ∙ sound_left limits [] hs is
+
+-- ---- a text without a fault is a dump
+
+none_at : (limits : Limits) (above : List (List ℕ)) (line : List ℕ) (lines : List (List ℕ)) (o : Option DumpFault) → line_fault (place limits above line lines) ≡ o → fault_below line_fault limits above (line ∷ lines) ≡ None → line_fault (place limits above line lines) ≡ None
+none_at limits above line lines None is none = is
+none_at limits above line lines (Some it) is none =
+    let clash : ◌≡◌ {A = Option (ℕ × DumpFault)} (Some (length above + 1, it)) None = sym (found_here line_fault limits above line lines it is) ∙ none in cc
+
+none_here : (limits : Limits) (above : List (List ℕ)) (line : List ℕ) (lines : List (List ℕ)) → fault_below line_fault limits above (line ∷ lines) ≡ None → line_fault (place limits above line lines) ≡ None
+none_here limits above line lines none = none_at limits above line lines (line_fault (place limits above line lines)) refl none
+
+next_at : (limits : Limits) (hs : Collection) (line : List ℕ) (written : Result Held DumpFault) → IsBag (record { limits = limits; held = hs }) → is_end line ≡ false → held_written line ≡ written → next_fault limits hs written ≡ None → (h : Held) × IsNext limits hs line h
+unfolding next_fault
+next_at limits hs line (Err fault) is no_end writes none = cc
+next_at limits hs line (Ok h) is no_end writes none =
+    ⊎_elim
+    (λ before. let rest = sym (cond-false _ _ _ (ap not before)) ∙ none in
+    ⊎_elim
+    (λ many. let clash : Some TooManyCopies ≡ None = sym (cond-true _ _ _ (lt-ltb (count_limit limits) h.count many)) ∙ rest in cc)
+    (λ small. let last = sym (cond-false _ _ _ (le-ltb (count_limit limits) h.count small)) ∙ rest in
+    ⊎_elim
+    (λ few. (h, next_is limits hs line h is no_end writes before small few))
+    (λ full. let clash : Some TooManyPairs ≡ None = sym (cond-true _ _ _ (le-leb (pairs_limit limits) (length hs) full)) ∙ last in cc)
+    (cases_lt (length hs) (pairs_limit limits)))
+    (cases_lt (count_limit limits) h.count))
+    (λ not_before. let clash : Some Unsorted ≡ None = sym (cond-true _ _ _ (ap not not_before)) ∙ none in cc)
+    (cases_Bool (comes_before (last_pair hs) (Some h.pair)))
+
+next_from : (limits : Limits) (hs : Collection) (line : List ℕ) → IsBag (record { limits = limits; held = hs }) → is_end line ≡ false → line_fault (place_below limits hs line) ≡ None → (h : Held) × IsNext limits hs line h
+next_from limits hs line is no_end none =
+    next_at limits hs line (held_written line) is no_end refl (sym (pair_row limits hs line is no_end) ∙ none)
+
+end_from : (limits : Limits) (hs : Collection) (line : List ℕ) → IsBag (record { limits = limits; held = hs }) → is_end line ≡ true → line_fault (place_below limits hs line) ≡ None → line ≡ end_of (length hs) (copies_in hs)
+end_from limits hs line is end none =
+    ⊎_elim
+    (λ same. (bytes_eq-Decides line (end_of (length hs) (copies_in hs))).0 same)
+    (λ other.
+    let fault = end_fault limits hs line is end (λ e. both_ways (bytes_eq line (end_of (length hs) (copies_in hs))) other ((bytes_eq-Decides line (end_of (length hs) (copies_in hs))).1 e)) in
+    let clash : Some BadEnd ≡ None = sym fault ∙ none in cc)
+    (cases_Bool (bytes_eq line (end_of (length hs) (copies_in hs))))
+
+-- nothing is left behind the end line
+end_left : (limits : Limits) (hs : Collection) (line last : List ℕ) (lines : List (List ℕ)) → IsBag (record { limits = limits; held = hs }) → is_end line ≡ true → line ≡ end_of (length hs) (copies_in hs) → fault_left limits hs (line ∷ last ∷ lines) ≡ None
+    → line ∷ last ∷ lines ≡ end_of (length hs) (copies_in hs) ∷ [] ∷ []
+end_left limits hs line [] [] is end same none = ap (λ x. x ∷ [] ∷ []) same
+end_left limits hs line (byte ∷ last) [] is end same none =
+    let clash : ◌≡◌ {A = Option (ℕ × DumpFault)} (Some (length hs + 3, TrailingBytes)) None = sym (bytes_behind limits hs line (byte ∷ last) [] is end same refl) ∙ none in cc
+end_left limits hs line last (more ∷ lines) is end same none =
+    let clash : ◌≡◌ {A = Option (ℕ × DumpFault)} (Some (length hs + 3, TrailingBytes)) None = sym (bytes_behind limits hs line last (more ∷ lines) is end same refl) ∙ none in cc
+
+-- what is left of a dump: more held pairs, and the end line
+record IsLeft (limits : Limits) (hs : Collection) (lines : List (List ℕ)) (ks : Collection) : Type 0 where
+  bag : IsBag (record { limits = limits; held = hs ++ ks })
+  is : lines ≡ lines_left hs ks
+
+left_end : (limits : Limits) (hs : Collection) (lines : List (List ℕ)) → IsBag (record { limits = limits; held = hs }) → lines ≡ end_of (length hs) (copies_in hs) ∷ [] ∷ [] → IsLeft limits hs lines []
+left_end limits hs lines is same =
+    let With : Collection → Type 0 = λ x. IsBag (record { limits = limits; held = x }) in
+    let whole : hs ≡ hs ++ [] = sym (append-nil hs) in
+    record {
+      bag = subst With whole is;
+      is = same ∙ ap (λ (x : Collection). end_of (length x) (copies_in x) ∷ [] ∷ []) whole;
+    }
+
+left_more : (limits : Limits) (hs : Collection) (line : List ℕ) (lines : List (List ℕ)) (h : Held) (ks : Collection) → line ≡ line_text h → IsLeft limits (hs ++ h ∷ []) lines ks → IsLeft limits hs (line ∷ lines) (h ∷ ks)
+left_more limits hs line lines h ks same left =
+    let With : Collection → Type 0 = λ x. IsBag (record { limits = limits; held = x }) in
+    let assoc : (hs ++ h ∷ []) ++ ks ≡ hs ++ h ∷ ks = append_assoc hs (h ∷ []) ks in
+    record {
+      bag = subst With assoc left.bag;
+      is = ap₂ (λ (x : List ℕ) (xs : List (List ℕ)). x ∷ xs) same (left.is ∙ ap (λ (x : Collection). map line_text ks ++ end_of (length x) (copies_in x) ∷ [] ∷ []) assoc);
+    }
+
+left_from : (limits : Limits) (hs : Collection) (lines : List (List ℕ)) → IsBag (record { limits = limits; held = hs }) → is_nil lines ≡ false → fault_left limits hs lines ≡ None → (ks : Collection) × IsLeft limits hs lines ks
+left_from limits hs [] is some none = cc
+left_from limits hs (line ∷ []) is some none =
+    let fault = truncated_row (place limits (lines_down_to hs) line []) (not_over hs (counts_are limits hs is)) refl in
+    let clash : Some Truncated ≡ None = sym fault ∙ none_here limits (lines_down_to hs) line [] none in cc
+left_from limits hs (line ∷ (last ∷ lines)) is some none =
+    let sound = none_here limits (lines_down_to hs) line (last ∷ lines) none in
+    ⊎_elim
+    (λ end.
+    let same = end_from limits hs line is end sound in
+    ([], left_end limits hs (line ∷ last ∷ lines) is (end_left limits hs line last lines is end same none)))
+    (λ no_end.
+    let next = next_from limits hs line is no_end sound in
+    let later = left_from limits (hs ++ next.0 ∷ []) (last ∷ lines) next.1.bag refl (sym (fault_after_next limits hs line (last ∷ lines) next.0 refl next.1) ∙ none) in
+    (next.0 ∷ later.0, left_more limits hs line (last ∷ lines) next.0 later.0 next.1.text later.1))
+    (cases_Bool (is_end line))
+
+-- lines put together
+join_more : (line : List ℕ) (lines : List (List ℕ)) → is_nil lines ≡ false → join_with_byte 10 (line ∷ lines) ≡ line ++ 10 ∷ join_with_byte 10 lines
+join_more line [] some = cc
+join_more line (next ∷ lines) some = refl
+
+join_left : (ks : Collection) (end : List ℕ) → join_with_byte 10 (map line_text ks ++ end ∷ [] ∷ []) ≡ flat_map pair_line ks ++ (end ++ 10 ∷ [])
+join_left [] end = refl
+join_left (k ∷ ks) end =
+    join_more (line_text k) (map line_text ks ++ end ∷ [] ∷ []) (some_left (map line_text ks) end ([] ∷ []))
+    ∙ ap (λ x. line_text k ++ 10 ∷ x) (join_left ks end)
+    ∙ sym (append_assoc (line_text k) (10 ∷ []) (flat_map pair_line ks ++ (end ++ 10 ∷ [])))
+    ∙ ap (λ x. x ++ (flat_map pair_line ks ++ (end ++ 10 ∷ []))) (sym (line_with_feed k))
+    ∙ sym (append_assoc (pair_line k) (flat_map pair_line ks) (end ++ 10 ∷ []))
+
+empty_bag : (limits : Limits) → IsBag (record { limits = limits; held = [] })
+empty_bag limits = record { rises = tt; few = omega arith; small = λ k d within. absurd (omega arith) }
+
+header_from : (limits : Limits) (header next : List ℕ) (lines : List (List ℕ)) → fault_below line_fault limits [] (header ∷ next ∷ lines) ≡ None → header ≡ codes "s2ix 1"
+header_from limits header next lines none =
+    ⊎_elim
+    (λ same. (bytes_eq-Decides header (codes "s2ix 1")).0 same)
+    (λ other.
+    let fault = header_row limits header ∙ cond-true _ _ _ (ap not other) in
+    let clash : Some BadHeader ≡ None = sym fault ∙ none_here limits [] header (next ∷ lines) none in cc)
+    (cases_Bool (bytes_eq header (codes "s2ix 1")))
+
+lines_are_dump : (limits : Limits) (lines : List (List ℕ)) → is_nil lines ≡ false → fault_below line_fault limits [] lines ≡ None → (ks : Collection) × IsBag (record { limits = limits; held = ks }) × (join_with_byte 10 lines ≡ dump_text ks)
+unfolding dump_text
+lines_are_dump limits [] some none = cc
+lines_are_dump limits (header ∷ []) some none =
+    let fault = truncated_row (place limits [] header []) refl refl in
+    let clash : Some Truncated ≡ None = sym fault ∙ none_here limits [] header [] none in cc
+lines_are_dump limits (header ∷ (next ∷ lines)) some none =
+    let is = header_from limits header next lines none in
+    let later = sym (found_later line_fault limits [] header (next ∷ lines) (none_here limits [] header (next ∷ lines) none)) ∙ none in
+    let left = left_from limits [] (next ∷ lines) (empty_bag limits) refl (ap (λ (h : List ℕ). fault_below line_fault limits (h ∷ []) (next ∷ lines)) (sym is) ∙ later) in (
+      left.0,
+      left.1.bag,
+      ap (λ h. h ++ 10 ∷ join_with_byte 10 (next ∷ lines)) is
+          ∙ ap (λ (ls : List (List ℕ)). codes "s2ix 1" ++ 10 ∷ join_with_byte 10 ls) left.1.is
+          ∙ ap (λ x. codes "s2ix 1" ++ 10 ∷ x) (join_left left.0 (end_of (length left.0) (copies_in left.0)) ∙ ap (λ x. flat_map pair_line left.0 ++ x) (sym (end_with_feed left.0))),
+    )
+
+pub sound_is_dump : (limits : Limits) (text : List ℕ) → dump_fault limits text ≡ None → (ks : Collection) × IsBag (record { limits = limits; held = ks }) × (text ≡ dump_text ks)
+unfolding dump_fault
+sound_is_dump limits text none =
+    let dump = lines_are_dump limits (lines_of text) (lines_some text) none in
+    (dump.0, dump.1, sym (lines_joined text) ∙ dump.2)
+
+pub dumps_have_no_fault : (limits : Limits) (text : List ℕ) → (dump_fault limits text ≡ None) ↔ ((hs : Collection) × IsBag (record { limits = limits; held = hs }) × (text ≡ dump_text hs))
+dumps_have_no_fault limits text = (sound_is_dump limits text, λ dump. ap (dump_fault limits) dump.2 ∙ dump_is_sound limits dump.0 dump.1)
+
+-- ---- what a reader answers
+
+-- a dump within the limits is not refused
+pub never_refused : (limits : Limits) (text : List ℕ) (hs : Collection) (found : ℕ × DumpFault) → IsBag (record { limits = limits; held = hs }) → text ≡ dump_text hs → dump_fault limits text ≡ Some found → ⊥
+never_refused limits text hs found is same refused =
+    let clash : ◌≡◌ {A = Option (ℕ × DumpFault)} (Some found) None = sym refused ∙ ap (dump_fault limits) same ∙ dump_is_sound limits hs is in cc
+
+pub only_memory : (limits : Limits) (text : List ℕ) (hs : Collection) (error : DumpError) → IsBag (record { limits = limits; held = hs }) → text ≡ dump_text hs → IsDumpError error (dump_fault limits text) → error ≡ OutOfMemory
+only_memory limits text hs OutOfMemory is same refused = refl
+only_memory limits text hs (At line fault) is same refused = absurd (never_refused limits text hs (line, fault) is same refused)
+
+pub dump_put_together : (text header below : List ℕ) (hs : Collection) → text ≡ header ++ 10 ∷ below → header ≡ codes "s2ix 1" → below ≡ flat_map pair_line hs ++ end_line hs → text ≡ dump_text hs
+unfolding dump_text
+dump_put_together text header below hs cut is parts = cut ∙ ap (λ h. h ++ 10 ∷ below) is ∙ ap (λ b. codes "s2ix 1" ++ 10 ∷ b) parts
+
+pub one_held : (limits : Limits) (text : List ℕ) (held hs : Collection) → IsBag (record { limits = limits; held = held }) → IsBag (record { limits = limits; held = hs }) → text ≡ dump_text held → text ≡ dump_text hs → held ≡ hs
+one_held limits text held hs held_is is own same = one_dump_of_bags (record { limits = limits; held = held }) (record { limits = limits; held = hs }) held_is is (sym own ∙ same)
+
+-- what `!=` tells of a header
+pub differs : (xs ys : List ℕ) (r : Bool) → r ≡ not (bytes_eq xs ys) → r ≡ true → xs ≡ ys → ⊥
+differs xs ys r is holds same = both_ways (bytes_eq xs ys) (not-true (bytes_eq xs ys) (sym is ∙ holds)) ((bytes_eq-Decides xs ys).1 same)
+
+pub agrees : (xs ys : List ℕ) (r : Bool) → r ≡ not (bytes_eq xs ys) → r ≡ false → xs ≡ ys
+agrees xs ys r is fails = (bytes_eq-Decides xs ys).0 (not-false (bytes_eq xs ys) (sym is ∙ fails))
+
+-- ---- laws
+
+pub written_dumps_are_read_back : (bag : LimitedCollection) → IsBag bag
+    → (dump_fault bag.limits (dump_text bag.held) ≡ None) × ((other : LimitedCollection) → IsBag other → dump_text bag.held ≡ dump_text other.held → bag.held ≡ other.held)
+written_dumps_are_read_back bag is = (dump_is_sound bag.limits bag.held is, λ other other_is same. one_dump_of_bags bag other is other_is same)
+
+sound_lines : (limits : Limits) (front above : List (List ℕ)) (line : List ℕ) (below : List (List ℕ)) → fault_below line_fault limits front (above ++ line ∷ below) ≡ None → line_fault (place limits (front ++ above) line below) ≡ None
+sound_lines limits front [] line below none =
+    subst (λ (ls : List (List ℕ)). line_fault (place limits ls line below) ≡ None) (sym (append-nil front)) (none_here limits front line below none)
+sound_lines limits front (first ∷ above) line below none =
+    let sound = none_here limits front first (above ++ line ∷ below) none in
+    let rest = sym (found_later line_fault limits front first (above ++ line ∷ below) sound) ∙ none in
+    subst (λ (ls : List (List ℕ)). line_fault (place limits ls line below) ≡ None) (append_assoc front (first ∷ []) above) (sound_lines limits (front ++ first ∷ []) above line below rest)
+
+pub no_faulty_line_is_accepted : (limits : Limits) (text : List ℕ) → dump_fault limits text ≡ None → (above : List (List ℕ)) (line : List ℕ) (below : List (List ℕ)) → lines_of text ≡ above ++ line ∷ below
+    → line_fault (place limits above line below) ≡ None
+unfolding dump_fault
+no_faulty_line_is_accepted limits text none above line below are = sound_lines limits [] above line below (ap (fault_below line_fault limits []) (sym are) ∙ none)

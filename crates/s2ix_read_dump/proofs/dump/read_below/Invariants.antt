@@ -1,0 +1,10 @@
+-- The lines so far are those of what is held.
+use Rattle.std.proofs.Common.{length}
+use Rattle.s2ix_read_dump.proofs.Steps.{IsReadSoFar}
+use Rattle.s2ix_read_dump.proofs.dump.read_below.Given as goal
+
+abbrev pub invariant-loop-line : goal.invariant-loop-line
+invariant-loop-line l = IsReadSoFar l.limits l.text l.held.items l.copies l.rest
+
+abbrev pub decreases-loop-line : goal.decreases-loop-line
+decreases-loop-line l = length l.rest

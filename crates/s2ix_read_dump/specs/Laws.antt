@@ -1,0 +1,26 @@
+-- What the definitions of readers say, in other words: each of these is proved, by the function of `laws` of its name.
+use Rattle.std.specs.Prelude.{◌≡◌, ◌↔◌, ℕ, not, None, List, ◌∷◌, ◌++◌}
+use Rattle.s2ix_bag.specs.Collection.{Collection, LimitedCollection, IsBag}
+use Rattle.s2ix_bag.specs.declared.limits.Limits.{Limits}
+use Rattle.s2ix_text.specs.Dump.{dump_text}
+use Rattle.s2ix_read_dump.specs.DumpFaults.{dump_fault, line_fault}
+use Rattle.s2ix_parts.specs.Lines.{is_nil, lines_of}
+
+-- a text has no fault exactly where it is the dump of a collection within the limits
+abbrev pub DumpsHaveNoFault : Type 0
+DumpsHaveNoFault =
+    (limits : Limits) (text : List ℕ)
+    → (dump_fault limits text ≡ None) ↔ ((hs : Collection) × IsBag (record { limits = limits; held = hs }) × (text ≡ dump_text hs))
+
+-- what was written of a bag has no fault under its limits, and no other bag has that text
+abbrev pub WrittenDumpsAreReadBack : Type 0
+WrittenDumpsAreReadBack =
+    (bag : LimitedCollection) → IsBag bag
+    → (dump_fault bag.limits (dump_text bag.held) ≡ None) × ((other : LimitedCollection) → IsBag other → dump_text bag.held ≡ dump_text other.held → bag.held ≡ other.held)
+
+-- no line of a text without a fault has one
+abbrev pub NoFaultyLineIsAccepted : Type 0
+NoFaultyLineIsAccepted =
+    (limits : Limits) (text : List ℕ) → dump_fault limits text ≡ None
+    → (above : List (List ℕ)) (line : List ℕ) (below : List (List ℕ)) → lines_of text ≡ above ++ line ∷ below
+    → line_fault (record { limits = limits; above = above; line = line; ended = not (is_nil below) }) ≡ None

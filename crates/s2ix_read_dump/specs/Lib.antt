@@ -1,0 +1,3 @@
+pub mod DumpFaults
+pub mod Laws
+pub mod PairLines

@@ -1,0 +1,123 @@
+//! Dumps, read back.
+ghost use Rattle.std.specs.Prelude.{◌≡◌, ◌∷◌, ◌++◌, [], codes, flat_map, IfErr, IfOk, MatchResult, None, OnOk, IsTrue, ◌↔◌, true};
+ghost use Rattle.s2ix_bag.specs.Collection.{Collection, IsBag};
+ghost use Rattle.s2ix_text.specs.Dump.{dump_text, end_line, pair_line};
+ghost use Rattle.s2ix_read_dump.specs.declared.errors.DumpError.TheVariants.{OutOfMemory};
+ghost use Rattle.s2ix_read_dump.specs.DumpFaults.{IsDumpError, dump_fault, end_of, is_end, line_fault};
+ghost use Rattle.s2ix_parts.specs.Faults.{fault_below};
+ghost use Rattle.s2ix_parts.specs.Lines.{lines_of};
+ghost use Rattle.s2ix_read_dump.specs.PairLines.{lines_down_to};
+
+use crate::errors::{DumpError, DumpFault};
+use crate::pair_line::next_held;
+use itoa::Buffer;
+use s2ix_bag::{Bag, Held, Limits};
+use s2ix_parts::{cut_line, first_part, three_parts};
+use std::alloc::{AllocError, Global};
+
+// Whether a line that begins with `end` is the end line of so many pairs and copies.
+fn is_end_of(pairs: usize, copies: u64, line: &[u8]) -> bool
+    requires { is_end line.now ≡ true }
+    ensures { IsTrue result ↔ (line.now ≡ end_of pairs copies) }
+{
+    let Some((_, pairs_text, copies_text)) = three_parts(line) else {
+        return false;
+    };
+    let mut pairs_digits = Buffer::new();
+    let mut copies_digits = Buffer::new();
+    let same_pairs = pairs_text == pairs_digits.format(pairs).as_bytes();
+    let same_copies = copies_text == copies_digits.format(copies).as_bytes();
+    same_pairs && same_copies
+}
+
+// Room for as many pairs as a text has line feeds, within the limit.
+fn room_for(alloc: Global, limits: Limits, text: &[u8]) -> Result<Vec<Held>, AllocError>
+    ensures { IfOk result (λ room. room.items ≡ []) }
+{
+    let feeds = text.iter().filter(|byte| **byte == b'\n').count();
+    Vec::with_capacity(alloc, feeds.min(limits.pairs() as usize))
+}
+
+// Appends a held pair.
+fn push(held: &mut Vec<Held>, next: Held) -> Result<(), AllocError>
+    ensures { OnOk result (held.new.items ≡ held.old.items ++ next ∷ []) }
+{
+    held.push(next)?;
+    Ok(())
+}
+
+// What is read of a dump below its header, into a list that is empty at first.
+fn read_below(limits: Limits, room: Vec<Held>, text: &[u8]) -> Result<Vec<Held>, DumpError>
+    requires { room.items ≡ [] }
+    ensures bag { IfOk result (λ held. IsBag (record { limits = limits; held = held.items })) }
+    ensures text { IfOk result (λ held. text.now ≡ flat_map pair_line held.items ++ end_line held.items) }
+    ensures accepted { OnOk result (fault_below line_fault limits (lines_down_to []) (lines_of text.now) ≡ None) }
+    ensures refused { IfErr result (λ error. IsDumpError error (fault_below line_fault limits (lines_down_to []) (lines_of text.now))) }
+{
+    let mut held = room;
+    let mut copies = 0;
+    let mut rest = text;
+    while let Some((line, below)) = cut_line(rest) {
+        let number = held.len() + 2;
+        if first_part(line) == b"end".as_slice() {
+            if !is_end_of(held.len(), copies, line) {
+                return Err(DumpError::At {
+                    line: number,
+                    fault: DumpFault::BadEnd,
+                });
+            }
+            if !below.is_empty() {
+                return Err(DumpError::At {
+                    line: number + 1,
+                    fault: DumpFault::TrailingBytes,
+                });
+            }
+            return Ok(held);
+        }
+        match next_held(limits, held.as_slice(), line) {
+            Ok(next) => {
+                copies += u64::from(next.count);
+                push(&mut held, next)?;
+            }
+            Err(fault) => return Err(DumpError::At {
+                line: number,
+                fault,
+            }),
+        }
+        rest = below;
+    }
+    Err(DumpError::At {
+        line: held.len() + 2,
+        fault: DumpFault::Truncated,
+    })
+}
+
+/// Reads a dump under limits: the bag whose dump the text is, or the first line that has a fault and the first fault of that line.
+///
+/// Lines count from 1. Want of memory may be told in place of a fault of line 2 or a later one. O(n) for n bytes, and one growth.
+/// This project's own.
+pub fn read_dump(alloc: Global, text: &[u8], limits: Limits) -> Result<Bag, DumpError>
+    ensures limits { IfOk result (λ bag. bag.limits ≡ limits) }
+    ensures within { IfOk result IsBag }
+    ensures text { IfOk result (λ bag. text.now ≡ dump_text bag.held) }
+    ensures every { (hs : Collection) → IsBag (record { limits = limits; held = hs }) → text.now ≡ dump_text hs
+        → MatchResult result (λ bag. bag.held ≡ hs) (λ error. error ≡ OutOfMemory) }
+    ensures accepted { OnOk result (dump_fault limits text.now ≡ None) }
+    ensures refused { IfErr result (λ error. IsDumpError error (dump_fault limits text.now)) }
+{
+    let Some((header, below)) = cut_line(text) else {
+        return Err(DumpError::At {
+            line: 1,
+            fault: DumpFault::Truncated,
+        });
+    };
+    if header != b"s2ix 1".as_slice() {
+        return Err(DumpError::At {
+            line: 1,
+            fault: DumpFault::BadHeader,
+        });
+    }
+    let room = room_for(alloc, limits, below)?;
+    let held = read_below(limits, room, below)?;
+    Ok(Bag::from_vec(limits, held))
+}

@@ -1,0 +1,62 @@
+ghost use Rattle.std.specs.Prelude.{◌≡◌};
+ghost use Rattle.s2ix_read_dump.specs.declared.errors.DumpError.TheVariants.{OutOfMemory};
+
+use std::alloc::AllocError;
+use thiserror::Error;
+
+/// What is wrong with a line of a dump. On one line the first of these that stands is told. This project's own.
+#[derive(Clone, Copy, Debug, PartialEq, Eq, Error)]
+pub enum DumpFault {
+    /// A line is wanted here, and what is left of the text has no line feed.
+    #[error("a line is missing or has no line feed")]
+    Truncated,
+    /// The first line is not `s2ix 1`.
+    #[error("the first line is not `s2ix 1`")]
+    BadHeader,
+    /// The line begins with `end` and is not `end PAIRS COPIES` with the right numbers.
+    #[error("the end line doesn't count the lines above it")]
+    BadEnd,
+    /// The line has not exactly three parts with one space between each two.
+    #[error("not three parts with one space between each two")]
+    BadLine,
+    /// The first part is no cell's canonical token.
+    #[error("the first part is no canonical token")]
+    BadToken,
+    /// The second part is no canonical number of at most 2147483647.
+    #[error("the second part is no canonical number of a label")]
+    BadLabel,
+    /// The third part is no canonical number from 1 to 65535.
+    #[error("the third part is no canonical number from 1 to 65535")]
+    BadCount,
+    /// The pair is not above that of the line before.
+    #[error("the pair is not above that of the line before")]
+    Unsorted,
+    /// The count is above the limit.
+    #[error("a count above the limit")]
+    TooManyCopies,
+    /// As many pairs as the limit allows stand above.
+    #[error("more pairs than the limit")]
+    TooManyPairs,
+    /// Bytes follow the end line.
+    #[error("bytes behind the end line")]
+    TrailingBytes,
+}
+
+/// Why [`read_dump`](crate::read_dump) refused a text.
+#[derive(Clone, Copy, Debug, PartialEq, Eq, Error)]
+pub enum DumpError {
+    /// The first line with a fault, counted from 1.
+    #[error("line {line}: {fault}")]
+    At { line: usize, fault: DumpFault },
+    /// A growth was refused.
+    #[error("out of memory")]
+    OutOfMemory,
+}
+
+impl From<AllocError> for DumpError {
+    ghost from_gives = { λ _ error. error ≡ OutOfMemory };
+
+    fn from(_: AllocError) -> Self {
+        DumpError::OutOfMemory
+    }
+}

@@ -1,0 +1,11 @@
+//! The reader of dumps. It accepts exactly the texts that are a collection's dump within the limits, and gives that collection; any other
+//! text is refused with its first faulty line and what is wrong there.
+#![tactic(auto)]
+
+mod dump;
+mod errors;
+pub mod laws;
+mod pair_line;
+
+pub use dump::read_dump;
+pub use errors::{DumpError, DumpFault};

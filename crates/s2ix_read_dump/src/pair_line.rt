@@ -1,0 +1,70 @@
+//! The line of a held pair.
+ghost use Rattle.std.specs.Prelude.{◌≡◌, ◌<◌, ◌↔◌, false, IfErr, IfOk, IsTrue, Some};
+ghost use Rattle.s2ix_bag.specs.Pair.{rank_of};
+ghost use Rattle.s2ix_bag.specs.Collection.{IsBag};
+ghost use Rattle.s2ix_read_dump.specs.DumpFaults.{is_end, line_fault};
+ghost use Rattle.s2ix_read_dump.specs.PairLines.{IsNext, held_written as held_that, last_pair, place_below};
+ghost use Rattle.s2ix_parts.specs.Written.{comes_before};
+
+use crate::errors::DumpFault;
+use s2ix_bag::{Held, Limits, Pair};
+use s2ix_parts::{cell_written, count_written, label_written, three_parts};
+
+// The held pair that a line writes, or the first fault of its parts.
+fn held_written(line: &[u8]) -> Result<Held, DumpFault>
+    ensures { result ≡ held_that line.now }
+{
+    let Some((token, label, count)) = three_parts(line) else {
+        return Err(DumpFault::BadLine);
+    };
+    let Some(cell) = cell_written(token) else {
+        return Err(DumpFault::BadToken);
+    };
+    let Some(label) = label_written(label) else {
+        return Err(DumpFault::BadLabel);
+    };
+    let Some(count) = count_written(count) else {
+        return Err(DumpFault::BadCount);
+    };
+    Ok(Held {
+        pair: Pair { cell, label },
+        count,
+    })
+}
+
+// Whether `one` comes before `other`: by cell, then by label.
+fn is_before(one: Pair, other: Pair) -> bool
+    ensures { IsTrue result ↔ (rank_of one < rank_of other) }
+{
+    one < other
+}
+
+// Whether a pair comes behind the last of those before, where there is one.
+fn comes_behind(before: &[Held], pair: Pair) -> bool
+    ensures { result ≡ comes_before (last_pair before.now) (Some pair) }
+{
+    match before.last() {
+        Some(last) => is_before(last.pair, pair),
+        None => true,
+    }
+}
+
+/// The held pair of the line that follows those of the pairs before, or the fault of that line.
+pub fn next_held(limits: Limits, before: &[Held], line: &[u8]) -> Result<Held, DumpFault>
+    requires bag { IsBag (record { limits = limits; held = before.now }) }
+    requires pair { is_end line.now ≡ false }
+    ensures next { IfOk result (IsNext limits before.now line.now) }
+    ensures fault { IfErr result (λ fault. line_fault (place_below limits before.now line.now) ≡ Some fault) }
+{
+    let next = held_written(line)?;
+    if !comes_behind(before, next.pair) {
+        return Err(DumpFault::Unsorted);
+    }
+    if next.count > limits.count() {
+        return Err(DumpFault::TooManyCopies);
+    }
+    if before.len() >= limits.pairs() as usize {
+        return Err(DumpFault::TooManyPairs);
+    }
+    Ok(next)
+}
