@@ -1,0 +1,6 @@
+//! The export of a bag: what it holds as one line of JSON, for other programs.
+#![tactic(auto)]
+
+mod exporting;
+
+pub use exporting::export;
