@@ -14,3 +14,7 @@ pair_json h = concat (codes "[\"" ∷ canonical_token (raw_of h.pair.cell) ∷ c
 -- the one export of a collection: {"pairs":[..],"version":1}, with a comma between two pairs
 unfoldable pub export_text : Collection → List ℕ
 export_text hs = codes "{\"pairs\":[" ++ (join_by pair_json (codes ",") hs ++ codes "],\"version\":1}")
+
+-- the export on a line of its own
+abbrev pub export_line : Collection → List ℕ
+export_line hs = export_text hs ++ codes "\n"
