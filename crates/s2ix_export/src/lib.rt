@@ -2,5 +2,6 @@
 #![tactic(auto)]
 
 mod exporting;
+pub mod laws;
 
 pub use exporting::export;
