@@ -82,6 +82,7 @@ fn by_query(alloc: Global, word: &str, fields: Fields<'_>) -> Result<Instruction
         "ranges" => Ok(bare(Instruction::Ranges, fields)?),
         "dump" => Ok(bare(Instruction::Dump, fields)?),
         "journal" => Ok(bare(Instruction::Journal, fields)?),
+        "export" => Ok(bare(Instruction::Export, fields)?),
         _ => Ok(by_cell(word, fields)?),
     }
 }
