@@ -8,7 +8,7 @@ pub mod Spans
 pub mod Nested
 pub mod Ancestry
 mod PathTexts
-mod Digits
+pub mod Digits
 pub mod Printing
 pub mod Cells
 mod Reading

@@ -1,3 +1,4 @@
 pub mod Pieces
 pub mod Numerals
 pub mod FirstFault
+pub mod Fronts

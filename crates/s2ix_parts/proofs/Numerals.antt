@@ -132,11 +132,14 @@ count_from_number text n is = ap (option_and_then count_from) is
 pub count_within : (n : ℕ) → 1 ≤ n → n ≤ 65535 → count_from n ≡ Some n
 count_within n low high = cond-true _ _ _ (and_from _ _ (le-leb 1 n low) (le-leb n 65535 high))
 
-pub count_zero : (n : ℕ) → n < 1 → count_from n ≡ None
+count_zero : (n : ℕ) → n < 1 → count_from n ≡ None
 count_zero n low = cond-false _ _ _ (and_left _ _ (lt-leb 1 n low))
 
-pub count_above : (n : ℕ) → 65535 < n → count_from n ≡ None
+count_above : (n : ℕ) → 65535 < n → count_from n ≡ None
 count_above n high = cond-false _ _ _ (and_right _ _ (lt-leb n 65535 high))
+
+pub count_outside : (n : ℕ) → (0 < n → 65535 < n) → count_from n ≡ None
+count_outside n outside = ⊎_elim (λ none. count_zero n none) (λ some. count_above n (outside (omega arith))) (cases_lt n 1)
 
 count_in_range : (number : Option ℕ) (n : ℕ) → option_and_then count_from number ≡ Some n → (number ≡ Some n) × (1 ≤ n) × (n ≤ 65535)
 count_in_range None n is = cc

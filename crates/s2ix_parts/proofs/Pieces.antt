@@ -1,17 +1,13 @@
 -- A text cut at a byte: where it first stands, and where it doesn't stand at all.
 use Rattle.std.proofs.Common.{◌≡◌, ◌==◌, ◌&&◌, ℕ, ◌+◌, ◌<◌, true, false, not, Option, Some, None, List, [], ◌∷◌, ◌++◌, All, length, take, drop, get_or, refl, sym, ap, ◌∙◌, subst, arith}
 use Rattle.std.specs.Prelude.{is_some, IfSome}
-use Rattle.std.specs.List.{join_with_byte, list_all, slice_split}
+use Rattle.std.specs.List.{join_with_byte, list_all}
 use Rattle.std.proofs.lemmas.Bool.{and_left, eq-eqb, eqb-true, false_from_ne_true, ne_eqb}
 use Rattle.std.proofs.lemmas.List.{drop_more, get_or-take, length-take-le, take-append-drop}
 use Rattle.std.proofs.lemmas.List.Elements.{All-from_get_or}
 use Rattle.std.proofs.lemmas.List.Splits.{join_with_byte-slice_split, length-slice_split, slice_split_at, slice_split_none}
 use Rattle.memchr.specs.Find.{IsFirstByte, is_byte}
-use Rattle.s2ix_parts.specs.Lines.{has_parts, is_nil, lines_of, parts_of}
-
--- the pieces of a text that is cut at each byte x
-abbrev pub pieces : ℕ → List ℕ → List (List ℕ)
-pieces x text = slice_split (λ byte. byte == x) text
+use Rattle.s2ix_parts.specs.Lines.{has_parts, is_nil, lines_of, parts_of, pieces_at}
 
 -- no byte of a text is x
 abbrev pub Lacks : ℕ → List ℕ → Type 0
@@ -35,34 +31,16 @@ cut_parts x text end found =
     sym (take-append-drop end text)
     ∙ ap (λ rest. take end text ++ rest) (drop_more text end 0 inside ∙ ap (λ byte. byte ∷ drop (end + 1) text) is)
 
-pub pieces_at : (x : ℕ) (text : List ℕ) (end : ℕ) → IsFirstByte (is_byte x) text (Some end) → pieces x text ≡ take end text ∷ pieces x (drop (end + 1) text)
-pieces_at x text end found =
-    ap (pieces x) (cut_parts x text end found)
+pub pieces_cut : (x : ℕ) (text : List ℕ) (end : ℕ) → IsFirstByte (is_byte x) text (Some end) → pieces_at x text ≡ take end text ∷ pieces_at x (drop (end + 1) text)
+pieces_cut x text end found =
+    ap (pieces_at x) (cut_parts x text end found)
     ∙ slice_split_at (λ byte. byte == x) (take end text) x (drop (end + 1) text) (lacks_before x text end found) (eq-eqb x x refl)
 
-pub pieces_none : (x : ℕ) (text : List ℕ) → IsFirstByte (is_byte x) text None → pieces x text ≡ text ∷ []
+pub pieces_none : (x : ℕ) (text : List ℕ) → IsFirstByte (is_byte x) text None → pieces_at x text ≡ text ∷ []
 pieces_none x text none =
     slice_split_none (λ byte. byte == x) text
     (All-from_get_or (λ byte. (byte == x) ≡ false) text 0
     (λ k within. false_from_ne_true (get_or text k 0 == x) (none k (omega arith) within)))
-
--- the same, of lines and of parts
-
-pub lines_at : (text : List ℕ) (end : ℕ) → IsFirstByte (is_byte 10) text (Some end) → lines_of text ≡ take end text ∷ lines_of (drop (end + 1) text)
-unfolding lines_of
-lines_at text end found = pieces_at 10 text end found
-
-pub lines_none : (text : List ℕ) → IsFirstByte (is_byte 10) text None → lines_of text ≡ text ∷ []
-unfolding lines_of
-lines_none text none = pieces_none 10 text none
-
-pub parts_at : (line : List ℕ) (end : ℕ) → IsFirstByte (is_byte 32) line (Some end) → parts_of line ≡ take end line ∷ parts_of (drop (end + 1) line)
-unfolding parts_of
-parts_at line end found = pieces_at 32 line end found
-
-pub parts_none : (line : List ℕ) → IsFirstByte (is_byte 32) line None → parts_of line ≡ line ∷ []
-unfolding parts_of
-parts_none line none = pieces_none 32 line none
 
 -- ---- how many parts
 
@@ -107,7 +85,7 @@ three_from_parts line a b c are some_a some_b some_c =
 
 pub lines_some : (text : List ℕ) → is_nil (lines_of text) ≡ false
 unfolding lines_of
-lines_some text = some_list (pieces 10 text) (omega (arith, length-slice_split (λ byte. byte == 10) text))
+lines_some text = some_list (pieces_at 10 text) (omega (arith, length-slice_split (λ byte. byte == 10) text))
   where
     some_list : (lines : List (List ℕ)) → 0 < length lines → is_nil lines ≡ false
     some_list [] some = absurd (omega arith)

@@ -13,13 +13,17 @@ last_of [] = None
 last_of (x ∷ []) = Some x
 last_of (x ∷ (y ∷ xs)) = last_of (y ∷ xs)
 
+-- a text cut at each byte of this number
+abbrev pub pieces_at : ℕ → List ℕ → List (List ℕ)
+pieces_at end text = slice_split (λ byte. byte == end) text
+
 -- a text cut at each line feed: its lines, and what is left behind the last line feed
 unfoldable pub lines_of : List ℕ → List (List ℕ)
-lines_of text = slice_split (λ byte. byte == 10) text
+lines_of text = pieces_at 10 text
 
 -- a line cut at each space
 unfoldable pub parts_of : List ℕ → List (List ℕ)
-parts_of line = slice_split (λ byte. byte == 32) line
+parts_of line = pieces_at 32 line
 
 -- the part of a line at this place, counted from 0; nothing where there is none
 abbrev pub part : ℕ → List ℕ → List ℕ

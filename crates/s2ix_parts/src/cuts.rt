@@ -1,30 +1,38 @@
 //! A text cut into lines, and a line into parts.
 ghost use Rattle.std.specs.Prelude.{◌≡◌, ◌∷◌, ◌++◌, [], false, true, IfNone, IfSome};
-ghost use Rattle.s2ix_parts.specs.Lines.{has_parts, lines_of, part, parts_of};
+ghost use Rattle.s2ix_parts.specs.Lines.{has_parts, lines_of, part, parts_of, pieces_at};
 
 use memchr::memchr;
 
-/// A text up to its first line feed, and what is behind that; `None` where it has no line feed.
+// A text up to the first byte `end`, and what is behind that; `None` where it has none.
+fn cut_at(text: &[u8], end: u8) -> Option<(&[u8], &[u8])>
+    ensures none { IfNone result (pieces_at end text.now ≡ text.now ∷ []) }
+    ensures cut { IfSome result (λ cut. text.now ≡ cut.0.now ++ end ∷ cut.1.now) }
+    ensures piece { IfSome result (λ cut. pieces_at end text.now ≡ cut.0.now ∷ pieces_at end cut.1.now) }
+{
+    let place = memchr(end, text)?;
+    Some((&text[..place], &text[place + 1..]))
+}
+
+/// A text up to its first line feed, and what is behind that; `None` where it has no line feed. O(n) for the n bytes of the line.
+/// This project's own.
+#[tactic(auto, unfolding(crate::specs::Lines::lines_of))]
 pub fn cut_line(text: &[u8]) -> Option<(&[u8], &[u8])>
     ensures none { IfNone result (lines_of text.now ≡ text.now ∷ []) }
     ensures cut { IfSome result (λ cut. text.now ≡ cut.0.now ++ 10 ∷ cut.1.now) }
     ensures line { IfSome result (λ cut. lines_of text.now ≡ cut.0.now ∷ lines_of cut.1.now) }
 {
-    match memchr(b'\n', text) {
-        Some(end) => Some((&text[..end], &text[end + 1..])),
-        None => None,
-    }
+    cut_at(text, b'\n')
 }
 
-/// A line up to its first space, and what is behind that; `None` where it has no space.
+/// A line up to its first space, and what is behind that; `None` where it has no space. O(n) for the n bytes of the part.
+/// This project's own.
+#[tactic(auto, unfolding(crate::specs::Lines::parts_of))]
 pub fn cut_part(line: &[u8]) -> Option<(&[u8], &[u8])>
     ensures none { IfNone result (parts_of line.now ≡ line.now ∷ []) }
     ensures part { IfSome result (λ cut. parts_of line.now ≡ cut.0.now ∷ parts_of cut.1.now) }
 {
-    match memchr(b' ', line) {
-        Some(end) => Some((&line[..end], &line[end + 1..])),
-        None => None,
-    }
+    cut_at(line, b' ')
 }
 
 /// The first part of a line.

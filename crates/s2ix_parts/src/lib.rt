@@ -3,7 +3,9 @@
 #![tactic(auto)]
 
 mod cuts;
+mod front;
 mod written;
 
 pub use cuts::{cut_line, cut_part, first_part, three_parts};
+pub use front::{number_in_front, token_in_front};
 pub use written::{cell_written, count_written, label_written, number_written};

@@ -44,8 +44,9 @@ pub fn label_written(text: &[u8]) -> Option<Label>
 pub fn count_written(text: &[u8]) -> Option<u32>
     ensures { result ≡ count_that text.now }
 {
-    match number_written(text)? {
-        count @ 1..=65535 => Some(count),
-        _ => None,
+    let count = number_written(text)?;
+    if count == 0 || count > 65535 {
+        return None;
     }
+    Some(count)
 }

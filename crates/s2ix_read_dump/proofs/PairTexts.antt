@@ -18,11 +18,11 @@ use Rattle.s2ix_bag.specs.declared.pair.Held.{Held}
 use Rattle.s2ix_text.specs.Dump.{end_line, pair_line}
 use Rattle.s2ix_text.proofs.Journals.{IsGraphic, decimal_graphic, token_graphic}
 use Rattle.s2ix_read_dump.specs.DumpFaults.{end_of, is_end}
-use Rattle.s2ix_parts.specs.Lines.{has_parts, is_nil, parts_of}
-use Rattle.s2ix_read_dump.specs.PairLines.{held_of_parts, held_written, line_text}
+use Rattle.s2ix_parts.specs.Lines.{has_parts, is_nil, lines_of, parts_of}
+use Rattle.s2ix_read_dump.specs.PairLines.{IsCut, held_of_parts, held_written, line_text}
 use Rattle.s2ix_parts.specs.Written.{cell_written, count_of_line, count_written, label_written, pair_with, pair_written}
 use Rattle.s2ix_read_dump.specs.declared.errors.DumpFault.TheVariants.{BadLine}
-use Rattle.s2ix_parts.proofs.Pieces.{Lacks, is_some_text, parts_apart, parts_joined, three_from_parts}
+use Rattle.s2ix_parts.proofs.Pieces.{Lacks, is_some_text, lines_apart, parts_apart, parts_joined, three_from_parts}
 use Rattle.s2ix_parts.proofs.Numerals.{cell_of_token, count_of_digits, label_of_digits, written_cell, written_count, written_label}
 
 -- a text of graphic bytes has no space and no line feed
@@ -70,6 +70,10 @@ token_some cell = is_some_text _ (canonical_spells (raw_of cell) cell.valid).som
 pub line_has_parts : (h : Held) → HasCount h → has_parts 3 (line_text h) ≡ true
 line_has_parts h counted =
     three_from_parts (line_text h) _ _ _ (line_parts h counted) (token_some h.pair.cell) (is_some_text _ (decimal_nonempty _ (small_label h.pair.label))) (is_some_text _ (decimal_nonempty h.count (omega (arith, counted.1))))
+
+-- that line, its line feed and more, cut
+pub line_cut : (h : Held) (text below : List ℕ) → HasCount h → text ≡ line_text h ++ 10 ∷ below → IsCut text (line_text h) below
+line_cut h text below counted is = record { whole = is; lines = ap lines_of is ∙ lines_apart (line_text h) below (line_lacks_feed h counted) }
 
 -- what a line writes, from its parts
 pub held_from : (line a b c : List ℕ) → has_parts 3 line ≡ true → parts_of line ≡ a ∷ b ∷ c ∷ [] → held_written line ≡ held_of_parts (cell_written a) (label_written b) (count_written c)
@@ -160,3 +164,13 @@ end_tested line a b c pairs_digits copies_digits pairs copies p q end are few sm
       let third : c ≡ decimal copies = ap (λ (ps : List (List ℕ)). slice_index_or ps 2 []) same in
       and_from p q (p_is ∙ (bytes_eq-Decides b pairs_digits).1 (second ∙ sym pairs_are)) (q_is ∙ (bytes_eq-Decides c copies_digits).1 (third ∙ sym copies_are)),
 )
+
+-- ---- a line, read from the front of a text
+
+pub line_of_parts : (text first second third : List ℕ) (h : Held) (label : ℕ) → text ≡ canonical_token (raw_of h.pair.cell) ++ 32 ∷ first → first ≡ decimal label ++ 32 ∷ second → second ≡ decimal h.count ++ 10 ∷ third
+    → value_of h.pair.label ≡ label → text ≡ line_text h ++ 10 ∷ third
+unfolding line_text
+line_of_parts text first second third h label token number count is =
+    token
+    ∙ ap (λ x. canonical_token (raw_of h.pair.cell) ++ 32 ∷ x) (number ∙ ap (λ n. decimal n ++ 32 ∷ second) (sym is) ∙ ap (λ x. decimal (value_of h.pair.label) ++ 32 ∷ x) count)
+    ∙ (let same : canonical_token (raw_of h.pair.cell) ++ 32 ∷ (decimal (value_of h.pair.label) ++ 32 ∷ (decimal h.count ++ 10 ∷ third)) ≡ (canonical_token (raw_of h.pair.cell) ++ 32 ∷ (decimal (value_of h.pair.label) ++ 32 ∷ decimal h.count)) ++ 10 ∷ third = simp append_assoc in same)

@@ -9,7 +9,6 @@ use Rattle.std.proofs.lemmas.List.{length-map}
 use Rattle.std.proofs.lemmas.List.Elements.{All-head, All-tail}
 use Rattle.std.proofs.lemmas.List.Folds.{list_any-append}
 use Rattle.std.proofs.lemmas.List.Sums.{sum_by-cons}
-use Rattle.s2id_core.specs.Spelled.{cell_spelled}
 use Rattle.s2id_core.specs.declared.cell_id.CellId.{CellId}
 use Rattle.s2ix_bag.specs.Collection.{Collection, IsBag, copies_in}
 use Rattle.s2ix_bag.specs.Limits.{count_limit, pairs_limit}
@@ -48,10 +47,6 @@ header_is_no_end : is_end (codes "s2ix 1") ≡ false
 unfolding parts_of
 header_is_no_end = refl
 
-header_writes_no_pair : pair_written (codes "s2ix 1") ≡ None
-unfolding pair_written cell_written cell_spelled parts_of
-header_writes_no_pair = refl
-
 no_end_among : (hs : Collection) → All HasCount hs → list_any is_end (map line_text hs) ≡ false
 no_end_among [] counted = refl
 no_end_among (h ∷ hs) counted = or_from _ _ (line_is_no_end h (All-head HasCount h hs counted)) (no_end_among hs (All-tail HasCount h hs counted))
@@ -66,8 +61,8 @@ copies_are (h ∷ hs) counted =
     ∙ ap₂ (λ m n. m + n) (count_of_text h (All-head HasCount h hs counted)) (copies_are hs (All-tail HasCount h hs counted))
     ∙ sym (sum_by-cons (λ (k : Held). k.count) h hs)
 
-pub last_is : (hs : Collection) → All HasCount hs → option_and_then pair_written (last_of (lines_down_to hs)) ≡ last_pair hs
-last_is [] counted = header_writes_no_pair
+pub last_is : (hs : Collection) → All HasCount hs → option_and_then pair_written (last_of (map line_text hs)) ≡ last_pair hs
+last_is [] counted = refl
 last_is (h ∷ []) counted = pair_of_line h (All-head HasCount h [] counted)
 last_is (h ∷ (g ∷ hs)) counted = last_is (g ∷ hs) (All-tail HasCount h (g ∷ hs) counted)
 

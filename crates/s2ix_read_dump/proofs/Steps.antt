@@ -1,9 +1,9 @@
 -- The first fault of a text, one line further.
-use Rattle.std.proofs.Common.{◌≡◌, ◌==◌, ℕ, ◌+◌, ◌≤◌, Bool, true, false, not, ◌||◌, cond, Option, Some, None, List, [], ◌∷◌, ◌++◌, length, map, refl, sym, ap, ap₂, ◌∙◌, arith, append_assoc}
-use Rattle.std.specs.Prelude.{codes, flat_map}
+use Rattle.std.proofs.Common.{◌≡◌, ◌==◌, ℕ, ◌+◌, ◌≤◌, Bool, true, false, not, ◌||◌, cond, Option, Some, None, List, [], ◌∷◌, ◌++◌, length, map, refl, sym, ap, ap₂, ◌∙◌, arith, append_assoc, subst}
+use Rattle.std.specs.Prelude.{codes, flat_map, IfSome}
 use Rattle.std.specs.List.{join_with_byte}
 use Rattle.std.specs.Str.{bytes_eq}
-use Rattle.std.proofs.lemmas.Bool.{cond-false, cond-true, eqb-true, false_from_ne_true}
+use Rattle.std.proofs.lemmas.Bool.{cond-false, cond-true, eqb-true, false_from_ne_true, not-false}
 use Rattle.std.proofs.lemmas.List.{flat_map_more, length-map, length_push, map_push, nil_from_length}
 use Rattle.std.proofs.lemmas.List.Sums.{sum_by-append}
 use Rattle.std.proofs.lemmas.Slice.Eq.{bytes_eq-Decides}
@@ -17,7 +17,7 @@ use Rattle.s2ix_read_dump.specs.declared.errors.DumpFault.TheVariants.{Truncated
 use Rattle.s2ix_read_dump.specs.DumpFaults.{dump_fault, end_of, is_end, line_fault}
 use Rattle.s2ix_parts.specs.Faults.{IsFromLine, fault_below}
 use Rattle.s2ix_parts.specs.Lines.{is_nil, lines_of, part}
-use Rattle.s2ix_read_dump.specs.PairLines.{IsNext, line_text, lines_down_to, place_below}
+use Rattle.s2ix_read_dump.specs.PairLines.{IsCut, IsNext, line_text, lines_down_to, place_below}
 use Rattle.s2ix_read_dump.proofs.Appended.{counts_are}
 use Rattle.s2ix_parts.proofs.FirstFault.{ended, found_from, found_here, found_later, found_nowhere, place}
 use Rattle.s2ix_parts.proofs.Pieces.{lines_joined, lines_some}
@@ -62,31 +62,39 @@ fault_after_next limits hs line lines h some next =
 copies_more : (hs : Collection) (h : Held) → copies_in (hs ++ h ∷ []) ≡ copies_in hs + h.count
 copies_more hs h = omega (arith, sum_by-append (λ (x : Held). x.count) hs (h ∷ []))
 
+-- a line with its line feed is a cut
+pub cut_is : (limits : Limits) (hs : Collection) (text line below : List ℕ) (h : Held) → text ≡ line ++ 10 ∷ below → lines_of text ≡ line ∷ lines_of below → IsNext limits hs line h
+    → IsCut text (line_text h) below × IsNext limits hs (line_text h) h
+cut_is limits hs text line below h cut lines next = (
+  record { whole = cut ∙ ap (λ x. x ++ 10 ∷ below) next.text; lines = lines ∙ ap (λ x. x ∷ lines_of below) next.text },
+  subst (λ x. IsNext limits hs x h) next.text next,
+)
+
 -- one held pair more
-pub read_more : (limits : Limits) (text : List ℕ) (hs : Collection) (copies : ℕ) (rest line below : List ℕ) (h : Held) → IsReadSoFar limits text hs copies rest → rest ≡ line ++ 10 ∷ below → lines_of rest ≡ line ∷ lines_of below → IsNext limits hs line h
+pub read_more : (limits : Limits) (text : List ℕ) (hs : Collection) (copies : ℕ) (rest below : List ℕ) (h : Held) → IsReadSoFar limits text hs copies rest → IsCut rest (line_text h) below → IsNext limits hs (line_text h) h
     → IsReadSoFar limits text (hs ++ h ∷ []) (copies + h.count) below
-read_more limits text hs copies rest line below h was cut lines next = record {
+read_more limits text hs copies rest below h was cut next = record {
   bag = next.bag;
   text =
-      was.text ∙ ap (λ x. flat_map pair_line hs ++ x) (cut ∙ ap (λ x. x ++ 10 ∷ below) next.text ∙ sym (append_assoc (line_text h) (10 ∷ []) below) ∙ ap (λ x. x ++ below) (sym (line_with_feed h)))
+      was.text ∙ ap (λ x. flat_map pair_line hs ++ x) (cut.whole ∙ sym (append_assoc (line_text h) (10 ∷ []) below) ∙ ap (λ x. x ++ below) (sym (line_with_feed h)))
       ∙ sym (append_assoc (flat_map pair_line hs) (pair_line h) below)
       ∙ ap (λ x. x ++ below) (flat_map_more pair_line [] hs h);
-  fault = was.fault ∙ ap (fault_left limits hs) lines ∙ fault_after_next limits hs line (lines_of below) h (lines_some below) next;
+  fault = was.fault ∙ ap (fault_left limits hs) cut.lines ∙ fault_after_next limits hs (line_text h) (lines_of below) h (lines_some below) next;
   copies = omega (arith, copies_more hs h, was.copies);
 }
 
 -- a fault of the next line
-pub read_fault : (limits : Limits) (text : List ℕ) (hs : Collection) (copies : ℕ) (rest line below : List ℕ) (fault : DumpFault) → IsReadSoFar limits text hs copies rest → lines_of rest ≡ line ∷ lines_of below → line_fault (place_below limits hs line) ≡ Some fault
-    → fault_left limits [] (lines_of text) ≡ Some (length hs + 2, fault)
-read_fault limits text hs copies rest line below fault was lines is =
-    was.fault ∙ ap (fault_left limits hs) lines
+pub row_fault : (limits : Limits) (hs : Collection) (rest line below : List ℕ) (fault : DumpFault) → lines_of rest ≡ line ∷ lines_of below → line_fault (place_below limits hs line) ≡ Some fault
+    → fault_left limits hs (lines_of rest) ≡ Some (length hs + 2, fault)
+row_fault limits hs rest line below fault lines is =
+    ap (fault_left limits hs) lines
     ∙ line_number limits hs line (lines_of below) fault (ap line_fault (ended limits (lines_down_to hs) line (lines_of below) (lines_some below)) ∙ is)
 
 -- no line feed where a line is wanted
-pub read_truncated : (limits : Limits) (text : List ℕ) (hs : Collection) (copies : ℕ) (rest : List ℕ) → IsReadSoFar limits text hs copies rest → lines_of rest ≡ rest ∷ [] → fault_left limits [] (lines_of text) ≡ Some (length hs + 2, Truncated)
-read_truncated limits text hs copies rest was lines =
-    was.fault ∙ ap (fault_left limits hs) lines
-    ∙ line_number limits hs rest [] Truncated (truncated_row (place limits (lines_down_to hs) rest []) (not_over hs (counts_are limits hs was.bag)) refl)
+pub truncated : (limits : Limits) (hs : Collection) (rest : List ℕ) → IsBag (record { limits = limits; held = hs }) → lines_of rest ≡ rest ∷ [] → fault_left limits hs (lines_of rest) ≡ Some (length hs + 2, Truncated)
+truncated limits hs rest bag lines =
+    ap (fault_left limits hs) lines
+    ∙ line_number limits hs rest [] Truncated (truncated_row (place limits (lines_down_to hs) rest []) (not_over hs (counts_are limits hs bag)) refl)
 
 -- ---- the end line
 
@@ -123,16 +131,6 @@ bytes_behind limits hs line last lines bag end is some =
     ∙ found_here line_fault limits (lines_down_to hs ++ line ∷ []) last lines TrailingBytes (last_fault limits hs line last lines end ∙ cond-true _ _ _ some)
     ∙ ap (λ n. Some (n, TrailingBytes)) (let same : length (lines_down_to hs ++ line ∷ []) + 1 ≡ length hs + 3 = omega (arith, length_push (lines_down_to hs) line, length-map hs line_text) in same)
 
--- the whole text, where nothing is behind the end line
-pub read_end : (limits : Limits) (text : List ℕ) (hs : Collection) (copies : ℕ) (rest line : List ℕ) → IsReadSoFar limits text hs copies rest → rest ≡ line ++ 10 ∷ [] → lines_of rest ≡ line ∷ lines_of [] → is_end line ≡ true → line ≡ end_of (length hs) copies
-    → (text ≡ flat_map pair_line hs ++ end_line hs) × (fault_left limits [] (lines_of text) ≡ None)
-unfolding lines_of
-read_end limits text hs copies rest line was cut lines end is =
-    let same : line ≡ end_of (length hs) (copies_in hs) = is ∙ ap (λ n. end_of (length hs) n) was.copies in (
-      was.text ∙ ap (λ x. flat_map pair_line hs ++ x) (cut ∙ ap (λ x. x ++ 10 ∷ []) same ∙ sym (end_with_feed hs)),
-      was.fault ∙ ap (fault_left limits hs) lines ∙ nothing_behind limits hs line was.bag end same,
-    )
-
 -- what is left, where it has bytes
 some_behind : (below last : List ℕ) (lines : List (List ℕ)) → is_nil below ≡ false → lines_of below ≡ last ∷ lines → (not (is_nil lines) || not (is_nil last)) ≡ true
 some_behind below last (line ∷ lines) some is = refl
@@ -146,13 +144,29 @@ lines_split : (lines : List (List ℕ)) → is_nil lines ≡ false → (last : L
 lines_split [] some = cc
 lines_split (last ∷ more) some = (last, more, refl)
 
-pub read_trailing : (limits : Limits) (text : List ℕ) (hs : Collection) (copies : ℕ) (rest line below : List ℕ) → IsReadSoFar limits text hs copies rest → lines_of rest ≡ line ∷ lines_of below → is_end line ≡ true → line ≡ end_of (length hs) copies → is_nil below ≡ false
-    → fault_left limits [] (lines_of text) ≡ Some (length hs + 3, TrailingBytes)
-read_trailing limits text hs copies rest line below was lines end is some =
-    let same : line ≡ end_of (length hs) (copies_in hs) = is ∙ ap (λ n. end_of (length hs) n) was.copies in
+pub trailing : (limits : Limits) (hs : Collection) (copies : ℕ) (rest line below : List ℕ) → IsBag (record { limits = limits; held = hs }) → copies ≡ copies_in hs → lines_of rest ≡ line ∷ lines_of below → is_end line ≡ true → line ≡ end_of (length hs) copies → is_nil below ≡ false
+    → fault_left limits hs (lines_of rest) ≡ Some (length hs + 3, TrailingBytes)
+trailing limits hs copies rest line below bag sum lines end is some =
+    let same : line ≡ end_of (length hs) (copies_in hs) = is ∙ ap (λ n. end_of (length hs) n) sum in
     let parts = lines_split (lines_of below) (lines_some below) in
-    was.fault ∙ ap (fault_left limits hs) (lines ∙ ap (λ ls. line ∷ ls) parts.2)
-    ∙ bytes_behind limits hs line parts.0 parts.1 was.bag end same (some_behind below parts.0 parts.1 some parts.2)
+    ap (fault_left limits hs) (lines ∙ ap (λ ls. line ∷ ls) parts.2)
+    ∙ bytes_behind limits hs line parts.0 parts.1 bag end same (some_behind below parts.0 parts.1 some parts.2)
+
+-- the whole text, where nothing is behind the end line
+pub read_to_end : (limits : Limits) (hs : Collection) (copies : ℕ) (rest line below : List ℕ) → IsBag (record { limits = limits; held = hs }) → copies ≡ copies_in hs → rest ≡ line ++ 10 ∷ below → lines_of rest ≡ line ∷ lines_of below → is_end line ≡ true → line ≡ end_of (length hs) copies → below ≡ []
+    → (rest ≡ end_line hs) × (fault_left limits hs (lines_of rest) ≡ None)
+unfolding lines_of
+read_to_end limits hs copies rest line below bag sum cut lines end is none =
+    let same : line ≡ end_of (length hs) (copies_in hs) = is ∙ ap (λ n. end_of (length hs) n) sum in (
+      cut ∙ ap (λ x. line ++ 10 ∷ x) none ∙ ap (λ x. x ++ 10 ∷ []) same ∙ sym (end_with_feed hs),
+      ap (fault_left limits hs) (lines ∙ ap (λ x. line ∷ lines_of x) none) ∙ nothing_behind limits hs line bag end same,
+    )
+
+pub bad_end : (limits : Limits) (hs : Collection) (copies : ℕ) (rest line below : List ℕ) → IsBag (record { limits = limits; held = hs }) → copies ≡ copies_in hs → lines_of rest ≡ line ∷ lines_of below → is_end line ≡ true → (line ≡ end_of (length hs) copies → ⊥)
+    → fault_left limits hs (lines_of rest) ≡ Some (length hs + 2, BadEnd)
+bad_end limits hs copies rest line below bag sum lines end other =
+    row_fault limits hs rest line below BadEnd lines
+    (end_fault limits hs line bag end (λ is. other (is ∙ ap (λ n. end_of (length hs) n) (sym sum))))
 
 -- ---- from the top
 
@@ -184,8 +198,8 @@ copies_small limits hs bag = (omega (arith, bag.few, limits.in_range.1), copies_
 
 -- ---- what the code of `read_below` tests
 
-pub end_test : (line first word : List ℕ) (r : Bool) → r ≡ bytes_eq first word → first ≡ part 0 line → word ≡ codes "end" → r ≡ is_end line
-end_test line first word r is first_is word_is = is ∙ ap₂ (λ (x y : List ℕ). bytes_eq x y) first_is word_is
+pub end_agrees : (line first word : List ℕ) (r : Bool) → r ≡ not (bytes_eq first word) → first ≡ part 0 line → word ≡ codes "end" → r ≡ false → is_end line ≡ true
+end_agrees line first word r is first_is word_is fails = ap₂ (λ (x y : List ℕ). bytes_eq x y) (sym first_is) (sym word_is) ∙ not-false (bytes_eq first word) (sym is ∙ fails)
 
 pub some_test : (text : List ℕ) (r : Bool) → r ≡ (length text == 0) → r ≡ false → is_nil text ≡ false
 some_test [] r is fails = let clash : true ≡ false = sym is ∙ fails in cc
@@ -194,24 +208,23 @@ some_test (byte ∷ text) r is fails = refl
 pub none_test : (text : List ℕ) (r : Bool) → r ≡ (length text == 0) → r ≡ true → text ≡ []
 none_test text r is holds = nil_from_length text (eqb-true (length text) 0 (sym is ∙ holds))
 
-pub read_to_end : (limits : Limits) (text : List ℕ) (hs : Collection) (copies : ℕ) (rest line below : List ℕ) → IsReadSoFar limits text hs copies rest → rest ≡ line ++ 10 ∷ below → lines_of rest ≡ line ∷ lines_of below → is_end line ≡ true → line ≡ end_of (length hs) copies → below ≡ []
-    → (text ≡ flat_map pair_line hs ++ end_line hs) × (fault_left limits [] (lines_of text) ≡ None)
-read_to_end limits text hs copies rest line below was cut lines end is none =
-    read_end limits text hs copies rest line was (cut ∙ ap (λ x. line ++ 10 ∷ x) none) (lines ∙ ap (λ x. line ∷ lines_of x) none) end is
-
-pub read_bad_end : (limits : Limits) (text : List ℕ) (hs : Collection) (copies : ℕ) (rest line below : List ℕ) → IsReadSoFar limits text hs copies rest → lines_of rest ≡ line ∷ lines_of below → is_end line ≡ true → (line ≡ end_of (length hs) copies → ⊥)
-    → fault_left limits [] (lines_of text) ≡ Some (length hs + 2, BadEnd)
-read_bad_end limits text hs copies rest line below was lines end other =
-    read_fault limits text hs copies rest line below BadEnd was lines
-    (end_fault limits hs line was.bag end (λ is. other (is ∙ ap (λ n. end_of (length hs) n) (sym was.copies))))
-
 -- the sum of the counts with the next one fits
 pub next_sum : (limits : Limits) (hs : Collection) (line : List ℕ) (h : Held) → IsNext limits hs line h → copies_in hs + h.count ≤ 65535000000
 next_sum limits hs line h next = omega (arith, copies_more hs h, (copies_small limits (hs ++ h ∷ []) next.bag).1)
 
+-- what is read, where the end line is all that is left
+pub read_all : (limits : Limits) (text : List ℕ) (hs : Collection) (copies : ℕ) (rest : List ℕ) → IsReadSoFar limits text hs copies rest → rest ≡ end_line hs → fault_left limits hs (lines_of rest) ≡ None
+    → (text ≡ flat_map pair_line hs ++ end_line hs) × (fault_left limits [] (lines_of text) ≡ None)
+read_all limits text hs copies rest was end sound = (was.text ∙ ap (λ x. flat_map pair_line hs ++ x) end, was.fault ∙ sound)
+
 -- want of memory below the header
 pub wants_below : (limits : Limits) (text : List ℕ) → IsFromLine 2 (fault_left limits [] (lines_of text))
 wants_below limits text = found_from line_fault limits 2 (lines_down_to []) (lines_of text) (omega arith)
+
+-- what a clause says of a value
+pub at_some : {A : Type 0} (o : Option A) (P : A → Type 0) (x : A) → o ≡ Some x → IfSome o P → P x
+at_some None P x is clause = cc
+at_some (Some y) P x is clause = let same : y ≡ x = cc in subst P same clause
 
 pub at_line : (m n : ℕ) (fault : DumpFault) → m ≡ n → ◌≡◌ {A = Option (ℕ × DumpFault)} (Some (m, fault)) (Some (n, fault))
 at_line m n fault same = ap (λ (k : ℕ). let found : Option (ℕ × DumpFault) = Some (k, fault) in found) same

@@ -44,9 +44,9 @@ pairs_above p = drop 1 p.above
 abbrev pub copies_above : Place → ℕ
 copies_above p = sum_by count_of_line (pairs_above p)
 
--- the pair of the line before, where that writes one
+-- the last pair above, where there is one
 abbrev pub pair_before : Place → Option Pair
-pair_before p = option_and_then pair_written (last_of p.above)
+pair_before p = option_and_then pair_written (last_of (pairs_above p))
 
 -- the end line of so many pairs and copies: `end PAIRS COPIES`
 abbrev pub end_of : ℕ → ℕ → List ℕ

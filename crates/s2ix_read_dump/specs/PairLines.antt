@@ -14,7 +14,7 @@ use Rattle.s2ix_read_dump.specs.declared.errors.DumpFault.{DumpFault}
 use Rattle.s2ix_read_dump.specs.declared.errors.DumpFault.TheVariants.{BadLine, BadToken, BadLabel, BadCount}
 use Rattle.s2ix_read_dump.specs.DumpFaults.{line_fault}
 use Rattle.s2ix_parts.specs.Faults.{Place}
-use Rattle.s2ix_parts.specs.Lines.{has_parts, last_of, part}
+use Rattle.s2ix_parts.specs.Lines.{has_parts, last_of, lines_of, part}
 use Rattle.s2ix_parts.specs.Written.{cell_written, count_written, label_written}
 
 -- a held pair, where its parts are written; else the fault of the first that isn't
@@ -50,3 +50,8 @@ pub record IsNext (limits : Limits) (hs : Collection) (line : List ℕ) (h : Hel
   pub text : line ≡ line_text h
   pub bag : IsBag (record { limits = limits; held = hs ++ h ∷ [] })
   pub sound : line_fault (place_below limits hs line) ≡ None
+
+-- a text is a line, its line feed, and more
+pub record IsCut (text line below : List ℕ) : Type 0 where
+  pub whole : text ≡ line ++ 10 ∷ below
+  pub lines : lines_of text ≡ line ∷ lines_of below

@@ -1,15 +1,15 @@
 //! Dumps, read back.
-ghost use Rattle.std.specs.Prelude.{◌≡◌, ◌∷◌, ◌++◌, [], codes, flat_map, IfErr, IfOk, MatchResult, None, OnOk, IsTrue, ◌↔◌, true};
-ghost use Rattle.s2ix_bag.specs.Collection.{Collection, IsBag};
+ghost use Rattle.std.specs.Prelude.{◌≡◌, ◌∷◌, ◌++◌, [], codes, flat_map, IfErr, IfNone, IfOk, IfSome, MatchResult, None, OnOk, IsTrue, ◌↔◌, true};
+ghost use Rattle.s2ix_bag.specs.Collection.{Collection, IsBag, copies_in};
 ghost use Rattle.s2ix_text.specs.Dump.{dump_text, end_line, pair_line};
 ghost use Rattle.s2ix_read_dump.specs.declared.errors.DumpError.TheVariants.{OutOfMemory};
 ghost use Rattle.s2ix_read_dump.specs.DumpFaults.{IsDumpError, dump_fault, end_of, is_end, line_fault};
 ghost use Rattle.s2ix_parts.specs.Faults.{fault_below};
 ghost use Rattle.s2ix_parts.specs.Lines.{lines_of};
-ghost use Rattle.s2ix_read_dump.specs.PairLines.{lines_down_to};
+ghost use Rattle.s2ix_read_dump.specs.PairLines.{IsCut, IsNext, line_text, lines_down_to};
 
 use crate::errors::{DumpError, DumpFault};
-use crate::pair_line::next_held;
+use crate::pair_line::{next_held, next_in_front};
 use itoa::Buffer;
 use s2ix_bag::{Bag, Held, Limits};
 use s2ix_parts::{cut_line, first_part, three_parts};
@@ -30,12 +30,27 @@ fn is_end_of(pairs: usize, copies: u64, line: &[u8]) -> bool
     same_pairs && same_copies
 }
 
+// How many bytes are counted at once: as many as a `u8` can count.
+const BLOCK: usize = 128;
+
 // Room for as many pairs as a text has line feeds, within the limit.
 fn room_for(alloc: Global, limits: Limits, text: &[u8]) -> Result<Vec<Held>, AllocError>
     ensures { IfOk result (λ room. room.items ≡ []) }
 {
-    let feeds = text.iter().filter(|byte| **byte == b'\n').count();
+    let mut feeds = 0usize;
+    for block in text.chunks(BLOCK) {
+        feeds = feeds.saturating_add(feeds_in(block));
+    }
     Vec::with_capacity(alloc, feeds.min(limits.pairs() as usize))
+}
+
+// How many line feeds a block has.
+fn feeds_in(block: &[u8]) -> usize {
+    let mut feeds = 0u8;
+    for byte in block {
+        feeds = feeds.wrapping_add(u8::from(*byte == b'\n'));
+    }
+    usize::from(feeds)
 }
 
 // Appends a held pair.
@@ -44,6 +59,56 @@ fn push(held: &mut Vec<Held>, next: Held) -> Result<(), AllocError>
 {
     held.push(next)?;
     Ok(())
+}
+
+// The next held pair of a dump and what is behind its line, below the lines of the pairs before, which have so many copies; or nothing,
+// where what is left is the end line.
+fn next_line<'a>(
+    limits: Limits,
+    before: &[Held],
+    copies: u64,
+    text: &'a [u8],
+) -> Result<Option<(Held, &'a [u8])>, DumpError>
+    requires bag { IsBag (record { limits = limits; held = before.now }) }
+    requires sum { copies ≡ copies_in before.now }
+    ensures next { IfOk result (λ line. IfSome line (λ read. IsCut text.now (line_text read.0) read.1.now)) }
+    ensures fits { IfOk result (λ line. IfSome line (λ read. IsNext limits before.now (line_text read.0) read.0)) }
+    ensures end { IfOk result (λ line. IfNone line (text.now ≡ end_line before.now)) }
+    ensures accepted { IfOk result (λ line. IfNone line (fault_below line_fault limits (lines_down_to before.now) (lines_of text.now) ≡ None)) }
+    ensures refused { IfErr result (λ error. IsDumpError error (fault_below line_fault limits (lines_down_to before.now) (lines_of text.now))) }
+{
+    if let Some(read) = next_in_front(limits, before, text) {
+        return Ok(Some(read));
+    }
+    let number = before.len() + 2;
+    let Some((line, below)) = cut_line(text) else {
+        return Err(DumpError::At {
+            line: number,
+            fault: DumpFault::Truncated,
+        });
+    };
+    if first_part(line) != b"end".as_slice() {
+        return match next_held(limits, before, line) {
+            Ok(next) => Ok(Some((next, below))),
+            Err(fault) => Err(DumpError::At {
+                line: number,
+                fault,
+            }),
+        };
+    }
+    if !is_end_of(before.len(), copies, line) {
+        return Err(DumpError::At {
+            line: number,
+            fault: DumpFault::BadEnd,
+        });
+    }
+    if !below.is_empty() {
+        return Err(DumpError::At {
+            line: number + 1,
+            fault: DumpFault::TrailingBytes,
+        });
+    }
+    Ok(None)
 }
 
 // What is read of a dump below its header, into a list that is empty at first.
@@ -57,39 +122,12 @@ fn read_below(limits: Limits, room: Vec<Held>, text: &[u8]) -> Result<Vec<Held>,
     let mut held = room;
     let mut copies = 0;
     let mut rest = text;
-    while let Some((line, below)) = cut_line(rest) {
-        let number = held.len() + 2;
-        if first_part(line) == b"end".as_slice() {
-            if !is_end_of(held.len(), copies, line) {
-                return Err(DumpError::At {
-                    line: number,
-                    fault: DumpFault::BadEnd,
-                });
-            }
-            if !below.is_empty() {
-                return Err(DumpError::At {
-                    line: number + 1,
-                    fault: DumpFault::TrailingBytes,
-                });
-            }
-            return Ok(held);
-        }
-        match next_held(limits, held.as_slice(), line) {
-            Ok(next) => {
-                copies += u64::from(next.count);
-                push(&mut held, next)?;
-            }
-            Err(fault) => return Err(DumpError::At {
-                line: number,
-                fault,
-            }),
-        }
+    while let Some((next, below)) = next_line(limits, held.as_slice(), copies, rest)? {
+        copies += u64::from(next.count);
+        push(&mut held, next)?;
         rest = below;
     }
-    Err(DumpError::At {
-        line: held.len() + 2,
-        fault: DumpFault::Truncated,
-    })
+    Ok(held)
 }
 
 /// Reads a dump under limits: the bag whose dump the text is, or the first line that has a fault and the first fault of that line.

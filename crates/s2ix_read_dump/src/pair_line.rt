@@ -1,14 +1,16 @@
 //! The line of a held pair.
-ghost use Rattle.std.specs.Prelude.{◌≡◌, ◌<◌, ◌↔◌, false, IfErr, IfOk, IsTrue, Some};
+ghost use Rattle.std.specs.Prelude.{◌≡◌, ◌<◌, ◌≤◌, ◌↔◌, ◌++◌, ◌∷◌, false, IfErr, IfOk, IfSome, IsTrue, Some};
 ghost use Rattle.s2ix_bag.specs.Pair.{rank_of};
 ghost use Rattle.s2ix_bag.specs.Collection.{IsBag};
 ghost use Rattle.s2ix_read_dump.specs.DumpFaults.{is_end, line_fault};
-ghost use Rattle.s2ix_read_dump.specs.PairLines.{IsNext, held_written as held_that, last_pair, place_below};
+ghost use Rattle.s2ix_read_dump.specs.PairLines.{IsCut, IsNext, held_written as held_that, last_pair, line_text, place_below};
 ghost use Rattle.s2ix_parts.specs.Written.{comes_before};
 
 use crate::errors::DumpFault;
-use s2ix_bag::{Held, Limits, Pair};
-use s2ix_parts::{cell_written, count_written, label_written, three_parts};
+use s2ix_bag::{Held, Label, Limits, Pair};
+use s2ix_parts::{
+    cell_written, count_written, label_written, number_in_front, three_parts, token_in_front,
+};
 
 // The held pair that a line writes, or the first fault of its parts.
 fn held_written(line: &[u8]) -> Result<Held, DumpFault>
@@ -67,4 +69,47 @@ pub fn next_held(limits: Limits, before: &[Held], line: &[u8]) -> Result<Held, D
         return Err(DumpFault::TooManyPairs);
     }
     Ok(next)
+}
+
+// The held pair whose line stands at the front of a text, and what is behind that line, where it has the common shape.
+#[inline]
+fn held_in_front(text: &[u8]) -> Option<(Held, &[u8])>
+    ensures line { IfSome result (λ read. text.now ≡ line_text read.0 ++ 10 ∷ read.1.now) }
+    ensures some { IfSome result (λ read. 1 ≤ read.0.count) }
+    ensures few { IfSome result (λ read. read.0.count ≤ 65535) }
+{
+    let (cell, behind) = token_in_front(text)?;
+    let (label, behind) = number_in_front(behind, b' ')?;
+    let (count, behind) = number_in_front(behind, b'\n')?;
+    let label = Label::new(label)?;
+    if count == 0 || count > 65535 {
+        return None;
+    }
+    let held = Held {
+        pair: Pair { cell, label },
+        count,
+    };
+    Some((held, behind))
+}
+
+/// The held pair that follows those of the pairs before, and what is behind its line, where that line stands at the front of a text and has
+/// the common shape. Where it answers nothing, the line may still be sound.
+#[inline]
+pub fn next_in_front<'a>(
+    limits: Limits,
+    before: &[Held],
+    text: &'a [u8],
+) -> Option<(Held, &'a [u8])>
+    requires { IsBag (record { limits = limits; held = before.now }) }
+    ensures line { IfSome result (λ read. IsCut text.now (line_text read.0) read.1.now) }
+    ensures next { IfSome result (λ read. IsNext limits before.now (line_text read.0) read.0) }
+{
+    let (next, behind) = held_in_front(text)?;
+    if !comes_behind(before, next.pair) || next.count > limits.count() {
+        return None;
+    }
+    if before.len() >= limits.pairs() as usize {
+        return None;
+    }
+    Some((next, behind))
 }

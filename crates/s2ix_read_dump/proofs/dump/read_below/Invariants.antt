@@ -3,8 +3,8 @@ use Rattle.std.proofs.Common.{length}
 use Rattle.s2ix_read_dump.proofs.Steps.{IsReadSoFar}
 use Rattle.s2ix_read_dump.proofs.dump.read_below.Given as goal
 
-abbrev pub invariant-loop-line : goal.invariant-loop-line
-invariant-loop-line l = IsReadSoFar l.limits l.text l.held.items l.copies l.rest
+abbrev pub invariant-loop-held : goal.invariant-loop-held
+invariant-loop-held l = IsReadSoFar l.limits l.text l.held.items l.copies l.rest
 
-abbrev pub decreases-loop-line : goal.decreases-loop-line
-decreases-loop-line l = length l.rest
+abbrev pub decreases-loop-held : goal.decreases-loop-held
+decreases-loop-held l = length l.rest

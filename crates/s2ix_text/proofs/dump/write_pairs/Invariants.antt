@@ -1,9 +1,10 @@
--- The lines of the pairs before this place were written whole.
-use Rattle.std.proofs.Common.{Ok, take, flat_map}
-use Rattle.s2ix_io.specs.Puts.{Writes}
+-- Of the lines of the pairs before this place a front was put, and the rest is gathered.
+use Rattle.std.proofs.Common.{take}
+use Rattle.std.specs.Prelude.{flat_map}
 use Rattle.s2ix_text.specs.Dump.{pair_line}
+use Rattle.s2ix_text.proofs.Gathered.{IsGathered}
 use Rattle.s2ix_text.proofs.dump.write_pairs.Given as goal
 
 abbrev pub invariant-loop-place : goal.invariant-loop-place
 invariant-loop-place g l =
-    Writes {A = Unit {0}} g.K.Sink.taken g.K.Sink.flush_mark g.K.Sink.fault_count l.fn.sink l.sink (Ok tt) (flat_map pair_line (take l.place l.bag.held))
+    IsGathered g.K.Sink.taken g.K.Sink.flush_mark g.K.Sink.fault_count l.fn.sink l.sink (flat_map pair_line (take l.place l.bag.held)) l.lines.items
