@@ -4,7 +4,6 @@ ghost use Rattle.s2ix_bag.specs.Entries.{change_fault, first_unsorted, first_wit
 
 use crate::errors::ChangeError;
 use crate::pair::{Entry, Pair};
-use crate::search::is_before;
 
 /// The place of the first entry that is not above the one before it. O(n).
 fn unsorted_place(entries: &[Entry]) -> Option<usize>
@@ -13,7 +12,7 @@ fn unsorted_place(entries: &[Entry]) -> Option<usize>
     let mut last: Option<Pair> = None;
     for (place, entry) in entries.iter().enumerate() {
         if let Some(pair) = last {
-            if !is_before(pair, entry.pair) {
+            if !pair.is_before(entry.pair) {
                 return Some(place);
             }
         }

@@ -1,3 +1,6 @@
+ghost use Rattle.std.specs.Prelude.{◌↔◌, ◌<◌, IsTrue};
+ghost use Rattle.s2ix_bag.specs.Pair.{rank_of};
+
 use crate::label::Label;
 use s2id_core::CellId;
 
@@ -9,6 +12,15 @@ pub struct Pair {
     pub cell: CellId,
     /// The label, 0 to 2147483647.
     pub label: Label,
+}
+
+impl Pair {
+    /// Whether this pair comes before another: by cell, then by label, as `<` says. This project's own.
+    pub fn is_before(self, other: Pair) -> bool
+        ensures { IsTrue result ↔ (rank_of self < rank_of other) }
+    {
+        self < other
+    }
 }
 
 /// A pair that a collection holds, with its count. This project's own: S2 gives each copy of a pair by itself.

@@ -4,13 +4,6 @@ ghost use Rattle.s2ix_bag.specs.Pair.{rank_of};
 
 use crate::pair::{Held, Pair};
 
-/// Whether `one` comes before `other`: by cell, then by label.
-pub fn is_before(one: Pair, other: Pair) -> bool
-    ensures { IsTrue result ↔ (rank_of one < rank_of other) }
-{
-    one < other
-}
-
 /// Whether two pairs are the same.
 pub fn is_same(one: Pair, other: Pair) -> bool
     ensures { IsTrue result ↔ (rank_of one ≡ rank_of other) }
@@ -25,7 +18,7 @@ pub fn first_from(held: &[Held], pair: Pair) -> usize
     ensures below { AreBelow (rank_of pair) (take result held.now) }
     ensures rest { IsCollectionFrom (rank_of pair) (drop result held.now) }
 {
-    held.partition_point(|h| is_before(h.pair, pair))
+    held.partition_point(|h| h.pair.is_before(pair))
 }
 
 /// How many of the held pairs come before `pair`, searched from the front in growing steps: O(log k) for the
@@ -37,7 +30,7 @@ pub fn next_from(held: &[Held], pair: Pair) -> usize
     ensures rest { IsCollectionFrom (rank_of pair) (drop result held.now) }
 {
     let mut high = 1;
-    while high < held.len() && is_before(held[high - 1].pair, pair) {
+    while high < held.len() && held[high - 1].pair.is_before(pair) {
         high *= 2;
     }
     let (front, _) = held.split_at(high.min(held.len()));

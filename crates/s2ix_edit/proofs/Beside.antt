@@ -36,14 +36,14 @@ next_from_border level cell x b =
       outside = b.outside;
       near = near;
       near_level = ap (λ (p : Path). length p.digits) is ∙ b.shares.shares.one_level ∙ b.level_is;
-      touched = subst (λ p. Overlap (path_of cell) p) (sym is) (first_leaf b.inner, b.inside (first_leaf b.inner) first, first);
+      overlaps = subst (λ p. Overlap (path_of cell) p) (sym is) (first_leaf b.inner, b.inside (first_leaf b.inner) first, first);
       shares = subst (λ p. ShareEdge p (path_of x)) (sym is) b.shares;
     }
 
 border_from_next : (level : ℕ) (cell x : CellId) → level_of cell ≤ level → IsNextTo level cell x → IsOnBorder (path_of cell) level (path_of x)
 border_from_next level cell x le n =
     let finer : level_of cell ≤ level_of n.near = omega (arith, le, n.near_level) in
-    let within = within_by_overlap (path_of n.near) (path_of cell) (pathed n.near) (pathed cell) finer n.touched in
+    let within = within_by_overlap (path_of n.near) (path_of cell) (pathed n.near) (pathed cell) finer n.overlaps in
     record {
       path = pathed x;
       level_is = n.level_is;
@@ -86,14 +86,14 @@ next_from_sides level cell outer x cells le is over has =
           shares.apart (is ∙ ap (λ k. ancestor k p) (sym x_level) ∙ in_x);
       near = outer;
       near_level = outer_level;
-      touched = o;
+      overlaps = o;
       shares = record { side = has.0; is_side = side; shares = shares };
     }
 
 sides_from_next : (level : ℕ) (cell outer x : CellId) (cells : List CellId) → level ≤ level_of cell → path_of outer ≡ ancestor level (path_of cell) → AreOverSides outer cells → IsNextTo level cell x → Contains cells x
 sides_from_next level cell outer x cells le is over n =
     let p = path_of cell in
-    let o = n.touched in
+    let o = n.overlaps in
     let in_near : IsWithin p (path_of n.near) = within_by_overlap p (path_of n.near) (pathed cell) (pathed n.near) (omega (arith, le, n.near_level)) (o.0, o.2, o.1) in
     let near_is : path_of n.near ≡ path_of outer = sym in_near ∙ ap (λ k. ancestor k p) n.near_level ∙ sym is in
     let found = over.only (path_of x) (pathed x) (subst (λ q. ShareEdge q (path_of x)) near_is n.shares) in

@@ -108,10 +108,10 @@ is_grown-decides level cells x =
     there : Parts → IsGrown level cells x
     there h =
         let near = h.1.1 in
-        record { level_is = h.0; outside = h.1.0; near = near.0; near_level = near.1.0; touched = near.1.1.0; shares = near.1.1.1 }
+        record { level_is = h.0; outside = h.1.0; near = near.0; near_level = near.1.0; overlaps = near.1.1.0; shares = near.1.1.1 }
 
     back : IsGrown level cells x → Parts
-    back g = (g.level_is, (g.outside, (g.near, (g.near_level, (g.touched, g.shares)))))
+    back g = (g.level_is, (g.outside, (g.near, (g.near_level, (g.overlaps, g.shares)))))
 
 -- ---- the cells that a label grows by
 
@@ -132,12 +132,12 @@ in_grown label level hs x =
 grown_from_next : (level : ℕ) (cells : List CellId) (x : CellId) → Any (λ cell. IsNextTo level cell x) cells → (Meets cells (path_of x) → ⊥) → IsGrown level cells x
 grown_from_next level cells x a outside =
     let n = a.4 in
-    let o = n.touched in
-    record { level_is = n.level_is; outside = outside; near = n.near; near_level = n.near_level; touched = (o.0, o.2, (a.0, a.1, a.2, a.3, o.1)); shares = n.shares }
+    let o = n.overlaps in
+    record { level_is = n.level_is; outside = outside; near = n.near; near_level = n.near_level; overlaps = (o.0, o.2, (a.0, a.1, a.2, a.3, o.1)); shares = n.shares }
 
 next_from_grown : (level : ℕ) (cells : List CellId) (x : CellId) → IsGrown level cells x → Any (λ cell. IsNextTo level cell x) cells
 next_from_grown level cells x g =
-    let m = g.touched in
+    let m = g.overlaps in
     let at = m.2 in (
       at.0,
       at.1,
@@ -148,7 +148,7 @@ next_from_grown level cells x g =
         outside = λ o. g.outside (o.0, o.2, (at.0, at.1, at.2, at.3, o.1));
         near = g.near;
         near_level = g.near_level;
-        touched = (m.0, at.4, m.1);
+        overlaps = (m.0, at.4, m.1);
         shares = g.shares;
       },
     )

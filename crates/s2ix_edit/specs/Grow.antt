@@ -47,7 +47,7 @@ pub record IsGrown (level : ℕ) (cells : List CellId) (x : CellId) : Type 0 whe
   pub outside : Meets cells (path_of x) → ⊥
   pub near : CellId
   pub near_level : level_of near ≡ level
-  pub touched : Meets cells (path_of near)
+  pub overlaps : Meets cells (path_of near)
   pub shares : ShareEdge (path_of near) (path_of x)
 
 -- the same for one cell alone
@@ -56,5 +56,5 @@ pub record IsNextTo (level : ℕ) (cell x : CellId) : Type 0 where
   pub outside : Overlap (path_of cell) (path_of x) → ⊥
   pub near : CellId
   pub near_level : level_of near ≡ level
-  pub touched : Overlap (path_of cell) (path_of near)
+  pub overlaps : Overlap (path_of cell) (path_of near)
   pub shares : ShareEdge (path_of near) (path_of x)

@@ -2,7 +2,6 @@
 
 ghost use Rattle.std.specs.Prelude.{◌≡◌, IfOk};
 ghost use Rattle.s2id_union.specs.Region.{HaveSameRegion, IsNormal};
-ghost use Rattle.s2ix_bag.specs.Collection.{IsBag};
 ghost use Rattle.s2ix_edit.specs.Region.{cell_of, cells_of, region_of as region_in};
 
 use s2id_core::{CellId, OutOfMemory};

@@ -25,12 +25,27 @@ abbrev pub map_ok : {A B : Type 0} → (A → B) → Result A LineFault → Resu
 map_ok f (Ok a) = Ok (f a)
 map_ok f (Err fault) = Err fault
 
+-- what follows from a meaning, where there is one
+abbrev pub then_ok : {A B : Type 0} → (A → Result B LineFault) → Result A LineFault → Result B LineFault
+then_ok f (Ok a) = f a
+then_ok f (Err fault) = Err fault
+
 -- ---- what fields name
 
 -- no field
 abbrev pub bare : Instruction → List (List ℕ) → Result Instruction LineFault
 bare instruction [] = Ok instruction
 bare instruction (field ∷ fields) = Err BadArguments
+
+-- one field, no more
+abbrev pub one_field : List (List ℕ) → Result (List ℕ) LineFault
+one_field (field ∷ []) = Ok field
+one_field fields = Err BadArguments
+
+-- two fields, no more
+abbrev pub two_fields : List (List ℕ) → Result (List ℕ × List ℕ) LineFault
+two_fields (first ∷ second ∷ []) = Ok (first, second)
+two_fields fields = Err BadArguments
 
 -- a cell
 abbrev pub cell_with : Option CellId → Result CellId LineFault
@@ -57,13 +72,11 @@ pair_named fields = Err BadArguments
 
 -- the one field TOKEN
 abbrev pub cell_named : List (List ℕ) → Result CellId LineFault
-cell_named (token ∷ []) = cell_with (cell_spelled token)
-cell_named fields = Err BadArguments
+cell_named fields = then_ok (λ token. cell_with (cell_spelled token)) (one_field fields)
 
 -- the one field LABEL
 abbrev pub label_named : List (List ℕ) → Result Label LineFault
-label_named (label ∷ []) = label_with (label_spelled label)
-label_named fields = Err BadArguments
+label_named fields = then_ok (λ label. label_with (label_spelled label)) (one_field fields)
 
 -- two labels, where fields name both; the first that does not decides
 abbrev pub labels_with : Option Label → Option Label → Result (Label × Label) LineFault
@@ -73,8 +86,7 @@ labels_with (Some first) (Some second) = Ok (first, second)
 
 -- the two fields LABEL LABEL
 abbrev pub labels_named : List (List ℕ) → Result (Label × Label) LineFault
-labels_named (first ∷ second ∷ []) = labels_with (label_spelled first) (label_spelled second)
-labels_named fields = Err BadArguments
+labels_named fields = then_ok (λ both. labels_with (label_spelled both.0) (label_spelled both.1)) (two_fields fields)
 
 -- the edits of `drop`, `relabel` and `normal`
 abbrev pub drop_named : List (List ℕ) → Result Edit LineFault
@@ -94,8 +106,7 @@ grow_with (Some label) (Some level) = Ok (Grow label level)
 
 -- the two fields LABEL LEVEL
 abbrev pub grow_named : List (List ℕ) → Result Edit LineFault
-grow_named (label ∷ level ∷ []) = grow_with (label_spelled label) (level_spelled level)
-grow_named fields = Err BadArguments
+grow_named fields = then_ok (λ both. grow_with (label_spelled both.0) (level_spelled both.1)) (two_fields fields)
 
 -- what `common` and `only` ask for
 abbrev pub common_named : List (List ℕ) → Result Instruction LineFault

@@ -4,10 +4,9 @@ ghost use Rattle.std.specs.Prelude.{◌≡◌, Ok, None, ◌∷◌, true, MatchR
 ghost use Rattle.std.specs.Result.{result_err};
 ghost use Rattle.s2ix_script.specs.Meaning.{IsFault, Means, add_union_named as add_union_of, cells_named, is_on_union, union_named as union_in, union_of as union_that};
 
-use crate::fields::cell_from_field;
+use crate::fields::{cell_from_field, label_from_field};
 use crate::instruction::Instruction;
 use crate::line_fault::{LineError, LineFault};
-use crate::numbers::label_spelled;
 use bstr::Fields;
 use s2id_core::CellId;
 use s2id_union::CellUnion;
@@ -19,13 +18,10 @@ use std::alloc::Global;
 pub(crate) fn add_union_named(alloc: Global, mut fields: Fields<'_>) -> Result<Edit, LineError>
     ensures { Means (λ edit. is_on_union (Instruction.Edit edit)) result (add_union_of fields.entry) }
 {
-    let Some(label) = fields.next() else {
+    let (Some(label), Some(first)) = (fields.next(), fields.next()) else {
         return Err(LineError::Fault(LineFault::BadArguments));
     };
-    let Some(first) = fields.next() else {
-        return Err(LineError::Fault(LineFault::BadArguments));
-    };
-    let label = label_spelled(label).ok_or(LineFault::BadLabel)?;
+    let label = label_from_field(label)?;
     let union = union_of(alloc, first, fields)?;
     Ok(Edit::AddUnion { union, label })
 }

@@ -1,7 +1,8 @@
 //! What the fields behind a word name.
-ghost use Rattle.std.specs.Prelude.{◌≡◌};
+ghost use Rattle.std.specs.Prelude.{◌≡◌, Ok, Err, MatchResult};
 ghost use Rattle.s2id_core.specs.Spelled.{cell_spelled};
-ghost use Rattle.s2ix_script.specs.Meaning.{bare as bare_of, cell_named as cell_of, cell_with, common_named as common_of, drop_named as drop_of, grow_named as grow_of, label_named as label_of, labels_named as labels_of, normal_named as normal_of, only_named as only_of, pair_named as pair_of, relabel_named as relabel_of};
+ghost use Rattle.s2ix_script.specs.Fields.{label_spelled as label_of_field};
+ghost use Rattle.s2ix_script.specs.Meaning.{bare as bare_of, cell_named as cell_of, cell_with, common_named as common_of, drop_named as drop_of, grow_named as grow_of, label_named as label_of, label_with, labels_named as labels_of, normal_named as normal_of, one_field as one_of, only_named as only_of, pair_named as pair_of, relabel_named as relabel_of, two_fields as two_of};
 
 use crate::instruction::Instruction;
 use crate::line_fault::LineFault;
@@ -24,6 +25,26 @@ pub(crate) fn bare(
     }
 }
 
+// The one field that there is.
+fn one_field<'a>(mut fields: Fields<'a>) -> Result<&'a [u8], LineFault>
+    ensures { MatchResult result (λ field. one_of fields.entry ≡ Ok field.now) (λ fault. one_of fields.entry ≡ Err fault) }
+{
+    match (fields.next(), fields.next()) {
+        (Some(field), None) => Ok(field),
+        _ => Err(LineFault::BadArguments),
+    }
+}
+
+// The two fields that there are.
+fn two_fields<'a>(mut fields: Fields<'a>) -> Result<(&'a [u8], &'a [u8]), LineFault>
+    ensures { MatchResult result (λ both. two_of fields.entry ≡ Ok (both.0.now, both.1.now)) (λ fault. two_of fields.entry ≡ Err fault) }
+{
+    match (fields.next(), fields.next(), fields.next()) {
+        (Some(first), Some(second), None) => Ok((first, second)),
+        _ => Err(LineFault::BadArguments),
+    }
+}
+
 // The cell that a field names.
 pub(crate) fn cell_from_field(field: &[u8]) -> Result<CellId, LineFault>
     ensures { result ≡ cell_with (cell_spelled field.now) }
@@ -31,48 +52,33 @@ pub(crate) fn cell_from_field(field: &[u8]) -> Result<CellId, LineFault>
     Ok(CellId::from_token(field)?)
 }
 
+// The label that a field names.
+pub(crate) fn label_from_field(field: &[u8]) -> Result<Label, LineFault>
+    ensures { result ≡ label_with (label_of_field field.now) }
+{
+    label_spelled(field).ok_or(LineFault::BadLabel)
+}
+
 // The cell that the one field TOKEN names.
-pub(crate) fn cell_named(mut fields: Fields<'_>) -> Result<CellId, LineFault>
+pub(crate) fn cell_named(fields: Fields<'_>) -> Result<CellId, LineFault>
     ensures { result ≡ cell_of fields.entry }
 {
-    let Some(token) = fields.next() else {
-        return Err(LineFault::BadArguments);
-    };
-    if fields.next().is_some() {
-        return Err(LineFault::BadArguments);
-    }
-    cell_from_field(token)
+    cell_from_field(one_field(fields)?)
 }
 
 // The label that the one field LABEL names.
-pub(crate) fn label_named(mut fields: Fields<'_>) -> Result<Label, LineFault>
+pub(crate) fn label_named(fields: Fields<'_>) -> Result<Label, LineFault>
     ensures { result ≡ label_of fields.entry }
 {
-    let Some(label) = fields.next() else {
-        return Err(LineFault::BadArguments);
-    };
-    if fields.next().is_some() {
-        return Err(LineFault::BadArguments);
-    }
-    Ok(label_spelled(label).ok_or(LineFault::BadLabel)?)
+    label_from_field(one_field(fields)?)
 }
 
 // The labels that the two fields LABEL LABEL name.
-pub(crate) fn labels_named(mut fields: Fields<'_>) -> Result<(Label, Label), LineFault>
+pub(crate) fn labels_named(fields: Fields<'_>) -> Result<(Label, Label), LineFault>
     ensures { result ≡ labels_of fields.entry }
 {
-    let Some(first) = fields.next() else {
-        return Err(LineFault::BadArguments);
-    };
-    let Some(second) = fields.next() else {
-        return Err(LineFault::BadArguments);
-    };
-    if fields.next().is_some() {
-        return Err(LineFault::BadArguments);
-    }
-    let first = label_spelled(first).ok_or(LineFault::BadLabel)?;
-    let second = label_spelled(second).ok_or(LineFault::BadLabel)?;
-    Ok((first, second))
+    let (first, second) = two_fields(fields)?;
+    Ok((label_from_field(first)?, label_from_field(second)?))
 }
 
 // The edit of `drop`, whose label the one field LABEL names.
@@ -92,19 +98,11 @@ pub(crate) fn relabel_named(fields: Fields<'_>) -> Result<Edit, LineFault>
 }
 
 // The edit of `grow`, whose label and level the two fields LABEL LEVEL name.
-pub(crate) fn grow_named(mut fields: Fields<'_>) -> Result<Edit, LineFault>
+pub(crate) fn grow_named(fields: Fields<'_>) -> Result<Edit, LineFault>
     ensures { result ≡ grow_of fields.entry }
 {
-    let Some(label) = fields.next() else {
-        return Err(LineFault::BadArguments);
-    };
-    let Some(level) = fields.next() else {
-        return Err(LineFault::BadArguments);
-    };
-    if fields.next().is_some() {
-        return Err(LineFault::BadArguments);
-    }
-    let label = label_spelled(label).ok_or(LineFault::BadLabel)?;
+    let (label, level) = two_fields(fields)?;
+    let label = label_from_field(label)?;
     let level = level_spelled(level).ok_or(LineFault::BadLevel)?;
     Ok(Edit::Grow { label, level })
 }
@@ -137,10 +135,7 @@ pub(crate) fn only_named(fields: Fields<'_>) -> Result<Instruction, LineFault>
 pub(crate) fn pair_named(mut fields: Fields<'_>) -> Result<(Pair, u32), LineFault>
     ensures { result ≡ pair_of fields.entry }
 {
-    let Some(token) = fields.next() else {
-        return Err(LineFault::BadArguments);
-    };
-    let Some(label) = fields.next() else {
+    let (Some(token), Some(label)) = (fields.next(), fields.next()) else {
         return Err(LineFault::BadArguments);
     };
     let copies = fields.next();
@@ -148,7 +143,7 @@ pub(crate) fn pair_named(mut fields: Fields<'_>) -> Result<(Pair, u32), LineFaul
         return Err(LineFault::BadArguments);
     }
     let cell = cell_from_field(token)?;
-    let label = label_spelled(label).ok_or(LineFault::BadLabel)?;
+    let label = label_from_field(label)?;
     let copies = match copies {
         None => 1,
         Some(copies) => copies_spelled(copies).ok_or(LineFault::BadCount)?,
