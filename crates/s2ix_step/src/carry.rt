@@ -1,24 +1,20 @@
 //! Carrying one line out: from its bytes to what it asks for, to the store's step and the answer.
-ghost use Rattle.std.specs.Prelude.{◌≡◌, ◌≢◌, ◌+◌, Err, IfErr};
-ghost use Rattle.s2ix_export.specs.Export.{export_line};
+ghost use Rattle.std.specs.Prelude.{◌≡◌, ◌+◌, IfErr};
 ghost use Rattle.s2ix_io.specs.Faults.{CanCount, sink_faults, IsWantOnlyIf};
 ghost use Rattle.s2ix_step.specs.Carry.{Carries};
-ghost use Rattle.s2ix_step.specs.Step.{at_step, instruction_step, step_of, text_step};
+ghost use Rattle.s2ix_step.specs.Step.{instruction_step, step_of};
 ghost use Rattle.s2ix_step.specs.Wants.{InstructionWants, LineWants};
 
 use crate::outcome::LineOutcome;
+use crate::queries::{carry_at, print_export, print_labels, print_meeting, print_ranges};
 use crate::regions::{common, only, print_region};
 use crate::steps::tell_step;
-use s2id_core::CellId;
 use s2id_cube::to_face_ij;
-use s2ix_export::export;
-use s2ix_io::{RunFault, Sink, put_parts};
-use s2ix_script::{Instruction, LineError, meaning, not_leaf_name};
+use s2ix_io::{RunFault, Sink};
+use s2ix_script::{Instruction, LineError, meaning};
 use s2ix_store::Store;
-use s2ix_table::RangeTable;
 use s2ix_text::{
-    write_contents, write_dump, write_journal, write_list, write_neighbors, write_no, write_ok,
-    write_path, write_ranges, write_square,
+    write_dump, write_journal, write_neighbors, write_no, write_ok, write_path, write_square,
 };
 use std::alloc::Global;
 
@@ -73,8 +69,8 @@ fn carry_instruction<K: Sink>(
             write_ok(0, sink)?;
         }
         Instruction::At(cell) => return carry_at(store, sink, cell),
-        Instruction::Meet(target) => write_list(&store.table().meeting(alloc, &target)?, sink)?,
-        Instruction::Labels(target) => write_list(&store.table().labels(alloc, &target)?, sink)?,
+        Instruction::Meet(target) => return print_meeting(alloc, store, sink, &target),
+        Instruction::Labels(target) => return print_labels(alloc, store, sink, &target),
         Instruction::Region(label) => return print_region(store.region(label), sink),
         Instruction::Common(first, second) => {
             return print_region(common(alloc, store, first, second), sink);
@@ -82,43 +78,13 @@ fn carry_instruction<K: Sink>(
         Instruction::Only(first, second) => {
             return print_region(only(alloc, store, first, second), sink);
         }
-        Instruction::Ranges => write_ranges(store.table(), sink)?,
+        Instruction::Ranges => return print_ranges(store, sink),
         Instruction::Path(cell) => write_path(cell, sink)?,
         Instruction::Neighbors(cell) => write_neighbors(cell, sink)?,
         Instruction::Face(cell) => write_square(to_face_ij(cell), sink)?,
         Instruction::Dump => write_dump(store.bag(), sink)?,
         Instruction::Journal => write_journal(store.done(), sink)?,
-        Instruction::Export => return carry_export(alloc, store, sink),
+        Instruction::Export => return print_export(alloc, store, sink),
     }
-    Ok(LineOutcome::Accepted)
-}
-
-// Prints what lies over a leaf.
-fn carry_at<K: Sink>(store: &Store, sink: &mut K, cell: CellId) -> Result<LineOutcome, RunFault>
-    requires { CanCount (K.fault_count sink.old) }
-    ensures carries { Carries (at_step store.now cell) store.now store.now (K.taken sink.old) (K.taken sink.new) result }
-    ensures memory { result ≢ Err RunFault.OutOfMemory }
-    ensures faults { K.fault_count sink.new ≡ K.fault_count sink.old + sink_faults result }
-{
-    if !cell.is_leaf() {
-        write_no(not_leaf_name(), sink)?;
-        return Ok(LineOutcome::Refused);
-    }
-    write_contents(store.table(), cell, sink)?;
-    Ok(LineOutcome::Accepted)
-}
-
-// Prints the export of what the store holds.
-fn carry_export<K: Sink>(
-    alloc: Global,
-    store: &Store,
-    sink: &mut K,
-) -> Result<LineOutcome, RunFault>
-    requires { CanCount (K.fault_count sink.old) }
-    ensures carries { Carries (text_step store.now (export_line store.now.bag.held)) store.now store.now (K.taken sink.old) (K.taken sink.new) result }
-    ensures faults { K.fault_count sink.new ≡ K.fault_count sink.old + sink_faults result }
-{
-    let text = export(alloc, store.bag())?;
-    put_parts(sink, &[text.as_bytes(), b"\n"])?;
     Ok(LineOutcome::Accepted)
 }

@@ -7,6 +7,7 @@
 
 mod carry;
 mod outcome;
+mod queries;
 mod regions;
 mod steps;
 

@@ -1,11 +1,4 @@
--- A step is what the store's answer tells, and the ranges of the store's table are those of its collection.
-use Rattle.std.proofs.Common.{List, refl, subst}
-use Rattle.std.specs.Io.KnownBytes.{Appends}
-use Rattle.std.proofs.lemmas.Result.{err_from_is_err_and}
-use Rattle.s2ix_table.proofs.RangeList.{is_range_table}
-use Rattle.s2ix_table.specs.Table.{Range}
-use Rattle.s2ix_io.specs.Puts.{AppendsFront}
-use Rattle.s2ix_text.specs.Queries.{list_text, range_line}
+-- A step is what the store's answer tells.
 use Rattle.s2ix_step.proofs.Told.{edit_is_told, redo_is_told, undo_is_told}
 use Rattle.s2ix_step.proofs.carry.carry_instruction.Goals as goal
 
@@ -32,17 +25,3 @@ returns-in-Common-clause-carries g c = rw c.in-Common.is (c.print_region-in-Comm
 
 pub returns-in-Only-clause-carries : goal.returns-in-Only-clause-carries
 returns-in-Only-clause-carries g c = rw c.in-Only.is (c.print_region-in-Only.ensures.carries _ _ c.only.ensures)
-
-pub returns-in_ok-write_ranges-in-Ranges-clause-carries : goal.returns-in_ok-write_ranges-in-Ranges-clause-carries
-returns-in_ok-write_ranges-in-Ranges-clause-carries g c =
-    let Took : List Range → Type 0 = λ runs. Appends (g.K.Sink.taken c.args.sink.now) (g.K.Sink.taken c.write_ranges.new.sink) (list_text range_line runs) in
-    let put = subst Took (is_range_table _ _ c.table-in-Ranges.ensures.table) c.in_ok-write_ranges-in-Ranges.ensures.puts in
-    rw c.in-Ranges.is (record { store = refl; output = put; counted = refl; refused = refl })
-
-pub returns-in_err-write_ranges-in-Ranges-clause-carries : goal.returns-in_err-write_ranges-in-Ranges-clause-carries
-returns-in_err-write_ranges-in-Ranges-clause-carries g c =
-    let exit = c.from_residual-in_err-write_ranges-in-Ranges in
-    let p = err_from_is_err_and exit.result exit.ensures.1 in
-    let Took : List Range → Type 0 = λ runs. AppendsFront (g.K.Sink.taken c.args.sink.now) (g.K.Sink.taken c.write_ranges.new.sink) (list_text range_line runs) in
-    let put = subst Took (is_range_table _ _ c.table-in-Ranges.ensures.table) c.in_err-write_ranges-in-Ranges.ensures.puts in
-    rw (p.1, p.2, c.in-Ranges.is) (refl, put)
