@@ -6,6 +6,10 @@ mod damage;
 #[cfg(test)]
 mod damaged_dumps_tests;
 #[cfg(test)]
+mod damaged_journals_tests;
+#[cfg(test)]
 mod plain_dump;
+#[cfg(test)]
+mod plain_journal;
 #[cfg(test)]
 mod plain_parts;
