@@ -1,8 +1,9 @@
 -- Hexadecimal digits: the tables of the code, and the number that a text of digits writes.
-use Rattle.std.proofs.Common.{◌≡◌, ℕ, zero, suc, ◌+◌, ◌-◌, ◌*◌, ◌%◌, ◌^◌, ◌<◌, ◌≤◌, min, List, [], ◌∷◌, ◌++◌, length, map, take, replicate, get_or, sym, ◌∙◌, ap, ap₂, refl, arith, subst}
+use Rattle.std.proofs.Common.{◌≡◌, ◌==◌, true, false, cond, ℕ, zero, suc, ◌+◌, ◌-◌, ◌*◌, ◌/◌, ◌%◌, ◌^◌, ◌<◌, ◌≤◌, min, List, [], ◌∷◌, ◌++◌, length, map, take, replicate, get_or, sym, ◌∙◌, ap, ap₂, refl, arith, subst}
 use Rattle.std.specs.Char.{digit_char, digit_value}
 use Rattle.std.specs.List.{range_with_len}
 use Rattle.std.specs.Str.Parse.{AllDigits, digits_value, digits_value_after}
+use Rattle.std.proofs.lemmas.Bool.{cond-false, cond-true, eq-eqb, ne_eqb}
 use Rattle.std.proofs.lemmas.List.FromFn.{get_or-map-range_with_len}
 use Rattle.std.proofs.lemmas.Nat.{pow-add, shl_whole}
 use Rattle.std.proofs.lemmas.Int.Digits.{digits_value-lt}
@@ -20,14 +21,27 @@ table_is_rule = refl
 pub worth_by_table : (c : ℕ) → c < 256 → get_or digit_values c 0 ≡ min 16 (digit_value c)
 worth_by_table c h = ap (λ (l : List ℕ). get_or l c 0) table_is_rule ∙ get_or-map-range_with_len (λ c. min 16 (digit_value c)) 0 256 c c 0 h (omega arith)
 
-abbrev pub lower_digits : List ℕ
-lower_digits = 48 ∷ 49 ∷ 50 ∷ 51 ∷ 52 ∷ 53 ∷ 54 ∷ 55 ∷ 56 ∷ 57 ∷ 97 ∷ 98 ∷ 99 ∷ 100 ∷ 101 ∷ 102 ∷ []
+-- the digit of a half of a byte: the upper one at an even place
+abbrev half_digit : ℕ → ℕ
+half_digit place = digit_char (cond (place % 2 == 0) (place / 32) (place / 2 % 16))
 
-lower_is_rule : lower_digits ≡ map digit_char (range_with_len 0 16)
-lower_is_rule = refl
+abbrev pub half_digits : List ℕ
+half_digits = map half_digit (range_with_len 0 512)
 
-pub lower_by_table : (d : ℕ) → d < 16 → get_or lower_digits d 0 ≡ digit_char d
-lower_by_table d h = ap (λ (l : List ℕ). get_or l d 0) lower_is_rule ∙ get_or-map-range_with_len digit_char 0 16 d d 0 h (omega arith)
+half_at : (place : ℕ) → place < 512 → get_or half_digits place 0 ≡ half_digit place
+half_at place h = get_or-map-range_with_len half_digit 0 512 place place 0 h (omega arith)
+
+pub high_by_table : (b : ℕ) → b < 256 → get_or half_digits (2 * b) 0 ≡ digit_char (b / 16)
+high_by_table b h =
+    let even : (2 * b % 2 == 0) ≡ true = eq-eqb (2 * b % 2) 0 (omega arith) in
+    let same : 2 * b / 32 ≡ b / 16 = omega arith in
+    half_at (2 * b) (omega arith) ∙ ap digit_char (cond-true _ _ _ even ∙ same)
+
+pub low_by_table : (b : ℕ) → b < 256 → get_or half_digits (2 * b + 1) 0 ≡ digit_char (b % 16)
+low_by_table b h =
+    let odd : ((2 * b + 1) % 2 == 0) ≡ false = ne_eqb ((2 * b + 1) % 2) 0 (λ none. omega (arith, none)) in
+    let same : (2 * b + 1) / 2 % 16 ≡ b % 16 = omega arith in
+    half_at (2 * b + 1) (omega arith) ∙ ap digit_char (cond-false _ _ _ odd ∙ same)
 
 -- ---- the number that digits write
 

@@ -1,10 +1,10 @@
 -- What `token` prints: sixteen digits, and how many of them are zeros at the end.
-use Rattle.std.proofs.Common.{◌≡◌, ◌==◌, ℕ, zero, suc, ◌+◌, ◌-◌, ◌*◌, ◌/◌, ◌%◌, ◌^◌, ◌<◌, ◌≤◌, List, length, take, reverse, get_or, sym, ◌∙◌, ap, ap₂, arith, subst, true, false, bit_and}
+use Rattle.std.proofs.Common.{◌≡◌, ◌==◌, ℕ, zero, suc, ◌+◌, ◌-◌, ◌*◌, ◌/◌, ◌%◌, ◌^◌, ◌<◌, ◌≤◌, List, length, take, reverse, get_or, sym, ◌∙◌, ap, ap₂, arith, subst, true, false, bit_and, set, below_more, get_or-set_other, get_or-set_same, length-set, ◌≢◌}
 use Rattle.std.specs.Char.{digit_char}
 use Rattle.std.specs.List.{suffix_len}
 use Rattle.std.specs.Int.{w64, trailing_zeros}
 use Rattle.std.proofs.lemmas.Bool.Decides.{nat_tests}
-use Rattle.std.proofs.lemmas.Nat.{pow-add, shl-shr, and_mask}
+use Rattle.std.proofs.lemmas.Nat.{pow-add, shl-shr, shr-shr, and_mask}
 use Rattle.std.proofs.lemmas.List.{get_or-reverse, length-reverse}
 use Rattle.std.proofs.lemmas.List.FromFn.{fill_by_all, get_or-map-range_with_len, length-map-range_with_len}
 use Rattle.std.proofs.lemmas.List.Sums.{prefix_len_is}
@@ -82,7 +82,38 @@ pub canonical_by_zeros : (n : ℕ) → 0 < n → n < 2 ^ 64 → canonical_token 
 unfolding canonical_token without_last_zeros
 canonical_by_zeros n pos below = ap₂ (λ x y. take (x - y) (sixteen_digits n)) (length-sixteen_digits n) (last_zeros n pos below)
 
--- the digit that the code shifts out
-pub shifted_digit : (n place d : ℕ) → place < 16 → d ≡ digit_char (bit_and (n / 2 ^ (60 - 4 * place)) 15) → d ≡ digit_char (n / 16 ^ (15 - place) % 16)
-shifted_digit n place d h e =
-    e ∙ ap digit_char (and_mask (n / 2 ^ (60 - 4 * place)) 4) ∙ ap (λ x. digit_char (n / x % 16)) (ap (λ x. 2 ^ x) (let s : 60 - 4 * place ≡ 4 * (15 - place) = omega arith in s) ∙ sixteen_pow (15 - place))
+-- the digits of the byte that the code shifts out
+pub high_of_byte : (n pair byte d : ℕ) → pair < 8 → byte ≡ bit_and (n / 2 ^ (56 - 8 * pair)) 255 → d ≡ digit_char (byte / 16) → d ≡ digit_char (n / 16 ^ (15 - 2 * pair) % 16)
+high_of_byte n pair byte d h is digit =
+    let m = n / 2 ^ (56 - 8 * pair) in
+    let own : byte ≡ m % 256 = is ∙ and_mask m 8 in
+    let half : byte / 16 ≡ m / 16 % 16 = omega (arith, own) in
+    let up : 56 - 8 * pair + 4 ≡ 4 * (15 - 2 * pair) = omega arith in
+    digit ∙ ap digit_char (half ∙ ap (λ x. x % 16) (shr-shr n (56 - 8 * pair) 4 ∙ ap (λ k. n / 2 ^ k) up ∙ ap (λ x. n / x) (sixteen_pow (15 - 2 * pair))))
+
+pub low_of_byte : (n pair byte d : ℕ) → pair < 8 → byte ≡ bit_and (n / 2 ^ (56 - 8 * pair)) 255 → d ≡ digit_char (byte % 16) → d ≡ digit_char (n / 16 ^ (15 - (2 * pair + 1)) % 16)
+low_of_byte n pair byte d h is digit =
+    let m = n / 2 ^ (56 - 8 * pair) in
+    let own : byte ≡ m % 256 = is ∙ and_mask m 8 in
+    let half : byte % 16 ≡ m % 16 = omega (arith, own) in
+    let same : 56 - 8 * pair ≡ 4 * (15 - (2 * pair + 1)) = omega arith in
+    digit ∙ ap digit_char (half ∙ ap (λ x. x % 16) (ap (λ k. n / 2 ^ k) same ∙ ap (λ x. n / x) (sixteen_pow (15 - (2 * pair + 1)))))
+
+-- two digits more
+pub two_digits_more : (n pair high low : ℕ) (bytes : List ℕ) → pair < 8 → length bytes ≡ 16 → high ≡ digit_char (n / 16 ^ (15 - 2 * pair) % 16) → low ≡ digit_char (n / 16 ^ (15 - (2 * pair + 1)) % 16)
+    → ((k : ℕ) → k < 2 * pair → get_or bytes k 0 ≡ digit_char (n / 16 ^ (15 - k) % 16))
+    → (length (set (set bytes (2 * pair) high) (2 * pair + 1) low) ≡ 16) × ((k : ℕ) → k < 2 * (pair + 1) → get_or (set (set bytes (2 * pair) high) (2 * pair + 1) low) k 0 ≡ digit_char (n / 16 ^ (15 - k) % 16))
+two_digits_more n pair high low bytes h long first second each =
+    let one = set bytes (2 * pair) high in
+    let Written : ℕ → Type 0 = λ k. get_or (set one (2 * pair + 1) low) k 0 ≡ digit_char (n / 16 ^ (15 - k) % 16) in
+    let one_long : length one ≡ 16 = length-set bytes (2 * pair) high ∙ long in
+    let before : (k : ℕ) → k < 2 * pair → Written k = λ k within.
+    let a : k ≢ 2 * pair + 1 = omega arith in
+    let b : k ≢ 2 * pair = omega arith in
+    get_or-set_other one (2 * pair + 1) k low 0 a ∙ get_or-set_other bytes (2 * pair) k high 0 b ∙ each k within in
+    let here : Written (2 * pair) =
+    let a : 2 * pair ≢ 2 * pair + 1 = omega arith in
+    get_or-set_other one (2 * pair + 1) (2 * pair) low 0 a ∙ get_or-set_same bytes (2 * pair) high 0 (omega arith) ∙ first in
+    let next : Written (2 * pair + 1) = get_or-set_same one (2 * pair + 1) low 0 (omega arith) ∙ second in
+    let all : (k : ℕ) → k < 2 * pair + 1 + 1 → Written k = below_more Written (2 * pair + 1) (below_more Written (2 * pair) before here) next in
+    (length-set one (2 * pair + 1) low ∙ one_long, λ k within. all k (omega arith))
