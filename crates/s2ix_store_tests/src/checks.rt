@@ -1,141 +1,100 @@
-//! Comparisons of bags, changes and stores with plain data. Each ends the test where its row is wrong, and names it.
+//! Stores that are led on step by step, and compared with plain texts.
+//!
+//! A step is the text of an edit, `undo`, `redo` or `forget`. A row is a text STEP = ANSWER | PAIRS | DONE UNDONE: the answer is how many
+//! pairs changed their counts, none where the step forgets, or the name of the refusal; then what the store has behind it: its pairs with
+//! their counts, rising, and how many changes can be undone and redone.
 
-use crate::samples::{EditRow, LimitRow, edit_of, entry_of, held_of, store_of};
-use s2ix_bag::{Bag, Change, Held};
-use s2ix_edit::{Edit, EditError, RedoError, UndoError};
+use crate::edits::edit_of;
+use s2ix_edit::Edit;
+use s2ix_samples::{LimitRow, holds_pairs, limits_of, lists_entries};
 use s2ix_store::Store;
 use std::alloc::Global;
 use std::process::Abort;
 
-/// A call that leads a store on.
-#[derive(Clone, Copy)]
-pub(crate) enum Step {
-    Edit(EditRow),
-    Undo,
-    Redo,
-    Forget,
+/// The empty store within these limits.
+pub(crate) fn store_of(alloc: Global, limits: LimitRow) -> Option<Store> {
+    Store::new(alloc, limits_of(limits)?).ok()
 }
 
-/// Why a step is refused.
-#[derive(Clone, Copy, PartialEq, Eq)]
-pub(crate) enum Refusal {
-    Edit(EditError),
-    Undo(UndoError),
-    Redo(RedoError),
-}
-
-/// What a step answers: how many pairs changed their counts, none where it forgets.
-pub(crate) type Answer = Result<usize, Refusal>;
-
-/// A step with its answer; then what the store has behind it: its pairs with their counts, rising, and how many changes can be undone and
-/// redone.
-pub(crate) type Row = (Step, Answer, &'static str, (usize, usize));
-
-/// Ends the test with the row's name where the row doesn't hold.
-pub(crate) fn check(rt: &impl Abort, holds: bool, row: &str) {
-    assert!(rt; holds, "wrong at {row}");
-}
-
-/// Whether a bag has a pair with its count at a place.
-fn holds_at(bag: &Bag, place: usize, wanted: Held) -> bool {
-    place < bag.len() && bag.held(place) == wanted && bag.count(wanted.pair) == wanted.count
-}
-
-/// Whether a bag holds these pairs, in rising order, and no others.
-fn holds_pairs(rt: &impl Abort, bag: &Bag, pairs: &str) -> bool {
-    let mut place = 0usize;
-    let mut holds = true;
-    for text in pairs.split_ascii_whitespace() {
-        holds = holds && holds_at(bag, place, held_of(rt, text));
-        place = place.wrapping_add(1);
-    }
-    holds && place == bag.len()
-}
-
-/// Compares what a bag holds with pairs in rising order.
-pub(crate) fn check_bag(rt: &impl Abort, bag: &Bag, pairs: &str) {
-    check(rt, holds_pairs(rt, bag, pairs), pairs);
-}
-
-/// Compares the entries of a change.
-pub(crate) fn check_change(rt: &impl Abort, change: &Change, entries: &str) {
-    let mut left = change.entries().iter();
-    for text in entries.split_ascii_whitespace() {
-        check(rt, left.next() == Some(&entry_of(rt, text)), entries);
-    }
-    check(rt, left.next().is_none(), entries);
-}
-
-fn edit_answer(store: &mut Store, edit: &Edit) -> Answer {
+fn edit_answer(alloc: Global, store: &mut Store, edit: &Edit) -> Option<String> {
     match store.edit(edit) {
-        Ok(number) => Ok(number),
-        Err(error) => Err(Refusal::Edit(error)),
+        Ok(number) => format!(in alloc; "{number}").ok(),
+        Err(error) => format!(in alloc; "{error:?}").ok(),
     }
 }
 
-fn undo_answer(store: &mut Store) -> Answer {
+fn undo_answer(alloc: Global, store: &mut Store) -> Option<String> {
     match store.undo() {
-        Ok(number) => Ok(number),
-        Err(error) => Err(Refusal::Undo(error)),
+        Ok(number) => format!(in alloc; "{number}").ok(),
+        Err(error) => format!(in alloc; "{error:?}").ok(),
     }
 }
 
-fn redo_answer(store: &mut Store) -> Answer {
+fn redo_answer(alloc: Global, store: &mut Store) -> Option<String> {
     match store.redo() {
-        Ok(number) => Ok(number),
-        Err(error) => Err(Refusal::Redo(error)),
+        Ok(number) => format!(in alloc; "{number}").ok(),
+        Err(error) => format!(in alloc; "{error:?}").ok(),
     }
-}
-
-fn forget_answer(store: &mut Store) -> Answer {
-    store.forget();
-    Ok(0)
 }
 
 /// Carries a step out, and gives its answer.
-pub(crate) fn answer_of(rt: &impl Abort, alloc: Global, store: &mut Store, step: Step) -> Answer {
+pub(crate) fn answer_of(alloc: Global, store: &mut Store, step: &str) -> Option<String> {
     match step {
-        Step::Edit(row) => edit_answer(store, &edit_of(rt, alloc, row)),
-        Step::Undo => undo_answer(store),
-        Step::Redo => redo_answer(store),
-        Step::Forget => forget_answer(store),
+        "undo" => undo_answer(alloc, store),
+        "redo" => redo_answer(alloc, store),
+        "forget" => {
+            store.forget();
+            String::from_str(alloc, "0").ok()
+        }
+        _ => edit_answer(alloc, store, &edit_of(alloc, step)?),
     }
 }
 
-/// Whether so many changes can be undone and redone.
-fn keeps(store: &Store, (done, undone): (usize, usize)) -> bool {
-    store.done().len() == done && store.undone().len() == undone
-}
-
-/// Carries out one step after the other. Compares the answer of each, and what the store has behind it.
-pub(crate) fn check_steps(rt: &impl Abort, alloc: Global, store: &mut Store, rows: &[Row]) {
-    for (place, &(step, wanted, pairs, kept)) in rows.iter().enumerate() {
-        let answer = answer_of(rt, alloc, store, step);
-        let holds = answer == wanted && keeps(store, kept) && holds_pairs(rt, store.bag(), pairs);
-        assert!(rt; holds, "wrong at step {place}");
+/// Whether a step answers so.
+pub(crate) fn answers(alloc: Global, store: &mut Store, step: &str, wanted: &str) -> bool {
+    match answer_of(alloc, store, step) {
+        Some(answer) => answer.as_str() == wanted,
+        None => false,
     }
 }
 
-/// Carries out steps on the empty store within some limits.
-pub(crate) fn check_history(rt: &impl Abort, alloc: Global, limits: LimitRow, rows: &[Row]) {
-    let mut store = store_of(rt, alloc, limits);
+// Whether so many changes can be undone and redone, as a text DONE UNDONE says.
+fn keeps(store: &Store, numbers: &str) -> Option<bool> {
+    let (done, undone) = numbers.split_once(' ')?;
+    let (done, undone): (usize, usize) = (done.parse().ok()?, undone.parse().ok()?);
+    Some(store.done().len() == done && store.undone().len() == undone)
+}
+
+// Whether a store has what a text PAIRS | DONE UNDONE says.
+fn stands_at(store: &Store, wanted: &str) -> Option<bool> {
+    let (pairs, numbers) = wanted.split_once('|')?;
+    Some(holds_pairs(store.bag(), pairs) && keeps(store, numbers.trim())?)
+}
+
+// Carries a row's step out. Whether its answer and what the store has behind it are the row's.
+fn follows(alloc: Global, store: &mut Store, row: &str) -> Option<bool> {
+    let (step, wanted) = row.split_once(" = ")?;
+    let (answer, wanted) = wanted.split_once(" |")?;
+    Some(answers(alloc, store, step, answer) && stands_at(store, wanted)?)
+}
+
+/// Carries out one row after the other, and compares each.
+pub(crate) fn check_steps(rt: &impl Abort, alloc: Global, store: &mut Store, rows: &[&str]) {
+    for &row in rows {
+        assert!(rt; follows(alloc, store, row) == Some(true), "wrong at {row}");
+    }
+}
+
+/// Carries out rows on the empty store within some limits.
+pub(crate) fn check_history(rt: &impl Abort, alloc: Global, limits: LimitRow, rows: &[&str]) {
+    let mut store = store_of(alloc, limits).expect(rt, "a store");
     check_steps(rt, alloc, &mut store, rows);
 }
 
-/// Compares what a change makes of a bag.
-pub(crate) fn check_applied(
-    rt: &impl Abort,
-    alloc: Global,
-    bag: &Bag,
-    change: &Change,
-    pairs: &str,
-) {
-    let bag = bag.applied(alloc, change).expect(rt, pairs);
-    check_bag(rt, &bag, pairs);
-}
-
-/// Compares the entries of the last change that can be undone.
-pub(crate) fn check_last(rt: &impl Abort, store: &Store, entries: &str) {
-    let last = store.done().last().expect(rt, entries);
-    check_change(rt, last, entries);
+/// Whether the last change that can be undone has these entries.
+pub(crate) fn ends_with(store: &Store, entries: &str) -> bool {
+    match store.done().last() {
+        Some(last) => lists_entries(last, entries),
+        None => false,
+    }
 }

@@ -1,0 +1,54 @@
+// Bags and changes that are the same, and their clones.
+use s2ix_bag::{Bag, Change};
+use s2ix_samples::{LimitRow, bag_of};
+use std::alloc::Global;
+
+const LIMITS: LimitRow = (2, 3, 1);
+
+const TWO: &str = "04:9:2";
+
+const THREE: &str = "04:9:3";
+
+#[test]
+fn bags_are_the_same_where_limits_and_pairs_are(rt: HostRuntime) {
+    let bag = bag_of(rt.alloc(), LIMITS, TWO).expect(&rt, "a bag");
+    for (limits, pairs, same) in [
+        (LIMITS, TWO, true),
+        (LIMITS, THREE, false),
+        (LIMITS, "", false),
+        ((2, 3, 2), TWO, false),
+    ] {
+        let other = bag_of(rt.alloc(), limits, pairs).expect(&rt, pairs);
+        assert!(rt; (bag == other) == same, "wrong at {pairs}");
+    }
+}
+
+#[test]
+fn the_clone_of_a_bag_is_the_same(rt: HostRuntime) {
+    let bag = bag_of(rt.alloc(), LIMITS, TWO).expect(&rt, "a bag");
+    let copy = bag.clone().expect(&rt, "memory");
+    assert!(rt; copy == bag);
+}
+
+// The change that makes these pairs of nothing.
+fn change_to(alloc: Global, pairs: &str) -> Option<Change> {
+    let bag = bag_of(alloc, LIMITS, pairs)?;
+    let empty = Bag::empty(alloc, bag.limits());
+    Change::between(alloc, &empty, &bag).ok()
+}
+
+#[test]
+fn changes_are_the_same_where_their_entries_are(rt: HostRuntime) {
+    let change = change_to(rt.alloc(), TWO).expect(&rt, TWO);
+    for (pairs, same) in [(TWO, true), (THREE, false)] {
+        let other = change_to(rt.alloc(), pairs).expect(&rt, pairs);
+        assert!(rt; (change == other) == same, "wrong at {pairs}");
+    }
+}
+
+#[test]
+fn the_clone_of_a_change_is_the_same(rt: HostRuntime) {
+    let change = change_to(rt.alloc(), TWO).expect(&rt, TWO);
+    let copy = change.clone().expect(&rt, "memory");
+    assert!(rt; copy == change);
+}

@@ -1,0 +1,27 @@
+/// A generator of numbers that look random: each is a fixed function of the one before.
+#[derive(Drop)]
+pub struct Random {
+    state: u64,
+}
+
+impl Random {
+    /// The generator of a seed.
+    pub fn new(seed: u64) -> Random {
+        Random { state: seed }
+    }
+
+    /// The next number of 32 bits.
+    pub fn bits(&mut self) -> u64 {
+        let next = self
+            .state
+            .wrapping_mul(6364136223846793005)
+            .wrapping_add(1442695040888963407);
+        self.state = next;
+        next >> 32
+    }
+
+    /// The next number below a bound of at most 32 bits.
+    pub fn below(&mut self, bound: u64) -> u64 {
+        self.bits().wrapping_mul(bound) >> 32
+    }
+}
