@@ -66,7 +66,7 @@ parts_none line none = pieces_none 32 line none
 
 -- ---- how many parts
 
-some_parts : (line : List ℕ) → 0 < length (parts_of line)
+pub some_parts : (line : List ℕ) → 0 < length (parts_of line)
 unfolding parts_of
 some_parts line = omega (arith, length-slice_split (λ byte. byte == 32) line)
 

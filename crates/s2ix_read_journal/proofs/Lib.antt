@@ -1,0 +1,10 @@
+pub mod NumberTexts
+pub mod EntryTexts
+pub mod ChangeTexts
+pub mod Rows
+pub mod NextEntries
+pub mod Standings
+pub mod Steps
+pub mod Reading
+pub mod Whole
+pub mod Answered

@@ -1,0 +1,27 @@
+-- The lists of changes that a journal read under limits may have.
+use Rattle.std.specs.Prelude.{◌≤◌, List, length, All}
+use Rattle.s2ix_bag.specs.Change.{IsChangeList}
+use Rattle.s2ix_bag.specs.Limits.{changes_limit, count_limit}
+use Rattle.s2ix_bag.specs.declared.limits.Limits.{Limits}
+use Rattle.s2ix_bag.specs.declared.pair.Entry.{Entry}
+use Rattle.s2ix_text.specs.Journal.{IsWritable}
+
+-- an entry with counts within the limit
+abbrev pub HasCountsWithin : Limits → Entry → Type 0
+HasCountsWithin limits e = (e.before ≤ count_limit limits) × (e.after ≤ count_limit limits)
+
+-- changes that a journal can hold, within the limits
+pub record AreWithin (limits : Limits) (changes : List (List Entry)) : Type 0 where
+  pub writable : All IsWritable changes
+  pub small : All (λ es. All (HasCountsWithin limits) es) changes
+  pub few : length changes ≤ changes_limit limits
+
+-- what a journal that is read under limits says: changes within them
+pub record IsJournal (limits : Limits) (changes : List (List Entry)) : Type 0 where
+  pub lists : All IsChangeList changes
+  pub within : AreWithin limits changes
+
+-- entries of a group, so far
+pub record AreEntries (limits : Limits) (es : List Entry) : Type 0 where
+  pub list : IsChangeList es
+  pub small : All (HasCountsWithin limits) es

@@ -1,0 +1,28 @@
+-- What the definitions of readers say, in other words: each of these is proved, by the function of `laws` of its name.
+use Rattle.std.specs.Prelude.{◌≡◌, ◌↔◌, ℕ, not, None, List, ◌∷◌, ◌++◌}
+use Rattle.s2ix_bag.specs.declared.limits.Limits.{Limits}
+use Rattle.s2ix_bag.specs.declared.pair.Entry.{Entry}
+use Rattle.s2ix_text.specs.Journal.{journal_text}
+use Rattle.s2ix_read_journal.specs.JournalFaults.{journal_fault, line_fault}
+use Rattle.s2ix_read_journal.specs.Journals.{IsJournal}
+use Rattle.s2ix_parts.specs.Lines.{is_nil, lines_of}
+
+-- a text has no fault exactly where it is the journal of a list of changes within the limits
+abbrev pub JournalsHaveNoFault : Type 0
+JournalsHaveNoFault =
+    (limits : Limits) (text : List ℕ)
+    → (journal_fault limits text ≡ None) ↔ ((changes : List (List Entry)) × IsJournal limits changes × (text ≡ journal_text changes))
+
+-- what was written of changes within limits has no fault under them, and no other such changes have that text
+abbrev pub WrittenJournalsAreReadBack : Type 0
+WrittenJournalsAreReadBack =
+    (limits : Limits) (changes : List (List Entry)) → IsJournal limits changes
+    → (journal_fault limits (journal_text changes) ≡ None)
+    × ((others : List (List Entry)) → IsJournal limits others → journal_text changes ≡ journal_text others → changes ≡ others)
+
+-- no line of a text without a fault has one
+abbrev pub NoFaultyJournalLineIsAccepted : Type 0
+NoFaultyJournalLineIsAccepted =
+    (limits : Limits) (text : List ℕ) → journal_fault limits text ≡ None
+    → (above : List (List ℕ)) (line : List ℕ) (below : List (List ℕ)) → lines_of text ≡ above ++ line ∷ below
+    → line_fault (record { limits = limits; above = above; line = line; ended = not (is_nil below) }) ≡ None

@@ -1,0 +1,5 @@
+pub mod Numbers
+pub mod JournalFaults
+pub mod JournalLines
+pub mod Journals
+pub mod Laws

@@ -1,0 +1,65 @@
+ghost use Rattle.std.specs.Prelude.{◌≡◌};
+ghost use Rattle.s2ix_read_journal.specs.declared.errors.JournalError.TheVariants.{OutOfMemory};
+
+use std::alloc::AllocError;
+use thiserror::Error;
+
+/// What is wrong with a line of a journal. On one line the first of these that stands is told. This project's own.
+#[derive(Clone, Copy, Debug, PartialEq, Eq, Error)]
+pub enum JournalFault {
+    /// A line is wanted here, and what is left of the text has no line feed.
+    #[error("a line is missing or has no line feed")]
+    Truncated,
+    /// The first line is not `s2ix-journal 1`.
+    #[error("the first line is not `s2ix-journal 1`")]
+    BadHeader,
+    /// The line stands outside a group, begins with `end` and is not `end CHANGES` with the right number.
+    #[error("the end line doesn't count the groups above it")]
+    BadEnd,
+    /// The line is not `change` and a number outside a group, or has not exactly four parts inside one, with one space between each two.
+    #[error("neither `change` and a number, nor the four parts of an entry")]
+    BadLine,
+    /// The first part is no cell's canonical token.
+    #[error("the first part is no canonical token")]
+    BadToken,
+    /// The second part is no canonical number of at most 2147483647.
+    #[error("the second part is no canonical number of a label")]
+    BadLabel,
+    /// The number of entries is no canonical number from 1 to 2000000, or a count is none from 0 to 65535.
+    #[error("a number that is not canonical or out of its range")]
+    BadCount,
+    /// The counts before and after are equal.
+    #[error("the counts before and after are equal")]
+    NoDifference,
+    /// The pair is not above that of the line before in its group.
+    #[error("the pair is not above that of the line before")]
+    Unsorted,
+    /// A count is above the limit.
+    #[error("a count above the limit")]
+    TooManyCopies,
+    /// As many changes as the limit allows stand above.
+    #[error("more changes than the limit")]
+    TooManyChanges,
+    /// Bytes follow the end line.
+    #[error("bytes behind the end line")]
+    TrailingBytes,
+}
+
+/// Why [`read_journal`](crate::read_journal) refused a text.
+#[derive(Clone, Copy, Debug, PartialEq, Eq, Error)]
+pub enum JournalError {
+    /// The first line with a fault, counted from 1.
+    #[error("line {line}: {fault}")]
+    At { line: usize, fault: JournalFault },
+    /// A growth was refused.
+    #[error("out of memory")]
+    OutOfMemory,
+}
+
+impl From<AllocError> for JournalError {
+    ghost from_gives = { λ _ error. error ≡ OutOfMemory };
+
+    fn from(_: AllocError) -> Self {
+        JournalError::OutOfMemory
+    }
+}

@@ -1,0 +1,99 @@
+//! Journals, read back.
+ghost use Rattle.std.specs.Prelude.{◌≡◌, ◌∷◌, ◌++◌, [], ℕ, flat_map, All, IfErr, IfOk, List, MatchResult, None, OnOk};
+ghost use Rattle.s2ix_bag.specs.Change.{IsChangeList};
+ghost use Rattle.s2ix_bag.specs.declared.pair.Entry.{Entry};
+ghost use Rattle.s2ix_text.specs.Journal.{group_text, journal_text, last_line};
+ghost use Rattle.s2ix_read_journal.specs.declared.errors.JournalError.TheVariants.{OutOfMemory};
+ghost use Rattle.s2ix_read_journal.specs.JournalFaults.{IsJournalError, journal_fault, line_fault};
+ghost use Rattle.s2ix_read_journal.specs.JournalLines.{lines_down_to};
+ghost use Rattle.s2ix_read_journal.specs.Journals.{AreWithin, IsJournal};
+ghost use Rattle.s2ix_parts.specs.Faults.{fault_below};
+ghost use Rattle.s2ix_parts.specs.Lines.{lines_of};
+
+use crate::change_line::{is_end_of, next_size};
+use crate::errors::{JournalError, JournalFault};
+use crate::group::read_group;
+use s2ix_bag::{Change, Limits};
+use s2ix_parts::{cut_line, first_part};
+use std::alloc::{AllocError, Global};
+
+// Appends a change.
+fn push(changes: &mut Vec<Change>, next: Change) -> Result<(), AllocError>
+    ensures { OnOk result (changes.new.items ≡ changes.old.items ++ next ∷ []) }
+{
+    changes.push(next)?;
+    Ok(())
+}
+
+// What is read of a journal below its header.
+fn read_groups(alloc: Global, limits: Limits, text: &[u8]) -> Result<Vec<Change>, JournalError>
+    ensures journal { IfOk result (λ changes. IsJournal limits changes.items) }
+    ensures text { IfOk result (λ changes. text.now ≡ flat_map group_text changes.items ++ last_line changes.items) }
+    ensures refused { IfErr result (λ error. IsJournalError error (fault_below line_fault limits (lines_down_to []) (lines_of text.now))) }
+{
+    let mut changes = Vec::new(alloc);
+    let mut number = 2;
+    let mut rest = text;
+    while let Some((line, below)) = cut_line(rest) {
+        if first_part(line) == b"end".as_slice() {
+            if !is_end_of(changes.len(), line) {
+                return Err(JournalError::At {
+                    line: number,
+                    fault: JournalFault::BadEnd,
+                });
+            }
+            if !below.is_empty() {
+                return Err(JournalError::At {
+                    line: number + 1,
+                    fault: JournalFault::TrailingBytes,
+                });
+            }
+            return Ok(changes);
+        }
+        match next_size(limits, changes.len(), line) {
+            Ok(size) => {
+                let (entries, behind) = read_group(alloc, limits, size, number + 1, below)?;
+                push(&mut changes, Change::from_vec(entries))?;
+                number += 1 + size as usize;
+                rest = behind;
+            }
+            Err(fault) => return Err(JournalError::At {
+                line: number,
+                fault,
+            }),
+        }
+    }
+    Err(JournalError::At {
+        line: number,
+        fault: JournalFault::Truncated,
+    })
+}
+
+/// Reads a journal under limits: the changes whose journal the text is, the oldest first, or the first line that has a fault and the first
+/// fault of that line.
+///
+/// Lines count from 1. Want of memory may be told in place of a fault of line 2 or a later one. O(n) for n bytes; a growth for each group, of
+/// at most three bytes for each byte of the text, and those of the list. This project's own.
+pub fn read_journal(alloc: Global, text: &[u8], limits: Limits) -> Result<Vec<Change>, JournalError>
+    ensures changes { IfOk result (λ changes. All IsChangeList changes.items) }
+    ensures within { IfOk result (λ changes. AreWithin limits changes.items) }
+    ensures text { IfOk result (λ changes. text.now ≡ journal_text changes.items) }
+    ensures every { (cs : List (List Entry)) → IsJournal limits cs → text.now ≡ journal_text cs
+        → MatchResult result (λ changes. changes.items ≡ cs) (λ error. error ≡ OutOfMemory) }
+    ensures accepted { OnOk result (journal_fault limits text.now ≡ None) }
+    ensures refused { IfErr result (λ error. IsJournalError error (journal_fault limits text.now)) }
+{
+    let Some((header, below)) = cut_line(text) else {
+        return Err(JournalError::At {
+            line: 1,
+            fault: JournalFault::Truncated,
+        });
+    };
+    if header != b"s2ix-journal 1".as_slice() {
+        return Err(JournalError::At {
+            line: 1,
+            fault: JournalFault::BadHeader,
+        });
+    }
+    read_groups(alloc, limits, below)
+}

@@ -1,0 +1,18 @@
+//! What the definitions of readers that the contracts cite say, in other words. Each function is a law: it does nothing, and its contract is
+//! the fact.
+ghost use Rattle.s2ix_read_journal.specs.Laws.{JournalsHaveNoFault, NoFaultyJournalLineIsAccepted, WrittenJournalsAreReadBack};
+
+/// A text has no fault exactly where it is the journal of a list of changes within the limits.
+pub fn journals_have_no_fault()
+    ensures { JournalsHaveNoFault }
+{}
+
+/// What was written of changes within limits has no fault under them, and no other such changes have that text: so reading it gives them.
+pub fn written_journals_are_read_back()
+    ensures { WrittenJournalsAreReadBack }
+{}
+
+/// No line of a text without a fault has one: a line has either a fault, or a place in a text that is accepted.
+pub fn no_faulty_journal_line_is_accepted()
+    ensures { NoFaultyJournalLineIsAccepted }
+{}

@@ -1,0 +1,15 @@
+//! The reader of journals. It accepts exactly the texts that are the journal of a list of changes within the limits, and gives these changes;
+//! any other text is refused with its first faulty line and what is wrong there.
+#![tactic(auto)]
+
+mod change_line;
+mod entry_line;
+mod errors;
+mod group;
+mod journal;
+pub mod laws;
+mod numbers;
+mod parts;
+
+pub use errors::{JournalError, JournalFault};
+pub use journal::read_journal;
