@@ -1,14 +1,15 @@
 -- From what texts come to, to its answer.
-use Rattle.std.proofs.Common.{ℕ, ◌<◌, Bool, false, List, length, Option, Result, Ok, Err, refl, ap, sym, arith}
-use Rattle.std.specs.Prelude.{IfErr}
+use Rattle.std.proofs.Common.{◌≡◌, ℕ, ◌<◌, Bool, false, List, length, Option, Result, Ok, Err, refl, ap, sym, subst, arith}
+use Rattle.std.specs.Prelude.{IfErr, IfOk}
 use Rattle.s2ix_bag.specs.Collection.{LimitedCollection}
+use Rattle.s2ix_text.specs.Dump.{dump_text}
 use Rattle.s2ix_io.specs.declared.run_fault.RunFault.{RunFault}
 use Rattle.s2ix_io.specs.Faults.{IsWantOnlyIf}
 use Rattle.s2ix_files.specs.declared.refusal.Refusal.{Refusal}
 use Rattle.s2ix_files.specs.declared.refusal.TextsError.{TextsError}
 use Rattle.s2ix_files.specs.declared.refusal.TextsError.TheVariants.{Refused, OutOfMemory}
-use Rattle.s2ix_files.specs.Answers.{Answer, IsAnswerTo, IsRefusalAnswer, Tells, answer_of, counts_line}
-use Rattle.s2ix_files.specs.Refusals.{IsRefusedBy}
+use Rattle.s2ix_files.specs.Answers.{Answer, IsAnswerTo, IsDumpAnswer, IsRefusalAnswer, Tells, answer_of, counts_line, dump_of}
+use Rattle.s2ix_files.specs.Refusals.{IsRefusedBy, IsWantOf}
 
 -- the answer of a bag that the texts come to
 pub bag_answer : (printed : LimitedCollection → List ℕ) (ComesTo : Result LimitedCollection Refusal → Type 0) (bag : LimitedCollection) → ComesTo (Ok bag) → IsAnswerTo printed ComesTo (answer_of printed (Ok bag))
@@ -33,3 +34,26 @@ want_as (Err fault) Wants Others as_others wants = λ is. as_others (wants is)
 -- the line of counts is not empty
 pub some_counts : (bag : LimitedCollection) → 0 < length (counts_line bag)
 some_counts bag = omega arith
+
+-- ---- a dump
+
+-- the dump of a bag is the answer of an outcome that is that bag
+pub dumped_so : (outcome : Result LimitedCollection TextsError) (bag : LimitedCollection) → outcome ≡ Ok bag → IsDumpAnswer outcome (answer_of dump_of (Ok bag))
+dumped_so outcome bag is = let Told : Result LimitedCollection TextsError → Type 0 = λ o. IsDumpAnswer o (answer_of dump_of (Ok bag)) in subst Told (sym is) refl
+
+-- a dump is not empty
+pub some_dump : (bag : LimitedCollection) → 0 < length (dump_of bag)
+unfolding dump_text
+some_dump bag = omega arith
+
+-- the answer that the outcome of the texts tells is the one to them
+pub dump_answer : (ComesTo : Result LimitedCollection Refusal → Type 0) (outcome : Result LimitedCollection TextsError)
+    → IfOk outcome (λ bag. ComesTo (Ok bag)) → IfErr outcome (IsRefusedBy ComesTo)
+    → (answer : Answer) → IsDumpAnswer outcome answer → IsAnswerTo dump_of ComesTo answer
+dump_answer ComesTo (Ok bag) comes refused answer is = (Ok bag, comes, is)
+dump_answer ComesTo (Err error) comes refused answer is = refusal_answer dump_of ComesTo error refused answer is
+
+-- want of memory is an error of the outcome
+pub wanted_so : (outcome : Result LimitedCollection TextsError) (Wants : Type 0) → IfErr outcome (IsWantOf Wants) → outcome ≡ Err OutOfMemory → Wants
+wanted_so (Ok bag) Wants wants is = cc
+wanted_so (Err error) Wants wants is = wants (cc)

@@ -8,7 +8,7 @@ use Rattle.s2ix_io.specs.declared.sink.WriteFault.{WriteFault}
 use Rattle.s2ix_io.specs.Puts.{Writes}
 use Rattle.s2ix_io.proofs.Fronts.{IsFront-refl}
 use Rattle.s2ix_files.specs.declared.refusal.Refusal.{Refusal}
-use Rattle.s2ix_files.specs.declared.refusal.Refusal.TheVariants.{Dump}
+use Rattle.s2ix_files.specs.declared.refusal.Refusal.TheVariants.{Dump, Journal, Mismatch, TooManyCopies, TooManyPairs}
 use Rattle.s2ix_files.specs.declared.refusal.TextsError.{TextsError}
 use Rattle.s2ix_files.specs.declared.refusal.TextsError.TheVariants.{Refused}
 use Rattle.s2ix_files.specs.Answers.{Answer, IsRefusalAnswer, Sends, Tells}
@@ -66,3 +66,7 @@ refused_so error refusal is = let Told : TextsError → Type 0 = λ e. IsRefusal
 -- the line of a refusal is not empty
 pub some_refusal : (refusal : Refusal) → 0 < length (refusal_line refusal)
 some_refusal (Dump line fault) = omega arith
+some_refusal (Journal line fault) = omega arith
+some_refusal (Mismatch change entry) = omega arith
+some_refusal (TooManyCopies change) = omega arith
+some_refusal (TooManyPairs change) = omega arith

@@ -7,10 +7,11 @@ use Rattle.s2ix_bag.specs.declared.limits.Limits.{Limits}
 use Rattle.s2ix_io.specs.declared.run_fault.RunFault.{RunFault}
 use Rattle.s2ix_io.specs.declared.run_fault.RunFault.TheVariants as fault
 use Rattle.s2ix_io.specs.Puts.{AppendsFront}
+use Rattle.s2ix_text.specs.Dump.{dump_text}
 use Rattle.s2ix_files.specs.declared.refusal.Refusal.{Refusal}
 use Rattle.s2ix_files.specs.declared.refusal.TextsError.{TextsError}
 use Rattle.s2ix_files.specs.declared.refusal.TextsError.TheVariants.{Refused, OutOfMemory}
-use Rattle.s2ix_files.specs.Reads.{DumpReads}
+use Rattle.s2ix_files.specs.Reads.{DumpReads, TextsReplay, TextsRewind}
 use Rattle.s2ix_files.specs.Refusals.{refusal_line}
 
 -- ---- answers
@@ -45,10 +46,27 @@ LoadAnswers limits text = IsAnswerTo no_text (DumpReads limits text)
 abbrev pub CheckAnswers : Limits → List ℕ → Answer → Type 0
 CheckAnswers limits text = IsAnswerTo counts_line (DumpReads limits text)
 
+-- a bag that changes came to is printed as its dump
+abbrev pub dump_of : LimitedCollection → List ℕ
+dump_of bag = dump_text bag.held
+
+-- the answer to a dump and a journal that are replayed under limits
+abbrev pub ReplayAnswers : Limits → List ℕ → List ℕ → Answer → Type 0
+ReplayAnswers limits dump journal = IsAnswerTo dump_of (TextsReplay limits dump journal)
+
+-- the answer to a dump and a journal that are rewound under limits
+abbrev pub RewindAnswers : Limits → List ℕ → List ℕ → Answer → Type 0
+RewindAnswers limits dump journal = IsAnswerTo dump_of (TextsRewind limits dump journal)
+
 -- the answer that an error of the texts tells; want of memory tells none
 abbrev pub IsRefusalAnswer : TextsError → Answer → Type 0
 IsRefusalAnswer (Refused refusal) answer = answer ≡ record { text = refusal_line refusal; accepted = false }
 IsRefusalAnswer OutOfMemory answer = ⊥
+
+-- the answer that a bag or an error of the texts tells
+abbrev pub IsDumpAnswer : Result LimitedCollection TextsError → Answer → Type 0
+IsDumpAnswer (Ok bag) answer = answer ≡ answer_of dump_of (Ok bag)
+IsDumpAnswer (Err error) answer = IsRefusalAnswer error answer
 
 -- ---- telling them
 

@@ -5,12 +5,15 @@
 #![tactic(auto)]
 
 mod check;
+pub mod laws;
 mod load;
 mod names;
 mod reads;
 mod refusal;
+mod replay;
 mod telling;
 
 pub use check::check_text;
 pub use load::load_text;
-pub use names::dump_fault_name;
+pub use names::{dump_fault_name, journal_fault_name};
+pub use replay::{replay_texts, rewind_texts};
