@@ -110,7 +110,7 @@ pub numbered_are_changes : (n : ℕ) (changes : List (List Entry)) → All IsCha
 numbered_are_changes n [] all = tt
 numbered_are_changes n (es ∷ rest) all = (All-head IsChangeList es rest all, numbered_are_changes (n + 1) rest (All-tail IsChangeList es rest all))
 
-push_change : (cs : List Numbered) (c : Numbered) → AreChanges cs → IsChangeList c.change → AreChanges (cs ++ c ∷ [])
+pub push_change : (cs : List Numbered) (c : Numbered) → AreChanges cs → IsChangeList c.change → AreChanges (cs ++ c ∷ [])
 push_change [] c cs_are c_is = (c_is, tt)
 push_change (x ∷ cs) c cs_are c_is = (cs_are.0, push_change cs c cs_are.1 c_is)
 
@@ -154,3 +154,16 @@ replay_of_rewind bag changes is_bag all none =
       ap (first_refusal (rewound bag changes)) (sym (way_back-way_back cs)) ∙ returns.taken,
       ap (after_changes (rewound bag changes)) (sym (way_back-way_back cs)) ∙ returns.back,
     )
+
+-- what changes make that a bag takes is a bag
+pub changes_make_bag : (bag : LimitedCollection) (cs : List Numbered) → IsBag bag → AreChanges cs → first_refusal bag cs ≡ None → IsBag (after_changes bag cs)
+changes_make_bag bag [] is_bag cs_are none = is_bag
+changes_make_bag bag (c ∷ rest) is_bag cs_are none =
+    changes_make_bag (after_change bag c.change) rest (made_is_bag bag c.change is_bag cs_are.0 (taken_from_none bag c.change (first_taken bag c rest none))) cs_are.1 (rest_taken bag c rest none)
+
+pub replayed_is_bag : (bag : LimitedCollection) (changes : List (List Entry)) → IsBag bag → All IsChangeList changes → replay_refusal bag changes ≡ None → IsBag (replayed bag changes)
+replayed_is_bag bag changes is_bag all none = changes_make_bag bag (numbered changes) is_bag (numbered_are_changes 1 changes all) none
+
+pub rewound_is_bag : (bag : LimitedCollection) (changes : List (List Entry)) → IsBag bag → All IsChangeList changes → rewind_refusal bag changes ≡ None → IsBag (rewound bag changes)
+rewound_is_bag bag changes is_bag all none =
+    changes_make_bag bag (way_back (numbered changes)) is_bag (back_are_changes (numbered changes) (numbered_are_changes 1 changes all)) none

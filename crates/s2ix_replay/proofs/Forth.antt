@@ -1,10 +1,10 @@
 -- Changes done one after the other.
-use Rattle.std.proofs.Common.{◌≡◌, ℕ, ◌<◌, ◌==◌, nat_lt, not, Bool, true, false, cond, List, [], ◌∷◌, ◌++◌, length, Option, Some, None, position, refl, sym, ap, ◌∙◌}
+use Rattle.std.proofs.Common.{◌≡◌, ℕ, ◌+◌, ◌<◌, ◌==◌, nat_lt, not, Bool, true, false, cond, List, [], ◌∷◌, ◌++◌, length, Option, Some, None, position, refl, sym, ap, ◌∙◌}
 use Rattle.std.specs.List.{list_any}
 use Rattle.std.specs.Option.{option_map, option_or}
 use Rattle.std.proofs.lemmas.List.Quantifiers.{position-Some}
 use Rattle.s2ix_bag.specs.declared.errors.ApplyError.{ApplyError}
-use Rattle.s2ix_bag.specs.declared.errors.ApplyError.TheVariants.{Mismatch, TooManyCopies, TooManyPairs}
+use Rattle.s2ix_bag.specs.declared.errors.ApplyError.TheVariants.{Mismatch, TooManyCopies, TooManyPairs, OutOfMemory}
 use Rattle.s2ix_bag.specs.declared.pair.Entry.{Entry}
 use Rattle.s2ix_bag.specs.Apply.{apply_refusal, first_mismatch}
 use Rattle.s2ix_bag.specs.Change.{changed}
@@ -78,6 +78,11 @@ no_mismatch_told true many place is = cc
 no_mismatch_told false true place is = cc
 no_mismatch_told false false place is = cc
 
+no_memory_told : (few many : Bool) → cond few (Some TooManyCopies) (cond many (Some TooManyPairs) None) ≡ Some OutOfMemory → ⊥
+no_memory_told true many is = cc
+no_memory_told false true is = cc
+no_memory_told false false is = cc
+
 told_is_first : (bag : LimitedCollection) (es : List Entry) (mismatch : Option ℕ) (place : ℕ) → refusal_by bag es mismatch ≡ Some (Mismatch place) → mismatch ≡ Some place
 told_is_first bag es (Some k) place is = cc
 told_is_first bag es None place is =
@@ -91,3 +96,27 @@ position_within (e ∷ es) test place is = (position-Some test (e ∷ es) place 
 pub mismatch_within : (bag : LimitedCollection) (es : List Entry) (place : ℕ) → apply_refusal bag es ≡ Some (Mismatch place) → place < length es
 mismatch_within bag es place is =
     position_within es (λ e. not (e.before == count_in bag.held e.pair)) place (told_is_first bag es (first_mismatch bag es) place is)
+
+-- ---- no refusal is want of memory
+
+never_told : (bag : LimitedCollection) (es : List Entry) (mismatch : Option ℕ) → refusal_by bag es mismatch ≡ Some OutOfMemory → ⊥
+never_told bag es (Some k) is = cc
+never_told bag es None is =
+    no_memory_told (list_any (λ e. nat_lt (count_limit bag.limits) e.after) es) (nat_lt (pairs_limit bag.limits) (length (changed bag.held es))) is
+
+never_here : (bag : LimitedCollection) (c : Numbered) (rest : List Numbered) (refusal : Option ApplyError) → apply_refusal bag c.change ≡ refusal → (first_refusal (after_change bag c.change) rest ≡ Some told.OutOfMemory → ⊥) → first_refusal bag (c ∷ rest) ≡ Some told.OutOfMemory → ⊥
+never_here bag c rest None is behind so = behind (sym (refusal_behind bag c rest is) ∙ so)
+never_here bag c rest (Some (Mismatch place)) is behind so =
+    let here = refusal_here bag c rest (told.Mismatch c.number (place + 1)) (ap (option_map (refusal_numbered c.number)) is) in
+    let clash : Some (told.Mismatch c.number (place + 1)) ≡ Some told.OutOfMemory = sym here ∙ so in cc
+never_here bag c rest (Some TooManyCopies) is behind so =
+    let here = refusal_here bag c rest (told.TooManyCopies c.number) (ap (option_map (refusal_numbered c.number)) is) in
+    let clash : Some (told.TooManyCopies c.number) ≡ Some told.OutOfMemory = sym here ∙ so in cc
+never_here bag c rest (Some TooManyPairs) is behind so =
+    let here = refusal_here bag c rest (told.TooManyPairs c.number) (ap (option_map (refusal_numbered c.number)) is) in
+    let clash : Some (told.TooManyPairs c.number) ≡ Some told.OutOfMemory = sym here ∙ so in cc
+never_here bag c rest (Some OutOfMemory) is behind so = absurd (never_told bag c.change (first_mismatch bag c.change) is)
+
+pub never_memory : (bag : LimitedCollection) (cs : List Numbered) → first_refusal bag cs ≡ Some told.OutOfMemory → ⊥
+never_memory bag [] is = cc
+never_memory bag (c ∷ rest) is = never_here bag c rest (apply_refusal bag c.change) refl (never_memory (after_change bag c.change) rest) is

@@ -1,0 +1,30 @@
+-- What a dump and a journal come to.
+use Rattle.std.proofs.Common.{◌≡◌, Option, Some, Result, Ok, Err, refl, ap, inl, inr}
+use Rattle.std.specs.Option.{option_map}
+use Rattle.s2ix_replay.specs.declared.errors.ReplayError.{ReplayError}
+use Rattle.s2ix_replay.specs.declared.errors.ReplayError.TheVariants.{Mismatch, TooManyCopies, TooManyPairs, OutOfMemory}
+use Rattle.s2ix_replay.specs.Replay.{IsReplayError}
+use Rattle.s2ix_files.specs.declared.refusal.Refusal.{Refusal}
+use Rattle.s2ix_files.specs.declared.refusal.TextsError.{TextsError}
+use Rattle.s2ix_files.specs.declared.refusal.TextsError.TheVariants as texts
+use Rattle.s2ix_files.specs.Reads.{Then}
+use Rattle.s2ix_files.specs.Refusals.{IsRefusedBy, error_of_replay}
+
+-- an error of the first decides
+pub refused_first : {A B : Type 0} (First : Result A Refusal → Type 0) (Next : A → Result B Refusal → Type 0) (error : TextsError) → IsRefusedBy First error → IsRefusedBy (Then First Next) error
+refused_first First Next (texts.Refused refusal) first = inr (refusal, first, refl)
+refused_first First Next texts.OutOfMemory first = tt
+
+-- an error of the next, where the first came to a value
+pub refused_next : {A B : Type 0} (First : Result A Refusal → Type 0) (Next : A → Result B Refusal → Type 0) (a : A) (error : TextsError) → First (Ok a) → IsRefusedBy (Next a) error → IsRefusedBy (Then First Next) error
+refused_next First Next a (texts.Refused refusal) first next = inl (a, first, next)
+refused_next First Next a texts.OutOfMemory first next = tt
+
+-- an error of changes, as one of the texts
+pub refused_changes : {A : Type 0} (ComesTo : Result A Refusal → Type 0) (found : Option ReplayError) (error : ReplayError)
+    → ((refusal : Refusal) → option_map error_of_replay found ≡ Some (texts.Refused refusal) → ComesTo (Err refusal))
+    → IsReplayError error found → IsRefusedBy ComesTo (error_of_replay error)
+refused_changes ComesTo found (Mismatch change entry) comes is = comes _ (ap (option_map error_of_replay) is)
+refused_changes ComesTo found (TooManyCopies change) comes is = comes _ (ap (option_map error_of_replay) is)
+refused_changes ComesTo found (TooManyPairs change) comes is = comes _ (ap (option_map error_of_replay) is)
+refused_changes ComesTo found OutOfMemory comes is = tt

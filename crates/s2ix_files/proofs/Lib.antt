@@ -1,0 +1,6 @@
+pub mod History
+pub mod Joined
+pub mod One
+pub mod Outcomes
+pub mod There
+pub mod Told

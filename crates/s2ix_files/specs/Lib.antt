@@ -1,0 +1,5 @@
+pub mod Answers
+pub mod Laws
+pub mod Names
+pub mod Reads
+pub mod Refusals

@@ -1,0 +1,35 @@
+ghost use Rattle.std.specs.Prelude.{◌≡◌, ◌+◌, IfErr};
+ghost use Rattle.s2ix_bag.specs.Limits.{IsWidest};
+ghost use Rattle.s2ix_bag.specs.declared.limits.Limits.{Limits};
+ghost use Rattle.s2ix_io.specs.Faults.{CanCount, IsWantOnlyIf, sink_faults};
+ghost use Rattle.s2ix_parts.specs.Faults.{IsFromLine};
+ghost use Rattle.s2ix_read_dump.specs.DumpFaults.{dump_fault};
+ghost use Rattle.s2ix_files.specs.Answers.{CheckAnswers, Tells};
+
+use crate::reads::dump_read;
+use crate::telling::{tell_refusal, write_counts};
+use s2ix_bag::Limits;
+use s2ix_io::{RunFault, Sink};
+use std::alloc::Global;
+
+/// Reads a dump under the widest limits, and tells what it holds: `ok PAIRS COPIES`, or `no NAME LINE` for its first faulty line. It answers
+/// whether the dump was accepted. O(n) for n bytes, and one growth. This project's own.
+///
+/// `OutOfMemory` where a growth was refused, when nothing went out; never where line 1 is faulty. `Write` where the sink failed, in a call
+/// of `put` or of `flush`, when a front of the line went out.
+pub fn check_text<K: Sink>(alloc: Global, text: &[u8], sink: &mut K) -> Result<bool, RunFault>
+    requires { CanCount (K.fault_count sink.old) }
+    ensures told { (limits : Limits) × IsWidest limits
+        × Tells K.taken K.flushes (CheckAnswers limits text.now) sink.old sink.new result }
+    ensures memory { IfErr result (IsWantOnlyIf ((limits : Limits) × IsWidest limits × IsFromLine 2 (dump_fault limits text.now))) }
+    ensures faults { K.fault_count sink.new ≡ K.fault_count sink.old + sink_faults result }
+{
+    match dump_read(alloc, text, Limits::default()) {
+        Ok(bag) => {
+            write_counts(&bag, sink)?;
+            sink.flush()?;
+            Ok(true)
+        }
+        Err(error) => tell_refusal(error, sink),
+    }
+}

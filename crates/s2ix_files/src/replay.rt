@@ -1,0 +1,59 @@
+ghost use Rattle.std.specs.Prelude.{◌≡◌, ◌+◌, IfErr};
+ghost use Rattle.s2ix_bag.specs.Limits.{IsWidest};
+ghost use Rattle.s2ix_bag.specs.declared.limits.Limits.{Limits};
+ghost use Rattle.s2ix_io.specs.Faults.{CanCount, IsWantOnlyIf, sink_faults};
+ghost use Rattle.s2ix_parts.specs.Faults.{IsFromLine};
+ghost use Rattle.s2ix_read_dump.specs.DumpFaults.{dump_fault};
+ghost use Rattle.s2ix_files.specs.Answers.{ReplayAnswers, RewindAnswers, Tells};
+
+use crate::reads::{texts_replayed, texts_rewound};
+use crate::telling::tell_dump;
+use s2ix_bag::Limits;
+use s2ix_io::{RunFault, Sink};
+use std::alloc::Global;
+
+/// Reads a dump and then a journal under the widest limits, does the journal's changes to the dump's bag, and tells the dump of what they
+/// lead to. Else it tells the first thing that is refused: `no NAME LINE` for a line of the dump, `no journal NAME LINE` for one of the
+/// journal, `no Mismatch CHANGE ENTRY`, `no TooManyCopies CHANGE` or `no TooManyPairs CHANGE` for a change, all counted from 1. It answers
+/// whether all was accepted. It takes what the readers and [`replay`](s2ix_replay::replay) take. This project's own.
+///
+/// `OutOfMemory` where a growth was refused, when nothing went out; never where line 1 of the dump is faulty. `Write` where the sink failed,
+/// in a call of `put` or of `flush`, when a front of what is told went out.
+pub fn replay_texts<K: Sink>(
+    alloc: Global,
+    dump: &[u8],
+    journal: &[u8],
+    sink: &mut K,
+) -> Result<bool, RunFault>
+    requires { CanCount (K.fault_count sink.old) }
+    ensures told { (limits : Limits) × IsWidest limits
+        × Tells K.taken K.flushes (ReplayAnswers limits dump.now journal.now) sink.old sink.new result }
+    ensures memory { IfErr result (IsWantOnlyIf ((limits : Limits) × IsWidest limits × IsFromLine 2 (dump_fault limits dump.now))) }
+    ensures faults { K.fault_count sink.new ≡ K.fault_count sink.old + sink_faults result }
+{
+    tell_dump(
+        texts_replayed(alloc, dump, journal, Limits::default()),
+        sink,
+    )
+}
+
+/// Reads a dump and then a journal under the widest limits, takes the journal's changes back from the dump's bag, the last first, and tells
+/// the dump of what was before them. Else it tells the first thing that is refused, as [`replay_texts`] does. It answers whether all was
+/// accepted. It takes what the readers and [`rewind`](s2ix_replay::rewind) take. This project's own.
+///
+/// `OutOfMemory` where a growth was refused, when nothing went out; never where line 1 of the dump is faulty. `Write` where the sink failed,
+/// in a call of `put` or of `flush`, when a front of what is told went out.
+pub fn rewind_texts<K: Sink>(
+    alloc: Global,
+    dump: &[u8],
+    journal: &[u8],
+    sink: &mut K,
+) -> Result<bool, RunFault>
+    requires { CanCount (K.fault_count sink.old) }
+    ensures told { (limits : Limits) × IsWidest limits
+        × Tells K.taken K.flushes (RewindAnswers limits dump.now journal.now) sink.old sink.new result }
+    ensures memory { IfErr result (IsWantOnlyIf ((limits : Limits) × IsWidest limits × IsFromLine 2 (dump_fault limits dump.now))) }
+    ensures faults { K.fault_count sink.new ≡ K.fault_count sink.old + sink_faults result }
+{
+    tell_dump(texts_rewound(alloc, dump, journal, Limits::default()), sink)
+}
