@@ -1,6 +1,6 @@
 pub mod Pieces
 pub mod PartCounts
-pub mod Numerals
-pub mod FirstFault
 pub mod NoFault
 pub mod Rests
+pub mod Numerals
+pub mod FirstFault
