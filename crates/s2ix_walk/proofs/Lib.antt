@@ -1,0 +1,5 @@
+pub mod Digits
+pub mod Counts
+pub mod Windows
+pub mod Walked
+pub mod Paying
