@@ -1,11 +1,11 @@
-// Seen visits and what bounds them.
+// Counted visits and what bounds them.
 ghost use Rattle.std.specs.Prelude.{◌≡◌, ℕ};
 ghost use Rattle.s2ix_bag.specs.declared.pair.Held.{Held};
 
 use s2id_union::CellUnion;
 use s2ix_bag::Held;
 use s2ix_table::{CopiedTable, RangeRow, RangeTable, ranges};
-use s2ix_walk::{Cost, Meeting, Meter, Reader, Visit, visit_counted};
+use s2ix_walk::{Cost, Meeting, Meter, Visit, visit_counted};
 use std::fmt::Display;
 use std::test::Fail;
 
@@ -100,14 +100,16 @@ fn is_bounded(table: &CopiedTable, target: &CellUnion, calls: usize, cost: Cost)
         && cost.probes <= cells.wrapping_mul(digits).wrapping_add(passed)
 }
 
-// Whether an iterator over a reader gives these pairs, and no other.
-fn gives<R: Reader>(mut meeting: Meeting<'_, R>, pairs: &[Held]) -> bool {
+// Whether the pairs that meet a target, read one by one, are these.
+fn gives(table: &CopiedTable, target: &CellUnion, pairs: &[Held]) -> bool {
+    let mut meter = Meter::new(table);
+    let mut meeting = Meeting::new(&mut meter, target);
     for &held in pairs {
         if meeting.next() != Some(held) {
             return false;
         }
     }
-    meeting.advance().is_none() && meeting.next().is_none()
+    meeting.advance().is_none()
 }
 
 // Compares what visits of a target call, with the first call that answers false, the second, the last or none, and bounds what they read.
@@ -130,10 +132,5 @@ pub(crate) fn check_target<R: Display>(
             "the cost of a counted visit",
         )?;
     }
-    let mut meter = Meter::new(table);
-    expect(
-        gives(Meeting::new(&mut meter, target), pairs),
-        row,
-        "the pairs one by one",
-    )
+    expect(gives(table, target, pairs), row, "the pairs one by one")
 }
