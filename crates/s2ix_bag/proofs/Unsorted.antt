@@ -1,5 +1,5 @@
 -- Where entries stop rising.
-use Rattle.std.proofs.Common.{◌≡◌, ◌==◌, ℕ, ◌+◌, ◌<◌, ◌≤◌, not, List, [], ◌∷◌, Option, Some, None, length, drop, get_or, refl, sym, ap, ◌∙◌, ⊎_elim, arith, lt-ltb, le-ltb, eq-eqb, ne_eqb}
+use Rattle.std.proofs.Common.{◌≡◌, ◌==◌, ℕ, ◌+◌, ◌<◌, ◌≤◌, not, List, [], ◌∷◌, Option, Some, None, length, drop, get_or, refl, sym, ap, ap₂, ◌∙◌, ◌↔◌, ⊎_elim, arith, lt-ltb, le-ltb, eq-eqb, ne_eqb}
 use Rattle.std.proofs.lemmas.Bool.{cases_eq, cases_lt, cond-true, cond-false}
 use Rattle.std.proofs.lemmas.List.{drop_more, drop_all}
 use Rattle.std.specs.List.{position_or_len}
@@ -77,3 +77,23 @@ without_fault es None None rise differ none = change_from 0 0 es rise (not_found
 -- a list of entries without a fault is a change
 pub change_without_fault : (es : List Entry) → change_fault es ≡ None → IsChangeList es
 change_without_fault es none = without_fault es (first_unsorted es) (first_without_difference es) refl refl none
+
+-- ---- and a change has no fault
+
+rises_without_fault : (k n : ℕ) (es : List Entry) → IsChangeListFrom n es → first_unsorted_from k n es ≡ None
+rises_without_fault k n [] is = refl
+rises_without_fault k n (e ∷ es) is =
+    cond-false _ _ _ (le-ltb (rank_of e.pair) n is.0) ∙ rises_without_fault (k + 1) (rank_of e.pair + 1) es is.2
+
+all_differ : (n : ℕ) (es : List Entry) → IsChangeListFrom n es → length es ≤ position_or_len (λ e. e.before == e.after) es
+all_differ n [] is = omega arith
+all_differ n (e ∷ es) is =
+    omega (arith, all_differ (rank_of e.pair + 1) es is.2, cond-true (not (e.before == e.after)) (1 + position_or_len (λ f. f.before == f.after) es) 0 (ap not (ne_eqb _ _ is.1)))
+
+fault_of_change : (es : List Entry) → IsChangeList es → change_fault es ≡ None
+fault_of_change es is =
+    ap₂ (λ (unsorted same : Option ℕ). option_or (option_map Unsorted unsorted) (option_map NoDifference same)) (rises_without_fault 0 0 es is)
+    (cond-false _ _ _ (le-ltb _ _ (all_differ 0 es is)))
+
+pub changes_have_no_fault : (es : List Entry) → IsChangeList es ↔ (change_fault es ≡ None)
+changes_have_no_fault es = (fault_of_change es, change_without_fault es)

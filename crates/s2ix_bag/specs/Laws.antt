@@ -4,6 +4,7 @@ use Rattle.s2id_core.specs.CellId.{raw_of}
 use Rattle.s2ix_bag.specs.Apply.{apply_refusal}
 use Rattle.s2ix_bag.specs.Change.{IsChangeList, counts_at, count_after, difference_of, changed, change_between, inverse_of}
 use Rattle.s2ix_bag.specs.Collection.{Collection, LimitedCollection, IsBag, IsCollection, count_in}
+use Rattle.s2ix_bag.specs.Entries.{change_fault}
 use Rattle.s2ix_bag.specs.Label.{value_of}
 use Rattle.s2ix_bag.specs.OfLabel.{held_of}
 use Rattle.s2ix_bag.specs.Pair.{rank_of}
@@ -38,6 +39,9 @@ abbrev pub ChangeSetsCounts : Type 0
 ChangeSetsCounts =
     (hs : Collection) (es : List Entry) → IsCollection hs → IsChangeList es →
     IsCollection (changed hs es) × ((p : Pair) → count_in (changed hs es) p ≡ count_after (counts_at es (rank_of p)) (count_in hs p))
+
+abbrev pub ChangesHaveNoFault : Type 0
+ChangesHaveNoFault = (es : List Entry) → IsChangeList es ↔ (change_fault es ≡ None)
 
 abbrev pub ChangeListsDifferences : Type 0
 ChangeListsDifferences =

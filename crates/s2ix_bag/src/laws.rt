@@ -6,7 +6,7 @@ ghost use Rattle.s2ix_bag.specs.declared.pair.Entry.{Entry};
 ghost use Rattle.s2ix_bag.specs.declared.pair.Pair.{Pair};
 ghost use Rattle.s2ix_bag.specs.Pair.{rank_of};
 ghost use Rattle.s2ix_bag.specs.Collection.{LimitedCollection};
-ghost use Rattle.s2ix_bag.specs.Laws.{RanksOrderPairs, RanksTellPairsApart, HeldAreCounted, CountedAreHeld, CountsTellCollectionsApart, ChangeSetsCounts, ChangeListsDifferences, OnlyChangeListsDifferences, ChangeLeadsThereAndBack, InverseTakesBack, LabelsAreCounted, LabelsRiseByCell};
+ghost use Rattle.s2ix_bag.specs.Laws.{RanksOrderPairs, RanksTellPairsApart, HeldAreCounted, CountedAreHeld, CountsTellCollectionsApart, ChangeSetsCounts, ChangesHaveNoFault, ChangeListsDifferences, OnlyChangeListsDifferences, ChangeLeadsThereAndBack, InverseTakesBack, LabelsAreCounted, LabelsRiseByCell};
 
 use crate::bag::Bag;
 use crate::change::Change;
@@ -48,6 +48,11 @@ pub fn counts_tell_collections_apart()
 /// What a change makes of a collection is a collection: each of the change's pairs has its count after, and every other count is as it was.
 pub fn change_sets_counts()
     ensures { ChangeSetsCounts }
+{}
+
+/// A list of entries is a change exactly where it has no fault.
+pub fn changes_have_no_fault()
+    ensures { ChangesHaveNoFault }
 {}
 
 /// The change between two collections lists exactly the pairs whose counts differ, with both counts, and rises.

@@ -1,7 +1,7 @@
 pub mod Pieces
 pub mod PartCounts
-pub mod Numerals
-pub mod FirstFault
 pub mod Fronts
 pub mod NoFault
 pub mod Rests
+pub mod Numerals
+pub mod FirstFault

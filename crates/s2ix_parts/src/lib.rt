@@ -1,5 +1,5 @@
-//! What the readers of texts share: a text cut into lines and a line into parts, and the cell, the label or the number that a part writes.
-//! Its definitions say what the first fault of a text is, whatever a line's fault is.
+//! What the readers of texts share: a text cut into lines and a line into parts, the cell, the label or the number that a part writes, and
+//! what stands at the front of a text, read in one pass. Its definitions say what the first fault of a text is, whatever a line's fault is.
 #![tactic(auto)]
 
 mod cuts;

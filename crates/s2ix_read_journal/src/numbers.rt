@@ -4,13 +4,20 @@ ghost use Rattle.s2ix_read_journal.specs.Numbers.{side_written as side_that, siz
 
 use s2ix_parts::number_written;
 
+const GREATEST_COUNT: u32 = 65_535;
+
+const FEWEST_ENTRIES: u32 = 1;
+const MOST_ENTRIES: u32 = 2_000_000;
+
 /// The count before or after a change, from 0 to 65535, which a text writes.
 pub fn side_written(text: &[u8]) -> Option<u32>
     ensures { result ≡ side_that text.now }
 {
-    match number_written(text)? {
-        count @ 0..=65535 => Some(count),
-        _ => None,
+    let count = number_written(text)?;
+    if count <= GREATEST_COUNT {
+        Some(count)
+    } else {
+        None
     }
 }
 
@@ -18,8 +25,13 @@ pub fn side_written(text: &[u8]) -> Option<u32>
 pub fn size_written(text: &[u8]) -> Option<u32>
     ensures { result ≡ size_that text.now }
 {
-    match number_written(text)? {
-        size @ 1..=2_000_000 => Some(size),
-        _ => None,
+    let size = number_written(text)?;
+    if size < FEWEST_ENTRIES {
+        return None;
+    }
+    if size <= MOST_ENTRIES {
+        Some(size)
+    } else {
+        None
     }
 }

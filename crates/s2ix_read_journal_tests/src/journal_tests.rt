@@ -231,15 +231,3 @@ fn a_journal_is_read_or_its_first_fault_told(rt: HostRuntime) {
     let two_changes = Limits::new(1, 3, 2).expect(&rt, "limits");
     check_rows(&rt, rt.alloc(), two_changes, header, &LIMITED);
 }
-
-// A group of the greatest size, and one line too few.
-#[test]
-fn the_greatest_group_is_read(rt: HostRuntime) {
-    let mut text = Vec::from_slice(rt.alloc(), b"s2ix-journal 1\nchange 3\n").expect(&rt, "memory");
-    for line in [b"04 1 0 1\n", b"04 2 0 1\n", b"04 3 0 1\n"] {
-        text.extend_from_slice(line).expect(&rt, "memory");
-    }
-    let answered = answer(&rt, rt.alloc(), Limits::default(), text.as_slice());
-    let wanted = Err((6, JournalFault::Truncated));
-    assert!(&rt; answered == wanted);
-}

@@ -4,4 +4,6 @@
 #[cfg(test)]
 mod dump_tests;
 #[cfg(test)]
+mod front_tests;
+#[cfg(test)]
 mod round_trip_tests;

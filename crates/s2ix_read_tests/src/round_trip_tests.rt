@@ -63,7 +63,7 @@ fn what_was_written_is_read_back(rt: HostRuntime) {
         let bag = random_bag(&rt, rt.alloc(), &mut state);
         let mut sink = KeepingSink::new(rt.alloc(), 1_000_000, 0, false);
         write_dump(&bag, &mut sink).expect(&rt, "a sink");
-        let read = read_dump(rt.alloc(), bag.limits(), sink.kept()).expect(&rt, "a dump");
+        let read = read_dump(rt.alloc(), sink.kept(), bag.limits()).expect(&rt, "a dump");
         assert!(&rt; read == bag);
     }
 }

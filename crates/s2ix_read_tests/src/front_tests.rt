@@ -1,0 +1,37 @@
+// What stands at the front of a text.
+use s2ix_parts::{number_in_front, token_in_front};
+
+const MORE: &[u8] = b" 12 345\n9555555555555555 12 345\n";
+
+#[test]
+fn parts_of_a_line_are_read_from_its_front(rt: HostRuntime) {
+    let text = b"0002e371d 13597 23\nend 1 23\n".as_slice();
+    let (cell, behind) = token_in_front(text).expect(&rt, "a token");
+    assert!(&rt; cell.token().as_bytes() == b"0002e371d".as_slice());
+    let (label, behind) = number_in_front(behind, b' ').expect(&rt, "a label");
+    assert!(&rt; label == 13597);
+    let (count, behind) = number_in_front(behind, b'\n').expect(&rt, "a count");
+    assert!(&rt; count == 23 && behind == b"end 1 23\n".as_slice());
+}
+
+#[test]
+fn another_shape_is_not_read_from_the_front(rt: HostRuntime) {
+    for token in [
+        b"".as_slice(),
+        b"040",
+        b"0A",
+        b"x",
+        b"2",
+        b"04\t",
+        b"95555555555555551",
+    ] {
+        let mut text = Vec::from_slice(rt.alloc(), token).expect(&rt, "memory");
+        text.extend_from_slice(MORE).expect(&rt, "memory");
+        assert!(&rt; token_in_front(&text).is_none());
+    }
+    for number in [b"".as_slice(), b"00", b"01", b"+1", b"1x", b"1234567890"] {
+        let mut text = Vec::from_slice(rt.alloc(), number).expect(&rt, "memory");
+        text.extend_from_slice(MORE).expect(&rt, "memory");
+        assert!(&rt; number_in_front(&text, b' ').is_none());
+    }
+}

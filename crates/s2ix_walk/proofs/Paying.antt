@@ -1,0 +1,198 @@
+-- What each step of a walk may read.
+use Rattle.std.proofs.Common.{◌≡◌, ℕ, ◌+◌, ◌*◌, ◌<◌, ◌≤◌, Bool, true, false, ◌&&◌, leb, ltb, min, max, Option, Some, None, inl, inr, IfSome, List, [], ◌∷◌, length, suc, ◌-◌, refl, sym, ◌∙◌, ap, subst, arith, Contains, le-leb, lt-ltb, le-ltb}
+use Rattle.std.proofs.Math.Nat.{mul-le-mul_right, suc-mul}
+use Rattle.std.proofs.lemmas.Bool.{and_parts, and_from, and_right, leb-true, ltb-true, lt-leb, cases_lt}
+use Rattle.std.proofs.lemmas.List.Elements.{Contains-get_or}
+use Rattle.std.proofs.lemmas.List.Sums.{count_by-le-length}
+use Rattle.std.proofs.lemmas.List.Folds.{list_any-from_Any}
+use Rattle.s2id_core.specs.declared.cell_id.CellId.{CellId}
+use Rattle.s2id_core.specs.CellId.{raw_of, first_of, end_of}
+use Rattle.s2id_core.proofs.Nested.{span}
+use Rattle.s2ix_bag.specs.declared.pair.Held.{Held}
+use Rattle.s2ix_table.specs.Meeting.{meeting_key, is_met_from, meeting_from, meeting_of}
+use Rattle.s2ix_table.specs.Table.{Range, range_at}
+use Rattle.s2ix_table.proofs.InOrder.{length_choice}
+use Rattle.s2ix_walk.specs.Costs.{no_cost, with_look, binary_digits, is_met, IsWalkCost}
+use Rattle.s2ix_walk.specs.Shown.{Shown, IsShown}
+use Rattle.s2ix_walk.specs.Walking.{left_of, IsPaid, HasPaid, one_if_some, looked_at, cells_begun, ends_passed}
+use Rattle.s2ix_walk.specs.declared.cost.Cost.{Cost}
+use Rattle.s2ix_walk.specs.declared.walk_state.WalkState.{WalkState}
+use Rattle.s2ix_walk.proofs.Counts.{count_grows, count_gains}
+
+-- ---- what is passed
+
+-- a step over a range that has the first leaf, from `seen` on, of a cell of the target: up to the nearer end of the two
+pub record IsPassed (target : List CellId) (ranges : List Range) (x : CellId) (k seen next : ℕ) : Type 0 where
+  pub held : Contains target x
+  pub beyond : seen < end_of x
+  pub within : k < length ranges
+  pub start : (range_at ranges k).start ≤ max seen (first_of x)
+  pub limit : max seen (first_of x) < (range_at ranges k).limit
+  pub goes : next ≡ min (range_at ranges k).limit (end_of x)
+
+later : (a b s t : ℕ) → s ≤ t → leb a s ≡ true → leb a t ≡ true
+later a b s t le e = let l = leb-true a s e in le-leb a t (omega arith)
+
+ended_later : (target : List CellId) (s t : ℕ) → s ≤ t → (r : Range) → (is_met target r && leb r.limit s) ≡ true → (is_met target r && leb r.limit t) ≡ true
+ended_later target s t le r e = let both = and_parts _ _ e in and_from _ _ both.0 (later r.limit 0 s t le both.1)
+
+pub met_from : (target : List CellId) (x : CellId) (r : Range) → Contains target x → r.start < end_of x → first_of x < r.limit → is_met target r ≡ true
+met_from target x r held a b =
+    list_any-from_Any _ target (held.0, x, held.1, held.2, and_from _ _ (lt-ltb _ _ a) (lt-ltb _ _ b))
+
+at_held : (ranges : List Range) (k : ℕ) → k < length ranges → Contains ranges (range_at ranges k)
+at_held ranges k lt = Contains-get_or ranges k (record { start = 0; limit = 0; contents = [] }) lt
+
+pub ends_gain : (target : List CellId) (ranges : List Range) (x : CellId) (k seen next : ℕ) → IsPassed target ranges x k seen next → ends_passed target ranges seen + 1 ≤ ends_passed target ranges next
+ends_gain target ranges x k seen next p =
+    let s = span (raw_of x) x.valid in
+    let s1 = s.from in
+    let s2 = s.to in
+    let a = p.beyond in
+    let b = p.start in
+    let c = p.limit in
+    let e = p.goes in
+    let le : seen ≤ next = omega arith in
+    let cells = count_grows (λ (y : CellId). leb (end_of y) seen) (λ y. leb (end_of y) next) target (λ y t. later (end_of y) 0 seen next le t) in
+    let rows = count_grows (λ (r : Range). is_met target r && leb r.limit seen) (λ r. is_met target r && leb r.limit next) ranges (ended_later target seen next le) in
+    elim (cases_lt (end_of x) (range_at ranges k).limit) [
+      | inl less ↦
+          (let more = count_gains (λ (y : CellId). leb (end_of y) seen) (λ y. leb (end_of y) next) target x (λ y t. later (end_of y) 0 seen next le t) p.held (lt-leb (end_of x) seen a) (le-leb (end_of x) next (omega arith)) in
+          omega arith)
+      | inr ge ↦
+          (let r : Range = range_at ranges k in
+          let more = count_gains (λ (r : Range). is_met target r && leb r.limit seen) (λ r. is_met target r && leb r.limit next) ranges r (ended_later target seen next le) (at_held ranges k p.within) (and_right (is_met target r) (leb r.limit seen) (lt-leb r.limit seen (omega arith))) (and_from (is_met target r) (leb r.limit next) (met_from target x r p.held (omega arith) (omega arith)) (le-leb r.limit next (omega arith))) in
+          omega arith)
+    ]
+
+begun_later : (s t : ℕ) → s ≤ t → (y : CellId) → ltb (first_of y) s ≡ true → ltb (first_of y) t ≡ true
+begun_later s t le y e = let l = ltb-true (first_of y) s e in lt-ltb (first_of y) t (omega arith)
+
+cells_grow : (target : List CellId) (s t : ℕ) → s ≤ t → cells_begun target s ≤ cells_begun target t
+cells_grow target s t le = count_grows (λ (y : CellId). ltb (first_of y) s) (λ y. ltb (first_of y) t) target (begun_later s t le)
+
+cells_gain : (target : List CellId) (x : CellId) (s t : ℕ) → Contains target x → s ≤ first_of x → first_of x < t → cells_begun target s + 1 ≤ cells_begun target t
+cells_gain target x s t held le lt =
+    count_gains (λ (y : CellId). ltb (first_of y) s) (λ y. ltb (first_of y) t) target x (begun_later s t (omega arith)) held (le-ltb _ _ le) (lt-ltb _ _ lt)
+
+-- ---- steps
+
+times_more : (m d : ℕ) → (m + 1) * d ≡ m * d + d
+times_more m d = let e : m + 1 ≡ suc m = omega arith in ap (λ k. k * d) e ∙ suc-mul m d
+
+one_most : {X : Type 0} (o : Option X) → one_if_some o ≤ 1
+one_most None = omega arith
+one_most (Some x) = omega arith
+
+-- a step to the next range: one probe, and a search where a cell begins
+pub step_pays : {P : Type 0} (shown : Shown P) (target : List CellId) (walk next : WalkState P) (x : CellId) (k calls : ℕ) (old new : Cost) → IsPassed target shown.ranges x k walk.seen next.seen → new.looks ≡ old.looks → (first_of x ≤ walk.seen → new.probes ≤ old.probes + 1) → new.probes ≤ old.probes + binary_digits (length shown.ranges + 1) + 1 → IsPaid shown target walk calls old → IsPaid shown target next calls new
+step_pays shown target walk next x k calls old new p looks at_hand searched paid =
+    let d : ℕ = binary_digits (length shown.ranges + 1) in
+    let s = span (raw_of x) x.valid in
+    let s1 = s.from in
+    let s2 = s.to in
+    let a = p.beyond in
+    let b = p.limit in
+    let e = p.goes in
+    let each = paid.each in
+    let before = paid.looks in
+    let probes = paid.probes in
+    let gain = ends_gain target shown.ranges x k walk.seen next.seen p in
+    record {
+      each = omega arith;
+      looks = let o = one_most next.place in omega arith;
+      probes = elim (cases_lt walk.seen (first_of x)) [
+        | inl lt ↦
+            (let more = cells_gain target x walk.seen next.seen p.held (omega arith) (omega arith) in
+            let times = mul-le-mul_right d more in
+            let one : (cells_begun target walk.seen + 1) * d ≡ cells_begun target walk.seen * d + d = times_more (cells_begun target walk.seen) d in
+            omega arith)
+        | inr ge ↦
+            (let times = mul-le-mul_right d (cells_grow target walk.seen next.seen (omega arith)) in
+            let few = at_hand ge in
+            omega arith)
+      ];
+    }
+
+looked_some : {P : Type 0} (place : Option P) (cost : Cost) → one_if_some place ≡ 1 → looked_at place cost ≡ with_look cost
+looked_some None cost e = absurd (omega arith)
+looked_some (Some p) cost e = refl
+
+-- a look that gave a new pair
+pub look_pays : {P : Type 0} (shown : Shown P) (target : List CellId) (walk : WalkState P) (outer : Option P) (calls : ℕ) (old new : Cost) → calls ≤ 1000000 → one_if_some walk.place ≡ 1 → new ≡ looked_at walk.place old → IsPaid shown target walk calls old → IsPaid shown target (record { cell = walk.cell; range = walk.range; seen = walk.seen; from = walk.from; place = outer }) (calls + 1) new
+look_pays shown target walk outer calls old new few some is paid =
+    let same = is ∙ looked_some walk.place old some in
+    let looks = ap (λ (c : Cost). c.looks) same in
+    let probes = ap (λ (c : Cost). c.probes) same in
+    let each = paid.each in
+    let before = paid.looks in
+    let read = paid.probes in
+    record { each = omega arith; looks = let o = one_most outer in omega arith; probes = omega arith }
+
+closed_by : {P : Type 0} (place : Option P) (old : Cost) → ((looked_at place old).looks ≤ old.looks + one_if_some place) × ((looked_at place old).probes ≡ old.probes) × (min old.looks 18446744073709551615 ≤ (looked_at place old).looks)
+closed_by None old = (omega arith, refl, omega arith)
+closed_by (Some p) old = (omega arith, refl, omega arith)
+
+-- a look that gave none, or no look where no place was left
+pub close_pays : {P : Type 0} (shown : Shown P) (target : List CellId) (walk : WalkState P) (calls : ℕ) (old new : Cost) → calls ≤ 1000000 → new ≡ looked_at walk.place old → IsPaid shown target walk calls old → IsPaid shown target (record { cell = walk.cell; range = walk.range; seen = walk.seen; from = walk.from; place = None }) calls new
+close_pays shown target walk calls old new few is paid =
+    let looks = ap (λ (c : Cost). c.looks) is in
+    let probes = ap (λ (c : Cost). c.probes) is in
+    let by = closed_by walk.place old in
+    let b0 = by.0 in
+    let b1 = by.1 in
+    let b2 = by.2 in
+    let each = paid.each in
+    let before = paid.looks in
+    let read = paid.probes in
+    record { each = omega arith; looks = omega arith; probes = omega arith }
+
+-- ---- the pairs that were given
+
+-- a meeting list has at most as many pairs as a bag may hold
+pub few_meet : {P : Type 0} (shown : Shown P) (target : List CellId) → IsShown shown → length (meeting_of target shown.pairs) ≤ 1000000
+unfolding meeting_from
+few_meet shown target is =
+    let few = is.few in
+    let less = length_choice (is_met_from target 1) (meeting_key target) shown.pairs in
+    omega arith
+
+-- nothing was given and nothing was read
+pub none_pays : {P : Type 0} (shown : Shown P) (target : List CellId) (walk : WalkState P) (cost : Cost) → walk.place ≡ None → left_of shown target walk ≡ meeting_of target shown.pairs → cost ≡ no_cost → HasPaid shown target walk cost
+none_pays shown target walk cost none all unread =
+    let same = ap length all in
+    let looks = ap (λ (c : Cost). c.looks) unread in
+    let probes = ap (λ (c : Cost). c.probes) unread in
+    let closed = ap one_if_some none in
+    record { fits = omega arith; paid = record { each = omega arith; looks = omega arith; probes = omega arith } }
+
+-- one pair more was given, or the end was reached
+pub next_pays : {P : Type 0} (shown : Shown P) (target : List CellId) (walk next : WalkState P) (old new : Cost) (result : Option Held) → IsShown shown → (result ≡ None → (left_of shown target walk ≡ []) × (left_of shown target next ≡ [])) → IfSome result (λ held. left_of shown target walk ≡ held ∷ left_of shown target next) → ((calls : ℕ) → calls ≤ 1000000 → IsPaid shown target walk calls old → IsPaid shown target next (calls + one_if_some result) new) → HasPaid shown target walk old → HasPaid shown target next new
+next_pays shown target walk next old new None is ends gives pays has =
+    let all : ℕ = length (meeting_of target shown.pairs) in
+    let few = few_meet shown target is in
+    let a = ap length (ends refl).0 in
+    let b = ap length (ends refl).1 in
+    let calls : ℕ = all - length (left_of shown target walk) in
+    let same : calls + 0 ≡ all - length (left_of shown target next) = omega arith in
+    record { fits = omega arith; paid = subst (λ (k : ℕ). IsPaid shown target next k new) same (pays calls (omega arith) has.paid) }
+next_pays shown target walk next old new (Some held) is ends gives pays has =
+    let all : ℕ = length (meeting_of target shown.pairs) in
+    let few = few_meet shown target is in
+    let a = ap length gives in
+    let fits = has.fits in
+    let calls : ℕ = all - length (left_of shown target walk) in
+    let same : calls + 1 ≡ all - length (left_of shown target next) = omega arith in
+    record { fits = omega arith; paid = subst (λ (k : ℕ). IsPaid shown target next k new) same (pays calls (omega arith) has.paid) }
+
+-- what has paid for its calls keeps to the bounds
+pub paid_costs : {P : Type 0} (shown : Shown P) (target : List CellId) (walk : WalkState P) (calls : ℕ) (cost : Cost) → IsPaid shown target walk calls cost → IsWalkCost target shown.ranges calls cost
+paid_costs shown target walk calls cost paid =
+    let d : ℕ = binary_digits (length shown.ranges + 1) in
+    let each = paid.each in
+    let looks = paid.looks in
+    let probes = paid.probes in
+    let rows = count_grows (λ (r : Range). is_met target r && leb r.limit walk.seen) (is_met target) shown.ranges (λ r e. (and_parts _ _ e).0) in
+    let ends = count_by-le-length (λ (c : CellId). leb (end_of c) walk.seen) target in
+    let times = mul-le-mul_right d (count_by-le-length (λ (c : CellId). ltb (first_of c) walk.seen) target) in
+    record { each = each; looks = omega arith; probes = omega arith }

@@ -1,0 +1,92 @@
+use Rattle.std.proofs.Common.{◌≡◌, ◌∙◌, ◌+◌, ap, subst, sym, inl, inr, rules, arith, min}
+use Rattle.s2id_core.specs.declared.cell_id.CellId.{CellId}
+use Rattle.s2id_core.specs.CellId.{raw_of, first_of, end_of}
+use Rattle.s2ix_table.specs.Places.{LeadsTo}
+use Rattle.s2ix_table.specs.Table.{range_at}
+use Rattle.s2ix_table.proofs.Meetings.{none_meets}
+use Rattle.s2ix_table.proofs.WalkSteps.{IsPast, passed_all, range_fits, walk_past}
+use Rattle.s2ix_walk.specs.Shown.{Shown}
+use Rattle.s2ix_walk.specs.declared.cost.Cost.{Cost}
+use Rattle.s2ix_walk.proofs.Walked.{covered, walk_from}
+use Rattle.s2ix_walk.proofs.Paying.{IsPassed, step_pays}
+use Rattle.s2ix_walk.proofs.steps.advance.Given.{Over}
+use Rattle.s2ix_walk.proofs.steps.advance.Goals as goal
+use Rattle.s2ix_walk.proofs.steps.advance.Goals.{After-first-place, After-row-row, then-row-end, else-row-end}
+
+pub returns-then-cell-cells-clause-ends : goal.returns-then-cell-cells-clause-ends
+returns-then-cell-cells-clause-ends g c e =
+    none_meets c.args.cells.now (g.R.Reader.shown c.args.reader.now).pairs c.args.walk.seen
+    (passed_all c.args.cells.now c.first_beyond-cell.result c.args.walk.seen c.first_beyond-cell.ensures.passed (omega (arith, c.if-cell-cells.true)))
+
+pub overflow_add-next : goal.overflow_add-next
+overflow_add-next g c =
+    let s = g.R.Reader.shown c.args.reader.now in
+    let fits = range_fits s.pairs s.ranges (g.met.R.Reader.is_shown c.args.reader.now).is_table c.range_from-range.result c.range_from-range.ensures.found.within in
+    search (rules, fits)
+
+-- the limit of the range that was read
+limit_is : (g : Over) (c : goal.After-first-place g) → c.row-row.result.limit ≡ (range_at (g.R.Reader.shown c.args.reader.now).ranges c.range_from-range.result).limit
+limit_is g c =
+    c.row-row.ensures.limit ∙ ap (λ (z : Shown g.row.R-Place.Denot). (range_at z.ranges c.range_from-range.result).limit) c.range_from-range.ensures.same
+
+-- the walk behind the range at hand
+step_past : (g : Over) (c : goal.After-first-place g) → IsPast (g.R.Reader.shown c.args.reader.now).chain c.args.cells.now (g.R.Reader.shown c.args.reader.now).pairs (g.R.Reader.shown c.args.reader.now).ranges (record { cell = c.first_beyond-cell.result; range = c.if-row-end.next.0; seen = c.if-row-end.next.1; from = c.args.walk.seen; place = c.first-place.result })
+step_past g c =
+    let s = g.R.Reader.shown c.args.reader.now in
+    let x = c.index-cells-cell.result in
+    let within = c.if-cell-cells.false in
+    let ends = ap (λ (y : CellId). end_of y) c.index-cells-cell.is in
+    let beyond = c.first_beyond-cell.ensures.beyond x (omega arith) in
+    let leads = subst (λ (z : Shown g.row.R-Place.Denot). LeadsTo z.chain c.first-place.result (range_at z.ranges c.range_from-range.result).contents) (c.row-row.ensures.same ∙ c.range_from-range.ensures.same) c.first-place.ensures in
+    walk_past s.chain c.args.cells.now s.pairs s.ranges c.range_from-range.result _ _ x _ (record {
+      follow = c.requires.follow;
+      table = (g.met.R.Reader.is_shown c.args.reader.now).is_table;
+      odd = c.requires.walk.odd;
+      tight = λ q some e. covered c.args.cells.now q (c.requires.walk.tight q some e);
+      passed = c.first_beyond-cell.ensures.passed;
+      within = omega arith;
+      is = c.index-cells-cell.is;
+      beyond = omega arith;
+      found = c.range_from-range.ensures.found;
+    }) leads (limit_is g c) c.span_end-end.ensures (elim c.if-row-end.branch [
+      | then-row-end w ↦ inl (w.if-row-end.true, w.next-is)
+      | else-row-end w ↦ inr (w.if-row-end.false, w.next-is)
+    ])
+
+pub returns-clause-left : goal.returns-clause-left
+returns-clause-left g c = (step_past g (goal.at.returns-clause-left g c).After-first-place).left
+
+pub returns-clause-next : goal.returns-clause-next
+returns-clause-next g c =
+    walk_from (g.R.Reader.shown c.args.reader.now) c.args.cells.now _ (step_past g (goal.at.returns-clause-next g c).After-first-place).next
+
+-- the cell and the range that are passed
+step_passes : (g : Over) (c : goal.After-first-place g) → IsPassed c.args.cells.now (g.R.Reader.shown c.args.reader.now).ranges c.index-cells-cell.result c.range_from-range.result c.args.walk.seen c.if-row-end.next.1
+step_passes g c =
+    let x = c.index-cells-cell.result in
+    let within = c.if-cell-cells.false in
+    let ends = ap (λ (y : CellId). end_of y) c.index-cells-cell.is in
+    let beyond = c.first_beyond-cell.ensures.beyond x (omega arith) in
+    let found = c.range_from-range.ensures.found in
+    let limit = limit_is g c in
+    let end = c.span_end-end.ensures in
+    record {
+      held = (c.first_beyond-cell.result, omega arith, sym c.index-cells-cell.is);
+      beyond = omega arith;
+      within = found.within;
+      start = found.start;
+      limit = found.limit;
+      goes = elim c.if-row-end.branch [
+        | then-row-end w ↦ omega (arith, w.if-row-end.true, ap (λ to. to.1) w.next-is)
+        | else-row-end w ↦ omega (arith, w.if-row-end.false, ap (λ to. to.1) w.next-is)
+      ];
+    }
+
+pub returns-clause-paid : goal.returns-clause-paid
+returns-clause-paid g c calls paid =
+    let counts = c.row-row.ensures.counts in
+    let looks = ap (λ (z : Cost). z.looks) counts in
+    let probes = ap (λ (z : Cost). z.probes) counts in
+    let e = c.range_from-range.ensures in
+    let searched = e.probes in
+    step_pays (g.R.Reader.shown c.args.reader.now) c.args.cells.now c.args.walk _ c.index-cells-cell.result c.range_from-range.result calls _ _ (step_passes g (goal.at.returns-clause-paid g c).After-first-place) (looks ∙ e.looks) (λ le. let same = ap (λ (z : Cost). z.probes) (e.at_hand le) in omega arith) (omega arith) paid

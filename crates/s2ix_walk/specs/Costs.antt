@@ -1,0 +1,40 @@
+-- What reading a table costs.
+use Rattle.std.specs.Prelude.{ℕ, ◌+◌, ◌*◌, ◌≤◌, nat_lt, ◌&&◌, Bool, List, length, min}
+use Rattle.std.specs.Int.Digits.{digits_of}
+use Rattle.std.specs.List.{count_by, list_any}
+use Rattle.s2id_core.specs.declared.cell_id.CellId.{CellId}
+use Rattle.s2id_core.specs.CellId.{first_of, end_of}
+use Rattle.s2ix_table.specs.Table.{Range}
+use Rattle.s2ix_walk.specs.declared.cost.Cost.{Cost}
+
+-- nothing was read
+abbrev pub no_cost : Cost
+no_cost = record { looks = 0; probes = 0 }
+
+-- one pair more was read; counts stop at 2 ^ 64 - 1
+abbrev pub with_look : Cost → Cost
+with_look cost = record { looks = min (cost.looks + 1) 18446744073709551615; probes = cost.probes }
+
+-- one range more was read
+abbrev pub with_probe : Cost → Cost
+with_probe cost = record { looks = cost.looks; probes = min (cost.probes + 1) 18446744073709551615 }
+
+-- ---- the bounds of a walk
+
+-- how many binary digits a number has: none at 0
+unfoldable pub binary_digits : ℕ → ℕ
+binary_digits n = length (digits_of 2 n)
+
+-- whether a range shares a leaf with a target: it overlaps one of its cells
+abbrev pub is_met : List CellId → Range → Bool
+is_met target range = list_any (λ c. nat_lt range.start (end_of c) && nat_lt (first_of c) range.limit) target
+
+-- how many ranges share a leaf with a target
+abbrev pub ranges_met : List CellId → List Range → ℕ
+ranges_met target ranges = count_by (is_met target) ranges
+
+-- what a walk may have read after some calls of its closure
+pub record IsWalkCost (target : List CellId) (ranges : List Range) (calls : ℕ) (cost : Cost) : Type 0 where
+  pub each : calls ≤ cost.looks
+  pub looks : cost.looks ≤ calls + ranges_met target ranges + length target
+  pub probes : cost.probes ≤ length target * binary_digits (length ranges + 1) + ranges_met target ranges + length target

@@ -1,0 +1,4 @@
+pub mod Shown
+pub mod Costs
+pub mod Walking
+pub mod Laws

@@ -1,0 +1,64 @@
+-- Where a walk over the ranges that a target meets stands, what it has still to give, and what it may have read so far: private words of the
+-- walk.
+use Rattle.std.specs.Prelude.{◌≡◌, ℕ, ◌+◌, ◌-◌, ◌*◌, ◌%◌, ◌<◌, ◌≤◌, nat_le, nat_lt, ◌&&◌, Bool, true, Option, Some, None, List, ◌++◌, length}
+use Rattle.std.specs.List.{count_by, list_any}
+use Rattle.s2id_core.specs.declared.cell_id.CellId.{CellId}
+use Rattle.s2id_core.specs.CellId.{first_of, end_of}
+use Rattle.s2ix_bag.specs.Collection.{Collection}
+use Rattle.s2ix_table.specs.Meeting.{meeting_from, meeting_of}
+use Rattle.s2ix_table.specs.Places.{IsPlace, from_place}
+use Rattle.s2ix_table.specs.Table.{Range, IsFound, leaf_end}
+use Rattle.s2ix_table.specs.WalkState.{front_from, ArePassed}
+use Rattle.s2ix_walk.specs.declared.cost.Cost.{Cost}
+use Rattle.s2ix_walk.specs.declared.walk_state.WalkState.{WalkState}
+use Rattle.s2ix_walk.specs.Costs.{with_look, binary_digits, is_met}
+use Rattle.s2ix_walk.specs.Shown.{Shown}
+
+-- the pairs that are still to be met: what is new of the chain at hand, and then the meeting list from `seen` on
+abbrev pub left_of : {P : Type 0} → Shown P → List CellId → WalkState P → Collection
+left_of shown target walk = front_from walk.from (from_place shown.chain walk.place) ++ meeting_from target walk.seen shown.pairs
+
+-- whether a number lies in the span of a cell of a list
+abbrev pub is_covered : List CellId → ℕ → Bool
+is_covered target q = list_any (λ c. nat_le (first_of c) q && nat_lt q (end_of c)) target
+
+-- the range at hand has the leaf `seen`, unless there is none; the leaf before it is the target's, unless there is none
+pub record IsWalk {P : Type 0} (shown : Shown P) (target : List CellId) (walk : WalkState P) : Type 0 where
+  pub odd : walk.seen % 2 ≡ 1
+  pub within : walk.seen ≤ leaf_end
+  pub tight : (q : ℕ) → 1 ≤ q → q + 2 ≡ walk.seen → is_covered target q ≡ true
+  pub passed : ArePassed target walk.cell walk.seen
+  pub found : walk.seen < leaf_end → IsFound shown.ranges walk.range walk.seen
+  pub place : (p : P) → walk.place ≡ Some p → IsPlace shown.chain p
+
+-- ---- what was read
+
+-- 1 for a value, 0 for none
+abbrev pub one_if_some : {X : Type 0} → Option X → ℕ
+one_if_some None = 0
+one_if_some (Some x) = 1
+
+-- one look where there is a place
+abbrev pub looked_at : {P : Type 0} → Option P → Cost → Cost
+looked_at None cost = cost
+looked_at (Some p) cost = with_look cost
+
+-- how many cells of a target begin before a leaf
+abbrev pub cells_begun : List CellId → ℕ → ℕ
+cells_begun target seen = count_by (λ c. nat_lt (first_of c) seen) target
+
+-- how many ranges that meet a target, and cells of it, end by a leaf
+abbrev pub ends_passed : List CellId → List Range → ℕ → ℕ
+ends_passed target ranges seen = count_by (λ r. is_met target r && nat_le r.limit seen) ranges + count_by (λ c. nat_le (end_of c) seen) target
+
+-- what a walk may have read after some calls: for each range or cell passed one probe and one look that gave no new pair, and a
+-- search for each cell begun; for a chain at hand that look is still to come
+pub record IsPaid {P : Type 0} (shown : Shown P) (target : List CellId) (walk : WalkState P) (calls : ℕ) (cost : Cost) : Type 0 where
+  pub each : calls ≤ cost.looks
+  pub looks : cost.looks + one_if_some walk.place ≤ calls + ends_passed target shown.ranges walk.seen
+  pub probes : cost.probes ≤ cells_begun target walk.seen * binary_digits (length shown.ranges + 1) + ends_passed target shown.ranges walk.seen
+
+-- a walk has paid for the pairs that it gave: those of the meeting list that are not left
+pub record HasPaid {P : Type 0} (shown : Shown P) (target : List CellId) (walk : WalkState P) (cost : Cost) : Type 0 where
+  pub fits : length (left_of shown target walk) ≤ length (meeting_of target shown.pairs)
+  pub paid : IsPaid shown target walk (length (meeting_of target shown.pairs) - length (left_of shown target walk)) cost

@@ -1,0 +1,37 @@
+/// What reading a table has cost, in counts that stop at 2^64 - 1. This project's own.
+#[derive(Clone, Copy, Debug, PartialEq, Eq, Hash)]
+pub struct Cost {
+    /// How many pairs were read.
+    pub looks: u64,
+    /// How many ranges were read.
+    pub probes: u64,
+}
+
+impl Cost {
+    ghost use Rattle.std.specs.Prelude.{◌≡◌};
+    ghost use Rattle.s2ix_walk.specs.Costs.{no_cost, with_look, with_probe};
+
+    /// Nothing was read.
+    pub fn none() -> Cost
+        ensures { result ≡ no_cost }
+    {
+        Cost {
+            looks: 0,
+            probes: 0,
+        }
+    }
+
+    // The cost with one pair more.
+    pub(crate) fn add_look(&mut self)
+        ensures { self.new ≡ with_look self.old }
+    {
+        self.looks = self.looks.saturating_add(1);
+    }
+
+    // The cost with one range more.
+    pub(crate) fn add_probe(&mut self)
+        ensures { self.new ≡ with_probe self.old }
+    {
+        self.probes = self.probes.saturating_add(1);
+    }
+}

@@ -1,0 +1,21 @@
+//! The one walk that finds what meets a target, over anything that reads a range table, and what it costs.
+//!
+//! A [`Reader`] gives the ranges of a table and the pairs over them, and counts both. [`walk`] finds the meeting list of a target
+//! through it alone, and so does [`Meeting`], its loop as an iterator.
+#![tactic(auto)]
+
+mod cost;
+pub mod laws;
+mod meeting;
+mod meter;
+mod reader;
+mod search;
+mod steps;
+mod visit;
+mod walk_state;
+
+pub use cost::Cost;
+pub use meeting::Meeting;
+pub use meter::Meter;
+pub use reader::Reader;
+pub use visit::{Visit, visit_counted, walk};

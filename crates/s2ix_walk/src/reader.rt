@@ -1,0 +1,59 @@
+ghost use Rattle.std.specs.Prelude.{◌≡◌, ◌<◌, ◌∷◌, length, drop};
+ghost use Rattle.s2ix_table.specs.Places.{IsPlace, LeadsTo};
+ghost use Rattle.s2ix_table.specs.Table.{range_at};
+ghost use Rattle.s2ix_walk.specs.Costs.{with_look, with_probe};
+ghost use Rattle.s2ix_walk.specs.Shown.{Shown, IsShown};
+ghost use Rattle.s2ix_walk.specs.declared.cost.Cost.{Cost as CostSpent};
+
+use crate::cost::Cost;
+use s2ix_bag::Held;
+use s2ix_table::RangeRow;
+
+/// Something that reads a range table and counts what it reads: each pair is a look, each range a probe. No other call gives a pair
+/// or the bounds of a range. This project's own.
+pub trait Reader {
+    /// Where the table keeps a pair of a chain.
+    type Place: Copy;
+
+    // the table that is read
+    ghost shown: { Self → Shown Self.Place };
+
+    // what was read so far
+    ghost spent: { Self → CostSpent };
+
+    /// How many ranges there are.
+    fn range_count(&self) -> usize
+        ensures { result ≡ length (shown self.now).ranges };
+
+    /// The place of a range's innermost pair, or `None` where nothing lies over it.
+    fn first(&self, k: usize) -> Option<Self::Place>
+        requires { k < length (shown self.now).ranges }
+        ensures { LeadsTo (shown self.now).chain result (range_at (shown self.now).ranges k).contents };
+
+    /// The place of the next pair outwards, or `None` at the outermost.
+    fn outer(&self, place: Self::Place) -> Option<Self::Place>
+        requires { IsPlace (shown self.now).chain place }
+        ensures { LeadsTo (shown self.now).chain result (drop 1 ((shown self.now).chain place)) };
+
+    /// The leaves of a range: one probe.
+    fn row(&mut self, k: usize) -> RangeRow
+        requires { k < length (shown self.old).ranges }
+        ensures start { result.start ≡ (range_at (shown self.old).ranges k).start }
+        ensures limit { result.limit ≡ (range_at (shown self.old).ranges k).limit }
+        ensures same { shown self.new ≡ shown self.old }
+        ensures counts { spent self.new ≡ with_probe (spent self.old) };
+
+    /// The pair at a place, with its count: one look.
+    fn node(&mut self, place: Self::Place) -> Held
+        requires { IsPlace (shown self.old).chain place }
+        ensures held { (shown self.old).chain place ≡ result ∷ drop 1 ((shown self.old).chain place) }
+        ensures same { shown self.new ≡ shown self.old }
+        ensures counts { spent self.new ≡ with_look (spent self.old) };
+
+    /// What was read so far.
+    fn cost(&self) -> Cost
+        ensures { result ≡ spent self.now };
+
+    // the ranges are the range table of the pairs
+    ghost is_shown: { (reader : Self) → IsShown (shown reader) };
+}

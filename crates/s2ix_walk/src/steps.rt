@@ -1,0 +1,138 @@
+// The walk over the ranges that a target meets: it gives each pair of the meeting list once, in order.
+ghost use Rattle.std.specs.Prelude.{◌≡◌, ◌<◌, ◌≤◌, ◌+◌, ◌∷◌, ℕ, [], Some, None, IfSome, length, slice_index_or};
+ghost use Rattle.s2id_core.specs.declared.cell_id.CellId.{CellId};
+ghost use Rattle.s2id_core.specs.CellId.{end_of};
+ghost use Rattle.s2id_union.specs.Covers.{FollowOneAnother};
+ghost use Rattle.s2ix_table.specs.Meeting.{meeting_from};
+ghost use Rattle.s2ix_table.specs.Places.{IsPlace, from_place};
+ghost use Rattle.s2ix_table.specs.WalkState.{ArePassed, front_from};
+ghost use Rattle.s2ix_walk.specs.Walking.{left_of, IsWalk, IsPaid, looked_at, one_if_some};
+
+use crate::reader::Reader;
+use crate::search::range_from;
+use crate::walk_state::WalkState;
+use s2id_core::CellId;
+use s2ix_bag::Held;
+
+// A pair of a chain, and the place of the next one outwards.
+#[derive(Clone, Copy)]
+struct Link<P> {
+    held: Held,
+    outer: Option<P>,
+}
+
+// The pair at a place, where its cell begins at a leaf or behind it.
+fn new_pair<R: Reader>(
+    reader: &mut R,
+    from: u64,
+    place: Option<R::Place>,
+) -> Option<Link<R::Place>>
+    requires { (p : R.Place) → place ≡ Some p → IsPlace (R.shown reader.old).chain p }
+    ensures ends { result ≡ None → front_from from (from_place (R.shown reader.old).chain place) ≡ [] }
+    ensures gives { IfSome result (λ link. front_from from (from_place (R.shown reader.old).chain place)
+        ≡ link.held ∷ front_from from (from_place (R.shown reader.old).chain link.outer)) }
+    ensures outer { IfSome result (λ link. (p : R.Place)
+        → link.outer ≡ Some p
+        → IsPlace (R.shown reader.old).chain p) }
+    ensures some { IfSome result (λ link. one_if_some place ≡ 1) }
+    ensures same { R.shown reader.new ≡ R.shown reader.old }
+    ensures counts { R.spent reader.new ≡ looked_at place (R.spent reader.old) }
+{
+    let place = place?;
+    let held = reader.node(place);
+    if held.pair.cell.span_start() < from {
+        return None;
+    }
+    let outer = reader.outer(place);
+    Some(Link { held, outer })
+}
+
+// The next pair that is met, or `None` where all have been.
+pub(crate) fn next_met<R: Reader>(
+    reader: &mut R,
+    cells: &[CellId],
+    walk: &mut WalkState<R::Place>,
+) -> Option<Held>
+    requires follow { FollowOneAnother cells.now }
+    requires walk { IsWalk (R.shown reader.old) cells.now walk.old }
+    ensures ends { result ≡ None
+        → (left_of (R.shown reader.old) cells.now walk.old ≡ []) × (left_of (R.shown reader.old) cells.now walk.new ≡ []) }
+    ensures gives { IfSome result (λ held. left_of (R.shown reader.old) cells.now walk.old
+        ≡ held ∷ left_of (R.shown reader.old) cells.now walk.new) }
+    ensures walk { IsWalk (R.shown reader.old) cells.now walk.new }
+    ensures same { R.shown reader.new ≡ R.shown reader.old }
+    ensures paid { (calls : ℕ)
+        → calls ≤ 1000000
+        → IsPaid (R.shown reader.old) cells.now walk.old calls (R.spent reader.old)
+        → IsPaid (R.shown reader.old) cells.now walk.new (calls + one_if_some result) (R.spent reader.new) }
+{
+    loop {
+        if let Some(link) = new_pair(reader, walk.from, walk.place) {
+            walk.place = link.outer;
+            return Some(link.held);
+        }
+        walk.place = None;
+        *walk = advance(reader, cells, *walk)?;
+    }
+}
+
+// The walk at the next range that the target meets, with the chain of that range at hand, or `None` where the target
+// has no leaf left.
+fn advance<R: Reader>(
+    reader: &mut R,
+    cells: &[CellId],
+    walk: WalkState<R::Place>,
+) -> Option<WalkState<R::Place>>
+    requires follow { FollowOneAnother cells.now }
+    requires walk { IsWalk (R.shown reader.old) cells.now walk }
+    requires done { walk.place ≡ None }
+    ensures ends { result ≡ None → meeting_from cells.now walk.seen (R.shown reader.old).pairs ≡ [] }
+    ensures left { IfSome result (λ next. meeting_from cells.now walk.seen (R.shown reader.old).pairs
+        ≡ left_of (R.shown reader.old) cells.now next) }
+    ensures next { IfSome result (λ next. IsWalk (R.shown reader.old) cells.now next) }
+    ensures rises { IfSome result (λ next. walk.seen < next.seen) }
+    ensures same { R.shown reader.new ≡ R.shown reader.old }
+    ensures unread { result ≡ None → R.spent reader.new ≡ R.spent reader.old }
+    ensures paid { IfSome result (λ next. (calls : ℕ)
+        → IsPaid (R.shown reader.old) cells.now walk calls (R.spent reader.old)
+        → IsPaid (R.shown reader.old) cells.now next calls (R.spent reader.new)) }
+{
+    let cell = first_beyond(cells, walk.cell, walk.seen);
+    if cell >= cells.len() {
+        return None;
+    }
+    let target = cells[cell];
+    let range = range_from(reader, target, walk.range, walk.seen);
+    let end = target.span_end();
+    let row = reader.row(range);
+    let (next, seen) = if row.limit <= end {
+        (range + 1, row.limit)
+    } else {
+        (range, end)
+    };
+    let from = walk.seen;
+    let place = reader.first(range);
+    Some(WalkState {
+        cell,
+        range: next,
+        seen,
+        from,
+        place,
+    })
+}
+
+// The first cell from the k-th on that goes beyond a leaf.
+fn first_beyond(cells: &[CellId], k: usize, seen: u64) -> usize
+    requires { ArePassed cells.now k seen }
+    ensures passed { ArePassed cells.now result seen }
+    ensures beyond { (d : CellId) → result < length cells.now → seen < end_of (slice_index_or cells.now result d) }
+{
+    let mut cell = k;
+    while cell < cells.len() {
+        if seen < cells[cell].span_end() {
+            return cell;
+        }
+        cell += 1;
+    }
+    cell
+}

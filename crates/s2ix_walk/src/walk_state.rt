@@ -1,0 +1,13 @@
+// Where a walk over the ranges that a target meets stands.
+
+// All leaves of the target before `seen` have been seen. `cell` is the target's first cell that may go beyond them,
+// `range` the range that has `seen`, and `place` what is left of the chain at hand: of it those pairs are new whose
+// cells begin at `from` or later.
+#[derive(Clone, Copy)]
+pub(crate) struct WalkState<P> {
+    pub(crate) cell: usize,
+    pub(crate) range: usize,
+    pub(crate) seen: u64,
+    pub(crate) from: u64,
+    pub(crate) place: Option<P>,
+}

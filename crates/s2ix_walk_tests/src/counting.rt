@@ -1,0 +1,136 @@
+// Counted visits and what bounds them.
+ghost use Rattle.std.specs.Prelude.{◌≡◌, ℕ};
+ghost use Rattle.s2ix_bag.specs.declared.pair.Held.{Held};
+
+use s2id_union::CellUnion;
+use s2ix_bag::Held;
+use s2ix_table::{CopiedTable, RangeRow, RangeTable, ranges};
+use s2ix_walk::{Cost, Meeting, Meter, Visit, visit_counted};
+use std::fmt::Display;
+use std::test::Fail;
+
+// Fails where a comparison does not hold, and tells the row.
+pub(crate) fn expect<R: Display>(holds: bool, row: &R, subject: &'static str) -> Result<(), Fail> {
+    if holds {
+        Ok(())
+    } else {
+        Err(Fail::new(format_args!("{row}: {subject}")))
+    }
+}
+
+// A visit by a closure that may always be called.
+fn visit_all<T: RangeTable, F: FnMut(Held) -> bool>(
+    table: &T,
+    target: &CellUnion,
+    f: &mut F,
+) -> Visit
+    requires { (state : F) (held : Held) → F.pre state held }
+{
+    visit_counted(table, target, f)
+}
+
+// What a visit by a closure that answers false at its call number `stop` alone called and read.
+#[derive(Clone, Copy)]
+pub(crate) struct Seen {
+    pub(crate) in_order: bool,
+    pub(crate) calls: usize,
+    pub(crate) whole: bool,
+    pub(crate) cost: Cost,
+}
+
+pub(crate) fn seen_by(
+    table: &CopiedTable,
+    target: &CellUnion,
+    pairs: &[Held],
+    stop: usize,
+) -> Seen {
+    let mut calls = 0usize;
+    let mut in_order = true;
+    let visit = visit_all(
+        table,
+        target,
+        &mut |held| {
+            in_order = in_order && pairs.get(calls) == Some(&held);
+            calls = calls.wrapping_add(1);
+            calls != stop
+        },
+    );
+    Seen {
+        in_order,
+        calls,
+        whole: visit.whole,
+        cost: visit.cost,
+    }
+}
+
+// Whether a visit was called on these pairs, up to its call number `stop`.
+fn is_visit(seen: &Seen, pairs: &[Held], stop: usize) -> bool {
+    seen.in_order && seen.calls == stop.min(pairs.len()) && seen.whole == (pairs.len() < stop)
+}
+
+// Whether a range shares a leaf with a target.
+fn is_met(range: RangeRow, target: &CellUnion) -> bool {
+    for cell in target.cells() {
+        if range.start < cell.span_end() && cell.span_start() < range.limit {
+            return true;
+        }
+    }
+    false
+}
+
+// How many ranges of a table share a leaf with a target.
+fn ranges_met(table: &CopiedTable, target: &CellUnion) -> u64 {
+    let mut met = 0u64;
+    for (_, range) in ranges(table) {
+        if is_met(range, target) {
+            met = met.wrapping_add(1);
+        }
+    }
+    met
+}
+
+// Whether a cost keeps to the bounds for so many calls.
+fn is_bounded(table: &CopiedTable, target: &CellUnion, calls: usize, cost: Cost) -> bool {
+    let (calls, cells) = (calls as u64, target.cells().len() as u64);
+    let passed = ranges_met(table, target).wrapping_add(cells);
+    let count = (table.range_count() as u64).wrapping_add(1);
+    let digits = u64::from(64u32.saturating_sub(count.leading_zeros()));
+    calls <= cost.looks
+        && cost.looks <= calls.wrapping_add(passed)
+        && cost.probes <= cells.wrapping_mul(digits).wrapping_add(passed)
+}
+
+// Whether the pairs that meet a target, read one by one, are these.
+fn gives(table: &CopiedTable, target: &CellUnion, pairs: &[Held]) -> bool {
+    let mut meter = Meter::new(table);
+    let mut meeting = Meeting::new(&mut meter, target);
+    for &held in pairs {
+        if meeting.next() != Some(held) {
+            return false;
+        }
+    }
+    meeting.advance().is_none()
+}
+
+// Compares what visits of a target call, with the first call that answers false, the second, the last or none, and bounds what they read.
+pub(crate) fn check_target<R: Display>(
+    row: &R,
+    table: &CopiedTable,
+    target: &CellUnion,
+    pairs: &[Held],
+) -> Result<(), Fail> {
+    for stop in [1, 2, pairs.len().max(1), usize::MAX] {
+        let visit = seen_by(table, target, pairs, stop);
+        expect(
+            is_visit(&visit, pairs, stop),
+            row,
+            "the calls of a counted visit",
+        )?;
+        expect(
+            is_bounded(table, target, visit.calls, visit.cost),
+            row,
+            "the cost of a counted visit",
+        )?;
+    }
+    expect(gives(table, target, pairs), row, "the pairs one by one")
+}
