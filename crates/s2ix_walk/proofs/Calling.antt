@@ -5,7 +5,6 @@ use Rattle.s2ix_bag.specs.Collection.{Collection}
 use Rattle.s2ix_bag.specs.declared.pair.Held.{Held}
 use Rattle.s2ix_table.specs.Calls.{CallsOn}
 use Rattle.s2ix_table.specs.Meeting.{meeting_of}
-use Rattle.s2ix_table.specs.Table.{Range}
 use Rattle.s2ix_walk.specs.Costs.{IsWalkCost}
 use Rattle.s2ix_walk.specs.Shown.{Shown}
 use Rattle.s2ix_walk.specs.declared.cost.Cost.{Cost}

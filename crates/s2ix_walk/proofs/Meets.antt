@@ -1,5 +1,5 @@
 -- Ranges that meet a target have a leaf of it.
-use Rattle.std.proofs.Common.{◌≡◌, ℕ, ◌+◌, ◌%◌, ◌<◌, ◌≤◌, true, ltb, max, inl, inr, List, length, ap, sym, ◌∙◌, arith, Contains}
+use Rattle.std.proofs.Common.{◌≡◌, ◌<◌, true, ltb, max, inl, inr, List, ap, ◌∙◌, arith, Contains}
 use Rattle.std.proofs.lemmas.Bool.{and_parts, ltb-true, cases_lt}
 use Rattle.std.proofs.lemmas.List.{get_or_default}
 use Rattle.std.proofs.lemmas.List.Folds.{Any-from_list_any}

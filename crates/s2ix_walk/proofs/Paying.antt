@@ -1,5 +1,5 @@
 -- What each step of a walk may read.
-use Rattle.std.proofs.Common.{◌≡◌, ℕ, ◌+◌, ◌*◌, ◌<◌, ◌≤◌, Bool, true, false, ◌&&◌, leb, ltb, min, max, Option, Some, None, inl, inr, IfSome, List, [], ◌∷◌, length, suc, ◌-◌, refl, sym, ◌∙◌, ap, subst, arith, Contains, le-leb, lt-ltb, le-ltb}
+use Rattle.std.proofs.Common.{◌≡◌, ℕ, ◌+◌, ◌*◌, ◌<◌, ◌≤◌, true, ◌&&◌, leb, ltb, min, max, Option, Some, None, inl, inr, IfSome, List, [], ◌∷◌, length, suc, ◌-◌, refl, ◌∙◌, ap, subst, arith, Contains, le-leb, lt-ltb, le-ltb}
 use Rattle.std.proofs.Math.Nat.{mul-le-mul_right, suc-mul}
 use Rattle.std.proofs.lemmas.Bool.{and_parts, and_from, and_right, leb-true, ltb-true, lt-leb, cases_lt}
 use Rattle.std.proofs.lemmas.List.Elements.{Contains-get_or}

@@ -3,7 +3,6 @@ use Rattle.std.proofs.Common.{◌≡◌, ℕ, true, List, le-leb, lt-ltb}
 use Rattle.std.proofs.lemmas.Bool.{and_parts, and_from, leb-true, ltb-true}
 use Rattle.std.proofs.lemmas.List.Folds.{Any-from_list_any, list_any-from_Any}
 use Rattle.s2id_core.specs.declared.cell_id.CellId.{CellId}
-use Rattle.s2id_core.specs.CellId.{first_of, end_of}
 use Rattle.s2id_union.specs.Covers.{Covers}
 use Rattle.s2ix_table.specs.WalkState.{IsWalkState}
 use Rattle.s2ix_walk.specs.Shown.{Shown}

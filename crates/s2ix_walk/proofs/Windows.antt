@@ -1,5 +1,5 @@
 -- The ranges among which a search still looks.
-use Rattle.std.proofs.Common.{◌≡◌, ℕ, ◌+◌, ◌-◌, ◌/◌, ◌<◌, ◌≤◌, inl, inr, List, length, sym, ap, arith, refl}
+use Rattle.std.proofs.Common.{◌≡◌, ℕ, ◌+◌, ◌-◌, ◌/◌, ◌<◌, ◌≤◌, inl, inr, List, length, ap, arith, refl}
 use Rattle.std.proofs.lemmas.Bool.{cases_lt}
 use Rattle.s2ix_bag.specs.Collection.{Collection}
 use Rattle.s2ix_table.specs.Table.{Range, range_at, leaf_end, IsRangeTable, IsFound}
@@ -40,14 +40,14 @@ lower_half hs ranges leaf first size half t w more is lt =
       within = omega arith;
       start = w.start;
       limit = λ less.
-      let i : ℕ = first + half - 1 in
-      let j : ℕ = first + (size - half) - 1 in
-      let e : i + 1 ≡ first + half = omega arith in
-      let f : j + 1 ≡ first + (size - half) = omega arith in
-      let r = starts_rise hs ranges i j t (omega arith) (omega arith) in
-      let p = ap (λ k. (range_at ranges k).start) e in
-      let q = ap (λ k. (range_at ranges k).start) f in
-      omega arith;
+          let i : ℕ = first + half - 1 in
+          let j : ℕ = first + (size - half) - 1 in
+          let e : i + 1 ≡ first + half = omega arith in
+          let f : j + 1 ≡ first + (size - half) = omega arith in
+          let r = starts_rise hs ranges i j t (omega arith) (omega arith) in
+          let p = ap (λ k. (range_at ranges k).start) e in
+          let q = ap (λ k. (range_at ranges k).start) f in
+          omega arith;
     }
 
 pub one_left : (hs : Collection) (ranges : List Range) (leaf first size : ℕ) → IsRangeTable hs ranges → IsWindow ranges leaf first size → size ≤ 1 → leaf < leaf_end → IsFound ranges first leaf

@@ -1,5 +1,5 @@
 -- What the definitions say, in other words: each of these is proved, and told in a sentence, by the function of `laws` of its name.
-use Rattle.std.specs.Prelude.{◌≡◌, ◌↔◌, ℕ, ◌+◌, ◌%◌, ◌<◌, ◌≤◌, true, List, Contains}
+use Rattle.std.specs.Prelude.{◌≡◌, ◌↔◌, ℕ, ◌%◌, ◌<◌, ◌≤◌, true, List, Contains}
 use Rattle.s2id_core.specs.declared.cell_id.CellId.{CellId}
 use Rattle.s2id_union.specs.Covers.{Covers}
 use Rattle.s2ix_bag.specs.Collection.{Collection}

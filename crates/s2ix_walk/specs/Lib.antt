@@ -1,4 +1,5 @@
 pub mod Shown
 pub mod Costs
 pub mod Walking
+pub mod Meetings
 pub mod Laws

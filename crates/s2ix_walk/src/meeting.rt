@@ -1,9 +1,9 @@
-ghost use Rattle.std.specs.Prelude.{◌≡◌, ◌≤◌, ◌+◌};
+ghost use Rattle.std.specs.Prelude.{◌≡◌};
 ghost use Rattle.std.specs.Iterator.{YieldsFirst, item_count};
 ghost use Rattle.s2id_union.specs.Covers.{FollowOneAnother};
 ghost use Rattle.s2ix_table.specs.Meeting.{meeting_of};
 ghost use Rattle.s2ix_walk.specs.Costs.{no_cost};
-ghost use Rattle.s2ix_walk.specs.Walking.{left_of, IsWalk, HasPaid};
+ghost use Rattle.s2ix_walk.specs.Walking.{IsWalk, HasPaid};
 
 use crate::reader::Reader;
 use crate::steps::next_met;
@@ -24,14 +24,15 @@ pub struct Meeting<'a, R: Reader> {
 }
 
 impl<'a, R: Reader> Meeting<'a, R> {
+    ghost use Rattle.s2ix_walk.specs.Meetings.{reader_in, target_in, left_in};
+
     /// The meeting list of a target, over a reader that has read nothing.
     pub fn new(reader: &'a mut R, target: &'a CellUnion) -> Meeting<'a, R>
         requires { R.spent reader.old ≡ no_cost }
-        ensures reference { result.reader.ghost_name ≡ reader.entry.ghost_name }
-        ensures shown { R.shown result.reader.now ≡ R.shown reader.old }
-        ensures cells { result.cells.now ≡ target.now }
-        ensures left { left_of (R.shown result.reader.now) result.cells.now result.walk
-            ≡ meeting_of target.now (R.shown reader.old).pairs }
+        ensures reference { (reader_in result).ghost_name ≡ reader.entry.ghost_name }
+        ensures shown { R.shown (reader_in result).now ≡ R.shown reader.old }
+        ensures cells { target_in result ≡ target.now }
+        ensures left { left_in result ≡ meeting_of target.now (R.shown reader.old).pairs }
     {
         let cells = target.cells();
         let walk = WalkState {
@@ -50,10 +51,10 @@ impl<'a, R: Reader> Meeting<'a, R> {
 
     /// The next pair, or `None` behind the last one.
     pub fn advance(&mut self) -> Option<Held>
-        ensures reference { self.new.reader.ghost_name ≡ self.old.reader.ghost_name }
-        ensures shown { R.shown self.new.reader.now ≡ R.shown self.old.reader.now }
-        ensures cells { self.new.cells.now ≡ self.old.cells.now }
-        ensures yields { YieldsFirst (λ it. left_of (R.shown it.reader.now) it.cells.now it.walk) self.old result self.new }
+        ensures reference { (reader_in self.new).ghost_name ≡ (reader_in self.old).ghost_name }
+        ensures shown { R.shown (reader_in self.new).now ≡ R.shown (reader_in self.old).now }
+        ensures cells { target_in self.new ≡ target_in self.old }
+        ensures yields { YieldsFirst left_in self.old result self.new }
     {
         next_met(self.reader, self.cells, &mut self.walk)
     }
@@ -72,11 +73,13 @@ impl<'a, R: Reader> Drop for Meeting<'a, R> {
 }
 
 impl<R: Reader> Iterator for Meeting<'_, R> {
+    ghost use Rattle.s2ix_walk.specs.Meetings.{left_in};
+
     type Item = Held;
 
-    ghost next_gives = { YieldsFirst (λ it. left_of (R.shown it.reader.now) it.cells.now it.walk) };
+    ghost next_gives = { YieldsFirst left_in };
 
-    ghost remaining = { item_count (λ it. left_of (R.shown it.reader.now) it.cells.now it.walk) };
+    ghost remaining = { item_count left_in };
 
     fn next(&mut self) -> Option<Held> {
         self.advance()

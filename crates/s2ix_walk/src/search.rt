@@ -30,12 +30,7 @@ fn search<R: Reader>(reader: &mut R, leaf: u64) -> usize
 }
 
 // The range that has the first leaf of a cell from `seen` on: that at hand, or the one with the cell's first leaf.
-pub(crate) fn range_from<R: Reader>(
-    reader: &mut R,
-    cell: CellId,
-    range: usize,
-    seen: u64,
-) -> usize
+pub(crate) fn range_from<R: Reader>(reader: &mut R, cell: CellId, range: usize, seen: u64) -> usize
     requires beyond { seen < end_of cell }
     requires at_hand { seen < leaf_end → IsFound (R.shown reader.old).ranges range seen }
     ensures found { IsFound (R.shown reader.old).ranges result (max seen (first_of cell)) }

@@ -22,11 +22,7 @@ struct Link<P> {
 }
 
 // The pair at a place, where its cell begins at a leaf or behind it.
-fn new_pair<R: Reader>(
-    reader: &mut R,
-    from: u64,
-    place: Option<R::Place>,
-) -> Option<Link<R::Place>>
+fn new_pair<R: Reader>(reader: &mut R, from: u64, place: Option<R::Place>) -> Option<Link<R::Place>>
     requires { (p : R.Place) → place ≡ Some p → IsPlace (R.shown reader.old).chain p }
     ensures ends { result ≡ None → front_from from (from_place (R.shown reader.old).chain place) ≡ [] }
     ensures gives { IfSome result (λ link. front_from from (from_place (R.shown reader.old).chain place)

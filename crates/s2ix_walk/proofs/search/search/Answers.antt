@@ -1,9 +1,9 @@
 use Rattle.std.proofs.Common.{◌≡◌, ◌+◌, ◌-◌, ◌/◌, ℕ, length, refl, sym, ◌∙◌, ap, subst, arith}
-use Rattle.s2ix_table.specs.Table.{range_at, IsFound}
+use Rattle.s2ix_table.specs.Table.{range_at}
 use Rattle.s2ix_walk.specs.Shown.{Shown}
 use Rattle.s2ix_walk.specs.declared.cost.Cost.{Cost}
 use Rattle.s2ix_walk.proofs.Digits.{digits_rise, digits_halve}
-use Rattle.s2ix_walk.proofs.Windows.{IsWindow, all_ranges, upper_half, lower_half, one_left}
+use Rattle.s2ix_walk.proofs.Windows.{IsWindow, all_ranges, upper_half, lower_half}
 use Rattle.s2ix_walk.proofs.search.search.Goals as goal
 use Rattle.s2ix_walk.proofs.search.search.Goals.{then-row-leaf, else-row-leaf}
 

@@ -1,6 +1,6 @@
-use Rattle.std.proofs.Common.{◌≡◌, ◌∙◌, ◌+◌, ap, subst, sym, inl, inr, rules, arith, min}
+use Rattle.std.proofs.Common.{◌≡◌, ◌∙◌, ap, subst, sym, inl, inr, rules, arith}
 use Rattle.s2id_core.specs.declared.cell_id.CellId.{CellId}
-use Rattle.s2id_core.specs.CellId.{raw_of, first_of, end_of}
+use Rattle.s2id_core.specs.CellId.{end_of}
 use Rattle.s2ix_table.specs.Places.{LeadsTo}
 use Rattle.s2ix_table.specs.Table.{range_at}
 use Rattle.s2ix_table.proofs.Meetings.{none_meets}

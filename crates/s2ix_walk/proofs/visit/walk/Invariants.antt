@@ -1,4 +1,4 @@
-use Rattle.std.proofs.Common.{◌≡◌, ◌+◌, ◌-◌, ◌≤◌, length, ℕ, Bool}
+use Rattle.std.proofs.Common.{◌≡◌, ◌+◌, ◌-◌, length, ℕ, Bool}
 use Rattle.s2ix_table.specs.Calls.{MayVisit, CallsOn}
 use Rattle.s2ix_table.specs.Meeting.{meeting_of}
 use Rattle.s2ix_walk.specs.Walking.{left_of}

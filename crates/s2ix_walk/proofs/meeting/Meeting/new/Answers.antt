@@ -1,4 +1,4 @@
-use Rattle.std.proofs.Common.{◌≡◌, refl, sym, subst}
+use Rattle.std.proofs.Common.{refl, sym, subst}
 use Rattle.s2id_union.specs.Region.{IsNormal}
 use Rattle.s2id_union.proofs.Searching.{follow_from_normal}
 use Rattle.s2ix_table.specs.WalkState.{front_from}
