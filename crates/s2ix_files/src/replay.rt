@@ -17,8 +17,8 @@ use std::alloc::Global;
 /// journal, `no Mismatch CHANGE ENTRY`, `no TooManyCopies CHANGE` or `no TooManyPairs CHANGE` for a change, all counted from 1. It answers
 /// whether all was accepted. It takes what the readers and [`replay`](s2ix_replay::replay) take. This project's own.
 ///
-/// `OutOfMemory` where a growth was refused, when nothing went out; never where line 1 of the dump is faulty. `Write` where the sink failed,
-/// in a call of `put` or of `flush`, when a front of what is told went out.
+/// `OutOfMemory` where a growth was refused, when nothing went out; never where line 1 of the dump is faulty. `Write` where the sink
+/// failed, in a call of `put` or of `flush`, when a front of what is told went out.
 pub fn replay_texts<K: Sink>(
     alloc: Global,
     dump: &[u8],
@@ -41,8 +41,8 @@ pub fn replay_texts<K: Sink>(
 /// the dump of what was before them. Else it tells the first thing that is refused, as [`replay_texts`] does. It answers whether all was
 /// accepted. It takes what the readers and [`rewind`](s2ix_replay::rewind) take. This project's own.
 ///
-/// `OutOfMemory` where a growth was refused, when nothing went out; never where line 1 of the dump is faulty. `Write` where the sink failed,
-/// in a call of `put` or of `flush`, when a front of what is told went out.
+/// `OutOfMemory` where a growth was refused, when nothing went out; never where line 1 of the dump is faulty. `Write` where the sink
+/// failed, in a call of `put` or of `flush`, when a front of what is told went out.
 pub fn rewind_texts<K: Sink>(
     alloc: Global,
     dump: &[u8],
