@@ -72,8 +72,8 @@ fn read_groups(alloc: Global, limits: Limits, text: &[u8]) -> Result<Vec<Change>
 /// Reads a journal under limits: the changes whose journal the text is, the oldest first, or the first line that has a fault and the first
 /// fault of that line.
 ///
-/// Lines count from 1. Want of memory may be told in place of a fault of line 2 or a later one. O(n) for n bytes; a growth for each group, of
-/// at most three bytes for each byte of the text, and those of the list. This project's own.
+/// Lines count from 1. Want of memory may be told in place of a fault of line 2 or a later one. O(n) for n bytes; a growth for each group,
+/// of at most three bytes for each byte of the text, and those of the list. This project's own.
 pub fn read_journal(alloc: Global, text: &[u8], limits: Limits) -> Result<Vec<Change>, JournalError>
     ensures changes { IfOk result (λ changes. All IsChangeList changes.items) }
     ensures within { IfOk result (λ changes. AreWithin limits changes.items) }

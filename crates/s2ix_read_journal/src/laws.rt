@@ -1,5 +1,5 @@
-//! What the definitions of readers that the contracts cite say, in other words. Each function is a law: it does nothing, and its contract is
-//! the fact.
+//! What the definitions of readers that the contracts cite say, in other words. Each function is a law: it does nothing, and its contract
+//! is the fact.
 ghost use Rattle.s2ix_read_journal.specs.Laws.{JournalsHaveNoFault, NoFaultyJournalLineIsAccepted, WrittenJournalsAreReadBack};
 
 /// A text has no fault exactly where it is the journal of a list of changes within the limits.

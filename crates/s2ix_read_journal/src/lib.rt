@@ -1,5 +1,5 @@
-//! The reader of journals. It accepts exactly the texts that are the journal of a list of changes within the limits, and gives these changes;
-//! any other text is refused with its first faulty line and what is wrong there.
+//! The reader of journals. It accepts exactly the texts that are the journal of a list of changes within the limits, and gives these
+//! changes; any other text is refused with its first faulty line and what is wrong there.
 #![tactic(auto)]
 
 mod change_line;

@@ -7,6 +7,7 @@ use s2ix_parts::number_written;
 const GREATEST_COUNT: u32 = 65_535;
 
 const FEWEST_ENTRIES: u32 = 1;
+
 const MOST_ENTRIES: u32 = 2_000_000;
 
 /// The count before or after a change, from 0 to 65535, which a text writes.
