@@ -1,0 +1,142 @@
+//! What was given behind the word of a subcommand.
+ghost use Rattle.std.specs.Prelude.{◌≡◌, ◌↔◌, ℕ, Some, IfErr, IfNone, IfOk, IfSome, IsTrue, codes, option_map, string_bytes};
+ghost use Rattle.clap.specs.Words.{first_of, found_of, rows_of, subcommand_rows_of};
+ghost use Rattle.s2ix_bag.specs.declared.limits.Limits.{Limits as OfLimits};
+ghost use Rattle.s2ix_words.specs.Words.{AreGiven, IsFile, IsGiven, IsMet, IsOf, IsUsage, Lacks, Refuses};
+
+use crate::{Command, WordsFault};
+use clap::ArgMatches;
+use s2ix_bag::Limits;
+use std::alloc::{AllocError, Global};
+
+/// What is told of a limit that is no number, or out of its range.
+const BAD_LIMIT: &str =
+    "error: a limit is out of its range: --max-pairs takes 1 to 1000000, --max-count 1 to 65535, \
+    --max-changes 1 to 100000\n\nFor more information, try 's2ix run --help'.\n";
+
+/// What is told where the name of a file is missing.
+const NO_FILE: &str =
+    "error: the name of a file is missing\n\nFor more information, try 's2ix --help'.\n";
+
+/// What is told where no command is named.
+const NO_COMMAND: &str = "error: a command is wanted\n\nFor more information, try 's2ix --help'.\n";
+
+/// The command that was met, of those that clap matched.
+pub(crate) fn command_met(alloc: Global, matches: &ArgMatches<'_>) -> Result<Command, WordsFault>
+    ensures met { IfOk result (IsMet (subcommand_rows_of matches.now)) }
+    ensures refused { IfErr result (Refuses (IsMet (subcommand_rows_of matches.now))) }
+{
+    match matches.subcommand() {
+        Some((word, given)) => command_given(alloc, word, given),
+        None => Err(usage(alloc, NO_COMMAND)),
+    }
+}
+
+// The command of a word and what was given behind it.
+fn command_given(alloc: Global, word: &str, given: &ArgMatches<'_>) -> Result<Command, WordsFault>
+    ensures given { IfOk result (IsOf word.now (rows_of (found_of given.now))) }
+    ensures refused { IfErr result (Refuses (IsOf word.now (rows_of (found_of given.now)))) }
+{
+    match word {
+        "run" => run_given(alloc, given),
+        "check" => {
+            let file = file_given(alloc, given, "FILE")?;
+            Ok(Command::Check { file })
+        }
+        "replay" => {
+            let dump = file_given(alloc, given, "DUMP")?;
+            let journal = file_given(alloc, given, "JOURNAL")?;
+            Ok(Command::Replay { dump, journal })
+        }
+        "rewind" => {
+            let dump = file_given(alloc, given, "DUMP")?;
+            let journal = file_given(alloc, given, "JOURNAL")?;
+            Ok(Command::Rewind { dump, journal })
+        }
+        _ => Err(usage(alloc, NO_COMMAND)),
+    }
+}
+
+// `run` with what was given to its options.
+fn run_given(alloc: Global, given: &ArgMatches<'_>) -> Result<Command, WordsFault>
+    ensures given { IfOk result (IsOf (codes "run") (rows_of (found_of given.now))) }
+    ensures refused { IfErr result (Refuses (IsOf (codes "run") (rows_of (found_of given.now)))) }
+{
+    let Some(limits) = limits_given(given) else {
+        return Err(usage(alloc, BAD_LIMIT));
+    };
+    let load = load_given(alloc, given)?;
+    let stop = has_flag(given, "stop");
+    Ok(Command::Run { load, limits, stop })
+}
+
+// The limits that were given, or `None` where one is no number or out of its range.
+fn limits_given(given: &ArgMatches<'_>) -> Option<Limits>
+    ensures given { IfSome result (AreGiven (rows_of (found_of given.now))) }
+    ensures refused { IfNone result ((limits : OfLimits) → AreGiven (rows_of (found_of given.now)) limits → ⊥) }
+{
+    let widest = Limits::default();
+    let pairs = number_given(given, "max-pairs", widest.pairs())?;
+    let count = number_given(given, "max-count", widest.count())?;
+    let changes = number_given(given, "max-changes", widest.changes())?;
+    Limits::new(pairs, count, changes)
+}
+
+// The number given to an option, `default` where none was, or `None` where it is no number.
+fn number_given(given: &ArgMatches<'_>, option: &str, default: u32) -> Option<u32>
+    ensures given { IfSome result (IsGiven default (first_of option.now (rows_of (found_of given.now)))) }
+    ensures refused { IfNone result ((n : ℕ) → IsGiven default (first_of option.now (rows_of (found_of given.now))) n → ⊥) }
+{
+    match text_given(given, option) {
+        Some(text) => text.parse().ok(),
+        None => Some(default),
+    }
+}
+
+// The name of the dump to begin with, if one was given.
+fn load_given(alloc: Global, given: &ArgMatches<'_>) -> Result<Option<String>, AllocError>
+    ensures { IfOk result (λ load. first_of (codes "load") (rows_of (found_of given.now)) ≡ option_map string_bytes load) }
+{
+    match text_given(given, "load") {
+        Some(file) => Ok(Some(String::from_str(alloc, file)?)),
+        None => Ok(None),
+    }
+}
+
+// Whether a flag was given.
+fn has_flag(given: &ArgMatches<'_>, flag: &str) -> bool
+    ensures { IsTrue result ↔ (first_of flag.now (rows_of (found_of given.now)) ≡ Some (codes "true")) }
+{
+    match text_given(given, flag) {
+        Some(text) => text == "true",
+        None => false,
+    }
+}
+
+// The name of a file, as it was given.
+fn file_given(alloc: Global, given: &ArgMatches<'_>, name: &str) -> Result<String, WordsFault>
+    ensures given { IfOk result (IsFile name.now (rows_of (found_of given.now))) }
+    ensures refused { IfErr result (Lacks name.now (rows_of (found_of given.now))) }
+{
+    match text_given(given, name) {
+        Some(file) => Ok(String::from_str(alloc, file)?),
+        None => Err(usage(alloc, NO_FILE)),
+    }
+}
+
+// The text given to an argument.
+fn text_given<'a>(given: &ArgMatches<'a>, name: &str) -> Option<&'a str>
+    ensures { option_map (λ text. text.now) result ≡ first_of name.now (rows_of (found_of given.now)) }
+{
+    given.get_str(name)
+}
+
+// Usage with this text.
+fn usage(alloc: Global, text: &str) -> WordsFault
+    ensures { IsUsage result }
+{
+    match String::from_str(alloc, text) {
+        Ok(text) => WordsFault::Usage(text),
+        Err(_) => WordsFault::OutOfMemory,
+    }
+}
