@@ -1,53 +1,55 @@
-//! The program `s2ix`: carries out the script on standard input over an empty store, and writes its answers to
-//! standard output.
+//! The program `s2ix`: does what its words ask for, over files and standard input, writes what that comes to to standard output, and
+//! ends with its status.
 #![tactic(auto)]
 
-ghost use Rattle.std.specs.Prelude.{◌≡◌, ◌≢◌, ◌<◌, IfOk, IfErr};
-ghost use Rattle.std.specs.Process.{exit_status};
+mod carry;
+mod ending;
 
-use s2ix_bag::Limits;
-use s2ix_cli::{RunEnd, RunFault, RunOptions};
-use s2ix_io::{FromRead, ToWrite};
-use s2ix_store::Store;
-use std::io::BufWriter;
+use carry::carry_out;
+use ending::{Ending, status};
+use s2ix_io::RunFault;
+use s2ix_words::{Command, WordsFault, command_of};
+use std::env;
+use std::io::ErrorKind;
 use std::process::ExitCode;
 
-/// How many pieces of input the program reads at most.
-const TURNS: u64 = 4_294_967_296;
-
-/// The exit status of a run: 0 where no line was refused, 1 where one was, 3 after a fault of a device and where the input had more
-/// pieces than are read, and 4 for want of memory.
-fn status(ended: &Result<RunEnd, RunFault>) -> ExitCode
-    ensures accepted { IfOk ended.now (λ told. told.refused ≡ 0 → exit_status result ≡ 0) }
-    ensures refused { IfOk ended.now (λ told. 0 < told.refused → exit_status result ≡ 1) }
-    ensures device { IfErr ended.now (λ fault. fault ≢ RunFault.OutOfMemory → exit_status result ≡ 3) }
-    ensures memory { IfErr ended.now (λ fault. fault ≡ RunFault.OutOfMemory → exit_status result ≡ 4) }
-{
-    ExitCode::from(match ended {
-        Ok(told) if told.refused == 0 => 0,
-        Ok(_) => 1,
-        Err(RunFault::OutOfMemory) => 4,
-        Err(RunFault::Read | RunFault::Write | RunFault::ReaderTooLong) => 3,
-    })
+// What the program's words ask for.
+fn asked(rt: &HostRuntime) -> Result<Command, WordsFault> {
+    let words = match env::args(rt) {
+        Ok(all) => all.skip(1).collect::<Vec<String>>(rt.alloc())?,
+        Err(error) if error.kind() == ErrorKind::OutOfMemory => return Err(WordsFault::OutOfMemory),
+        Err(_) => {
+            let text = String::from_str(rt.alloc(), "error: a word is no UTF-8\n")?;
+            return Err(WordsFault::Usage(text));
+        }
+    };
+    command_of(rt.alloc(), words.as_slice())
 }
 
-/// Runs the script on standard input.
-fn run(rt: &HostRuntime) -> Result<RunEnd, RunFault> {
-    let writer = BufWriter::new(rt.alloc(), rt.stdout()).map_err(|_| RunFault::OutOfMemory)?;
-    let mut store = Store::new(rt.alloc(), Limits::default())?;
-    let mut source = FromRead::new(rt.stdin());
-    let mut sink = ToWrite::new(writer);
-    let options = RunOptions {
-        stop: false,
-        turns: TURNS,
-    };
-    s2ix_cli::run(rt.alloc(), &mut source, &mut sink, &mut store, options)
+// Does what the words ask for. Help goes to standard output, and usage to standard error.
+fn end(rt: &HostRuntime) -> Ending {
+    match asked(rt) {
+        Ok(command) => match carry_out(rt, &command) {
+            Ok(true) => Ending::Accepted,
+            Ok(false) => Ending::Refused,
+            Err(fault) => Ending::Fault(fault),
+        },
+        Err(WordsFault::HelpAsked(text)) => match print!(rt; "{text}") {
+            Ok(()) => Ending::Accepted,
+            Err(_) => Ending::Fault(RunFault::Write),
+        },
+        Err(WordsFault::Usage(text)) => {
+            let _ = eprint!(rt; "{text}");
+            Ending::Usage
+        }
+        Err(WordsFault::OutOfMemory) => Ending::Fault(RunFault::OutOfMemory),
+    }
 }
 
 fn main(rt: HostRuntime) -> ExitCode {
-    let ended = run(&rt);
-    if let Err(fault) = &ended {
+    let ended = end(&rt);
+    if let Ending::Fault(fault) = ended {
         let _ = eprintln!(rt; "s2ix: {fault}");
     }
-    status(&ended)
+    status(ended)
 }

@@ -1,0 +1,98 @@
+//! Each command carried out, over files, standard input and standard output.
+ghost use Rattle.std.specs.Prelude.{◌≡◌, IfOk};
+ghost use Rattle.s2ix_io.specs.Adapters.{writer_faults};
+
+use s2ix_bag::Limits;
+use s2ix_cli::{RunOptions, read_whole};
+use s2ix_files::{check_text, load_text, replay_texts, rewind_texts};
+use s2ix_io::{FromRead, RunFault, Sink, ToWrite};
+use s2ix_store::Store;
+use s2ix_words::Command;
+use std::fs::File;
+use std::io::{BufWriter, Stdout};
+
+/// How many pieces of an input the program reads at most.
+const TURNS: u64 = 4_294_967_296;
+
+/// Carries out a command, and says whether all was accepted. What was written before a fault goes out too.
+pub(crate) fn carry_out(rt: &HostRuntime, command: &Command) -> Result<bool, RunFault> {
+    match command {
+        Command::Run { load, limits, stop } => run(rt, load.as_ref(), *limits, *stop),
+        Command::Check { file } => check(rt, file.as_str()),
+        Command::Replay { dump, journal } => replay(rt, dump.as_str(), journal.as_str()),
+        Command::Rewind { dump, journal } => rewind(rt, dump.as_str(), journal.as_str()),
+    }
+}
+
+// Runs the script on standard input over an empty store, or over the dump in a file.
+fn run(
+    rt: &HostRuntime,
+    load: Option<&String>,
+    limits: Limits,
+    stop: bool,
+) -> Result<bool, RunFault> {
+    let loaded = match load {
+        Some(file) => load_file(rt, file.as_str(), limits)?,
+        None => Some(Store::new(rt.alloc(), limits)?),
+    };
+    match loaded {
+        Some(store) => run_over(rt, store, stop),
+        None => Ok(false),
+    }
+}
+
+// The store of the dump in a file, or `None` once its fault is told.
+fn load_file(rt: &HostRuntime, file: &str, limits: Limits) -> Result<Option<Store>, RunFault> {
+    let text = contents(rt, file)?;
+    let mut sink = output(rt)?;
+    load_text(rt.alloc(), text.as_slice(), limits, &mut sink)
+}
+
+// Runs the script on standard input over a store.
+fn run_over(rt: &HostRuntime, mut store: Store, stop: bool) -> Result<bool, RunFault> {
+    let mut source = FromRead::new(rt.stdin());
+    let mut sink = output(rt)?;
+    let options = RunOptions { stop, turns: TURNS };
+    let ended = s2ix_cli::run(rt.alloc(), &mut source, &mut sink, &mut store, options);
+    if ended.is_err() {
+        sink.flush()?;
+    }
+    Ok(ended?.refused == 0)
+}
+
+// Reads a dump.
+fn check(rt: &HostRuntime, file: &str) -> Result<bool, RunFault> {
+    let text = contents(rt, file)?;
+    let mut sink = output(rt)?;
+    check_text(rt.alloc(), text.as_slice(), &mut sink)
+}
+
+// Prints a dump after a journal's changes.
+fn replay(rt: &HostRuntime, dump: &str, journal: &str) -> Result<bool, RunFault> {
+    let dump = contents(rt, dump)?;
+    let journal = contents(rt, journal)?;
+    let mut sink = output(rt)?;
+    replay_texts(rt.alloc(), dump.as_slice(), journal.as_slice(), &mut sink)
+}
+
+// Prints a dump before a journal's changes.
+fn rewind(rt: &HostRuntime, dump: &str, journal: &str) -> Result<bool, RunFault> {
+    let dump = contents(rt, dump)?;
+    let journal = contents(rt, journal)?;
+    let mut sink = output(rt)?;
+    rewind_texts(rt.alloc(), dump.as_slice(), journal.as_slice(), &mut sink)
+}
+
+// All of a file. One that can't be opened is a fault of reading.
+fn contents(rt: &HostRuntime, name: &str) -> Result<Vec<u8>, RunFault> {
+    let file = File::open(rt, name).map_err(|_| RunFault::Read)?;
+    read_whole(rt.alloc(), &mut FromRead::new(file), TURNS)
+}
+
+// Standard output with a buffer.
+fn output(rt: &HostRuntime) -> Result<ToWrite<BufWriter<Stdout>>, RunFault>
+    ensures { IfOk result (λ sink. writer_faults sink ≡ 0) }
+{
+    let writer = BufWriter::new(rt.alloc(), rt.stdout()).map_err(|_| RunFault::OutOfMemory)?;
+    Ok(ToWrite::new(writer))
+}
