@@ -1,50 +1,34 @@
 // Random labels that grow: cells of mixed levels on all faces, over edges and corners of the cube.
 use crate::plain::ring;
 use s2id_core::CellId;
+use s2id_samples::Random;
 use s2ix_bag::{Entry, Label, Limits, Pair};
 use s2ix_edit::{Edit, EditError};
 use s2ix_store::Store;
 use std::alloc::Global;
 use std::test::Fail;
 
-// A generator: each number is a fixed function of the one before.
-#[derive(Drop)]
-struct Random {
-    state: u64,
-}
-
 // The greatest place of a leaf on its face.
 const LAST_PLACE: u64 = 1152921504606846975;
 
-impl Random {
-    // The next number below a bound of at most 32 bits.
-    fn below(&mut self, bound: u64) -> u64 {
-        self.state = self
-            .state
-            .wrapping_mul(6364136223846793005)
-            .wrapping_add(1442695040888963407);
-        (self.state >> 32).wrapping_mul(bound) >> 32
-    }
+// The next cell of any face, at a level below `levels`. Half of them lie at an end of their face's curve, at a corner of the cube.
+fn cell_of(random: &mut Random, levels: u64) -> Option<CellId> {
+    let place = match random.below(4) {
+        0 => 0,
+        1 => LAST_PLACE,
+        _ => random.below(1 << 30) << 30 | random.below(1 << 30),
+    };
+    let leaf = CellId::from_raw(random.below(6) << 61 | place << 1 | 1)?;
+    leaf.parent(u8::try_from(random.below(levels)).ok()?)
+}
 
-    // The next cell of any face, at a level below `levels`. Half of them lie at an end of their face's curve, at a corner of the cube.
-    fn cell(&mut self, levels: u64) -> Option<CellId> {
-        let place = match self.below(4) {
-            0 => 0,
-            1 => LAST_PLACE,
-            _ => self.below(1 << 30) << 30 | self.below(1 << 30),
-        };
-        let leaf = CellId::from_raw(self.below(6) << 61 | place << 1 | 1)?;
-        leaf.parent(u8::try_from(self.below(levels)).ok()?)
+// From one cell to five, of levels 0 to 6.
+fn cells_of(random: &mut Random, alloc: Global) -> Result<Vec<CellId>, Fail> {
+    let mut cells = Vec::new(alloc);
+    for _ in 0..=random.below(5) {
+        cells.push(cell_of(random, 7).ok_or("no cell")?)?;
     }
-
-    // From one cell to five, of levels 0 to 6.
-    fn cells(&mut self, alloc: Global) -> Result<Vec<CellId>, Fail> {
-        let mut cells = Vec::new(alloc);
-        for _ in 0..=self.below(5) {
-            cells.push(self.cell(7).ok_or("no cell")?)?;
-        }
-        Ok(cells)
-    }
+    Ok(cells)
 }
 
 // Adds a pair of each cell and a label.
@@ -86,9 +70,9 @@ fn check_growth(alloc: Global, random: &mut Random, level: u8) -> Result<(), Fai
     let label = Label::new(7).ok_or("no label")?;
     let other = Label::new(8).ok_or("no label")?;
     let mut store = Store::new(alloc, Limits::default())?;
-    let cells = random.cells(alloc)?;
+    let cells = cells_of(random, alloc)?;
     add_cells(&mut store, &cells, label)?;
-    add_cells(&mut store, random.cells(alloc)?.as_slice(), other)?;
+    add_cells(&mut store, cells_of(random, alloc)?.as_slice(), other)?;
     let wanted = ring(alloc, &cells, level)?;
     if grows_by(&mut store, label, level, &wanted) {
         Ok(())
@@ -99,7 +83,7 @@ fn check_growth(alloc: Global, random: &mut Random, level: u8) -> Result<(), Fai
 
 #[test]
 fn labels_grow_as_a_plain_search_says(rt: HostRuntime) -> Result<(), Fail> {
-    let mut random = Random { state: 1 };
+    let mut random = Random::new(1);
     for round in 0..40u8 {
         check_growth(rt.alloc(), &mut random, round % 5)?;
     }

@@ -1,6 +1,7 @@
 // Lines of a script, by a fixed generator.
 use crate::cells::CELLS;
 use crate::model::{Counts, Edit, under};
+use s2id_samples::Random;
 
 /// A line of a script.
 #[derive(Clone, Copy)]
@@ -19,26 +20,23 @@ pub(crate) enum Line {
     Journal,
 }
 
-/// A generator of numbers that look like chance.
+/// A generator of lines and what they are made of.
 #[derive(Drop)]
 pub(crate) struct Chance {
-    state: u64,
+    random: Random,
 }
 
 impl Chance {
     /// The generator of a seed.
     pub(crate) fn new(seed: u64) -> Chance {
-        Chance { state: seed }
+        Chance {
+            random: Random::new(seed),
+        }
     }
 
     /// A number below a bound.
     pub(crate) fn below(&mut self, bound: u8) -> u8 {
-        self.state = self
-            .state
-            .wrapping_mul(6364136223846793005)
-            .wrapping_add(1442695040888963407);
-        let drawn = (self.state >> 32) as u32 as u64;
-        (drawn.wrapping_mul(bound as u64) >> 32) as u8
+        (self.random.below(u64::from(bound)) % 256) as u8
     }
 
     // A cell of a level from 0 to 2, on faces 0 and 5 most of the time.

@@ -1,9 +1,10 @@
 // Tables of random nested cells, compared with a plain filter of the pairs.
 use crate::checks::{check_range, check_ranges, check_target};
 use crate::plain;
-use crate::random::Random;
+use crate::random::cell;
 use crate::samples::{label_of, with_more};
 use s2id_core::CellId;
+use s2id_samples::Random;
 use s2id_union::CellUnion;
 use s2ix_bag::{Bag, Held, Limits, Pair};
 use s2ix_table::{CopiedTable, RangeRow, RangeTable};
@@ -16,7 +17,7 @@ const LABELS: u32 = 4;
 // One to three copies of a random pair on one of the first faces.
 fn random_held(random: &mut Random, faces: u64) -> Result<Held, Fail> {
     let pair = Pair {
-        cell: random.cell(faces, 7).ok_or("no cell")?,
+        cell: cell(random, faces, 7).ok_or("no cell")?,
         label: label_of((random.below(u64::from(LABELS)) % 4) as u32)?,
     };
     let count = 1 + (random.below(3) % 3) as u32;
@@ -42,7 +43,7 @@ fn random_cells(
 ) -> Result<Vec<CellId>, Fail> {
     let mut cells = Vec::new(alloc);
     for _ in 0..size {
-        cells.push(random.cell(6, levels).ok_or("no cell")?)?;
+        cells.push(cell(random, 6, levels).ok_or("no cell")?)?;
     }
     Ok(cells)
 }
