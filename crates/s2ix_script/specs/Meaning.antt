@@ -190,6 +190,7 @@ query_words =
     ∷ (codes "ranges", bare asks.Ranges)
     ∷ (codes "dump", bare asks.Dump)
     ∷ (codes "journal", bare asks.Journal)
+    ∷ (codes "export", bare asks.Export)
     ∷ []
 
 -- the words that ask for a cell alone

@@ -90,6 +90,7 @@ fn by_query(word: &str, fields: Fields<'_>) -> Result<Instruction, LineFault>
         "ranges" => bare(Instruction::Ranges, fields),
         "dump" => bare(Instruction::Dump, fields),
         "journal" => bare(Instruction::Journal, fields),
+        "export" => bare(Instruction::Export, fields),
         _ => by_cell(word, fields),
     }
 }
