@@ -1,24 +1,15 @@
 //! Squares and neighbours against a plain search over the points of the cube.
-ghost use Rattle.std.specs.Prelude.{◌<◌};
-
 use s2id_core::CellId;
 use s2id_cube::{edge_neighbors, from_face_ij, to_face_ij};
+use s2id_samples::{Point, point_of};
 use std::alloc::Global;
 use std::process::Abort;
-
-/// A point of the cube, in half squares from its middle.
-#[derive(Clone, Copy, PartialEq, Eq)]
-struct Corner {
-    x: i32,
-    y: i32,
-    z: i32,
-}
 
 /// The two ends of a side.
 #[derive(Clone, Copy)]
 struct Side {
-    start: Corner,
-    end: Corner,
+    start: Point,
+    end: Point,
 }
 
 /// A cell and its sides: down, right, up, left.
@@ -28,23 +19,7 @@ struct Sided {
     sides: [Side; 4],
 }
 
-/// The corner in column `i` and row `j` of a face's grid of `n` squares a side.
-fn corner_at(face: u8, i: u8, j: u8, n: u8) -> Corner {
-    let one = n as i32;
-    let u = 2 * i as i32 - one;
-    let v = 2 * j as i32 - one;
-    let (x, y, z) = match face {
-        0 => (one, u, v),
-        1 => (-u, one, v),
-        2 => (-u, -v, one),
-        3 => (-one, -v, -u),
-        4 => (v, -one, -u),
-        _ => (v, u, -one),
-    };
-    Corner { x, y, z }
-}
-
-fn side_between(start: Corner, end: Corner) -> Side {
+fn side_between(start: Point, end: Point) -> Side {
     Side { start, end }
 }
 
@@ -62,15 +37,14 @@ fn cell_in(rt: &impl Abort, face: u8, i: u8, j: u8, level: u8) -> CellId {
     cell
 }
 
-/// The sides of the square in column `i` and row `j` of a face's grid of `n` squares a side.
-fn sides_of(face: u8, i: u8, j: u8, n: u8) -> [Side; 4]
-    requires column { i < 255 }
-    requires row { j < 255 }
-{
-    let low = corner_at(face, i, j, n);
-    let right = corner_at(face, i + 1, j, n);
-    let high = corner_at(face, i + 1, j + 1, n);
-    let up = corner_at(face, i, j + 1, n);
+/// The sides of the square in column `i` and row `j` of a face's grid.
+fn sides_of(face: u8, level: u8, i: u8, j: u8) -> [Side; 4] {
+    let (i, j) = (u32::from(i), u32::from(j));
+    let (next, above) = (i.wrapping_add(1), j.wrapping_add(1));
+    let low = point_of(face, level, i, j);
+    let right = point_of(face, level, next, j);
+    let high = point_of(face, level, next, above);
+    let up = point_of(face, level, i, above);
     [
         side_between(low, right),
         side_between(right, high),
@@ -84,7 +58,7 @@ fn push_cells(rt: &impl Abort, all: &mut Vec<Sided>, face: u8, level: u8, n: u8)
     for i in 0..n {
         for j in 0..n {
             let cell = cell_in(rt, face, i, j, level);
-            let sides = sides_of(face, i, j, n);
+            let sides = sides_of(face, level, i, j);
             all.push(Sided { cell, sides }).expect(rt, "memory");
         }
     }
@@ -101,7 +75,7 @@ fn cells_of_level(rt: &impl Abort, alloc: Global, level: u8) -> Vec<Sided> {
 }
 
 /// Whether one of the cell's sides has these ends.
-fn has_side(cell: &Sided, a: Corner, b: Corner) -> bool {
+fn has_side(cell: &Sided, a: Point, b: Point) -> bool {
     for k in 0..4 {
         let start = cell.sides[k].start;
         let end = cell.sides[k].end;
@@ -113,7 +87,7 @@ fn has_side(cell: &Sided, a: Corner, b: Corner) -> bool {
 }
 
 /// The other cells that have a side with these ends: how many, and the last of them.
-fn others_at(all: &[Sided], own: CellId, a: Corner, b: Corner) -> (usize, CellId) {
+fn others_at(all: &[Sided], own: CellId, a: Point, b: Point) -> (usize, CellId) {
     let mut count: usize = 0;
     let mut found = own;
     for other in all {

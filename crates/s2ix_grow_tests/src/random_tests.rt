@@ -1,6 +1,7 @@
 // Random labels that grow: cells of mixed levels on all faces, over edges and corners of the cube.
 use crate::plain::ring;
 use s2id_core::CellId;
+use s2id_samples::Random;
 use s2ix_bag::{Entry, Label, Limits, Pair};
 use s2ix_edit::{Edit, EditError};
 use s2ix_samples::Random;

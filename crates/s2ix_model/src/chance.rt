@@ -1,6 +1,7 @@
 // Lines of a script, by a fixed generator.
 use crate::cells::CELLS;
 use crate::model::{Counts, Edit, under};
+use s2id_samples::Random;
 use s2ix_samples::Random;
 
 /// A line of a script.
@@ -36,6 +37,7 @@ impl Chance {
 
     /// A number below a bound.
     pub(crate) fn below(&mut self, bound: u8) -> u8 {
+        (self.random.below(u64::from(bound)) % 256) as u8
         self.random.below(u64::from(bound)) as u8
     }
 

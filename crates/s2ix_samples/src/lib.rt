@@ -1,5 +1,5 @@
-//! Cells, pairs, bags and changes from plain texts, and numbers that look random, for tests. It promises nothing: a test compares what
-//! it makes of these with what its rows say.
+//! Pairs, bags and changes from plain texts, for tests. It promises nothing: a test compares what it makes of these with what its rows
+//! say.
 //!
 //! A pair with its count is a text TOKEN:LABEL:COUNT, as in lists that the program prints, and an entry of a change is a text
 //! TOKEN:LABEL:BEFORE:AFTER. White space stands between some of them. What is no such text, and what memory was wanted for, is `None`.
@@ -7,8 +7,6 @@
 
 mod bags;
 mod pairs;
-mod random;
 
 pub use bags::{LimitRow, WIDEST, bag_of, change_of, holds_pairs, limits_of, lists_entries};
-pub use pairs::{cell_of, cells_of, entry_of, held_of, label_of, pair_of};
-pub use random::Random;
+pub use pairs::{entry_of, held_of, label_of, pair_of};

@@ -1,11 +1,5 @@
-use s2id_core::CellId;
+use s2id_samples::cell_of;
 use s2ix_bag::{Entry, Held, Label, Pair};
-use std::alloc::Global;
-
-/// The cell that a token names.
-pub fn cell_of(token: &str) -> Option<CellId> {
-    CellId::from_token(token.as_bytes()).ok()
-}
 
 /// The label with this number.
 pub fn label_of(number: &str) -> Option<Label> {
@@ -39,13 +33,4 @@ pub fn entry_of(text: &str) -> Option<Entry> {
         before: count,
         after: after.parse().ok()?,
     })
-}
-
-/// The cells that some tokens name.
-pub fn cells_of(alloc: Global, tokens: &str) -> Option<Vec<CellId>> {
-    let mut cells = Vec::new(alloc);
-    for token in tokens.split_ascii_whitespace() {
-        cells.push(cell_of(token)?).ok()?;
-    }
-    Some(cells)
 }

@@ -1,10 +1,11 @@
 //! Edits from texts, much as a script writes them: `add 04:9:2`, `remove 04:9:2`, `addunion 9 04 3`, `drop 9`, `relabel 9 3`, `grow 9 1`
 //! and `normal 9`.
 
+use s2id_samples::cells_of;
 use s2id_union::CellUnion;
 use s2ix_bag::Held;
 use s2ix_edit::Edit;
-use s2ix_samples::{cells_of, held_of, label_of};
+use s2ix_samples::{held_of, label_of};
 use std::alloc::Global;
 
 /// The union of the cells that some tokens name.

@@ -1,6 +1,7 @@
 // Stores step by step: what they refuse, and what a refusal leaves.
 use crate::checks::{check_history, check_steps, store_of};
-use s2ix_samples::{WIDEST, bag_of, cells_of, holds_pairs, label_of};
+use s2id_samples::cells_of;
+use s2ix_samples::{WIDEST, bag_of, holds_pairs, label_of};
 use s2ix_store::Store;
 use std::alloc::Global;
 

@@ -4,6 +4,7 @@ use crate::plain;
 use crate::random::cell;
 use crate::samples::{label_of, with_more};
 use s2id_core::CellId;
+use s2id_samples::Random;
 use s2id_union::CellUnion;
 use s2ix_bag::{Bag, Held, Limits, Pair};
 use s2ix_samples::Random;
