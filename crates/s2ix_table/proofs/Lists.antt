@@ -54,7 +54,7 @@ label_from_key a b e f =
     labels_from_key (level_of a.pair.cell) (level_of b.pair.cell) (value_of a.pair.label) (value_of b.pair.label) e f
 
 -- two pairs over one leaf with the same depth are one pair
-same_pair_over : (q : ℕ) (a b : Held) → IsOver a q → IsOver b q → depth_key a ≡ depth_key b → rank_of a.pair ≡ rank_of b.pair
+pub same_pair_over : (q : ℕ) (a b : Held) → IsOver a q → IsOver b q → depth_key a ≡ depth_key b → rank_of a.pair ≡ rank_of b.pair
 same_pair_over q a b over_a over_b e =
     let le = level_by_key a b (omega arith) in
     let ge = level_by_key b a (omega arith) in
@@ -64,7 +64,7 @@ same_pair_over q a b over_a over_b e =
     let labels = label_from_key a b levels e in
     omega arith
 
-later_rank : (n : ℕ) (hs : Collection) (x : Held) → IsCollectionFrom n hs → Contains hs x → n ≤ rank_of x.pair
+pub later_rank : (n : ℕ) (hs : Collection) (x : Held) → IsCollectionFrom n hs → Contains hs x → n ≤ rank_of x.pair
 later_rank n hs x c held = subst (λ (y : Held). n ≤ rank_of y.pair) held.2 (rank_of_get n hs held.0 x c held.1)
 
 -- ---- contents

@@ -85,7 +85,7 @@ front_old q from h (y ∷ ys) over early all =
 
 -- ---- one pair more in a list of two parts
 
-insertion_before_all : (key : Held → ℕ) (x : Held) (xs : Collection) → AllByRecursion (λ b. key x < key b) xs → insertion key x xs ≡ x ∷ xs
+pub insertion_before_all : (key : Held → ℕ) (x : Held) (xs : Collection) → AllByRecursion (λ b. key x < key b) xs → insertion key x xs ≡ x ∷ xs
 unfolding insertion
 insertion_before_all key x [] all = refl
 insertion_before_all key x (y ∷ ys) all = cond-true _ _ _ (lt-ltb _ _ all.0)

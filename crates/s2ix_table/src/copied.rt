@@ -99,8 +99,8 @@ impl RangeTable for CopiedTable {
     }
 }
 
-// What a bag holds, in its order.
-fn held_pairs(alloc: Global, bag: &Bag) -> Result<Vec<Held>, OutOfMemory>
+/// What a bag holds, in its order. `OutOfMemory` where a growth is refused. O(n) for n pairs. This project's own.
+pub fn held_pairs(alloc: Global, bag: &Bag) -> Result<Vec<Held>, OutOfMemory>
     ensures list { IfOk result (λ held. held.items ≡ bag.now.held) }
     ensures rises { IfOk result (λ held. IsCollection held.items) }
     ensures few { IfOk result (λ held. length held.items ≤ 1000000) }

@@ -16,7 +16,7 @@ mod row;
 mod table;
 mod walk_state;
 
-pub use copied::{CopiedPlace, CopiedTable};
+pub use copied::{CopiedPlace, CopiedTable, held_pairs};
 pub use iter::{ChainIter, RangeIter, chain_at, contents, ranges};
 pub use row::RangeRow;
 pub use table::RangeTable;

@@ -1,0 +1,12 @@
+pub mod Keys
+pub mod Chains
+pub mod Runs
+pub mod Passing
+pub mod Orders
+pub mod Sweeping
+pub mod Tables
+pub mod Numbers
+pub mod Making
+pub mod Windows
+pub mod Turning
+pub mod OnePlace

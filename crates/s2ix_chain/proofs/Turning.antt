@@ -1,0 +1,179 @@
+-- The turns of a sweep.
+use Rattle.std.proofs.Common.{◌≡◌, ℕ, ◌+◌, ◌*◌, ◌<◌, ◌≤◌, inl, inr, true, Some, List, [], length, get_or, take, slice_get, set, sym, ◌∙◌, ap, arith, Contains, subst}
+use Rattle.std.proofs.lemmas.Option.{get_or_from_slice_get, slice_get-get_or, slice_get_within, slice_get_cases, slice_get_past}
+use Rattle.std.proofs.lemmas.Bool.{cases_lt}
+use Rattle.std.proofs.lemmas.List.{length-set}
+use Rattle.s2ix_bag.specs.Collection.{Collection, IsCollection}
+use Rattle.s2ix_table.proofs.Tables.{IsTable, places_from_table}
+use Rattle.s2ix_chain.specs.declared.pass.Pass.{Pass}
+use Rattle.s2ix_chain.specs.Chains.{is_on_chain, chain_of}
+use Rattle.s2ix_chain.specs.Order.{sweep_key, IsSweepOrder}
+use Rattle.s2ix_chain.specs.Pass.{Progress, progress_of, written, IsWritten}
+use Rattle.s2ix_chain.specs.Starts.{runs_over}
+use Rattle.s2ix_chain.specs.Sweep.{IsInSpan, IsFresh, IsSwept, start_at, IsEndBy, EndsBehind}
+use Rattle.s2ix_chain.proofs.Orders.{reached, reached_next, reached_less, to_come, key_is}
+use Rattle.s2ix_chain.proofs.Passing.{IsPassing, CanReach, written_passes, written_at, written_top, with_top, popped, popped_chain, can_pop, put_on, contains_at}
+use Rattle.s2ix_chain.proofs.Sweeping.{fresh_passes, IsNext, next_is, start_is, start_end, can_reach, ends_behind}
+
+-- the first k cells of the order have begun
+pub record IsOnWay (held : Collection) (order : List ℕ) (from to k : ℕ) (pass : Pass) : Type 0 where
+  pub within : k ≤ length order
+  pub passes : IsPassing held from to (reached held order k) (2 * k) pass.outer.items (progress_of pass)
+  pub size : length pass.outer.items ≡ length held
+  pub starts_room : length pass.starts.items ≡ 2 * length held + 1
+  pub firsts_room : length pass.firsts.items ≡ 2 * length held + 1
+
+contains_place : (order : List ℕ) (k p : ℕ) → slice_get order k ≡ Some p → Contains order p
+contains_place order k p is = (k, slice_get_within order k p is, get_or_from_slice_get order k p p is)
+
+way_written : (held : Collection) (from to last room bound : ℕ) (old mid : Pass) → IsPassing held from to last room old.outer.items (progress_of old) → CanReach held to last (progress_of old) bound → IsWritten bound old mid → IsPassing held from to last (room + 1) mid.outer.items (progress_of mid)
+way_written held from to last room bound old mid passes reach w =
+    subst (IsPassing held from to last (room + 1) mid.outer.items) (sym w.progress) (subst (λ os. IsPassing held from to last (room + 1) os (written bound (progress_of old))) (sym w.outer) (written_passes held from to last room old.outer.items (progress_of old) bound passes reach))
+
+top_written : (bound : ℕ) (old mid : Pass) → IsWritten bound old mid → mid.top ≡ old.top
+top_written bound old mid w = ap (λ (p : Progress). p.top) w.progress ∙ written_top bound (progress_of old)
+
+at_written : (bound : ℕ) (old mid : Pass) → old.at ≤ bound → IsWritten bound old mid → mid.at ≡ bound
+at_written bound old mid le w = ap (λ (p : Progress). p.at) w.progress ∙ written_at bound (progress_of old) le
+
+-- ---- before the first turn
+
+pub way_begins : (held : Collection) (order : List ℕ) (from to : ℕ) (pass : Pass) → IsInSpan held from to → pass.at ≡ from → IsFresh held pass → IsOnWay held order from to 0 pass
+way_begins held order from to pass span at fresh = record {
+  within = omega arith;
+  passes = fresh_passes held from to pass.outer.items (progress_of pass) span at fresh.count fresh.top (none pass.starts.items) (none pass.firsts.items);
+  size = fresh.outer;
+  starts_room = fresh.starts;
+  firsts_room = fresh.firsts;
+}
+  where
+    none : (xs : List ℕ) → take pass.count xs ≡ []
+    none xs = ap (λ n. take n xs) fresh.count
+
+pub way_next : (held : Collection) (order : List ℕ) (from to k : ℕ) (pass : Pass) → IsSweepOrder held order → IsInSpan held from to → IsOnWay held order from to k pass → pass.at ≤ start_at held order to k
+way_next held order from to k pass o span way =
+    let within = way.passes.within in
+    elim ((slice_get_cases order k).1) [
+      | inr past ↦ (let e = start_end held order to k past.1 in omega arith)
+      | inl (p, short, is, read) ↦
+          elim ((slice_get_cases held p).1) [
+            | inr past ↦ absurd (let lt = o.places.to p (contains_place order k p is) in let ge = past.0 in omega arith)
+            | inl (h, there, at, got) ↦
+                (let e = start_is held order to k p h is at in
+                let l = way.passes.open_cells.later h (contains_at held p h at) (reached_less held order k p h o is at) in
+                omega arith)
+          ]
+    ]
+
+-- ---- a cell is taken off
+
+abbrev pub topped : ℕ → Pass → Pass
+topped top pass = record { outer = pass.outer; starts = pass.starts; firsts = pass.firsts; count = pass.count; at = pass.at; top = top }
+
+-- a turn of the inner loop
+pub record IsTakenOff (held : Collection) (order : List ℕ) (from to k bound next : ℕ) (old mid : Pass) : Type 0 where
+  pub by : mid.at ≤ bound
+  pub way : IsOnWay held order from to k (topped next mid)
+  pub fewer : length (chain_of held next) < length (chain_of held old.top)
+
+pub taken_off : (held : Collection) (order : List ℕ) (from to k bound end next : ℕ) (old mid : Pass) → IsSweepOrder held order → IsInSpan held from to → IsOnWay held order from to k old → bound ≡ start_at held order to k → IsEndBy held old.top bound end → IsWritten end old mid → next ≡ get_or mid.outer.items mid.top next → IsTakenOff held order from to k bound next old mid
+taken_off held order from to k bound end next old mid o span way is_bound by w leads =
+    elim ((slice_get_cases held old.top).1) [
+      | inr past ↦ absurd (let lt = by.within in let ge = past.0 in omega arith)
+      | inl (x, lt, at, got) ↦
+          (let last = reached held order k in
+          let next_bound = next_is held order from to k o span way.within in
+          let later = next_bound.later in
+          let within = next_bound.within in
+          let i = contains_at held old.top x at in
+          let ends = by.is x at in
+          let le = by.by in
+          let reach_x = can_pop held from to last (2 * k) old.outer.items (progress_of old) x bound way.passes at i (omega arith) (omega arith) (λ h j less. let l = later h j less in omega arith) in
+          let reach = subst (CanReach held to last (progress_of old)) ends reach_x in
+          let passes = way_written held from to last (2 * k) end old mid way.passes reach w in
+          let top = top_written end old mid w in
+          let at_end = at_written end old mid reach.ahead w in
+          let at_mid : slice_get held mid.top ≡ Some x = ap (slice_get held) top ∙ at in
+          let short : mid.top < length mid.outer.items = let s = way.size in let e = ap (λ (os : List ℕ). length os) w.outer in omega arith in
+          let led : slice_get mid.outer.items mid.top ≡ Some next = slice_get-get_or mid.outer.items mid.top next short ∙ ap (λ n. Some n) (sym leads) in
+          let chain = popped_chain held from to last (2 * k + 1) mid.outer.items (progress_of mid) x next passes at_mid led i in
+          let len = ap length chain in
+          let same = ap (λ n. length (chain_of held n)) top in
+          record {
+            by = omega arith;
+            way = record {
+              within = way.within;
+              passes = popped held from to last (2 * k) mid.outer.items (progress_of mid) x next passes at_mid led i (at_end ∙ sym ends);
+              size = ap (λ (os : List ℕ). length os) w.outer ∙ way.size;
+              starts_room = w.starts_room ∙ way.starts_room;
+              firsts_room = w.firsts_room ∙ way.firsts_room;
+            };
+            fewer = omega arith;
+          })
+    ]
+
+-- ---- a cell is put on
+
+pub way_reaches : (held : Collection) (order : List ℕ) (from to k bound : ℕ) (old mid : Pass) → IsSweepOrder held order → IsInSpan held from to → IsOnWay held order from to k old → bound ≡ start_at held order to k → old.at ≤ bound → EndsBehind held old.top bound → IsWritten bound old mid → IsPassing held from to (reached held order k) (2 * k + 1) mid.outer.items (progress_of mid)
+way_reaches held order from to k bound old mid o span way is_bound ahead behind w =
+    let last = reached held order k in
+    let next = subst (IsNext held to last) (sym is_bound) (next_is held order from to k o span way.within) in
+    way_written held from to last (2 * k) bound old mid way.passes (can_reach held from to last (2 * k) bound old.outer.items (progress_of old) way.passes next ahead behind) w
+
+pub put_next : (held : Collection) (order : List ℕ) (from to k bound place : ℕ) (old mid : Pass) → IsCollection held → IsSweepOrder held order → IsInSpan held from to → IsOnWay held order from to k old → bound ≡ start_at held order to k → old.at ≤ bound → EndsBehind held old.top bound → IsWritten bound old mid → slice_get order k ≡ Some place → (new : Pass) → new.outer.items ≡ set mid.outer.items place mid.top → new.starts.items ≡ mid.starts.items → new.firsts.items ≡ mid.firsts.items → progress_of new ≡ with_top place (progress_of mid) → IsOnWay held order from to (k + 1) new
+put_next held order from to k bound place old mid c o span way is_bound ahead behind w is new outers starts firsts progress =
+    let last = reached held order k in
+    let passes = way_reaches held order from to k bound old mid o span way is_bound ahead behind w in
+    let top = top_written bound old mid w in
+    let at_bound = at_written bound old mid ahead w in
+    let within = slice_get_within order k place is in
+    let short = o.places.to place (contains_place order k place is) in
+    let size = ap (λ (os : List ℕ). length os) w.outer ∙ way.size in
+    elim ((slice_get_cases held place).1) [
+      | inr past ↦ absurd (let ge = past.0 in omega arith)
+      | inl (x, lt, at, got) ↦
+          (let i = contains_at held place x at in
+          let start = start_is held order to k place x is at in
+          let put = put_on held from to last (2 * k + 1) place x mid.outer.items (progress_of mid) c passes at i (reached_less held order k place x o is at) (omega arith)
+          (λ h j on. let e = ends_behind held old.top bound h behind (subst (λ n. is_on_chain held n h ≡ true) top on) in omega arith)
+          (λ h j less. let t = (to_come held order k h o way.within j less).1 place is in let key = key_is held place x at in omega arith)
+          (omega arith) in
+          let key : sweep_key x ≡ reached held order (k + 1) = sym (reached_next held order k place is ∙ key_is held place x at) in
+          let rooms : 2 * k + 1 + 1 ≡ 2 * (k + 1) = omega arith in
+          let step1 = subst (λ l. IsPassing held from to l (2 * k + 1 + 1) (set mid.outer.items place mid.top) (with_top place (progress_of mid))) key put in
+          let step2 = subst (λ r. IsPassing held from to (reached held order (k + 1)) r (set mid.outer.items place mid.top) (with_top place (progress_of mid))) rooms step1 in
+          let step3 = subst (λ os. IsPassing held from to (reached held order (k + 1)) (2 * (k + 1)) os (with_top place (progress_of mid))) (sym outers) step2 in
+          record {
+            within = omega arith;
+            passes = subst (IsPassing held from to (reached held order (k + 1)) (2 * (k + 1)) new.outer.items) (sym progress) step3;
+            size = ap (λ (os : List ℕ). length os) outers ∙ length-set mid.outer.items place mid.top ∙ size;
+            starts_room = ap (λ (os : List ℕ). length os) starts ∙ w.starts_room ∙ way.starts_room;
+            firsts_room = ap (λ (os : List ℕ). length os) firsts ∙ w.firsts_room ∙ way.firsts_room;
+          })
+    ]
+
+-- ---- after the last turn
+
+pub way_ends : (held : Collection) (order : List ℕ) (from to k bound : ℕ) (old mid : Pass) → IsSweepOrder held order → IsInSpan held from to → IsOnWay held order from to k old → bound ≡ start_at held order to k → old.at ≤ bound → EndsBehind held old.top bound → IsWritten bound old mid → length order ≤ k → IsSwept held from to mid
+way_ends held order from to k bound old mid o span way is_bound ahead behind w past =
+    let passes = way_reaches held order from to k bound old mid o span way is_bound ahead behind w in
+    let at_bound = at_written bound old mid ahead w in
+    let end = start_end held order to k (slice_get_past order k past) in
+    let at_to : mid.at ≡ to = omega arith in
+    let rows = passes.rows in
+    let k_within = way.within in
+    let all = o.size in
+    record {
+      outer = λ place next h is leads.
+          passes.outer_to place next h is leads
+          (elim (cases_lt (reached held order k) (sweep_key h)) [
+            | inl lt ↦ absurd (let t = (to_come held order k h o way.within (contains_at held place h is) lt).0 in omega arith)
+            | inr le ↦ le
+          ]);
+      size = ap (λ (os : List ℕ). length os) w.outer ∙ way.size;
+      firsts = passes.firsts;
+      table = places_from_table held from to (runs_over held (progress_of mid).starts to) span.some (subst (λ n. IsTable held from (runs_over held (progress_of mid).starts n) n) at_to passes.table);
+      few = omega arith;
+      starts_room = w.starts_room ∙ way.starts_room;
+      firsts_room = w.firsts_room ∙ way.firsts_room;
+    }

@@ -1,0 +1,85 @@
+-- The search for the range that has a leaf.
+use Rattle.std.proofs.Common.{◌≡◌, ℕ, zero, suc, ◌+◌, ◌-◌, ◌/◌, ◌<◌, ◌≤◌, inl, inr, List, length, slice_index_or, AllPairs, ap, arith}
+use Rattle.std.proofs.lemmas.Bool.{cases_eq}
+use Rattle.s2ix_bag.specs.Collection.{Collection}
+use Rattle.s2ix_table.specs.Table.{leaf_end, range_at, IsRangeTable}
+use Rattle.s2ix_table.proofs.Building.{limits_rise}
+use Rattle.s2ix_chain.specs.Starts.{runs_over, IsLastStart}
+use Rattle.s2ix_chain.proofs.Runs.{length_runs, run_start, run_limit, last_limit}
+
+-- the start that is looked for is among `size` from `first` on
+pub record IsWindow (starts : List ℕ) (leaf first size : ℕ) : Type 0 where
+  pub some : 0 < size
+  pub within : first + size ≤ length starts
+  pub by : slice_index_or starts first 0 ≤ leaf
+  pub behind : first + size < length starts → leaf < slice_index_or starts (first + size) 0
+
+halves : (n : ℕ) → 1 < n → (0 < n / 2) × (n / 2 < n) × (n / 2 ≤ n - n / 2)
+halves n lt = (omega arith, omega arith, omega arith)
+
+pub window_up : (starts : List ℕ) (leaf first size : ℕ) → 1 < size → IsWindow starts leaf first size → slice_index_or starts (first + size / 2) 0 ≤ leaf → IsWindow starts leaf (first + size / 2) (size - size / 2)
+window_up starts leaf first size lt w by =
+    let h = halves size lt in
+    let e : first + size / 2 + (size - size / 2) ≡ first + size = omega (arith, h.1) in
+    let within = w.within in
+    record {
+      some = omega (arith, h.1);
+      within = omega (arith, e);
+      by = by;
+      behind = λ less. let b = w.behind (omega (arith, e)) in let same = ap (λ k. slice_index_or starts k 0) e in omega arith;
+    }
+
+pub window_down : (starts : List ℕ) (leaf first size : ℕ) → 1 < size → IsWindow starts leaf first size → leaf < slice_index_or starts (first + size / 2) 0 → AllPairs (λ a b. a < b) starts → IsWindow starts leaf first (size - size / 2)
+window_down starts leaf first size lt w behind rises =
+    let h = halves size lt in
+    let within = w.within in
+    record {
+      some = omega (arith, h.1);
+      within = omega (arith, h.1);
+      by = w.by;
+      behind = λ less. elim (cases_eq (first + size / 2) (first + (size - size / 2))) [
+        | inl e ↦ (let same = ap (λ k. slice_index_or starts k 0) e in omega arith)
+        | inr ne ↦ (let r = rises (first + size / 2) (first + (size - size / 2)) 0 (omega (arith, h.2, ne)) less in omega arith)
+      ];
+    }
+
+-- ---- the starts of a table
+
+pub starts_rise : (held : Collection) (starts : List ℕ) → IsRangeTable held (runs_over held starts leaf_end) → AllPairs (λ a b. a < b) starts
+starts_rise held starts t i zero d lt within = absurd (omega arith)
+starts_rise held starts t i (suc j) d lt within =
+    let n = length_runs held starts leaf_end in
+    let a = t.rises i (omega arith) in
+    let b = limits_rise held 1 leaf_end (runs_over held starts leaf_end) t i j (omega arith) (omega arith) in
+    let c = t.next j (suc j) (omega arith) (omega arith) in
+    let e = run_start held starts leaf_end i d (omega arith) in
+    let f = run_start held starts leaf_end (suc j) d within in
+    omega arith
+
+pub first_start : (held : Collection) (starts : List ℕ) → IsRangeTable held (runs_over held starts leaf_end) → (0 < length starts) × (slice_index_or starts 0 0 ≡ 1)
+first_start held starts t =
+    let n = length_runs held starts leaf_end in
+    let some = t.some in
+    let within : 0 < length starts = omega arith in
+    let e = run_start held starts leaf_end 0 0 within in
+    let f = t.first in
+    (within, omega arith)
+
+-- the range that a search finds
+pub found_start : (held : Collection) (starts : List ℕ) (leaf k : ℕ) → IsRangeTable held (runs_over held starts leaf_end) → leaf < leaf_end → IsLastStart starts leaf k → (k < length (runs_over held starts leaf_end)) × ((range_at (runs_over held starts leaf_end) k).start ≤ leaf) × (leaf < (range_at (runs_over held starts leaf_end) k).limit)
+found_start held starts leaf k t on l =
+    let n = length_runs held starts leaf_end in
+    let within = l.within in
+    let by = l.by in
+    let e = run_start held starts leaf_end k 0 within in (
+      omega arith,
+      omega arith,
+      elim (cases_eq (k + 1) (length starts)) [
+        | inl last ↦ (let f = last_limit held starts leaf_end k last in omega arith)
+        | inr ne ↦
+            (let less : k + 1 < length starts = omega (arith, ne) in
+            let f = run_limit held starts leaf_end k (k + 1) 0 (omega arith) less in
+            let b = l.next less in
+            omega arith)
+      ],
+    )

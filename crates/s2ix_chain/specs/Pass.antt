@@ -1,0 +1,33 @@
+-- What a step of a sweep writes.
+use Rattle.std.specs.Prelude.{◌≡◌, ℕ, ◌+◌, nat_lt, if◌then◌else◌, List, [], ◌∷◌, ◌++◌, length, take}
+use Rattle.s2ix_chain.specs.declared.pass.Pass.{Pass}
+
+-- where a sweep stands, and the ranges that it has written: their starts, and beside them the places of their innermost pairs
+pub record Progress : Type 0 where
+  pub count : ℕ
+  pub at : ℕ
+  pub top : ℕ
+  pub starts : List ℕ
+  pub firsts : List ℕ
+
+abbrev pub progress_of : Pass → Progress
+progress_of pass = record {
+  count = pass.count;
+  at = pass.at;
+  top = pass.top;
+  starts = take pass.count pass.starts.items;
+  firsts = take pass.count pass.firsts.items;
+}
+
+-- the range up to a bound is written, unless it has no leaf, and the sweep stands at the bound
+abbrev pub written : ℕ → Progress → Progress
+written bound s =
+    if nat_lt s.at bound then record { count = s.count + 1; at = bound; top = s.top; starts = s.starts ++ s.at ∷ []; firsts = s.firsts ++ s.top ∷ [] }
+    else s
+
+-- a step of a pass: nothing but its progress changes
+pub record IsWritten (bound : ℕ) (old new : Pass) : Type 0 where
+  pub progress : progress_of new ≡ written bound (progress_of old)
+  pub outer : new.outer.items ≡ old.outer.items
+  pub starts_room : length new.starts.items ≡ length old.starts.items
+  pub firsts_room : length new.firsts.items ≡ length old.firsts.items

@@ -1,0 +1,17 @@
+-- Ranges read by their starts.
+use Rattle.std.specs.Prelude.{ℕ, ◌+◌, ◌<◌, ◌≤◌, List, [], ◌∷◌, length, slice_index_or}
+use Rattle.s2ix_bag.specs.Collection.{Collection}
+use Rattle.s2ix_table.specs.Contents.{contents_at}
+use Rattle.s2ix_table.specs.Table.{Range}
+
+-- the ranges with these starts, each up to the next start and the last one up to `to`
+abbrev pub runs_over : Collection → List ℕ → ℕ → List Range
+runs_over held [] to = []
+runs_over held (start ∷ starts) to =
+    record { start = start; limit = slice_index_or starts 0 to; contents = contents_at start held } ∷ runs_over held starts to
+
+-- a start by a leaf, whose next one, if there is one, is behind the leaf
+pub record IsLastStart (starts : List ℕ) (leaf k : ℕ) : Type 0 where
+  pub within : k < length starts
+  pub by : slice_index_or starts k 0 ≤ leaf
+  pub next : k + 1 < length starts → leaf < slice_index_or starts (k + 1) 0

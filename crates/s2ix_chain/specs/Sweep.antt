@@ -1,0 +1,52 @@
+-- What a sweep over a span of leaves makes.
+use Rattle.std.specs.Prelude.{◌≡◌, ℕ, ◌+◌, ◌*◌, ◌%◌, ◌<◌, ◌≤◌, Some, List, length, slice_get, option_map, Contains}
+use Rattle.std.specs.Option.{unwrap_or}
+use Rattle.s2id_core.specs.CellId.{first_of, end_of}
+use Rattle.s2ix_bag.specs.Collection.{Collection}
+use Rattle.s2ix_bag.specs.declared.pair.Held.{Held}
+use Rattle.s2ix_table.specs.Table.{IsTableOver}
+use Rattle.s2ix_chain.specs.declared.pass.Pass.{Pass}
+use Rattle.s2ix_chain.specs.Chains.{AreOuter, AreFirsts}
+use Rattle.s2ix_chain.specs.Order.{first_at}
+use Rattle.s2ix_chain.specs.Pass.{progress_of}
+use Rattle.s2ix_chain.specs.Starts.{runs_over}
+
+-- held cells lie in a span of leaves
+pub record IsInSpan (held : Collection) (from to : ℕ) : Type 0 where
+  pub odd : from % 2 ≡ 1
+  pub odd_end : to % 2 ≡ 1
+  pub some : from < to
+  pub begins : (h : Held) → Contains held h → from ≤ first_of h.pair.cell
+  pub ends : (h : Held) → Contains held h → end_of h.pair.cell ≤ to
+
+-- nothing is open or written, and there is room for all
+pub record IsFresh (held : Collection) (pass : Pass) : Type 0 where
+  pub top : pass.top ≡ length held
+  pub count : pass.count ≡ 0
+  pub outer : length pass.outer.items ≡ length held
+  pub starts : length pass.starts.items ≡ 2 * length held + 1
+  pub firsts : length pass.firsts.items ≡ 2 * length held + 1
+
+-- the ranges over a span are written, and each place leads outwards
+pub record IsSwept (held : Collection) (from to : ℕ) (pass : Pass) : Type 0 where
+  pub outer : AreOuter held pass.outer.items
+  pub size : length pass.outer.items ≡ length held
+  pub firsts : AreFirsts held (progress_of pass).starts (progress_of pass).firsts
+  pub table : IsTableOver held from to (runs_over held (progress_of pass).starts to)
+  pub few : pass.count ≤ 2 * length held + 1
+  pub starts_room : length pass.starts.items ≡ 2 * length held + 1
+  pub firsts_room : length pass.firsts.items ≡ 2 * length held + 1
+
+-- where the k-th place of an order begins, and behind the last the end of the span
+abbrev pub start_at : Collection → List ℕ → ℕ → ℕ → ℕ
+start_at held order to k = unwrap_or (option_map (first_at held) (slice_get order k)) to
+
+-- the cell of a place ends here, by a bound
+pub record IsEndBy (held : Collection) (place bound end : ℕ) : Type 0 where
+  pub within : place < length held
+  pub by : end ≤ bound
+  pub is : (h : Held) → slice_get held place ≡ Some h → end_of h.pair.cell ≡ end
+
+-- the cell of a place, if it is one, ends behind a bound
+abbrev pub EndsBehind : Collection → ℕ → ℕ → Type 0
+EndsBehind held place bound = (h : Held) → slice_get held place ≡ Some h → bound < end_of h.pair.cell
