@@ -4,7 +4,6 @@ use s2id_core::CellId;
 use s2id_samples::Random;
 use s2ix_bag::{Entry, Label, Limits, Pair};
 use s2ix_edit::{Edit, EditError};
-use s2ix_samples::Random;
 use s2ix_store::Store;
 use std::alloc::Global;
 use std::test::Fail;

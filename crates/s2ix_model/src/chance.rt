@@ -2,7 +2,6 @@
 use crate::cells::CELLS;
 use crate::model::{Counts, Edit, under};
 use s2id_samples::Random;
-use s2ix_samples::Random;
 
 /// A line of a script.
 #[derive(Clone, Copy)]
@@ -38,7 +37,6 @@ impl Chance {
     /// A number below a bound.
     pub(crate) fn below(&mut self, bound: u8) -> u8 {
         (self.random.below(u64::from(bound)) % 256) as u8
-        self.random.below(u64::from(bound)) as u8
     }
 
     // A cell of a level from 0 to 2, on faces 0 and 5 most of the time.

@@ -7,7 +7,6 @@ use s2id_core::CellId;
 use s2id_samples::Random;
 use s2id_union::CellUnion;
 use s2ix_bag::{Bag, Held, Limits, Pair};
-use s2ix_samples::Random;
 use s2ix_table::{CopiedTable, RangeRow, RangeTable};
 use std::alloc::Global;
 use std::test::Fail;

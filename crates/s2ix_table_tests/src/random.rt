@@ -1,7 +1,6 @@
 // Cells in a fixed order that looks random.
 use s2id_core::CellId;
 use s2id_samples::Random;
-use s2ix_samples::Random;
 
 // The next cell of the first faces, at a level below `levels`. Most digits are 0, so that many cells lie within others.
 pub(crate) fn cell(random: &mut Random, faces: u64, levels: u64) -> Option<CellId> {
