@@ -20,10 +20,10 @@ use std::alloc::Global;
 /// changes nothing. Behind the whole output the sink is flushed. It ends over every source. This project's own.
 ///
 /// The first fault ends the run: `Read` and `Write` at the first fault of the source and the sink (a failed flush is `Write`),
-/// `OutOfMemory` where a growth was refused, `ReaderTooLong` where `turns` pieces were read and none was the end. A line that memory
-/// was refused for has changed nothing and printed nothing, and it is an edit, an undo, a redo, a line with a list of cells or one that
-/// asks for regions. After a fault the store keeps what the lines before it did, and their whole output went out; where the sink failed
-/// in a line's answer, the store keeps what that line did too, and a front of its answer went out.
+/// `OutOfMemory` where a growth was refused, `ReaderTooLong` where `turns` pieces were read and none was the end. A line that memory was
+/// refused for has changed nothing and printed nothing, and it is an edit, an undo, a redo, a line with a list of cells, or one that asks
+/// for regions or an export. After a fault the store keeps what the lines before it did, and their whole output went out; where the sink
+/// failed in a line's answer, the store keeps what that line did too, and a front of its answer went out.
 pub fn run<S: Source, K: Sink>(
     alloc: Global,
     source: &mut S,

@@ -2,7 +2,26 @@
 use crate::scripts::{PLAIN, Script, check_all};
 use std::test::Fail;
 
-const SCRIPTS: [Script; 12] = [
+const SCRIPTS: [Script; 14] = [
+    Script {
+        name: "paths, squares and exports",
+        input: b"path 1\npath 1d\nface 1d\nexport\nadd 04 9\nexport\n",
+        output: b"0/\n0/32\n0 2 0 2 3\n\
+              {\"pairs\":[],\"version\":1}\n\
+              ok 1\n\
+              {\"pairs\":[[\"04\",9,1]],\"version\":1}\n",
+        ..PLAIN
+    },
+    Script {
+        name: "an export has the pairs in rising order, and an undo takes one out again",
+        input: b"add 1 7 2\nadd 04 9\nexport\nundo\nexport\nexport 1\n",
+        output: b"ok 1\nok 1\n\
+              {\"pairs\":[[\"04\",9,1],[\"1\",7,2]],\"version\":1}\n\
+              ok 1\n\
+              {\"pairs\":[[\"1\",7,2]],\"version\":1}\n\
+              no BadArguments\n",
+        ..PLAIN
+    },
     Script {
         name: "an empty table has one range",
         input: b"dump\nranges\n",

@@ -142,12 +142,19 @@ add_union_named fields = Err BadArguments
 abbrev pub Words : Type 0
 Words = List (List ℕ × (List (List ℕ) → Result Instruction LineFault))
 
--- the words that ask for an edit
+-- the words that ask for something on a union of cells
+abbrev pub union_words : Words
+union_words =
+    (codes "addunion", λ fields. map_ok asks.Edit (add_union_named fields))
+    ∷ (codes "meet", λ fields. map_ok asks.Meet (union_named fields))
+    ∷ (codes "labels", λ fields. map_ok asks.Labels (union_named fields))
+    ∷ []
+
+-- the other words that ask for an edit
 abbrev pub edit_words : Words
 edit_words =
     (codes "add", λ fields. map_ok (λ named. asks.Edit (Add named.0 named.1)) (pair_named fields))
     ∷ (codes "remove", λ fields. map_ok (λ named. asks.Edit (Remove named.0 named.1)) (pair_named fields))
-    ∷ (codes "addunion", λ fields. map_ok asks.Edit (add_union_named fields))
     ∷ (codes "drop", λ fields. map_ok asks.Edit (drop_named fields))
     ∷ (codes "relabel", λ fields. map_ok asks.Edit (relabel_named fields))
     ∷ (codes "grow", λ fields. map_ok asks.Edit (grow_named fields))
@@ -162,18 +169,17 @@ history_words =
     ∷ (codes "forget", bare asks.Forget)
     ∷ []
 
--- the words that ask for what is held
+-- the other words that ask for what is held
 abbrev pub query_words : Words
 query_words =
     (codes "at", λ fields. map_ok asks.At (cell_named fields))
-    ∷ (codes "meet", λ fields. map_ok asks.Meet (union_named fields))
-    ∷ (codes "labels", λ fields. map_ok asks.Labels (union_named fields))
     ∷ (codes "region", λ fields. map_ok asks.Region (label_named fields))
     ∷ (codes "common", common_named)
     ∷ (codes "only", only_named)
     ∷ (codes "ranges", bare asks.Ranges)
     ∷ (codes "dump", bare asks.Dump)
     ∷ (codes "journal", bare asks.Journal)
+    ∷ (codes "export", bare asks.Export)
     ∷ []
 
 -- the words that ask for a cell alone
@@ -186,7 +192,7 @@ cell_words =
 
 -- the words of a script
 abbrev pub words : Words
-words = edit_words ++ history_words ++ query_words ++ cell_words
+words = union_words ++ edit_words ++ history_words ++ query_words ++ cell_words
 
 -- what a word of these and the fields behind it ask for: the first entry with that word decides
 abbrev pub asked_in : Words → List ℕ → List (List ℕ) → Result Instruction LineFault

@@ -38,4 +38,6 @@ pub enum Instruction {
     Dump,
     /// `journal`.
     Journal,
+    /// `export`.
+    Export,
 }

@@ -1,9 +1,10 @@
 //! The words of a script.
 //!
-//! A word is looked for among those that ask for an edit, then among those that go along the history, then among
-//! the queries, and last among those of a cell alone: a word that is none of the first is left to the next.
+//! A word is looked for among those that ask for something on a union of cells, which alone may want memory, then among the other edits,
+//! then among those that go along the history, then among the queries, and last among those of a cell alone: a word that is none of the
+//! first is left to the next.
 ghost use Rattle.std.specs.Prelude.{◌≡◌, ◌++◌};
-ghost use Rattle.s2ix_script.specs.Meaning.{Means, asked_by as asked_of, asked_in, cell_words, history_words, is_on_union, query_words};
+ghost use Rattle.s2ix_script.specs.Meaning.{Means, asked_by as asked_of, asked_in, cell_words, edit_words, history_words, is_on_union, query_words};
 
 use crate::cells::{add_union_named, union_named};
 use crate::fields::{
@@ -26,15 +27,27 @@ pub(crate) fn asked_by(
     ensures { Means is_on_union result (asked_of word.now fields.entry) }
 {
     match from_utf8(word) {
-        Ok(word) => by_edit(alloc, word, fields),
+        Ok(word) => by_union(alloc, word, fields),
         Err(_) => Err(LineError::Fault(LineFault::BadCommand)),
     }
 }
 
 // The same of a word that is text.
 #[tactic(auto, using(crate::proofs::WantedMemory::wanting))]
-fn by_edit(alloc: Global, word: &str, fields: Fields<'_>) -> Result<Instruction, LineError>
+fn by_union(alloc: Global, word: &str, fields: Fields<'_>) -> Result<Instruction, LineError>
     ensures { Means is_on_union result (asked_of word.now fields.entry) }
+{
+    match word {
+        "addunion" => Ok(Instruction::Edit(add_union_named(alloc, fields)?)),
+        "meet" => Ok(Instruction::Meet(union_named(alloc, fields)?)),
+        "labels" => Ok(Instruction::Labels(union_named(alloc, fields)?)),
+        _ => Ok(by_edit(word, fields)?),
+    }
+}
+
+// What a word asks for that asks for nothing on a union of cells.
+fn by_edit(word: &str, fields: Fields<'_>) -> Result<Instruction, LineFault>
+    ensures { result ≡ asked_in (edit_words ++ history_words ++ query_words ++ cell_words) word.now fields.entry }
 {
     match word {
         "add" => {
@@ -45,44 +58,40 @@ fn by_edit(alloc: Global, word: &str, fields: Fields<'_>) -> Result<Instruction,
             let (pair, copies) = pair_named(fields)?;
             Ok(Instruction::Edit(Edit::Remove { pair, copies }))
         }
-        "addunion" => Ok(Instruction::Edit(add_union_named(alloc, fields)?)),
         "drop" => Ok(Instruction::Edit(drop_named(fields)?)),
         "relabel" => Ok(Instruction::Edit(relabel_named(fields)?)),
         "grow" => Ok(Instruction::Edit(grow_named(fields)?)),
         "normal" => Ok(Instruction::Edit(normal_named(fields)?)),
-        _ => by_history(alloc, word, fields),
+        _ => by_history(word, fields),
     }
 }
 
-// What a word asks for that asks for no edit.
-#[tactic(auto, using(crate::proofs::WantedMemory::wanting))]
-fn by_history(alloc: Global, word: &str, fields: Fields<'_>) -> Result<Instruction, LineError>
-    ensures { Means is_on_union result (asked_in (history_words ++ query_words ++ cell_words) word.now fields.entry) }
+// What a word asks for that asks for no edit either.
+fn by_history(word: &str, fields: Fields<'_>) -> Result<Instruction, LineFault>
+    ensures { result ≡ asked_in (history_words ++ query_words ++ cell_words) word.now fields.entry }
 {
     match word {
-        "undo" => Ok(bare(Instruction::Undo, fields)?),
-        "redo" => Ok(bare(Instruction::Redo, fields)?),
-        "forget" => Ok(bare(Instruction::Forget, fields)?),
-        _ => by_query(alloc, word, fields),
+        "undo" => bare(Instruction::Undo, fields),
+        "redo" => bare(Instruction::Redo, fields),
+        "forget" => bare(Instruction::Forget, fields),
+        _ => by_query(word, fields),
     }
 }
 
 // What a word asks for that neither edits nor goes along the history.
-#[tactic(auto, using(crate::proofs::WantedMemory::wanting))]
-fn by_query(alloc: Global, word: &str, fields: Fields<'_>) -> Result<Instruction, LineError>
-    ensures { Means is_on_union result (asked_in (query_words ++ cell_words) word.now fields.entry) }
+fn by_query(word: &str, fields: Fields<'_>) -> Result<Instruction, LineFault>
+    ensures { result ≡ asked_in (query_words ++ cell_words) word.now fields.entry }
 {
     match word {
         "at" => Ok(Instruction::At(cell_named(fields)?)),
-        "meet" => Ok(Instruction::Meet(union_named(alloc, fields)?)),
-        "labels" => Ok(Instruction::Labels(union_named(alloc, fields)?)),
         "region" => Ok(Instruction::Region(label_named(fields)?)),
-        "common" => Ok(common_named(fields)?),
-        "only" => Ok(only_named(fields)?),
-        "ranges" => Ok(bare(Instruction::Ranges, fields)?),
-        "dump" => Ok(bare(Instruction::Dump, fields)?),
-        "journal" => Ok(bare(Instruction::Journal, fields)?),
-        _ => Ok(by_cell(word, fields)?),
+        "common" => common_named(fields),
+        "only" => only_named(fields),
+        "ranges" => bare(Instruction::Ranges, fields),
+        "dump" => bare(Instruction::Dump, fields),
+        "journal" => bare(Instruction::Journal, fields),
+        "export" => bare(Instruction::Export, fields),
+        _ => by_cell(word, fields),
     }
 }
 

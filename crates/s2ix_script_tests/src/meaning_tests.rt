@@ -62,7 +62,7 @@ const REQUESTS: [(&[u8], Asked); 25] = [
 ];
 
 // Lines with the first of their faults.
-const FAULTS: [(&[u8], LineFault); 67] = [
+const FAULTS: [(&[u8], LineFault); 68] = [
     // no word of a script, or not as many fields as fit the word
     (b"ADD 04 9", LineFault::BadCommand),
     (b"addd 04 9", LineFault::BadCommand),
@@ -81,6 +81,7 @@ const FAULTS: [(&[u8], LineFault); 67] = [
     (b"redo 1", LineFault::BadArguments),
     (b"forget 1", LineFault::BadArguments),
     (b"journal 1", LineFault::BadArguments),
+    (b"export 1", LineFault::BadArguments),
     (b"at", LineFault::BadArguments),
     (b"at x x", LineFault::BadArguments),
     (b"meet", LineFault::BadArguments),

@@ -20,6 +20,7 @@ use Rattle.s2ix_table.specs.Meeting.{meeting_of}
 use Rattle.s2ix_table.specs.RangeList.{range_table}
 use Rattle.s2ix_text.specs.Journal.{journal_text}
 use Rattle.s2ix_text.specs.Queries.{held_line, label_line, list_text, range_line, token_line}
+use Rattle.s2ix_export.specs.Export.{export_line}
 use Rattle.s2ix_script.specs.declared.instruction.Instruction.{Instruction}
 use Rattle.s2ix_script.specs.declared.instruction.Instruction.TheVariants as asks
 use Rattle.s2ix_script.specs.declared.line_fault.LineFault.{LineFault}
@@ -98,6 +99,7 @@ instruction_step s (asks.Neighbors cell) = text_step s (neighbors_line cell)
 instruction_step s (asks.Face cell) = text_step s (square_line (square_of (path_of cell)))
 instruction_step s asks.Dump = text_step s (dump_text s.bag.held)
 instruction_step s asks.Journal = text_step s (journal_text s.done)
+instruction_step s asks.Export = text_step s (export_line s.bag.held)
 
 -- what a line of this meaning comes to
 abbrev pub step_at : State → Result (Option Instruction) LineFault → Step

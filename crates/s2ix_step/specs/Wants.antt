@@ -8,7 +8,7 @@ use Rattle.s2ix_script.specs.declared.line_fault.LineFault.{LineFault}
 use Rattle.s2ix_script.specs.Meaning.{is_on_union, meaning_of}
 
 -- an instruction: an edit unless it is refused before its change is made, an undo or a redo of a change that there is, and what gathers
--- the pairs, labels or cells that it prints
+-- the pairs, labels or cells that it prints, or the text of an export
 abbrev pub InstructionWants : State → Instruction → Type 0
 InstructionWants s (asks.Edit edit) = MayWantMemory (edit_refusal s edit)
 InstructionWants s asks.Undo = s.done ≢ []
@@ -26,6 +26,7 @@ InstructionWants s (asks.Neighbors cell) = ⊥
 InstructionWants s (asks.Face cell) = ⊥
 InstructionWants s asks.Dump = ⊥
 InstructionWants s asks.Journal = ⊥
+InstructionWants s asks.Export = Unit {0}
 
 -- a line of this meaning: while the union of its instruction is made, or when the instruction is carried out
 abbrev pub MeaningWants : State → Result (Option Instruction) LineFault → Type 0

@@ -1,8 +1,9 @@
 //! Carrying one line out: from its bytes to what it asks for, to the store's step and the answer.
 ghost use Rattle.std.specs.Prelude.{◌≡◌, ◌≢◌, ◌+◌, Err, IfErr};
+ghost use Rattle.s2ix_export.specs.Export.{export_line};
 ghost use Rattle.s2ix_io.specs.Faults.{CanCount, sink_faults, IsWantOnlyIf};
 ghost use Rattle.s2ix_step.specs.Carry.{Carries};
-ghost use Rattle.s2ix_step.specs.Step.{at_step, instruction_step, step_of};
+ghost use Rattle.s2ix_step.specs.Step.{at_step, instruction_step, step_of, text_step};
 ghost use Rattle.s2ix_step.specs.Wants.{InstructionWants, LineWants};
 
 use crate::outcome::LineOutcome;
@@ -10,7 +11,8 @@ use crate::regions::{common, only, print_region};
 use crate::steps::tell_step;
 use s2id_core::CellId;
 use s2id_cube::to_face_ij;
-use s2ix_io::{RunFault, Sink};
+use s2ix_export::export;
+use s2ix_io::{RunFault, Sink, put_parts};
 use s2ix_script::{Instruction, LineError, meaning, not_leaf_name};
 use s2ix_store::Store;
 use s2ix_table::RangeTable;
@@ -86,6 +88,7 @@ fn carry_instruction<K: Sink>(
         Instruction::Face(cell) => write_square(to_face_ij(cell), sink)?,
         Instruction::Dump => write_dump(store.bag(), sink)?,
         Instruction::Journal => write_journal(store.done(), sink)?,
+        Instruction::Export => return carry_export(alloc, store, sink),
     }
     Ok(LineOutcome::Accepted)
 }
@@ -102,5 +105,20 @@ fn carry_at<K: Sink>(store: &Store, sink: &mut K, cell: CellId) -> Result<LineOu
         return Ok(LineOutcome::Refused);
     }
     write_contents(store.table(), cell, sink)?;
+    Ok(LineOutcome::Accepted)
+}
+
+// Prints the export of what the store holds.
+fn carry_export<K: Sink>(
+    alloc: Global,
+    store: &Store,
+    sink: &mut K,
+) -> Result<LineOutcome, RunFault>
+    requires { CanCount (K.fault_count sink.old) }
+    ensures carries { Carries (text_step store.now (export_line store.now.bag.held)) store.now store.now (K.taken sink.old) (K.taken sink.new) result }
+    ensures faults { K.fault_count sink.new ≡ K.fault_count sink.old + sink_faults result }
+{
+    let text = export(alloc, store.bag())?;
+    put_parts(sink, &[text.as_bytes(), b"\n"])?;
     Ok(LineOutcome::Accepted)
 }

@@ -1,0 +1,3 @@
+pub mod Export
+pub mod Laws
+pub mod Values

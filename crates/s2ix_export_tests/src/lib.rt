@@ -1,0 +1,5 @@
+//! Tests of exports.
+#![tactic(auto)]
+
+#[cfg(test)]
+mod export_tests;

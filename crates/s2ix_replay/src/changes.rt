@@ -1,0 +1,74 @@
+ghost use Rattle.std.specs.Prelude.{◌≡◌, ◌+◌, ◌<◌, ◌^◌, None, IfOk, IfErr, OnOk, take};
+ghost use Rattle.std.specs.Option.{option_map};
+ghost use Rattle.s2ix_bag.specs.Apply.{apply_refusal};
+ghost use Rattle.s2ix_replay.specs.declared.errors.ReplayError.TheVariants.{OutOfMemory};
+ghost use Rattle.s2ix_replay.specs.Replay.{IsReplayError, after_change, first_refusal, numbered, refusal_numbered, replay_refusal, replayed, rewind_refusal, rewound};
+
+use crate::errors::ReplayError;
+use s2ix_bag::{ApplyError, Bag, Change};
+use std::alloc::Global;
+
+// The bag after one more change, or why that is refused under its number.
+fn next_bag(alloc: Global, bag: &Bag, change: &Change, number: usize) -> Result<Bag, ReplayError>
+    ensures bag { IfOk result (λ next. next ≡ after_change bag.now change.now) }
+    ensures accepted { OnOk result (apply_refusal bag.now change.now ≡ None) }
+    ensures refused { IfErr result (λ error. IsReplayError error (option_map (refusal_numbered number) (apply_refusal bag.now change.now))) }
+    ensures memory { result ≡ Err OutOfMemory → apply_refusal bag.now change.now ≡ None }
+{
+    match bag.applied(alloc, change) {
+        Ok(next) => Ok(next),
+        Err(ApplyError::Mismatch(place)) => {
+            prove!(place < change.entries().len());
+            Err(ReplayError::Mismatch {
+                change: number,
+                entry: place + 1,
+            })
+        }
+        Err(ApplyError::TooManyCopies) => Err(ReplayError::TooManyCopies { change: number }),
+        Err(ApplyError::TooManyPairs) => Err(ReplayError::TooManyPairs { change: number }),
+        Err(ApplyError::OutOfMemory) => Err(ReplayError::OutOfMemory),
+    }
+}
+
+/// The bag after these changes, with the bag's limits: each is done to what those before it made. The first change that is refused decides,
+/// and is told by its number, counted from 1.
+///
+/// Want of memory may come in place of the refusal of any change but the first. O(k n + m) for k changes with m entries in all and at most
+/// n pairs held on the way. This project's own.
+#[tactic(auto, using(crate::proofs::Forth::limits_stay))]
+pub fn replay(alloc: Global, bag: &Bag, changes: &[Change]) -> Result<Bag, ReplayError>
+    ensures limits { IfOk result (λ after. after.limits ≡ bag.now.limits) }
+    ensures bag { IfOk result (λ after. after ≡ replayed bag.now changes.now) }
+    ensures accepted { OnOk result (replay_refusal bag.now changes.now ≡ None) }
+    ensures refused { IfErr result (λ error. IsReplayError error (replay_refusal bag.now changes.now)) }
+    ensures first { result ≡ Err OutOfMemory → first_refusal bag.now (take 1 (numbered changes.now)) ≡ None }
+{
+    let Some((first, rest)) = changes.split_first() else {
+        return Ok(bag.copied(alloc)?);
+    };
+    let mut reached = next_bag(alloc, bag, first, 1)?;
+    for (place, change) in rest.iter().enumerate() {
+        reached = next_bag(alloc, &reached, change, place + 2)?;
+    }
+    Ok(reached)
+}
+
+/// The bag before these changes, with the bag's limits: the inverse of each is done, from the last change to the first. The change that is
+/// refused first on this way decides, and is told by its number in the list, counted from 1.
+///
+/// Want of memory may come in place of any refusal. O(k n + m) for k changes with m entries in all and at most n pairs held on the way. This
+/// project's own.
+#[tactic(auto, using(crate::proofs::Forth::limits_stay))]
+pub fn rewind(alloc: Global, bag: &Bag, changes: &[Change]) -> Result<Bag, ReplayError>
+    ensures limits { IfOk result (λ before. before.limits ≡ bag.now.limits) }
+    ensures bag { IfOk result (λ before. before ≡ rewound bag.now changes.now) }
+    ensures accepted { OnOk result (rewind_refusal bag.now changes.now ≡ None) }
+    ensures refused { IfErr result (λ error. IsReplayError error (rewind_refusal bag.now changes.now)) }
+{
+    let mut reached = bag.copied(alloc)?;
+    for place in (0..changes.len()).rev() {
+        let inverse = changes[place].inverse(alloc)?;
+        reached = next_bag(alloc, &reached, &inverse, place + 1)?;
+    }
+    Ok(reached)
+}
