@@ -1,3 +1,5 @@
+use s2id_core::CellId;
+
 /// A generator of numbers that look random: each is a fixed function of the one before.
 #[derive(Drop)]
 pub struct Random {
@@ -23,5 +25,13 @@ impl Random {
     /// The next number below a bound of at most 32 bits.
     pub fn below(&mut self, bound: u64) -> u64 {
         self.bits().wrapping_mul(bound) >> 32
+    }
+
+    /// The next cell of the first faces, at a level below `levels`. Most digits are 0, so that many cells lie within others. `None` where
+    /// there is no such face or level.
+    pub fn cell(&mut self, faces: u64, levels: u64) -> Option<CellId> {
+        let digits = self.bits() & self.bits();
+        let leaf = CellId::from_raw(self.below(faces) << 61 | digits << 29 | 1)?;
+        leaf.parent(u8::try_from(self.below(levels)).ok()?)
     }
 }

@@ -4,8 +4,6 @@
 #[cfg(test)]
 mod compare;
 #[cfg(test)]
-mod random;
-#[cfg(test)]
 mod random_tests;
 #[cfg(test)]
 mod samples;

@@ -1,8 +1,8 @@
 // Tables of random nested cells, with shared chains and with copied lists.
 use crate::compare::{check_ranges, check_target};
-use crate::random::Random;
 use crate::samples::with_pair;
 use s2id_core::CellId;
+use s2id_samples::Random;
 use s2id_union::CellUnion;
 use s2ix_bag::{Bag, Label, Limits, Pair};
 use s2ix_chain::ChainTable;

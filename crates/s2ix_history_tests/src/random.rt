@@ -1,5 +1,6 @@
 // Random edits of a store.
 use s2id_core::CellId;
+use s2id_samples::Random;
 use s2id_union::CellUnion;
 use s2ix_bag::{Label, Limits, Pair};
 use s2ix_edit::Edit;
@@ -7,24 +8,22 @@ use s2ix_store::Store;
 use std::alloc::Global;
 use std::test::Fail;
 
-// A generator: each number is a fixed function of the one before.
+// A generator of edits.
 #[derive(Drop)]
-pub(crate) struct Random {
-    state: u64,
+pub(crate) struct RandomEdits {
+    random: Random,
 }
 
-impl Random {
-    pub(crate) fn new(seed: u64) -> Random {
-        Random { state: seed }
+impl RandomEdits {
+    pub(crate) fn new(seed: u64) -> RandomEdits {
+        RandomEdits {
+            random: Random::new(seed),
+        }
     }
 
     // The next number below a bound of at most 32 bits.
     fn below(&mut self, bound: u64) -> u64 {
-        self.state = self
-            .state
-            .wrapping_mul(6364136223846793005)
-            .wrapping_add(1442695040888963407);
-        (self.state >> 32).wrapping_mul(bound) >> 32
+        self.random.below(bound)
     }
 
     // The next number below a bound of at most 2^31, as a `u32`.

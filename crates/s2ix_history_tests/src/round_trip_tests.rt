@@ -1,5 +1,5 @@
 // Histories of random stores, through their texts and back.
-use crate::random::Random;
+use crate::random::RandomEdits;
 use s2ix_bag::Bag;
 use s2ix_files::{replay_texts, rewind_texts};
 use s2ix_io::KeepingSink;
@@ -62,7 +62,7 @@ fn leads_there_and_back(alloc: Global, store: &mut Store) -> Result<bool, Fail> 
 
 #[test]
 fn histories_lead_there_and_back_through_their_texts(rt: HostRuntime) -> Result<(), Fail> {
-    let mut random = Random::new(5);
+    let mut random = RandomEdits::new(5);
     for _ in 0..40 {
         let mut store = random.store(rt.alloc())?;
         assert!(&rt; leads_there_and_back(rt.alloc(), &mut store)?);

@@ -1,7 +1,6 @@
 // Tables of random nested cells, compared with a plain filter of the pairs.
 use crate::checks::{check_range, check_ranges, check_target};
 use crate::plain;
-use crate::random::cell;
 use crate::samples::{label_of, with_more};
 use s2id_core::CellId;
 use s2id_samples::Random;
@@ -17,7 +16,7 @@ const LABELS: u32 = 4;
 // One to three copies of a random pair on one of the first faces.
 fn random_held(random: &mut Random, faces: u64) -> Result<Held, Fail> {
     let pair = Pair {
-        cell: cell(random, faces, 7).ok_or("no cell")?,
+        cell: random.cell(faces, 7).ok_or("no cell")?,
         label: label_of((random.below(u64::from(LABELS)) % 4) as u32)?,
     };
     let count = 1 + (random.below(3) % 3) as u32;
@@ -43,7 +42,7 @@ fn random_cells(
 ) -> Result<Vec<CellId>, Fail> {
     let mut cells = Vec::new(alloc);
     for _ in 0..size {
-        cells.push(cell(random, 6, levels).ok_or("no cell")?)?;
+        cells.push(random.cell(6, levels).ok_or("no cell")?)?;
     }
     Ok(cells)
 }

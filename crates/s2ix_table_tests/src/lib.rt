@@ -8,8 +8,6 @@ mod filter_tests;
 #[cfg(test)]
 mod plain;
 #[cfg(test)]
-mod random;
-#[cfg(test)]
 mod samples;
 #[cfg(test)]
 mod worked_tests;

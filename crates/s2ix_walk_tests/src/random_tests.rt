@@ -1,8 +1,8 @@
 // Counted visits over tables of random nested cells.
 use crate::counting::check_target;
-use crate::random::Random;
 use crate::samples::{pair_of, with_pair};
 use s2id_core::CellId;
+use s2id_samples::Random;
 use s2id_union::CellUnion;
 use s2ix_bag::{Bag, Limits};
 use s2ix_table::{CopiedTable, RangeTable};
