@@ -15,7 +15,7 @@ use s2ix_bag::{Bag, Held, Limits};
 use s2ix_parts::{cut_line, first_part, three_parts};
 use std::alloc::{AllocError, Global};
 
-// Whether a line that begins with `end` is the end line of so many pairs and copies.
+// Whether a line with the first part `end` is the end line of so many pairs and copies.
 fn is_end_of(pairs: usize, copies: u64, line: &[u8]) -> bool
     requires { is_end line.now ≡ true }
     ensures { IsTrue result ↔ (line.now ≡ end_of pairs copies) }
@@ -30,7 +30,7 @@ fn is_end_of(pairs: usize, copies: u64, line: &[u8]) -> bool
     same_pairs && same_copies
 }
 
-// How many bytes are counted at once: as many as a `u8` can count.
+// How many bytes are counted at once: no more than a `u8` can count.
 const BLOCK: usize = 128;
 
 // Room for as many pairs as a text has line feeds, within the limit.

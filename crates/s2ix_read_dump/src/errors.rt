@@ -13,10 +13,10 @@ pub enum DumpFault {
     /// The first line is not `s2ix 1`.
     #[error("the first line is not `s2ix 1`")]
     BadHeader,
-    /// The line begins with `end` and is not `end PAIRS COPIES` with the right numbers.
+    /// The line's first part is `end`, and the line is not `end PAIRS COPIES` with the right numbers.
     #[error("the end line doesn't count the lines above it")]
     BadEnd,
-    /// The line has not exactly three parts with one space between each two.
+    /// The line has not exactly three parts with one space between each two, or one of them is empty.
     #[error("not three parts with one space between each two")]
     BadLine,
     /// The first part is no cell's canonical token.

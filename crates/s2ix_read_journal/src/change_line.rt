@@ -9,7 +9,7 @@ use crate::parts::two_parts;
 use itoa::Buffer;
 use s2ix_bag::Limits;
 
-/// Whether a line that begins with `end` is the end line of so many groups.
+/// Whether a line with the first part `end` is the end line of so many groups.
 pub fn is_end_of(groups: usize, line: &[u8]) -> bool
     requires { is_end line.now ≡ true }
     ensures { IsTrue result ↔ (line.now ≡ end_of groups) }

@@ -13,10 +13,10 @@ pub enum JournalFault {
     /// The first line is not `s2ix-journal 1`.
     #[error("the first line is not `s2ix-journal 1`")]
     BadHeader,
-    /// The line stands outside a group, begins with `end` and is not `end CHANGES` with the right number.
+    /// The line stands outside a group, its first part is `end`, and it is not `end CHANGES` with the right number.
     #[error("the end line doesn't count the groups above it")]
     BadEnd,
-    /// The line is not `change` and a number outside a group, or has not exactly four parts inside one, with one space between each two.
+    /// The line is not `change` and one part more outside a group, or has not exactly four parts inside one, or a part is empty.
     #[error("neither `change` and a number, nor the four parts of an entry")]
     BadLine,
     /// The first part is no cell's canonical token.
