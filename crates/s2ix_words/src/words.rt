@@ -11,8 +11,8 @@ use std::alloc::Global;
 
 /// The command that the program's words ask for. The words are those behind the program's own name.
 ///
-/// The words are read by clap: an option is given once at most, as `--max-pairs 5` or `--max-pairs=5`, options and files come in any
-/// order, and behind `--` each word is a file. A limit is read as Rust reads a `u32`, and one that is not given is as wide as it may be.
+/// The words are read by clap: an option is given once at most, as `--max-pairs 5` or `--max-pairs=5`, options come in any order, and
+/// behind `--` each word is a file. A limit is read as Rust reads a `u32`, and one that is not given is as wide as it may be.
 /// O(n) for words of n bytes. This project's own.
 ///
 /// It answers `HelpAsked` where the words ask for help, `Usage` where they ask for no command, a limit out of its range too, and
