@@ -4,8 +4,8 @@ use Rattle.std.specs.Int.Count.{count_trailing_zeros}
 use Rattle.s2id_core.proofs.Powers.{two_step}
 use lib.Count.{under}
 
-turn : (a b : ℕ) → a * (2 * b) ≡ 2 * (a * b)
-turn a b = omega arith
+pub times_double : (a b : ℕ) → a * (2 * b) ≡ 2 * (a * b)
+times_double a b = omega arith
 
 -- (2 * m + 1) * 2 ^ t has t zeros at its end
 pub zeros_of : (w t m n : ℕ) → t < w → n ≡ (2 * m + 1) * 2 ^ t → count_trailing_zeros w n ≡ t
@@ -14,7 +14,7 @@ zeros_of zero t m n h e = absurd (omega arith)
 zeros_of (suc w) zero m n h e =
     let r : n % 2 ≡ 1 = omega arith in ap (λ x. under x (count_trailing_zeros w (n / 2))) r
 zeros_of (suc w) (suc t) m n h e =
-    let f : n ≡ 2 * ((2 * m + 1) * 2 ^ t) = e ∙ ap (λ x. (2 * m + 1) * x) (two_step t) ∙ turn (2 * m + 1) (2 ^ t) in
+    let f : n ≡ 2 * ((2 * m + 1) * 2 ^ t) = e ∙ ap (λ x. (2 * m + 1) * x) (two_step t) ∙ times_double (2 * m + 1) (2 ^ t) in
     let r : n % 2 ≡ 0 = omega arith in
     let q : n / 2 ≡ (2 * m + 1) * 2 ^ t = omega arith in
     let d : t < w = omega arith in
@@ -29,7 +29,7 @@ pub record OddPart (w n : ℕ) : Type 0 where
 doubled : (n half t : ℕ) → n % 2 ≡ 0 → n / 2 ≡ (2 * half + 1) * 2 ^ t → n ≡ (2 * half + 1) * 2 ^ suc t
 doubled n half t e is =
     let whole : n ≡ 2 * ((2 * half + 1) * 2 ^ t) = omega arith in
-    whole ∙ sym (turn (2 * half + 1) (2 ^ t)) ∙ ap (λ x. (2 * half + 1) * x) (sym (two_step t))
+    whole ∙ sym (times_double (2 * half + 1) (2 ^ t)) ∙ ap (λ x. (2 * half + 1) * x) (sym (two_step t))
 
 odd : (n : ℕ) → n % 2 ≡ 1 → n ≡ (2 * (n / 2) + 1) * 2 ^ 0
 odd n e = omega arith

@@ -1,10 +1,10 @@
 -- The cell that a number or a text names, as a function.
 use Rattle.std.specs.Prelude.{◌≡◌, ℕ, ◌*◌, ◌-◌, ◌^◌, ◌==◌, ◌&&◌, nat_lt, nat_le, if◌then◌else◌, Bool, true, false, Option, Some, None, List, ◌++◌, length, replicate, refl}
 use Rattle.std.specs.Char.{digit_value}
+use Rattle.std.specs.Cmp.{first_so, second_so}
 use Rattle.std.specs.List.{list_all}
 use Rattle.std.specs.Str.Parse.{digits_value}
-use Rattle.std.proofs.Common.{arith}
-use Rattle.std.proofs.lemmas.Bool.Decides.{nat_tests}
+use Rattle.std.proofs.lemmas.Bool.{ltb-true, eqb-true}
 use Rattle.s2id_core.specs.declared.cell_id.CellId.{CellId}
 use Rattle.s2id_core.specs.Cell.{IsCellNumber}
 use Rattle.s2id_core.specs.Path.{number_of, path_at}
@@ -14,7 +14,14 @@ abbrev pub is_cell_number : ℕ → Bool
 is_cell_number n = nat_lt n (6 * 2 ^ 61) && nat_lt 0 n && (number_of (path_at n) == n)
 
 pub IsCellNumber-from_test : (n : ℕ) → is_cell_number n ≡ true → IsCellNumber n
-IsCellNumber-from_test n h = (grind (arith, nat_tests), grind (arith, nat_tests), grind (arith, nat_tests))
+IsCellNumber-from_test n h =
+    let below = nat_lt n (6 * 2 ^ 61) in
+    let some = nat_lt 0 n in
+    let both = first_so (below && some) (number_of (path_at n) == n) h in (
+      ltb-true n (6 * 2 ^ 61) (first_so below some both),
+      ltb-true 0 n (second_so below some both),
+      eqb-true (number_of (path_at n)) n (second_so (below && some) (number_of (path_at n) == n) h),
+    )
 
 -- the cell with this number, if it is a cell's
 unfoldable pub cell_numbered : ℕ → Option CellId

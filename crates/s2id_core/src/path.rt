@@ -23,7 +23,7 @@ impl PathText {
 }
 
 impl CellId {
-    ghost use Rattle.s2id_core.specs.Path.{Path, IsPath, readable_path};
+    ghost use Rattle.s2id_core.specs.Path.{IsPath, readable_path};
     ghost use Rattle.s2id_core.specs.CellId.{path_of};
     ghost use Rattle.s2id_core.specs.PathTextWords.{text_of_path};
 

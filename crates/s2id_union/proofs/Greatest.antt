@@ -10,7 +10,7 @@ use Rattle.s2id_core.specs.Path.{Path, path_at, place_of}
 use Rattle.s2id_core.specs.Cell.{IsCellNumber}
 use Rattle.s2id_core.specs.Span.{first_at, end_at, leaf_end}
 use Rattle.s2id_core.proofs.Powers.{two_step, four_pow, four_pow_odd, four_pos, four_below}
-use Rattle.s2id_core.proofs.Zeros.{odd_part}
+use Rattle.s2id_core.proofs.Zeros.{odd_part, times_double}
 use Rattle.s2id_core.proofs.Places.{length-last_digits}
 use Rattle.s2id_core.proofs.Numbers.{number-path_at, path_by_place}
 use Rattle.s2id_core.proofs.Spans.{width, start}
@@ -18,16 +18,13 @@ use Rattle.s2id_core.proofs.Nested.{by_width}
 use Rattle.s2id_union.specs.Loops.{IsGreatest}
 use lib.Count.{under}
 
-turn : (a b : ℕ) → a * (2 * b) ≡ 2 * (a * b)
-turn a b = omega arith
-
 -- a multiple of 2 ^ j has j zeros at its end, or more
 zeros_least : (w j k n : ℕ) → j ≤ w → n ≡ k * 2 ^ j → j ≤ count_trailing_zeros w n
 unfolding count_trailing_zeros
 zeros_least w zero k n h e = omega arith
 zeros_least zero (suc j) k n h e = absurd (omega arith)
 zeros_least (suc w) (suc j) k n h e =
-    let f : n ≡ 2 * (k * 2 ^ j) = e ∙ ap (λ x. k * x) (two_step j) ∙ turn k (2 ^ j) in
+    let f : n ≡ 2 * (k * 2 ^ j) = e ∙ ap (λ x. k * x) (two_step j) ∙ times_double k (2 ^ j) in
     let r : n % 2 ≡ 0 = omega arith in
     let q : n / 2 ≡ k * 2 ^ j = omega arith in
     let before = zeros_least w j k (n / 2) (omega arith) q in
@@ -92,7 +89,7 @@ fits at limit zeros wide some z w b cell begins ends =
     let l = r.last in
     let odd = four_pow_odd k in
     let whole : at - 1 ≡ 2 * start (path_at b) = omega arith in (
-      (let m = zeros_least 64 (2 * k + 1) (place_of (path_at b)) (at - 1) (omega arith) (whole ∙ sym (turn (place_of (path_at b)) (4 ^ k)) ∙ ap (λ x. place_of (path_at b) * x) (sym odd)) in omega arith),
+      (let m = zeros_least 64 (2 * k + 1) (place_of (path_at b)) (at - 1) (omega arith) (whole ∙ sym (times_double (place_of (path_at b)) (4 ^ k)) ∙ ap (λ x. place_of (path_at b) * x) (sym odd)) in omega arith),
       elim (cases_lt wide (2 * k + 1)) [
         | inl h ↦ absurd (let m = two_monotone (suc wide) (2 * k + 1) h in let s = two_step wide in omega arith)
         | inr h ↦ h
@@ -134,7 +131,7 @@ greatest_cell at limit wide fit odd odd_limit some on_curve w1 w2 least =
     let m = multiple (2 * h + 1) (at - 1) (omega arith) (omega arith) in
     let two = four_pow_odd h in
     let pos = four_pos h in
-    let at_place : at - 1 ≡ 2 * (m.times * 4 ^ h) = m.is ∙ ap (λ x. m.times * x) two ∙ turn m.times (4 ^ h) in
+    let at_place : at - 1 ≡ 2 * (m.times * 4 ^ h) = m.is ∙ ap (λ x. m.times * x) two ∙ times_double m.times (4 ^ h) in
     let room = two_monotone (2 * h + 1) wide (omega arith) in
     let n = at - 1 + 4 ^ h in
     let p = placed m.times h n (omega arith) (omega arith) (let e : n ≡ 2 * (m.times * 4 ^ h) + 4 ^ h = omega arith in e ∙ gather m.times (4 ^ h)) in

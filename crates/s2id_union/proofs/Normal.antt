@@ -1,42 +1,34 @@
 -- A list of maximal cells that follow one another is normal.
-use Rattle.std.proofs.Common.{◌≡◌, ℕ, suc, ◌+◌, ◌-◌, ◌*◌, ◌^◌, ◌<◌, ◌≤◌, inl, inr, List, [], ◌∷◌, length, get_or, sym, ◌∙◌, ap, arith, subst, Any}
+use Rattle.std.proofs.Common.{◌≡◌, ℕ, suc, ◌+◌, ◌-◌, ◌*◌, ◌^◌, ◌<◌, ◌≤◌, inl, inr, List, [], ◌∷◌, length, get_or, sym, ◌∙◌, ap, arith, subst}
 use Rattle.std.proofs.lemmas.Bool.{cases_lt}
 use Rattle.std.proofs.lemmas.List.{length_push, get_or_append_left}
 use Rattle.s2id_core.specs.declared.cell_id.CellId.{CellId}
 use Rattle.s2id_core.specs.CellId.{raw_of, path_of, first_of, end_of}
 use Rattle.s2id_core.specs.Cell.{IsCellNumber}
-use Rattle.s2id_core.specs.Path.{Path, IsPath, number_of, path_at, place_of, base_four, child}
+use Rattle.s2id_core.specs.Path.{Path, IsPath, number_of, path_at, place_of, child}
 use Rattle.s2id_core.specs.Leaves.{IsWithin}
 use Rattle.s2id_core.specs.Span.{first_at, end_at}
 use Rattle.s2id_core.proofs.Numbers.{path_of_cell, cell_of_path, path_at-number}
 use Rattle.s2id_core.proofs.Powers.{four_step}
-use Rattle.s2id_core.proofs.Levels.{place_of-more}
+use Rattle.s2id_core.proofs.Ancestry.{place_of-child, length-child}
 use Rattle.s2id_core.proofs.Spans.{width, start}
 use Rattle.s2id_core.proofs.Nested.{by_width, span, nested_from_within}
 use Rattle.s2id_union.specs.Region.{IsNormal}
 use Rattle.s2id_union.specs.Covers.{Covers}
 use Rattle.s2id_union.specs.Loops.{AreMaximalBelow}
 use Rattle.s2id_union.proofs.Lists.{pair_cases}
-use Rattle.s2id_union.proofs.Unique.{child_level, child_within}
+use Rattle.s2id_union.proofs.Unique.{child_within, HasChild}
 
 -- ---- the spans of four children
 
 quarter : (d : ℕ) (p : Path) → length p.digits < 30 → width p ≡ 4 * width (child d p)
 quarter d p h =
-    let e = child_level d p in
+    let e = length-child d p in
     ap (λ x. 4 ^ x) (let f : 30 - length p.digits ≡ suc (30 - length (child d p).digits) = omega arith in f) ∙ four_step (30 - length (child d p).digits)
-
-one_digit : (d : ℕ) → base_four (d ∷ []) ≡ d
-unfolding base_four
-one_digit d = omega arith
-
-child_place : (d : ℕ) (p : Path) → place_of (child d p) ≡ 4 * place_of p + d
-unfolding child
-child_place d p = let e = place_of-more p.face p.digits (d ∷ []) in let f = one_digit d in omega arith
 
 child_start : (d : ℕ) (p : Path) → length p.digits < 30 → start (child d p) ≡ start p + d * width (child d p)
 child_start d p h =
-    ap (λ x. x * width (child d p)) (child_place d p) ∙ turn (place_of p) d (width (child d p)) ∙ ap (λ x. place_of p * x + d * width (child d p)) (sym (quarter d p h))
+    ap (λ x. x * width (child d p)) (place_of-child d p) ∙ turn (place_of p) d (width (child d p)) ∙ ap (λ x. place_of p * x + d * width (child d p)) (sym (quarter d p h))
   where
     turn : (m d w : ℕ) → (4 * m + d) * w ≡ m * (4 * w) + d * w
     turn m d w = omega arith
@@ -54,7 +46,7 @@ quarter_span c b d cell_c cell_b level e =
     let f = rc.first in
     let l = rc.last in
     let fb = rb.first in
-    let w : width (path_at c) ≡ width (child 0 p) = ap width e ∙ ap (λ x. 4 ^ (30 - x)) (child_level d p ∙ sym (child_level 0 p)) in
+    let w : width (path_at c) ≡ width (child 0 p) = ap width e ∙ ap (λ x. 4 ^ (30 - x)) (length-child d p ∙ sym (length-child 0 p)) in
     let s : start (path_at c) ≡ start p + d * width (path_at c) = ap start e ∙ child_start d p level ∙ ap (λ x. start p + d * x) (sym (ap width e)) in
     let t : d * width (path_at c) ≡ d * width (child 0 p) = ap (λ x. d * x) w in
     record { first = omega arith; last = omega arith }
@@ -68,9 +60,6 @@ whole_span b cell level =
     omega arith
 
 -- ---- no four
-
-abbrev HasChild : List CellId → ℕ → Path → Type 0
-HasChild cells d p = Any (λ c. path_of c ≡ child d p) cells
 
 covered_by : (cells : List CellId) (b d q : ℕ) → IsCellNumber b → length (path_at b).digits < 30 → HasChild cells d (path_at b) → first_at b + d * (2 * width (child 0 (path_at b))) ≤ q → q < first_at b + d * (2 * width (child 0 (path_at b))) + 2 * width (child 0 (path_at b)) → Covers cells q
 covered_by cells b d q cell level has from to =
@@ -112,7 +101,7 @@ none_of_four cells free b h cell level has =
     let c = has 0 (omega arith) in
     let within : IsWithin (path_of c.1) (path_at b) = subst (λ (x : Path). IsWithin x (path_at b)) (sym c.4) (child_within 0 (path_at b)) in
     let same = h.maximal c.1 (c.0, c.2, c.3) b cell (nested_from_within (raw_of c.1) b c.1.valid cell within) (λ q f t low. all_covered cells b cell level has q f t) in
-    let long = child_level 0 (path_at b) in
+    let long = length-child 0 (path_at b) in
     let e = ap (λ x. length (path_at x).digits) same in
     let f = ap (λ (x : Path). length x.digits) c.4 in
     omega arith
@@ -143,7 +132,7 @@ normal_from_maximal cells free h = record {
       let path = path_from_child 0 p path_c in
       let read : path_at (number_of p) ≡ p = path_at-number p path in
       let deep = path_c.at_most in
-      let long = child_level 0 p in
+      let long = length-child 0 p in
       let lev = ap (λ (x : Path). length x.digits) read in
       none_of_four cells free (number_of p) h (cell_of_path p path) (omega arith) (subst (λ (x : Path). (d : ℕ) → d < 4 → HasChild cells d x) (sym read) has);
 }

@@ -2,12 +2,12 @@
 use Rattle.std.proofs.Common.{◌≡◌, ℕ, zero, suc, ◌+◌, ◌<◌, ◌⊎◌, inl, inr, List, [], ◌∷◌, ◌++◌, length, ◌-◌, sym, ◌∙◌, ap, ap₂, refl, arith, Any, AllPairs, Contains, subst}
 use Rattle.std.proofs.lemmas.Bool.{cases_lt}
 use Rattle.std.proofs.lemmas.List.{length_push, take_all, take_at, take-append-le}
-use Rattle.std.proofs.lemmas.List.Elements.{All-push}
 use Rattle.s2id_core.specs.declared.cell_id.CellId.{CellId}
 use Rattle.s2id_core.specs.CellId.{raw_of, path_of}
 use Rattle.s2id_core.specs.Path.{Path, IsPath, ancestor, child}
 use Rattle.s2id_core.specs.Leaves.{IsLeafOf, IsWithin}
 use Rattle.s2id_core.specs.Span.{IsNested}
+use Rattle.s2id_core.proofs.Ancestry.{length-child, IsPath-child}
 use Rattle.s2id_core.proofs.Numbers.{path_of_cell}
 use Rattle.s2id_core.proofs.Levels.{ancestor_itself}
 use Rattle.s2id_core.proofs.Spans.{leaves_from_within}
@@ -20,18 +20,6 @@ use Rattle.s2id_union.proofs.Lists.{head_pairs, tail_pairs, cons_cases, in_tail,
 
 with_digits : ℕ → List ℕ → Path
 with_digits f ds = record { face = f; digits = ds }
-
-pub child_level : (d : ℕ) (p : Path) → length (child d p).digits ≡ length p.digits + 1
-unfolding child
-child_level d p = length_push p.digits d
-
-pub child_path : (d : ℕ) (p : Path) → d < 4 → IsPath p → length p.digits < 30 → IsPath (child d p)
-unfolding child
-child_path d p small h level = record {
-  face_below = h.face_below;
-  at_most = let e = length_push p.digits d in omega arith;
-  digits_below = All-push (λ d. d < 4) p.digits d h.digits_below small;
-}
 
 pub child_within : (d : ℕ) (p : Path) → IsWithin (child d p) p
 unfolding child ancestor with_digits
@@ -52,7 +40,7 @@ within_child d p q w =
 abbrev pub HasAround : List CellId → Path → Type 0
 HasAround cells p = Any (λ c. IsWithin p (path_of c)) cells
 
-abbrev HasChild : List CellId → ℕ → Path → Type 0
+abbrev pub HasChild : List CellId → ℕ → Path → Type 0
 HasChild cells d p = Any (λ c. path_of c ≡ child d p) cells
 
 around_or_child : (cells : List CellId) (d : ℕ) (p : Path) → HasAround cells (child d p) → HasAround cells p ⊎ HasChild cells d p
@@ -73,7 +61,7 @@ around_by_height zero cells normal p path level all =
     let a = all p itself in
     (a.0, a.1, a.2, a.3, a.4.within)
 around_by_height (suc h) cells normal p path level all =
-    let each = λ (d : ℕ) (small : d < 4). around_or_child cells d p (around_by_height h cells normal (child d p) (child_path d p small path (omega arith)) (let e = child_level d p in omega arith) (λ l i. all l (leaves_from_within (child d p) p (child_within d p) (let e = child_level d p in omega arith) l i))) in
+    let each = λ (d : ℕ) (small : d < 4). around_or_child cells d p (around_by_height h cells normal (child d p) (IsPath-child d p path (omega arith) small) (let e = length-child d p in omega arith) (λ l i. all l (leaves_from_within (child d p) p (child_within d p) (let e = length-child d p in omega arith) l i))) in
     elim (each 0 (omega arith)) [
       | inl a ↦ a
       | inr c0 ↦

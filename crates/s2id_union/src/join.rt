@@ -18,7 +18,7 @@ fn sort_by_first(cells: &mut [CellId])
     cells.sort_unstable_by_key(|cell| cell.span_start());
 }
 
-// The normal list with the region of cells in the order of their first leaves. O(n) steps, and the cells emitted.
+// The normal list with the region of cells in the order of their first leaves. O(n) steps, and the cells made.
 fn join_spans(alloc: Global, sorted: &[CellId]) -> Result<Vec<CellId>, OutOfMemory>
     requires { IsNonDecreasingBy (λ c. first_of c) sorted.now }
     ensures normal { IfOk result (λ cells. IsNormal cells.items) }
@@ -42,7 +42,7 @@ fn join_spans(alloc: Global, sorted: &[CellId]) -> Result<Vec<CellId>, OutOfMemo
     Ok(cells)
 }
 
-// The same of cells in any order, which it puts in that order. O(n log n), and the cells emitted.
+// The same of cells in any order; it sorts them first. O(n log n), and the cells made.
 fn sort_and_join(alloc: Global, cells: &mut [CellId]) -> Result<Vec<CellId>, OutOfMemory>
     ensures normal { IfOk result (λ list. IsNormal list.items) }
     ensures covers { IfOk result (λ list. (q : ℕ) → Covers list.items q ↔ Covers cells.old q) }
@@ -51,7 +51,7 @@ fn sort_and_join(alloc: Global, cells: &mut [CellId]) -> Result<Vec<CellId>, Out
     join_spans(alloc, cells)
 }
 
-// The normal list with the region of some cells. O(n log n), and the cells emitted.
+// The normal list with the region of some cells. O(n log n), and the cells made.
 pub(crate) fn normal_list(alloc: Global, cells: &[CellId]) -> Result<Vec<CellId>, OutOfMemory>
     ensures normal { IfOk result (λ list. IsNormal list.items) }
     ensures covers { IfOk result (λ list. (q : ℕ) → Covers list.items q ↔ Covers cells.now q) }

@@ -1,4 +1,4 @@
-//! Laws on regions: functions that do nothing, and whose contracts are the laws.
+//! Laws: functions that do nothing, and whose contracts are facts on the definitions.
 
 ghost use Rattle.std.specs.Prelude.{◌≡◌, ◌↔◌, ℕ, ◌+◌, Bool, IsTrue, List};
 ghost use Rattle.s2id_core.specs.declared.cell_id.CellId.{CellId};

@@ -26,7 +26,7 @@ fn greatest_at(at: u64, limit: u64) -> CellId
     }
 }
 
-// Adds the span of leaves from `start` up to and without `limit`, as the fewest cells. O(cells added).
+// Adds the span of leaves from `start` up to and without `limit`, as the fewest cells. O(cells made).
 pub(crate) fn add_span(cells: &mut Vec<CellId>, start: u64, limit: u64) -> Result<(), OutOfMemory>
     requires maximal { AreMaximalBelow cells.old.items start }
     requires odd { start % 2 ≡ 1 }

@@ -1,6 +1,6 @@
 // The set operations, as one sweep over the stretches on which both unions are constant.
 
-ghost use Rattle.std.specs.Prelude.{◌≡◌, ◌+◌, ◌%◌, ◌<◌, ◌≤◌, ◌↔◌, ℕ, IsTrue, IfOk, length, slice_index_or};
+ghost use Rattle.std.specs.Prelude.{◌≡◌, ◌+◌, ◌%◌, ◌<◌, ◌≤◌, ◌↔◌, ℕ, IsTrue, IfOk};
 ghost use Rattle.s2id_core.specs.declared.cell_id.CellId.{CellId};
 ghost use Rattle.s2id_core.specs.Span.{leaf_end};
 ghost use Rattle.s2id_union.specs.Covers.{Covers, FollowOneAnother};
@@ -84,7 +84,7 @@ fn pass_cell(cells: &[CellId], k: usize, at: u64, end: u64) -> usize
     }
 }
 
-// The normal list of what a set operation keeps. O(n + m) steps, and the cells emitted.
+// The normal list of what a set operation keeps. O(n + m) steps, and the cells made.
 pub(crate) fn sweep_both(
     alloc: Global,
     operation: Operation,
