@@ -64,7 +64,7 @@ first_refusal-append bag (c ∷ rest) ds none =
     refusal_behind bag c (rest ++ ds) (first_taken bag c rest none)
     ∙ first_refusal-append (after_change bag c.change) rest ds (rest_taken bag c rest none)
 
--- ---- the place of a mismatch
+-- ---- no refusal is want of memory
 
 -- the refusal, by the first mismatch
 abbrev refusal_by : LimitedCollection → List Entry → Option ℕ → Option ApplyError
@@ -73,31 +73,10 @@ refusal_by bag es None =
     cond (list_any (λ e. nat_lt (count_limit bag.limits) e.after) es) (Some TooManyCopies)
     (cond (nat_lt (pairs_limit bag.limits) (length (changed bag.held es))) (Some TooManyPairs) None)
 
-no_mismatch_told : (few many : Bool) (place : ℕ) → cond few (Some TooManyCopies) (cond many (Some TooManyPairs) None) ≡ Some (Mismatch place) → ⊥
-no_mismatch_told true many place is = cc
-no_mismatch_told false true place is = cc
-no_mismatch_told false false place is = cc
-
 no_memory_told : (few many : Bool) → cond few (Some TooManyCopies) (cond many (Some TooManyPairs) None) ≡ Some OutOfMemory → ⊥
 no_memory_told true many is = cc
 no_memory_told false true is = cc
 no_memory_told false false is = cc
-
-told_is_first : (bag : LimitedCollection) (es : List Entry) (mismatch : Option ℕ) (place : ℕ) → refusal_by bag es mismatch ≡ Some (Mismatch place) → mismatch ≡ Some place
-told_is_first bag es (Some k) place is = cc
-told_is_first bag es None place is =
-    absurd (no_mismatch_told (list_any (λ e. nat_lt (count_limit bag.limits) e.after) es) (nat_lt (pairs_limit bag.limits) (length (changed bag.held es))) place is)
-
-position_within : (es : List Entry) (test : Entry → Bool) (place : ℕ) → position test es ≡ Some place → place < length es
-position_within [] test place is = cc
-position_within (e ∷ es) test place is = (position-Some test (e ∷ es) place e is).0
-
--- it is one of the change's entries
-pub mismatch_within : (bag : LimitedCollection) (es : List Entry) (place : ℕ) → apply_refusal bag es ≡ Some (Mismatch place) → place < length es
-mismatch_within bag es place is =
-    position_within es (λ e. not (e.before == count_in bag.held e.pair)) place (told_is_first bag es (first_mismatch bag es) place is)
-
--- ---- no refusal is want of memory
 
 never_told : (bag : LimitedCollection) (es : List Entry) (mismatch : Option ℕ) → refusal_by bag es mismatch ≡ Some OutOfMemory → ⊥
 never_told bag es (Some k) is = cc

@@ -33,8 +33,8 @@ fn next_bag(alloc: Global, bag: &Bag, change: &Change, number: usize) -> Result<
 /// The bag after these changes, with the bag's limits: each is done to what those before it made. The first change that is refused decides,
 /// and is told by its number, counted from 1.
 ///
-/// Want of memory may come in place of the refusal of any change but the first. O(k n + m) for k changes with m entries in all and at most
-/// n pairs held on the way. This project's own.
+/// `OutOfMemory` where a growth is refused; it may come in place of the refusal of any change but the first. O(k n + m) for k changes with m
+/// entries in all and at most n pairs held on the way. This project's own.
 #[tactic(auto, using(crate::proofs::Forth::limits_stay))]
 pub fn replay(alloc: Global, bag: &Bag, changes: &[Change]) -> Result<Bag, ReplayError>
     ensures limits { IfOk result (λ after. after.limits ≡ bag.now.limits) }
@@ -56,8 +56,8 @@ pub fn replay(alloc: Global, bag: &Bag, changes: &[Change]) -> Result<Bag, Repla
 /// The bag before these changes, with the bag's limits: the inverse of each is done, from the last change to the first. The change that is
 /// refused first on this way decides, and is told by its number in the list, counted from 1.
 ///
-/// Want of memory may come in place of any refusal. O(k n + m) for k changes with m entries in all and at most n pairs held on the way.
-/// This project's own.
+/// `OutOfMemory` where a growth is refused; it may come in place of any refusal. O(k n + m) for k changes with m entries in all and at most n
+/// pairs held on the way. This project's own.
 #[tactic(auto, using(crate::proofs::Forth::limits_stay))]
 pub fn rewind(alloc: Global, bag: &Bag, changes: &[Change]) -> Result<Bag, ReplayError>
     ensures limits { IfOk result (λ before. before.limits ≡ bag.now.limits) }

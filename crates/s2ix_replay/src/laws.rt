@@ -1,4 +1,4 @@
-//! What the definitions that the contracts cite say of one another. Each function is a law: it does nothing, and its contract is the fact.
+//! Laws: functions that do nothing, and whose contracts are facts on the definitions.
 ghost use Rattle.s2ix_replay.specs.Laws.{RewindTakesReplayBack, ReplayTakesRewindBack};
 
 /// Where a bag takes changes, what it becomes takes their way back, and that leads to the bag.
