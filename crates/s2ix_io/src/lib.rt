@@ -1,6 +1,6 @@
-//! What a run reads from and writes to. A source gives bytes piece by piece, a sink takes them; each tells how often it failed.
-//! Beside the two traits stand adapters of std's readers and writers, devices in memory that can be made to fail, and the calls that read
-//! a whole input and put a whole text.
+//! Sources and sinks of bytes. A source gives bytes piece by piece, a sink takes them; each tells how often it failed. Beside the two
+//! traits stand adapters of std's readers and writers, devices in memory that can be made to fail, the calls that read a whole input and
+//! put a whole text, and for tests [`Broken`] and [`TakesNone`], a reader and writers of std's that never do what they are asked.
 #![tactic(auto)]
 
 mod broken;

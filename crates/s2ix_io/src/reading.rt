@@ -7,7 +7,7 @@ ghost use Rattle.s2ix_io.specs.Pieces.{ReadsToEnd, ReadsWithin};
 use crate::{RunFault, Source};
 use std::alloc::Global;
 
-/// How many bytes are asked for at once.
+// How many bytes are asked for at once.
 const PIECE: usize = 4096;
 
 /// Reads a source to its end, and gives all that it gave, in its order. O(n) for n bytes, and at most `turns` calls of `piece`.
