@@ -113,7 +113,7 @@ impl From<OutOfMemory> for PlanError {
     }
 }
 
-/// Why an undo was refused. It stands here and not beside the store, since a script names the refusals of all its steps.
+/// Why an undo was refused. It stands here and not beside the store, so that each refusal of a step can be named without one.
 #[derive(Clone, Copy, Debug, PartialEq, Eq, Error)]
 pub enum UndoError {
     /// No change can be undone.

@@ -1,4 +1,4 @@
-//! What holds of edits and of the regions of labels, whatever code runs.
+//! Laws: functions that do nothing, and whose contracts are facts on the definitions.
 
 ghost use Rattle.std.specs.Prelude.{◌≡◌, ◌≢◌, ℕ, ◌+◌, ◌-◌, true, [], List, Contains};
 ghost use Rattle.s2id_core.specs.declared.cell_id.CellId.{CellId};

@@ -2,7 +2,7 @@
 //!
 //! An [`Edit`] is a step from one collection to the next. [`plan`] says which counts it changes in a bag, and changes nothing
 //! itself: the planned change is applied by the bag, and recorded by the store that stands above this crate, with its
-//! history. So what a script asks for, and why a step is refused, can be named without a store.
+//! history. So an edit, and why a step is refused, can be named without a store.
 #![tactic(auto)]
 
 mod edit;

@@ -20,14 +20,14 @@ pub fn region_of(alloc: Global, bag: &Bag, label: Label) -> Result<CellUnion, Ou
     CellUnion::normalise(alloc, cells.as_slice())
 }
 
-/// The cells that are held with a label, in rising order. O(n) for n pairs held with any label.
-pub fn label_cells(alloc: Global, bag: &Bag, label: Label) -> Result<Vec<CellId>, AllocError>
+// The cells that are held with a label, in rising order. O(n) for n pairs held with any label.
+pub(crate) fn label_cells(alloc: Global, bag: &Bag, label: Label) -> Result<Vec<CellId>, AllocError>
     ensures { IfOk result (λ cells. cells.items ≡ cells_of label bag.now.held) }
 {
     bag.of_label(label).map(held_cell).collect(alloc)
 }
 
-/// The cell of a held pair.
+// The cell of a held pair.
 fn held_cell(held: Held) -> CellId
     ensures { result ≡ cell_of held }
 {

@@ -1,4 +1,4 @@
-//! What the definition of an export says, in other words. The function is a law: it does nothing, and its contract is the fact.
+//! Laws: functions that do nothing, and whose contracts are facts on the definitions.
 ghost use Rattle.s2ix_export.specs.Laws.{ExportsTellBagsApart};
 
 /// Two bags with one export hold the same.

@@ -13,10 +13,7 @@ use s2ix_io::{RunFault, Sink};
 use std::alloc::Global;
 
 /// Reads a dump under the widest limits, and tells what it holds: `ok PAIRS COPIES`, or `no NAME LINE` for its first faulty line. It
-/// answers whether the dump was accepted. O(n) for n bytes, and one growth. This project's own.
-///
-/// `OutOfMemory` where a growth was refused, when nothing went out; never where line 1 is faulty. `Write` where the sink failed, in a call
-/// of `put` or of `flush`, when a front of the line went out.
+/// answers whether the dump was accepted. O(n) for n bytes, and one growth. Errors: see the crate. This project's own.
 pub fn check_text<K: Sink>(alloc: Global, text: &[u8], sink: &mut K) -> Result<bool, RunFault>
     requires { CanCount (K.fault_count sink.old) }
     ensures told { (limits : Limits) × IsWidest limits

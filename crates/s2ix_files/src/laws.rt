@@ -1,4 +1,4 @@
-//! What the definitions that the contracts cite say of one another. Each function is a law: it does nothing, and its contract is the fact.
+//! Laws: functions that do nothing, and whose contracts are facts on the definitions.
 ghost use Rattle.std.specs.Prelude.{ℕ, List};
 ghost use Rattle.s2ix_bag.specs.declared.limits.Limits.{Limits};
 ghost use Rattle.s2ix_files.specs.Answers.{CheckAnswers, LoadAnswers, ReplayAnswers, RewindAnswers};

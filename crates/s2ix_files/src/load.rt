@@ -1,4 +1,4 @@
-ghost use Rattle.std.specs.Prelude.{◌≡◌, ◌+◌, IfErr, IfOk, IfSome, is_some};
+ghost use Rattle.std.specs.Prelude.{◌≡◌, ◌+◌, IfErr, IfOk, IfSome};
 ghost use Rattle.s2ix_bag.specs.Collection.{LimitedCollection};
 ghost use Rattle.s2ix_edit.specs.State.{starting_at};
 ghost use Rattle.s2ix_io.specs.Faults.{CanCount, IsWantOnlyIf, sink_faults};
@@ -15,10 +15,7 @@ use s2ix_store::Store;
 use std::alloc::Global;
 
 /// Reads a dump under limits, and gives the store that starts from its bag. Where the dump is refused it tells `no NAME LINE` for the first
-/// faulty line, and gives `None`. O(n) for n bytes, and what [`Store::from_bag`] takes. This project's own.
-///
-/// `OutOfMemory` where a growth was refused, when nothing went out; never where line 1 is faulty. `Write` where the sink failed, in a call
-/// of `put` or of `flush`, when a front of the line went out.
+/// faulty line, and gives `None`. O(n) for n bytes, and what [`Store::from_bag`] takes. Errors: see the crate. This project's own.
 pub fn load_text<K: Sink>(
     alloc: Global,
     text: &[u8],

@@ -15,10 +15,7 @@ use std::alloc::Global;
 /// Reads a dump and then a journal under the widest limits, does the journal's changes to the dump's bag, and tells the dump of what they
 /// lead to. Else it tells the first thing that is refused: `no NAME LINE` for a line of the dump, `no journal NAME LINE` for one of the
 /// journal, `no Mismatch CHANGE ENTRY`, `no TooManyCopies CHANGE` or `no TooManyPairs CHANGE` for a change, all counted from 1. It answers
-/// whether all was accepted. It takes what the readers and [`replay`](s2ix_replay::replay) take. This project's own.
-///
-/// `OutOfMemory` where a growth was refused, when nothing went out; never where line 1 of the dump is faulty. `Write` where the sink
-/// failed, in a call of `put` or of `flush`, when a front of what is told went out.
+/// whether all was accepted. It takes what the readers and [`replay`](s2ix_replay::replay) take. Errors: see the crate. This project's own.
 pub fn replay_texts<K: Sink>(
     alloc: Global,
     dump: &[u8],
@@ -39,10 +36,7 @@ pub fn replay_texts<K: Sink>(
 
 /// Reads a dump and then a journal under the widest limits, takes the journal's changes back from the dump's bag, the last first, and tells
 /// the dump of what was before them. Else it tells the first thing that is refused, as [`replay_texts`] does. It answers whether all was
-/// accepted. It takes what the readers and [`rewind`](s2ix_replay::rewind) take. This project's own.
-///
-/// `OutOfMemory` where a growth was refused, when nothing went out; never where line 1 of the dump is faulty. `Write` where the sink
-/// failed, in a call of `put` or of `flush`, when a front of what is told went out.
+/// accepted. It takes what the readers and [`rewind`](s2ix_replay::rewind) take. Errors: see the crate. This project's own.
 pub fn rewind_texts<K: Sink>(
     alloc: Global,
     dump: &[u8],

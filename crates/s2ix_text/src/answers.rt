@@ -7,7 +7,7 @@ use s2id_core::CellId;
 use s2id_cube::{FaceIj, edge_neighbors};
 use s2ix_io::{Sink, WriteFault, put_parts};
 
-/// Writes the line that says that a line of a script is refused: `no` and the name of the reason. This project's own.
+/// Writes the line `no` with a name, which says why something was refused. This project's own.
 pub fn write_no<K: Sink>(name: &str, sink: &mut K) -> Result<(), WriteFault>
     requires { CanCount (K.fault_count sink.old) }
     ensures { Writes K.taken K.flush_mark K.fault_count sink.old sink.new result (no_line name.now) }
@@ -15,7 +15,7 @@ pub fn write_no<K: Sink>(name: &str, sink: &mut K) -> Result<(), WriteFault>
     put_parts(sink, &[b"no ", name.as_bytes(), b"\n"])
 }
 
-/// Writes the line that says that a line of a script is accepted: `ok` and how many pairs changed their counts. This project's own.
+/// Writes the line `ok` with a number. This project's own.
 pub fn write_ok<K: Sink>(pairs: usize, sink: &mut K) -> Result<(), WriteFault>
     requires { CanCount (K.fault_count sink.old) }
     ensures { Writes K.taken K.flush_mark K.fault_count sink.old sink.new result (ok_line pairs) }

@@ -1,5 +1,4 @@
-//! What the definitions of texts that the contracts cite say, in other words. Each function is a law: it does nothing,
-//! and its contract is the fact.
+//! Laws: functions that do nothing, and whose contracts are facts on the definitions.
 ghost use Rattle.s2ix_text.specs.Laws.{DumpsTellBagsApart, DumpsTellCollectionsApart, JournalsTellListsApart};
 
 /// Two collections whose counts have 32 bits, with one dump, are one; so two bags with one dump hold the same.

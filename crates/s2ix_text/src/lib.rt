@@ -1,5 +1,5 @@
 //! The texts that go out. A bag has a dump and a list of changes a journal; pairs, labels, cells and ranges, which answer queries, are lists
-//! with an end line; all else that a line of a script is answered is one line.
+//! with an end line; every other answer is one line.
 //!
 //! A call that writes takes no memory and does not flush. At the first fault of the sink it ends, when a front of its text went out.
 #![tactic(auto)]

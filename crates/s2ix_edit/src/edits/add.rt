@@ -7,8 +7,8 @@ use crate::errors::PlanError;
 use s2ix_bag::{Bag, Change, Pair};
 use std::alloc::Global;
 
-/// The change that adds copies to a pair's count. O(log n) for n pairs held.
-pub fn plan(alloc: Global, bag: &Bag, pair: Pair, copies: u32) -> Result<Change, PlanError>
+// The change that adds copies to a pair's count. O(log n) for n pairs held.
+pub(crate) fn plan(alloc: Global, bag: &Bag, pair: Pair, copies: u32) -> Result<Change, PlanError>
     ensures plan { IfOk result (Plans bag.now (Edit.Add pair copies)) }
     ensures refused { IfErr result (IsPlanRefusal bag.now (Edit.Add pair copies)) }
 {

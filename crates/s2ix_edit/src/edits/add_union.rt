@@ -8,9 +8,14 @@ use s2id_union::CellUnion;
 use s2ix_bag::{Bag, Change, Label, Pair};
 use std::alloc::Global;
 
-/// The change that gives each cell of a union one copy more under the label. A sum that no `u32` holds is above
-/// every limit. O(m log n) for m cells and n pairs held.
-pub fn plan(alloc: Global, bag: &Bag, union: &CellUnion, label: Label) -> Result<Change, PlanError>
+// The change that gives each cell of a union one copy more under the label. A sum that no `u32` holds is above
+// every limit. O(m log n) for m cells and n pairs held.
+pub(crate) fn plan(
+    alloc: Global,
+    bag: &Bag,
+    union: &CellUnion,
+    label: Label,
+) -> Result<Change, PlanError>
     ensures plan { IfOk result (Plans bag.now (Edit.AddUnion union.now label)) }
     ensures refused { IfErr result (IsPlanRefusal bag.now (Edit.AddUnion union.now label)) }
 {

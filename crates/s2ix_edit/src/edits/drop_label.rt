@@ -9,8 +9,8 @@ use crate::errors::PlanError;
 use s2ix_bag::{Bag, Change, Entry, Label};
 use std::alloc::{AllocError, Global};
 
-/// The change that takes all pairs of a label away. O(n) for n pairs held.
-pub fn plan(alloc: Global, bag: &Bag, label: Label) -> Result<Change, PlanError>
+// The change that takes all pairs of a label away. O(n) for n pairs held.
+pub(crate) fn plan(alloc: Global, bag: &Bag, label: Label) -> Result<Change, PlanError>
     ensures plan { IfOk result (Plans bag.now (Edit.DropLabel label)) }
     ensures refused { IfErr result (IsPlanRefusal bag.now (Edit.DropLabel label)) }
 {
@@ -20,7 +20,7 @@ pub fn plan(alloc: Global, bag: &Bag, label: Label) -> Result<Change, PlanError>
     Ok(Change::from_vec(removals(alloc, bag, label)?))
 }
 
-/// The entries that take all pairs of a label away.
+// The entries that take all pairs of a label away.
 fn removals(alloc: Global, bag: &Bag, label: Label) -> Result<Vec<Entry>, AllocError>
     ensures { IfOk result (λ entries. entries.items ≡ map removal_of (held_of label bag.now.held)) }
 {

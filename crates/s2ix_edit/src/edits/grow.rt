@@ -15,10 +15,10 @@ use s2id_union::CellUnion;
 use s2ix_bag::{Bag, Change, Entry, Label, Pair};
 use std::alloc::{AllocError, Global};
 
-/// The change that gives one copy under the label to each cell that the label grows by at a level.
-/// O(n + b log b) for n pairs held and b cells beside those of the label: four for each cell of the level or finer,
-/// and up to 1024 for a coarser one.
-pub fn plan(alloc: Global, bag: &Bag, label: Label, level: u8) -> Result<Change, PlanError>
+// The change that gives one copy under the label to each cell that the label grows by at a level.
+// O(n + b log b) for n pairs held and b cells beside those of the label: four for each cell of the level or finer,
+// and up to 1024 for a coarser one.
+pub(crate) fn plan(alloc: Global, bag: &Bag, label: Label, level: u8) -> Result<Change, PlanError>
     ensures plan { IfOk result (Plans bag.now (Edit.Grow label level)) }
     ensures refused { IfErr result (IsPlanRefusal bag.now (Edit.Grow label level)) }
 {
@@ -32,7 +32,7 @@ pub fn plan(alloc: Global, bag: &Bag, label: Label, level: u8) -> Result<Change,
     Ok(Change::from_vec(first_copies(alloc, cells.as_slice(), label)?))
 }
 
-/// Whether the level is above 30, or more than 8 above the level of a cell of the label. O(n).
+// Whether the level is above 30, or more than 8 above the level of a cell of the label. O(n).
 fn is_too_fine(bag: &Bag, label: Label, level: u8) -> bool
     ensures { result ≡ is_level_too_fine level (cells_of label bag.now.held) }
 {
@@ -42,7 +42,7 @@ fn is_too_fine(bag: &Bag, label: Label, level: u8) -> bool
             .any(|held| held.pair.cell.level() + 8 < level)
 }
 
-/// The cells that the label grows by, in rising order.
+// The cells that the label grows by, in rising order.
 fn grown_cells(
     alloc: Global,
     bag: &Bag,
@@ -61,14 +61,14 @@ fn grown_cells(
     Ok(grown)
 }
 
-/// Whether a cell overlaps none of a union's. O(log m) for m cells of the union.
+// Whether a cell overlaps none of a union's. O(log m) for m cells of the union.
 fn is_outside(region: &CellUnion, cell: CellId) -> bool
     ensures { result ≡ not (overlaps_one region.now cell) }
 {
     !region.intersects(cell)
 }
 
-/// The cells of the level beside each of the cells, one cell's behind another's.
+// The cells of the level beside each of the cells, one cell's behind another's.
 fn cells_beside(alloc: Global, cells: &[CellId], level: u8) -> Result<Vec<CellId>, OutOfMemory>
     requires level { level ≤ 30 }
     requires near { All (λ cell. level ≤ level_of cell + 8) cells.now }
@@ -83,8 +83,8 @@ fn cells_beside(alloc: Global, cells: &[CellId], level: u8) -> Result<Vec<CellId
     Ok(beside)
 }
 
-/// Appends the cells of the level that share an edge with a cell of that level inside the cell, where it is coarser;
-/// else with its parent at the level.
+// Appends the cells of the level that share an edge with a cell of that level inside the cell, where it is coarser;
+// else with its parent at the level.
 fn add_beside(
     alloc: Global,
     beside: &mut Vec<CellId>,
@@ -110,7 +110,7 @@ fn add_beside(
     Ok(())
 }
 
-/// The entries that give each of the cells its first copy under the label.
+// The entries that give each of the cells its first copy under the label.
 fn first_copies(alloc: Global, cells: &[CellId], label: Label) -> Result<Vec<Entry>, AllocError>
     ensures { IfOk result (λ entries. entries.items ≡ map (first_copy label) cells.now) }
 {

@@ -10,9 +10,9 @@ use s2id_core::CellId;
 use s2ix_bag::{Bag, Change, Held, Label, Pair};
 use std::alloc::{AllocError, Global};
 
-/// The change that replaces a label's pairs by one copy at each cell of its region. O(n + m log m) for n pairs held, m of
-/// them with the label.
-pub fn plan(alloc: Global, bag: &Bag, label: Label) -> Result<Change, PlanError>
+// The change that replaces a label's pairs by one copy at each cell of its region. O(n + m log m) for n pairs held, m of
+// them with the label.
+pub(crate) fn plan(alloc: Global, bag: &Bag, label: Label) -> Result<Change, PlanError>
     ensures plan { IfOk result (Plans bag.now (Edit.Normalise label)) }
     ensures refused { IfErr result (IsPlanRefusal bag.now (Edit.Normalise label)) }
 {
@@ -25,14 +25,14 @@ pub fn plan(alloc: Global, bag: &Bag, label: Label) -> Result<Change, PlanError>
     Ok(Change::between_lists(alloc, old.as_slice(), new.as_slice())?)
 }
 
-/// The pairs that are held with a label.
+// The pairs that are held with a label.
 fn held_pairs(alloc: Global, bag: &Bag, label: Label) -> Result<Vec<Held>, AllocError>
     ensures { IfOk result (λ held. held.items ≡ held_of label bag.now.held) }
 {
     bag.of_label(label).collect(alloc)
 }
 
-/// The cells' pairs under a label, each held with one copy.
+// The cells' pairs under a label, each held with one copy.
 fn one_copy_each(alloc: Global, cells: &[CellId], label: Label) -> Result<Vec<Held>, AllocError>
     ensures { IfOk result (λ held. held.items ≡ map (one_copy label) cells.now) }
 {

@@ -9,8 +9,13 @@ ghost use Rattle.s2ix_edit.specs.Refusals.{holds_none};
 use s2ix_bag::{Bag, Change, Entry, Held, Label, Pair};
 use std::alloc::{AllocError, Global};
 
-/// The change of one pair's count: no entry where the count stays.
-pub fn one_pair(alloc: Global, pair: Pair, before: u32, after: u32) -> Result<Change, AllocError>
+// The change of one pair's count: no entry where the count stays.
+pub(crate) fn one_pair(
+    alloc: Global,
+    pair: Pair,
+    before: u32,
+    after: u32,
+) -> Result<Change, AllocError>
     ensures { IfOk result (λ change. change ≡ one_entry pair before after) }
 {
     let mut entries = Vec::new(alloc);
@@ -20,8 +25,8 @@ pub fn one_pair(alloc: Global, pair: Pair, before: u32, after: u32) -> Result<Ch
     Ok(Change::from_vec(entries))
 }
 
-/// Appends the entry with the two counts of a pair.
-pub fn push_entry(
+// Appends the entry with the two counts of a pair.
+pub(crate) fn push_entry(
     entries: &mut Vec<Entry>,
     pair: Pair,
     before: u32,
@@ -37,16 +42,16 @@ pub fn push_entry(
     Ok(())
 }
 
-/// Whether no pair of the label is held. O(n).
-pub fn lacks_label(bag: &Bag, label: Label) -> bool
+// Whether no pair of the label is held. O(n).
+pub(crate) fn lacks_label(bag: &Bag, label: Label) -> bool
     ensures lacks { result ≡ holds_none label bag.now.held }
     ensures within { IsBag bag.now }
 {
     bag.of_label(label).next().is_none()
 }
 
-/// The entry that takes a held pair away.
-pub fn removal(held: Held) -> Entry
+// The entry that takes a held pair away.
+pub(crate) fn removal(held: Held) -> Entry
     ensures { result ≡ removal_of held }
 {
     Entry {

@@ -9,9 +9,14 @@ use crate::errors::PlanError;
 use s2ix_bag::{Bag, Change, Entry, Held, Label, Pair};
 use std::alloc::{AllocError, Global};
 
-/// The change that moves all copies of `source` to `target`. O(n + m log n) for n pairs held, m of them of
-/// `source`.
-pub fn plan(alloc: Global, bag: &Bag, source: Label, target: Label) -> Result<Change, PlanError>
+// The change that moves all copies of `source` to `target`. O(n + m log n) for n pairs held, m of them of
+// `source`.
+pub(crate) fn plan(
+    alloc: Global,
+    bag: &Bag,
+    source: Label,
+    target: Label,
+) -> Result<Change, PlanError>
     ensures plan { IfOk result (Plans bag.now (Edit.Relabel source target)) }
     ensures refused { IfErr result (IsPlanRefusal bag.now (Edit.Relabel source target)) }
 {
@@ -24,8 +29,8 @@ pub fn plan(alloc: Global, bag: &Bag, source: Label, target: Label) -> Result<Ch
     plan_moves(alloc, bag, source, target)
 }
 
-/// The change that moves all copies of one label that is held to another. A sum that no `u32` holds is above every
-/// limit.
+// The change that moves all copies of one label that is held to another. A sum that no `u32` holds is above every
+// limit.
 fn plan_moves(alloc: Global, bag: &Bag, source: Label, target: Label) -> Result<Change, PlanError>
     requires held { holds_none source bag.now.held ≡ false }
     requires apart { value_of source ≢ value_of target }
@@ -52,8 +57,8 @@ fn plan_moves(alloc: Global, bag: &Bag, source: Label, target: Label) -> Result<
     Ok(Change::from_vec(entries))
 }
 
-/// Appends, in the order of their pairs, the entry that takes a held pair away and the one that gives its copies to
-/// another pair.
+// Appends, in the order of their pairs, the entry that takes a held pair away and the one that gives its copies to
+// another pair.
 fn push_move(entries: &mut Vec<Entry>, held: Held, gain: Entry) -> Result<(), AllocError>
     ensures { OnOk result (entries.new.items ≡ entries.old.items ++ move_entries held gain) }
 {
