@@ -2,6 +2,7 @@ ghost use Rattle.std.specs.Prelude.{◌≡◌, ℕ, ◌↔◌, ◌-◌, ◌*◌,
 ghost use Rattle.s2id_core.specs.Cell.{IsCellNumber};
 
 /// The leaf number that would come next after that of the last leaf: an end for spans of leaves, and no cell's number.
+/// This project's own.
 pub const LEAF_END: u64 = 0xc000000000000001;
 
 /// A cell of the S2 curve, named by its 64-bit number: three bits of face, two bits for each child position,

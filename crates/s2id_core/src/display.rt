@@ -1,4 +1,4 @@
-// Cells in formats.
+//! Cells in formats.
 
 ghost use Rattle.std.specs.Prelude.{◌++◌, Some, codes};
 ghost use Rattle.std.specs.Fmt.{padded};

@@ -47,7 +47,7 @@ impl CellId {
         Some(CellId::at_place(digits.len() as u8, place))
     }
 
-    /// The cell's path for people.
+    /// The cell's path for people (S2's `ToString()`).
     pub fn path(self) -> PathText
         ensures { text_of_path result ≡ readable_path (path_of self) }
     {

@@ -1,4 +1,4 @@
-// Ancestors, children and neighbours along the curve.
+//! Ancestors, children and neighbours along the curve.
 
 ghost use Rattle.std.specs.Prelude.{◌≡◌, ◌↔◌, ◌+◌, ◌-◌, ◌*◌, ◌%◌, ◌^◌, ◌<◌, ◌≤◌, IsSome, IfSome, slice_get, slice_index};
 

@@ -1,4 +1,4 @@
-// Cells as spans of leaves.
+//! Cells as spans of leaves.
 
 ghost use Rattle.std.specs.Prelude.{◌≡◌, ◌↔◌, ◌+◌, ◌*◌, ◌^◌, ◌<◌, ◌≤◌, ◌⊎◌, IsTrue};
 

@@ -7,7 +7,7 @@ use crate::cell_id::CellId;
 use crate::hexadecimal::sixteen_digits;
 use thiserror::Error;
 
-/// Why a text is no token. This project's own; the faults are tested in this order.
+/// Why a text is no token. The faults are tested in this order. This project's own.
 #[derive(Clone, Copy, Debug, PartialEq, Eq, Error)]
 pub enum TokenError {
     /// The text has no bytes.

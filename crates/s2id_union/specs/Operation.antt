@@ -1,4 +1,4 @@
--- What each set operation keeps.
+-- Private words: what each set operation keeps. No public contract cites them.
 use Rattle.std.specs.Prelude.{◌⊎◌}
 use Rattle.s2id_union.specs.declared.sweep.Operation.{Operation}
 use Rattle.s2id_union.specs.declared.sweep.Operation.TheVariants.{Union, Intersection, Difference}

@@ -1,4 +1,4 @@
-// The number of leaves of a normal list.
+//! The number of leaves of a normal list.
 
 ghost use Rattle.std.specs.Prelude.{◌≡◌, List, length};
 ghost use Rattle.s2id_core.specs.Path.{Path};

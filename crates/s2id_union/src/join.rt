@@ -1,4 +1,4 @@
-// The normal form of any list of cells.
+//! The normal form of any list of cells.
 
 ghost use Rattle.std.specs.Prelude.{◌↔◌, ℕ, IfOk};
 ghost use Rattle.std.specs.List.Sorted.{IsNonDecreasingBy, IsPermutation};

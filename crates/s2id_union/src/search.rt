@@ -1,4 +1,4 @@
-// Searches in a normal list.
+//! Searches in a normal list.
 
 ghost use Rattle.std.specs.Prelude.{◌≤◌, ◌↔◌, IsTrue, length};
 ghost use Rattle.s2id_core.specs.CellId.{path_of};

@@ -1,4 +1,4 @@
-// Spans of leaves as the fewest cells.
+//! Spans of leaves as the fewest cells.
 
 ghost use Rattle.std.specs.Prelude.{◌≡◌, ◌%◌, ◌<◌, ◌≤◌, IfOk};
 ghost use Rattle.s2id_core.specs.CellId.{raw_of};

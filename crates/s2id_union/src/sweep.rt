@@ -1,4 +1,4 @@
-// The set operations, as one sweep over the stretches on which both unions are constant.
+//! The set operations, as one sweep over the stretches on which both unions are constant.
 
 ghost use Rattle.std.specs.Prelude.{◌≡◌, ◌+◌, ◌%◌, ◌<◌, ◌≤◌, ◌↔◌, ℕ, IsTrue, IfOk};
 ghost use Rattle.s2id_core.specs.declared.cell_id.CellId.{CellId};

@@ -3,7 +3,7 @@ use std::alloc::{AllocError, AllocFailed};
 use thiserror::Error;
 
 /// Why an edit was refused. Where several refusals stand, the first of this list is answered; `OutOfMemory`
-/// may come in place of `NoChange`, `TooManyCopies` or `TooManyPairs`, and of none before them.
+/// may come in place of `NoChange`, `TooManyCopies` or `TooManyPairs`, and of none before them. This project's own.
 #[derive(Clone, Copy, Debug, PartialEq, Eq, Error)]
 pub enum EditError {
     /// As many changes as the limit can be undone.
@@ -71,7 +71,7 @@ impl From<PlanError> for EditError {
     }
 }
 
-/// Why an edit has no plan: the cases of [`EditError`] that are found before any limit is looked at.
+/// Why an edit has no plan: the cases of [`EditError`] that are found before any limit is looked at. This project's own.
 #[derive(Clone, Copy, Debug, PartialEq, Eq, Error)]
 pub enum PlanError {
     /// No pair of the label is held.
@@ -114,6 +114,7 @@ impl From<OutOfMemory> for PlanError {
 }
 
 /// Why an undo was refused. It stands here and not beside the store, so that each refusal of a step can be named without one.
+/// This project's own.
 #[derive(Clone, Copy, Debug, PartialEq, Eq, Error)]
 pub enum UndoError {
     /// No change can be undone.
@@ -135,7 +136,7 @@ impl From<OutOfMemory> for UndoError {
     }
 }
 
-/// Why a redo was refused.
+/// Why a redo was refused. This project's own.
 #[derive(Clone, Copy, Debug, PartialEq, Eq, Error)]
 pub enum RedoError {
     /// No change can be redone.

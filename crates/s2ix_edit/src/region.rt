@@ -10,7 +10,7 @@ use s2ix_bag::{Bag, Held, Label};
 use std::alloc::{AllocError, Global};
 
 /// The region of a label: the normal union of the cells that a bag holds with it, which is empty where it holds none.
-/// `OutOfMemory` where a growth is refused. O(n + m log m) for n pairs held, m of them with the label.
+/// `OutOfMemory` where a growth is refused. O(n + m log m) for n pairs held, m of them with the label. This project's own.
 pub fn region_of(alloc: Global, bag: &Bag, label: Label) -> Result<CellUnion, OutOfMemory>
     ensures region { IfOk result (λ union. HaveSameRegion union (cells_of label bag.now.held)) }
     ensures form { IfOk result (λ union. union ≡ region_in label bag.now.held) }

@@ -2,7 +2,7 @@ ghost use Rattle.std.specs.Prelude.{◌≡◌};
 ghost use Rattle.s2ix_io.specs.Adapters.{reader_of, reader_faults};
 ghost use Rattle.s2ix_io.specs.Pieces.{Gave};
 
-use super::{ReadFault, Source};
+use crate::{ReadFault, Source};
 use std::io::Read;
 
 /// A source over a reader of std's. What the reader gives is the source's, and each error of the reader's is a fault. Each

@@ -1,7 +1,7 @@
 ghost use Rattle.s2ix_io.specs.Faults.{CanCount};
 ghost use Rattle.s2ix_io.specs.Puts.{Writes, text_of_parts};
 
-use super::{Sink, WriteFault};
+use crate::{Sink, WriteFault};
 
 /// Puts all of `bytes`, piece by piece: where the sink takes less than it is offered, the rest is offered next. It ends at the first
 /// fault, when a front of `bytes` went out. At most one call of `put` for each byte. This project's own.

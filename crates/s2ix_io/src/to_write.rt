@@ -2,7 +2,7 @@ ghost use Rattle.std.specs.Prelude.{◌≡◌};
 ghost use Rattle.std.specs.Io.KnownBytes.{Keeps};
 ghost use Rattle.s2ix_io.specs.Adapters.{writer_of, writer_faults};
 
-use super::{Sink, WriteFault};
+use crate::{Sink, WriteFault};
 use std::io::Write;
 
 /// A sink over a writer of std's. What the writer takes is what the sink took, and each error of the writer's is a fault. A writer
