@@ -23,9 +23,6 @@ Differs x byte = byte ≢ x
 first_of : List ℕ → ℕ
 first_of bytes = get_or bytes 0 0
 
-apart : (m n : ℕ) → m < n → m ≡ n → ⊥
-apart m n less e = omega arith
-
 -- what stands before the first mark of a text, and what behind it
 cut_at : (x : ℕ) (xs ys r s : List ℕ) → All (Differs x) xs → All (Differs x) ys → xs ++ x ∷ r ≡ ys ++ x ∷ s → (xs ≡ ys) × (r ≡ s)
 unfolding first_of
@@ -94,8 +91,8 @@ later hs = flat_map (λ h. codes "," ++ pair_json h) hs
 one_later : (hs ks : Collection) (r s : List ℕ) → All IsSmall hs → All IsSmall ks → later hs ++ 93 ∷ r ≡ later ks ++ 93 ∷ s → hs ≡ ks
 unfolding later first_of
 one_later [] [] r s p q same = refl
-one_later [] (k ∷ ks) r s p q same = absurd (apart 44 93 (omega arith) (sym (ap first_of same)))
-one_later (h ∷ hs) [] r s p q same = absurd (apart 44 93 (omega arith) (ap first_of same))
+one_later [] (k ∷ ks) r s p q same = absurd (let e : 93 ≡ 44 = ap first_of same in omega arith)
+one_later (h ∷ hs) [] r s p q same = absurd (let e : 44 ≡ 93 = ap first_of same in omega arith)
 one_later (h ∷ hs) (k ∷ ks) r s p q same =
     let pair = one_pair h k (later hs ++ 93 ∷ r) (later ks ++ 93 ∷ s) (All-head IsSmall h hs p) (All-head IsSmall k ks q)
     (sym (append_assoc (pair_json h) (later hs) (93 ∷ r)) ∙ ap (drop 1) same ∙ append_assoc (pair_json k) (later ks) (93 ∷ s)) in
@@ -104,8 +101,8 @@ one_later (h ∷ hs) (k ∷ ks) r s p q same =
 one_list : (hs ks : Collection) (r s : List ℕ) → All IsSmall hs → All IsSmall ks → join_by pair_json (codes ",") hs ++ 93 ∷ r ≡ join_by pair_json (codes ",") ks ++ 93 ∷ s → hs ≡ ks
 unfolding later first_of pair_json
 one_list [] [] r s p q same = refl
-one_list [] (k ∷ ks) r s p q same = absurd (apart 91 93 (omega arith) (sym (ap first_of same)))
-one_list (h ∷ hs) [] r s p q same = absurd (apart 91 93 (omega arith) (ap first_of same))
+one_list [] (k ∷ ks) r s p q same = absurd (let e : 93 ≡ 91 = ap first_of same in omega arith)
+one_list (h ∷ hs) [] r s p q same = absurd (let e : 91 ≡ 93 = ap first_of same in omega arith)
 one_list (h ∷ hs) (k ∷ ks) r s p q same =
     let pair = one_pair h k (later hs ++ 93 ∷ r) (later ks ++ 93 ∷ s) (All-head IsSmall h hs p) (All-head IsSmall k ks q)
     (sym (append_assoc (pair_json h) (later hs) (93 ∷ r)) ∙ same ∙ append_assoc (pair_json k) (later ks) (93 ∷ s)) in

@@ -26,9 +26,6 @@ tail_of (x ∷ xs) = xs
 abbrev pub IsGraphic : ℕ → Type 0
 IsGraphic byte = 32 < byte
 
-apart : (m n : ℕ) → m < n → m ≡ n → ⊥
-apart m n less e = omega arith
-
 -- what stands before the first space or line feed of a text, and what behind it
 pub cut_at : (x : ℕ) (xs ys r s : List ℕ) → x ≤ 32 → All IsGraphic xs → All IsGraphic ys → xs ++ x ∷ r ≡ ys ++ x ∷ s → (xs ≡ ys) × (r ≡ s)
 unfolding head_of tail_of
@@ -132,9 +129,9 @@ one_groups : (cs ds : List (List Entry)) (r s : List ℕ) → All IsWritable cs 
 unfolding group_text change_line head_of
 one_groups [] [] r s cs_are ds_are same = refl
 one_groups [] (d ∷ ds) r s cs_are ds_are same =
-    absurd (apart 99 101 (omega arith) (sym (ap head_of same)))
+    absurd (let e : 101 ≡ 99 = ap head_of same in omega arith)
 one_groups (c ∷ cs) [] r s cs_are ds_are same =
-    absurd (apart 99 101 (omega arith) (ap head_of same))
+    absurd (let e : 99 ≡ 101 = ap head_of same in omega arith)
 one_groups (c ∷ cs) (d ∷ ds) r s cs_are ds_are same =
     let group = one_group c d (flat_map group_text cs ++ 101 ∷ r) (flat_map group_text ds ++ 101 ∷ s) (All-head IsWritable c cs cs_are) (All-head IsWritable d ds ds_are)
     (sym (append_assoc (group_text c) (flat_map group_text cs) (101 ∷ r)) ∙ same ∙ append_assoc (group_text d) (flat_map group_text ds) (101 ∷ s)) in

@@ -3,7 +3,7 @@ ghost use Rattle.s2ix_io.specs.Faults.{CanCount};
 ghost use Rattle.s2ix_text.specs.Journal.{change_line, entry_line, group_text, journal_text};
 ghost use Rattle.s2ix_io.specs.Puts.{Writes};
 
-use super::list::{ListItem, write_end_of_list, write_lines};
+use crate::list::{ListItem, write_end_of_list, write_lines};
 use itoa::Buffer;
 use s2ix_bag::{Change, Entry};
 use s2ix_io::{Sink, WriteFault, put_all, put_parts};

@@ -3,7 +3,7 @@ ghost use Rattle.s2ix_io.specs.Faults.{CanCount};
 ghost use Rattle.s2ix_io.specs.Puts.{Writes};
 ghost use Rattle.s2ix_text.specs.Queries.{end_of_list, held_line, label_line, list_text, token_line};
 
-use super::pair::write_pair_between;
+use crate::pair::write_pair_between;
 use itoa::Buffer;
 use s2id_core::CellId;
 use s2ix_bag::{Held, Label};

@@ -6,8 +6,8 @@ ghost use Rattle.s2ix_io.specs.Faults.{CanCount};
 ghost use Rattle.s2ix_io.specs.Puts.{Writes};
 ghost use Rattle.s2ix_text.specs.Queries.{bounds_text, held_line, list_text, range_line, spaced_pair};
 
-use super::list::{ListItem, write_end_of_list};
-use super::pair::write_pair_between;
+use crate::list::{ListItem, write_end_of_list};
+use crate::pair::write_pair_between;
 use s2id_core::{CellId, sixteen_digits};
 use s2ix_io::{Sink, WriteFault, put_all, put_parts};
 use s2ix_table::{RangeRow, RangeTable, chain_at, contents};
