@@ -2,10 +2,10 @@
 use s2id_core::CellId;
 use s2id_cube::edge_neighbors;
 
-/// Behind the greatest byte of a cell.
+// Behind the greatest byte of a cell.
 pub(crate) const CELLS: u8 = 192;
 
-/// The copies of each cell under one label, by the cell's byte.
+// The copies of each cell under one label, by the cell's byte.
 pub(crate) type Copies = [u32; 256];
 
 // The cells of level 2 that some cells cover, by their bytes.
@@ -79,7 +79,7 @@ fn is_cell(cell: u8) -> bool {
     matches!(lowest(cell), 1 | 4 | 16)
 }
 
-/// One copy of each of the fewest cells with the leaves of those that have copies.
+// One copy of each of the fewest cells with the leaves of those that have copies.
 pub(crate) fn normal_of(copies: &Copies) -> Copies {
     let region = region_of(copies);
     let mut normal = [0; 256];
@@ -105,7 +105,7 @@ fn touches(region: &Region, cell: u8) -> bool {
     false
 }
 
-/// One copy of each cell of a level beside the cells that have copies.
+// One copy of each cell of a level beside the cells that have copies.
 pub(crate) fn ring_of(copies: &Copies, level: u8) -> Copies {
     let region = region_of(copies);
     let mut ring = [0; 256];

@@ -3,38 +3,38 @@ use crate::cells::CELLS;
 use crate::model::{Counts, Edit, under};
 use s2id_samples::Random;
 
-/// A line of a script.
+// A line of a script.
 #[derive(Clone, Copy)]
 pub(crate) enum Line {
-    /// A step to a next collection.
+    // A step to a next collection.
     Edit(Edit),
-    /// A step back.
+    // A step back.
     Undo,
-    /// A step forward again.
+    // A step forward again.
     Redo,
-    /// No steps back any more.
+    // No steps back any more.
     Forget,
-    /// What is held.
+    // What is held.
     Dump,
-    /// The changes that lead to it.
+    // The changes that lead to it.
     Journal,
 }
 
-/// A generator of lines and what they are made of.
+// A generator of lines and what they are made of.
 #[derive(Drop)]
 pub(crate) struct Chance {
     random: Random,
 }
 
 impl Chance {
-    /// The generator of a seed.
+    // The generator of a seed.
     pub(crate) fn new(seed: u64) -> Chance {
         Chance {
             random: Random::new(seed),
         }
     }
 
-    /// A number below a bound.
+    // A number below a bound.
     pub(crate) fn below(&mut self, bound: u8) -> u8 {
         (self.random.below(u64::from(bound)) % 256) as u8
     }
@@ -105,7 +105,7 @@ impl Chance {
         }
     }
 
-    /// Any line, where this is held.
+    // Any line, where this is held.
     pub(crate) fn line(&mut self, held: &Counts) -> Line {
         match self.below(32) {
             0..=23 => Line::Edit(self.edit(held)),

@@ -11,28 +11,28 @@ pub const COPIES: u32 = 5;
 /// The greatest number of changes of a history.
 pub const CHANGES: u32 = 40;
 
-/// A collection: the copies under each label, by the label's place from 0 to 3.
+// A collection: the copies under each label, by the label's place from 0 to 3.
 pub(crate) type Counts = [Copies; 4];
 
-/// How many pairs changed, or the name of the refusal.
+// How many pairs changed, or the name of the refusal.
 pub(crate) type Answer = Result<u32, &'static str>;
 
-/// An edit of cells, by their bytes, and labels, by their places.
+// An edit of cells, by their bytes, and labels, by their places.
 #[derive(Clone, Copy)]
 pub(crate) enum Edit {
-    /// So many copies of a cell under a label.
+    // So many copies of a cell under a label.
     Add(u8, u8, u32),
-    /// The same to be taken away.
+    // The same to be taken away.
     Remove(u8, u8, u32),
-    /// A copy of each cell of the normal union of some.
+    // A copy of each cell of the normal union of some.
     AddUnion([u8; 7], u8),
-    /// A label with all its copies.
+    // A label with all its copies.
     Drop(u8),
-    /// The first label's copies to the second.
+    // The first label's copies to the second.
     Relabel(u8, u8),
-    /// A label, by the cells of a level beside its own.
+    // A label, by the cells of a level beside its own.
     Grow(u8, u8),
-    /// A label, to its fewest cells.
+    // A label, to its fewest cells.
     Normal(u8),
 }
 
@@ -42,7 +42,7 @@ const NONE: Copies = [0; 256];
 // One place more than a history has changes.
 const PLACES: usize = 41;
 
-/// The copies under a label.
+// The copies under a label.
 pub(crate) fn under(counts: &Counts, label: u8) -> Copies {
     counts[usize::from(label % 4)]
 }
@@ -162,7 +162,7 @@ fn different(first: &Copies, second: &Copies) -> u32 {
     number
 }
 
-/// How many pairs have another count in the second collection than in the first.
+// How many pairs have another count in the second collection than in the first.
 pub(crate) fn differences(first: &Counts, second: &Counts) -> u32 {
     let mut number: u32 = 0;
     for label in 0..4 {
@@ -198,7 +198,7 @@ fn answer_to(held: &Counts, next: &Counts) -> Answer {
     }
 }
 
-/// A history of whole collections.
+// A history of whole collections.
 #[derive(Drop)]
 pub(crate) struct Model {
     collections: Vec<Counts>,
@@ -208,7 +208,7 @@ pub(crate) struct Model {
 }
 
 impl Model {
-    /// The history of the empty collection.
+    // The history of the empty collection.
     pub(crate) fn new(alloc: Global) -> Result<Model, AllocError> {
         Ok(Model {
             collections: vec![in alloc; [NONE; 4]; PLACES]?,
@@ -217,7 +217,7 @@ impl Model {
         })
     }
 
-    /// The collection at a place; there is nothing beyond the ends.
+    // The collection at a place; there is nothing beyond the ends.
     pub(crate) fn at(&self, place: usize) -> Counts {
         match self.collections.get(place) {
             Some(counts) => *counts,
@@ -225,12 +225,12 @@ impl Model {
         }
     }
 
-    /// How many changes can be undone.
+    // How many changes can be undone.
     pub(crate) fn done(&self) -> usize {
         self.cursor
     }
 
-    /// The collection that is held.
+    // The collection that is held.
     pub(crate) fn held(&self) -> Counts {
         self.at(self.cursor)
     }
@@ -244,7 +244,7 @@ impl Model {
         self.last = place;
     }
 
-    /// Makes what the edit makes the next collection, unless it is refused: an unfit field first, then a full history.
+    // Makes what the edit makes the next collection, unless it is refused: an unfit field first, then a full history.
     pub(crate) fn edit(&mut self, edit: Edit) -> Answer {
         if let Edit::Grow(_, 31..) = edit {
             return Err("BadLevel");
@@ -269,17 +269,17 @@ impl Model {
         Ok(number)
     }
 
-    /// Goes back by one change.
+    // Goes back by one change.
     pub(crate) fn undo(&mut self) -> Answer {
         self.move_to(self.cursor.wrapping_sub(1), "NothingToUndo")
     }
 
-    /// Goes forward by one change.
+    // Goes forward by one change.
     pub(crate) fn redo(&mut self) -> Answer {
         self.move_to(self.cursor.wrapping_add(1), "NothingToRedo")
     }
 
-    /// Keeps the collection that is held, and no other.
+    // Keeps the collection that is held, and no other.
     pub(crate) fn forget(&mut self) -> Answer {
         let held = self.held();
         self.keep(0, &held);

@@ -3,7 +3,7 @@ use crate::cells::CELLS;
 use crate::model::{Counts, Model, differences, under};
 use std::alloc::AllocError;
 
-/// The label of a place from 0 to 3.
+// The label of a place from 0 to 3.
 pub(crate) fn label_at(place: u8) -> u32 {
     match place {
         0 => 1,
@@ -13,7 +13,7 @@ pub(crate) fn label_at(place: u8) -> u32 {
     }
 }
 
-/// Writes a cell's byte without the zeros at its end.
+// Writes a cell's byte without the zeros at its end.
 pub(crate) fn put_token(out: &mut String, cell: u8) -> Result<(), AllocError> {
     if cell % 16 == 0 {
         write!(out, "{:x}", cell / 16)
@@ -45,7 +45,7 @@ fn total(held: &Counts) -> u32 {
     total
 }
 
-/// Writes the dump of what a model holds.
+// Writes the dump of what a model holds.
 pub(crate) fn put_dump(out: &mut String, model: &Model) -> Result<(), AllocError> {
     let held = model.held();
     out.push_str("s2ix 1\n")?;
@@ -83,7 +83,7 @@ fn put_change(out: &mut String, before: &Counts, after: &Counts) -> Result<(), A
     Ok(())
 }
 
-/// Writes the journal of a model.
+// Writes the journal of a model.
 pub(crate) fn put_journal(out: &mut String, model: &Model) -> Result<(), AllocError> {
     out.push_str("s2ix-journal 1\n")?;
     for place in 0..model.done() {
