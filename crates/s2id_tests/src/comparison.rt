@@ -5,14 +5,14 @@ use s2id_samples::{Point, point_of};
 use std::alloc::Global;
 use std::process::Abort;
 
-/// The two ends of a side.
+// The two ends of a side.
 #[derive(Clone, Copy)]
 struct Side {
     start: Point,
     end: Point,
 }
 
-/// A cell and its sides: down, right, up, left.
+// A cell and its sides: down, right, up, left.
 #[derive(Clone, Copy)]
 struct Sided {
     cell: CellId,
@@ -23,7 +23,7 @@ fn side_between(start: Point, end: Point) -> Side {
     Side { start, end }
 }
 
-/// The cell in column `i` and row `j` of a face's grid. Its square is the one that it was made from.
+// The cell in column `i` and row `j` of a face's grid. Its square is the one that it was made from.
 fn cell_in(rt: &impl Abort, face: u8, i: u8, j: u8, level: u8) -> CellId {
     let cell = from_face_ij(face, i as u32, j as u32, level).expect(rt, "a cell");
     let square = to_face_ij(cell);
@@ -37,7 +37,7 @@ fn cell_in(rt: &impl Abort, face: u8, i: u8, j: u8, level: u8) -> CellId {
     cell
 }
 
-/// The sides of the square in column `i` and row `j` of a face's grid.
+// The sides of the square in column `i` and row `j` of a face's grid.
 fn sides_of(face: u8, level: u8, i: u8, j: u8) -> [Side; 4] {
     let (i, j) = (u32::from(i), u32::from(j));
     let (next, above) = (i.wrapping_add(1), j.wrapping_add(1));
@@ -53,7 +53,7 @@ fn sides_of(face: u8, level: u8, i: u8, j: u8) -> [Side; 4] {
     ]
 }
 
-/// Appends each cell of a face's grid of `n` squares a side.
+// Appends each cell of a face's grid of `n` squares a side.
 fn push_cells(rt: &impl Abort, all: &mut Vec<Sided>, face: u8, level: u8, n: u8) {
     for i in 0..n {
         for j in 0..n {
@@ -64,7 +64,7 @@ fn push_cells(rt: &impl Abort, all: &mut Vec<Sided>, face: u8, level: u8, n: u8)
     }
 }
 
-/// Each cell of a level of at most 7.
+// Each cell of a level of at most 7.
 fn cells_of_level(rt: &impl Abort, alloc: Global, level: u8) -> Vec<Sided> {
     assert!(rt; level < 8);
     let mut all = Vec::new(alloc);
@@ -74,7 +74,7 @@ fn cells_of_level(rt: &impl Abort, alloc: Global, level: u8) -> Vec<Sided> {
     all
 }
 
-/// Whether one of the cell's sides has these ends.
+// Whether one of the cell's sides has these ends.
 fn has_side(cell: &Sided, a: Point, b: Point) -> bool {
     for k in 0..4 {
         let start = cell.sides[k].start;
@@ -86,7 +86,7 @@ fn has_side(cell: &Sided, a: Point, b: Point) -> bool {
     false
 }
 
-/// The other cells that have a side with these ends: how many, and the last of them.
+// The other cells that have a side with these ends: how many, and the last of them.
 fn others_at(all: &[Sided], own: CellId, a: Point, b: Point) -> (usize, CellId) {
     let mut count: usize = 0;
     let mut found = own;
@@ -99,7 +99,7 @@ fn others_at(all: &[Sided], own: CellId, a: Point, b: Point) -> (usize, CellId) 
     (count, found)
 }
 
-/// Compares the neighbours of a cell with the one other cell that has each of its sides.
+// Compares the neighbours of a cell with the one other cell that has each of its sides.
 fn check_neighbors(rt: &impl Abort, all: &[Sided], own: &Sided) {
     let neighbors = edge_neighbors(own.cell);
     for k in 0..4 {

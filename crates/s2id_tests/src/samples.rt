@@ -4,17 +4,17 @@ use std::alloc::Global;
 use std::fmt::Debug;
 use std::process::Abort;
 
-/// Ends the test where what came out is not what is wanted, with the row's name and what came out.
+// Ends the test where what came out is not what is wanted, with the row's name and what came out.
 pub(crate) fn check_same<T: PartialEq + Debug>(rt: &impl Abort, found: &T, wanted: &T, row: &str) {
     assert!(rt; found == wanted, "wrong at {row}: {found:?}");
 }
 
-/// The cell that a token names.
+// The cell that a token names.
 pub(crate) fn cell_of(rt: &impl Abort, token: &str) -> CellId {
-    CellId::from_token(token.as_bytes()).expect(rt, token)
+    s2id_samples::cell_of(token).expect(rt, token)
 }
 
-/// The cell that a token names; none for no token.
+// The cell that a token names; none for no token.
 pub(crate) fn cell_or_none(rt: &impl Abort, token: &str) -> Option<CellId> {
     if token.is_empty() {
         None
@@ -23,16 +23,12 @@ pub(crate) fn cell_or_none(rt: &impl Abort, token: &str) -> Option<CellId> {
     }
 }
 
-/// The cells that some tokens name, which have spaces between them.
+// The cells that some tokens name, which have spaces between them.
 pub(crate) fn cells_of(rt: &impl Abort, alloc: Global, tokens: &str) -> Vec<CellId> {
-    let mut cells = Vec::new(alloc);
-    for token in tokens.split_ascii_whitespace() {
-        cells.push(cell_of(rt, token)).expect(rt, "memory");
-    }
-    cells
+    s2id_samples::cells_of(alloc, tokens).expect(rt, tokens)
 }
 
-/// Compares some cells with those that the tokens name, in their order.
+// Compares some cells with those that the tokens name, in their order.
 pub(crate) fn check_cells(rt: &impl Abort, cells: &[CellId], tokens: &str) {
     let mut left = cells.iter();
     for token in tokens.split_ascii_whitespace() {

@@ -11,7 +11,7 @@ use s2ix_store::Store;
 use std::alloc::Global;
 use std::process::Abort;
 
-/// The empty store within these limits.
+// The empty store within these limits.
 pub(crate) fn store_of(alloc: Global, limits: LimitRow) -> Option<Store> {
     Store::new(alloc, limits_of(limits)?).ok()
 }
@@ -37,7 +37,7 @@ fn redo_answer(alloc: Global, store: &mut Store) -> Option<String> {
     }
 }
 
-/// Carries a step out, and gives its answer.
+// Carries a step out, and gives its answer.
 pub(crate) fn answer_of(alloc: Global, store: &mut Store, step: &str) -> Option<String> {
     match step {
         "undo" => undo_answer(alloc, store),
@@ -50,7 +50,7 @@ pub(crate) fn answer_of(alloc: Global, store: &mut Store, step: &str) -> Option<
     }
 }
 
-/// Whether a step answers so.
+// Whether a step answers so.
 pub(crate) fn answers(alloc: Global, store: &mut Store, step: &str, wanted: &str) -> bool {
     match answer_of(alloc, store, step) {
         Some(answer) => answer.as_str() == wanted,
@@ -78,20 +78,20 @@ fn follows(alloc: Global, store: &mut Store, row: &str) -> Option<bool> {
     Some(answers(alloc, store, step, answer) && stands_at(store, wanted)?)
 }
 
-/// Carries out one row after the other, and compares each.
+// Carries out one row after the other, and compares each.
 pub(crate) fn check_steps(rt: &impl Abort, alloc: Global, store: &mut Store, rows: &[&str]) {
     for &row in rows {
         assert!(rt; follows(alloc, store, row) == Some(true), "wrong at {row}");
     }
 }
 
-/// Carries out rows on the empty store within some limits.
+// Carries out rows on the empty store within some limits.
 pub(crate) fn check_history(rt: &impl Abort, alloc: Global, limits: LimitRow, rows: &[&str]) {
     let mut store = store_of(alloc, limits).expect(rt, "a store");
     check_steps(rt, alloc, &mut store, rows);
 }
 
-/// Whether the last change that can be undone has these entries.
+// Whether the last change that can be undone has these entries.
 pub(crate) fn ends_with(store: &Store, entries: &str) -> bool {
     match store.done().last() {
         Some(last) => lists_entries(last, entries),

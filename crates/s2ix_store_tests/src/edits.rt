@@ -8,7 +8,7 @@ use s2ix_edit::Edit;
 use s2ix_samples::{held_of, label_of};
 use std::alloc::Global;
 
-/// The union of the cells that some tokens name.
+// The union of the cells that some tokens name.
 pub(crate) fn union_of(alloc: Global, tokens: &str) -> Option<CellUnion> {
     let cells = cells_of(alloc, tokens)?;
     CellUnion::normalise(alloc, &cells).ok()
@@ -64,7 +64,7 @@ fn normalise(text: &str) -> Option<Edit> {
     Some(Edit::Normalise { label })
 }
 
-/// The edit that a text is.
+// The edit that a text is.
 pub(crate) fn edit_of(alloc: Global, text: &str) -> Option<Edit> {
     let (word, fields) = text.split_once(' ')?;
     match word {
