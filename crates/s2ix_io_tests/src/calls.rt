@@ -5,7 +5,7 @@ use std::test::Fail;
 // More faults than any device here counts.
 const MANY: u64 = 9;
 
-/// A call of a sink, its answer, and how many faults the sink tells of behind it.
+// A call of a sink, its answer, and how many faults the sink tells of behind it.
 #[derive(Clone, Copy)]
 pub(crate) enum Call {
     Put(&'static [u8], Result<usize, WriteFault>, u64),
@@ -25,7 +25,7 @@ fn is_answered<K: Sink>(sink: &mut K, call: Call) -> bool {
     }
 }
 
-/// Calls a sink, and compares each answer. The name says which sink fails.
+// Calls a sink, and compares each answer. The name says which sink fails.
 pub(crate) fn check_calls<K: Sink>(name: &str, sink: &mut K, calls: &[Call]) -> Result<(), Fail> {
     for (place, &call) in calls.iter().enumerate() {
         if !is_answered(sink, call) {
@@ -48,8 +48,8 @@ fn gives<S: Source>(source: &mut S, wanted: Option<&[u8]>) -> bool {
     piece == wanted
 }
 
-/// Reads one piece after the other, and compares each, and how many faults the source tells of in the end. The
-/// name says which source fails.
+// Reads one piece after the other, and compares each, and how many faults the source tells of in the end. The
+// name says which source fails.
 pub(crate) fn check_pieces<S: Source>(
     name: &str,
     source: &mut S,
