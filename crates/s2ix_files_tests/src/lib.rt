@@ -4,8 +4,6 @@
 #[cfg(test)]
 mod check_tests;
 #[cfg(test)]
-mod history_tests;
-#[cfg(test)]
 mod load_tests;
 #[cfg(test)]
 mod replay_tests;

@@ -26,13 +26,13 @@ const ANSWERS: [Row; 6] = [
         kept: b"no NotLeaf\n",
     },
     Row {
-        texts: &[Text::Path(b"1"), Text::Path(b"1D")],
+        texts: &[Text::Path("1"), Text::Path("1D")],
         put_len: 3,
         fault_at: 0,
         kept: b"0/\n0/32\n",
     },
     Row {
-        texts: &[Text::Neighbors(b"1"), Text::Neighbors(b"1d")],
+        texts: &[Text::Neighbors("1"), Text::Neighbors("1d")],
         put_len: 3,
         fault_at: 0,
         kept: b"b 3 5 9\nb7 1f 1b 03\n",

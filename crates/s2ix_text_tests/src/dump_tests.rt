@@ -5,14 +5,14 @@ use std::test::Fail;
 const DUMPS: [Row; 2] = [
     // the pairs rise
     Row {
-        texts: &[Text::Dump(&[(b"1", 7, 2), (b"04", 9, 1)])],
+        texts: &[Text::Dump("1:7:2 04:9:1")],
         put_len: 3,
         fault_at: 0,
         kept: b"s2ix 1\n04 9 1\n1 7 2\nend 2 3\n",
     },
     // a fault ends a dump
     Row {
-        texts: &[Text::Dump(&[])],
+        texts: &[Text::Dump("")],
         put_len: 4,
         fault_at: 2,
         kept: b"s2ix",

@@ -1,19 +1,18 @@
 // Journals by their call, with no script.
-use crate::samples::Counted;
 use crate::texts::{Row, Text, check_all};
 use std::test::Fail;
 
 // Three collections.
-const ONE: &[Counted] = &[(b"04", 9, 2)];
+const ONE: &str = "04:9:2";
 
-const TWO: &[Counted] = &[(b"04", 9, 2), (b"04", 3, 1)];
+const TWO: &str = "04:9:2 04:3:1";
 
-const THREE: &[Counted] = &[(b"04", 3, 3)];
+const THREE: &str = "04:3:3";
 
 const JOURNALS: [Row; 3] = [
     // the oldest change comes first
     Row {
-        texts: &[Text::Journal(&[(&[], ONE), (ONE, TWO), (TWO, THREE)])],
+        texts: &[Text::Journal(&[("", ONE), (ONE, TWO), (TWO, THREE)])],
         put_len: 3,
         fault_at: 0,
         kept: b"s2ix-journal 1\n\

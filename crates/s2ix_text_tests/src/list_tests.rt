@@ -1,18 +1,17 @@
 // Lists of pairs, labels, cells and entries, contents of leaves and ranges of tables, by their calls with no script.
-use crate::samples::Counted;
 use crate::texts::{Row, Text, check_all};
 use std::test::Fail;
 
 // A face under label 7, and a cell in it under label 9, twice.
-const NESTED: &[Counted] = &[(b"1", 7, 1), (b"04", 9, 2)];
+const NESTED: &str = "1:7:1 04:9:2";
 
 const LISTS: [Row; 6] = [
     // a list has its items and their number
     Row {
         texts: &[
-            Text::Pairs(&[(b"04", 9, 2), (b"1", 7, 1)]),
-            Text::Labels(&[7, 9]),
-            Text::Entries((&[(b"04", 9, 2)], &[])),
+            Text::Pairs("04:9:2 1:7:1"),
+            Text::Labels("7 9"),
+            Text::Entries(("04:9:2", "")),
         ],
         put_len: 3,
         fault_at: 0,
@@ -21,8 +20,8 @@ const LISTS: [Row; 6] = [
     // a cell is its token, the shortest that names it
     Row {
         texts: &[
-            Text::Cells(&[b"0000000000000001", b"0400000000000000", b"b"]),
-            Text::Cells(&[]),
+            Text::Cells("0000000000000001 0400000000000000 b"),
+            Text::Cells(""),
         ],
         put_len: 5,
         fault_at: 0,
@@ -30,14 +29,14 @@ const LISTS: [Row; 6] = [
     },
     // an item is a line
     Row {
-        texts: &[Text::Label(9)],
+        texts: &[Text::Label("9")],
         put_len: 9,
         fault_at: 0,
         kept: b"9\n",
     },
     // an empty list is its end
     Row {
-        texts: &[Text::Labels(&[])],
+        texts: &[Text::Labels("")],
         put_len: 9,
         fault_at: 0,
         kept: b"end 0\n",
@@ -45,7 +44,7 @@ const LISTS: [Row; 6] = [
     // what lies over a leaf, and the ranges of a table
     Row {
         texts: &[
-            Text::Contents(NESTED, b"0000000000000001"),
+            Text::Contents(NESTED, "0000000000000001"),
             Text::Ranges(NESTED),
         ],
         put_len: 5,

@@ -1,12 +1,11 @@
 //! Texts as plain data, and their comparison with what a sink keeps of them. The sink fails at a flush: writers leave it to their caller.
 ghost use Rattle.s2ix_io.specs.Faults.{CanCount};
 
-use crate::samples::{
-    Counted, Step, bag_of, cell_of, cells_of, change_of, changes_of, label_of, labels_of, leaf_of,
-    list_of, table_of,
-};
+use crate::samples::{Step, change_of, changes_of, labels_of, leaf_of, list_of, table_of};
 use s2id_cube::FaceIj;
+use s2id_samples::{cell_of, cells_of};
 use s2ix_io::{KeepingSink, Sink};
+use s2ix_samples::{WIDEST, bag_of, label_of};
 use s2ix_text::{
     ListItem, write_contents, write_dump, write_journal, write_list, write_neighbors, write_no,
     write_ok, write_path, write_ranges, write_square,
@@ -14,41 +13,41 @@ use s2ix_text::{
 use std::alloc::Global;
 use std::test::Fail;
 
-/// A text that goes out.
+// A text that goes out.
 #[derive(Clone, Copy)]
 pub(crate) enum Text {
-    /// The dump of a bag.
-    Dump(&'static [Counted]),
-    /// The journal of the changes of some steps.
+    // The dump of a bag.
+    Dump(&'static str),
+    // The journal of the changes of some steps.
     Journal(&'static [Step]),
-    /// A list of pairs.
-    Pairs(&'static [Counted]),
-    /// A list of labels.
-    Labels(&'static [u32]),
-    /// A list of the cells with these tokens.
-    Cells(&'static [&'static [u8]]),
-    /// A list of the entries of a step's change.
+    // A list of pairs.
+    Pairs(&'static str),
+    // A list of labels.
+    Labels(&'static str),
+    // A list of the cells with these tokens.
+    Cells(&'static str),
+    // A list of the entries of a step's change.
     Entries(Step),
-    /// The line of a label.
-    Label(u32),
-    /// What lies over the leaf with a token.
-    Contents(&'static [Counted], &'static [u8]),
-    /// The ranges of a table.
-    Ranges(&'static [Counted]),
-    /// How many pairs changed their counts.
+    // The line of a label.
+    Label(&'static str),
+    // What lies over the leaf with a token.
+    Contents(&'static str, &'static str),
+    // The ranges of a table.
+    Ranges(&'static str),
+    // How many pairs changed their counts.
     Ok(usize),
-    /// Why a line is refused.
+    // Why a line is refused.
     No(&'static str),
-    /// The path of the cell with a token.
-    Path(&'static [u8]),
-    /// The neighbors of the cell with a token.
-    Neighbors(&'static [u8]),
-    /// A square.
+    // The path of the cell with a token.
+    Path(&'static str),
+    // The neighbors of the cell with a token.
+    Neighbors(&'static str),
+    // A square.
     Square(FaceIj),
 }
 
-/// Texts that are written one after the other to a sink which takes at most `put_len` bytes a call and whose call number `fault_at` fails
-/// (at 0 none does), and the bytes that the sink keeps of them.
+// Texts that are written one after the other to a sink which takes at most `put_len` bytes a call and whose call number `fault_at` fails
+// (at 0 none does), and the bytes that the sink keeps of them.
 pub(crate) struct Row {
     pub texts: &'static [Text],
     pub put_len: usize,
@@ -56,70 +55,70 @@ pub(crate) struct Row {
     pub kept: &'static [u8],
 }
 
-fn write_dump_of(alloc: Global, pairs: &[Counted], sink: &mut KeepingSink) -> Result<bool, Fail>
+fn write_dump_of(alloc: Global, pairs: &str, sink: &mut KeepingSink) -> Option<bool>
     requires { CanCount (⟦<KeepingSink as Sink>⟧.fault_count sink.old) }
 {
-    let bag = bag_of(alloc, pairs)?;
-    Ok(write_dump(&bag, sink).is_ok())
+    let bag = bag_of(alloc, WIDEST, pairs)?;
+    Some(write_dump(&bag, sink).is_ok())
 }
 
-fn write_journal_of(alloc: Global, steps: &[Step], sink: &mut KeepingSink) -> Result<bool, Fail>
+fn write_journal_of(alloc: Global, steps: &[Step], sink: &mut KeepingSink) -> Option<bool>
     requires { CanCount (⟦<KeepingSink as Sink>⟧.fault_count sink.old) }
 {
     let changes = changes_of(alloc, steps)?;
-    Ok(write_journal(&changes, sink).is_ok())
+    Some(write_journal(&changes, sink).is_ok())
 }
 
-fn write_pairs(alloc: Global, pairs: &[Counted], sink: &mut KeepingSink) -> Result<bool, Fail>
+fn write_pairs(alloc: Global, pairs: &str, sink: &mut KeepingSink) -> Option<bool>
     requires { CanCount (⟦<KeepingSink as Sink>⟧.fault_count sink.old) }
 {
     let list = list_of(alloc, pairs)?;
-    Ok(write_list(&list, sink).is_ok())
+    Some(write_list(&list, sink).is_ok())
 }
 
-fn write_labels(alloc: Global, numbers: &[u32], sink: &mut KeepingSink) -> Result<bool, Fail>
+fn write_labels(alloc: Global, numbers: &str, sink: &mut KeepingSink) -> Option<bool>
     requires { CanCount (⟦<KeepingSink as Sink>⟧.fault_count sink.old) }
 {
     let labels = labels_of(alloc, numbers)?;
-    Ok(write_list(&labels, sink).is_ok())
+    Some(write_list(&labels, sink).is_ok())
 }
 
-fn write_cells(alloc: Global, tokens: &[&[u8]], sink: &mut KeepingSink) -> Result<bool, Fail>
+fn write_cells(alloc: Global, tokens: &str, sink: &mut KeepingSink) -> Option<bool>
     requires { CanCount (⟦<KeepingSink as Sink>⟧.fault_count sink.old) }
 {
     let cells = cells_of(alloc, tokens)?;
-    Ok(write_list(&cells, sink).is_ok())
+    Some(write_list(&cells, sink).is_ok())
 }
 
-fn write_entries(alloc: Global, step: Step, sink: &mut KeepingSink) -> Result<bool, Fail>
+fn write_entries(alloc: Global, step: Step, sink: &mut KeepingSink) -> Option<bool>
     requires { CanCount (⟦<KeepingSink as Sink>⟧.fault_count sink.old) }
 {
     let change = change_of(alloc, step)?;
-    Ok(write_list(change.entries(), sink).is_ok())
+    Some(write_list(change.entries(), sink).is_ok())
 }
 
 fn write_contents_over(
     alloc: Global,
-    pairs: &[Counted],
-    token: &[u8],
+    pairs: &str,
+    token: &str,
     sink: &mut KeepingSink,
-) -> Result<bool, Fail>
+) -> Option<bool>
     requires { CanCount (⟦<KeepingSink as Sink>⟧.fault_count sink.old) }
 {
     let leaf = leaf_of(token)?;
     let table = table_of(alloc, pairs)?;
-    Ok(write_contents(&table, leaf, sink).is_ok())
+    Some(write_contents(&table, leaf, sink).is_ok())
 }
 
-fn write_ranges_of(alloc: Global, pairs: &[Counted], sink: &mut KeepingSink) -> Result<bool, Fail>
+fn write_ranges_of(alloc: Global, pairs: &str, sink: &mut KeepingSink) -> Option<bool>
     requires { CanCount (⟦<KeepingSink as Sink>⟧.fault_count sink.old) }
 {
     let table = table_of(alloc, pairs)?;
-    Ok(write_ranges(&table, sink).is_ok())
+    Some(write_ranges(&table, sink).is_ok())
 }
 
 // Writes a text, and tells whether its writer reports that all of it went out.
-fn write(alloc: Global, text: Text, sink: &mut KeepingSink) -> Result<bool, Fail>
+fn write(alloc: Global, text: Text, sink: &mut KeepingSink) -> Option<bool>
     requires { CanCount (⟦<KeepingSink as Sink>⟧.fault_count sink.old) }
 {
     match text {
@@ -129,30 +128,30 @@ fn write(alloc: Global, text: Text, sink: &mut KeepingSink) -> Result<bool, Fail
         Text::Labels(numbers) => write_labels(alloc, numbers, sink),
         Text::Cells(tokens) => write_cells(alloc, tokens, sink),
         Text::Entries(step) => write_entries(alloc, step, sink),
-        Text::Label(number) => Ok(label_of(number)?.write_line(sink).is_ok()),
+        Text::Label(number) => Some(label_of(number)?.write_line(sink).is_ok()),
         Text::Contents(pairs, token) => write_contents_over(alloc, pairs, token, sink),
         Text::Ranges(pairs) => write_ranges_of(alloc, pairs, sink),
-        Text::Ok(pairs) => Ok(write_ok(pairs, sink).is_ok()),
-        Text::No(name) => Ok(write_no(name, sink).is_ok()),
-        Text::Path(token) => Ok(write_path(cell_of(token)?, sink).is_ok()),
-        Text::Neighbors(token) => Ok(write_neighbors(cell_of(token)?, sink).is_ok()),
-        Text::Square(square) => Ok(write_square(square, sink).is_ok()),
+        Text::Ok(pairs) => Some(write_ok(pairs, sink).is_ok()),
+        Text::No(name) => Some(write_no(name, sink).is_ok()),
+        Text::Path(token) => Some(write_path(cell_of(token)?, sink).is_ok()),
+        Text::Neighbors(token) => Some(write_neighbors(cell_of(token)?, sink).is_ok()),
+        Text::Square(square) => Some(write_square(square, sink).is_ok()),
     }
 }
 
 // Writes texts up to the first whose writer reports a fault, and tells whether none does.
-fn write_all(alloc: Global, texts: &[Text], sink: &mut KeepingSink) -> Result<bool, Fail> {
+fn write_all(alloc: Global, texts: &[Text], sink: &mut KeepingSink) -> Option<bool> {
     for &text in texts {
         if sink.faults() > 0 || !write(alloc, text, sink)? {
-            return Ok(false);
+            return Some(false);
         }
     }
-    Ok(true)
+    Some(true)
 }
 
 fn check_row(alloc: Global, place: usize, row: &Row) -> Result<(), Fail> {
     let mut sink = KeepingSink::new(alloc, row.put_len, row.fault_at, true);
-    let is_whole = write_all(alloc, row.texts, &mut sink)?;
+    let is_whole = write_all(alloc, row.texts, &mut sink).ok_or("a row is no text")?;
     let faults = u64::from(row.fault_at > 0);
     if sink.kept() == row.kept && sink.faults() == faults && is_whole == (faults == 0) {
         Ok(())
@@ -161,7 +160,7 @@ fn check_row(alloc: Global, place: usize, row: &Row) -> Result<(), Fail> {
     }
 }
 
-/// Writes the texts of each row. Their writers and the sink report a fault where a call fails, and only there.
+// Writes the texts of each row. Their writers and the sink report a fault where a call fails, and only there.
 pub(crate) fn check_all(alloc: Global, rows: &[Row]) -> Result<(), Fail> {
     for (place, row) in rows.iter().enumerate() {
         check_row(alloc, place, row)?;
