@@ -6,7 +6,8 @@ use s2id_samples::Random;
 use s2id_union::CellUnion;
 use s2ix_bag::{Bag, Label, Limits, Pair};
 use s2ix_chain::ChainTable;
-use s2ix_table::{CopiedTable, RangeTable};
+use s2ix_copied::CopiedTable;
+use s2ix_table::RangeTable;
 use std::alloc::Global;
 use std::test::Fail;
 

@@ -3,7 +3,7 @@
 use s2id_core::CellId;
 use s2id_union::CellUnion;
 use s2ix_bag::{Bag, Change, Entry, Held, Label, Limits, Pair};
-use s2ix_table::{CopiedTable, RangeTable};
+use s2ix_table::RangeTable;
 use std::alloc::Global;
 use std::test::Fail;
 
@@ -84,7 +84,7 @@ fn bag_of(alloc: Global, rows: &[PairRow]) -> Result<Bag, Fail> {
 }
 
 /// The table of pairs that are held once.
-pub(crate) fn table_of(alloc: Global, rows: &[PairRow]) -> Result<CopiedTable, Fail> {
+pub(crate) fn table_of<T: RangeTable + Drop>(alloc: Global, rows: &[PairRow]) -> Result<T, Fail> {
     let bag = bag_of(alloc, rows)?;
-    Ok(CopiedTable::build(alloc, &bag)?)
+    Ok(T::build(alloc, &bag)?)
 }

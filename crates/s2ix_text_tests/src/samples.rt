@@ -4,7 +4,8 @@ ghost use Rattle.s2id_core.specs.CellId.{level_of};
 
 use s2id_core::CellId;
 use s2ix_bag::{Bag, Change, Entry, Held, Label, Limits, Pair};
-use s2ix_table::{CopiedTable, RangeTable};
+use s2ix_copied::CopiedTable;
+use s2ix_table::RangeTable;
 use std::alloc::Global;
 use std::test::Fail;
 

@@ -5,7 +5,9 @@ use s2id_core::CellId;
 use s2id_samples::Random;
 use s2id_union::CellUnion;
 use s2ix_bag::{Bag, Limits};
-use s2ix_table::{CopiedTable, RangeTable};
+use s2ix_chain::ChainTable;
+use s2ix_copied::CopiedTable;
+use s2ix_table::RangeTable;
 use std::alloc::Global;
 use std::test::Fail;
 
@@ -36,10 +38,10 @@ fn random_cells(
 }
 
 // Compares what visits of the union of some cells call, and bounds what they read.
-fn check_cells(
+fn check_cells<T: RangeTable>(
     alloc: Global,
     number: usize,
-    table: &CopiedTable,
+    table: &T,
     cells: &[CellId],
 ) -> Result<(), Fail> {
     let target = CellUnion::normalise(alloc, cells)?;
@@ -58,10 +60,10 @@ fn all_faces(alloc: Global) -> Result<Vec<CellId>, Fail> {
 }
 
 // No cell at all, all faces, and random targets, most of them with gaps.
-fn check_targets(
+fn check_targets<T: RangeTable>(
     alloc: Global,
     number: usize,
-    table: &CopiedTable,
+    table: &T,
     random: &mut Random,
 ) -> Result<(), Fail> {
     check_cells(alloc, number, table, &all_faces(alloc)?)?;
@@ -79,8 +81,10 @@ fn random_visits_keep_to_their_bounds(rt: HostRuntime) -> Result<(), Fail> {
     let mut random = Random::new(1);
     for number in 0..120 {
         let bag = random_bag(rt.alloc(), &mut random)?;
-        let table = CopiedTable::build(rt.alloc(), &bag)?;
-        check_targets(rt.alloc(), number, &table, &mut random)?;
+        let copies = CopiedTable::build(rt.alloc(), &bag)?;
+        check_targets(rt.alloc(), number, &copies, &mut random)?;
+        let chains = ChainTable::build(rt.alloc(), &bag)?;
+        check_targets(rt.alloc(), number, &chains, &mut random)?;
     }
     Ok(())
 }

@@ -2,7 +2,7 @@
 use s2id_core::CellId;
 use s2id_union::CellUnion;
 use s2ix_bag::{Bag, Change, Entry, Label, Limits, Pair};
-use s2ix_table::{CopiedTable, RangeTable};
+use s2ix_table::RangeTable;
 use std::alloc::Global;
 use std::test::Fail;
 
@@ -41,11 +41,11 @@ pub(crate) fn with_pair(alloc: Global, bag: &Bag, pair: Pair) -> Result<Bag, Fai
 }
 
 // The table of pairs that are held once.
-pub(crate) fn table_of(alloc: Global, rows: &[PairRow]) -> Result<CopiedTable, Fail> {
+pub(crate) fn table_of<T: RangeTable + Drop>(alloc: Global, rows: &[PairRow]) -> Result<T, Fail> {
     let mut bag = Bag::empty(alloc, Limits::default());
     for &(token, label) in rows {
         let pair = pair_of(CellId::from_token(token)?, label)?;
         bag = with_pair(alloc, &bag, pair)?;
     }
-    Ok(CopiedTable::build(alloc, &bag)?)
+    Ok(T::build(alloc, &bag)?)
 }
