@@ -9,12 +9,12 @@ use Rattle.s2id_union.proofs.Lists.{cons_cases, in_tail, at_head, none_in_nil}
 use Rattle.s2ix_bag.specs.Collection.{Collection, IsCollection, IsCollectionFrom}
 use Rattle.s2ix_bag.specs.Pair.{rank_of}
 use Rattle.s2ix_bag.specs.declared.pair.Held.{Held}
-use Rattle.s2ix_table.specs.InOrder.{choice, insertion}
-use Rattle.s2ix_table.specs.Contents.{covers, contents_at, depth_key}
-use Rattle.s2ix_table.proofs.InOrder.{every_choice, in_choice, choice_has, choice_agree, choice_in, choice_out, choice_none, insertion_after}
-use Rattle.s2ix_table.proofs.Meetings.{insertion_before_all}
-use Rattle.s2ix_table.proofs.Over.{IsOver, over-true, covers-from, nested_over}
-use Rattle.s2ix_table.proofs.Lists.{later_rank}
+use Rattle.s2ix_ranges.specs.InOrder.{choice, insertion}
+use Rattle.s2ix_ranges.specs.Contents.{covers, contents_at, depth_key}
+use Rattle.s2ix_ranges.proofs.InOrder.{every_choice, in_choice, choice_has, choice_agree, choice_in, choice_out, choice_none, insertion_after}
+use Rattle.s2ix_ranges.proofs.InOrder.{insertion_before_all}
+use Rattle.s2ix_ranges.proofs.Over.{IsOver, over-true, covers-from, nested_over}
+use Rattle.s2ix_ranges.proofs.Lists.{later_rank}
 use Rattle.s2ix_chain.specs.Chains.{is_outward, is_on_chain, chain_of}
 use Rattle.s2ix_chain.proofs.Keys.{over_first}
 

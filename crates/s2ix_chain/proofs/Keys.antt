@@ -7,9 +7,9 @@ use Rattle.s2id_union.proofs.Lists.{cons_cases, none_in_nil}
 use Rattle.s2ix_bag.specs.Collection.{Collection, IsCollection, IsCollectionFrom}
 use Rattle.s2ix_bag.specs.Pair.{rank_of}
 use Rattle.s2ix_bag.specs.declared.pair.Held.{Held}
-use Rattle.s2ix_table.specs.Contents.{depth_key}
-use Rattle.s2ix_table.proofs.Over.{IsOver, span_of, nested_over, depth_bound}
-use Rattle.s2ix_table.proofs.Lists.{same_pair_over, later_rank}
+use Rattle.s2ix_ranges.specs.Contents.{depth_key}
+use Rattle.s2ix_ranges.proofs.Over.{IsOver, span_of, nested_over, depth_bound}
+use Rattle.s2ix_ranges.proofs.Lists.{same_pair_over, later_rank}
 use Rattle.s2ix_chain.specs.Order.{sweep_key}
 
 first_less : (f g d e : ℕ) → d < 68719476736 → e < 68719476736 → f < g → f * 68719476736 + (68719476736 - d) < g * 68719476736 + (68719476736 - e)

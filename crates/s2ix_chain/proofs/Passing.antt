@@ -9,10 +9,10 @@ use Rattle.s2ix_bag.specs.Collection.{Collection, IsCollection}
 use Rattle.s2ix_bag.specs.Pair.{rank_of}
 use Rattle.s2ix_bag.specs.declared.pair.Held.{Held}
 use Rattle.s2ix_bag.proofs.Parts.{ranks_rise}
-use Rattle.s2ix_table.specs.Contents.{contents_at, depth_key}
-use Rattle.s2ix_table.specs.Filter.{IsBound}
-use Rattle.s2ix_table.proofs.Over.{span_of}
-use Rattle.s2ix_table.proofs.Tables.{IsTable, IsRangeFrom, changes_at, table_push}
+use Rattle.s2ix_ranges.specs.Contents.{contents_at, depth_key}
+use Rattle.s2ix_ranges.specs.Bounds.{IsBound}
+use Rattle.s2ix_ranges.proofs.Over.{span_of}
+use Rattle.s2ix_ranges.proofs.Tables.{IsTable, IsRangeFrom, changes_at, table_push}
 use Rattle.s2ix_chain.specs.Chains.{is_on_chain, chain_of, AreFirsts}
 use Rattle.s2ix_chain.specs.Order.{sweep_key}
 use Rattle.s2ix_chain.specs.Pass.{Progress, written}

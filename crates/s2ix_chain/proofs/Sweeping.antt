@@ -6,10 +6,10 @@ use Rattle.std.proofs.lemmas.Bool.{both_ways}
 use Rattle.s2id_core.specs.CellId.{first_of, end_of}
 use Rattle.s2ix_bag.specs.Collection.{Collection}
 use Rattle.s2ix_bag.specs.declared.pair.Held.{Held}
-use Rattle.s2ix_table.specs.Contents.{contents_at}
-use Rattle.s2ix_table.specs.Table.{leaf_end}
-use Rattle.s2ix_table.proofs.Over.{span_of}
-use Rattle.s2ix_table.proofs.Tables.{IsTable}
+use Rattle.s2ix_ranges.specs.Contents.{contents_at}
+use Rattle.s2ix_ranges.specs.Table.{leaf_end}
+use Rattle.s2ix_ranges.proofs.Over.{span_of}
+use Rattle.s2ix_ranges.proofs.Tables.{IsTable}
 use Rattle.s2ix_chain.specs.Chains.{is_on_chain, chain_of}
 use Rattle.s2ix_chain.specs.Order.{sweep_key, first_at, IsSweepOrder}
 use Rattle.s2ix_chain.specs.Pass.{Progress}

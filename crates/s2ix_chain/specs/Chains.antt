@@ -4,8 +4,8 @@ use Rattle.std.specs.Option.{unwrap_or}
 use Rattle.s2id_core.specs.CellId.{first_of}
 use Rattle.s2ix_bag.specs.Collection.{Collection}
 use Rattle.s2ix_bag.specs.declared.pair.Held.{Held}
-use Rattle.s2ix_table.specs.InOrder.{choice}
-use Rattle.s2ix_table.specs.Contents.{covers, contents_at, depth_key}
+use Rattle.s2ix_ranges.specs.InOrder.{choice}
+use Rattle.s2ix_ranges.specs.Contents.{covers, contents_at, depth_key}
 
 -- whether a pair lies outwards of another: over its first leaf and no deeper. Each pair lies outwards of itself
 abbrev pub is_outward : Held → Held → Bool

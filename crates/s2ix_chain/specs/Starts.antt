@@ -1,8 +1,8 @@
 -- Ranges read by their starts.
 use Rattle.std.specs.Prelude.{ℕ, ◌+◌, ◌<◌, ◌≤◌, List, [], ◌∷◌, length, slice_index_or}
 use Rattle.s2ix_bag.specs.Collection.{Collection}
-use Rattle.s2ix_table.specs.Contents.{contents_at}
-use Rattle.s2ix_table.specs.Table.{Range}
+use Rattle.s2ix_ranges.specs.Contents.{contents_at}
+use Rattle.s2ix_ranges.specs.Table.{Range}
 
 -- the ranges with these starts, each up to the next start and the last one up to `to`
 abbrev pub runs_over : Collection → List ℕ → ℕ → List Range

@@ -4,7 +4,7 @@ use Rattle.std.specs.Option.{unwrap_or}
 use Rattle.s2id_core.specs.CellId.{first_of, end_of}
 use Rattle.s2ix_bag.specs.Collection.{Collection}
 use Rattle.s2ix_bag.specs.declared.pair.Held.{Held}
-use Rattle.s2ix_table.specs.Table.{IsTableOver}
+use Rattle.s2ix_ranges.specs.Table.{IsTableOver}
 use Rattle.s2ix_chain.specs.declared.pass.Pass.{Pass}
 use Rattle.s2ix_chain.specs.Chains.{AreOuter, AreFirsts}
 use Rattle.s2ix_chain.specs.Order.{first_at}

@@ -1,6 +1,6 @@
 // Places of pairs, and of ranges, in a table.
 ghost use Rattle.std.specs.Prelude.{◌<◌, ◌≤◌, length, slice_index_or, AllPairs};
-ghost use Rattle.s2ix_table.specs.Places.{LeadsTo};
+ghost use Rattle.s2ix_walk.specs.Places.{LeadsTo};
 ghost use Rattle.s2ix_chain.specs.Chains.{chain_of};
 ghost use Rattle.s2ix_chain.specs.Starts.{IsLastStart};
 

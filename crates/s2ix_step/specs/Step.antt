@@ -14,10 +14,10 @@ use Rattle.s2ix_edit.specs.State.{State, change_of}
 use Rattle.s2ix_store.specs.Steps.{after_edit, after_forget, after_undo, after_redo, last_done, last_undone, undo_size, redo_size}
 use Rattle.s2ix_text.specs.Answers.{neighbors_line, no_line, ok_line, path_line, square_line}
 use Rattle.s2ix_text.specs.Dump.{dump_text}
-use Rattle.s2ix_table.specs.Contents.{contents_at}
-use Rattle.s2ix_table.specs.LabelList.{label_list}
-use Rattle.s2ix_table.specs.Meeting.{meeting_of}
-use Rattle.s2ix_table.specs.RangeList.{range_table}
+use Rattle.s2ix_ranges.specs.Contents.{contents_at}
+use Rattle.s2ix_ranges.specs.LabelList.{label_list}
+use Rattle.s2ix_ranges.specs.Meeting.{meeting_of}
+use Rattle.s2ix_ranges.specs.RangeList.{range_table}
 use Rattle.s2ix_text.specs.Journal.{journal_text}
 use Rattle.s2ix_text.specs.Queries.{held_line, label_line, list_text, range_line, token_line}
 use Rattle.s2ix_export.specs.Export.{export_line}

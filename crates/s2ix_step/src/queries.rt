@@ -2,9 +2,9 @@
 ghost use Rattle.std.specs.Prelude.{◌≡◌, ◌≢◌, ◌+◌, Err};
 ghost use Rattle.s2ix_export.specs.Export.{export_line};
 ghost use Rattle.s2ix_io.specs.Faults.{CanCount, sink_faults};
-ghost use Rattle.s2ix_table.specs.LabelList.{label_list};
-ghost use Rattle.s2ix_table.specs.Meeting.{meeting_of};
-ghost use Rattle.s2ix_table.specs.RangeList.{range_table};
+ghost use Rattle.s2ix_ranges.specs.LabelList.{label_list};
+ghost use Rattle.s2ix_ranges.specs.Meeting.{meeting_of};
+ghost use Rattle.s2ix_ranges.specs.RangeList.{range_table};
 ghost use Rattle.s2ix_text.specs.Queries.{held_line, label_line, list_text, range_line};
 ghost use Rattle.s2ix_step.specs.Carry.{Carries};
 ghost use Rattle.s2ix_step.specs.Step.{at_step, text_step};

@@ -15,8 +15,8 @@ use Rattle.s2ix_store.specs.Steps.{after_edit, after_redo, after_redo_of, after_
 use Rattle.s2ix_store.proofs.Places.{Redoes, Undoes}
 use Rattle.s2ix_store.proofs.Redone.{redo_of_last, redo_of_undo}
 use Rattle.s2ix_store.proofs.Undone.{front_of, undo_of_edit, undo_of_last}
-use Rattle.s2ix_table.specs.Table.{Range, IsRangeTable, leaf_end}
-use Rattle.s2ix_table.proofs.Tables.{same_table, table_from_places}
+use Rattle.s2ix_ranges.specs.Table.{Range, IsRangeTable, leaf_end}
+use Rattle.s2ix_ranges.proofs.Tables.{same_table, table_from_places}
 
 -- the counts that an edit records are those of the two collections
 pub counts_recorded : (before after : State) (edit : Edit) → IsStore before → after ≡ after_edit before edit → (pair : Pair) → counts_at (change_of before edit) (rank_of pair) ≡ difference_of (count_in before.bag.held pair) (count_in after.bag.held pair)

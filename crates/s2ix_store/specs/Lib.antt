@@ -8,4 +8,4 @@ pub use Rattle.s2ix_edit.specs.History
 pub use Rattle.s2ix_edit.specs.Refusals
 pub use Rattle.s2ix_edit.specs.Region
 pub use Rattle.s2ix_edit.specs.State
-pub use Rattle.s2ix_table.specs.Table
+pub use Rattle.s2ix_ranges.specs.Table

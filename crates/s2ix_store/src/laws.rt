@@ -11,7 +11,7 @@ ghost use Rattle.s2ix_edit.specs.History.{changes_along, cursor_alone, one_back,
 ghost use Rattle.s2ix_edit.specs.State.{State, change_of, history_of};
 ghost use Rattle.s2ix_store.specs.Steps.{after_edit, after_forget, after_redo, after_undo, with_held};
 ghost use Rattle.s2ix_store.specs.Store.{IsStore};
-ghost use Rattle.s2ix_table.specs.Table.{Range, IsRangeTable};
+ghost use Rattle.s2ix_ranges.specs.Table.{Range, IsRangeTable};
 
 /// The change that an edit records has the two counts of exactly the pairs whose counts the edit changes.
 pub fn edit_records_differences()

@@ -14,7 +14,7 @@ ghost use Rattle.s2ix_edit.specs.Region.{cells_of, region_of as region_in};
 ghost use Rattle.s2ix_edit.specs.State.{State, change_of, history_of, starting_at};
 ghost use Rattle.s2ix_store.specs.Steps.{after_edit, after_forget, after_record, after_redo, after_undo, redo_size, undo_size};
 ghost use Rattle.s2ix_store.specs.Store.{IsStore};
-ghost use Rattle.s2ix_table.specs.Table.{IsRangeTable};
+ghost use Rattle.s2ix_ranges.specs.Table.{IsRangeTable};
 
 use crate::steps::{apply_planned, apply_recorded, shift_last};
 use crate::store_table::StoreTable;

@@ -1,4 +1,4 @@
-use s2ix_table::CopiedTable;
+use s2ix_chain::ChainTable;
 
 /// The range table that a [`Store`](crate::Store) keeps of its collection.
-pub type StoreTable = CopiedTable;
+pub type StoreTable = ChainTable;

@@ -17,7 +17,7 @@ use Rattle.s2ix_bag.specs.Collection.{Collection}
 use Rattle.s2ix_bag.specs.Label.{value_of}
 use Rattle.s2ix_bag.specs.declared.label.Label.{Label}
 use Rattle.s2ix_bag.specs.declared.pair.Held.{Held}
-use Rattle.s2ix_table.specs.Meeting.{IsLabelList}
+use Rattle.s2ix_ranges.specs.Meeting.{IsLabelList}
 
 abbrev pub by_value : Label → Label → Ordering
 by_value = on (λ (l : Label). l.value) nat_cmp

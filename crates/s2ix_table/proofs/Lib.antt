@@ -1,17 +1,2 @@
-pub mod InOrder
-pub mod Over
-pub mod Tables
-pub mod FirstShared
-pub mod Meetings
-pub mod Building
-pub mod Leads
-pub mod WalkSteps
-pub mod Visits
-pub mod Rising
-pub mod Lists
 pub mod Labelling
 pub mod Yielding
-pub mod Once
-pub mod RangeList
-pub mod LabelList
-pub mod SameMeeting

@@ -2,8 +2,8 @@
 use Rattle.std.specs.Prelude.{◌≡◌, ℕ, ◌+◌, Option, List, [], ◌∷◌, drop}
 use Rattle.std.specs.Iterator.{YieldsFirst}
 use Rattle.s2ix_table.specs.declared.iter.RangeIter.{RangeIter}
-use Rattle.s2ix_table.specs.declared.row.RangeRow.{RangeRow}
-use Rattle.s2ix_table.specs.Table.{Range}
+use Rattle.s2ix_ranges.specs.declared.row.RangeRow.{RangeRow}
+use Rattle.s2ix_ranges.specs.Table.{Range}
 
 -- the bounds of ranges with their places, counted from k
 abbrev pub numbered_rows : ℕ → List Range → List (ℕ × RangeRow)

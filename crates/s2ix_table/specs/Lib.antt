@@ -1,14 +1,2 @@
-pub mod InOrder
-pub mod Contents
-pub mod Table
-pub mod Meeting
-pub mod Copied
-pub mod Places
-pub mod Filter
-pub mod WalkState
+pub mod Pairs
 pub mod Iterators
-pub mod Calls
-pub mod Laws
-pub mod Once
-pub mod RangeList
-pub mod LabelList

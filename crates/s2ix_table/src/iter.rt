@@ -1,15 +1,15 @@
 ghost use Rattle.std.specs.Prelude.{◌≡◌, ◌<◌, ℕ, Some, length};
 ghost use Rattle.std.specs.Iterator.{AlwaysYields, YieldsFirst, item_count};
 ghost use Rattle.s2id_core.specs.CellId.{raw_of, level_of};
-ghost use Rattle.s2ix_table.specs.Contents.{contents_at};
-ghost use Rattle.s2ix_table.specs.Places.{IsPlace, from_place};
+ghost use Rattle.s2ix_ranges.specs.Contents.{contents_at};
+ghost use Rattle.s2ix_walk.specs.Places.{IsPlace, from_place};
 ghost use Rattle.s2ix_table.specs.Iterators.{numbered_rows, IsAtRange};
-ghost use Rattle.s2ix_table.specs.Table.{range_at, IsFound};
+ghost use Rattle.s2ix_ranges.specs.Table.{range_at, IsFound};
 
-use crate::row::RangeRow;
 use crate::table::RangeTable;
 use s2id_core::CellId;
 use s2ix_bag::Held;
+use s2ix_ranges::RangeRow;
 
 /// The ranges of a table with their places, in order (S2's `RangeIterator`). O(1) for each.
 #[derive(Drop)]

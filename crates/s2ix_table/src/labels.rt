@@ -1,6 +1,6 @@
 // The labels of what is met.
 ghost use Rattle.std.specs.Prelude.{IfOk};
-ghost use Rattle.s2ix_table.specs.Meeting.{IsLabelList};
+ghost use Rattle.s2ix_ranges.specs.Meeting.{IsLabelList};
 
 use s2id_core::OutOfMemory;
 use s2ix_bag::{Held, Label};

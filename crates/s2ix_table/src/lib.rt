@@ -1,22 +1,21 @@
 //! Range tables of labelled cells, and what they answer (S2's `S2CellIndex`).
 //!
 //! The leaves of the curve fall into maximal spans over which the same pairs lie. A [`RangeTable`] keeps these ranges in
-//! order, and with each of them its contents: the pairs whose cells have its leaves, the innermost cell first.
+//! order, and with each of them its contents: the pairs whose cells have its leaves, the innermost cell first. What meets a
+//! target is found by the one walk over what a [`Meter`] reads of a table.
 #![tactic(auto)]
 
-mod chains;
-mod copied;
-mod copied_range;
-mod filter;
 mod iter;
 mod labels;
-pub mod laws;
-mod met;
-mod row;
+mod meter;
+mod pairs;
 mod table;
-mod walk_state;
+mod visit;
 
-pub use copied::{CopiedPlace, CopiedTable, held_pairs};
 pub use iter::{ChainIter, RangeIter, chain_at, contents, ranges};
-pub use row::RangeRow;
+pub use meter::Meter;
+pub use pairs::held_pairs;
+pub use s2ix_ranges::RangeRow;
+pub use s2ix_walk::{Cost, Meeting, Reader, walk};
 pub use table::RangeTable;
+pub use visit::{Visit, visit_counted};

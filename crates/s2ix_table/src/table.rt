@@ -1,18 +1,19 @@
 ghost use Rattle.std.specs.Prelude.{◌≡◌, ◌<◌, ◌≤◌, ◌∷◌, IfOk, List, length, drop};
 ghost use Rattle.s2id_core.specs.CellId.{raw_of, level_of};
 ghost use Rattle.s2ix_bag.specs.Collection.{Collection, IsCollection};
-ghost use Rattle.s2ix_table.specs.LabelList.{label_list};
-ghost use Rattle.s2ix_table.specs.Table.{Range, range_at, IsRangeTable};
-ghost use Rattle.s2ix_table.specs.Places.{IsPlace, LeadsTo};
-ghost use Rattle.s2ix_table.specs.Meeting.{IsMeetingList, IsLabelList, meeting_of};
-ghost use Rattle.s2ix_table.specs.Calls.{MayVisit, Visits};
+ghost use Rattle.s2ix_ranges.specs.LabelList.{label_list};
+ghost use Rattle.s2ix_ranges.specs.Table.{Range, range_at, IsRangeTable};
+ghost use Rattle.s2ix_walk.specs.Places.{IsPlace, LeadsTo};
+ghost use Rattle.s2ix_ranges.specs.Meeting.{IsMeetingList, IsLabelList, meeting_of};
+ghost use Rattle.s2ix_walk.specs.Calls.{MayVisit, Visits};
 
 use crate::labels::labels_of;
-use crate::met::{next_met, walk_of};
-use crate::row::RangeRow;
+use crate::meter::Meter;
 use s2id_core::{CellId, OutOfMemory};
 use s2id_union::CellUnion;
 use s2ix_bag::{Bag, Held, Label};
+use s2ix_ranges::RangeRow;
+use s2ix_walk::{Meeting, walk};
 use std::alloc::Global;
 
 /// The range table of a collection: the maximal spans of leaves over which the same pairs lie, in order, each with a
@@ -84,15 +85,8 @@ pub trait RangeTable: Sized {
         requires { MayVisit F.pre F.step f.old (meeting_of target.now (pairs self.now)) }
         ensures { Visits F.step f.old (meeting_of target.now (pairs self.now)) result f.new }
     {
-        let cells = target.cells();
-        let mut walk = walk_of(self, cells);
-        while let Some(met) = next_met(self, cells, walk) {
-            if !f(met.held) {
-                return false;
-            }
-            walk = met.after;
-        }
-        true
+        let mut meter = Meter::new(self);
+        walk(&mut meter, target, f)
     }
 
     /// The target's meeting list: the held pairs that share a leaf with it, each once, by first shared leaf, then falling
@@ -101,12 +95,11 @@ pub trait RangeTable: Sized {
         ensures list { IfOk result (λ list. list.items ≡ meeting_of target.now (pairs self.now)) }
         ensures met { IfOk result (λ list. IsMeetingList target.now (pairs self.now) list.items) }
     {
-        let cells = target.cells();
+        let mut meter = Meter::new(self);
+        let mut meeting = Meeting::new(&mut meter, target);
         let mut list = Vec::new(alloc);
-        let mut walk = walk_of(self, cells);
-        while let Some(met) = next_met(self, cells, walk) {
-            list.push(met.held)?;
-            walk = met.after;
+        while let Some(held) = meeting.advance() {
+            list.push(held)?;
         }
         Ok(list)
     }

@@ -2,14 +2,12 @@
 ghost use Rattle.std.specs.Prelude.{◌≡◌, ℕ, Some, IfOk};
 ghost use Rattle.s2id_core.specs.CellId.{level_of, raw_of};
 ghost use Rattle.s2ix_bag.specs.declared.pair.Held.{Held};
-ghost use Rattle.s2ix_table.specs.Table.{IsFound, range_at};
+ghost use Rattle.s2ix_ranges.specs.Table.{IsFound, range_at};
 
 use s2id_core::CellId;
 use s2id_union::CellUnion;
 use s2ix_bag::{Held, Label};
-use s2ix_table::{
-    ChainIter, CopiedTable, RangeIter, RangeRow, RangeTable, chain_at, contents, ranges,
-};
+use s2ix_table::{ChainIter, RangeIter, RangeRow, RangeTable, chain_at, contents, ranges};
 use std::alloc::Global;
 use std::fmt::{Debug, Display};
 use std::test::Fail;
@@ -50,7 +48,7 @@ fn leaf_numbered(number: u64) -> Result<CellId, Fail>
 }
 
 // Whether a chain gives these pairs.
-fn gives(mut chain: ChainIter<'_, CopiedTable>, pairs: &[Held]) -> bool {
+fn gives<T: RangeTable>(mut chain: ChainIter<'_, T>, pairs: &[Held]) -> bool {
     for &held in pairs {
         if chain.next() != Some(held) {
             return false;
@@ -60,12 +58,12 @@ fn gives(mut chain: ChainIter<'_, CopiedTable>, pairs: &[Held]) -> bool {
 }
 
 // Whether the contents of a range are these pairs.
-fn has_contents(table: &CopiedTable, k: usize, pairs: &[Held]) -> bool {
+fn has_contents<T: RangeTable>(table: &T, k: usize, pairs: &[Held]) -> bool {
     k < table.range_count() && gives(contents(table, k), pairs)
 }
 
 // Whether the places of a range lead outwards over these pairs: to the first two of them, and where there are more, further.
-fn has_places(table: &CopiedTable, k: usize, pairs: &[Held]) -> bool {
+fn has_places<T: RangeTable>(table: &T, k: usize, pairs: &[Held]) -> bool {
     if k >= table.range_count() {
         return false;
     }
@@ -82,22 +80,22 @@ fn has_places(table: &CopiedTable, k: usize, pairs: &[Held]) -> bool {
 }
 
 // Whether these pairs lie over the leaf with a number.
-fn lie_over(table: &CopiedTable, leaf: u64, pairs: &[Held]) -> Result<bool, Fail> {
+fn lie_over<T: RangeTable>(table: &T, leaf: u64, pairs: &[Held]) -> Result<bool, Fail> {
     Ok(gives(chain_at(table, leaf_numbered(leaf)?), pairs))
 }
 
 // Whether this range is the k-th.
-fn is_range(table: &CopiedTable, k: usize, range: RangeRow) -> bool {
+fn is_range<T: RangeTable>(table: &T, k: usize, range: RangeRow) -> bool {
     k < table.range_count() && table.range(k) == range
 }
 
 // Which range has the leaf with a number.
-fn place_of(table: &CopiedTable, leaf: u64) -> Result<usize, Fail> {
+fn place_of<T: RangeTable>(table: &T, leaf: u64) -> Result<usize, Fail> {
     Ok(table.find(leaf_numbered(leaf)?))
 }
 
 // The range that has a leaf, given by an iterator that gave no other before.
-fn seek_first(table: &CopiedTable, leaf: u64) -> Result<Option<(usize, RangeRow)>, Fail> {
+fn seek_first<T: RangeTable>(table: &T, leaf: u64) -> Result<Option<(usize, RangeRow)>, Fail> {
     let mut rows = ranges(table);
     rows.seek(leaf_numbered(leaf)?);
     Ok(rows.next())
@@ -117,7 +115,7 @@ fn seek_again<T: RangeTable>(table: &T, leaf: CellId) -> Option<(usize, RangeRow
 }
 
 // Whether a leaf leads to the k-th range, by its place and by an iterator that is at the start or is not.
-fn is_found(table: &CopiedTable, leaf: u64, k: usize, range: RangeRow) -> Result<bool, Fail> {
+fn is_found<T: RangeTable>(table: &T, leaf: u64, k: usize, range: RangeRow) -> Result<bool, Fail> {
     Ok(
         place_of(table, leaf)? == k
             && seek_first(table, leaf)? == Some((k, range))
@@ -126,9 +124,9 @@ fn is_found(table: &CopiedTable, leaf: u64, k: usize, range: RangeRow) -> Result
 }
 
 /// Compares the k-th range of a table, and what lies over it, by its place and by its first leaf and its last.
-pub(crate) fn check_range<R: Display>(
+pub(crate) fn check_range<R: Display, T: RangeTable>(
     row: &R,
-    table: &CopiedTable,
+    table: &T,
     k: usize,
     range: RangeRow,
     pairs: &[Held],
@@ -160,7 +158,7 @@ pub(crate) fn check_range<R: Display>(
 }
 
 // Whether an iterator gives these ranges, with their places, and no other.
-fn gives_ranges(rows: &mut RangeIter<'_, CopiedTable>, wanted: &[RangeRow]) -> bool {
+fn gives_ranges<T: RangeTable>(rows: &mut RangeIter<'_, T>, wanted: &[RangeRow]) -> bool {
     for (k, &range) in wanted.iter().enumerate() {
         if rows.next() != Some((k, range)) {
             return false;
@@ -170,7 +168,10 @@ fn gives_ranges(rows: &mut RangeIter<'_, CopiedTable>, wanted: &[RangeRow]) -> b
 }
 
 // Whether the last leaf leads an iterator back to the last of these ranges.
-fn leads_back(rows: &mut RangeIter<'_, CopiedTable>, wanted: &[RangeRow]) -> Result<bool, Fail> {
+fn leads_back<T: RangeTable>(
+    rows: &mut RangeIter<'_, T>,
+    wanted: &[RangeRow],
+) -> Result<bool, Fail> {
     rows.seek(leaf_numbered(0xbfffffffffffffff)?);
     let Some((k, range)) = rows.next() else {
         return Ok(false);
@@ -179,9 +180,9 @@ fn leads_back(rows: &mut RangeIter<'_, CopiedTable>, wanted: &[RangeRow]) -> Res
 }
 
 /// Compares the ranges of a table, in order.
-pub(crate) fn check_ranges<R: Display>(
+pub(crate) fn check_ranges<R: Display, T: RangeTable>(
     row: &R,
-    table: &CopiedTable,
+    table: &T,
     wanted: &[RangeRow],
 ) -> Result<(), Fail> {
     expect(
@@ -202,7 +203,7 @@ fn visit<T: RangeTable, F: FnMut(Held) -> bool>(table: &T, target: &CellUnion, f
 }
 
 // Whether a visit by a closure that answers false at its call number `stop` alone is called on these pairs, up to that call.
-fn visits(table: &CopiedTable, target: &CellUnion, pairs: &[Held], stop: usize) -> bool {
+fn visits<T: RangeTable>(table: &T, target: &CellUnion, pairs: &[Held], stop: usize) -> bool {
     let mut calls = 0usize;
     let mut in_order = true;
     let whole = visit(
@@ -218,10 +219,10 @@ fn visits(table: &CopiedTable, target: &CellUnion, pairs: &[Held], stop: usize) 
 }
 
 /// Compares the pairs that meet a target, with the first call of a visit, the second, the last or none that answers false, and their labels.
-pub(crate) fn check_target<R: Display>(
+pub(crate) fn check_target<R: Display, T: RangeTable>(
     row: &R,
     alloc: Global,
-    table: &CopiedTable,
+    table: &T,
     target: &CellUnion,
     pairs: &[Held],
     labels: &[Label],

@@ -2,8 +2,9 @@
 
 use s2id_core::CellId;
 use s2id_union::CellUnion;
-use s2ix_bag::{Bag, Change, Entry, Held, Label, Limits, Pair};
-use s2ix_table::{CopiedTable, RangeTable};
+use s2ix_bag::{Bag, Held, Label, Limits, Pair};
+use s2ix_samples::with_more;
+use s2ix_table::RangeTable;
 use std::alloc::Global;
 use std::test::Fail;
 
@@ -53,38 +54,17 @@ pub(crate) fn union_of(alloc: Global, tokens: &[&[u8]]) -> Result<CellUnion, Fai
     Ok(CellUnion::normalise(alloc, &cells)?)
 }
 
-// The change that adds copies of a pair, one at least.
-fn addition(alloc: Global, bag: &Bag, added: Held) -> Result<Change, Fail> {
-    let before = bag.count(added.pair);
-    let after = before.saturating_add(added.count);
-    if before == after {
-        return Err(Fail::new("an addition changes no count"));
-    }
-    let entry = Entry {
-        pair: added.pair,
-        before,
-        after,
-    };
-    Ok(Change::from_vec(vec![in alloc; entry]?))
-}
-
-/// The bag with more copies of a pair.
-pub(crate) fn with_more(alloc: Global, bag: &Bag, added: Held) -> Result<Bag, Fail> {
-    let change = addition(alloc, bag, added)?;
-    Ok(bag.applied(alloc, &change)?)
-}
-
 // The bag of pairs that are held once.
 fn bag_of(alloc: Global, rows: &[PairRow]) -> Result<Bag, Fail> {
     let mut bag = Bag::empty(alloc, Limits::default());
     for &row in rows {
-        bag = with_more(alloc, &bag, held_of(row)?)?;
+        bag = with_more(alloc, &bag, held_of(row)?).ok_or("no bag")?;
     }
     Ok(bag)
 }
 
 /// The table of pairs that are held once.
-pub(crate) fn table_of(alloc: Global, rows: &[PairRow]) -> Result<CopiedTable, Fail> {
+pub(crate) fn table_of<T: RangeTable + Drop>(alloc: Global, rows: &[PairRow]) -> Result<T, Fail> {
     let bag = bag_of(alloc, rows)?;
-    Ok(CopiedTable::build(alloc, &bag)?)
+    Ok(T::build(alloc, &bag)?)
 }

@@ -2,7 +2,9 @@
 use crate::checks::{check_range, check_ranges, check_target};
 use crate::samples::{PairRow, labels_of, list_of, table_of, union_of};
 use s2id_union::CellUnion;
-use s2ix_table::{CopiedTable, RangeRow};
+use s2ix_chain::ChainTable;
+use s2ix_copied::CopiedTable;
+use s2ix_table::{RangeRow, RangeTable};
 use std::alloc::Global;
 use std::test::Fail;
 
@@ -46,13 +48,13 @@ const TABLES: [Worked; 2] = [
 ];
 
 // Compares the ranges of a table and what lies over each of them.
-fn check_table(alloc: Global, worked: &Worked) -> Result<(), Fail> {
-    let table = table_of(alloc, worked.pairs)?;
+fn check_table<T: RangeTable + Drop>(alloc: Global, worked: &Worked) -> Result<(), Fail> {
+    let table: T = table_of(alloc, worked.pairs)?;
     check_ranges(&worked.name, &table, worked.ranges)?;
     check_over(alloc, &table, worked)
 }
 
-fn check_over(alloc: Global, table: &CopiedTable, worked: &Worked) -> Result<(), Fail> {
+fn check_over<T: RangeTable>(alloc: Global, table: &T, worked: &Worked) -> Result<(), Fail> {
     for (k, (&range, over)) in worked.ranges.iter().zip(worked.over).enumerate() {
         let over = list_of(alloc, over)?;
         check_range(&worked.name, table, k, range, &over)?;
@@ -62,7 +64,8 @@ fn check_over(alloc: Global, table: &CopiedTable, worked: &Worked) -> Result<(),
 
 fn check_tables(alloc: Global, tables: &[Worked]) -> Result<(), Fail> {
     for worked in tables {
-        check_table(alloc, worked)?;
+        check_table::<CopiedTable>(alloc, worked)?;
+        check_table::<ChainTable>(alloc, worked)?;
     }
     Ok(())
 }
@@ -113,19 +116,19 @@ const MEETINGS: [Meeting; 4] = [
 ];
 
 // Compares the pairs that meet a target, and their labels.
-fn check_meeting(alloc: Global, meeting: &Meeting) -> Result<(), Fail> {
-    let table = table_of(alloc, meeting.pairs)?;
+fn check_meeting<T: RangeTable + Drop>(alloc: Global, meeting: &Meeting) -> Result<(), Fail> {
+    let table: T = table_of(alloc, meeting.pairs)?;
     check_cells(alloc, &table, meeting)
 }
 
-fn check_cells(alloc: Global, table: &CopiedTable, meeting: &Meeting) -> Result<(), Fail> {
+fn check_cells<T: RangeTable>(alloc: Global, table: &T, meeting: &Meeting) -> Result<(), Fail> {
     let target = union_of(alloc, meeting.cells)?;
     check_met(alloc, table, &target, meeting)
 }
 
-fn check_met(
+fn check_met<T: RangeTable>(
     alloc: Global,
-    table: &CopiedTable,
+    table: &T,
     target: &CellUnion,
     meeting: &Meeting,
 ) -> Result<(), Fail> {
@@ -136,7 +139,8 @@ fn check_met(
 
 fn check_meetings(alloc: Global, meetings: &[Meeting]) -> Result<(), Fail> {
     for meeting in meetings {
-        check_meeting(alloc, meeting)?;
+        check_meeting::<CopiedTable>(alloc, meeting)?;
+        check_meeting::<ChainTable>(alloc, meeting)?;
     }
     Ok(())
 }

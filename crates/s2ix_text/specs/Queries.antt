@@ -7,7 +7,7 @@ use Rattle.s2id_core.specs.Token.{canonical_token, sixteen_digits}
 use Rattle.s2ix_bag.specs.Label.{value_of}
 use Rattle.s2ix_bag.specs.declared.label.Label.{Label}
 use Rattle.s2ix_bag.specs.declared.pair.Held.{Held}
-use Rattle.s2ix_table.specs.Table.{Range}
+use Rattle.s2ix_ranges.specs.Table.{Range}
 
 -- the last line of a list: end N
 unfoldable pub end_of_list : ℕ → List ℕ

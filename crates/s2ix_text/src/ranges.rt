@@ -1,7 +1,7 @@
 ghost use Rattle.std.specs.Prelude.{◌≡◌, ◌<◌, flat_map, length};
 ghost use Rattle.s2id_core.specs.CellId.{level_of, raw_of};
-ghost use Rattle.s2ix_table.specs.Contents.{contents_at};
-ghost use Rattle.s2ix_table.specs.Table.{range_at};
+ghost use Rattle.s2ix_ranges.specs.Contents.{contents_at};
+ghost use Rattle.s2ix_ranges.specs.Table.{range_at};
 ghost use Rattle.s2ix_io.specs.Faults.{CanCount};
 ghost use Rattle.s2ix_io.specs.Puts.{Writes};
 ghost use Rattle.s2ix_text.specs.Queries.{bounds_text, held_line, list_text, range_line, spaced_pair};

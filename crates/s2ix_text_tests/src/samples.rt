@@ -5,8 +5,9 @@ ghost use Rattle.s2id_core.specs.CellId.{level_of};
 use s2id_core::CellId;
 use s2id_samples::cell_of;
 use s2ix_bag::{Change, Held, Label};
+use s2ix_copied::CopiedTable;
 use s2ix_samples::{WIDEST, bag_of, held_of, label_of};
-use s2ix_table::{CopiedTable, RangeTable};
+use s2ix_table::RangeTable;
 use std::alloc::Global;
 
 // Two collections, the old one and the new one.

@@ -1,7 +1,11 @@
+pub mod Leads
+pub mod Visits
+pub mod Meetings
 pub mod Digits
 pub mod Counts
 pub mod Windows
 pub mod Walked
+pub mod WalkSteps
 pub mod Paying
 pub mod Calling
 pub mod Meets

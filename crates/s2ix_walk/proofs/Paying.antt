@@ -9,9 +9,9 @@ use Rattle.s2id_core.specs.declared.cell_id.CellId.{CellId}
 use Rattle.s2id_core.specs.CellId.{raw_of, first_of, end_of}
 use Rattle.s2id_core.proofs.Nested.{span}
 use Rattle.s2ix_bag.specs.declared.pair.Held.{Held}
-use Rattle.s2ix_table.specs.Meeting.{meeting_key, is_met_from, meeting_from, meeting_of}
-use Rattle.s2ix_table.specs.Table.{Range, range_at}
-use Rattle.s2ix_table.proofs.InOrder.{length_choice}
+use Rattle.s2ix_ranges.specs.Meeting.{meeting_key, is_met_from, meeting_from, meeting_of}
+use Rattle.s2ix_ranges.specs.Table.{Range, range_at}
+use Rattle.s2ix_ranges.proofs.InOrder.{length_choice}
 use Rattle.s2ix_walk.specs.Costs.{no_cost, with_look, binary_digits, is_met, IsWalkCost}
 use Rattle.s2ix_walk.specs.Shown.{Shown, IsShown}
 use Rattle.s2ix_walk.specs.Walking.{left_of, IsPaid, HasPaid, one_if_some, looked_at, cells_begun, ends_passed}

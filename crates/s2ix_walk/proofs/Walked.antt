@@ -1,13 +1,10 @@
--- The walk's state in the words of the steps over ranges.
+-- Leaves of a target, by a test and by a cell.
 use Rattle.std.proofs.Common.{◌≡◌, ℕ, true, List, le-leb, lt-ltb}
 use Rattle.std.proofs.lemmas.Bool.{and_parts, and_from, leb-true, ltb-true}
 use Rattle.std.proofs.lemmas.List.Folds.{Any-from_list_any, list_any-from_Any}
 use Rattle.s2id_core.specs.declared.cell_id.CellId.{CellId}
 use Rattle.s2id_union.specs.Covers.{Covers}
-use Rattle.s2ix_table.specs.WalkState.{IsWalkState}
-use Rattle.s2ix_walk.specs.Shown.{Shown}
-use Rattle.s2ix_walk.specs.Walking.{IsWalk, is_covered}
-use Rattle.s2ix_walk.specs.declared.walk_state.WalkState.{WalkState}
+use Rattle.s2ix_walk.specs.Walking.{is_covered}
 
 pub covered : (target : List CellId) (q : ℕ) → is_covered target q ≡ true → Covers target q
 covered target q e =
@@ -18,13 +15,3 @@ covered target q e =
 pub covered_from : (target : List CellId) (q : ℕ) → Covers target q → is_covered target q ≡ true
 covered_from target q v =
     list_any-from_Any _ target (v.held.0, v.cell, v.held.1, v.held.2, and_from _ _ (le-leb _ _ v.from) (lt-ltb _ _ v.to))
-
-pub walk_from : {P : Type 0} (shown : Shown P) (target : List CellId) (walk : WalkState P) → IsWalkState shown.chain target shown.ranges (record { cell = walk.cell; range = walk.range; seen = walk.seen; from = walk.from; place = walk.place }) → IsWalk shown target walk
-walk_from shown target walk is = record {
-  odd = is.odd;
-  within = is.within;
-  tight = λ q some e. covered_from target q (is.tight q some e);
-  passed = is.passed;
-  found = is.found;
-  place = is.place;
-}

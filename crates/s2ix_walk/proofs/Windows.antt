@@ -2,8 +2,8 @@
 use Rattle.std.proofs.Common.{◌≡◌, ℕ, ◌+◌, ◌-◌, ◌/◌, ◌<◌, ◌≤◌, inl, inr, List, length, ap, arith, refl}
 use Rattle.std.proofs.lemmas.Bool.{cases_lt}
 use Rattle.s2ix_bag.specs.Collection.{Collection}
-use Rattle.s2ix_table.specs.Table.{Range, range_at, leaf_end, IsRangeTable, IsFound}
-use Rattle.s2ix_table.proofs.Building.{limits_rise}
+use Rattle.s2ix_ranges.specs.Table.{Range, range_at, leaf_end, IsRangeTable, IsFound}
+use Rattle.s2ix_ranges.proofs.Tables.{limits_rise}
 
 -- the range with a leaf is one of `size` from `first` on
 pub record IsWindow (ranges : List Range) (leaf first size : ℕ) : Type 0 where

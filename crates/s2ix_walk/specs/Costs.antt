@@ -4,7 +4,7 @@ use Rattle.std.specs.Int.Digits.{digits_of}
 use Rattle.std.specs.List.{count_by, list_any}
 use Rattle.s2id_core.specs.declared.cell_id.CellId.{CellId}
 use Rattle.s2id_core.specs.CellId.{first_of, end_of}
-use Rattle.s2ix_table.specs.Table.{Range}
+use Rattle.s2ix_ranges.specs.Table.{Range}
 use Rattle.s2ix_walk.specs.declared.cost.Cost.{Cost}
 
 -- nothing was read

@@ -1,3 +1,5 @@
+pub mod Places
+pub mod Calls
 pub mod Shown
 pub mod Costs
 pub mod Walking

@@ -1,18 +1,22 @@
 -- Where a walk over the ranges that a target meets stands, what it has still to give, and what it may have read so far: private words of the
 -- walk.
-use Rattle.std.specs.Prelude.{◌≡◌, ℕ, ◌+◌, ◌-◌, ◌*◌, ◌%◌, ◌<◌, ◌≤◌, nat_le, nat_lt, ◌&&◌, Bool, true, Option, Some, None, List, ◌++◌, length}
+use Rattle.std.specs.Prelude.{◌≡◌, ℕ, ◌+◌, ◌-◌, ◌*◌, ◌%◌, ◌<◌, ◌≤◌, nat_le, nat_lt, ◌&&◌, if◌then◌else◌, Bool, true, Option, Some, None, List, [], ◌∷◌, ◌++◌, length, slice_index_or}
 use Rattle.std.specs.List.{count_by, list_any}
 use Rattle.s2id_core.specs.declared.cell_id.CellId.{CellId}
 use Rattle.s2id_core.specs.CellId.{first_of, end_of}
 use Rattle.s2ix_bag.specs.Collection.{Collection}
-use Rattle.s2ix_table.specs.Meeting.{meeting_from, meeting_of}
-use Rattle.s2ix_table.specs.Places.{IsPlace, from_place}
-use Rattle.s2ix_table.specs.Table.{Range, IsFound, leaf_end}
-use Rattle.s2ix_table.specs.WalkState.{front_from, ArePassed}
+use Rattle.s2ix_ranges.specs.Meeting.{meeting_from, meeting_of}
+use Rattle.s2ix_walk.specs.Places.{IsPlace, from_place}
+use Rattle.s2ix_ranges.specs.Table.{Range, IsFound, leaf_end}
 use Rattle.s2ix_walk.specs.declared.cost.Cost.{Cost}
 use Rattle.s2ix_walk.specs.declared.walk_state.WalkState.{WalkState}
 use Rattle.s2ix_walk.specs.Costs.{with_look, binary_digits, is_met}
 use Rattle.s2ix_walk.specs.Shown.{Shown}
+
+-- the pairs of a chain up to the first whose cell begins before a leaf
+unfoldable pub front_from : ℕ → Collection → Collection
+front_from from [] = []
+front_from from (h ∷ hs) = if nat_le from (first_of h.pair.cell) then h ∷ front_from from hs else []
 
 -- the pairs that are still to be met: what is new of the chain at hand, and then the meeting list from `seen` on
 abbrev pub left_of : {P : Type 0} → Shown P → List CellId → WalkState P → Collection
@@ -21,6 +25,10 @@ left_of shown target walk = front_from walk.from (from_place shown.chain walk.pl
 -- whether a number lies in the span of a cell of a list
 abbrev pub is_covered : List CellId → ℕ → Bool
 is_covered target q = list_any (λ c. nat_le (first_of c) q && nat_lt q (end_of c)) target
+
+-- the first cells of a target end by a leaf
+abbrev pub ArePassed : List CellId → ℕ → ℕ → Type 0
+ArePassed target k seen = (j : ℕ) (d : CellId) → j < k → j < length target → end_of (slice_index_or target j d) ≤ seen
 
 -- the range at hand has the leaf `seen`, unless there is none; the leaf before it is the target's, unless there is none
 pub record IsWalk {P : Type 0} (shown : Shown P) (target : List CellId) (walk : WalkState P) : Type 0 where

@@ -21,15 +21,15 @@ impl Cost {
         }
     }
 
-    // The cost with one pair more.
-    pub(crate) fn add_look(&mut self)
+    /// Counts one pair more.
+    pub fn add_look(&mut self)
         ensures { self.new ≡ with_look self.old }
     {
         self.looks = self.looks.saturating_add(1);
     }
 
-    // The cost with one range more.
-    pub(crate) fn add_probe(&mut self)
+    /// Counts one range more.
+    pub fn add_probe(&mut self)
         ensures { self.new ≡ with_probe self.old }
     {
         self.probes = self.probes.saturating_add(1);

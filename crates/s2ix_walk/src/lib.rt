@@ -7,7 +7,6 @@
 mod cost;
 pub mod laws;
 mod meeting;
-mod meter;
 mod reader;
 mod search;
 mod steps;
@@ -16,6 +15,5 @@ mod walk_state;
 
 pub use cost::Cost;
 pub use meeting::Meeting;
-pub use meter::Meter;
 pub use reader::Reader;
-pub use visit::{Visit, visit_counted, walk};
+pub use visit::walk;

@@ -1,7 +1,7 @@
 ghost use Rattle.std.specs.Prelude.{◌≡◌};
 ghost use Rattle.std.specs.Iterator.{YieldsFirst, item_count};
 ghost use Rattle.s2id_union.specs.Covers.{FollowOneAnother};
-ghost use Rattle.s2ix_table.specs.Meeting.{meeting_of};
+ghost use Rattle.s2ix_ranges.specs.Meeting.{meeting_of};
 ghost use Rattle.s2ix_walk.specs.Costs.{no_cost};
 ghost use Rattle.s2ix_walk.specs.Walking.{IsWalk, HasPaid};
 

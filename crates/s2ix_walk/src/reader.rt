@@ -1,13 +1,13 @@
 ghost use Rattle.std.specs.Prelude.{◌≡◌, ◌<◌, ◌∷◌, length, drop};
-ghost use Rattle.s2ix_table.specs.Places.{IsPlace, LeadsTo};
-ghost use Rattle.s2ix_table.specs.Table.{range_at};
+ghost use Rattle.s2ix_walk.specs.Places.{IsPlace, LeadsTo};
+ghost use Rattle.s2ix_ranges.specs.Table.{range_at};
 ghost use Rattle.s2ix_walk.specs.Costs.{with_look, with_probe};
 ghost use Rattle.s2ix_walk.specs.Shown.{Shown, IsShown};
 ghost use Rattle.s2ix_walk.specs.declared.cost.Cost.{Cost as CostSpent};
 
 use crate::cost::Cost;
 use s2ix_bag::Held;
-use s2ix_table::RangeRow;
+use s2ix_ranges::RangeRow;
 
 /// Something that reads a range table and counts what it reads: each pair is a look, each range a probe. No other call gives a pair
 /// or the bounds of a range. This project's own.

@@ -1,7 +1,7 @@
 // The range that has a leaf, found by reading few ranges.
 ghost use Rattle.std.specs.Prelude.{◌≡◌, ◌+◌, ◌<◌, ◌≤◌, length, max};
 ghost use Rattle.s2id_core.specs.CellId.{first_of, end_of};
-ghost use Rattle.s2ix_table.specs.Table.{IsFound, leaf_end};
+ghost use Rattle.s2ix_ranges.specs.Table.{IsFound, leaf_end};
 ghost use Rattle.s2ix_walk.specs.Costs.{binary_digits};
 
 use crate::reader::Reader;

@@ -3,10 +3,9 @@ ghost use Rattle.std.specs.Prelude.{◌≡◌, ◌<◌, ◌≤◌, ◌+◌, ◌�
 ghost use Rattle.s2id_core.specs.declared.cell_id.CellId.{CellId};
 ghost use Rattle.s2id_core.specs.CellId.{end_of};
 ghost use Rattle.s2id_union.specs.Covers.{FollowOneAnother};
-ghost use Rattle.s2ix_table.specs.Meeting.{meeting_from};
-ghost use Rattle.s2ix_table.specs.Places.{IsPlace, from_place};
-ghost use Rattle.s2ix_table.specs.WalkState.{ArePassed, front_from};
-ghost use Rattle.s2ix_walk.specs.Walking.{left_of, IsWalk, IsPaid, looked_at, one_if_some};
+ghost use Rattle.s2ix_ranges.specs.Meeting.{meeting_from};
+ghost use Rattle.s2ix_walk.specs.Places.{IsPlace, from_place};
+ghost use Rattle.s2ix_walk.specs.Walking.{front_from, left_of, ArePassed, IsWalk, IsPaid, looked_at, one_if_some};
 
 use crate::reader::Reader;
 use crate::search::range_from;

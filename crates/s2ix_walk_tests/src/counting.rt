@@ -4,8 +4,7 @@ ghost use Rattle.s2ix_bag.specs.declared.pair.Held.{Held};
 
 use s2id_union::CellUnion;
 use s2ix_bag::Held;
-use s2ix_table::{CopiedTable, RangeRow, RangeTable, ranges};
-use s2ix_walk::{Cost, Meeting, Meter, Visit, visit_counted};
+use s2ix_table::{Cost, Meeting, Meter, RangeRow, RangeTable, Visit, ranges, visit_counted};
 use std::fmt::Display;
 use std::test::Fail;
 
@@ -38,8 +37,8 @@ pub(crate) struct Seen {
     pub(crate) cost: Cost,
 }
 
-pub(crate) fn seen_by(
-    table: &CopiedTable,
+pub(crate) fn seen_by<T: RangeTable>(
+    table: &T,
     target: &CellUnion,
     pairs: &[Held],
     stop: usize,
@@ -79,7 +78,7 @@ fn is_met(range: RangeRow, target: &CellUnion) -> bool {
 }
 
 // How many ranges of a table share a leaf with a target.
-fn ranges_met(table: &CopiedTable, target: &CellUnion) -> u64 {
+fn ranges_met<T: RangeTable>(table: &T, target: &CellUnion) -> u64 {
     let mut met = 0u64;
     for (_, range) in ranges(table) {
         if is_met(range, target) {
@@ -90,7 +89,7 @@ fn ranges_met(table: &CopiedTable, target: &CellUnion) -> u64 {
 }
 
 // Whether a cost keeps to the bounds for so many calls.
-fn is_bounded(table: &CopiedTable, target: &CellUnion, calls: usize, cost: Cost) -> bool {
+fn is_bounded<T: RangeTable>(table: &T, target: &CellUnion, calls: usize, cost: Cost) -> bool {
     let (calls, cells) = (calls as u64, target.cells().len() as u64);
     let passed = ranges_met(table, target).wrapping_add(cells);
     let count = (table.range_count() as u64).wrapping_add(1);
@@ -101,7 +100,7 @@ fn is_bounded(table: &CopiedTable, target: &CellUnion, calls: usize, cost: Cost)
 }
 
 // Whether the pairs that meet a target, read one by one, are these.
-fn gives(table: &CopiedTable, target: &CellUnion, pairs: &[Held]) -> bool {
+fn gives<T: RangeTable>(table: &T, target: &CellUnion, pairs: &[Held]) -> bool {
     let mut meter = Meter::new(table);
     let mut meeting = Meeting::new(&mut meter, target);
     for &held in pairs {
@@ -113,9 +112,9 @@ fn gives(table: &CopiedTable, target: &CellUnion, pairs: &[Held]) -> bool {
 }
 
 // Compares what visits of a target call, with the first call that answers false, the second, the last or none, and bounds what they read.
-pub(crate) fn check_target<R: Display>(
+pub(crate) fn check_target<R: Display, T: RangeTable>(
     row: &R,
-    table: &CopiedTable,
+    table: &T,
     target: &CellUnion,
     pairs: &[Held],
 ) -> Result<(), Fail> {

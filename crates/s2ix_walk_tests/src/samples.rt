@@ -1,8 +1,9 @@
 // Unions and tables from plain data.
 use s2id_core::CellId;
 use s2id_union::CellUnion;
-use s2ix_bag::{Bag, Change, Entry, Label, Limits, Pair};
-use s2ix_table::{CopiedTable, RangeTable};
+use s2ix_bag::{Bag, Held, Label, Limits, Pair};
+use s2ix_samples::with_more;
+use s2ix_table::RangeTable;
 use std::alloc::Global;
 use std::test::Fail;
 
@@ -18,34 +19,21 @@ pub(crate) fn union_of(alloc: Global, tokens: &[&[u8]]) -> Result<CellUnion, Fai
     Ok(CellUnion::normalise(alloc, &cells)?)
 }
 
-// The pair of a cell and a label.
-pub(crate) fn pair_of(cell: CellId, label: u32) -> Result<Pair, Fail> {
+// A pair that is held once.
+fn held_of((token, label): PairRow) -> Result<Held, Fail> {
+    let cell = CellId::from_token(token)?;
     let label = Label::new(label).ok_or("a label is out of its range")?;
-    Ok(Pair { cell, label })
-}
-
-// The bag with one copy more of a pair.
-pub(crate) fn with_pair(alloc: Global, bag: &Bag, pair: Pair) -> Result<Bag, Fail> {
-    let before = bag.count(pair);
-    let after = before.saturating_add(1);
-    if before == after {
-        return Err(Fail::new("a copy more changes no count"));
-    }
-    let entry = Entry {
-        pair,
-        before,
-        after,
-    };
-    let change = Change::from_vec(vec![in alloc; entry]?);
-    Ok(bag.applied(alloc, &change)?)
+    Ok(Held {
+        pair: Pair { cell, label },
+        count: 1,
+    })
 }
 
 // The table of pairs that are held once.
-pub(crate) fn table_of(alloc: Global, rows: &[PairRow]) -> Result<CopiedTable, Fail> {
+pub(crate) fn table_of<T: RangeTable + Drop>(alloc: Global, rows: &[PairRow]) -> Result<T, Fail> {
     let mut bag = Bag::empty(alloc, Limits::default());
-    for &(token, label) in rows {
-        let pair = pair_of(CellId::from_token(token)?, label)?;
-        bag = with_pair(alloc, &bag, pair)?;
+    for &row in rows {
+        bag = with_more(alloc, &bag, held_of(row)?).ok_or("no bag")?;
     }
-    Ok(CopiedTable::build(alloc, &bag)?)
+    Ok(T::build(alloc, &bag)?)
 }

@@ -2,8 +2,9 @@
 use crate::counting::{check_target, expect, seen_by};
 use crate::samples::{PairRow, table_of, union_of};
 use s2id_union::CellUnion;
-use s2ix_table::{CopiedTable, RangeTable};
-use s2ix_walk::Cost;
+use s2ix_chain::ChainTable;
+use s2ix_copied::CopiedTable;
+use s2ix_table::{Cost, RangeTable};
 use std::alloc::Global;
 use std::test::Fail;
 
@@ -64,10 +65,10 @@ const VISITS: [Worked; 4] = [
     },
 ];
 
-fn check_cells(
+fn check_cells<T: RangeTable>(
     alloc: Global,
     worked: &Worked,
-    table: &CopiedTable,
+    table: &T,
     target: &CellUnion,
 ) -> Result<(), Fail> {
     let pairs = table.meeting(alloc, target)?;
@@ -85,15 +86,16 @@ fn check_cells(
     )
 }
 
-fn check_visit(alloc: Global, worked: &Worked) -> Result<(), Fail> {
-    let table = table_of(alloc, worked.pairs)?;
+fn check_visit<T: RangeTable + Drop>(alloc: Global, worked: &Worked) -> Result<(), Fail> {
+    let table: T = table_of(alloc, worked.pairs)?;
     let target = union_of(alloc, worked.cells)?;
     check_cells(alloc, worked, &table, &target)
 }
 
 fn check_visits(alloc: Global, visits: &[Worked]) -> Result<(), Fail> {
     for worked in visits {
-        check_visit(alloc, worked)?;
+        check_visit::<CopiedTable>(alloc, worked)?;
+        check_visit::<ChainTable>(alloc, worked)?;
     }
     Ok(())
 }

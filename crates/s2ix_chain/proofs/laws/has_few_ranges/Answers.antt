@@ -1,5 +1,5 @@
 use Rattle.std.proofs.Common.{◌≡◌, ◌≤◌, arith}
-use Rattle.s2ix_table.specs.Table.{leaf_end}
+use Rattle.s2ix_ranges.specs.Table.{leaf_end}
 use Rattle.s2ix_chain.proofs.Runs.{length_runs}
 use Rattle.s2ix_chain.proofs.laws.has_few_ranges.Goals as goal
 

@@ -1,6 +1,6 @@
 use Rattle.std.proofs.Common.{refl, arith}
 use Rattle.std.proofs.lemmas.Option.{slice_get_past}
-use Rattle.s2ix_table.proofs.Leads.{leads_some, leads_none}
+use Rattle.s2ix_walk.proofs.Leads.{leads_some, leads_none}
 use Rattle.s2ix_chain.specs.Chains.{chain_of}
 use Rattle.s2ix_chain.proofs.Chains.{chain_none, chain_some}
 use Rattle.s2ix_chain.proofs.places.place_of.Goals as goal

@@ -2,8 +2,8 @@
 use Rattle.std.proofs.Common.{List, refl, subst}
 use Rattle.std.specs.Io.KnownBytes.{Appends}
 use Rattle.std.proofs.lemmas.Result.{err_from_is_err_and}
-use Rattle.s2ix_table.proofs.RangeList.{is_range_table}
-use Rattle.s2ix_table.specs.Table.{Range}
+use Rattle.s2ix_ranges.proofs.RangeList.{is_range_table}
+use Rattle.s2ix_ranges.specs.Table.{Range}
 use Rattle.s2ix_io.specs.Puts.{AppendsFront}
 use Rattle.s2ix_text.specs.Queries.{list_text, range_line}
 use Rattle.s2ix_step.proofs.queries.print_ranges.Goals as goal

@@ -2,7 +2,7 @@ use Rattle.std.proofs.Common.{◌≡◌, ◌%◌, sym, arith}
 use Rattle.s2id_core.specs.CellId.{raw_of}
 use Rattle.s2id_core.proofs.Nested.{leaf_span, span}
 use Rattle.s2ix_table.specs.declared.iter.ChainIter.{ChainIter}
-use Rattle.s2ix_table.specs.Places.{from_place}
+use Rattle.s2ix_walk.specs.Places.{from_place}
 use Rattle.s2ix_table.proofs.Yielding.{yields_same}
 use Rattle.s2ix_table.proofs.iter.chain_at.Goals as goal
 

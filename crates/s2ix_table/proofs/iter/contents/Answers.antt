@@ -1,5 +1,5 @@
 use Rattle.s2ix_table.specs.declared.iter.ChainIter.{ChainIter}
-use Rattle.s2ix_table.specs.Places.{from_place}
+use Rattle.s2ix_walk.specs.Places.{from_place}
 use Rattle.s2ix_table.proofs.Yielding.{yields_rest}
 use Rattle.s2ix_table.proofs.iter.contents.Goals as goal
 

@@ -1,4 +1,4 @@
-use Rattle.s2ix_table.proofs.Visits.{may_always}
+use Rattle.s2ix_walk.proofs.Visits.{may_always}
 use Rattle.s2ix_table_tests.proofs.checks.visit.Goals as goal
 
 pub visit-requires : goal.visit-requires

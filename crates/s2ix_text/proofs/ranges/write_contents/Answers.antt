@@ -2,10 +2,10 @@
 use Rattle.std.proofs.Common.{◌<◌, ℕ, length, subst, ◌∙◌, arith}
 use Rattle.std.proofs.lemmas.List.{length_push}
 use Rattle.s2id_core.specs.CellId.{raw_of}
-use Rattle.s2ix_table.specs.Contents.{contents_at}
-use Rattle.s2ix_table.specs.Places.{from_place}
+use Rattle.s2ix_ranges.specs.Contents.{contents_at}
+use Rattle.s2ix_walk.specs.Places.{from_place}
 use Rattle.s2ix_table.specs.declared.iter.ChainIter.{ChainIter}
-use Rattle.s2ix_table.proofs.Over.{length_contents}
+use Rattle.s2ix_ranges.proofs.Over.{length_contents}
 use Rattle.s2ix_table.proofs.Yielding.{yields_turn, yields_end}
 use Rattle.s2ix_io.specs.Puts.{Writes}
 use Rattle.s2ix_text.specs.Queries.{end_of_list, held_line, list_text}

@@ -2,7 +2,7 @@
 use Rattle.std.proofs.Common.{◌≡◌, Ok, take, length, flat_map}
 use Rattle.s2id_core.specs.CellId.{raw_of}
 use Rattle.s2ix_io.specs.Puts.{Writes}
-use Rattle.s2ix_table.specs.Contents.{contents_at}
+use Rattle.s2ix_ranges.specs.Contents.{contents_at}
 use Rattle.s2ix_text.specs.Queries.{held_line}
 use Rattle.s2ix_text.proofs.ranges.write_contents.Given as goal
 

@@ -1,7 +1,7 @@
 -- The bounds, the pairs and the line feed are written one after the other.
 use Rattle.std.proofs.Common.{ℕ, List, ◌++◌, Ok, codes, flat_map, ap₂, subst}
 use Rattle.s2ix_io.specs.Puts.{Writes}
-use Rattle.s2ix_table.specs.Table.{range_at}
+use Rattle.s2ix_ranges.specs.Table.{range_at}
 use Rattle.s2ix_text.specs.Queries.{bounds_text, range_line, spaced_pair}
 use Rattle.s2ix_io.proofs.Writing.{Writes-cut, Writes-then}
 use Rattle.s2ix_text.proofs.ranges.write_range.Goals as goal

@@ -1,7 +1,7 @@
 -- The pair of this turn is written behind those before it, or a fault ends it.
 use Rattle.std.proofs.Common.{List, ℕ, length, ◌∷◌, Ok, Err, subst, append-nil}
-use Rattle.s2ix_table.specs.Places.{from_place}
-use Rattle.s2ix_table.specs.Table.{range_at}
+use Rattle.s2ix_walk.specs.Places.{from_place}
+use Rattle.s2ix_ranges.specs.Table.{range_at}
 use Rattle.s2ix_table.specs.declared.iter.ChainIter.{ChainIter}
 use Rattle.s2ix_table.proofs.Yielding.{yields_turn, yields_end}
 use Rattle.s2ix_io.specs.Puts.{Writes}

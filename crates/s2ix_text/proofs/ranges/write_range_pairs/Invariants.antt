@@ -1,7 +1,7 @@
 -- The pairs so far were written whole.
 use Rattle.std.proofs.Common.{Ok, take, length, flat_map}
 use Rattle.s2ix_io.specs.Puts.{Writes}
-use Rattle.s2ix_table.specs.Table.{range_at}
+use Rattle.s2ix_ranges.specs.Table.{range_at}
 use Rattle.s2ix_text.specs.Queries.{spaced_pair}
 use Rattle.s2ix_text.proofs.ranges.write_range_pairs.Given as goal
 

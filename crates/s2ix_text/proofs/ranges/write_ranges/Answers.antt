@@ -1,7 +1,7 @@
 -- The line of this range is written behind those before it, or a fault ends it; then the end line.
 use Rattle.std.proofs.Common.{◌≡◌, ◌<◌, ℕ, length, subst, arith}
 use Rattle.std.proofs.lemmas.Option.{slice_get-get_or}
-use Rattle.s2ix_table.specs.Table.{range_at}
+use Rattle.s2ix_ranges.specs.Table.{range_at}
 use Rattle.s2ix_io.specs.Puts.{Writes}
 use Rattle.s2ix_text.specs.Queries.{end_of_list, list_text, range_line}
 use Rattle.s2ix_io.proofs.Writing.{Writes-all, Writes-cut, Writes-item, Writes-item_fault, Writes-then}

@@ -1,5 +1,5 @@
 use Rattle.std.proofs.Common.{◌≡◌, ◌+◌, ◌-◌, ◌/◌, ℕ, length, refl, sym, ◌∙◌, ap, subst, arith}
-use Rattle.s2ix_table.specs.Table.{range_at}
+use Rattle.s2ix_ranges.specs.Table.{range_at}
 use Rattle.s2ix_walk.specs.Shown.{Shown}
 use Rattle.s2ix_walk.specs.declared.cost.Cost.{Cost}
 use Rattle.s2ix_walk.proofs.Digits.{digits_rise, digits_halve}

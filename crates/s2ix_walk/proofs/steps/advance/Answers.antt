@@ -1,13 +1,13 @@
 use Rattle.std.proofs.Common.{◌≡◌, ◌∙◌, ap, subst, sym, inl, inr, rules, arith}
 use Rattle.s2id_core.specs.declared.cell_id.CellId.{CellId}
 use Rattle.s2id_core.specs.CellId.{end_of}
-use Rattle.s2ix_table.specs.Places.{LeadsTo}
-use Rattle.s2ix_table.specs.Table.{range_at}
-use Rattle.s2ix_table.proofs.Meetings.{none_meets}
-use Rattle.s2ix_table.proofs.WalkSteps.{IsPast, passed_all, range_fits, walk_past}
+use Rattle.s2ix_walk.specs.Places.{LeadsTo}
+use Rattle.s2ix_ranges.specs.Table.{range_at}
+use Rattle.s2ix_walk.proofs.Meetings.{none_meets}
+use Rattle.s2ix_walk.proofs.WalkSteps.{IsPast, passed_all, range_fits, walk_past}
 use Rattle.s2ix_walk.specs.Shown.{Shown}
 use Rattle.s2ix_walk.specs.declared.cost.Cost.{Cost}
-use Rattle.s2ix_walk.proofs.Walked.{covered, walk_from}
+use Rattle.s2ix_walk.proofs.Walked.{covered}
 use Rattle.s2ix_walk.proofs.Paying.{IsPassed, step_pays}
 use Rattle.s2ix_walk.proofs.steps.advance.Given.{Over}
 use Rattle.s2ix_walk.proofs.steps.advance.Goals as goal
@@ -30,7 +30,7 @@ limit_is g c =
     c.row-row.ensures.limit ∙ ap (λ (z : Shown g.row.R-Place.Denot). (range_at z.ranges c.range_from-range.result).limit) c.range_from-range.ensures.same
 
 -- the walk behind the range at hand
-step_past : (g : Over) (c : goal.After-first-place g) → IsPast (g.R.Reader.shown c.args.reader.now).chain c.args.cells.now (g.R.Reader.shown c.args.reader.now).pairs (g.R.Reader.shown c.args.reader.now).ranges (record { cell = c.first_beyond-cell.result; range = c.if-row-end.next.0; seen = c.if-row-end.next.1; from = c.args.walk.seen; place = c.first-place.result })
+step_past : (g : Over) (c : goal.After-first-place g) → IsPast (g.R.Reader.shown c.args.reader.now) c.args.cells.now (record { cell = c.first_beyond-cell.result; range = c.if-row-end.next.0; seen = c.if-row-end.next.1; from = c.args.walk.seen; place = c.first-place.result })
 step_past g c =
     let s = g.R.Reader.shown c.args.reader.now in
     let x = c.index-cells-cell.result in
@@ -38,7 +38,7 @@ step_past g c =
     let ends = ap (λ (y : CellId). end_of y) c.index-cells-cell.is in
     let beyond = c.first_beyond-cell.ensures.beyond x (omega arith) in
     let leads = subst (λ (z : Shown g.row.R-Place.Denot). LeadsTo z.chain c.first-place.result (range_at z.ranges c.range_from-range.result).contents) (c.row-row.ensures.same ∙ c.range_from-range.ensures.same) c.first-place.ensures in
-    walk_past s.chain c.args.cells.now s.pairs s.ranges c.range_from-range.result _ _ x _ (record {
+    walk_past s c.args.cells.now c.range_from-range.result _ _ x _ (record {
       follow = c.requires.follow;
       table = (g.met.R.Reader.is_shown c.args.reader.now).is_table;
       odd = c.requires.walk.odd;
@@ -57,8 +57,7 @@ pub returns-clause-left : goal.returns-clause-left
 returns-clause-left g c = (step_past g (goal.at.returns-clause-left g c).After-first-place).left
 
 pub returns-clause-next : goal.returns-clause-next
-returns-clause-next g c =
-    walk_from (g.R.Reader.shown c.args.reader.now) c.args.cells.now _ (step_past g (goal.at.returns-clause-next g c).After-first-place).next
+returns-clause-next g c = (step_past g (goal.at.returns-clause-next g c).After-first-place).next
 
 -- the cell and the range that are passed
 step_passes : (g : Over) (c : goal.After-first-place g) → IsPassed c.args.cells.now (g.R.Reader.shown c.args.reader.now).ranges c.index-cells-cell.result c.range_from-range.result c.args.walk.seen c.if-row-end.next.1

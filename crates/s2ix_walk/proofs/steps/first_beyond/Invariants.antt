@@ -1,5 +1,5 @@
 use Rattle.std.proofs.Common.{◌-◌, length}
-use Rattle.s2ix_table.specs.WalkState.{ArePassed}
+use Rattle.s2ix_walk.specs.Walking.{ArePassed}
 use Rattle.s2ix_walk.proofs.steps.first_beyond.Given as goal
 
 abbrev pub invariant-loop-cell : goal.invariant-loop-cell

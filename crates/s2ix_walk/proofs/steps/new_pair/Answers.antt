@@ -1,7 +1,7 @@
 use Rattle.std.proofs.Common.{drop, subst, arith}
-use Rattle.s2ix_table.specs.Places.{LeadsTo}
+use Rattle.s2ix_walk.specs.Places.{LeadsTo}
 use Rattle.s2ix_walk.specs.Shown.{Shown}
-use Rattle.s2ix_table.proofs.WalkSteps.{new_none, new_stop, new_more}
+use Rattle.s2ix_walk.proofs.WalkSteps.{new_none, new_stop, new_more}
 use Rattle.s2ix_walk.proofs.steps.new_pair.Goals as goal
 
 pub returns-in_err-place-clause-ends : goal.returns-in_err-place-clause-ends

@@ -1,9 +1,9 @@
 use Rattle.std.proofs.Common.{◌≡◌, ℕ, ◌+◌, [], Option, None, ◌++◌, ◌∙◌, sym, ap, subst, rules, arith}
 use Rattle.s2ix_bag.specs.Collection.{Collection}
 use Rattle.s2ix_bag.specs.declared.pair.Held.{Held}
-use Rattle.s2ix_table.specs.Meeting.{meeting_from}
-use Rattle.s2ix_table.specs.Places.{from_place}
-use Rattle.s2ix_table.specs.WalkState.{front_from}
+use Rattle.s2ix_ranges.specs.Meeting.{meeting_from}
+use Rattle.s2ix_walk.specs.Places.{from_place}
+use Rattle.s2ix_walk.specs.Walking.{front_from}
 use Rattle.s2ix_walk.specs.Shown.{Shown}
 use Rattle.s2ix_walk.specs.Walking.{left_of, IsWalk, IsPaid, one_if_some}
 use Rattle.s2ix_walk.specs.declared.cost.Cost.{Cost}

@@ -1,5 +1,5 @@
 use Rattle.std.proofs.Common.{◌≡◌, ◌-◌, ◌≤◌, ℕ}
-use Rattle.s2ix_table.specs.Table.{leaf_end}
+use Rattle.s2ix_ranges.specs.Table.{leaf_end}
 use Rattle.s2ix_walk.specs.Walking.{left_of, IsWalk, IsPaid}
 use Rattle.s2ix_walk.proofs.steps.next_met.Given as goal
 

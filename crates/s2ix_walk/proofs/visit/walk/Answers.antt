@@ -1,6 +1,6 @@
 use Rattle.std.proofs.Common.{rules, ◌+◌, ◌-◌, ℕ, length, true, false, refl, sym, ◌∙◌, ap, arith}
-use Rattle.s2ix_table.specs.Meeting.{meeting_of}
-use Rattle.s2ix_table.proofs.Visits.{may_same, no_call, last_call, one_call}
+use Rattle.s2ix_ranges.specs.Meeting.{meeting_of}
+use Rattle.s2ix_walk.proofs.Visits.{may_same, no_call, last_call, one_call}
 use Rattle.s2ix_walk.specs.Walking.{left_of}
 use Rattle.s2ix_walk.proofs.Calling.{calls_same, cost_same, meeting_same}
 use Rattle.s2ix_walk.proofs.Paying.{paid_costs}

@@ -1,6 +1,6 @@
 use Rattle.std.proofs.Common.{◌≡◌, ◌+◌, ◌-◌, length, ℕ, Bool}
-use Rattle.s2ix_table.specs.Calls.{MayVisit, CallsOn}
-use Rattle.s2ix_table.specs.Meeting.{meeting_of}
+use Rattle.s2ix_walk.specs.Calls.{MayVisit, CallsOn}
+use Rattle.s2ix_ranges.specs.Meeting.{meeting_of}
 use Rattle.s2ix_walk.specs.Walking.{left_of}
 use Rattle.s2ix_walk.proofs.visit.walk.Given as goal
 

@@ -1,4 +1,4 @@
-use Rattle.s2ix_table.proofs.Visits.{may_always}
+use Rattle.s2ix_walk.proofs.Visits.{may_always}
 use Rattle.s2ix_walk_tests.proofs.counting.visit_all.Goals as goal
 
 pub visit_counted-requires : goal.visit_counted-requires

@@ -1,6 +1,6 @@
 use Rattle.std.proofs.Common.{◌≡◌, ◌<◌, length, sym, ◌∙◌, ap, arith, subst}
-use Rattle.s2ix_table.specs.Places.{LeadsTo}
-use Rattle.s2ix_table.specs.Table.{leaf_end}
+use Rattle.s2ix_walk.specs.Places.{LeadsTo}
+use Rattle.s2ix_ranges.specs.Table.{leaf_end}
 use Rattle.s2ix_chain.specs.Chains.{chain_of}
 use Rattle.s2ix_chain.proofs.Runs.{length_runs, run_contents, first_leads, as_many_firsts}
 use Rattle.s2ix_chain.proofs.chain_table.ChainTableRangeTable.first.Goals as goal

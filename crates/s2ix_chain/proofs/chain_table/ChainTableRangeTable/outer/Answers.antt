@@ -1,5 +1,5 @@
 use Rattle.std.proofs.Common.{◌≡◌, ◌∙◌, ap, arith, subst}
-use Rattle.s2ix_table.specs.Places.{LeadsTo}
+use Rattle.s2ix_walk.specs.Places.{LeadsTo}
 use Rattle.s2ix_chain.specs.Chains.{chain_of}
 use Rattle.s2ix_chain.proofs.Chains.{place_within}
 use Rattle.s2ix_chain.proofs.Tables.{outer_at}

@@ -1,5 +1,5 @@
 use Rattle.std.proofs.Common.{◌+◌, sym, ◌∙◌, arith}
-use Rattle.s2ix_table.specs.Table.{leaf_end}
+use Rattle.s2ix_ranges.specs.Table.{leaf_end}
 use Rattle.s2ix_chain.proofs.Runs.{length_runs, run_start, run_limit, last_limit}
 use Rattle.s2ix_chain.proofs.chain_table.ChainTableRangeTable.range.Goals as goal
 

@@ -1,7 +1,7 @@
 use Rattle.std.proofs.Common.{◌≡◌, ◌∙◌, subst}
 use Rattle.std.proofs.lemmas.Result.{IfOk-weaker}
-use Rattle.s2ix_table.specs.Meeting.{IsLabelList, meeting_of}
-use Rattle.s2ix_table.proofs.LabelList.{is_label_list}
+use Rattle.s2ix_ranges.specs.Meeting.{IsLabelList, meeting_of}
+use Rattle.s2ix_ranges.proofs.LabelList.{is_label_list}
 use Rattle.s2ix_table.proofs.table.RangeTable.labels.Goals as goal
 
 pub returns-clause-list : goal.returns-clause-list

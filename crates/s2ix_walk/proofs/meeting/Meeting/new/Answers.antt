@@ -1,7 +1,7 @@
 use Rattle.std.proofs.Common.{refl, sym, subst}
 use Rattle.s2id_union.specs.Region.{IsNormal}
 use Rattle.s2id_union.proofs.Searching.{follow_from_normal}
-use Rattle.s2ix_table.specs.WalkState.{front_from}
+use Rattle.s2ix_walk.specs.Walking.{front_from}
 use Rattle.s2ix_walk.proofs.Paying.{none_pays}
 use Rattle.s2ix_walk.proofs.meeting.Meeting.new.Goals as goal
 

@@ -1,0 +1,10 @@
+pub mod InOrder
+pub mod Over
+pub mod Tables
+pub mod FirstShared
+pub mod Rising
+pub mod Lists
+pub mod Once
+pub mod RangeList
+pub mod LabelList
+pub mod SameMeeting

@@ -1,0 +1,9 @@
+pub mod InOrder
+pub mod Contents
+pub mod Table
+pub mod Bounds
+pub mod Meeting
+pub mod Once
+pub mod RangeList
+pub mod LabelList
+pub mod Laws

@@ -1,0 +1,64 @@
+ghost use Rattle.std.specs.Prelude.{◌≡◌};
+ghost use Rattle.s2ix_walk.specs.Costs.{no_cost};
+
+use crate::table::RangeTable;
+use s2ix_bag::Held;
+use s2ix_ranges::RangeRow;
+use s2ix_walk::{Cost, Reader};
+
+/// A reader of a table that counts what is read of it. This project's own.
+#[derive(Drop)]
+pub struct Meter<'a, T> {
+    table: &'a T,
+    cost: Cost,
+}
+
+impl<'a, T: RangeTable> Meter<'a, T> {
+    /// A reader of a table that has read nothing.
+    pub fn new(table: &'a T) -> Meter<'a, T>
+        ensures shown { ⟦<Meter<'a, T> as Reader>⟧.shown result
+            ≡ record { pairs = T.pairs table.now; ranges = T.ranges table.now; chain = T.chain table.now } }
+        ensures unread { ⟦<Meter<'a, T> as Reader>⟧.spent result ≡ no_cost }
+    {
+        Meter {
+            table,
+            cost: Cost::none(),
+        }
+    }
+}
+
+impl<T: RangeTable> Reader for Meter<'_, T> {
+    type Place = T::Place;
+
+    ghost shown = { λ meter. record { pairs = T.pairs meter.table.now; ranges = T.ranges meter.table.now; chain = T.chain meter.table.now } };
+
+    ghost spent = { λ meter. meter.cost };
+
+    ghost is_shown = { λ meter. record { is_collection = T.is_collection meter.table.now; is_table = T.is_table meter.table.now; few = T.few meter.table.now } };
+
+    fn range_count(&self) -> usize {
+        self.table.range_count()
+    }
+
+    fn first(&self, k: usize) -> Option<T::Place> {
+        self.table.first(k)
+    }
+
+    fn outer(&self, place: T::Place) -> Option<T::Place> {
+        self.table.outer(place)
+    }
+
+    fn row(&mut self, k: usize) -> RangeRow {
+        self.cost.add_probe();
+        self.table.range(k)
+    }
+
+    fn node(&mut self, place: T::Place) -> Held {
+        self.cost.add_look();
+        self.table.held_at(place)
+    }
+
+    fn cost(&self) -> Cost {
+        self.cost
+    }
+}

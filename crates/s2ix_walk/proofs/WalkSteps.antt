@@ -1,0 +1,187 @@
+-- The steps of a walk over the ranges that a target meets.
+use Rattle.std.proofs.Common.{◌≡◌, ℕ, ◌+◌, ◌-◌, ◌%◌, ◌^◌, ◌<◌, ◌≤◌, ◌⊎◌, inl, inr, min, max, Option, Some, None, List, [], ◌∷◌, ◌++◌, length, get_or, refl, sym, ◌∙◌, ap, arith, Contains, subst}
+use Rattle.std.proofs.lemmas.Bool.{cases_lt, cases_order}
+use Rattle.std.proofs.lemmas.List.{get_or_default}
+use Rattle.s2id_core.specs.declared.cell_id.CellId.{CellId}
+use Rattle.s2id_core.specs.CellId.{raw_of, first_of, end_of}
+use Rattle.s2id_core.proofs.Nested.{span}
+use Rattle.s2id_union.specs.Covers.{Covers, FollowOneAnother}
+use Rattle.s2ix_bag.specs.Collection.{Collection}
+use Rattle.s2ix_bag.specs.declared.pair.Held.{Held}
+use Rattle.s2ix_ranges.specs.Meeting.{meeting_from}
+use Rattle.s2ix_walk.specs.Places.{from_place, LeadsTo}
+use Rattle.s2ix_ranges.specs.Table.{Range, range_at, leaf_end, IsRangeTable, IsFound}
+use Rattle.s2ix_walk.specs.Shown.{Shown}
+use Rattle.s2ix_walk.specs.Walking.{left_of, ArePassed, IsWalk, front_from}
+use Rattle.s2ix_walk.specs.declared.walk_state.WalkState.{WalkState}
+use Rattle.s2ix_ranges.proofs.Over.{IsOver, in_contents, contents_has}
+use Rattle.s2ix_ranges.proofs.Tables.{places_fit, limits_rise}
+use Rattle.s2ix_walk.proofs.Meetings.{IsStep, step_meets, front_here, front_stops}
+use Rattle.s2ix_walk.proofs.Walked.{covered_from}
+
+-- ---- the cells of the target
+
+pub passed_later : (target : List CellId) (k seen next : ℕ) → seen ≤ next → ArePassed target k seen → ArePassed target k next
+passed_later target k seen next le passed j d less within = let p = passed j d less within in omega arith
+
+-- where all cells are passed, no leaf of the target is left
+pub passed_all : (target : List CellId) (k seen : ℕ) → ArePassed target k seen → length target ≤ k → (q : ℕ) → Covers target q → q < seen
+passed_all target k seen passed le q v =
+    let j = v.held.0 in
+    let within = v.held.1 in
+    let to = v.to in
+    let p = passed j v.cell (omega arith) within in
+    let e = ap (λ (y : CellId). end_of y) v.held.2 in
+    omega arith
+
+-- no leaf of the target lies between the passed cells and the next
+gap_from : (target : List CellId) (k seen : ℕ) (x : CellId) → FollowOneAnother target → ArePassed target k seen → k < length target → x ≡ get_or target k x → (q : ℕ) → Covers target q → seen ≤ q → first_of x ≤ q
+gap_from target k seen x follow passed lt is q v le =
+    let j = v.held.0 in
+    let within = v.held.1 in
+    let from = v.from in
+    let to = v.to in
+    let first = ap (λ (y : CellId). first_of y) v.held.2 in
+    let end = ap (λ (y : CellId). end_of y) v.held.2 in
+    elim (cases_order j k) [
+      | inl same ↦
+          (let e = ap (λ (y : CellId). first_of y) (is ∙ get_or_default target k x v.cell lt) in
+          let f = ap (λ i. first_of (get_or target i v.cell)) same in
+          omega arith)
+      | inr other ↦
+          elim other [
+            | inl less ↦ absurd (let p = passed j v.cell less within in omega arith)
+            | inr more ↦
+                (let c = follow k j v.cell more within in
+                let e = ap (λ (y : CellId). end_of y) (is ∙ get_or_default target k x v.cell lt) in
+                let s = span (raw_of x) x.valid in
+                let s1 = s.from in
+                let s2 = s.to in
+                omega arith)
+          ]
+    ]
+
+-- ---- the bounds of a range
+
+-- a range ends at a leaf number
+pub limit_bounds : (hs : Collection) (ranges : List Range) → IsRangeTable hs ranges → (k : ℕ) → k < length ranges → ((range_at ranges k).limit % 2 ≡ 1) × ((range_at ranges k).limit ≤ leaf_end)
+limit_bounds hs ranges t k lt =
+    let n = length ranges - 1 in
+    let last = t.last n (omega arith) in
+    let le = limits_rise hs 1 leaf_end ranges t k n (omega arith) (omega arith) in (
+      elim (cases_lt (k + 1) (length ranges)) [
+        | inl more ↦ let next = t.next k (k + 1) refl more in let odd = t.odd (k + 1) more in omega arith
+        | inr end ↦ let e = t.last k (omega arith) in omega arith
+      ],
+      omega arith,
+    )
+
+pub range_fits : (hs : Collection) (ranges : List Range) → IsRangeTable hs ranges → (k : ℕ) → k < length ranges → k + 1 < 2 ^ 64
+range_fits hs ranges t k lt =
+    let fit = places_fit hs 1 leaf_end ranges t k lt in
+    let rises = t.rises k lt in
+    let bounds = (limit_bounds hs ranges t k lt).1 in
+    omega arith
+
+-- the next range has the leaf at which one ends
+pub found_next : (hs : Collection) (ranges : List Range) → IsRangeTable hs ranges → (k limit : ℕ) → k < length ranges → limit ≡ (range_at ranges k).limit → limit < leaf_end → IsFound ranges (k + 1) limit
+found_next hs ranges t k limit lt is less =
+    let more : k + 1 < length ranges = elim (cases_lt (k + 1) (length ranges)) [ inl more ↦ more | inr end ↦ absurd (let e = t.last k (omega arith) in omega arith) ] in
+    let next = t.next k (k + 1) refl more in
+    let rises = t.rises (k + 1) more in
+    record { within = more; start = omega arith; limit = omega arith }
+
+-- ---- one range
+
+stays_in : (hs : Collection) (ranges : List Range) → IsRangeTable hs ranges → (k at : ℕ) → IsFound ranges k at → at % 2 ≡ 1 → (h : Held) (q : ℕ) → Contains hs h → q % 2 ≡ 1 → at ≤ q → q < (range_at ranges k).limit → IsOver h q → IsOver h at
+stays_in hs ranges t k at found odd h q held odd_q from to over =
+    let start = found.start in
+    let same = t.shared k q found.within odd_q (omega arith) to ∙ sym (t.shared k at found.within odd start found.limit) in
+    (in_contents at hs h (subst (λ cs. Contains cs h) same (contents_has q hs h held over))).1
+
+-- what is known of a walk that has passed to a cell of the target and the range with its first leaf that is left
+pub record IsAt (target : List CellId) (hs : Collection) (ranges : List Range) (k seen range : ℕ) (x : CellId) : Type 0 where
+  pub follow : FollowOneAnother target
+  pub table : IsRangeTable hs ranges
+  pub odd : seen % 2 ≡ 1
+  pub tight : (q : ℕ) → 1 ≤ q → q + 2 ≡ seen → Covers target q
+  pub passed : ArePassed target k seen
+  pub within : k < length target
+  pub is : x ≡ get_or target k x
+  pub beyond : seen < end_of x
+  pub found : IsFound ranges range (max seen (first_of x))
+
+-- where a walk goes on behind a range: at the next one, or where the cell ends before that
+abbrev pub GoesOn : ℕ → ℕ → ℕ → ℕ × ℕ → Type 0
+GoesOn range limit end to = ((limit ≤ end) × (to ≡ (range + 1, limit))) ⊎ ((end < limit) × (to ≡ (range, end)))
+
+-- a walk goes on behind a range, with the chain of that range at hand
+pub record IsPast {P : Type 0} (shown : Shown P) (target : List CellId) (walk : WalkState P) : Type 0 where
+  pub left : meeting_from target walk.from shown.pairs ≡ left_of shown target walk
+  pub next : IsWalk shown target walk
+
+pub walk_past : {P : Type 0} (shown : Shown P) (target : List CellId) (range limit end : ℕ) (x : CellId) (walk : WalkState P) → IsAt target shown.pairs shown.ranges walk.cell walk.from range x → LeadsTo shown.chain walk.place (range_at shown.ranges range).contents → limit ≡ (range_at shown.ranges range).limit → end ≡ end_of x → GoesOn range limit end (walk.range, walk.seen) → IsPast shown target walk
+walk_past {P} shown target range limit end x walk a leads is_limit is_end on =
+    let hs = shown.pairs in
+    let ranges = shown.ranges in
+    let s = span (raw_of x) x.valid in
+    let s1 = s.odd in
+    let s2 = s.from in
+    let s3 = s.to in
+    let s4 = s.ends in
+    let s5 = s.odd_end in
+    let o = a.odd in
+    let b = a.beyond in
+    let seen : ℕ = walk.from in
+    let next : ℕ = walk.seen in
+    let at : ℕ = max seen (first_of x) in
+    let f1 = a.found.start in
+    let f2 = a.found.limit in
+    let bounds = limit_bounds hs ranges a.table range a.found.within in
+    let l1 = bounds.0 in
+    let l2 = bounds.1 in
+    let is : next ≡ min limit end = elim on [ inl i ↦ omega (arith, i.0, ap (λ to. to.1) i.1) | inr i ↦ omega (arith, i.0, ap (λ to. to.1) i.1) ] in
+    let odd_at : at % 2 ≡ 1 = elim (cases_lt seen (first_of x)) [ inl lt ↦ omega arith | inr ge ↦ omega arith ] in
+    let odd_next : next % 2 ≡ 1 = elim (cases_lt limit end) [ inl lt ↦ omega arith | inr ge ↦ omega arith ] in
+    let after : at < next = omega arith in
+    let covers : (q : ℕ) → first_of x ≤ q → q < end_of x → Covers target q = λ q from to. record { cell = x; held = (walk.cell, a.within, sym a.is); from = from; to = to } in
+    let step : IsStep target hs seen at next = record {
+      odd = o;
+      reached = omega arith;
+      after = after;
+      on_curve = omega arith;
+      here = covers at (omega arith) (omega arith);
+      gap = λ q v le. let g = gap_from target walk.cell seen x a.follow a.passed a.within a.is q v le in omega arith;
+      tight = a.tight;
+      stays = λ h q held odd_q from to over. stays_in hs ranges a.table range at a.found odd_at h q held odd_q from (omega arith) over;
+    } in
+    let At : ℕ × ℕ → Type 0 = λ to. IsFound ranges to.0 to.1 in
+    let contents = a.table.shared range at a.found.within odd_at f1 f2 in
+    record {
+      left = step_meets target hs seen at next step ∙ ap (λ cs. front_from seen cs ++ meeting_from target next hs) (contents ∙ sym leads.pairs_are);
+      next = record {
+        odd = odd_next;
+        within = omega arith;
+        tight = λ q some e. covered_from target q (covers q (omega arith) (omega arith));
+        passed = passed_later target walk.cell seen next (omega arith) a.passed;
+        found = λ lt. elim on [
+          | inl i ↦ subst At (sym i.1) (found_next hs ranges a.table range limit a.found.within is_limit (omega (arith, ap (λ to. to.1) i.1)))
+          | inr i ↦ subst At (sym i.1) (record { within = a.found.within; start = omega arith; limit = omega (arith, i.0) })
+        ];
+        place = leads.place;
+      };
+    }
+
+-- ---- the chain at hand
+
+pub new_none : {P : Type 0} (chain : P → Collection) (from : ℕ) (place : Option P) → place ≡ None → front_from from (from_place chain place) ≡ []
+unfolding front_from
+new_none {P} chain from place e = ap (λ (o : Option P). front_from from (from_place chain o)) e
+
+pub new_stop : {P : Type 0} (chain : P → Collection) (from : ℕ) (place : Option P) (p : P) (h : Held) (rest : Collection) → place ≡ Some p → chain p ≡ h ∷ rest → first_of h.pair.cell < from → front_from from (from_place chain place) ≡ []
+new_stop {P} chain from place p h rest e is early =
+    ap (λ (o : Option P). front_from from (from_place chain o)) e ∙ ap (front_from from) is ∙ front_stops from h rest early
+
+pub new_more : {P : Type 0} (chain : P → Collection) (from : ℕ) (place outer : Option P) (p : P) (h : Held) (rest : Collection) → place ≡ Some p → chain p ≡ h ∷ rest → from ≤ first_of h.pair.cell → LeadsTo chain outer rest → front_from from (from_place chain place) ≡ h ∷ front_from from (from_place chain outer)
+new_more {P} chain from place outer p h rest e is late leads =
+    ap (λ (o : Option P). front_from from (from_place chain o)) e ∙ ap (front_from from) is ∙ front_here from h rest late ∙ ap (λ cs. h ∷ front_from from cs) (sym leads.pairs_are)
