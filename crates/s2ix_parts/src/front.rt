@@ -2,7 +2,7 @@
 //!
 //! Each of these is sure of what it answers. It answers nothing of a text that is too short for a pass of a fixed number of steps, sound or
 //! not: the readers of a line's parts decide then.
-ghost use Rattle.std.specs.Prelude.{◌≡◌, ◌<◌, ◌≤◌, ◌++◌, ◌∷◌, All, decimal, length, slice_index, take, IfNone, IfSome};
+ghost use Rattle.std.specs.Prelude.{◌≡◌, ◌^◌, ◌<◌, ◌≤◌, ◌++◌, ◌∷◌, All, decimal, length, slice_index, take, IfNone, IfSome};
 ghost use Rattle.std.specs.Char.{digit_value};
 ghost use Rattle.std.specs.Str.Parse.{AllDigits, digits_value};
 ghost use Rattle.s2id_core.specs.CellId.{raw_of};
@@ -52,6 +52,7 @@ pub fn token_in_front(text: &[u8]) -> Option<(CellId, &[u8])>
 #[inline]
 pub fn number_in_front(text: &[u8], end: u8) -> Option<(u32, &[u8])>
     ensures number { IfSome result (λ read. text.now ≡ decimal read.0 ++ end ∷ read.1.now) }
+    ensures small { IfSome result (λ read. read.0 < 10 ^ 9) }
     ensures none { IfNone result (9 < length text.now → 10 ≤ digit_value end → HasNoNumberInFront end text.now) }
 {
     if text.len() <= 9 {

@@ -15,14 +15,6 @@ use Rattle.s2ix_read_dump.specs.PairLines.{last_pair}
 use Rattle.s2ix_parts.specs.Written.{comes_before}
 use Rattle.s2ix_read_dump.proofs.PairTexts.{HasCount}
 
--- the last of a list, as `last` reads it
-pub last_read : {A : Type 0} (xs : List A) → slice_get xs (length xs - 1) ≡ last_of xs
-last_read [] = refl
-last_read (x ∷ []) = refl
-last_read (x ∷ (y ∷ xs)) =
-    let step : length (x ∷ (y ∷ xs)) - 1 ≡ suc (length (y ∷ xs) - 1) = omega arith in
-    ap (slice_get (x ∷ (y ∷ xs))) step ∙ last_read (y ∷ xs)
-
 -- ---- the order
 
 rises_behind : (n : ℕ) (g : Held) (hs : Collection) (h : Held) → IsCollectionFrom n (g ∷ hs) → comes_before (last_pair (g ∷ hs)) (Some h.pair) ≡ true → 0 < h.count → IsCollectionFrom n (g ∷ (hs ++ h ∷ []))

@@ -22,12 +22,9 @@ use Rattle.s2ix_parts.specs.Lines.{has_parts, is_nil, lines_of, parts_of}
 use Rattle.s2ix_read_dump.specs.PairLines.{IsCut, held_of_parts, held_written, line_text}
 use Rattle.s2ix_parts.specs.Written.{cell_written, count_of_line, count_written, label_written, pair_with, pair_written}
 use Rattle.s2ix_read_dump.specs.declared.errors.DumpFault.TheVariants.{BadLine}
+use Rattle.s2ix_parts.proofs.PartCounts.{graphic_lacks}
 use Rattle.s2ix_parts.proofs.Pieces.{Lacks, is_some_text, lines_apart, parts_apart, parts_joined, three_from_parts}
 use Rattle.s2ix_parts.proofs.Numerals.{cell_of_token, count_of_digits, label_of_digits, written_cell, written_count, written_label}
-
--- a text of graphic bytes has no space and no line feed
-pub graphic_lacks : (x : ℕ) (text : List ℕ) → x ≤ 32 → All IsGraphic text → Lacks x text
-graphic_lacks x text low graphic = λ k d within. let above : 32 < get_or text k d = graphic k d within in ne_eqb (get_or text k d) x (λ same. omega (arith, same))
 
 -- a count that digits below 2^64 write
 abbrev pub HasCount : Held → Type 0

@@ -43,16 +43,9 @@ no_pair_fault t a b c d e f g = rw (a, b, c, d, e, f, g) refl
 
 -- ---- below the lines of held pairs
 
-header_is_no_end : is_end (codes "s2ix 1") ≡ false
-unfolding parts_of
-header_is_no_end = refl
-
-no_end_among : (hs : Collection) → All HasCount hs → list_any is_end (map line_text hs) ≡ false
-no_end_among [] counted = refl
-no_end_among (h ∷ hs) counted = or_from _ _ (line_is_no_end h (All-head HasCount h hs counted)) (no_end_among hs (All-tail HasCount h hs counted))
-
-pub not_over : (hs : Collection) → All HasCount hs → list_any is_end (lines_down_to hs) ≡ false
-not_over hs counted = or_from _ _ header_is_no_end (no_end_among hs counted)
+pub not_over : (hs : Collection) → All HasCount hs → list_any is_end (map line_text hs) ≡ false
+not_over [] counted = refl
+not_over (h ∷ hs) counted = or_from _ _ (line_is_no_end h (All-head HasCount h hs counted)) (not_over hs (All-tail HasCount h hs counted))
 
 pub copies_are : (hs : Collection) → All HasCount hs → sum_by count_of_line (map line_text hs) ≡ copies_in hs
 copies_are [] counted = refl
@@ -224,8 +217,8 @@ behind_row p first over =
     ∙ cond-false (t BadEnd) _ _ (and_left _ _ (and_left _ _ inner))
     ∙ ap (λ b. cond b (Some TrailingBytes) None) (same_row _ _ _ over refl)
 
-pub over_behind : (hs : Collection) (line : List ℕ) → is_end line ≡ true → list_any is_end (lines_down_to hs ++ line ∷ []) ≡ true
-over_behind hs line end = list_any-append is_end (lines_down_to hs) (line ∷ []) ∙ or_right _ _ (or_left _ _ end)
+pub over_behind : (hs : Collection) (line : List ℕ) → is_end line ≡ true → list_any is_end (map line_text hs ++ line ∷ []) ≡ true
+over_behind hs line end = list_any-append is_end (map line_text hs) (line ∷ []) ∙ or_right _ _ (or_left _ _ end)
 
 -- ---- a line without a line feed, where one is wanted
 

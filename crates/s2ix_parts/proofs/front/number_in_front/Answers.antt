@@ -1,7 +1,7 @@
 -- The digits have no leading zero; where they have one, no number stands there.
 use Rattle.std.proofs.Common.{◌+◌, arith}
 use Rattle.std.proofs.lemmas.List.{take_rest}
-use Rattle.s2ix_parts.proofs.Fronts.{number_of_front}
+use Rattle.s2ix_parts.proofs.Fronts.{decimal_fits, number_of_front}
 use Rattle.s2ix_parts.proofs.NoFronts.{number_is_read}
 use Rattle.s2ix_parts.proofs.front.number_in_front.Goals.{else-len-gt1-via-then-len-gt1+else-text-eq48, else-len-gt1-via-else-len-gt1, then-len-eq0-via-then-len-eq0, then-len-eq0-via-else-len-eq0+then-text-len}
 use Rattle.s2ix_parts.proofs.front.number_in_front.Goals as goal
@@ -29,3 +29,8 @@ returns-clause-number c =
     (number_of_front c.args.text.now read.result.1 read.result.0 c.args.end (omega arith) read.ensures.at_most (omega arith) read.ensures.digits read.ensures.value
     (λ zero. elim c.else-len-gt1.branch [ else-len-gt1-via-then-len-gt1+else-text-eq48 w ↦ absurd (w.if-text-eq48.false zero) | else-len-gt1-via-else-len-gt1 w ↦ omega (arith, w.if-len-gt1.false) ])
     c.if-text-len.false)
+
+pub returns-clause-small : goal.returns-clause-small
+returns-clause-small c =
+    let pass = c.decimal_digits-number in
+    decimal_fits c.args.text.now pass.result.1 pass.result.0 9 pass.ensures.at_most (omega arith) pass.ensures.digits pass.ensures.value
