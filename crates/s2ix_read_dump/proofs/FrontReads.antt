@@ -1,12 +1,10 @@
 -- Where the front of a line gives up, no line of the common shape stands there that is the next.
-use Rattle.std.proofs.Common.{◌≡◌, ◌==◌, ℕ, ◌+◌, ◌^◌, ◌<◌, ◌≤◌, true, false, Some, Ok, List, [], ◌∷◌, ◌++◌, All, length, refl, sym, ap, ◌∙◌, subst, arith}
+use Rattle.std.proofs.Common.{◌≡◌, ℕ, ◌^◌, ◌<◌, ◌≤◌, true, Some, Ok, List, [], ◌∷◌, ◌++◌, length, refl, sym, ap, ◌∙◌, subst, arith}
 use Rattle.std.specs.Prelude.{decimal}
 use Rattle.std.proofs.lemmas.Fmt.{decimal_injective, decimal_nonempty}
 use Rattle.std.proofs.lemmas.List.{length-append, length_push}
-use Rattle.s2id_core.specs.Cell.{IsCellNumber}
 use Rattle.s2id_core.specs.CellId.{raw_of}
 use Rattle.s2id_core.specs.Token.{canonical_token}
-use Rattle.s2id_core.proofs.Canonical.{canonical_spells}
 use Rattle.s2ix_bag.specs.Collection.{Collection}
 use Rattle.s2ix_bag.specs.Label.{value_of}
 use Rattle.s2ix_bag.specs.Limits.{count_limit, pairs_limit}
@@ -38,8 +36,7 @@ parts_of_common text rest h common =
     let count_some = decimal_nonempty h.count (omega arith) in
     let label_some = decimal_nonempty (value_of h.pair.label) (omega arith) in
     let long = length-append (decimal h.count) (10 ∷ rest) in
-    let longer = length-append (decimal (value_of h.pair.label)) (32 ∷ after_label) in
-    (
+    let longer = length-append (decimal (value_of h.pair.label)) (32 ∷ after_label) in (
       after_token,
       after_label,
       record {

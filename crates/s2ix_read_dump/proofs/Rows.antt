@@ -20,7 +20,7 @@ use Rattle.s2ix_read_dump.specs.declared.errors.DumpFault.TheVariants.{Truncated
 use Rattle.s2ix_read_dump.specs.DumpFaults.{copies_above, dump_faults, end_of, is_end, is_first, is_inner, is_of_pair, is_over, line_fault, stands}
 use Rattle.s2ix_parts.specs.Faults.{Place}
 use Rattle.s2ix_parts.specs.Lines.{has_parts, is_nil, last_of, part, parts_of}
-use Rattle.s2ix_read_dump.specs.PairLines.{IsNext, held_of_parts, held_written, last_pair, line_text, lines_down_to, place_below}
+use Rattle.s2ix_read_dump.specs.PairLines.{IsNext, held_of_parts, held_written, last_pair, line_text, place_below}
 use Rattle.s2ix_parts.specs.Written.{cell_written, comes_before, count_of_line, count_written, label_written, pair_written}
 use Rattle.s2ix_read_dump.proofs.Appended.{bag_more, counts_are}
 use Rattle.s2ix_parts.proofs.Numerals.{written_count}

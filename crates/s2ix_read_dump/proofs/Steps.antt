@@ -1,10 +1,9 @@
 -- The first fault of a text, one line further.
-use Rattle.std.proofs.Common.{◌≡◌, ◌==◌, ℕ, ◌+◌, ◌≤◌, Bool, true, false, not, ◌||◌, cond, Option, Some, None, List, [], ◌∷◌, ◌++◌, length, map, refl, sym, ap, ap₂, ◌∙◌, arith, append_assoc, subst}
+use Rattle.std.proofs.Common.{◌≡◌, ℕ, ◌+◌, ◌≤◌, Bool, true, false, not, ◌||◌, cond, Option, Some, None, List, [], ◌∷◌, ◌++◌, length, map, refl, sym, ap, ap₂, ◌∙◌, arith, append_assoc, subst}
 use Rattle.std.specs.Prelude.{codes, flat_map, IfSome}
-use Rattle.std.specs.List.{join_with_byte}
 use Rattle.std.specs.Str.{bytes_eq}
-use Rattle.std.proofs.lemmas.Bool.{cond-false, cond-true, eqb-true, false_from_ne_true, not-false}
-use Rattle.std.proofs.lemmas.List.{flat_map_more, length-map, length_push, map_push, nil_from_length}
+use Rattle.std.proofs.lemmas.Bool.{cond-false, cond-true, false_from_ne_true, not-false}
+use Rattle.std.proofs.lemmas.List.{flat_map_more, length-map, length_push, map_push}
 use Rattle.std.proofs.lemmas.List.Sums.{sum_by-append}
 use Rattle.std.proofs.lemmas.Slice.Eq.{bytes_eq-Decides}
 use Rattle.s2ix_bag.specs.Collection.{Collection, IsBag, copies_in}

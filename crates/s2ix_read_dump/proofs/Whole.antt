@@ -1,9 +1,9 @@
 -- A text has no fault exactly where it is a dump.
-use Rattle.std.proofs.Common.{◌≡◌, ◌==◌, ℕ, ◌+◌, ◌^◌, ◌<◌, ◌≤◌, ◌↔◌, Bool, true, false, not, Option, Some, None, Result, Ok, Err, List, [], ◌∷◌, ◌++◌, All, length, map, refl, sym, ap, ap₂, ◌∙◌, subst, arith, append_assoc, ⊎_elim}
+use Rattle.std.proofs.Common.{◌≡◌, ◌==◌, ℕ, ◌+◌, ◌^◌, ◌<◌, ◌≤◌, ◌↔◌, true, false, not, Option, Some, None, Result, Ok, Err, List, [], ◌∷◌, ◌++◌, All, length, map, refl, sym, ap, ap₂, ◌∙◌, subst, arith, append_assoc, ⊎_elim}
 use Rattle.std.specs.Prelude.{codes, flat_map}
 use Rattle.std.specs.List.{join_with_byte}
 use Rattle.std.specs.Str.{bytes_eq}
-use Rattle.std.proofs.lemmas.Bool.{both_ways, cases_Bool, cases_lt, cond-false, cond-true, le-leb, le-ltb, lt-ltb, not-false, not-true}
+use Rattle.std.proofs.lemmas.Bool.{both_ways, cases_Bool, cases_lt, cond-false, cond-true, le-leb, le-ltb, lt-ltb}
 use Rattle.std.proofs.lemmas.List.{append-nil, length-append}
 use Rattle.std.proofs.lemmas.List.Elements.{All-cons, All-head, All-nil, All-tail}
 use Rattle.std.proofs.lemmas.Slice.Eq.{bytes_eq-Decides}
@@ -24,7 +24,7 @@ use Rattle.s2ix_read_dump.specs.PairLines.{IsNext, held_written, last_pair, line
 use Rattle.s2ix_parts.specs.Written.{comes_before}
 use Rattle.s2ix_read_dump.proofs.Appended.{counts_are, front_is_bag, here_has, next_before}
 use Rattle.s2ix_read_dump.proofs.PairTexts.{HasCount, end_is_end, end_lacks_feed, end_with_feed, held_of_line, line_is_no_end, line_lacks_feed, line_with_feed}
-use Rattle.s2ix_parts.proofs.FirstFault.{found_here, found_later, place}
+use Rattle.s2ix_parts.proofs.FirstFault.{found_later, place}
 use Rattle.s2ix_parts.proofs.NoFault.{none_among, none_here}
 use Rattle.s2ix_parts.proofs.Rests.{join_more, no_lines, some_left}
 use Rattle.s2ix_parts.proofs.Pieces.{Lacks, lines_apart, lines_joined, lines_some}
