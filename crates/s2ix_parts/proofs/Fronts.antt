@@ -1,9 +1,10 @@
 -- What stands at the front of a text: a canonical token, or a canonical number, and a byte behind it.
-use Rattle.std.proofs.Common.{◌≡◌, ◌≢◌, ◌&&◌, ℕ, ◌+◌, ◌-◌, ◌*◌, ◌%◌, ◌^◌, ◌<◌, ◌≤◌, cond, min, List, [], ◌∷◌, ◌++◌, All, length, map, take, drop, get_or, refl, sym, ap, ◌∙◌, subst, arith}
+use Rattle.std.proofs.Common.{◌≡◌, ◌≢◌, ◌&&◌, ℕ, ◌+◌, ◌-◌, ◌*◌, ◌%◌, ◌^◌, ◌<◌, ◌≤◌, cond, min, List, ◌∷◌, ◌++◌, All, length, map, take, drop, get_or, refl, sym, ap, ◌∙◌, subst, arith, ⊎_elim, inl, inr}
 use Rattle.std.specs.Prelude.{decimal, nat_le}
 use Rattle.std.specs.Char.{digit_value}
 use Rattle.std.specs.List.{range_with_len}
 use Rattle.std.specs.Str.Parse.{AllDigits, digits_value}
+use Rattle.std.proofs.lemmas.Bool.{cases_lt}
 use Rattle.std.proofs.lemmas.Bool.Decides.{nat_tests}
 use Rattle.std.proofs.lemmas.Fmt.{decimal-digits_value}
 use Rattle.std.proofs.lemmas.Int.Digits.{digits_more, digits_value-lt, digits_value_more}
@@ -11,33 +12,66 @@ use Rattle.std.proofs.lemmas.List.{drop_more, get_or-take, length-take-le, take-
 use Rattle.std.proofs.lemmas.List.Elements.{All-push}
 use Rattle.std.proofs.lemmas.List.FromFn.{get_or-map-range_with_len}
 use Rattle.std.proofs.lemmas.Str.{digit_value_digit}
-use Rattle.std.proofs.lemmas.Str.Parse.{IsNumeralModel, digits_value_short, numerals_by_value, tells_digits}
+use Rattle.std.proofs.lemmas.Str.Parse.{IsNumeralModel, digit_from_value, digits_value_short, numerals_by_value, tells_digits}
 use Rattle.std.proofs.Math.Nat.{pow-le-pow_right}
 use Rattle.s2id_core.specs.Cell.{IsCellNumber}
 use Rattle.s2id_core.specs.Token.{IsCanonicalText, IsLowerHex, Spells, canonical_token}
 use Rattle.s2id_core.proofs.Canonical.{all_digits_from_lower, one_canonical}
 use Rattle.s2id_core.proofs.Digits.{shifted_value}
+use Rattle.s2ix_parts.specs.declared.front.TheConstants.{LOWER_VALUES}
 
 -- ---- the table of lower-case digits
-
-abbrev pub lower_values : List ℕ
-lower_values = 16 ∷ 16 ∷ 16 ∷ 16 ∷ 16 ∷ 16 ∷ 16 ∷ 16 ∷ 16 ∷ 16 ∷ 16 ∷ 16 ∷ 16 ∷ 16 ∷ 16 ∷ 16 ∷ 16 ∷ 16 ∷ 16 ∷ 16 ∷ 16 ∷ 16 ∷ 16 ∷ 16 ∷ 16 ∷ 16 ∷ 16 ∷ 16 ∷ 16 ∷ 16 ∷ 16 ∷ 16 ∷ 16 ∷ 16 ∷ 16 ∷ 16 ∷ 16 ∷ 16 ∷ 16 ∷ 16 ∷ 16 ∷ 16 ∷ 16 ∷ 16 ∷ 16 ∷ 16 ∷ 16 ∷ 16 ∷ 0 ∷ 1 ∷ 2 ∷ 3 ∷ 4 ∷ 5 ∷ 6 ∷ 7 ∷ 8 ∷ 9 ∷ 16 ∷ 16 ∷ 16 ∷ 16 ∷ 16 ∷ 16 ∷ 16 ∷ 16 ∷ 16 ∷ 16 ∷ 16 ∷ 16 ∷ 16 ∷ 16 ∷ 16 ∷ 16 ∷ 16 ∷ 16 ∷ 16 ∷ 16 ∷ 16 ∷ 16 ∷ 16 ∷ 16 ∷ 16 ∷ 16 ∷ 16 ∷ 16 ∷ 16 ∷ 16 ∷ 16 ∷ 16 ∷ 16 ∷ 16 ∷ 16 ∷ 16 ∷ 16 ∷ 16 ∷ 16 ∷ 10 ∷ 11 ∷ 12 ∷ 13 ∷ 14 ∷ 15 ∷ 16 ∷ 16 ∷ 16 ∷ 16 ∷ 16 ∷ 16 ∷ 16 ∷ 16 ∷ 16 ∷ 16 ∷ 16 ∷ 16 ∷ 16 ∷ 16 ∷ 16 ∷ 16 ∷ 16 ∷ 16 ∷ 16 ∷ 16 ∷ 16 ∷ 16 ∷ 16 ∷ 16 ∷ 16 ∷ 16 ∷ 16 ∷ 16 ∷ 16 ∷ 16 ∷ 16 ∷ 16 ∷ 16 ∷ 16 ∷ 16 ∷ 16 ∷ 16 ∷ 16 ∷ 16 ∷ 16 ∷ 16 ∷ 16 ∷ 16 ∷ 16 ∷ 16 ∷ 16 ∷ 16 ∷ 16 ∷ 16 ∷ 16 ∷ 16 ∷ 16 ∷ 16 ∷ 16 ∷ 16 ∷ 16 ∷ 16 ∷ 16 ∷ 16 ∷ 16 ∷ 16 ∷ 16 ∷ 16 ∷ 16 ∷ 16 ∷ 16 ∷ 16 ∷ 16 ∷ 16 ∷ 16 ∷ 16 ∷ 16 ∷ 16 ∷ 16 ∷ 16 ∷ 16 ∷ 16 ∷ 16 ∷ 16 ∷ 16 ∷ 16 ∷ 16 ∷ 16 ∷ 16 ∷ 16 ∷ 16 ∷ 16 ∷ 16 ∷ 16 ∷ 16 ∷ 16 ∷ 16 ∷ 16 ∷ 16 ∷ 16 ∷ 16 ∷ 16 ∷ 16 ∷ 16 ∷ 16 ∷ 16 ∷ 16 ∷ 16 ∷ 16 ∷ 16 ∷ 16 ∷ 16 ∷ 16 ∷ 16 ∷ 16 ∷ 16 ∷ 16 ∷ 16 ∷ 16 ∷ 16 ∷ 16 ∷ 16 ∷ 16 ∷ 16 ∷ 16 ∷ 16 ∷ 16 ∷ 16 ∷ 16 ∷ 16 ∷ 16 ∷ 16 ∷ 16 ∷ 16 ∷ 16 ∷ 16 ∷ 16 ∷ 16 ∷ 16 ∷ 16 ∷ 16 ∷ 16 ∷ 16 ∷ 16 ∷ 16 ∷ 16 ∷ 16 ∷ 16 ∷ 16 ∷ 16 ∷ 16 ∷ 16 ∷ 16 ∷ 16 ∷ 16 ∷ 16 ∷ 16 ∷ 16 ∷ []
 
 -- what a byte is worth by the table
 abbrev lower_value : ℕ → ℕ
 lower_value c = cond (nat_le 65 c && nat_le c 90) 16 (min 16 (digit_value c))
 
-table_is_rule : lower_values ≡ map lower_value (range_with_len 0 256)
+table_is_rule : LOWER_VALUES ≡ map lower_value (range_with_len 0 256)
 table_is_rule = refl
 
-from_rule : (c : ℕ) → lower_value c < 16 → IsLowerHex c × (lower_value c ≡ digit_value c)
-from_rule c small = grind (arith, nat_tests)
+rule_of_lower : (c : ℕ) → IsLowerHex c → lower_value c ≡ digit_value c
+rule_of_lower c lower = grind (arith, nat_tests)
 
-pub worth_by_table : (c : ℕ) → c < 256 → get_or lower_values c 0 < 16 → IsLowerHex c × (get_or lower_values c 0 ≡ digit_value c)
-worth_by_table c h small =
-    let rule : get_or lower_values c 0 ≡ lower_value c = ap (λ (l : List ℕ). get_or l c 0) table_is_rule ∙ get_or-map-range_with_len lower_value 0 256 c c 0 h (omega arith) in
-    let by = from_rule c (subst (λ n. n < 16) rule small) in
-    (by.0, rule ∙ by.1)
+rule_of_other : (c : ℕ) → ¬ IsLowerHex c → lower_value c ≡ 16
+rule_of_other c other = grind (arith, nat_tests)
+
+worth_by_rule : (c : ℕ) → c < 256 → get_or LOWER_VALUES c 0 ≡ lower_value c
+worth_by_rule c h = ap (λ (l : List ℕ). get_or l c 0) table_is_rule ∙ get_or-map-range_with_len lower_value 0 256 c c 0 h (omega arith)
+
+pub worth_of_lower : (c : ℕ) → c < 256 → IsLowerHex c → get_or LOWER_VALUES c 0 ≡ digit_value c
+worth_of_lower c h lower = worth_by_rule c h ∙ rule_of_lower c lower
+
+pub worth_of_other : (c : ℕ) → c < 256 → ¬ IsLowerHex c → get_or LOWER_VALUES c 0 ≡ 16
+worth_of_other c h other = worth_by_rule c h ∙ rule_of_other c other
+
+-- what the test of a digit's worth tells
+pub lower_when : (c digit : ℕ) → (IsLowerHex c → digit ≡ digit_value c) → (¬ IsLowerHex c → digit ≡ 16) → digit < 16 → IsLowerHex c × (digit ≡ digit_value c)
+lower_when c digit value other small =
+    let no : ¬ IsLowerHex c → ⊥ = λ none. omega (arith, other none, small) in
+    let lower : IsLowerHex c =
+    ⊎_elim
+    (λ low. absurd (no (λ l. omega (arith, l, low))))
+    (λ from. ⊎_elim
+    (λ within. inl (from, omega (arith, within)))
+    (λ above. ⊎_elim
+    (λ gap. absurd (no (λ l. omega (arith, l, above, gap))))
+    (λ letter. ⊎_elim (λ within. inr (letter, omega (arith, within))) (λ over. absurd (no (λ l. omega (arith, l, over)))) (cases_lt c 103))
+    (cases_lt c 97))
+    (cases_lt c 58))
+    (cases_lt c 48) in
+    (lower, value lower)
+
+pub lower_unless : (c digit : ℕ) → (IsLowerHex c → digit ≡ digit_value c) → 15 < digit → ¬ IsLowerHex c
+lower_unless c digit value large = λ lower. let below : digit_value c < 16 = value_below c lower in omega (arith, below, value lower)
+  where
+    value_below : (x : ℕ) → IsLowerHex x → digit_value x < 16
+    value_below x h = grind (arith, nat_tests)
+
+pub decimal_when : (c digit : ℕ) → (digit_value c < 10 → digit ≡ digit_value c) → (10 ≤ digit_value c → 10 ≤ digit) → digit < 10 → digit ≡ digit_value c
+decimal_when c digit value other small = ⊎_elim value (λ none. absurd (omega (arith, other none))) (cases_lt (digit_value c) 10)
+
+pub decimal_unless : (c digit : ℕ) → (digit_value c < 10 → digit ≡ digit_value c) → 9 < digit → 10 ≤ digit_value c
+decimal_unless c digit value large = ⊎_elim (λ is. absurd (omega (arith, is, value is))) (λ none. none) (cases_lt (digit_value c) 10)
 
 -- ---- a text cut behind some bytes
 
@@ -85,8 +119,19 @@ decimal_fits text place number most few inside all is =
 -- ---- the whole front
 
 -- a byte that is less 48, as the code takes it off
-pub decimal_by_less : (byte d : ℕ) → d < 10 → byte ≡ d + 48 → d ≡ digit_value byte
-decimal_by_less byte d small is = let own = digit_value_digit byte (omega arith) in omega (arith, own, is)
+pub decimal_of_less : (byte d : ℕ) → (48 ≤ byte → d + 48 ≡ byte) → digit_value byte < 10 → d ≡ digit_value byte
+decimal_of_less byte d less small =
+    let digit = digit_from_value byte small in let own = digit_value_digit byte digit in omega (arith, digit, own, less)
+
+pub other_of_less : (byte d : ℕ) → byte < 256 → (48 ≤ byte → d + 48 ≡ byte) → (byte < 48 → d ≡ byte + 208) → 10 ≤ digit_value byte → 10 ≤ d
+other_of_less byte d within less wraps large =
+    ⊎_elim
+    (λ small.
+    let from : 48 ≤ byte = ⊎_elim (λ low. absurd (omega (arith, wraps low, small))) (λ is. is) (cases_lt byte 48) in
+    let own = digit_value_digit byte (from, omega (arith, less from, small)) in
+    omega (arith, own, less from, large))
+    (λ enough. enough)
+    (cases_lt d 10)
 
 pub number_of_front : (text : List ℕ) (len number end : ℕ) → 0 < len → len ≤ 9 → len < length text → AllDigits 10 (take len text) → number ≡ digits_value 10 (take len text)
     → (get_or text 0 0 ≡ 48 → len ≡ 1) → get_or text len 0 ≡ end → text ≡ decimal number ++ end ∷ drop (len + 1) text

@@ -5,3 +5,4 @@ pub mod NoFault
 pub mod Rests
 pub mod Numerals
 pub mod FirstFault
+pub mod NoFronts

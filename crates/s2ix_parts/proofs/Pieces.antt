@@ -1,10 +1,10 @@
 -- A text cut at a byte: where it first stands, and where it doesn't stand at all.
-use Rattle.std.proofs.Common.{◌≡◌, ◌==◌, ◌&&◌, ℕ, ◌+◌, ◌<◌, true, false, not, Option, Some, None, List, [], ◌∷◌, ◌++◌, All, length, take, drop, get_or, refl, sym, ap, ◌∙◌, subst, arith}
+use Rattle.std.proofs.Common.{◌≡◌, ◌==◌, ◌&&◌, ℕ, ◌+◌, ◌<◌, true, false, not, Option, Some, None, List, [], ◌∷◌, ◌++◌, All, length, take, drop, get_or, refl, sym, ap, ap₂, ◌∙◌, subst, arith}
 use Rattle.std.specs.Prelude.{is_some, IfSome}
 use Rattle.std.specs.List.{join_with_byte, list_all}
-use Rattle.std.proofs.lemmas.Bool.{and_left, eq-eqb, eqb-true, false_from_ne_true, ne_eqb}
+use Rattle.std.proofs.lemmas.Bool.{and_left, both_ways, eq-eqb, eqb-true, false_from_ne_true, ne_eqb}
 use Rattle.std.proofs.lemmas.List.{drop_more, get_or-take, length-take-le, take-append-drop}
-use Rattle.std.proofs.lemmas.List.Elements.{All-from_get_or}
+use Rattle.std.proofs.lemmas.List.Elements.{All-from_get_or, All-head, All-tail}
 use Rattle.std.proofs.lemmas.List.Splits.{join_with_byte-slice_split, length-slice_split, slice_split_at, slice_split_none}
 use Rattle.memchr.specs.Find.{IsFirstByte, is_byte}
 use Rattle.s2ix_parts.specs.Lines.{has_parts, is_nil, lines_of, parts_of, pieces_at}
@@ -41,6 +41,22 @@ pieces_none x text none =
     slice_split_none (λ byte. byte == x) text
     (All-from_get_or (λ byte. (byte == x) ≡ false) text 0
     (λ k within. false_from_ne_true (get_or text k 0 == x) (none k (omega arith) within)))
+
+-- a text is cut in one way at the first x
+pub one_cut : (x : ℕ) (a b r s : List ℕ) → Lacks x a → Lacks x b → a ++ x ∷ r ≡ b ++ x ∷ s → (a ≡ b) × (r ≡ s)
+one_cut x [] [] r s none_a none_b is = (refl, ap (drop 1) is)
+one_cut x [] (y ∷ b) r s none_a none_b is =
+    let Other : ℕ → Type 0 = λ byte. (byte == x) ≡ false in
+    let here : x ≡ y = ap (λ t. get_or t 0 0) is in
+    absurd (both_ways (y == x) (All-head Other y b none_b) (eq-eqb y x (sym here)))
+one_cut x (y ∷ a) [] r s none_a none_b is =
+    let Other : ℕ → Type 0 = λ byte. (byte == x) ≡ false in
+    let here : y ≡ x = ap (λ t. get_or t 0 0) is in
+    absurd (both_ways (y == x) (All-head Other y a none_a) (eq-eqb y x here))
+one_cut x (y ∷ a) (z ∷ b) r s none_a none_b is =
+    let Other : ℕ → Type 0 = λ byte. (byte == x) ≡ false in
+    let rest = one_cut x a b r s (All-tail Other y a none_a) (All-tail Other z b none_b) (ap (drop 1) is) in
+    (ap₂ (λ h t. h ∷ t) (ap (λ t. get_or t 0 0) is) rest.0, rest.1)
 
 -- ---- how many parts
 

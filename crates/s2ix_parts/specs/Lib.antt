@@ -1,3 +1,4 @@
 pub mod Faults
+pub mod Fronts
 pub mod Lines
 pub mod Written

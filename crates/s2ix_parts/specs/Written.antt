@@ -33,7 +33,7 @@ label_written text = option_and_then label_numbered (number_written text)
 abbrev pub count_from : ℕ → Option ℕ
 count_from n = if nat_le 1 n && nat_le n 65535 then Some n else None
 
--- the count that a text writes
+-- the count of a held pair that a text writes
 unfoldable pub count_written : List ℕ → Option ℕ
 count_written text = option_and_then count_from (number_written text)
 

@@ -35,7 +35,7 @@ pub fn cut_part(line: &[u8]) -> Option<(&[u8], &[u8])>
     cut_at(line, b' ')
 }
 
-/// The first part of a line.
+/// The first part of a line: all of it where it has no space. O(n) for the n bytes of the part. This project's own.
 pub fn first_part(line: &[u8]) -> &[u8]
     ensures { result.now ≡ part 0 line.now }
 {
@@ -45,7 +45,7 @@ pub fn first_part(line: &[u8]) -> &[u8]
     }
 }
 
-/// The parts of a line that has exactly three, none of them empty.
+/// The parts of a line that has exactly three, none of them empty; `None` for any other line. O(n) for its n bytes. This project's own.
 pub fn three_parts(line: &[u8]) -> Option<(&[u8], &[u8], &[u8])>
     ensures none { IfNone result (has_parts 3 line.now ≡ false) }
     ensures some { IfSome result (λ _. has_parts 3 line.now ≡ true) }

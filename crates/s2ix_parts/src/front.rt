@@ -1,12 +1,13 @@
 //! What stands at the front of a text, read in one pass over its bytes.
 //!
-//! Each of these is sure of what it answers, and may answer nothing of a text that is sound: of a short one, or one of a rare shape. The
-//! readers of a line's parts decide then.
-ghost use Rattle.std.specs.Prelude.{◌≡◌, ◌<◌, ◌≤◌, ◌++◌, ◌∷◌, All, decimal, length, take, IfSome};
+//! Each of these is sure of what it answers. It answers nothing of a text that is too short for a pass of a fixed number of steps, sound or
+//! not: the readers of a line's parts decide then.
+ghost use Rattle.std.specs.Prelude.{◌≡◌, ◌^◌, ◌<◌, ◌≤◌, ◌++◌, ◌∷◌, All, decimal, length, slice_index, take, IfNone, IfSome};
 ghost use Rattle.std.specs.Char.{digit_value};
 ghost use Rattle.std.specs.Str.Parse.{AllDigits, digits_value};
 ghost use Rattle.s2id_core.specs.CellId.{raw_of};
 ghost use Rattle.s2id_core.specs.Token.{IsLowerHex, canonical_token};
+ghost use Rattle.s2ix_parts.specs.Fronts.{HasNoCellInFront, HasNoNumberInFront};
 
 use s2id_core::CellId;
 
@@ -27,10 +28,11 @@ const LOWER_VALUES: [u8; 256] = [
 
 /// The cell whose canonical token stands at the front of a text, up to a space, and what is behind that space.
 ///
-/// It answers nothing too of a text of less than 17 bytes. It takes one look at each byte. This project's own.
+/// It answers nothing too of a text of less than 17 bytes. One look at each byte of the token, so O(1). This project's own.
 #[inline]
 pub fn token_in_front(text: &[u8]) -> Option<(CellId, &[u8])>
-    ensures { IfSome result (λ read. text.now ≡ canonical_token (raw_of read.0) ++ 32 ∷ read.1.now) }
+    ensures cell { IfSome result (λ read. text.now ≡ canonical_token (raw_of read.0) ++ 32 ∷ read.1.now) }
+    ensures none { IfNone result (16 < length text.now → HasNoCellInFront text.now) }
 {
     if text.len() <= 16 {
         return None;
@@ -45,11 +47,13 @@ pub fn token_in_front(text: &[u8]) -> Option<(CellId, &[u8])>
 
 /// The number whose canonical digits stand at the front of a text, up to the byte `end`, and what is behind that byte.
 ///
-/// It answers nothing too of a number of ten digits or more, and of a text of less than 10 bytes. It takes one look at each byte.
-/// This project's own.
+/// It answers nothing too of a number of ten digits or more, and of a text of less than 10 bytes. The byte `end` is to be no digit: no
+/// number ends before one. One look at each byte of the number, so O(1). This project's own.
 #[inline]
 pub fn number_in_front(text: &[u8], end: u8) -> Option<(u32, &[u8])>
-    ensures { IfSome result (λ read. text.now ≡ decimal read.0 ++ end ∷ read.1.now) }
+    ensures number { IfSome result (λ read. text.now ≡ decimal read.0 ++ end ∷ read.1.now) }
+    ensures small { IfSome result (λ read. read.0 < 10 ^ 9) }
+    ensures none { IfNone result (9 < length text.now → 10 ≤ digit_value end → HasNoNumberInFront end text.now) }
 {
     if text.len() <= 9 {
         return None;
@@ -68,8 +72,9 @@ pub fn number_in_front(text: &[u8], end: u8) -> Option<(u32, &[u8])>
 #[inline]
 fn lower_digits(text: &[u8]) -> (u64, usize)
     requires { 16 < length text.now }
-    ensures some { result.1 ≤ 16 }
+    ensures at_most { result.1 ≤ 16 }
     ensures digits { All IsLowerHex (take result.1 text.now) }
+    ensures stop { result.1 < 16 → ¬ IsLowerHex (slice_index text.now result.1) }
     ensures value { result.0 ≡ digits_value 16 (take result.1 text.now) }
 {
     let mut number = 0u64;
@@ -87,8 +92,9 @@ fn lower_digits(text: &[u8]) -> (u64, usize)
 #[inline]
 fn decimal_digits(text: &[u8]) -> (u32, usize)
     requires { 9 < length text.now }
-    ensures some { result.1 ≤ 9 }
+    ensures at_most { result.1 ≤ 9 }
     ensures digits { AllDigits 10 (take result.1 text.now) }
+    ensures stop { result.1 < 9 → 10 ≤ digit_value (slice_index text.now result.1) }
     ensures value { result.0 ≡ digits_value 10 (take result.1 text.now) }
 {
     let mut number = 0u32;
@@ -105,7 +111,8 @@ fn decimal_digits(text: &[u8]) -> (u32, usize)
 // What a byte is worth as a decimal digit; above 9 where it is none.
 #[inline]
 fn decimal_worth(byte: u8) -> u8
-    ensures { result < 10 → result ≡ digit_value byte }
+    ensures digit { digit_value byte < 10 → result ≡ digit_value byte }
+    ensures other { 10 ≤ digit_value byte → 10 ≤ result }
 {
     byte.wrapping_sub(b'0')
 }
@@ -113,7 +120,8 @@ fn decimal_worth(byte: u8) -> u8
 // What a byte is worth as a hexadecimal digit of lower case; 16 where it is none.
 #[inline]
 fn lower_worth(byte: u8) -> u8
-    ensures digit { result < 16 → IsLowerHex byte × (result ≡ digit_value byte) }
+    ensures digit { IsLowerHex byte → result ≡ digit_value byte }
+    ensures other { ¬ IsLowerHex byte → result ≡ 16 }
 {
     LOWER_VALUES[byte as usize]
 }

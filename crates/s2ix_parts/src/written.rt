@@ -7,7 +7,8 @@ use s2id_core::CellId;
 use s2ix_bag::Label;
 use std::str;
 
-/// The cell whose canonical token a text is.
+/// The cell whose canonical token a text is: what `CellId::token` prints for it, and no other spelling. O(1): no text of more than 16 bytes
+/// is one. This project's own.
 pub fn cell_written(text: &[u8]) -> Option<CellId>
     ensures { result ≡ cell_that text.now }
 {
@@ -19,7 +20,7 @@ pub fn cell_written(text: &[u8]) -> Option<CellId>
     }
 }
 
-/// The number below 2^32 whose canonical digits a text is: those that printing it gives.
+/// The number below 2^32 whose canonical digits a text is: those that printing it gives. O(n) for n bytes. This project's own.
 pub fn number_written(text: &[u8]) -> Option<u32>
     ensures some { IfSome result (λ n. number_that text.now ≡ Some n) }
     ensures none { IfNone result ((n : ℕ) → n < 2 ^ 32 → number_that text.now ≢ Some n) }
@@ -33,14 +34,14 @@ pub fn number_written(text: &[u8]) -> Option<u32>
     }
 }
 
-/// The label whose number a text writes.
+/// The label whose number a text writes, in canonical digits. O(n) for n bytes. This project's own.
 pub fn label_written(text: &[u8]) -> Option<Label>
     ensures { result ≡ label_that text.now }
 {
     Label::new(number_written(text)?)
 }
 
-/// The count of a pair that is held, from 1 to 65535, which a text writes.
+/// The count of a pair that is held, from 1 to 65535, which a text writes in canonical digits. O(n) for n bytes. This project's own.
 pub fn count_written(text: &[u8]) -> Option<u32>
     ensures { result ≡ count_that text.now }
 {

@@ -1,6 +1,5 @@
 -- A collection with one held pair more at its end.
-use Rattle.std.proofs.Common.{◌≡◌, ℕ, suc, ◌+◌, ◌-◌, ◌<◌, ◌≤◌, true, Some, List, [], ◌∷◌, ◌++◌, All, length, refl, ap, ◌∙◌, subst, arith}
-use Rattle.std.specs.Prelude.{slice_get}
+use Rattle.std.proofs.Common.{◌≡◌, ℕ, ◌+◌, ◌<◌, ◌≤◌, true, Some, [], ◌∷◌, ◌++◌, All, length, refl, subst, arith}
 use Rattle.std.proofs.lemmas.Bool.{lt-ltb, ltb-true}
 use Rattle.std.proofs.lemmas.List.{length-append, length_push, take_at}
 use Rattle.std.proofs.lemmas.List.Elements.{All-cons, All-head, All-nil, All-push, All-tail, All-take}
@@ -10,18 +9,9 @@ use Rattle.s2ix_bag.specs.Pair.{rank_of}
 use Rattle.s2ix_bag.specs.declared.limits.Limits.{Limits}
 use Rattle.s2ix_bag.specs.declared.pair.Held.{Held}
 use Rattle.s2ix_bag.proofs.Parts.{collection_take}
-use Rattle.s2ix_parts.specs.Lines.{last_of}
 use Rattle.s2ix_read_dump.specs.PairLines.{last_pair}
 use Rattle.s2ix_parts.specs.Written.{comes_before}
 use Rattle.s2ix_read_dump.proofs.PairTexts.{HasCount}
-
--- the last of a list, as `last` reads it
-pub last_read : {A : Type 0} (xs : List A) → slice_get xs (length xs - 1) ≡ last_of xs
-last_read [] = refl
-last_read (x ∷ []) = refl
-last_read (x ∷ (y ∷ xs)) =
-    let step : length (x ∷ (y ∷ xs)) - 1 ≡ suc (length (y ∷ xs) - 1) = omega arith in
-    ap (slice_get (x ∷ (y ∷ xs))) step ∙ last_read (y ∷ xs)
 
 -- ---- the order
 

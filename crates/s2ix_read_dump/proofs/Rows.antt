@@ -20,7 +20,7 @@ use Rattle.s2ix_read_dump.specs.declared.errors.DumpFault.TheVariants.{Truncated
 use Rattle.s2ix_read_dump.specs.DumpFaults.{copies_above, dump_faults, end_of, is_end, is_first, is_inner, is_of_pair, is_over, line_fault, stands}
 use Rattle.s2ix_parts.specs.Faults.{Place}
 use Rattle.s2ix_parts.specs.Lines.{has_parts, is_nil, last_of, part, parts_of}
-use Rattle.s2ix_read_dump.specs.PairLines.{IsNext, held_of_parts, held_written, last_pair, line_text, lines_down_to, place_below}
+use Rattle.s2ix_read_dump.specs.PairLines.{IsNext, held_of_parts, held_written, last_pair, line_text, place_below}
 use Rattle.s2ix_parts.specs.Written.{cell_written, comes_before, count_of_line, count_written, label_written, pair_written}
 use Rattle.s2ix_read_dump.proofs.Appended.{bag_more, counts_are}
 use Rattle.s2ix_parts.proofs.Numerals.{written_count}
@@ -43,16 +43,9 @@ no_pair_fault t a b c d e f g = rw (a, b, c, d, e, f, g) refl
 
 -- ---- below the lines of held pairs
 
-header_is_no_end : is_end (codes "s2ix 1") ≡ false
-unfolding parts_of
-header_is_no_end = refl
-
-no_end_among : (hs : Collection) → All HasCount hs → list_any is_end (map line_text hs) ≡ false
-no_end_among [] counted = refl
-no_end_among (h ∷ hs) counted = or_from _ _ (line_is_no_end h (All-head HasCount h hs counted)) (no_end_among hs (All-tail HasCount h hs counted))
-
-pub not_over : (hs : Collection) → All HasCount hs → list_any is_end (lines_down_to hs) ≡ false
-not_over hs counted = or_from _ _ header_is_no_end (no_end_among hs counted)
+pub not_over : (hs : Collection) → All HasCount hs → list_any is_end (map line_text hs) ≡ false
+not_over [] counted = refl
+not_over (h ∷ hs) counted = or_from _ _ (line_is_no_end h (All-head HasCount h hs counted)) (not_over hs (All-tail HasCount h hs counted))
 
 pub copies_are : (hs : Collection) → All HasCount hs → sum_by count_of_line (map line_text hs) ≡ copies_in hs
 copies_are [] counted = refl
@@ -224,8 +217,8 @@ behind_row p first over =
     ∙ cond-false (t BadEnd) _ _ (and_left _ _ (and_left _ _ inner))
     ∙ ap (λ b. cond b (Some TrailingBytes) None) (same_row _ _ _ over refl)
 
-pub over_behind : (hs : Collection) (line : List ℕ) → is_end line ≡ true → list_any is_end (lines_down_to hs ++ line ∷ []) ≡ true
-over_behind hs line end = list_any-append is_end (lines_down_to hs) (line ∷ []) ∙ or_right _ _ (or_left _ _ end)
+pub over_behind : (hs : Collection) (line : List ℕ) → is_end line ≡ true → list_any is_end (map line_text hs ++ line ∷ []) ≡ true
+over_behind hs line end = list_any-append is_end (map line_text hs) (line ∷ []) ∙ or_right _ _ (or_left _ _ end)
 
 -- ---- a line without a line feed, where one is wanted
 

@@ -1,10 +1,9 @@
 -- The first fault of a text, one line further.
-use Rattle.std.proofs.Common.{◌≡◌, ◌==◌, ℕ, ◌+◌, ◌≤◌, Bool, true, false, not, ◌||◌, cond, Option, Some, None, List, [], ◌∷◌, ◌++◌, length, map, refl, sym, ap, ap₂, ◌∙◌, arith, append_assoc, subst}
+use Rattle.std.proofs.Common.{◌≡◌, ℕ, ◌+◌, ◌≤◌, Bool, true, false, not, ◌||◌, cond, Option, Some, None, List, [], ◌∷◌, ◌++◌, length, map, refl, sym, ap, ap₂, ◌∙◌, arith, append_assoc, subst}
 use Rattle.std.specs.Prelude.{codes, flat_map, IfSome}
-use Rattle.std.specs.List.{join_with_byte}
 use Rattle.std.specs.Str.{bytes_eq}
-use Rattle.std.proofs.lemmas.Bool.{cond-false, cond-true, eqb-true, false_from_ne_true, not-false}
-use Rattle.std.proofs.lemmas.List.{flat_map_more, length-map, length_push, map_push, nil_from_length}
+use Rattle.std.proofs.lemmas.Bool.{cond-false, cond-true, false_from_ne_true, not-false}
+use Rattle.std.proofs.lemmas.List.{flat_map_more, length-map, length_push, map_push}
 use Rattle.std.proofs.lemmas.List.Sums.{sum_by-append}
 use Rattle.std.proofs.lemmas.Slice.Eq.{bytes_eq-Decides}
 use Rattle.s2ix_bag.specs.Collection.{Collection, IsBag, copies_in}
@@ -20,7 +19,8 @@ use Rattle.s2ix_parts.specs.Lines.{is_nil, lines_of, part}
 use Rattle.s2ix_read_dump.specs.PairLines.{IsCut, IsNext, line_text, lines_down_to, place_below}
 use Rattle.s2ix_read_dump.proofs.Appended.{counts_are}
 use Rattle.s2ix_parts.proofs.FirstFault.{ended, found_from, found_here, found_later, found_nowhere, place}
-use Rattle.s2ix_parts.proofs.Pieces.{lines_joined, lines_some}
+use Rattle.s2ix_parts.proofs.Pieces.{lines_some}
+use Rattle.s2ix_parts.proofs.Rests.{lines_split, some_behind}
 use Rattle.s2ix_read_dump.proofs.PairTexts.{end_with_feed, line_with_feed}
 use Rattle.s2ix_read_dump.proofs.Rows.{behind_row, end_row, header_row, not_over, over_behind, truncated_row}
 
@@ -131,19 +131,6 @@ bytes_behind limits hs line last lines bag end is some =
     ∙ found_here line_fault limits (lines_down_to hs ++ line ∷ []) last lines TrailingBytes (last_fault limits hs line last lines end ∙ cond-true _ _ _ some)
     ∙ ap (λ n. Some (n, TrailingBytes)) (let same : length (lines_down_to hs ++ line ∷ []) + 1 ≡ length hs + 3 = omega (arith, length_push (lines_down_to hs) line, length-map hs line_text) in same)
 
--- what is left, where it has bytes
-some_behind : (below last : List ℕ) (lines : List (List ℕ)) → is_nil below ≡ false → lines_of below ≡ last ∷ lines → (not (is_nil lines) || not (is_nil last)) ≡ true
-some_behind below last (line ∷ lines) some is = refl
-some_behind below (byte ∷ last) [] some is = refl
-some_behind below [] [] some is =
-    let joined : below ≡ [] = sym (lines_joined below) ∙ ap (join_with_byte 10) is in
-    let clash : false ≡ true = sym some ∙ ap is_nil joined in
-    cc
-
-lines_split : (lines : List (List ℕ)) → is_nil lines ≡ false → (last : List ℕ) × (more : List (List ℕ)) × (lines ≡ last ∷ more)
-lines_split [] some = cc
-lines_split (last ∷ more) some = (last, more, refl)
-
 pub trailing : (limits : Limits) (hs : Collection) (copies : ℕ) (rest line below : List ℕ) → IsBag (record { limits = limits; held = hs }) → copies ≡ copies_in hs → lines_of rest ≡ line ∷ lines_of below → is_end line ≡ true → line ≡ end_of (length hs) copies → is_nil below ≡ false
     → fault_left limits hs (lines_of rest) ≡ Some (length hs + 3, TrailingBytes)
 trailing limits hs copies rest line below bag sum lines end is some =
@@ -200,13 +187,6 @@ copies_small limits hs bag = (omega (arith, bag.few, limits.in_range.1), copies_
 
 pub end_agrees : (line first word : List ℕ) (r : Bool) → r ≡ not (bytes_eq first word) → first ≡ part 0 line → word ≡ codes "end" → r ≡ false → is_end line ≡ true
 end_agrees line first word r is first_is word_is fails = ap₂ (λ (x y : List ℕ). bytes_eq x y) (sym first_is) (sym word_is) ∙ not-false (bytes_eq first word) (sym is ∙ fails)
-
-pub some_test : (text : List ℕ) (r : Bool) → r ≡ (length text == 0) → r ≡ false → is_nil text ≡ false
-some_test [] r is fails = let clash : true ≡ false = sym is ∙ fails in cc
-some_test (byte ∷ text) r is fails = refl
-
-pub none_test : (text : List ℕ) (r : Bool) → r ≡ (length text == 0) → r ≡ true → text ≡ []
-none_test text r is holds = nil_from_length text (eqb-true (length text) 0 (sym is ∙ holds))
 
 -- the sum of the counts with the next one fits
 pub next_sum : (limits : Limits) (hs : Collection) (line : List ℕ) (h : Held) → IsNext limits hs line h → copies_in hs + h.count ≤ 65535000000

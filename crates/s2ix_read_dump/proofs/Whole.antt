@@ -1,9 +1,9 @@
 -- A text has no fault exactly where it is a dump.
-use Rattle.std.proofs.Common.{◌≡◌, ◌==◌, ℕ, ◌+◌, ◌^◌, ◌<◌, ◌≤◌, ◌↔◌, Bool, true, false, not, Option, Some, None, Result, Ok, Err, List, [], ◌∷◌, ◌++◌, All, length, map, refl, sym, ap, ap₂, ◌∙◌, subst, arith, append_assoc, ⊎_elim}
+use Rattle.std.proofs.Common.{◌≡◌, ◌==◌, ℕ, ◌+◌, ◌^◌, ◌<◌, ◌≤◌, ◌↔◌, true, false, not, Option, Some, None, Result, Ok, Err, List, [], ◌∷◌, ◌++◌, All, length, map, refl, sym, ap, ap₂, ◌∙◌, subst, arith, append_assoc, ⊎_elim}
 use Rattle.std.specs.Prelude.{codes, flat_map}
 use Rattle.std.specs.List.{join_with_byte}
 use Rattle.std.specs.Str.{bytes_eq}
-use Rattle.std.proofs.lemmas.Bool.{both_ways, cases_Bool, cases_lt, cond-false, cond-true, le-leb, le-ltb, lt-ltb, not-false, not-true}
+use Rattle.std.proofs.lemmas.Bool.{both_ways, cases_Bool, cases_lt, cond-false, cond-true, le-leb, le-ltb, lt-ltb}
 use Rattle.std.proofs.lemmas.List.{append-nil, length-append}
 use Rattle.std.proofs.lemmas.List.Elements.{All-cons, All-head, All-nil, All-tail}
 use Rattle.std.proofs.lemmas.Slice.Eq.{bytes_eq-Decides}
@@ -24,7 +24,9 @@ use Rattle.s2ix_read_dump.specs.PairLines.{IsNext, held_written, last_pair, line
 use Rattle.s2ix_parts.specs.Written.{comes_before}
 use Rattle.s2ix_read_dump.proofs.Appended.{counts_are, front_is_bag, here_has, next_before}
 use Rattle.s2ix_read_dump.proofs.PairTexts.{HasCount, end_is_end, end_lacks_feed, end_with_feed, held_of_line, line_is_no_end, line_lacks_feed, line_with_feed}
-use Rattle.s2ix_parts.proofs.FirstFault.{found_here, found_later, place}
+use Rattle.s2ix_parts.proofs.FirstFault.{found_later, place}
+use Rattle.s2ix_parts.proofs.NoFault.{none_among, none_here}
+use Rattle.s2ix_parts.proofs.Rests.{join_more, no_lines, some_left}
 use Rattle.s2ix_parts.proofs.Pieces.{Lacks, lines_apart, lines_joined, lines_some}
 use Rattle.s2ix_read_dump.proofs.Rows.{header_row, next_fault, next_is, not_over, pair_row, truncated_row}
 use Rattle.s2ix_read_dump.proofs.Steps.{below_header, bytes_behind, copies_small, end_fault, fault_after_next, fault_left, nothing_behind}
@@ -34,10 +36,6 @@ abbrev pub lines_left : Collection → Collection → List (List ℕ)
 lines_left hs ks = map line_text ks ++ end_of (length (hs ++ ks)) (copies_in (hs ++ ks)) ∷ [] ∷ []
 
 -- ---- a dump has no fault
-
-some_left : (lines : List (List ℕ)) (line : List ℕ) (more : List (List ℕ)) → is_nil (lines ++ line ∷ more) ≡ false
-some_left [] line more = refl
-some_left (first ∷ lines) line more = refl
 
 sound_left : (limits : Limits) (hs ks : Collection) → IsBag (record { limits = limits; held = hs ++ ks }) → fault_left limits hs (lines_left hs ks) ≡ None
 sound_left limits hs [] is =
@@ -58,10 +56,6 @@ sound_left limits hs (k ∷ ks) is =
     ∙ sound_left limits (hs ++ k ∷ []) ks (subst With assoc is)
 
 -- the lines of a dump
-no_lines : lines_of [] ≡ [] ∷ []
-unfolding lines_of
-no_lines = refl
-
 lines_written : (ks all : Collection) → All HasCount ks → length all < 2 ^ 64 → copies_in all < 2 ^ 64 → lines_of (flat_map pair_line ks ++ end_line all) ≡ map line_text ks ++ end_of (length all) (copies_in all) ∷ [] ∷ []
 lines_written [] all counted few small =
     ap lines_of (end_with_feed all) ∙ lines_apart (end_of (length all) (copies_in all)) [] (end_lacks_feed (length all) (copies_in all) few small)
@@ -94,14 +88,6 @@ dump_is_sound limits hs is =
     ∙ sound_left limits [] hs is
 
 -- ---- a text without a fault is a dump
-
-none_at : (limits : Limits) (above : List (List ℕ)) (line : List ℕ) (lines : List (List ℕ)) (o : Option DumpFault) → line_fault (place limits above line lines) ≡ o → fault_below line_fault limits above (line ∷ lines) ≡ None → line_fault (place limits above line lines) ≡ None
-none_at limits above line lines None is none = is
-none_at limits above line lines (Some it) is none =
-    let clash : ◌≡◌ {A = Option (ℕ × DumpFault)} (Some (length above + 1, it)) None = sym (found_here line_fault limits above line lines it is) ∙ none in cc
-
-none_here : (limits : Limits) (above : List (List ℕ)) (line : List ℕ) (lines : List (List ℕ)) → fault_below line_fault limits above (line ∷ lines) ≡ None → line_fault (place limits above line lines) ≡ None
-none_here limits above line lines none = none_at limits above line lines (line_fault (place limits above line lines)) refl none
 
 next_at : (limits : Limits) (hs : Collection) (line : List ℕ) (written : Result Held DumpFault) → IsBag (record { limits = limits; held = hs }) → is_end line ≡ false → held_written line ≡ written → next_fault limits hs written ≡ None → (h : Held) × IsNext limits hs line h
 unfolding next_fault
@@ -169,9 +155,9 @@ left_from : (limits : Limits) (hs : Collection) (lines : List (List ℕ)) → Is
 left_from limits hs [] is some none = cc
 left_from limits hs (line ∷ []) is some none =
     let fault = truncated_row (place limits (lines_down_to hs) line []) (not_over hs (counts_are limits hs is)) refl in
-    let clash : Some Truncated ≡ None = sym fault ∙ none_here limits (lines_down_to hs) line [] none in cc
+    let clash : Some Truncated ≡ None = sym fault ∙ none_here line_fault limits (lines_down_to hs) line [] none in cc
 left_from limits hs (line ∷ (last ∷ lines)) is some none =
-    let sound = none_here limits (lines_down_to hs) line (last ∷ lines) none in
+    let sound = none_here line_fault limits (lines_down_to hs) line (last ∷ lines) none in
     ⊎_elim
     (λ end.
     let same = end_from limits hs line is end sound in
@@ -183,10 +169,6 @@ left_from limits hs (line ∷ (last ∷ lines)) is some none =
     (cases_Bool (is_end line))
 
 -- lines put together
-join_more : (line : List ℕ) (lines : List (List ℕ)) → is_nil lines ≡ false → join_with_byte 10 (line ∷ lines) ≡ line ++ 10 ∷ join_with_byte 10 lines
-join_more line [] some = cc
-join_more line (next ∷ lines) some = refl
-
 join_left : (ks : Collection) (end : List ℕ) → join_with_byte 10 (map line_text ks ++ end ∷ [] ∷ []) ≡ flat_map pair_line ks ++ (end ++ 10 ∷ [])
 join_left [] end = refl
 join_left (k ∷ ks) end =
@@ -205,7 +187,7 @@ header_from limits header next lines none =
     (λ same. (bytes_eq-Decides header (codes "s2ix 1")).0 same)
     (λ other.
     let fault = header_row limits header ∙ cond-true _ _ _ (ap not other) in
-    let clash : Some BadHeader ≡ None = sym fault ∙ none_here limits [] header (next ∷ lines) none in cc)
+    let clash : Some BadHeader ≡ None = sym fault ∙ none_here line_fault limits [] header (next ∷ lines) none in cc)
     (cases_Bool (bytes_eq header (codes "s2ix 1")))
 
 lines_are_dump : (limits : Limits) (lines : List (List ℕ)) → is_nil lines ≡ false → fault_below line_fault limits [] lines ≡ None → (ks : Collection) × IsBag (record { limits = limits; held = ks }) × (join_with_byte 10 lines ≡ dump_text ks)
@@ -213,10 +195,10 @@ unfolding dump_text
 lines_are_dump limits [] some none = cc
 lines_are_dump limits (header ∷ []) some none =
     let fault = truncated_row (place limits [] header []) refl refl in
-    let clash : Some Truncated ≡ None = sym fault ∙ none_here limits [] header [] none in cc
+    let clash : Some Truncated ≡ None = sym fault ∙ none_here line_fault limits [] header [] none in cc
 lines_are_dump limits (header ∷ (next ∷ lines)) some none =
     let is = header_from limits header next lines none in
-    let later = sym (found_later line_fault limits [] header (next ∷ lines) (none_here limits [] header (next ∷ lines) none)) ∙ none in
+    let later = sym (found_later line_fault limits [] header (next ∷ lines) (none_here line_fault limits [] header (next ∷ lines) none)) ∙ none in
     let left = left_from limits [] (next ∷ lines) (empty_bag limits) refl (ap (λ (h : List ℕ). fault_below line_fault limits (h ∷ []) (next ∷ lines)) (sym is) ∙ later) in (
       left.0,
       left.1.bag,
@@ -252,28 +234,13 @@ dump_put_together text header below hs cut is parts = cut ∙ ap (λ h. h ++ 10 
 pub one_held : (limits : Limits) (text : List ℕ) (held hs : Collection) → IsBag (record { limits = limits; held = held }) → IsBag (record { limits = limits; held = hs }) → text ≡ dump_text held → text ≡ dump_text hs → held ≡ hs
 one_held limits text held hs held_is is own same = one_dump_of_bags (record { limits = limits; held = held }) (record { limits = limits; held = hs }) held_is is (sym own ∙ same)
 
--- what `!=` tells of a header
-pub differs : (xs ys : List ℕ) (r : Bool) → r ≡ not (bytes_eq xs ys) → r ≡ true → xs ≡ ys → ⊥
-differs xs ys r is holds same = both_ways (bytes_eq xs ys) (not-true (bytes_eq xs ys) (sym is ∙ holds)) ((bytes_eq-Decides xs ys).1 same)
-
-pub agrees : (xs ys : List ℕ) (r : Bool) → r ≡ not (bytes_eq xs ys) → r ≡ false → xs ≡ ys
-agrees xs ys r is fails = (bytes_eq-Decides xs ys).0 (not-false (bytes_eq xs ys) (sym is ∙ fails))
-
 -- ---- laws
 
 pub written_dumps_are_read_back : (bag : LimitedCollection) → IsBag bag
     → (dump_fault bag.limits (dump_text bag.held) ≡ None) × ((other : LimitedCollection) → IsBag other → dump_text bag.held ≡ dump_text other.held → bag.held ≡ other.held)
 written_dumps_are_read_back bag is = (dump_is_sound bag.limits bag.held is, λ other other_is same. one_dump_of_bags bag other is other_is same)
 
-sound_lines : (limits : Limits) (front above : List (List ℕ)) (line : List ℕ) (below : List (List ℕ)) → fault_below line_fault limits front (above ++ line ∷ below) ≡ None → line_fault (place limits (front ++ above) line below) ≡ None
-sound_lines limits front [] line below none =
-    subst (λ (ls : List (List ℕ)). line_fault (place limits ls line below) ≡ None) (sym (append-nil front)) (none_here limits front line below none)
-sound_lines limits front (first ∷ above) line below none =
-    let sound = none_here limits front first (above ++ line ∷ below) none in
-    let rest = sym (found_later line_fault limits front first (above ++ line ∷ below) sound) ∙ none in
-    subst (λ (ls : List (List ℕ)). line_fault (place limits ls line below) ≡ None) (append_assoc front (first ∷ []) above) (sound_lines limits (front ++ first ∷ []) above line below rest)
-
 pub no_faulty_line_is_accepted : (limits : Limits) (text : List ℕ) → dump_fault limits text ≡ None → (above : List (List ℕ)) (line : List ℕ) (below : List (List ℕ)) → lines_of text ≡ above ++ line ∷ below
     → line_fault (place limits above line below) ≡ None
 unfolding dump_fault
-no_faulty_line_is_accepted limits text none above line below are = sound_lines limits [] above line below (ap (fault_below line_fault limits []) (sym are) ∙ none)
+no_faulty_line_is_accepted limits text none above line below are = none_among line_fault limits [] above line below (ap (fault_below line_fault limits []) (sym are) ∙ none)

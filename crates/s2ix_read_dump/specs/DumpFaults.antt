@@ -24,9 +24,13 @@ is_end line = bytes_eq (part 0 line) (codes "end")
 abbrev pub is_first : Place → Bool
 is_first p = is_nil p.above
 
+-- the lines above but for the header: those of pairs, and the end line behind them
+abbrev pub pairs_above : Place → List (List ℕ)
+pairs_above p = drop 1 p.above
+
 -- behind the end line
 abbrev pub is_over : Place → Bool
-is_over p = list_any is_end p.above
+is_over p = list_any is_end (pairs_above p)
 
 -- between the header and the end line, that among them
 abbrev pub is_inner : Place → Bool
@@ -35,10 +39,6 @@ is_inner p = not (is_first p) && not (is_over p)
 -- a line that is to write a pair
 abbrev pub is_of_pair : Place → Bool
 is_of_pair p = is_inner p && not (is_end p.line)
-
--- the lines of pairs above: all but the header
-abbrev pub pairs_above : Place → List (List ℕ)
-pairs_above p = drop 1 p.above
 
 -- the sum of their counts
 abbrev pub copies_above : Place → ℕ

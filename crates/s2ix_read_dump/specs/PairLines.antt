@@ -1,5 +1,5 @@
 -- The lines of held pairs, as they are read.
-use Rattle.std.specs.Prelude.{◌≡◌, ℕ, true, if◌then◌else◌, codes, decimal, None, Option, Some, Result, Ok, Err, List, [], ◌∷◌, ◌++◌, map}
+use Rattle.std.specs.Prelude.{◌≡◌, ℕ, ◌^◌, ◌<◌, ◌≤◌, true, if◌then◌else◌, codes, decimal, None, Option, Some, Result, Ok, Err, List, [], ◌∷◌, ◌++◌, length, map}
 use Rattle.std.specs.Option.{option_map}
 use Rattle.s2id_core.specs.declared.cell_id.CellId.{CellId}
 use Rattle.s2id_core.specs.CellId.{raw_of}
@@ -50,6 +50,16 @@ pub record IsNext (limits : Limits) (hs : Collection) (line : List ℕ) (h : Hel
   pub text : line ≡ line_text h
   pub bag : IsBag (record { limits = limits; held = hs ++ h ∷ [] })
   pub sound : line_fault (place_below limits hs line) ≡ None
+
+-- the line of a held pair stands at the front of a text, in the common shape: its label has nine digits or less, and behind it there is as
+-- much as an end line has at the least
+pub record IsCommonFront (text : List ℕ) (h : Held) (rest : List ℕ) : Type 0 where
+  pub whole : text ≡ line_text h ++ 10 ∷ rest
+  pub some : 1 ≤ h.count
+  pub few : h.count ≤ 65535
+  pub label : value_of h.pair.label < 10 ^ 9
+  pub long : 16 < length text
+  pub behind : 8 ≤ length rest
 
 -- a text is a line, its line feed, and more
 pub record IsCut (text line below : List ℕ) : Type 0 where

@@ -1,9 +1,9 @@
 //! The line of a held pair.
-ghost use Rattle.std.specs.Prelude.{◌≡◌, ◌<◌, ◌≤◌, ◌↔◌, ◌++◌, ◌∷◌, false, IfErr, IfOk, IfSome, IsTrue, Some};
-ghost use Rattle.s2ix_bag.specs.Pair.{rank_of};
+ghost use Rattle.std.specs.Prelude.{◌≡◌, ◌≤◌, ◌++◌, ◌∷◌, ℕ, false, IfErr, IfNone, IfOk, IfSome, List, Some};
+ghost use Rattle.s2ix_bag.specs.declared.pair.Held.{Held as HeldRecord};
 ghost use Rattle.s2ix_bag.specs.Collection.{IsBag};
 ghost use Rattle.s2ix_read_dump.specs.DumpFaults.{is_end, line_fault};
-ghost use Rattle.s2ix_read_dump.specs.PairLines.{IsCut, IsNext, held_written as held_that, last_pair, line_text, place_below};
+ghost use Rattle.s2ix_read_dump.specs.PairLines.{IsCommonFront, IsCut, IsNext, held_written as held_that, last_pair, line_text, place_below};
 ghost use Rattle.s2ix_parts.specs.Written.{comes_before};
 
 use crate::errors::DumpFault;
@@ -34,19 +34,12 @@ fn held_written(line: &[u8]) -> Result<Held, DumpFault>
     })
 }
 
-// Whether `one` comes before `other`: by cell, then by label.
-fn is_before(one: Pair, other: Pair) -> bool
-    ensures { IsTrue result ↔ (rank_of one < rank_of other) }
-{
-    one < other
-}
-
 // Whether a pair comes behind the last of those before, where there is one.
 fn comes_behind(before: &[Held], pair: Pair) -> bool
     ensures { result ≡ comes_before (last_pair before.now) (Some pair) }
 {
     match before.last() {
-        Some(last) => is_before(last.pair, pair),
+        Some(last) => last.pair.is_before(pair),
         None => true,
     }
 }
@@ -77,6 +70,7 @@ fn held_in_front(text: &[u8]) -> Option<(Held, &[u8])>
     ensures line { IfSome result (λ read. text.now ≡ line_text read.0 ++ 10 ∷ read.1.now) }
     ensures some { IfSome result (λ read. 1 ≤ read.0.count) }
     ensures few { IfSome result (λ read. read.0.count ≤ 65535) }
+    ensures none { IfNone result ((held : HeldRecord) (rest : List ℕ) → ¬ IsCommonFront text.now held rest) }
 {
     let (cell, behind) = token_in_front(text)?;
     let (label, behind) = number_in_front(behind, b' ')?;
@@ -93,7 +87,7 @@ fn held_in_front(text: &[u8]) -> Option<(Held, &[u8])>
 }
 
 /// The held pair that follows those of the pairs before, and what is behind its line, where that line stands at the front of a text and has
-/// the common shape. Where it answers nothing, the line may still be sound.
+/// the common shape. Where it answers nothing, no line of the common shape stands there that is the next.
 #[inline]
 pub fn next_in_front<'a>(
     limits: Limits,
@@ -103,6 +97,8 @@ pub fn next_in_front<'a>(
     requires { IsBag (record { limits = limits; held = before.now }) }
     ensures line { IfSome result (λ read. IsCut text.now (line_text read.0) read.1.now) }
     ensures next { IfSome result (λ read. IsNext limits before.now (line_text read.0) read.0) }
+    ensures none { IfNone result ((held : HeldRecord) (rest : List ℕ) → IsCommonFront text.now held rest
+        → ¬ IsNext limits before.now (line_text held) held) }
 {
     let (next, behind) = held_in_front(text)?;
     if !comes_behind(before, next.pair) || next.count > limits.count() {

@@ -7,7 +7,7 @@ use Rattle.s2ix_parts.specs.Written.{number_written}
 abbrev pub side_from : ℕ → Option ℕ
 side_from n = if nat_le n 65535 then Some n else None
 
--- the count that a text writes
+-- the count before or after a change that a text writes
 unfoldable pub side_written : List ℕ → Option ℕ
 side_written text = option_and_then side_from (number_written text)
 

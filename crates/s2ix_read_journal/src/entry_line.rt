@@ -1,6 +1,5 @@
 //! The line of an entry.
-ghost use Rattle.std.specs.Prelude.{◌≡◌, ◌<◌, ◌↔◌, IsTrue, Some};
-ghost use Rattle.s2ix_bag.specs.Pair.{rank_of};
+ghost use Rattle.std.specs.Prelude.{◌≡◌, Some};
 ghost use Rattle.s2ix_read_journal.specs.JournalLines.{entry_written as entry_that, last_pair, next_entry as next_entry_that};
 ghost use Rattle.s2ix_parts.specs.Written.{comes_before};
 
@@ -36,19 +35,12 @@ fn entry_written(line: &[u8]) -> Result<Entry, JournalFault>
     })
 }
 
-// Whether `one` comes before `other`: by cell, then by label.
-fn is_before(one: Pair, other: Pair) -> bool
-    ensures { IsTrue result ↔ (rank_of one < rank_of other) }
-{
-    one < other
-}
-
 // Whether a pair comes behind the last of the entries before, where there is one.
 fn comes_behind(before: &[Entry], pair: Pair) -> bool
     ensures { result ≡ comes_before (last_pair before.now) (Some pair) }
 {
     match before.last() {
-        Some(last) => is_before(last.pair, pair),
+        Some(last) => last.pair.is_before(pair),
         None => true,
     }
 }

@@ -1,7 +1,7 @@
 -- One digit more keeps what the digits write, and it fits.
-use Rattle.std.proofs.Common.{◌≡◌, ap, arith, take, ◌∙◌}
+use Rattle.std.proofs.Common.{◌≡◌, ap, arith, get_or, take, ◌∙◌}
 use Rattle.std.specs.Str.Parse.{digits_value}
-use Rattle.s2ix_parts.proofs.Fronts.{decimal_fits, decimal_more}
+use Rattle.s2ix_parts.proofs.Fronts.{decimal_fits, decimal_more, decimal_when}
 use Rattle.s2ix_parts.proofs.front.decimal_digits.Goals as goal
 
 pub overflow_mul-number : goal.overflow_mul-number
@@ -19,7 +19,7 @@ overflow_add-number c =
 pub loop-place-preserved : goal.loop-place-preserved
 loop-place-preserved c =
     let l = c.loop-place in
-    decimal_more c.args.text.now l.place l.number c.decimal_worth-digit.result (omega arith) l.invariant.0 l.invariant.1 (omega arith) (c.decimal_worth-digit.ensures (omega arith))
+    decimal_more c.args.text.now l.place l.number c.decimal_worth-digit.result (omega arith) l.invariant.0 l.invariant.1 (omega arith) (decimal_when (get_or c.args.text.now l.place 0) c.decimal_worth-digit.result c.decimal_worth-digit.ensures.digit c.decimal_worth-digit.ensures.other (omega arith))
 
 pub returns-clause-value : goal.returns-clause-value
 returns-clause-value c =

@@ -1,8 +1,8 @@
 -- One digit more keeps what the digits write, and it fits.
-use Rattle.std.proofs.Common.{◌≡◌, All, ap, arith, subst, take, ◌∙◌}
+use Rattle.std.proofs.Common.{◌≡◌, All, ap, arith, get_or, subst, take, ◌∙◌}
 use Rattle.std.specs.Str.Parse.{digits_value}
 use Rattle.s2id_core.specs.Token.{IsLowerHex}
-use Rattle.s2ix_parts.proofs.Fronts.{lower_fits, lower_more}
+use Rattle.s2ix_parts.proofs.Fronts.{lower_fits, lower_more, lower_when}
 use Rattle.s2ix_parts.proofs.front.lower_digits.Goals as goal
 
 pub overflow_mul-number : goal.overflow_mul-number
@@ -20,7 +20,7 @@ overflow_add-number c =
 pub loop-place-preserved : goal.loop-place-preserved
 loop-place-preserved c =
     let l = c.loop-place in
-    lower_more c.args.text.now l.place l.number c.lower_worth-digit.result (omega arith) l.invariant.0 l.invariant.1 (c.lower_worth-digit.ensures.digit (omega arith))
+    lower_more c.args.text.now l.place l.number c.lower_worth-digit.result (omega arith) l.invariant.0 l.invariant.1 (lower_when (get_or c.args.text.now l.place 0) c.lower_worth-digit.result c.lower_worth-digit.ensures.digit c.lower_worth-digit.ensures.other (omega arith))
 
 pub returns-clause-digits : goal.returns-clause-digits
 returns-clause-digits c =

@@ -3,7 +3,8 @@ use Rattle.std.proofs.Common.{◌≡◌, ◌+◌, length, true, ◌∙◌, arith
 use Rattle.std.proofs.lemmas.Bool.{iff_false}
 use Rattle.s2ix_read_dump.specs.declared.errors.DumpFault.TheVariants.{TrailingBytes}
 use Rattle.s2ix_read_dump.specs.DumpFaults.{is_end}
-use Rattle.s2ix_read_dump.proofs.Steps.{at_line, bad_end, end_agrees, none_test, read_to_end, row_fault, some_test, trailing, truncated}
+use Rattle.s2ix_parts.proofs.Rests.{none_test, some_test}
+use Rattle.s2ix_read_dump.proofs.Steps.{at_line, bad_end, end_agrees, read_to_end, row_fault, trailing, truncated}
 use Rattle.s2ix_read_dump.proofs.dump.next_line.Goals as goal
 
 pub returns-in_default-cut_line-clause-refused : goal.returns-in_default-cut_line-clause-refused

@@ -6,8 +6,9 @@ use Rattle.s2ix_text.specs.Dump.{dump_text}
 use Rattle.s2ix_read_dump.specs.declared.errors.DumpFault.{DumpFault}
 use Rattle.s2ix_read_dump.specs.DumpFaults.{IsDumpError}
 use Rattle.s2ix_parts.specs.Faults.{IsFromLine}
+use Rattle.s2ix_parts.proofs.Rests.{agrees, differs}
 use Rattle.s2ix_read_dump.proofs.Steps.{bad_header, below_header, no_header, wants_below}
-use Rattle.s2ix_read_dump.proofs.Whole.{agrees, differs, dump_put_together, never_refused, one_held, only_memory}
+use Rattle.s2ix_read_dump.proofs.Whole.{dump_put_together, never_refused, one_held, only_memory}
 use Rattle.s2ix_read_dump.proofs.dump.read_dump.Goals as goal
 
 pub returns-in_default-clause-refused : goal.returns-in_default-clause-refused
