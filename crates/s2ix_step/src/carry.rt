@@ -69,7 +69,7 @@ fn carry_instruction<K: Sink>(
             write_ok(0, sink)?;
         }
         Instruction::At(cell) => return carry_at(store, sink, cell),
-        Instruction::Meet(target) => return print_meeting(alloc, store, sink, &target),
+        Instruction::Meet(target) => return print_meeting(store, sink, &target),
         Instruction::Labels(target) => return print_labels(alloc, store, sink, &target),
         Instruction::Region(label) => return print_region(store.region(label), sink),
         Instruction::Common(first, second) => {
