@@ -6,10 +6,11 @@ use crate::samples::{
     list_of, table_of,
 };
 use s2id_cube::FaceIj;
+use s2id_union::CellUnion;
 use s2ix_io::{KeepingSink, Sink};
 use s2ix_text::{
-    ListItem, write_contents, write_dump, write_journal, write_list, write_neighbors, write_no,
-    write_ok, write_path, write_ranges, write_square,
+    ListItem, write_contents, write_dump, write_journal, write_list, write_meeting,
+    write_neighbors, write_no, write_ok, write_path, write_ranges, write_square,
 };
 use std::alloc::Global;
 use std::test::Fail;
@@ -33,6 +34,8 @@ pub(crate) enum Text {
     Label(u32),
     /// What lies over the leaf with a token.
     Contents(&'static [Counted], &'static [u8]),
+    /// What meets the cells with these tokens.
+    Meeting(&'static [Counted], &'static [&'static [u8]]),
     /// The ranges of a table.
     Ranges(&'static [Counted]),
     /// How many pairs changed their counts.
@@ -111,6 +114,20 @@ fn write_contents_over(
     Ok(write_contents(&table, leaf, sink).is_ok())
 }
 
+fn write_meeting_of(
+    alloc: Global,
+    pairs: &[Counted],
+    tokens: &[&[u8]],
+    sink: &mut KeepingSink,
+) -> Result<bool, Fail>
+    requires { CanCount (⟦<KeepingSink as Sink>⟧.fault_count sink.old) }
+{
+    let cells = cells_of(alloc, tokens)?;
+    let target = CellUnion::normalise(alloc, &cells)?;
+    let table = table_of(alloc, pairs)?;
+    Ok(write_meeting(&table, &target, sink).is_ok())
+}
+
 fn write_ranges_of(alloc: Global, pairs: &[Counted], sink: &mut KeepingSink) -> Result<bool, Fail>
     requires { CanCount (⟦<KeepingSink as Sink>⟧.fault_count sink.old) }
 {
@@ -131,6 +148,7 @@ fn write(alloc: Global, text: Text, sink: &mut KeepingSink) -> Result<bool, Fail
         Text::Entries(step) => write_entries(alloc, step, sink),
         Text::Label(number) => Ok(label_of(number)?.write_line(sink).is_ok()),
         Text::Contents(pairs, token) => write_contents_over(alloc, pairs, token, sink),
+        Text::Meeting(pairs, tokens) => write_meeting_of(alloc, pairs, tokens, sink),
         Text::Ranges(pairs) => write_ranges_of(alloc, pairs, sink),
         Text::Ok(pairs) => Ok(write_ok(pairs, sink).is_ok()),
         Text::No(name) => Ok(write_no(name, sink).is_ok()),
