@@ -15,7 +15,7 @@ use std::io::{BufWriter, Stdout};
 const TURNS: u64 = 4_294_967_296;
 
 /// Carries out a command, and says whether all was accepted. What was written before a fault goes out too.
-pub(crate) fn carry_out(rt: &HostRuntime, command: &Command) -> Result<bool, RunFault> {
+pub(crate) fn carry_command(rt: &HostRuntime, command: &Command) -> Result<bool, RunFault> {
     match command {
         Command::Run { load, limits, stop } => run(rt, load.as_ref(), *limits, *stop),
         Command::Check { file } => check(rt, file.as_str()),

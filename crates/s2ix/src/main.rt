@@ -5,7 +5,7 @@
 mod carry;
 mod ending;
 
-use carry::carry_out;
+use carry::carry_command;
 use ending::{Ending, status};
 use s2ix_io::RunFault;
 use s2ix_words::{Command, WordsFault, command_of};
@@ -29,7 +29,7 @@ fn asked(rt: &HostRuntime) -> Result<Command, WordsFault> {
 // Does what the words ask for. Help goes to standard output, and usage to standard error.
 fn end(rt: &HostRuntime) -> Ending {
     match asked(rt) {
-        Ok(command) => match carry_out(rt, &command) {
+        Ok(command) => match carry_command(rt, &command) {
             Ok(true) => Ending::Accepted,
             Ok(false) => Ending::Refused,
             Err(fault) => Ending::Fault(fault),

@@ -1,4 +1,4 @@
-// Runs of `dump` over an empty store that a device ends.
+// Runs over an empty store that a device ends.
 use crate::runs::{ALL, WIDEST, run_over_empty};
 use s2ix_cli::{RunFault, RunOptions};
 use s2ix_io::{KeepingSink, SliceSource, TakesNone, ToWrite};
@@ -8,10 +8,19 @@ use std::test::Fail;
 // What a run of `dump` over an empty store writes.
 const DUMP: &[u8] = b"s2ix 1\nend 0 0\n";
 
-// The devices of a run, and how it ends.
+// Three pairs, and a query for what meets two cells.
+const MEETING: &[u8] = b"add 1 7\nadd 04 9\nadd 1c 2\nmeet 1c 04\n";
+
+// What a run of that writes.
+const MET: &[u8] = b"ok 1\nok 1\nok 1\n04:9:1\n1:7:1\n1c:2:1\nend 3\n";
+
+// A run with its devices, and how it ends.
 #[derive(Clone, Copy)]
 struct Devices {
     name: &'static str,
+    // the script, and what a run of it writes that nothing ends
+    input: &'static [u8],
+    output: &'static [u8],
     // how many bytes a piece and a put have at most
     piece_len: usize,
     put_len: usize,
@@ -22,7 +31,7 @@ struct Devices {
     // how many pieces may be read
     turns: u64,
     ends_by: Option<RunFault>,
-    // how many bytes of the dump come out at least and at most, and how many are flushed
+    // how many bytes of the output come out at least and at most, and how many are flushed
     least: usize,
     most: usize,
     flushed: usize,
@@ -31,6 +40,8 @@ struct Devices {
 // A run that nothing ends.
 const WHOLE: Devices = Devices {
     name: "sound devices",
+    input: b"dump\n",
+    output: DUMP,
     piece_len: ALL,
     put_len: ALL,
     piece_fault: 0,
@@ -55,7 +66,7 @@ const UNREAD: Devices = Devices {
     ..WHOLE
 };
 
-const RUNS: [Devices; 8] = [
+const RUNS: [Devices; 9] = [
     WHOLE,
     Devices {
         name: "no turn for the end",
@@ -92,6 +103,15 @@ const RUNS: [Devices; 8] = [
         ..UNREAD
     },
     Devices {
+        name: "a fault within the second line",
+        input: b"add 04 9\nad",
+        output: b"ok 1\n",
+        piece_len: 11,
+        piece_fault: 2,
+        most: 5,
+        ..UNREAD
+    },
+    Devices {
         name: "a flush that fails",
         flush_fails: true,
         ends_by: Some(RunFault::Write),
@@ -100,10 +120,10 @@ const RUNS: [Devices; 8] = [
     },
 ];
 
-// Runs `dump` over these devices, and compares how it ends. A failure names the devices and says what came out.
+// Runs a script over its devices, and compares how it ends. A failure names the devices and says what came out.
 fn check_run(alloc: Global, devices: &Devices) -> Result<(), Fail> {
     let name = devices.name;
-    let mut source = SliceSource::new(b"dump\n", devices.piece_len, devices.piece_fault);
+    let mut source = SliceSource::new(devices.input, devices.piece_len, devices.piece_fault);
     let mut sink = KeepingSink::new(
         alloc,
         devices.put_len,
@@ -118,7 +138,7 @@ fn check_run(alloc: Global, devices: &Devices) -> Result<(), Fail> {
     let kept = sink.kept();
     let flushed = sink.flushed_len();
     if end == devices.ends_by
-        && DUMP.starts_with(kept)
+        && devices.output.starts_with(kept)
         && devices.least <= kept.len()
         && kept.len() <= devices.most
         && flushed == devices.flushed
@@ -141,11 +161,13 @@ fn a_run_ends_as_its_devices_do(rt: HostRuntime) -> Result<(), Fail> {
     check_runs(rt.alloc(), &RUNS)
 }
 
-#[test]
-fn a_fault_of_any_put_ends_a_run(rt: HostRuntime) -> Result<(), Fail> {
-    for count in 0..DUMP_LEN {
+// Runs a script over sinks of which each fails at another byte: what came out is all before that byte.
+fn check_puts(alloc: Global, input: &'static [u8], output: &'static [u8]) -> Result<(), Fail> {
+    for count in 0..output.len() {
         let devices = Devices {
             name: "a put that fails",
+            input,
+            output,
             put_len: 1,
             put_fault: count as u64 + 1,
             ends_by: Some(RunFault::Write),
@@ -154,9 +176,19 @@ fn a_fault_of_any_put_ends_a_run(rt: HostRuntime) -> Result<(), Fail> {
             flushed: 0,
             ..WHOLE
         };
-        check_run(rt.alloc(), &devices)?;
+        check_run(alloc, &devices)?;
     }
     Ok(())
+}
+
+#[test]
+fn a_fault_of_any_put_ends_a_run(rt: HostRuntime) -> Result<(), Fail> {
+    check_puts(rt.alloc(), b"dump\n", DUMP)
+}
+
+#[test]
+fn a_meeting_list_goes_out_up_to_a_fault(rt: HostRuntime) -> Result<(), Fail> {
+    check_puts(rt.alloc(), MEETING, MET)
 }
 
 #[test]

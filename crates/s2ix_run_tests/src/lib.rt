@@ -1,4 +1,4 @@
-//! Tests of whole runs: worked scripts from bytes to bytes, and devices that fail.
+//! Tests of whole runs: worked scripts from bytes to bytes, and devices that fail; and of single lines and instructions.
 #![tactic(auto)]
 
 #[cfg(test)]
@@ -17,3 +17,5 @@ mod runs;
 mod script_tests;
 #[cfg(test)]
 mod scripts;
+#[cfg(test)]
+mod step_tests;

@@ -2,7 +2,7 @@
 use crate::scripts::{PLAIN, Script, check_all};
 use std::test::Fail;
 
-const SCRIPTS: [Script; 14] = [
+const SCRIPTS: [Script; 17] = [
     Script {
         name: "paths, squares and exports",
         input: b"path 1\npath 1d\nface 1d\nexport\nadd 04 9\nexport\n",
@@ -93,6 +93,36 @@ const SCRIPTS: [Script; 14] = [
         name: "pairs come by their first shared leaf",
         input: b"add 04 9\nadd 5 3\nadd 44 6\nadd 4c 1\nmeet 04 4c\n",
         output: b"ok 1\nok 1\nok 1\nok 1\n04:9:1\n4c:1:1\n5:3:1\nend 3\n",
+        ..PLAIN
+    },
+    Script {
+        name: "ranges of nested cells and of two beside each other",
+        input: b"add 1 7\nadd 04 9\nadd 1c 2\nranges\n",
+        output: b"ok 1\nok 1\nok 1\n\
+              0000000000000001 0800000000000001 04:9:1 1:7:1\n\
+              0800000000000001 1800000000000001 1:7:1\n\
+              1800000000000001 2000000000000001 1c:2:1 1:7:1\n\
+              2000000000000001 c000000000000001\n\
+              end 4\n",
+        ..PLAIN
+    },
+    Script {
+        name: "ranges on two faces, and a gap between them",
+        input: b"add 04 9\nadd 5 3\nadd 44 6\nadd 4c 1\nranges\n",
+        output: b"ok 1\nok 1\nok 1\nok 1\n\
+              0000000000000001 0800000000000001 04:9:1\n\
+              0800000000000001 4000000000000001\n\
+              4000000000000001 4800000000000001 44:6:1 5:3:1\n\
+              4800000000000001 5000000000000001 4c:1:1 5:3:1\n\
+              5000000000000001 6000000000000001 5:3:1\n\
+              6000000000000001 c000000000000001\n\
+              end 6\n",
+        ..PLAIN
+    },
+    Script {
+        name: "nothing meets a target where nothing is held",
+        input: b"meet 5\nmeet 1 3 5 7 9 b\nlabels 5\n",
+        output: b"end 0\nend 0\nend 0\n",
         ..PLAIN
     },
     Script {

@@ -8,14 +8,14 @@ use Rattle.s2ix_script.specs.declared.line_fault.LineFault.{LineFault}
 use Rattle.s2ix_script.specs.Meaning.{is_on_union, meaning_of}
 
 -- an instruction: an edit unless it is refused before its change is made, an undo or a redo of a change that there is, and what gathers
--- the pairs, labels or cells that it prints, or the text of an export
+-- the labels or cells that it prints, or the text of an export
 abbrev pub InstructionWants : State → Instruction → Type 0
 InstructionWants s (asks.Edit edit) = MayWantMemory (edit_refusal s edit)
 InstructionWants s asks.Undo = s.done ≢ []
 InstructionWants s asks.Redo = s.undone ≢ []
 InstructionWants s asks.Forget = ⊥
 InstructionWants s (asks.At cell) = ⊥
-InstructionWants s (asks.Meet target) = Unit {0}
+InstructionWants s (asks.Meet target) = ⊥
 InstructionWants s (asks.Labels target) = Unit {0}
 InstructionWants s (asks.Region label) = Unit {0}
 InstructionWants s (asks.Common first second) = Unit {0}

@@ -48,8 +48,12 @@ pub fn carry_out<K: Sink>(
     }
 }
 
-// Carries an instruction out, and prints its answer.
-fn carry_instruction<K: Sink>(
+/// Carries an instruction out over a store, and prints its answer, as [`carry_out`] does for a line that asks for it. It takes what its
+/// edit, step or query takes; `at`, `meet`, `ranges`, `dump` and `journal` print as they go.
+///
+/// `OutOfMemory` where a growth was refused: nothing has changed then, and nothing was printed. `Write` where the sink failed: what
+/// the instruction does is done, and a front of its answer went out. This project's own.
+pub fn carry_instruction<K: Sink>(
     alloc: Global,
     store: &mut Store,
     sink: &mut K,
@@ -69,7 +73,7 @@ fn carry_instruction<K: Sink>(
             write_ok(0, sink)?;
         }
         Instruction::At(cell) => return carry_at(store, sink, cell),
-        Instruction::Meet(target) => return print_meeting(alloc, store, sink, &target),
+        Instruction::Meet(target) => return print_meeting(store, sink, &target),
         Instruction::Labels(target) => return print_labels(alloc, store, sink, &target),
         Instruction::Region(label) => return print_region(store.region(label), sink),
         Instruction::Common(first, second) => {

@@ -17,7 +17,7 @@ use s2ix_io::{RunFault, Sink, put_parts};
 use s2ix_script::not_leaf_name;
 use s2ix_store::Store;
 use s2ix_table::RangeTable;
-use s2ix_text::{write_contents, write_list, write_no, write_ranges};
+use s2ix_text::{write_contents, write_list, write_meeting, write_no, write_ranges};
 use std::alloc::Global;
 
 // Prints what lies over a leaf.
@@ -39,18 +39,18 @@ pub(crate) fn carry_at<K: Sink>(
     Ok(LineOutcome::Accepted)
 }
 
-// Prints the pairs that meet a target.
+// Prints the pairs that meet a target, each as it is found.
 pub(crate) fn print_meeting<K: Sink>(
-    alloc: Global,
     store: &Store,
     sink: &mut K,
     target: &CellUnion,
 ) -> Result<LineOutcome, RunFault>
     requires { CanCount (K.fault_count sink.old) }
     ensures carries { Carries (text_step store.now (list_text held_line (meeting_of target.now store.now.bag.held))) store.now store.now (K.taken sink.old) (K.taken sink.new) result }
+    ensures memory { result ≢ Err RunFault.OutOfMemory }
     ensures faults { K.fault_count sink.new ≡ K.fault_count sink.old + sink_faults result }
 {
-    write_list(&store.table().meeting(alloc, target)?, sink)?;
+    write_meeting(store.table(), target, sink)?;
     Ok(LineOutcome::Accepted)
 }
 

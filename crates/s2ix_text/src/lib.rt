@@ -9,6 +9,7 @@ mod dump;
 mod journal;
 pub mod laws;
 mod list;
+mod meeting;
 mod pair;
 mod ranges;
 
@@ -16,4 +17,5 @@ pub use answers::{write_neighbors, write_no, write_ok, write_path, write_square}
 pub use dump::write_dump;
 pub use journal::write_journal;
 pub use list::{ListItem, write_list};
+pub use meeting::write_meeting;
 pub use ranges::{write_contents, write_ranges};

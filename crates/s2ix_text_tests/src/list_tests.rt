@@ -1,11 +1,14 @@
-// Lists of pairs, labels, cells and entries, contents of leaves and ranges of tables, by their calls with no script.
+// Lists of pairs, labels, cells and entries, contents of leaves, what meets targets, and ranges of tables, by their calls with no script.
 use crate::texts::{Row, Text, check_all};
 use std::test::Fail;
 
 // A face under label 7, and a cell in it under label 9, twice.
 const NESTED: &str = "1:7:1 04:9:2";
 
-const LISTS: [Row; 6] = [
+// Cells on two faces, of which a target with a gap misses one.
+const APART: &str = "04:9:1 44:6:1 4c:1:3 5:3:1";
+
+const LISTS: [Row; 9] = [
     // a list has its items and their number
     Row {
         texts: &[
@@ -54,6 +57,30 @@ const LISTS: [Row; 6] = [
             0800000000000001 2000000000000001 1:7:1\n\
             2000000000000001 c000000000000001\n\
             end 3\n",
+    },
+    // what meets a target comes by its first shared leaf, each pair once
+    Row {
+        texts: &[
+            Text::Meeting(NESTED, "14 0c 04"),
+            Text::Meeting(APART, "04 4c"),
+        ],
+        put_len: 5,
+        fault_at: 0,
+        kept: b"04:9:2\n1:7:1\nend 2\n04:9:1\n4c:1:3\n5:3:1\nend 3\n",
+    },
+    // a target that nothing meets, and one without cells
+    Row {
+        texts: &[Text::Meeting(NESTED, "5"), Text::Meeting(NESTED, "")],
+        put_len: 9,
+        fault_at: 0,
+        kept: b"end 0\nend 0\n",
+    },
+    // a fault leaves the pairs found before it, and a front of the next one's line
+    Row {
+        texts: &[Text::Meeting(APART, "04 4c")],
+        put_len: 9,
+        fault_at: 9,
+        kept: b"04:9:1\n4c:",
     },
     // a fault ends a list
     Row {

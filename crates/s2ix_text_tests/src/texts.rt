@@ -4,11 +4,12 @@ ghost use Rattle.s2ix_io.specs.Faults.{CanCount};
 use crate::samples::{Step, change_of, changes_of, labels_of, leaf_of, list_of, table_of};
 use s2id_cube::FaceIj;
 use s2id_samples::{cell_of, cells_of};
+use s2id_union::CellUnion;
 use s2ix_io::{KeepingSink, Sink};
 use s2ix_samples::{WIDEST, bag_of, label_of};
 use s2ix_text::{
-    ListItem, write_contents, write_dump, write_journal, write_list, write_neighbors, write_no,
-    write_ok, write_path, write_ranges, write_square,
+    ListItem, write_contents, write_dump, write_journal, write_list, write_meeting,
+    write_neighbors, write_no, write_ok, write_path, write_ranges, write_square,
 };
 use std::alloc::Global;
 use std::test::Fail;
@@ -32,6 +33,8 @@ pub(crate) enum Text {
     Label(&'static str),
     // What lies over the leaf with a token.
     Contents(&'static str, &'static str),
+    // What meets the cells with these tokens.
+    Meeting(&'static str, &'static str),
     // The ranges of a table.
     Ranges(&'static str),
     // How many pairs changed their counts.
@@ -110,6 +113,20 @@ fn write_contents_over(
     Some(write_contents(&table, leaf, sink).is_ok())
 }
 
+fn write_meeting_of(
+    alloc: Global,
+    pairs: &str,
+    tokens: &str,
+    sink: &mut KeepingSink,
+) -> Option<bool>
+    requires { CanCount (⟦<KeepingSink as Sink>⟧.fault_count sink.old) }
+{
+    let cells = cells_of(alloc, tokens)?;
+    let target = CellUnion::normalise(alloc, &cells).ok()?;
+    let table = table_of(alloc, pairs)?;
+    Some(write_meeting(&table, &target, sink).is_ok())
+}
+
 fn write_ranges_of(alloc: Global, pairs: &str, sink: &mut KeepingSink) -> Option<bool>
     requires { CanCount (⟦<KeepingSink as Sink>⟧.fault_count sink.old) }
 {
@@ -130,6 +147,7 @@ fn write(alloc: Global, text: Text, sink: &mut KeepingSink) -> Option<bool>
         Text::Entries(step) => write_entries(alloc, step, sink),
         Text::Label(number) => Some(label_of(number)?.write_line(sink).is_ok()),
         Text::Contents(pairs, token) => write_contents_over(alloc, pairs, token, sink),
+        Text::Meeting(pairs, tokens) => write_meeting_of(alloc, pairs, tokens, sink),
         Text::Ranges(pairs) => write_ranges_of(alloc, pairs, sink),
         Text::Ok(pairs) => Some(write_ok(pairs, sink).is_ok()),
         Text::No(name) => Some(write_no(name, sink).is_ok()),
