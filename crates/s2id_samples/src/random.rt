@@ -27,6 +27,13 @@ impl Random {
         self.bits().wrapping_mul(bound) >> 32
     }
 
+    /// The next cell of any face and level, with digits of all kinds. `None` never comes.
+    pub fn any_cell(&mut self) -> Option<CellId> {
+        let digits = self.bits() << 29 | self.bits() >> 3;
+        let leaf = CellId::from_raw(self.below(6) << 61 | digits | 1)?;
+        leaf.parent(u8::try_from(self.below(31)).ok()?)
+    }
+
     /// The next cell of the first faces, at a level below `levels`. Most digits are 0, so that many cells lie within others. `None` where
     /// there is no such face or level.
     pub fn cell(&mut self, faces: u64, levels: u64) -> Option<CellId> {

@@ -5,7 +5,7 @@ use std::process::Abort;
 
 // One damage of a text, at a place.
 #[derive(Clone, Copy)]
-pub(crate) enum Damage {
+enum Damage {
     // What stands from the place on is lost.
     Cut,
     // The byte at the place is another one.
@@ -21,7 +21,7 @@ pub(crate) enum Damage {
 }
 
 // Every kind of damage.
-pub(crate) const DAMAGES: [Damage; 17] = [
+const DAMAGES: [Damage; 17] = [
     Damage::Cut,
     Damage::Set(0),
     Damage::Set(255),
@@ -97,11 +97,25 @@ fn with_piece(
 
 impl Damage {
     // The text with this damage at a place.
-    pub(crate) fn of(self, rt: &impl Abort, alloc: Global, text: &[u8], at: usize) -> Vec<u8> {
+    fn of(self, rt: &impl Abort, alloc: Global, text: &[u8], at: usize) -> Vec<u8> {
         match self {
             Damage::Doubled(cut) => with_piece(rt, alloc, text, cut, true, at),
             Damage::Exchanged(cut) => with_piece(rt, alloc, text, cut, false, at),
             _ => with_byte(rt, alloc, text, self, at),
         }
     }
+}
+
+// A text, and then the text with every damage at every place.
+pub(crate) fn with_damages(rt: &impl Abort, alloc: Global, text: &[u8]) -> Vec<Vec<u8>> {
+    let mut texts = Vec::new(alloc);
+    let sound = Vec::from_slice(alloc, text).expect(rt, "memory");
+    texts.push(sound).expect(rt, "memory");
+    for damage in DAMAGES {
+        for at in 0..text.len() {
+            let damaged = damage.of(rt, alloc, text, at);
+            texts.push(damaged).expect(rt, "memory");
+        }
+    }
+    texts
 }

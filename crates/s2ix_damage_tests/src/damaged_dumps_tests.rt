@@ -1,5 +1,5 @@
 // Damaged dumps, and what both readers say of them.
-use crate::damage::DAMAGES;
+use crate::damage::with_damages;
 use crate::plain_dump::read;
 use s2ix_bag::{Bag, Held, Limits};
 use s2ix_read_dump::{DumpError, read_dump};
@@ -36,12 +36,8 @@ fn agree(rt: &impl Abort, alloc: Global, text: &[u8], limits: Limits) -> bool {
 
 fn check_damages(rt: &impl Abort, alloc: Global, limits: Limits) {
     for text in TEXTS {
-        assert!(rt; agree(rt, alloc, text, limits));
-        for damage in DAMAGES {
-            for at in 0..text.len() {
-                let damaged = damage.of(rt, alloc, text, at);
-                assert!(rt; agree(rt, alloc, &damaged, limits), "damage at {at}");
-            }
+        for (number, text) in with_damages(rt, alloc, text).iter().enumerate() {
+            assert!(rt; agree(rt, alloc, text, limits), "damage {number}");
         }
     }
 }

@@ -1,5 +1,5 @@
 // Dumps of random bags, read back.
-use s2id_core::CellId;
+use s2id_samples::Random;
 use s2ix_bag::{Bag, Change, Entry, Label, Limits, Pair};
 use s2ix_io::KeepingSink;
 use s2ix_read_dump::read_dump;
@@ -7,31 +7,17 @@ use s2ix_text::write_dump;
 use std::alloc::Global;
 use std::process::Abort;
 
-// A number below 2^31 that looks random, and the state for the next one.
-fn next_number(state: &mut u64) -> u32 {
-    *state = state
-        .wrapping_mul(6364136223846793005)
-        .wrapping_add(1442695040888963407);
-    (*state >> 33) as u32
-}
-
-// A cell of any face and level.
-fn random_cell(rt: &impl Abort, state: &mut u64) -> CellId {
-    let face = (next_number(state) % 6) as u8;
-    let mut cell = CellId::from_path(face, &[]).expect(rt, "a face");
-    for _ in 0..next_number(state) % 31 {
-        let position = (next_number(state) % 4) as u8;
-        cell = cell.child(position).expect(rt, "a child");
-    }
-    cell
+// The next number below a bound.
+fn next_number(rt: &impl Abort, random: &mut Random, bound: u64) -> u32 {
+    u32::try_from(random.below(bound)).expect(rt, "a number")
 }
 
 // Pairs in rising order, each once.
-fn random_pairs(rt: &impl Abort, alloc: Global, state: &mut u64) -> Vec<Pair> {
+fn random_pairs(rt: &impl Abort, alloc: Global, random: &mut Random) -> Vec<Pair> {
     let mut pairs = Vec::new(alloc);
-    for _ in 0..next_number(state) % 40 {
-        let cell = random_cell(rt, state);
-        let label = Label::new(next_number(state)).expect(rt, "a label");
+    for _ in 0..random.below(40) {
+        let cell = random.any_cell().expect(rt, "a cell");
+        let label = Label::new(next_number(rt, random, 1 << 31)).expect(rt, "a label");
         pairs.push(Pair { cell, label }).expect(rt, "memory");
     }
     pairs.sort().expect(rt, "memory");
@@ -40,10 +26,10 @@ fn random_pairs(rt: &impl Abort, alloc: Global, state: &mut u64) -> Vec<Pair> {
 }
 
 // A bag of random pairs with random counts.
-fn random_bag(rt: &impl Abort, alloc: Global, state: &mut u64) -> Bag {
+fn random_bag(rt: &impl Abort, alloc: Global, random: &mut Random) -> Bag {
     let mut entries = Vec::new(alloc);
-    for pair in random_pairs(rt, alloc, state) {
-        let after = next_number(state) % 65_535 + 1;
+    for pair in random_pairs(rt, alloc, random) {
+        let after = next_number(rt, random, 65_535).wrapping_add(1);
         let entry = Entry {
             pair,
             before: 0,
@@ -58,9 +44,9 @@ fn random_bag(rt: &impl Abort, alloc: Global, state: &mut u64) -> Bag {
 
 #[test]
 fn what_was_written_is_read_back(rt: HostRuntime) {
-    let mut state = 7;
+    let mut random = Random::new(7);
     for _ in 0..200 {
-        let bag = random_bag(&rt, rt.alloc(), &mut state);
+        let bag = random_bag(&rt, rt.alloc(), &mut random);
         let mut sink = KeepingSink::new(rt.alloc(), 1_000_000, 0, false);
         write_dump(&bag, &mut sink).expect(&rt, "a sink");
         let read = read_dump(rt.alloc(), sink.kept(), bag.limits()).expect(&rt, "a dump");

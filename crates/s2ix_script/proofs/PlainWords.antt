@@ -8,8 +8,8 @@ use Rattle.std.proofs.lemmas.Bool.Decides.{nat_tests}
 use Rattle.std.proofs.lemmas.Slice.Eq.{bytes_eq-Decides}
 use Rattle.std.proofs.lemmas.Str.{IsUtf8-from_ascii}
 use Rattle.s2ix_script.specs.declared.instruction.Instruction.{Instruction}
-use Rattle.s2ix_script.specs.declared.line_fault.LineFault.{LineFault}
-use Rattle.s2ix_script.specs.declared.line_fault.LineFault.TheVariants.{BadCommand}
+use Rattle.s2ix_line.specs.declared.line_fault.LineFault.{LineFault}
+use Rattle.s2ix_line.specs.declared.line_fault.LineFault.TheVariants.{BadCommand}
 use Rattle.s2ix_script.specs.Meaning.{asked_by, asked_in, words}
 
 -- bytes that all pass are plain text

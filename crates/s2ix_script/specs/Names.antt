@@ -6,18 +6,6 @@ use Rattle.s2ix_edit.specs.declared.errors.RedoError.{RedoError}
 use Rattle.s2ix_edit.specs.declared.errors.RedoError.TheVariants as redo
 use Rattle.s2ix_edit.specs.declared.errors.UndoError.{UndoError}
 use Rattle.s2ix_edit.specs.declared.errors.UndoError.TheVariants as undo
-use Rattle.s2ix_script.specs.declared.line_fault.LineFault.{LineFault}
-use Rattle.s2ix_script.specs.declared.line_fault.LineFault.TheVariants as fault
-
--- the name of a line's fault
-abbrev pub fault_name : LineFault → List ℕ
-fault_name fault.LineTooLong = codes "LineTooLong"
-fault_name fault.BadCommand = codes "BadCommand"
-fault_name fault.BadArguments = codes "BadArguments"
-fault_name fault.BadToken = codes "BadToken"
-fault_name fault.BadLabel = codes "BadLabel"
-fault_name fault.BadCount = codes "BadCount"
-fault_name fault.BadLevel = codes "BadLevel"
 
 -- the name by which `at` is refused where its cell is no leaf
 unfoldable pub not_leaf_name : List ℕ

@@ -1,11 +1,12 @@
 //! What a line of a script asks for.
 ghost use Rattle.std.specs.Prelude.{◌≡◌, ◌==◌, slice_index};
-ghost use Rattle.s2ix_script.specs.Meaning.{Means, asks_on_union, meaning_of, meaning_of_fields as meaning_by_fields};
+ghost use Rattle.s2ix_line.specs.Named.{Means};
+ghost use Rattle.s2ix_script.specs.Meaning.{asks_on_union, meaning_of, meaning_of_fields as meaning_by_fields};
 
 use crate::instruction::Instruction;
-use crate::line_fault::{LineError, LineFault};
 use crate::words::asked_by;
-use bstr::{ByteSlice, Fields};
+use s2ix_fields::Fields;
+use s2ix_line::{LineError, LineFault};
 use std::alloc::Global;
 
 /// The most bytes that a line of a script may have, its line feed not counted. This project's own.
@@ -18,14 +19,14 @@ pub const LONGEST_LINE: usize = 65536;
 ///
 /// The first of these faults that applies is answered: too long, no word of a script, a number of fields that does
 /// not fit the word, then the first unfit field from the left. This project's own.
-#[tactic(auto, unfolding(crate::specs::Meaning::meaning_of, crate::specs::Fields::fields_of))]
+#[tactic(auto, unfolding(crate::specs::Meaning::meaning_of))]
 pub fn meaning(alloc: Global, line: &[u8]) -> Result<Option<Instruction>, LineError>
     ensures { Means asks_on_union result (meaning_of line.now) }
 {
     if line.len() > LONGEST_LINE {
         return Err(LineError::Fault(LineFault::LineTooLong));
     }
-    meaning_of_fields(alloc, line.fields())
+    meaning_of_fields(alloc, Fields::new(line))
 }
 
 // What the fields of a line ask for.

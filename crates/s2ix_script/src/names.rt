@@ -1,26 +1,8 @@
 //! The names by which refusals are printed. Want of memory ends a run and is never printed; its name is that of its variant.
 ghost use Rattle.std.specs.Prelude.{◌≡◌};
-ghost use Rattle.s2ix_script.specs.Names.{edit_error_name as name_of_edit_error, fault_name, not_leaf_name as name_of_not_leaf, redo_error_name as name_of_redo_error, undo_error_name as name_of_undo_error};
+ghost use Rattle.s2ix_script.specs.Names.{edit_error_name as name_of_edit_error, not_leaf_name as name_of_not_leaf, redo_error_name as name_of_redo_error, undo_error_name as name_of_undo_error};
 
-use crate::line_fault::LineFault;
 use s2ix_edit::{EditError, RedoError, UndoError};
-
-impl LineFault {
-    /// The name by which a line with this fault is answered, as `no NAME`. This project's own.
-    pub fn name(self) -> &'static str
-        ensures { result.now ≡ fault_name self }
-    {
-        match self {
-            LineFault::LineTooLong => "LineTooLong",
-            LineFault::BadCommand => "BadCommand",
-            LineFault::BadArguments => "BadArguments",
-            LineFault::BadToken => "BadToken",
-            LineFault::BadLabel => "BadLabel",
-            LineFault::BadCount => "BadCount",
-            LineFault::BadLevel => "BadLevel",
-        }
-    }
-}
 
 /// The name by which a line whose edit is refused is answered, as `no NAME`. This project's own.
 pub fn edit_error_name(error: EditError) -> &'static str

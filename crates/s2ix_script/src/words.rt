@@ -4,17 +4,17 @@
 //! then among those that go along the history, then among the queries, and last among those of a cell alone: a word that is none of the
 //! first is left to the next.
 ghost use Rattle.std.specs.Prelude.{◌≡◌, ◌++◌};
-ghost use Rattle.s2ix_script.specs.Meaning.{Means, asked_by as asked_of, asked_in, cell_words, edit_words, history_words, is_on_union, query_words};
+ghost use Rattle.s2ix_line.specs.Named.{Means};
+ghost use Rattle.s2ix_script.specs.Meaning.{asked_by as asked_of, asked_in, cell_words, edit_words, history_words, is_on_union, query_words};
 
-use crate::cells::{add_union_named, union_named};
-use crate::fields::{
-    bare, cell_named, common_named, drop_named, grow_named, label_named, normal_named, only_named,
-    pair_named, relabel_named,
-};
 use crate::instruction::Instruction;
-use crate::line_fault::{LineError, LineFault};
-use bstr::Fields;
+use crate::plain::{bare, common_named, only_named};
 use s2ix_edit::Edit;
+use s2ix_fields::Fields;
+use s2ix_line::{
+    LineError, LineFault, add_union_named, cell_named, drop_named, grow_named, label_named,
+    normal_named, pair_named, relabel_named, union_named,
+};
 use std::alloc::Global;
 use std::str::from_utf8;
 
@@ -33,7 +33,7 @@ pub(crate) fn asked_by(
 }
 
 // The same of a word that is text.
-#[tactic(auto, using(crate::proofs::WantedMemory::wanting))]
+#[tactic(auto, using(s2ix_line::proofs::WantedMemory::wanting))]
 fn by_union(alloc: Global, word: &str, fields: Fields<'_>) -> Result<Instruction, LineError>
     ensures { Means is_on_union result (asked_of word.now fields.entry) }
 {

@@ -23,9 +23,10 @@ use Rattle.s2ix_text.specs.Queries.{held_line, label_line, list_text, range_line
 use Rattle.s2ix_export.specs.Export.{export_line}
 use Rattle.s2ix_script.specs.declared.instruction.Instruction.{Instruction}
 use Rattle.s2ix_script.specs.declared.instruction.Instruction.TheVariants as asks
-use Rattle.s2ix_script.specs.declared.line_fault.LineFault.{LineFault}
+use Rattle.s2ix_line.specs.declared.line_fault.LineFault.{LineFault}
 use Rattle.s2ix_script.specs.Meaning.{meaning_of}
-use Rattle.s2ix_script.specs.Names.{edit_error_name, fault_name, not_leaf_name, redo_error_name, undo_error_name}
+use Rattle.s2ix_line.specs.Names.{fault_name}
+use Rattle.s2ix_script.specs.Names.{edit_error_name, not_leaf_name, redo_error_name, undo_error_name}
 
 -- the store after a line, what the line prints, and whether it counts as a line and as a refused one
 pub record Step : Type 0 where

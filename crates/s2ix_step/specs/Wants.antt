@@ -4,7 +4,7 @@ use Rattle.s2ix_edit.specs.State.{State}
 use Rattle.s2ix_edit.specs.Refusals.{MayWantMemory, edit_refusal}
 use Rattle.s2ix_script.specs.declared.instruction.Instruction.{Instruction}
 use Rattle.s2ix_script.specs.declared.instruction.Instruction.TheVariants as asks
-use Rattle.s2ix_script.specs.declared.line_fault.LineFault.{LineFault}
+use Rattle.s2ix_line.specs.declared.line_fault.LineFault.{LineFault}
 use Rattle.s2ix_script.specs.Meaning.{is_on_union, meaning_of}
 
 -- an instruction: an edit unless it is refused before its change is made, an undo or a redo of a change that there is, and what gathers

@@ -1,3 +1,2 @@
 mod Asked
 mod Matched
-mod Trees

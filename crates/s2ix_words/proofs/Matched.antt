@@ -6,7 +6,7 @@ use Rattle.clap.specs.declared.error.ErrorKind.{ErrorKind}
 use Rattle.clap.specs.declared.error.ErrorKind.TheVariants as kind
 use Rattle.clap.specs.declared.parser.ArgMatches.{ArgMatches}
 use Rattle.clap.proofs.OnLiterals.{clap_on_literals}
-use Rattle.s2ix_words.specs.Tree.{program}
+use Rattle.s2ix_clap.specs.Tree.{program}
 use Rattle.s2ix_words.specs.Words.{AreRefused, IsMet, IsToldAs, Refuses, asked, without_fault}
 use Rattle.s2ix_words.specs.declared.command.Command.{Command}
 use Rattle.s2ix_words.specs.declared.words_fault.WordsFault.{WordsFault}

@@ -3,7 +3,6 @@
 
 mod command;
 mod given;
-mod tree;
 mod words;
 mod words_fault;
 

@@ -3,10 +3,10 @@ ghost use Rattle.clap.specs.Words.{kind_of};
 ghost use Rattle.s2ix_words.specs.Words.{AreRefused, AskFor, IsToldAs};
 
 use crate::given::command_met;
-use crate::tree::program;
 use crate::{Command, WordsFault};
 use clap::Error;
 use clap::error::ErrorKind;
+use s2ix_clap::program;
 use std::alloc::Global;
 
 /// The command that the program's words ask for. The words are those behind the program's own name.

@@ -1,0 +1,119 @@
+//! The words that the program knows, as clap is told of them.
+ghost use Rattle.std.specs.Prelude.{◌≡◌, IfOk, codes, false};
+ghost use Rattle.clap.specs.Words.{app_of, rule_of, shape_of};
+ghost use Rattle.s2ix_clap.specs.Tree.{
+  IsSubcommand,
+  check_words,
+  file_rule,
+  flag_rule,
+  option_rule,
+  program,
+  run_words,
+  texts_words,
+};
+
+use clap::{Arg, ArgAction, Command};
+use std::alloc::{AllocError, Global};
+
+/// All the words that the program knows: `run`, `check`, `replay` and `rewind` with their options and files, one of which must be named.
+/// They are read without the program's own name before them. An error says that memory was wanted. This project's own.
+pub fn program<'a>(alloc: Global) -> Result<Command<'a>, AllocError>
+    ensures { IfOk result (λ command. app_of command ≡ program) }
+{
+    let replay = texts(
+        alloc,
+        "replay",
+        "Prints the dump after the changes of the journal",
+    )?;
+    let rewind = texts(
+        alloc,
+        "rewind",
+        "Prints the dump before the changes of the journal",
+    )?;
+    Command::new(alloc, "s2ix")
+        .about("An editable index of labelled cells of the S2 curve")
+        .no_binary_name(true)
+        .subcommand_required(true)
+        .bin_name("s2ix")?
+        .subcommand(run(alloc)?)?
+        .subcommand(check(alloc)?)?
+        .subcommand(replay)?
+        .subcommand(rewind)
+}
+
+// `run` with its options.
+fn run<'a>(alloc: Global) -> Result<Command<'a>, AllocError>
+    ensures { IfOk result (IsSubcommand run_words) }
+{
+    Command::new(alloc, "run")
+        .about("Carries out the script on standard input")
+        .arg(option(alloc, "load", "FILE", "Begins with the dump in FILE"))?
+        .arg(option(
+            alloc,
+            "max-pairs",
+            "N",
+            "Holds N pairs at most, 1 to 1000000",
+        ))?
+        .arg(option(
+            alloc,
+            "max-count",
+            "N",
+            "Holds N copies of a pair at most, 1 to 65535",
+        ))?
+        .arg(option(
+            alloc,
+            "max-changes",
+            "N",
+            "Keeps N changes to undo at most, 1 to 100000",
+        ))?
+        .arg(flag(alloc, "stop", "Ends after the first refused line"))
+}
+
+// `check` with its file.
+fn check<'a>(alloc: Global) -> Result<Command<'a>, AllocError>
+    ensures { IfOk result (IsSubcommand check_words) }
+{
+    Command::new(alloc, "check")
+        .about("Reads the dump in FILE, and prints how many pairs and copies it has")
+        .arg(file(alloc, "FILE", "The dump"))
+}
+
+// A subcommand with a dump and a journal.
+fn texts<'a>(alloc: Global, name: &'a str, about: &'a str) -> Result<Command<'a>, AllocError>
+    ensures { IfOk result (IsSubcommand (texts_words name.now)) }
+{
+    Command::new(alloc, name)
+        .about(about)
+        .arg(file(alloc, "DUMP", "The dump"))?
+        .arg(file(alloc, "JOURNAL", "The journal"))
+}
+
+// `--NAME VALUE`, which may be left out.
+fn option<'a>(alloc: Global, name: &'a str, value: &'a str, help: &'a str) -> Arg<'a>
+    ensures rule { rule_of result ≡ option_rule name.now }
+    ensures local { result.global ≡ false }
+{
+    Arg::new(alloc, name)
+        .long(name)
+        .value_name(value)
+        .help(help)
+}
+
+// `--NAME`, which may be left out.
+fn flag<'a>(alloc: Global, name: &'a str, help: &'a str) -> Arg<'a>
+    ensures rule { rule_of result ≡ flag_rule name.now }
+    ensures local { result.global ≡ false }
+{
+    Arg::new(alloc, name)
+        .long(name)
+        .action(ArgAction::SetTrue)
+        .help(help)
+}
+
+// The name of a file, which must be given.
+fn file<'a>(alloc: Global, name: &'a str, help: &'a str) -> Arg<'a>
+    ensures rule { rule_of result ≡ file_rule name.now }
+    ensures local { result.global ≡ false }
+{
+    Arg::new(alloc, name).required(true).help(help)
+}

@@ -1,0 +1,3 @@
+pub mod FieldLaws
+mod PlainFields
+pub mod ScriptNumbers

@@ -1,0 +1,82 @@
+// Lines as fields, and the numbers that these write.
+use s2ix_fields::{Fields, copies_spelled, label_spelled, level_spelled};
+use std::test::Fail;
+
+// Lines with their fields.
+const LINES: [(&[u8], &[&[u8]]); 19] = [
+    (b"", &[]),
+    (b" \t\n\x0b\x0c\r ", &[]),
+    (b"undo", &[b"undo"]),
+    (b" undo ", &[b"undo"]),
+    (
+        b"a\tb\nc\x0bd\x0ce\rf g",
+        &[b"a", b"b", b"c", b"d", b"e", b"f", b"g"],
+    ),
+    // no other byte below 128 separates
+    (
+        b"a\x08b\x0ec\x1cd\x1fe\x00f\x7fg",
+        &[b"a\x08b\x0ec\x1cd\x1fe\x00f\x7fg"],
+    ),
+    // fields of 15, 16, 17 and 33 bytes
+    (
+        b"012345678901234 0123456789012345 01234567890123456 012345678901234567890123456789012",
+        &[
+            b"012345678901234",
+            b"0123456789012345",
+            b"01234567890123456",
+            b"012345678901234567890123456789012",
+        ],
+    ),
+    (b"0123456789\x1c12345 7", &[b"0123456789\x1c12345", b"7"]),
+    (
+        b"0123456789\x1f1234567 7",
+        &[b"0123456789\x1f1234567", b"7"],
+    ),
+    (
+        b"add 0123456789012345\t9",
+        &[b"add", b"0123456789012345", b"9"],
+    ),
+    // white space above 127, behind fields and in front
+    (b"a\xc2\xa0b c", &[b"a", b"b", b"c"]),
+    (b"\xc2\x85a\xe2\x80\x83b", &[b"a", b"b"]),
+    (b"a b\xe3\x80\x80c", &[b"a", b"b", b"c"]),
+    (b"a \xe2\x80\xa8", &[b"a"]),
+    // bytes above 127 that separate nothing
+    (b"a\xe2\x80\x8bb c", &[b"a\xe2\x80\x8bb", b"c"]),
+    (b"a\x80 \xffb", &[b"a\x80", b"\xffb"]),
+    (b"a \xf0\xc2\xa0b", &[b"a", b"\xf0", b"b"]),
+    (b"0123456789012345\xc2\xa07", &[b"0123456789012345", b"7"]),
+    (b"01234567890123\xc2\xa07", &[b"01234567890123", b"7"]),
+];
+
+// Whether a line has these fields, and as many of them.
+fn has_fields(line: &[u8], wanted: &[&[u8]]) -> bool {
+    let mut fields = Fields::new(line);
+    for &field in wanted {
+        if fields.next() != Some(field) {
+            return false;
+        }
+    }
+    fields.next().is_none() && fields.next().is_none()
+}
+
+#[test]
+fn fields_stand_between_white_space() -> Result<(), Fail> {
+    for (line, fields) in LINES {
+        if !has_fields(line, fields) {
+            return Err(Fail::new(format_args!("{line:?}")));
+        }
+    }
+    Ok(())
+}
+
+#[test]
+fn fields_write_labels_copies_and_levels(rt: HostRuntime) {
+    let label = label_spelled(b"0000000009").expect(&rt, "a label");
+    assert!(&rt; label.get() == 9);
+    assert!(&rt; label_spelled(b"2147483648").is_none());
+    assert!(&rt; copies_spelled(b"65535") == Some(65535));
+    assert!(&rt; copies_spelled(b"0").is_none());
+    assert!(&rt; level_spelled(b"030") == Some(30));
+    assert!(&rt; level_spelled(b"31").is_none());
+}

@@ -1,0 +1,2 @@
+mod CellFields
+pub mod WantedMemory

@@ -1,0 +1,13 @@
+//! What the fields of a line name: cells, labels, pairs, unions and edits; and what is wrong with a line.
+#![tactic(auto)]
+
+mod cells;
+mod edits;
+mod fields;
+mod line_fault;
+mod names;
+
+pub use cells::{add_union_named, union_named};
+pub use edits::{drop_named, grow_named, normal_named, relabel_named};
+pub use fields::{cell_named, label_named, labels_named, pair_named};
+pub use line_fault::{LineError, LineFault};

@@ -1,0 +1,36 @@
+//! What fields ask for that is no edit and on no union.
+ghost use Rattle.std.specs.Prelude.{◌≡◌};
+ghost use Rattle.s2ix_script.specs.Meaning.{bare as bare_of, common_named as common_of, only_named as only_of};
+
+use crate::instruction::Instruction;
+use s2ix_fields::Fields;
+use s2ix_line::{LineFault, labels_named};
+
+// An instruction that takes no field.
+pub(crate) fn bare(
+    instruction: Instruction,
+    mut fields: Fields<'_>,
+) -> Result<Instruction, LineFault>
+    ensures { result ≡ bare_of instruction fields.entry }
+{
+    match fields.next() {
+        None => Ok(instruction),
+        Some(_) => Err(LineFault::BadArguments),
+    }
+}
+
+// What `common` asks for, whose labels the two fields LABEL LABEL name.
+pub(crate) fn common_named(fields: Fields<'_>) -> Result<Instruction, LineFault>
+    ensures { result ≡ common_of fields.entry }
+{
+    let (first, second) = labels_named(fields)?;
+    Ok(Instruction::Common(first, second))
+}
+
+// What `only` asks for, whose labels the two fields LABEL LABEL name.
+pub(crate) fn only_named(fields: Fields<'_>) -> Result<Instruction, LineFault>
+    ensures { result ≡ only_of fields.entry }
+{
+    let (first, second) = labels_named(fields)?;
+    Ok(Instruction::Only(first, second))
+}
