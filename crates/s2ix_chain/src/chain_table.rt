@@ -1,23 +1,24 @@
-ghost use Rattle.std.specs.Prelude.{◌≡◌, ◌<◌, ◌≤◌, ◌+◌, ◌*◌, IfOk, length};
+ghost use Rattle.std.specs.Prelude.{◌≡◌, ◌<◌, ◌≤◌, ◌+◌, ◌*◌, IfOk, length, take};
 ghost use Rattle.s2ix_bag.specs.Collection.{IsCollection};
 ghost use Rattle.s2ix_table.specs.Pairs.{IsCollection-prop};
 ghost use Rattle.s2ix_ranges.specs.Table.{IsRangeTable, leaf_end};
 ghost use Rattle.s2ix_chain.specs.Chains.{chain_of, AreOuter, AreFirsts};
 ghost use Rattle.s2ix_chain.specs.Starts.{runs_over};
 
+use crate::node::{Node, nodes_of};
 use crate::order::sweep_order;
 use crate::places::{last_start, place_of};
 use crate::sweep::swept;
 use s2id_core::{CellId, LEAF_END, OutOfMemory};
 use s2ix_bag::{Bag, Held};
-use s2ix_table::{RangeRow, RangeTable, held_pairs};
+use s2ix_table::{RangeRow, RangeTable};
 use std::alloc::Global;
 
 /// A range table that keeps one node for each held pair: the pair, and the place of the next one outwards. Each range has the place of its
 /// innermost pair, so ranges share their chains (S2's `S2CellIndex`, its cell tree). Building takes O(n) for n pairs.
 #[derive(Debug, Drop)]
 pub struct ChainTable {
-    held: Vec<Held>,
+    held: Vec<Node>,
     outer: Vec<u32>,
     starts: Vec<u64>,
     firsts: Vec<u32>,
@@ -46,14 +47,12 @@ impl RangeTable for ChainTable {
     ghost few = { λ t. t.few };
 
     fn build(alloc: Global, bag: &Bag) -> Result<Self, OutOfMemory> {
-        let held = held_pairs(alloc, bag)?;
+        let held = nodes_of(alloc, bag)?;
         let order = sweep_order(alloc, held.as_slice())?;
         let pass = swept(alloc, held.as_slice(), order.as_slice(), 1, LEAF_END)?;
         let outer = pass.outer;
-        let mut starts = pass.starts;
-        starts.truncate(pass.count);
-        let mut firsts = pass.firsts;
-        firsts.truncate(pass.count);
+        let starts = trimmed(pass.starts, pass.count);
+        let firsts = trimmed(pass.firsts, pass.count);
         Ok(ChainTable {
             held,
             outer,
@@ -81,7 +80,7 @@ impl RangeTable for ChainTable {
     }
 
     fn held_at(&self, place: u32) -> Held {
-        self.held[place as usize]
+        self.held[place as usize].held()
     }
 
     fn outer(&self, place: u32) -> Option<u32> {
@@ -91,4 +90,13 @@ impl RangeTable for ChainTable {
     fn find(&self, leaf: CellId) -> usize {
         last_start(self.starts.as_slice(), leaf.raw())
     }
+}
+
+// The first elements of a list, in no more room than they need; where a smaller block is refused, they stay where they are.
+fn trimmed<T: Drop>(mut list: Vec<T>, len: usize) -> Vec<T>
+    ensures { result.items ≡ take len list.items }
+{
+    list.truncate(len);
+    list.shrink_to_fit();
+    list
 }

@@ -3,6 +3,7 @@
 
 mod chain_table;
 pub mod laws;
+mod node;
 mod order;
 mod pass;
 mod places;

@@ -4,10 +4,10 @@ ghost use Rattle.s2ix_walk.specs.Places.{LeadsTo};
 ghost use Rattle.s2ix_chain.specs.Chains.{chain_of};
 ghost use Rattle.s2ix_chain.specs.Starts.{IsLastStart};
 
-use s2ix_bag::Held;
+use crate::node::Node;
 
 // A number as a place, where it is one.
-pub(crate) fn place_of(held: &[Held], number: u32) -> Option<u32>
+pub(crate) fn place_of(held: &[Node], number: u32) -> Option<u32>
     ensures { LeadsTo (chain_of held.now) result (chain_of held.now number) }
 {
     if (number as usize) < held.len() {
