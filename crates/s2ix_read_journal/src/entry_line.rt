@@ -1,6 +1,6 @@
 //! The line of an entry.
 ghost use Rattle.std.specs.Prelude.{◌≡◌, ◌<◌, ◌↔◌, IsTrue, Some};
-ghost use Rattle.s2ix_bag.specs.Pair.{rank_of};
+ghost use Rattle.s2ix_pairs.specs.Pair.{rank_of};
 ghost use Rattle.s2ix_read_journal.specs.JournalLines.{entry_written as entry_that, last_pair, next_entry as next_entry_that};
 ghost use Rattle.s2ix_parts.specs.Written.{comes_before};
 

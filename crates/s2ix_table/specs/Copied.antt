@@ -1,8 +1,8 @@
 -- A table of copied lists as its ranges.
 use Rattle.std.specs.Prelude.{ℕ, ◌+◌, List, [], ◌∷◌, map}
 use Rattle.std.specs.Coded.{le_prop, Unit-prop}
-use Rattle.s2ix_bag.specs.Collection.{Collection, IsCollectionFrom}
-use Rattle.s2ix_bag.specs.Pair.{rank_of}
+use Rattle.s2ix_pairs.specs.Collection.{Collection, IsCollectionFrom}
+use Rattle.s2ix_pairs.specs.Pair.{rank_of}
 use Rattle.s2ix_table.specs.declared.copied_range.CopiedRange.{CopiedRange}
 use Rattle.s2ix_table.specs.Table.{Range}
 

@@ -2,8 +2,8 @@
 use Rattle.std.specs.Prelude.{◌≡◌, ◌⊎◌, ℕ, ◌%◌, ◌<◌, ◌≤◌, List, [], ◌∷◌, Contains}
 use Rattle.std.specs.List.{AllByRecursion}
 use Rattle.s2id_core.specs.CellId.{first_of, end_of}
-use Rattle.s2ix_bag.specs.declared.pair.Held.{Held}
-use Rattle.s2ix_bag.specs.Collection.{Collection}
+use Rattle.s2ix_pairs.specs.declared.pair.Held.{Held}
+use Rattle.s2ix_pairs.specs.Collection.{Collection}
 use Rattle.s2ix_table.specs.Table.{leaf_end}
 
 -- no key is greater than a later one
