@@ -5,20 +5,20 @@ use Rattle.std.specs.Cmp.{IsEquivalence, first_so, second_so}
 use Rattle.std.specs.Cmp.Lexicographic.{pointwise, pointwise_decides}
 use Rattle.std.proofs.lemmas.Bool.Decides.{nat_tests}
 use denote.Struct.Props.{props}
-use Rattle.s2ix_bag.specs.Ranges.{AreLimits}
-use Rattle.s2ix_bag.specs.Limits.{pairs_limit, count_limit, changes_limit}
-use Rattle.s2ix_bag.specs.Collection.{Collection, LimitedCollection}
-use Rattle.s2ix_bag.specs.declared.limits.Limits.{Limits}
-use Rattle.s2ix_bag.specs.declared.pair.Pair.{Pair}
-use Rattle.s2ix_bag.specs.declared.pair.Held.{Held}
-use Rattle.s2ix_bag.specs.declared.pair.Entry.{Entry}
-use Rattle.s2ix_bag.specs.contracts.limits.LimitsPartialEq.TheImpl.{eq-value as limits_test}
-use Rattle.s2ix_bag.specs.contracts.pair.HeldPartialEq.TheImpl.{eq-value as held_test}
-use Rattle.s2ix_bag.specs.contracts.pair.EntryPartialEq.TheImpl.{eq-value as entry_test}
-use Rattle.s2ix_bag.specs.contracts.limits.LimitsEq.TheImpl.Laws as of_limits
-use Rattle.s2ix_bag.specs.contracts.pair.HeldEq.TheImpl.Laws as of_held
-use Rattle.s2ix_bag.specs.contracts.pair.EntryEq.TheImpl.Laws as of_entries
-use Rattle.s2ix_bag.proofs.Pairs.{same_pair, same_held}
+use Rattle.s2ix_pairs.specs.Ranges.{AreLimits}
+use Rattle.s2ix_pairs.specs.Limits.{pairs_limit, count_limit, changes_limit}
+use Rattle.s2ix_pairs.specs.Collection.{Collection, LimitedCollection}
+use Rattle.s2ix_pairs.specs.declared.limits.Limits.{Limits}
+use Rattle.s2ix_pairs.specs.declared.pair.Pair.{Pair}
+use Rattle.s2ix_pairs.specs.declared.pair.Held.{Held}
+use Rattle.s2ix_pairs.specs.declared.pair.Entry.{Entry}
+use Rattle.s2ix_pairs.specs.contracts.limits.LimitsPartialEq.TheImpl.{eq-value as limits_test}
+use Rattle.s2ix_pairs.specs.contracts.pair.HeldPartialEq.TheImpl.{eq-value as held_test}
+use Rattle.s2ix_pairs.specs.contracts.pair.EntryPartialEq.TheImpl.{eq-value as entry_test}
+use Rattle.s2ix_pairs.specs.contracts.limits.LimitsEq.TheImpl.Laws as of_limits
+use Rattle.s2ix_pairs.specs.contracts.pair.HeldEq.TheImpl.Laws as of_held
+use Rattle.s2ix_pairs.specs.contracts.pair.EntryEq.TheImpl.Laws as of_entries
+use Rattle.s2ix_pairs.proofs.Pairs.{same_pair, same_held}
 
 AreLimits-prop : (pairs count changes : ℕ) → IsProp (AreLimits pairs count changes)
 AreLimits-prop pairs count changes = hlevel props

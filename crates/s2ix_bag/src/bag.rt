@@ -1,18 +1,14 @@
 ghost use Rattle.std.specs.Prelude.{◌≡◌, ◌==◌, ℕ, ◌<◌, ◌≤◌, [], length, slice_get, Some, None, IfOk, IfErr, OnOk};
-ghost use Rattle.s2ix_bag.specs.Apply.{apply_refusal, IsApplyRefusal};
-ghost use Rattle.s2ix_bag.specs.Change.{changed};
-ghost use Rattle.s2ix_bag.specs.Collection.{LimitedCollection, IsBag, copies_in, count_in};
-ghost use Rattle.s2ix_bag.specs.OfLabel.{held_of};
+ghost use Rattle.s2ix_lists.specs.Apply.{apply_refusal, IsApplyRefusal};
+ghost use Rattle.s2ix_pairs.specs.Change.{changed};
+ghost use Rattle.s2ix_pairs.specs.Collection.{LimitedCollection, IsBag, copies_in, count_in};
+ghost use Rattle.s2ix_pairs.specs.OfLabel.{held_of};
 
-use crate::apply::{merge, refusal};
 use crate::change::Change;
-use crate::errors::ApplyError;
-use crate::label::Label;
 use crate::label_iter::LabelIter;
-use crate::limits::Limits;
-use crate::pair::{Held, Pair};
-use crate::search::count_of;
 use s2id_core::OutOfMemory;
+use s2ix_lists::{ApplyError, count_of, merge, refusal};
+use s2ix_pairs::{Held, Label, Limits, Pair};
 use std::alloc::{AllocError, Global};
 use std::marker::Model;
 
@@ -25,7 +21,7 @@ pub struct Bag {
 }
 
 impl Model for Bag {
-    ghost use Rattle.s2ix_bag.specs.Collection.{LimitedCollection, IsBag};
+    ghost use Rattle.s2ix_pairs.specs.Collection.{LimitedCollection, IsBag};
 
     ghost Value = { LimitedCollection };
 

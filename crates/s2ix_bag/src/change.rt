@@ -1,14 +1,12 @@
 ghost use Rattle.std.specs.Prelude.{◌≡◌, IfErr, IfOk, None, OnOk, length, ◌≤◌};
-ghost use Rattle.s2ix_bag.specs.Change.{IsChangeList, change_between, inverse_of};
-ghost use Rattle.s2ix_bag.specs.Collection.{IsCollection};
-ghost use Rattle.s2ix_bag.specs.Entries.{IsChangeError, change_fault};
+ghost use Rattle.s2ix_pairs.specs.Change.{IsChangeList, change_between, inverse_of};
+ghost use Rattle.s2ix_pairs.specs.Collection.{IsCollection};
+ghost use Rattle.s2ix_lists.specs.Entries.{IsChangeError, change_fault};
 
 use crate::bag::Bag;
-use crate::compare::{differences, exchanged_entries};
-use crate::entries::fault;
-use crate::errors::ChangeError;
-use crate::pair::{Entry, Held};
 use s2id_core::OutOfMemory;
+use s2ix_lists::{ChangeError, differences, exchanged_entries, fault};
+use s2ix_pairs::{Entry, Held};
 use std::alloc::{AllocError, Global};
 use std::marker::Model;
 
@@ -21,8 +19,8 @@ pub struct Change {
 
 impl Model for Change {
     ghost use Rattle.std.specs.Prelude.{List};
-    ghost use Rattle.s2ix_bag.specs.declared.pair.Entry.{Entry};
-    ghost use Rattle.s2ix_bag.specs.Change.{IsChangeList};
+    ghost use Rattle.s2ix_pairs.specs.declared.pair.Entry.{Entry};
+    ghost use Rattle.s2ix_pairs.specs.Change.{IsChangeList};
 
     ghost Value = { List Entry };
 

@@ -1,9 +1,8 @@
 ghost use Rattle.std.specs.Prelude.{◌≡◌};
 ghost use Rattle.std.specs.Iterator.{YieldsFirst, item_count};
-ghost use Rattle.s2ix_bag.specs.OfLabel.{held_of};
+ghost use Rattle.s2ix_pairs.specs.OfLabel.{held_of};
 
-use crate::label::Label;
-use crate::pair::Held;
+use s2ix_pairs::{Held, Label};
 use std::marker::Model;
 
 /// The pairs that a bag holds with one label, with their counts, by rising cell; made by
@@ -16,8 +15,8 @@ pub struct LabelIter<'a> {
 }
 
 impl<'a> Model for LabelIter<'a> {
-    ghost use Rattle.s2ix_bag.specs.Collection.{Collection};
-    ghost use Rattle.s2ix_bag.specs.OfLabel.{held_of};
+    ghost use Rattle.s2ix_pairs.specs.Collection.{Collection};
+    ghost use Rattle.s2ix_pairs.specs.OfLabel.{held_of};
 
     ghost Value = { Collection };
 

@@ -5,24 +5,14 @@
 //! applied to a bag whose counts are those before, and gives the bag whose counts are those after.
 #![tactic(auto)]
 
-mod apply;
 mod bag;
 mod change;
-mod compare;
-mod entries;
-mod errors;
-mod label;
 mod label_iter;
 pub mod laws;
-mod limits;
-mod pair;
 mod same;
-mod search;
 
 pub use bag::Bag;
 pub use change::Change;
-pub use errors::{ApplyError, ChangeError};
-pub use label::Label;
 pub use label_iter::LabelIter;
-pub use limits::Limits;
-pub use pair::{Entry, Held, Pair};
+pub use s2ix_lists::{ApplyError, ChangeError};
+pub use s2ix_pairs::{Entry, Held, Label, Limits, Pair};

@@ -6,9 +6,9 @@ use Rattle.std.proofs.lemmas.List.Elements.{Contains-get_or}
 use Rattle.std.proofs.lemmas.Bool.{cases_lt, cases_Bool, and_parts, and_from, leb-true, both_ways}
 use Rattle.s2id_core.specs.CellId.{first_of, end_of}
 use Rattle.s2id_union.proofs.Lists.{cons_cases, in_tail, at_head, none_in_nil}
-use Rattle.s2ix_bag.specs.Collection.{Collection, IsCollection, IsCollectionFrom}
-use Rattle.s2ix_bag.specs.Pair.{rank_of}
-use Rattle.s2ix_bag.specs.declared.pair.Held.{Held}
+use Rattle.s2ix_pairs.specs.Collection.{Collection, IsCollection, IsCollectionFrom}
+use Rattle.s2ix_pairs.specs.Pair.{rank_of}
+use Rattle.s2ix_pairs.specs.declared.pair.Held.{Held}
 use Rattle.s2ix_ranges.specs.InOrder.{choice, insertion}
 use Rattle.s2ix_ranges.specs.Contents.{covers, contents_at, depth_key}
 use Rattle.s2ix_ranges.proofs.InOrder.{every_choice, in_choice, choice_has, choice_agree, choice_in, choice_out, choice_none, insertion_after}

@@ -4,9 +4,9 @@ use Rattle.std.proofs.lemmas.Bool.{cases_lt}
 use Rattle.s2id_core.specs.CellId.{raw_of, first_of, end_of}
 use Rattle.s2id_core.specs.Span.{IsNested}
 use Rattle.s2id_union.proofs.Lists.{cons_cases, none_in_nil}
-use Rattle.s2ix_bag.specs.Collection.{Collection, IsCollection, IsCollectionFrom}
-use Rattle.s2ix_bag.specs.Pair.{rank_of}
-use Rattle.s2ix_bag.specs.declared.pair.Held.{Held}
+use Rattle.s2ix_pairs.specs.Collection.{Collection, IsCollection, IsCollectionFrom}
+use Rattle.s2ix_pairs.specs.Pair.{rank_of}
+use Rattle.s2ix_pairs.specs.declared.pair.Held.{Held}
 use Rattle.s2ix_ranges.specs.Contents.{depth_key}
 use Rattle.s2ix_ranges.proofs.Over.{IsOver, span_of, nested_over, depth_bound}
 use Rattle.s2ix_ranges.proofs.Lists.{same_pair_over, later_rank}

@@ -5,10 +5,10 @@ use Rattle.std.proofs.lemmas.Bool.{cases_lt, cases_eq, cases_order, cases_Bool, 
 use Rattle.std.proofs.lemmas.List.{map-append, length-set, get_or-set_same, get_or-set_other}
 use Rattle.s2id_core.specs.CellId.{first_of, end_of}
 use Rattle.s2id_union.proofs.Lists.{cons_cases, in_tail}
-use Rattle.s2ix_bag.specs.Collection.{Collection, IsCollection}
-use Rattle.s2ix_bag.specs.Pair.{rank_of}
-use Rattle.s2ix_bag.specs.declared.pair.Held.{Held}
-use Rattle.s2ix_bag.proofs.Parts.{ranks_rise}
+use Rattle.s2ix_pairs.specs.Collection.{Collection, IsCollection}
+use Rattle.s2ix_pairs.specs.Pair.{rank_of}
+use Rattle.s2ix_pairs.specs.declared.pair.Held.{Held}
+use Rattle.s2ix_lists.proofs.Parts.{ranks_rise}
 use Rattle.s2ix_ranges.specs.Contents.{contents_at, depth_key}
 use Rattle.s2ix_ranges.specs.Bounds.{IsBound}
 use Rattle.s2ix_ranges.proofs.Over.{span_of}

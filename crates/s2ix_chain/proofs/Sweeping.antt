@@ -4,8 +4,8 @@ use Rattle.std.specs.Option.{unwrap_or}
 use Rattle.std.proofs.lemmas.Option.{get_or_from_slice_get, slice_get_cases, slice_get_past}
 use Rattle.std.proofs.lemmas.Bool.{both_ways}
 use Rattle.s2id_core.specs.CellId.{first_of, end_of}
-use Rattle.s2ix_bag.specs.Collection.{Collection}
-use Rattle.s2ix_bag.specs.declared.pair.Held.{Held}
+use Rattle.s2ix_pairs.specs.Collection.{Collection}
+use Rattle.s2ix_pairs.specs.declared.pair.Held.{Held}
 use Rattle.s2ix_ranges.specs.Contents.{contents_at}
 use Rattle.s2ix_ranges.specs.Table.{leaf_end}
 use Rattle.s2ix_ranges.proofs.Over.{span_of}

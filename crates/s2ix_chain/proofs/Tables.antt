@@ -1,8 +1,8 @@
 -- What a table reads of its nodes.
 use Rattle.std.proofs.Common.{◌≡◌, ℕ, ◌<◌, Some, List, [], ◌∷◌, drop, length, get_or, slice_get, sym, ◌∙◌, ap, arith}
 use Rattle.std.proofs.lemmas.Option.{slice_get-get_or, slice_get_within}
-use Rattle.s2ix_bag.specs.Collection.{Collection}
-use Rattle.s2ix_bag.specs.declared.pair.Held.{Held}
+use Rattle.s2ix_pairs.specs.Collection.{Collection}
+use Rattle.s2ix_pairs.specs.declared.pair.Held.{Held}
 use Rattle.s2ix_chain.specs.Chains.{chain_of, AreOuter}
 
 -- the chain from the next place outwards is all but the innermost pair

@@ -3,7 +3,7 @@ use Rattle.std.proofs.Common.{◌≡◌, ℕ, ◌+◌, ◌*◌, ◌<◌, ◌≤�
 use Rattle.std.proofs.lemmas.Option.{get_or_from_slice_get, slice_get-get_or, slice_get_within, slice_get_cases, slice_get_past}
 use Rattle.std.proofs.lemmas.Bool.{cases_lt}
 use Rattle.std.proofs.lemmas.List.{length-set}
-use Rattle.s2ix_bag.specs.Collection.{Collection, IsCollection}
+use Rattle.s2ix_pairs.specs.Collection.{Collection, IsCollection}
 use Rattle.s2ix_ranges.proofs.Tables.{IsTable, places_from_table}
 use Rattle.s2ix_chain.specs.declared.pass.Pass.{Pass}
 use Rattle.s2ix_chain.specs.Chains.{is_on_chain, chain_of}

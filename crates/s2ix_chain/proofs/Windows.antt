@@ -1,7 +1,7 @@
 -- The search for the range that has a leaf.
 use Rattle.std.proofs.Common.{◌≡◌, ℕ, zero, suc, ◌+◌, ◌-◌, ◌/◌, ◌<◌, ◌≤◌, inl, inr, List, length, slice_index_or, AllPairs, ap, arith}
 use Rattle.std.proofs.lemmas.Bool.{cases_eq}
-use Rattle.s2ix_bag.specs.Collection.{Collection}
+use Rattle.s2ix_pairs.specs.Collection.{Collection}
 use Rattle.s2ix_ranges.specs.Table.{leaf_end, range_at, IsRangeTable}
 use Rattle.s2ix_ranges.proofs.Tables.{limits_rise}
 use Rattle.s2ix_chain.specs.Starts.{runs_over, IsLastStart}

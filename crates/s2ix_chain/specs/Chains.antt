@@ -2,8 +2,8 @@
 use Rattle.std.specs.Prelude.{◌≡◌, ℕ, nat_le, ◌&&◌, Bool, false, Some, List, ◌∷◌, map, slice_get, option_map}
 use Rattle.std.specs.Option.{unwrap_or}
 use Rattle.s2id_core.specs.CellId.{first_of}
-use Rattle.s2ix_bag.specs.Collection.{Collection}
-use Rattle.s2ix_bag.specs.declared.pair.Held.{Held}
+use Rattle.s2ix_pairs.specs.Collection.{Collection}
+use Rattle.s2ix_pairs.specs.declared.pair.Held.{Held}
 use Rattle.s2ix_ranges.specs.InOrder.{choice}
 use Rattle.s2ix_ranges.specs.Contents.{covers, contents_at, depth_key}
 

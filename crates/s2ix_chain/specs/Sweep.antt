@@ -2,8 +2,8 @@
 use Rattle.std.specs.Prelude.{◌≡◌, ℕ, ◌+◌, ◌*◌, ◌%◌, ◌<◌, ◌≤◌, Some, List, length, slice_get, option_map, Contains}
 use Rattle.std.specs.Option.{unwrap_or}
 use Rattle.s2id_core.specs.CellId.{first_of, end_of}
-use Rattle.s2ix_bag.specs.Collection.{Collection}
-use Rattle.s2ix_bag.specs.declared.pair.Held.{Held}
+use Rattle.s2ix_pairs.specs.Collection.{Collection}
+use Rattle.s2ix_pairs.specs.declared.pair.Held.{Held}
 use Rattle.s2ix_ranges.specs.Table.{IsTableOver}
 use Rattle.s2ix_chain.specs.declared.pass.Pass.{Pass}
 use Rattle.s2ix_chain.specs.Chains.{AreOuter, AreFirsts}

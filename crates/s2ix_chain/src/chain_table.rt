@@ -1,5 +1,5 @@
 ghost use Rattle.std.specs.Prelude.{◌≡◌, ◌<◌, ◌≤◌, ◌+◌, ◌*◌, IfOk, length, take};
-ghost use Rattle.s2ix_bag.specs.Collection.{IsCollection};
+ghost use Rattle.s2ix_pairs.specs.Collection.{IsCollection};
 ghost use Rattle.s2ix_table.specs.Pairs.{IsCollection-prop};
 ghost use Rattle.s2ix_ranges.specs.Table.{IsRangeTable, leaf_end};
 ghost use Rattle.s2ix_chain.specs.Chains.{chain_of, AreOuter, AreFirsts};

@@ -1,6 +1,6 @@
 //! What is true of every table with shared chains. Each function is a law: it does nothing, and its contract is the fact.
 ghost use Rattle.std.specs.Prelude.{◌≡◌, ℕ, ◌+◌, ◌*◌, ◌≤◌, Contains, length};
-ghost use Rattle.s2ix_bag.specs.declared.pair.Held.{Held};
+ghost use Rattle.s2ix_pairs.specs.declared.pair.Held.{Held};
 ghost use Rattle.s2ix_chain.specs.Once.{IsHeldAt};
 
 use crate::chain_table::ChainTable;

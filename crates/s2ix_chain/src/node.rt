@@ -1,6 +1,6 @@
 // Held pairs as a table keeps them.
 ghost use Rattle.std.specs.Prelude.{◌≡◌, ◌≤◌, IfOk, length};
-ghost use Rattle.s2ix_bag.specs.Collection.{IsCollection};
+ghost use Rattle.s2ix_pairs.specs.Collection.{IsCollection};
 
 use s2id_core::{CellId, OutOfMemory};
 use s2ix_bag::{Bag, Held, Label, Pair};
@@ -16,7 +16,7 @@ pub(crate) struct Node {
 }
 
 impl Model for Node {
-    ghost use Rattle.s2ix_bag.specs.declared.pair.Held.{Held};
+    ghost use Rattle.s2ix_pairs.specs.declared.pair.Held.{Held};
 
     ghost Value = { Held };
 

@@ -1,6 +1,6 @@
 // The sweep over the starts and ends of held cells, which makes ranges and chains.
 ghost use Rattle.std.specs.Prelude.{◌≡◌, ◌≤◌, None, length, IfOk, IfSome};
-ghost use Rattle.s2ix_bag.specs.Collection.{IsCollection};
+ghost use Rattle.s2ix_pairs.specs.Collection.{IsCollection};
 ghost use Rattle.s2ix_chain.specs.Order.{IsSweepOrder, ArePlaces};
 ghost use Rattle.s2ix_chain.specs.Sweep.{IsInSpan, IsFresh, IsSwept, start_at, IsEndBy, EndsBehind};
 

@@ -3,16 +3,16 @@ use Rattle.std.proofs.Common.{◌≡◌, ℕ, ◌+◌, ◌≤◌, ◌||◌, ◌<
 use Rattle.std.specs.List.{list_any}
 use Rattle.std.proofs.lemmas.Bool.{cases_Bool, cases_eq, or_parts}
 use Rattle.std.proofs.lemmas.List.Elements.{All-head, All-tail}
-use Rattle.s2ix_bag.specs.declared.pair.Held.{Held}
-use Rattle.s2ix_bag.specs.declared.pair.Entry.{Entry}
-use Rattle.s2ix_bag.specs.Change.{changed, counts_at, count_after, IsChangeList, IsChangeListFrom}
-use Rattle.s2ix_bag.specs.Collection.{Collection, IsCollection, count_at}
-use Rattle.s2ix_bag.specs.Pair.{rank_of}
-use Rattle.s2ix_bag.proofs.Changes.{count_changed, counts_head, counts_tail, counts_below}
-use Rattle.s2ix_bag.proofs.Counts.{count_head, count_tail}
-use Rattle.s2ix_bag.proofs.Lengths.{AreAfterWithin, small_changed}
+use Rattle.s2ix_pairs.specs.declared.pair.Held.{Held}
+use Rattle.s2ix_pairs.specs.declared.pair.Entry.{Entry}
+use Rattle.s2ix_pairs.specs.Change.{changed, counts_at, count_after, IsChangeList, IsChangeListFrom}
+use Rattle.s2ix_pairs.specs.Collection.{Collection, IsCollection, count_at}
+use Rattle.s2ix_pairs.specs.Pair.{rank_of}
+use Rattle.s2ix_pairs.proofs.Changes.{count_changed, counts_head, counts_tail, counts_below}
+use Rattle.s2ix_pairs.proofs.Counts.{count_head, count_tail}
+use Rattle.s2ix_lists.proofs.Lengths.{AreAfterWithin, small_changed}
 use Rattle.s2ix_edit.specs.Refusals.{has_count_above}
-use Rattle.s2ix_bag.proofs.Refusals.{none_from_within, within_from_none}
+use Rattle.s2ix_lists.proofs.Refusals.{none_from_within, within_from_none}
 
 -- if no count that a change has for a pair passes the limit, none after does
 within_from_counts : (c n : ℕ) (es : List Entry) → IsChangeListFrom n es → ((k before after : ℕ) → counts_at es k ≡ Some (before, after) → after ≤ c) → AreAfterWithin c es

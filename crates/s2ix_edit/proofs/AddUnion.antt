@@ -2,16 +2,16 @@
 use Rattle.std.proofs.Common.{◌≡◌, ◌≢◌, ℕ, zero, suc, ◌+◌, ◌*◌, ◌<◌, ◌≤◌, true, List, [], ◌∷◌, length, AllPairs, Contains, map, get_or, refl, sym, ap, ◌∙◌, subst, arith}
 use Rattle.s2id_core.specs.declared.cell_id.CellId.{CellId}
 use Rattle.s2id_core.specs.CellId.{raw_of}
-use Rattle.s2ix_bag.specs.declared.label.Label.{Label}
-use Rattle.s2ix_bag.specs.declared.pair.Entry.{Entry}
-use Rattle.s2ix_bag.specs.Apply.{AreBefore}
-use Rattle.s2ix_bag.specs.Change.{changed, IsChangeListFrom}
-use Rattle.s2ix_bag.specs.Collection.{Collection, LimitedCollection, IsBag, IsCollection, count_at, count_in, set_count}
-use Rattle.s2ix_bag.specs.Limits.{count_limit}
-use Rattle.s2ix_bag.specs.Pair.{rank_of}
-use Rattle.s2ix_bag.proofs.Changes.{change_lower}
-use Rattle.s2ix_bag.proofs.Collections.{count_set_other, count_set_same, set_keeps}
-use Rattle.s2ix_bag.proofs.Refusals.{no_mismatch}
+use Rattle.s2ix_pairs.specs.declared.label.Label.{Label}
+use Rattle.s2ix_pairs.specs.declared.pair.Entry.{Entry}
+use Rattle.s2ix_lists.specs.Apply.{AreBefore}
+use Rattle.s2ix_pairs.specs.Change.{changed, IsChangeListFrom}
+use Rattle.s2ix_pairs.specs.Collection.{Collection, LimitedCollection, IsBag, IsCollection, count_at, count_in, set_count}
+use Rattle.s2ix_pairs.specs.Limits.{count_limit}
+use Rattle.s2ix_pairs.specs.Pair.{rank_of}
+use Rattle.s2ix_pairs.proofs.Changes.{change_lower}
+use Rattle.s2ix_pairs.proofs.Collections.{count_set_other, count_set_same, set_keeps}
+use Rattle.s2ix_lists.proofs.Refusals.{no_mismatch}
 use Rattle.s2ix_edit.specs.Edit.{pair_of, with_each, with_more}
 use Rattle.s2ix_edit.proofs.Plans.{Makes}
 use Rattle.s2ix_edit.specs.Refusals.{has_count_above}

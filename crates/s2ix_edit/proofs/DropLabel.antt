@@ -2,19 +2,19 @@
 use Rattle.std.proofs.Common.{◌≡◌, ◌≢◌, ℕ, ◌+◌, Bool, true, false, not, [], ◌∷◌, map, refl, sym, ap, ◌∙◌, subst, ⊎_elim, arith, eq-eqb, ne_eqb}
 use Rattle.std.specs.List.{filter}
 use Rattle.std.proofs.lemmas.Bool.{cases_Bool, cases_eq, cond-true, cond-false}
-use Rattle.s2ix_bag.specs.declared.label.Label.{Label}
-use Rattle.s2ix_bag.specs.declared.pair.Pair.{Pair}
-use Rattle.s2ix_bag.specs.declared.pair.Held.{Held}
-use Rattle.s2ix_bag.specs.Apply.{AreBefore}
-use Rattle.s2ix_bag.specs.Change.{changed, removal_of, IsChangeListFrom}
-use Rattle.s2ix_bag.specs.Collection.{Collection, LimitedCollection, IsCollection, IsCollectionFrom, count_at, count_in}
-use Rattle.s2ix_bag.specs.Label.{value_of}
-use Rattle.s2ix_bag.specs.OfLabel.{held_of}
-use Rattle.s2ix_bag.specs.Pair.{rank_of}
-use Rattle.s2ix_bag.proofs.Applied.{before_moves}
-use Rattle.s2ix_bag.proofs.Changes.{changed_at, changed_passes}
-use Rattle.s2ix_bag.proofs.Counts.{count_head, count_tail, from_lower}
-use Rattle.s2ix_bag.proofs.Refusals.{no_mismatch}
+use Rattle.s2ix_pairs.specs.declared.label.Label.{Label}
+use Rattle.s2ix_pairs.specs.declared.pair.Pair.{Pair}
+use Rattle.s2ix_pairs.specs.declared.pair.Held.{Held}
+use Rattle.s2ix_lists.specs.Apply.{AreBefore}
+use Rattle.s2ix_pairs.specs.Change.{changed, removal_of, IsChangeListFrom}
+use Rattle.s2ix_pairs.specs.Collection.{Collection, LimitedCollection, IsCollection, IsCollectionFrom, count_at, count_in}
+use Rattle.s2ix_pairs.specs.Label.{value_of}
+use Rattle.s2ix_pairs.specs.OfLabel.{held_of}
+use Rattle.s2ix_pairs.specs.Pair.{rank_of}
+use Rattle.s2ix_lists.proofs.Applied.{before_moves}
+use Rattle.s2ix_pairs.proofs.Changes.{changed_at, changed_passes}
+use Rattle.s2ix_pairs.proofs.Counts.{count_head, count_tail, from_lower}
+use Rattle.s2ix_lists.proofs.Refusals.{no_mismatch}
 use Rattle.s2ix_edit.specs.Edit.{is_of, without}
 use Rattle.s2ix_edit.proofs.Plans.{Makes}
 

@@ -2,11 +2,11 @@
 use Rattle.std.proofs.Common.{◌≡◌, ◌+◌, ◌-◌, List, [], ◌∷◌, ◌++◌, length, reverse, get_or, refl, sym, ap, ◌∙◌, subst, arith}
 use Rattle.std.proofs.lemmas.List.{length-append, length-reverse}
 use Rattle.std.proofs.Math.Seq.{get_or-append_seam}
-use Rattle.s2ix_bag.specs.declared.pair.Entry.{Entry}
-use Rattle.s2ix_bag.specs.Change.{changed, inverse_of}
-use Rattle.s2ix_bag.specs.Collection.{Collection, IsCollection, count_in}
-use Rattle.s2ix_bag.specs.OfLabel.{held_of}
-use Rattle.s2ix_bag.proofs.Collections.{set_keeps}
+use Rattle.s2ix_pairs.specs.declared.pair.Entry.{Entry}
+use Rattle.s2ix_pairs.specs.Change.{changed, inverse_of}
+use Rattle.s2ix_pairs.specs.Collection.{Collection, IsCollection, count_in}
+use Rattle.s2ix_pairs.specs.OfLabel.{held_of}
+use Rattle.s2ix_pairs.proofs.Collections.{set_keeps}
 use Rattle.s2ix_edit.specs.declared.edit.Edit.{Edit}
 use Rattle.s2ix_edit.specs.declared.edit.Edit.TheVariants.{Add, AddUnion, Remove, DropLabel, Relabel, Grow, Normalise}
 use Rattle.s2ix_edit.specs.Edit.{edited, edited_alone, without}

@@ -20,16 +20,16 @@ use Rattle.s2id_union.specs.Region.{HaveSameRegion, Meets}
 use Rattle.s2id_union.proofs.Largest.{each_below, kept, rises_below}
 use Rattle.s2id_union.proofs.Lists.{at_head, cons_cases, in_tail}
 use Rattle.s2id_union.proofs.Unique.{Rises, same_rising}
-use Rattle.s2ix_bag.specs.declared.label.Label.{Label}
-use Rattle.s2ix_bag.specs.declared.pair.Entry.{Entry}
-use Rattle.s2ix_bag.specs.declared.pair.Held.{Held}
-use Rattle.s2ix_bag.specs.declared.pair.Pair.{Pair}
-use Rattle.s2ix_bag.specs.Collection.{Collection, LimitedCollection, count_in}
-use Rattle.s2ix_bag.specs.OfLabel.{held_of}
-use Rattle.s2ix_bag.specs.Pair.{rank_of}
-use Rattle.s2ix_bag.proofs.Counts.{count_tail}
-use Rattle.s2ix_bag.proofs.OfLabel.{count_of_own}
-use Rattle.s2ix_bag.proofs.Pairs.{same_pair}
+use Rattle.s2ix_pairs.specs.declared.label.Label.{Label}
+use Rattle.s2ix_pairs.specs.declared.pair.Entry.{Entry}
+use Rattle.s2ix_pairs.specs.declared.pair.Held.{Held}
+use Rattle.s2ix_pairs.specs.declared.pair.Pair.{Pair}
+use Rattle.s2ix_pairs.specs.Collection.{Collection, LimitedCollection, count_in}
+use Rattle.s2ix_pairs.specs.OfLabel.{held_of}
+use Rattle.s2ix_pairs.specs.Pair.{rank_of}
+use Rattle.s2ix_pairs.proofs.Counts.{count_tail}
+use Rattle.s2ix_pairs.proofs.OfLabel.{count_of_own}
+use Rattle.s2ix_pairs.proofs.Pairs.{same_pair}
 use Rattle.s2ix_edit.specs.Edit.{pair_of, with_each}
 use Rattle.s2ix_edit.specs.Grow.{IsGrown, IsNextTo, all_cells, grown_cells, is_grown, is_too_fine, leads_to, overlaps_one}
 use Rattle.s2ix_edit.specs.Plan.{first_copy}

@@ -5,9 +5,9 @@ use Rattle.s2id_union.specs.NormalForm.{normal_form}
 use Rattle.s2id_union.specs.Region.{HaveSameRegion, IsNormal}
 use Rattle.s2id_union.proofs.Lists.{none_in_nil}
 use Rattle.s2id_union.proofs.NormalForm.{form_itself, form_normal, form_same_region}
-use Rattle.s2ix_bag.specs.declared.label.Label.{Label}
-use Rattle.s2ix_bag.specs.Collection.{Collection}
-use Rattle.s2ix_bag.specs.OfLabel.{held_of}
+use Rattle.s2ix_pairs.specs.declared.label.Label.{Label}
+use Rattle.s2ix_pairs.specs.Collection.{Collection}
+use Rattle.s2ix_pairs.specs.OfLabel.{held_of}
 use Rattle.s2ix_edit.specs.Refusals.{holds_none}
 use Rattle.s2ix_edit.specs.Region.{cell_of, cells_of, region_of}
 

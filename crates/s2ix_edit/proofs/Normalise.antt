@@ -5,18 +5,18 @@ use Rattle.s2id_core.specs.declared.cell_id.CellId.{CellId}
 use Rattle.s2id_core.specs.CellId.{raw_of}
 use Rattle.s2id_union.specs.NormalForm.{normal_form}
 use Rattle.s2id_union.proofs.NormalForm.{form_itself}
-use Rattle.s2ix_bag.specs.declared.label.Label.{Label}
-use Rattle.s2ix_bag.specs.declared.pair.Pair.{Pair}
-use Rattle.s2ix_bag.specs.Change.{change_between, counts_at, difference_of}
-use Rattle.s2ix_bag.specs.Collection.{Collection, LimitedCollection, IsCollection, IsCollectionFrom, count_at, count_in}
-use Rattle.s2ix_bag.specs.Label.{value_of}
-use Rattle.s2ix_bag.specs.OfLabel.{held_of}
-use Rattle.s2ix_bag.specs.Pair.{rank_of}
-use Rattle.s2ix_bag.proofs.Collections.{count_set_other, count_set_same, same_collection, set_keeps}
-use Rattle.s2ix_bag.proofs.Counts.{count_head, count_tail, from_lower}
-use Rattle.s2ix_bag.proofs.Differences.{between_is_change, counts_between, no_difference, only_change}
-use Rattle.s2ix_bag.proofs.OfLabel.{count_of_other, count_of_own, of_label_from}
-use Rattle.s2ix_bag.proofs.Pairs.{same_pair}
+use Rattle.s2ix_pairs.specs.declared.label.Label.{Label}
+use Rattle.s2ix_pairs.specs.declared.pair.Pair.{Pair}
+use Rattle.s2ix_pairs.specs.Change.{change_between, counts_at, difference_of}
+use Rattle.s2ix_pairs.specs.Collection.{Collection, LimitedCollection, IsCollection, IsCollectionFrom, count_at, count_in}
+use Rattle.s2ix_pairs.specs.Label.{value_of}
+use Rattle.s2ix_pairs.specs.OfLabel.{held_of}
+use Rattle.s2ix_pairs.specs.Pair.{rank_of}
+use Rattle.s2ix_pairs.proofs.Collections.{count_set_other, count_set_same, same_collection, set_keeps}
+use Rattle.s2ix_pairs.proofs.Counts.{count_head, count_tail, from_lower}
+use Rattle.s2ix_pairs.proofs.Differences.{between_is_change, counts_between, no_difference, only_change}
+use Rattle.s2ix_pairs.proofs.OfLabel.{count_of_other, count_of_own, of_label_from}
+use Rattle.s2ix_pairs.proofs.Pairs.{same_pair}
 use Rattle.s2ix_edit.specs.Edit.{pair_of, with_each, with_more, without}
 use Rattle.s2ix_edit.specs.Plan.{one_copy}
 use Rattle.s2ix_edit.specs.Region.{cell_of, cells_of, region_of}

@@ -3,20 +3,20 @@ use Rattle.std.proofs.Common.{◌≡◌, ◌≢◌, ℕ, ◌+◌, ◌-◌, ◌�
 use Rattle.std.proofs.Common.{◌==◌}
 use Rattle.std.proofs.lemmas.Bool.{cond-true, cond-false, cases_eq}
 use Rattle.std.specs.List.{position}
-use Rattle.s2ix_bag.specs.declared.pair.Pair.{Pair}
-use Rattle.s2ix_bag.specs.declared.pair.Entry.{Entry}
-use Rattle.s2ix_bag.specs.Apply.{first_mismatch}
-use Rattle.s2ix_bag.specs.Change.{change_between, changed, IsChangeList}
-use Rattle.s2ix_bag.specs.Collection.{Collection, LimitedCollection, IsBag, IsCollection, count_in, set_count}
+use Rattle.s2ix_pairs.specs.declared.pair.Pair.{Pair}
+use Rattle.s2ix_pairs.specs.declared.pair.Entry.{Entry}
+use Rattle.s2ix_lists.specs.Apply.{first_mismatch}
+use Rattle.s2ix_pairs.specs.Change.{change_between, changed, IsChangeList}
+use Rattle.s2ix_pairs.specs.Collection.{Collection, LimitedCollection, IsBag, IsCollection, count_in, set_count}
 use Rattle.s2ix_edit.specs.declared.edit.Edit.{Edit}
 use Rattle.s2ix_edit.specs.declared.edit.Edit.TheVariants.{Add, Remove}
 use Rattle.s2ix_edit.specs.Edit.{edited_alone}
 use Rattle.s2ix_edit.specs.Plan.{Plans, one_entry}
 use Rattle.s2ix_edit.specs.Refusals.{asks_too_fine, lacks_label, takes_too_many}
-use Rattle.s2ix_bag.proofs.Applied.{before_from_counts, change_between-changed}
-use Rattle.s2ix_bag.proofs.Collections.{set_count_in}
-use Rattle.s2ix_bag.proofs.Differences.{between_is_change, changed_between, counts_between_at}
-use Rattle.s2ix_bag.proofs.Refusals.{before_from_no_mismatch, no_mismatch}
+use Rattle.s2ix_lists.proofs.Applied.{before_from_counts, change_between-changed}
+use Rattle.s2ix_pairs.proofs.Collections.{set_count_in}
+use Rattle.s2ix_pairs.proofs.Differences.{between_is_change, changed_between, counts_between_at}
+use Rattle.s2ix_lists.proofs.Refusals.{before_from_no_mismatch, no_mismatch}
 
 -- the entries make this collection of the bag's: the counts before are the bag's, and those after the collection's
 pub record Makes (bag : LimitedCollection) (new : Collection) (es : List Entry) : Type 0 where

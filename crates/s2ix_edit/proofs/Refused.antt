@@ -2,11 +2,11 @@
 use Rattle.std.proofs.Common.{◌≡◌, ℕ, ◌+◌, ◌<◌, ◌≤◌, ◌==◌, Bool, true, false, cond, ltb, List, [], ◌∷◌, length, Option, Some, None, refl, ⊎_elim, sym, ap, ◌∙◌, arith}
 use Rattle.std.proofs.lemmas.Bool.{cases_Bool, cond-false, eqb-true, lt-leb}
 use Rattle.std.specs.List.{list_any}
-use Rattle.s2ix_bag.specs.declared.pair.Pair.{Pair}
-use Rattle.s2ix_bag.specs.declared.pair.Entry.{Entry}
-use Rattle.s2ix_bag.specs.Change.{change_between, changed}
-use Rattle.s2ix_bag.specs.Collection.{Collection, LimitedCollection, IsBag, IsCollection, count_in}
-use Rattle.s2ix_bag.specs.Limits.{pairs_limit, count_limit, changes_limit}
+use Rattle.s2ix_pairs.specs.declared.pair.Pair.{Pair}
+use Rattle.s2ix_pairs.specs.declared.pair.Entry.{Entry}
+use Rattle.s2ix_pairs.specs.Change.{change_between, changed}
+use Rattle.s2ix_pairs.specs.Collection.{Collection, LimitedCollection, IsBag, IsCollection, count_in}
+use Rattle.s2ix_pairs.specs.Limits.{pairs_limit, count_limit, changes_limit}
 use Rattle.s2ix_edit.specs.declared.edit.Edit.{Edit}
 use Rattle.s2ix_edit.specs.declared.edit.Edit.TheVariants.{Add}
 use Rattle.s2ix_edit.specs.declared.errors.EditError.{EditError}
@@ -18,9 +18,9 @@ use Rattle.s2ix_edit.specs.Refusals.{asks_too_fine, edit_refusal, has_count_abov
 use Rattle.s2ix_edit.proofs.Above.{above_from_count, any_above_changed, none_above}
 use Rattle.s2ix_edit.proofs.Plans.{between_changed}
 use Rattle.s2ix_edit.proofs.Edited.{edited_held, edited_is_collection}
-use Rattle.s2ix_bag.proofs.Collections.{count_in-set_count_same}
-use Rattle.s2ix_bag.proofs.Differences.{changed_between}
-use Rattle.s2ix_bag.specs.Pair.{rank_of}
+use Rattle.s2ix_pairs.proofs.Collections.{count_in-set_count_same}
+use Rattle.s2ix_pairs.proofs.Differences.{changed_between}
+use Rattle.s2ix_pairs.specs.Pair.{rank_of}
 
 -- the refusals after that of a full journal, of an edit that makes this collection
 refusal_with_room : LimitedCollection → Edit → Collection → Option EditError

@@ -6,22 +6,22 @@ use Rattle.std.proofs.lemmas.Grind.{flat_map-append}
 use Rattle.std.proofs.lemmas.List.{append-nil}
 use Rattle.s2id_core.specs.declared.cell_id.CellId.{CellId}
 use Rattle.s2id_core.specs.CellId.{raw_of}
-use Rattle.s2ix_bag.specs.declared.label.Label.{Label}
-use Rattle.s2ix_bag.specs.declared.pair.Pair.{Pair}
-use Rattle.s2ix_bag.specs.declared.pair.Held.{Held}
-use Rattle.s2ix_bag.specs.declared.pair.Entry.{Entry}
-use Rattle.s2ix_bag.specs.Apply.{AreBefore}
-use Rattle.s2ix_bag.specs.Change.{changed, removal_of, IsChangeListFrom}
-use Rattle.s2ix_bag.specs.Collection.{Collection, LimitedCollection, IsBag, IsCollection, IsCollectionFrom, count_at, count_in, set_count}
-use Rattle.s2ix_bag.specs.Label.{value_of}
-use Rattle.s2ix_bag.specs.Limits.{count_limit}
-use Rattle.s2ix_bag.specs.OfLabel.{held_of}
-use Rattle.s2ix_bag.specs.Pair.{rank_of}
-use Rattle.s2ix_bag.proofs.Changes.{change_lower}
-use Rattle.s2ix_bag.proofs.Collections.{count_set_other, count_set_same, same_collection, set_keeps}
-use Rattle.s2ix_bag.proofs.Counts.{count_head, count_tail}
-use Rattle.s2ix_bag.proofs.OfLabel.{count_of_own, held_of_head, held_of_tail}
-use Rattle.s2ix_bag.proofs.Refusals.{no_mismatch}
+use Rattle.s2ix_pairs.specs.declared.label.Label.{Label}
+use Rattle.s2ix_pairs.specs.declared.pair.Pair.{Pair}
+use Rattle.s2ix_pairs.specs.declared.pair.Held.{Held}
+use Rattle.s2ix_pairs.specs.declared.pair.Entry.{Entry}
+use Rattle.s2ix_lists.specs.Apply.{AreBefore}
+use Rattle.s2ix_pairs.specs.Change.{changed, removal_of, IsChangeListFrom}
+use Rattle.s2ix_pairs.specs.Collection.{Collection, LimitedCollection, IsBag, IsCollection, IsCollectionFrom, count_at, count_in, set_count}
+use Rattle.s2ix_pairs.specs.Label.{value_of}
+use Rattle.s2ix_pairs.specs.Limits.{count_limit}
+use Rattle.s2ix_pairs.specs.OfLabel.{held_of}
+use Rattle.s2ix_pairs.specs.Pair.{rank_of}
+use Rattle.s2ix_pairs.proofs.Changes.{change_lower}
+use Rattle.s2ix_pairs.proofs.Collections.{count_set_other, count_set_same, same_collection, set_keeps}
+use Rattle.s2ix_pairs.proofs.Counts.{count_head, count_tail}
+use Rattle.s2ix_pairs.proofs.OfLabel.{count_of_own, held_of_head, held_of_tail}
+use Rattle.s2ix_lists.proofs.Refusals.{no_mismatch}
 use Rattle.s2ix_edit.specs.Edit.{with_all_moved, with_moved, pair_of}
 use Rattle.s2ix_edit.specs.Plan.{move_entries}
 use Rattle.s2ix_edit.proofs.Plans.{Makes}

@@ -8,8 +8,8 @@ use Rattle.s2id_cube.specs.Edge.{ShareEdge}
 use Rattle.s2id_cube.specs.Neighbor.{share_edge}
 use Rattle.s2id_union.specs.NormalForm.{cells_below}
 use Rattle.s2id_union.specs.Region.{Meets}
-use Rattle.s2ix_bag.specs.declared.label.Label.{Label}
-use Rattle.s2ix_bag.specs.Collection.{Collection}
+use Rattle.s2ix_pairs.specs.declared.label.Label.{Label}
+use Rattle.s2ix_pairs.specs.Collection.{Collection}
 use Rattle.s2ix_edit.specs.Region.{cells_of}
 
 -- whether the level is above 30, or more than 8 above the level of one of the cells

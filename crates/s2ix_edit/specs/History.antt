@@ -1,9 +1,9 @@
 -- Histories: whole collections in the order in which they were reached, the place of the one that holds now, and the
 -- steps from one history to the next.
 use Rattle.std.specs.Prelude.{ℕ, ◌+◌, ◌-◌, List, [], ◌∷◌, ◌++◌, take, drop, get_or}
-use Rattle.s2ix_bag.specs.declared.pair.Entry.{Entry}
-use Rattle.s2ix_bag.specs.Change.{change_between}
-use Rattle.s2ix_bag.specs.Collection.{Collection}
+use Rattle.s2ix_pairs.specs.declared.pair.Entry.{Entry}
+use Rattle.s2ix_pairs.specs.Change.{change_between}
+use Rattle.s2ix_pairs.specs.Collection.{Collection}
 
 -- a non-empty list of collections, and the place of the one that holds now
 pub record History : Type 0 where

@@ -5,7 +5,7 @@ pub mod Plan
 pub mod Refusals
 pub mod Region
 pub mod State
-pub use Rattle.s2ix_bag.specs.Change
-pub use Rattle.s2ix_bag.specs.Collection
-pub use Rattle.s2ix_bag.specs.Limits
-pub use Rattle.s2ix_bag.specs.OfLabel
+pub use Rattle.s2ix_pairs.specs.Change
+pub use Rattle.s2ix_pairs.specs.Collection
+pub use Rattle.s2ix_pairs.specs.Limits
+pub use Rattle.s2ix_pairs.specs.OfLabel

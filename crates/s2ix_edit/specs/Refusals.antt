@@ -1,10 +1,10 @@
 -- Where an edit is refused.
 use Rattle.std.specs.Prelude.{◌≡◌, ℕ, ◌==◌, nat_lt, nat_le, Bool, false, Option, Some, None, List, [], ◌∷◌, length, find}
 use Rattle.std.specs.List.{list_any}
-use Rattle.s2ix_bag.specs.declared.label.Label.{Label}
-use Rattle.s2ix_bag.specs.Collection.{Collection, count_in}
-use Rattle.s2ix_bag.specs.Limits.{pairs_limit, count_limit, changes_limit}
-use Rattle.s2ix_bag.specs.OfLabel.{held_of}
+use Rattle.s2ix_pairs.specs.declared.label.Label.{Label}
+use Rattle.s2ix_pairs.specs.Collection.{Collection, count_in}
+use Rattle.s2ix_pairs.specs.Limits.{pairs_limit, count_limit, changes_limit}
+use Rattle.s2ix_pairs.specs.OfLabel.{held_of}
 use Rattle.s2ix_edit.specs.declared.edit.Edit.{Edit}
 use Rattle.s2ix_edit.specs.declared.edit.Edit.TheVariants.{Add, AddUnion, Remove, DropLabel, Relabel, Grow, Normalise}
 use Rattle.s2ix_edit.specs.declared.errors.EditError.{EditError}

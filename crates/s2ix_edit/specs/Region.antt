@@ -3,10 +3,10 @@
 use Rattle.std.specs.Prelude.{◌&&◌, not, List, map}
 use Rattle.s2id_core.specs.declared.cell_id.CellId.{CellId}
 use Rattle.s2id_union.specs.NormalForm.{cells_where, is_covered, normal_form}
-use Rattle.s2ix_bag.specs.declared.label.Label.{Label}
-use Rattle.s2ix_bag.specs.declared.pair.Held.{Held}
-use Rattle.s2ix_bag.specs.Collection.{Collection}
-use Rattle.s2ix_bag.specs.OfLabel.{held_of}
+use Rattle.s2ix_pairs.specs.declared.label.Label.{Label}
+use Rattle.s2ix_pairs.specs.declared.pair.Held.{Held}
+use Rattle.s2ix_pairs.specs.Collection.{Collection}
+use Rattle.s2ix_pairs.specs.OfLabel.{held_of}
 
 -- the cell of a held pair
 abbrev pub cell_of : Held → CellId

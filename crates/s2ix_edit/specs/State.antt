@@ -1,8 +1,8 @@
 -- What contracts see of a store, the history that it holds, and the change that an edit of it records.
 use Rattle.std.specs.Prelude.{List, [], ◌∷◌, ◌++◌, length, reverse}
-use Rattle.s2ix_bag.specs.declared.pair.Entry.{Entry}
-use Rattle.s2ix_bag.specs.Change.{change_between, changed, inverse_of}
-use Rattle.s2ix_bag.specs.Collection.{Collection, LimitedCollection}
+use Rattle.s2ix_pairs.specs.declared.pair.Entry.{Entry}
+use Rattle.s2ix_pairs.specs.Change.{change_between, changed, inverse_of}
+use Rattle.s2ix_pairs.specs.Collection.{Collection, LimitedCollection}
 use Rattle.s2ix_edit.specs.declared.edit.Edit.{Edit}
 use Rattle.s2ix_edit.specs.Edit.{edited}
 use Rattle.s2ix_edit.specs.History.{History}

@@ -3,9 +3,9 @@
 ghost use Rattle.std.specs.Prelude.{◌≡◌, ◌≢◌, ℕ, ◌+◌, ◌-◌, true, [], List, Contains};
 ghost use Rattle.s2id_core.specs.declared.cell_id.CellId.{CellId};
 ghost use Rattle.s2id_union.specs.Region.{HaveSameRegion, IsNormal};
-ghost use Rattle.s2ix_bag.specs.declared.label.Label.{Label};
-ghost use Rattle.s2ix_bag.specs.declared.pair.Pair.{Pair};
-ghost use Rattle.s2ix_bag.specs.Collection.{Collection, IsCollection, count_in};
+ghost use Rattle.s2ix_pairs.specs.declared.label.Label.{Label};
+ghost use Rattle.s2ix_pairs.specs.declared.pair.Pair.{Pair};
+ghost use Rattle.s2ix_pairs.specs.Collection.{Collection, IsCollection, count_in};
 ghost use Rattle.s2ix_edit.specs.declared.edit.Edit.{Edit};
 ghost use Rattle.s2ix_edit.specs.declared.edit.Edit.TheVariants.{Add, AddUnion, Remove, DropLabel, Relabel, Grow, Normalise};
 ghost use Rattle.s2ix_edit.specs.Edit.{edited, edited_alone, pair_of};

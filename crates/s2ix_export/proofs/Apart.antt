@@ -8,11 +8,11 @@ use Rattle.std.proofs.lemmas.List.Elements.{All-nil, All-cons, All-head, All-tai
 use Rattle.s2id_core.specs.CellId.{raw_of}
 use Rattle.s2id_core.specs.Token.{canonical_token, IsLowerHex}
 use Rattle.s2id_core.proofs.Canonical.{lower-canonical_token, one_token}
-use Rattle.s2ix_bag.specs.declared.pair.Held.{Held}
-use Rattle.s2ix_bag.specs.declared.pair.Pair.{Pair}
-use Rattle.s2ix_bag.specs.Collection.{Collection, LimitedCollection, IsBag}
-use Rattle.s2ix_bag.specs.Label.{value_of}
-use Rattle.s2ix_bag.proofs.Pairs.{same_pair}
+use Rattle.s2ix_pairs.specs.declared.pair.Held.{Held}
+use Rattle.s2ix_pairs.specs.declared.pair.Pair.{Pair}
+use Rattle.s2ix_pairs.specs.Collection.{Collection, LimitedCollection, IsBag}
+use Rattle.s2ix_pairs.specs.Label.{value_of}
+use Rattle.s2ix_pairs.proofs.Pairs.{same_pair}
 use Rattle.s2ix_export.specs.Export.{pair_json, export_text}
 
 -- ---- texts that are cut at a mark

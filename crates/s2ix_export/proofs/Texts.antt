@@ -12,9 +12,9 @@ use Rattle.serde_json.proofs.OnLiterals.{serde_json_on_literals}
 use Rattle.s2id_core.specs.CellId.{raw_of}
 use Rattle.s2id_core.specs.Token.{canonical_token, IsLowerHex}
 use Rattle.s2id_core.proofs.Canonical.{lower-canonical_token}
-use Rattle.s2ix_bag.specs.declared.pair.Held.{Held}
-use Rattle.s2ix_bag.specs.Label.{value_of}
-use Rattle.s2ix_bag.specs.Collection.{Collection}
+use Rattle.s2ix_pairs.specs.declared.pair.Held.{Held}
+use Rattle.s2ix_pairs.specs.Label.{value_of}
+use Rattle.s2ix_pairs.specs.Collection.{Collection}
 use Rattle.s2ix_export.specs.Export.{pair_json, export_text}
 use Rattle.s2ix_export.specs.Values.{export_value, pair_value}
 

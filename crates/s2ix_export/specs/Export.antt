@@ -3,9 +3,9 @@ use Rattle.std.specs.Prelude.{ℕ, codes, decimal, List, [], ◌∷◌, ◌++◌
 use Rattle.std.specs.List.{concat, join_by}
 use Rattle.s2id_core.specs.CellId.{raw_of}
 use Rattle.s2id_core.specs.Token.{canonical_token}
-use Rattle.s2ix_bag.specs.declared.pair.Held.{Held}
-use Rattle.s2ix_bag.specs.Label.{value_of}
-use Rattle.s2ix_bag.specs.Collection.{Collection}
+use Rattle.s2ix_pairs.specs.declared.pair.Held.{Held}
+use Rattle.s2ix_pairs.specs.Label.{value_of}
+use Rattle.s2ix_pairs.specs.Collection.{Collection}
 
 -- a held pair: ["TOKEN",LABEL,COUNT]
 unfoldable pub pair_json : Held → List ℕ

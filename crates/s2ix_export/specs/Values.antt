@@ -4,8 +4,8 @@ use Rattle.serde_json.specs.Data.{Data, Items, array, member, no_members, number
 use Rattle.serde_json.specs.View.{items_of}
 use Rattle.s2id_core.specs.CellId.{raw_of}
 use Rattle.s2id_core.specs.Token.{canonical_token}
-use Rattle.s2ix_bag.specs.declared.pair.Held.{Held}
-use Rattle.s2ix_bag.specs.Label.{value_of}
+use Rattle.s2ix_pairs.specs.declared.pair.Held.{Held}
+use Rattle.s2ix_pairs.specs.Label.{value_of}
 
 -- a held pair: a list of its token, its label and its count
 abbrev pub pair_value : Held → Data

@@ -9,7 +9,7 @@ use Rattle.std.proofs.lemmas.Int.Digits.{digits_value_more}
 use Rattle.std.proofs.lemmas.List.{take_all}
 use Rattle.std.proofs.Math.Nat.{pow-suc}
 use Rattle.std.specs.Result.{OkIff, result_ok}
-use Rattle.s2ix_bag.specs.Label.{label_numbered}
+use Rattle.s2ix_pairs.specs.Label.{label_numbered}
 use Rattle.s2ix_fields.specs.Fields.{label_spelled, script_number}
 
 -- no number has no digit, or more than ten

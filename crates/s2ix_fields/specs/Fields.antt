@@ -6,8 +6,8 @@ use Rattle.std.specs.Option.{option_and_then}
 use Rattle.std.specs.Str.Parse.{digits_value}
 use Rattle.bstr.specs.Fields.{fields_acc}
 use Rattle.bstr.specs.Utf8.{lossy_chars, pieces, spans_from}
-use Rattle.s2ix_bag.specs.declared.label.Label.{Label}
-use Rattle.s2ix_bag.specs.Label.{label_numbered}
+use Rattle.s2ix_pairs.specs.declared.label.Label.{Label}
+use Rattle.s2ix_pairs.specs.Label.{label_numbered}
 
 -- the fields of a line: what stands between white space; bytes that are no UTF-8 separate nothing
 unfoldable pub fields_of : List ℕ → List (List ℕ)

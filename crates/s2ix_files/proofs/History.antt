@@ -2,10 +2,10 @@
 use Rattle.std.proofs.Common.{◌≡◌, ℕ, ◌+◌, List, [], ◌∷◌, ◌++◌, Option, Some, None, map, reverse, refl, sym, ap, ap₂, subst, ◌∙◌}
 use Rattle.std.specs.List.{slice_get}
 use Rattle.std.proofs.lemmas.List.{append_assoc, reverse-append, reverse-reverse}
-use Rattle.s2ix_bag.specs.declared.limits.Limits.{Limits}
-use Rattle.s2ix_bag.specs.declared.pair.Entry.{Entry}
-use Rattle.s2ix_bag.specs.Change.{changed, inverse_of}
-use Rattle.s2ix_bag.specs.Collection.{Collection, LimitedCollection}
+use Rattle.s2ix_pairs.specs.declared.limits.Limits.{Limits}
+use Rattle.s2ix_pairs.specs.declared.pair.Entry.{Entry}
+use Rattle.s2ix_pairs.specs.Change.{changed, inverse_of}
+use Rattle.s2ix_pairs.specs.Collection.{Collection, LimitedCollection}
 use Rattle.s2ix_edit.specs.State.{State, earlier, history_of, later}
 use Rattle.s2ix_replay.specs.Replay.{Numbered, after_changes, back_of, first_refusal, numbered, numbered_from, replay_refusal, replayed, rewind_refusal, rewound, way_back}
 use Rattle.s2ix_replay.proofs.Back.{AreChanges, back_are_changes, push_change, there_and_back, way_back-way_back}

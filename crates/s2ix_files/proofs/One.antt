@@ -1,9 +1,9 @@
 -- Each text, and each dump with a journal, has one answer.
 use Rattle.std.proofs.Common.{◌≡◌, ℕ, List, Option, Some, None, Result, Ok, Err, refl, sym, ap, ap₂, subst, ⊎_elim, inl, inr, ◌∙◌}
 use Rattle.std.specs.Option.{option_map}
-use Rattle.s2ix_bag.specs.declared.limits.Limits.{Limits}
-use Rattle.s2ix_bag.specs.declared.pair.Entry.{Entry}
-use Rattle.s2ix_bag.specs.Collection.{Collection, LimitedCollection, IsBag}
+use Rattle.s2ix_pairs.specs.declared.limits.Limits.{Limits}
+use Rattle.s2ix_pairs.specs.declared.pair.Entry.{Entry}
+use Rattle.s2ix_pairs.specs.Collection.{Collection, LimitedCollection, IsBag}
 use Rattle.s2ix_read_dump.specs.DumpFaults.{dump_fault}
 use Rattle.s2ix_read_dump.proofs.Whole.{dumps_have_no_fault, written_dumps_are_read_back}
 use Rattle.s2ix_read_journal.specs.JournalFaults.{journal_fault}

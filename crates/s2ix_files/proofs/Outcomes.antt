@@ -1,7 +1,7 @@
 -- From what texts come to, to its answer.
 use Rattle.std.proofs.Common.{◌≡◌, ℕ, ◌<◌, Bool, false, List, length, Option, Result, Ok, Err, refl, ap, sym, subst, arith}
 use Rattle.std.specs.Prelude.{IfErr, IfOk}
-use Rattle.s2ix_bag.specs.Collection.{LimitedCollection}
+use Rattle.s2ix_pairs.specs.Collection.{LimitedCollection}
 use Rattle.s2ix_text.specs.Dump.{dump_text}
 use Rattle.s2ix_io.specs.declared.run_fault.RunFault.{RunFault}
 use Rattle.s2ix_io.specs.Faults.{IsWantOnlyIf}

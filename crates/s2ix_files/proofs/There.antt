@@ -1,8 +1,8 @@
 -- Texts replayed and then rewound, and the other way round.
 use Rattle.std.proofs.Common.{◌≡◌, ℕ, true, false, List, Result, Ok, Err, ap, sym, ⊎_elim, inl, ◌∙◌}
-use Rattle.s2ix_bag.specs.declared.limits.Limits.{Limits}
-use Rattle.s2ix_bag.specs.declared.pair.Entry.{Entry}
-use Rattle.s2ix_bag.specs.Collection.{LimitedCollection}
+use Rattle.s2ix_pairs.specs.declared.limits.Limits.{Limits}
+use Rattle.s2ix_pairs.specs.declared.pair.Entry.{Entry}
+use Rattle.s2ix_pairs.specs.Collection.{LimitedCollection}
 use Rattle.s2ix_replay.specs.Replay.{numbered, replayed, rewound, way_back}
 use Rattle.s2ix_replay.proofs.Back.{replay_of_rewind, replayed_is_bag, rewind_of_replay, rewound_is_bag}
 use Rattle.s2ix_replay.proofs.Forth.{limits_stay}

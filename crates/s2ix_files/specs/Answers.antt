@@ -2,8 +2,8 @@
 use Rattle.std.specs.Prelude.{◌≡◌, ℕ, Bool, true, false, is_some, codes, decimal, Option, Result, Ok, Err, List, [], ◌∷◌, length}
 use Rattle.std.specs.Io.KnownBytes.{Appends, Keeps}
 use Rattle.std.specs.List.{concat}
-use Rattle.s2ix_bag.specs.Collection.{LimitedCollection, copies_in}
-use Rattle.s2ix_bag.specs.declared.limits.Limits.{Limits}
+use Rattle.s2ix_pairs.specs.Collection.{LimitedCollection, copies_in}
+use Rattle.s2ix_pairs.specs.declared.limits.Limits.{Limits}
 use Rattle.s2ix_io.specs.declared.run_fault.RunFault.{RunFault}
 use Rattle.s2ix_io.specs.declared.run_fault.RunFault.TheVariants as fault
 use Rattle.s2ix_io.specs.Puts.{AppendsFront}

@@ -1,7 +1,7 @@
 -- What the definitions say of one another: each of these is proved, and told in a sentence, by the function of `laws` of its name.
 use Rattle.std.specs.Prelude.{◌≡◌, ℕ, true, None, Some, List, slice_get}
-use Rattle.s2ix_bag.specs.Collection.{Collection}
-use Rattle.s2ix_bag.specs.declared.limits.Limits.{Limits}
+use Rattle.s2ix_pairs.specs.Collection.{Collection}
+use Rattle.s2ix_pairs.specs.declared.limits.Limits.{Limits}
 use Rattle.s2ix_edit.specs.State.{State, history_of}
 use Rattle.s2ix_replay.specs.Replay.{replay_refusal, replayed, rewind_refusal, rewound}
 use Rattle.s2ix_store.specs.Steps.{with_held}

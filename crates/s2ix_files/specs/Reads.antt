@@ -1,9 +1,9 @@
 -- What texts come to: a bag, or the first thing in them that is refused.
 use Rattle.std.specs.Prelude.{◌≡◌, ◌⊎◌, ℕ, Option, Some, None, List, Result, Ok, Err}
 use Rattle.std.specs.Option.{option_map}
-use Rattle.s2ix_bag.specs.Collection.{LimitedCollection, IsBag}
-use Rattle.s2ix_bag.specs.declared.limits.Limits.{Limits}
-use Rattle.s2ix_bag.specs.declared.pair.Entry.{Entry}
+use Rattle.s2ix_pairs.specs.Collection.{LimitedCollection, IsBag}
+use Rattle.s2ix_pairs.specs.declared.limits.Limits.{Limits}
+use Rattle.s2ix_pairs.specs.declared.pair.Entry.{Entry}
 use Rattle.s2ix_read_dump.specs.declared.errors.DumpFault.{DumpFault}
 use Rattle.s2ix_read_dump.specs.DumpFaults.{dump_fault}
 use Rattle.s2ix_read_journal.specs.declared.errors.JournalFault.{JournalFault}

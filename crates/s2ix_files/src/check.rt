@@ -1,6 +1,6 @@
 ghost use Rattle.std.specs.Prelude.{◌≡◌, ◌+◌, IfErr};
-ghost use Rattle.s2ix_bag.specs.Limits.{IsWidest};
-ghost use Rattle.s2ix_bag.specs.declared.limits.Limits.{Limits};
+ghost use Rattle.s2ix_pairs.specs.Limits.{IsWidest};
+ghost use Rattle.s2ix_pairs.specs.declared.limits.Limits.{Limits};
 ghost use Rattle.s2ix_io.specs.Faults.{CanCount, IsWantOnlyIf, sink_faults};
 ghost use Rattle.s2ix_parts.specs.Faults.{IsFromLine};
 ghost use Rattle.s2ix_read_dump.specs.DumpFaults.{dump_fault};

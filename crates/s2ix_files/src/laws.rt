@@ -1,6 +1,6 @@
 //! Laws: functions that do nothing, and whose contracts are facts on the definitions.
 ghost use Rattle.std.specs.Prelude.{ℕ, List};
-ghost use Rattle.s2ix_bag.specs.declared.limits.Limits.{Limits};
+ghost use Rattle.s2ix_pairs.specs.declared.limits.Limits.{Limits};
 ghost use Rattle.s2ix_files.specs.Answers.{CheckAnswers, LoadAnswers, ReplayAnswers, RewindAnswers};
 ghost use Rattle.s2ix_files.specs.Laws.{HasOne, DoneLeadsBackToFirst, DoneLeadsFromFirst, ReplayTakesRewoundTextBack, RewindTakesReplayedTextBack};
 

@@ -1,5 +1,5 @@
 ghost use Rattle.std.specs.Prelude.{◌≡◌, ◌+◌, IfErr, IfOk, IfSome};
-ghost use Rattle.s2ix_bag.specs.Collection.{LimitedCollection};
+ghost use Rattle.s2ix_pairs.specs.Collection.{LimitedCollection};
 ghost use Rattle.s2ix_edit.specs.State.{starting_at};
 ghost use Rattle.s2ix_io.specs.Faults.{CanCount, IsWantOnlyIf, sink_faults};
 ghost use Rattle.s2ix_parts.specs.Faults.{IsFromLine};

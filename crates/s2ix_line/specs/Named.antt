@@ -3,8 +3,8 @@ use Rattle.std.specs.Prelude.{◌≡◌, ℕ, Bool, true, false, Option, Some, N
 use Rattle.s2id_core.specs.declared.cell_id.CellId.{CellId}
 use Rattle.s2id_core.specs.Spelled.{cell_spelled}
 use Rattle.s2id_union.specs.NormalForm.{normal_form}
-use Rattle.s2ix_bag.specs.declared.label.Label.{Label}
-use Rattle.s2ix_bag.specs.declared.pair.Pair.{Pair}
+use Rattle.s2ix_pairs.specs.declared.label.Label.{Label}
+use Rattle.s2ix_pairs.specs.declared.pair.Pair.{Pair}
 use Rattle.s2ix_edit.specs.declared.edit.Edit.{Edit}
 use Rattle.s2ix_edit.specs.declared.edit.Edit.TheVariants.{AddUnion, DropLabel, Relabel, Grow, Normalise}
 use Rattle.s2ix_fields.specs.Fields.{label_spelled, copies_spelled, level_spelled}

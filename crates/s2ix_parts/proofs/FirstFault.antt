@@ -2,7 +2,7 @@
 use Rattle.std.proofs.Common.{◌≡◌, ℕ, ◌+◌, ◌≤◌, Bool, false, not, true, Option, Some, None, List, [], ◌∷◌, ◌++◌, length, refl, ap, arith}
 use Rattle.std.specs.Option.{option_map, option_or}
 use Rattle.std.proofs.lemmas.List.{length_push}
-use Rattle.s2ix_bag.specs.declared.limits.Limits.{Limits}
+use Rattle.s2ix_pairs.specs.declared.limits.Limits.{Limits}
 use Rattle.s2ix_parts.specs.Faults.{IsFromLine, Place, fault_below}
 use Rattle.s2ix_parts.specs.Lines.{is_nil}
 

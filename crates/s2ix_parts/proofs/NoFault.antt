@@ -1,7 +1,7 @@
 -- A text without a fault has none in any of its lines.
 use Rattle.std.proofs.Common.{◌≡◌, ℕ, ◌+◌, Option, Some, None, List, [], ◌∷◌, ◌++◌, length, refl, sym, ◌∙◌, subst, append_assoc}
 use Rattle.std.proofs.lemmas.List.{append-nil}
-use Rattle.s2ix_bag.specs.declared.limits.Limits.{Limits}
+use Rattle.s2ix_pairs.specs.declared.limits.Limits.{Limits}
 use Rattle.s2ix_parts.specs.Faults.{Place, fault_below}
 use Rattle.s2ix_parts.proofs.FirstFault.{found_here, found_later, place}
 

@@ -16,9 +16,9 @@ use Rattle.s2id_core.specs.Spelled.{cell_spelled}
 use Rattle.s2id_core.specs.Token.{canonical_token}
 use Rattle.s2id_core.proofs.Canonical.{canonical_spells}
 use Rattle.s2id_core.proofs.Spelled.{cell_spelled-some}
-use Rattle.s2ix_bag.specs.declared.label.Label.{Label}
-use Rattle.s2ix_bag.specs.Label.{label_numbered, value_of}
-use Rattle.s2ix_bag.proofs.Labels.{label_numbered-in_range, label_numbered-above}
+use Rattle.s2ix_pairs.specs.declared.label.Label.{Label}
+use Rattle.s2ix_pairs.specs.Label.{label_numbered, value_of}
+use Rattle.s2ix_pairs.proofs.Labels.{label_numbered-in_range, label_numbered-above}
 use Rattle.s2ix_parts.specs.Written.{cell_with, cell_written, count_from, count_written, label_written, number_written}
 
 -- ---- cells

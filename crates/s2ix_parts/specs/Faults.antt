@@ -1,7 +1,7 @@
 -- The first fault of a text, from the faults that each line may have.
 use Rattle.std.specs.Prelude.{ℕ, ◌+◌, ◌≤◌, Bool, not, Option, Some, None, List, [], ◌∷◌, ◌++◌, length}
 use Rattle.std.specs.Option.{option_map, option_or}
-use Rattle.s2ix_bag.specs.declared.limits.Limits.{Limits}
+use Rattle.s2ix_pairs.specs.declared.limits.Limits.{Limits}
 use Rattle.s2ix_parts.specs.Lines.{is_nil}
 
 -- where a line stands: under which limits, below which lines, and whether a line feed ends it

@@ -7,10 +7,10 @@ use Rattle.s2id_core.specs.declared.cell_id.CellId.{CellId}
 use Rattle.s2id_core.specs.CellId.{raw_of}
 use Rattle.s2id_core.specs.Spelled.{cell_spelled}
 use Rattle.s2id_core.specs.Token.{canonical_token}
-use Rattle.s2ix_bag.specs.declared.label.Label.{Label}
-use Rattle.s2ix_bag.specs.declared.pair.Pair.{Pair}
-use Rattle.s2ix_bag.specs.Label.{label_numbered}
-use Rattle.s2ix_bag.specs.Pair.{rank_of}
+use Rattle.s2ix_pairs.specs.declared.label.Label.{Label}
+use Rattle.s2ix_pairs.specs.declared.pair.Pair.{Pair}
+use Rattle.s2ix_pairs.specs.Label.{label_numbered}
+use Rattle.s2ix_pairs.specs.Pair.{rank_of}
 use Rattle.s2ix_parts.specs.Lines.{part}
 
 -- a cell, where the text is its canonical token

@@ -1,11 +1,11 @@
 -- The label list that is computed is the one of its meeting list.
 use Rattle.std.proofs.Common.{◌≡◌, inl, inr, List, [], ◌∷◌, ◌∙◌, ap, Contains}
 use Rattle.s2id_union.proofs.Lists.{cons_cases, in_tail, at_head, none_in_nil}
-use Rattle.s2ix_bag.proofs.Pairs.{same_label}
-use Rattle.s2ix_bag.specs.Collection.{Collection}
-use Rattle.s2ix_bag.specs.Label.{value_of}
-use Rattle.s2ix_bag.specs.declared.label.Label.{Label}
-use Rattle.s2ix_bag.specs.declared.pair.Held.{Held}
+use Rattle.s2ix_pairs.proofs.Pairs.{same_label}
+use Rattle.s2ix_pairs.specs.Collection.{Collection}
+use Rattle.s2ix_pairs.specs.Label.{value_of}
+use Rattle.s2ix_pairs.specs.declared.label.Label.{Label}
+use Rattle.s2ix_pairs.specs.declared.pair.Held.{Held}
 use Rattle.s2ix_ranges.specs.LabelList.{label_list}
 use Rattle.s2ix_ranges.specs.Meeting.{IsLabelList}
 use Rattle.s2ix_ranges.proofs.Lists.{same_labels}

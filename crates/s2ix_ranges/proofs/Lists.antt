@@ -9,13 +9,13 @@ use Rattle.s2id_core.specs.Path.{Path, number_of, path_at}
 use Rattle.s2id_core.proofs.Nested.{span, same_from_level, span_from_leaf, leaf_from_span, leaf_of_odd}
 use Rattle.s2id_union.specs.Covers.{Covers}
 use Rattle.s2id_union.specs.Region.{InRegion, Meets}
-use Rattle.s2ix_bag.proofs.Collections.{rank_of_get}
-use Rattle.s2ix_bag.proofs.Parts.{collection_take}
-use Rattle.s2ix_bag.specs.Collection.{Collection, IsCollection, IsCollectionFrom}
-use Rattle.s2ix_bag.specs.Label.{value_of}
-use Rattle.s2ix_bag.specs.Pair.{rank_of}
-use Rattle.s2ix_bag.specs.declared.label.Label.{Label}
-use Rattle.s2ix_bag.specs.declared.pair.Held.{Held}
+use Rattle.s2ix_pairs.proofs.Collections.{rank_of_get}
+use Rattle.s2ix_lists.proofs.Parts.{collection_take}
+use Rattle.s2ix_pairs.specs.Collection.{Collection, IsCollection, IsCollectionFrom}
+use Rattle.s2ix_pairs.specs.Label.{value_of}
+use Rattle.s2ix_pairs.specs.Pair.{rank_of}
+use Rattle.s2ix_pairs.specs.declared.label.Label.{Label}
+use Rattle.s2ix_pairs.specs.declared.pair.Held.{Held}
 use Rattle.s2ix_ranges.specs.Contents.{IsDeeper, IsContents, covers, depth_key, contents_at}
 use Rattle.s2ix_ranges.specs.InOrder.{insertion}
 use Rattle.s2ix_ranges.specs.Meeting.{IsFirstShared, IsMetBefore, IsMeetingList, IsLabelList, first_shared, meeting_key, is_met_from, meeting_from, meeting_of}

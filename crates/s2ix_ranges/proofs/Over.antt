@@ -6,9 +6,9 @@ use Rattle.s2id_core.specs.CellId.{raw_of, first_of, end_of, level_of}
 use Rattle.s2id_core.proofs.Numbers.{path_of_cell}
 use Rattle.s2id_core.specs.Span.{IsNested}
 use Rattle.s2id_core.proofs.Nested.{span, nested_by_level}
-use Rattle.s2ix_bag.specs.Label.{value_of}
-use Rattle.s2ix_bag.specs.declared.pair.Held.{Held}
-use Rattle.s2ix_bag.specs.Collection.{Collection}
+use Rattle.s2ix_pairs.specs.Label.{value_of}
+use Rattle.s2ix_pairs.specs.declared.pair.Held.{Held}
+use Rattle.s2ix_pairs.specs.Collection.{Collection}
 use Rattle.s2ix_ranges.specs.InOrder.{insertion, Rises}
 use Rattle.s2ix_ranges.specs.Contents.{covers, depth_key, contents_at}
 use Rattle.s2ix_ranges.specs.Table.{leaf_end}

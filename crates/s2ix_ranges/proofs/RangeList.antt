@@ -3,8 +3,8 @@ use Rattle.std.proofs.Common.{◌≡◌, ℕ, ◌+◌, ◌-◌, ◌%◌, ◌<◌
 use Rattle.std.proofs.lemmas.Bool.{cases_lt}
 use Rattle.s2id_core.specs.CellId.{first_of, end_of}
 use Rattle.s2id_union.proofs.Lists.{cons_cases, in_tail, at_head, none_in_nil}
-use Rattle.s2ix_bag.specs.declared.pair.Held.{Held}
-use Rattle.s2ix_bag.specs.Collection.{Collection}
+use Rattle.s2ix_pairs.specs.declared.pair.Held.{Held}
+use Rattle.s2ix_pairs.specs.Collection.{Collection}
 use Rattle.s2ix_ranges.specs.Contents.{contents_at}
 use Rattle.s2ix_ranges.specs.Once.{put_once}
 use Rattle.s2ix_ranges.specs.RangeList.{bounds_of, ranges_between, range_table}

@@ -8,7 +8,7 @@ use Rattle.s2id_core.specs.Path.{path_at, number_of}
 use Rattle.s2id_core.proofs.Nested.{leaf_from_span, leaf_of_odd}
 use Rattle.s2id_union.specs.Covers.{Covers}
 use Rattle.s2id_union.specs.Region.{HaveSameRegion}
-use Rattle.s2ix_bag.specs.Collection.{Collection}
+use Rattle.s2ix_pairs.specs.Collection.{Collection}
 use Rattle.s2ix_ranges.specs.Contents.{depth_key}
 use Rattle.s2ix_ranges.specs.InOrder.{choice}
 use Rattle.s2ix_ranges.specs.Meeting.{first_shared, meeting_key, meeting_from, meeting_of}

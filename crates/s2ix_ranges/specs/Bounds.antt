@@ -1,8 +1,8 @@
 -- Where contents may change: the leaf numbers at which held cells begin and end.
 use Rattle.std.specs.Prelude.{◌≡◌, ◌⊎◌, ℕ, ◌%◌, ◌<◌, ◌≤◌, Contains}
 use Rattle.s2id_core.specs.CellId.{first_of, end_of}
-use Rattle.s2ix_bag.specs.declared.pair.Held.{Held}
-use Rattle.s2ix_bag.specs.Collection.{Collection}
+use Rattle.s2ix_pairs.specs.declared.pair.Held.{Held}
+use Rattle.s2ix_pairs.specs.Collection.{Collection}
 use Rattle.s2ix_ranges.specs.Table.{leaf_end}
 
 -- a cell that is held begins or ends at a leaf number

@@ -3,9 +3,9 @@ use Rattle.std.specs.Prelude.{◌≡◌, ◌↔◌, ◌⊎◌, ℕ, ◌+◌, ◌
 use Rattle.s2id_core.specs.CellId.{path_of, level_of, first_of, end_of}
 use Rattle.s2id_core.specs.Leaves.{IsLeafOf}
 use Rattle.s2id_core.specs.Path.{Path}
-use Rattle.s2ix_bag.specs.Collection.{Collection}
-use Rattle.s2ix_bag.specs.Label.{value_of}
-use Rattle.s2ix_bag.specs.declared.pair.Held.{Held}
+use Rattle.s2ix_pairs.specs.Collection.{Collection}
+use Rattle.s2ix_pairs.specs.Label.{value_of}
+use Rattle.s2ix_pairs.specs.declared.pair.Held.{Held}
 use Rattle.s2ix_ranges.specs.InOrder.{choice}
 
 -- a pair comes before another over one leaf: by falling level, then by rising label

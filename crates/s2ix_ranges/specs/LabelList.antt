@@ -1,8 +1,8 @@
 -- The label list as a function of the meeting list.
 use Rattle.std.specs.Prelude.{List, [], ◌∷◌}
-use Rattle.s2ix_bag.specs.Collection.{Collection}
-use Rattle.s2ix_bag.specs.Label.{value_of}
-use Rattle.s2ix_bag.specs.declared.label.Label.{Label}
+use Rattle.s2ix_pairs.specs.Collection.{Collection}
+use Rattle.s2ix_pairs.specs.Label.{value_of}
+use Rattle.s2ix_pairs.specs.declared.label.Label.{Label}
 use Rattle.s2ix_ranges.specs.Once.{put_once}
 
 -- the labels of pairs, once each and rising

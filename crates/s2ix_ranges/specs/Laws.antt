@@ -3,8 +3,8 @@ use Rattle.std.specs.Prelude.{◌≡◌, List}
 use Rattle.s2id_core.specs.declared.cell_id.CellId.{CellId}
 use Rattle.s2id_core.specs.Leaves.{IsLeafPath}
 use Rattle.s2id_core.specs.Path.{Path, number_of}
-use Rattle.s2ix_bag.specs.Collection.{Collection, IsCollection}
-use Rattle.s2ix_bag.specs.declared.label.Label.{Label}
+use Rattle.s2ix_pairs.specs.Collection.{Collection, IsCollection}
+use Rattle.s2ix_pairs.specs.declared.label.Label.{Label}
 use Rattle.s2ix_ranges.specs.Contents.{IsContents, contents_at}
 use Rattle.s2ix_ranges.specs.Table.{Range, IsRangeTable}
 use Rattle.s2ix_ranges.specs.Meeting.{IsMeetingList, IsLabelList, meeting_of}

@@ -5,10 +5,10 @@ use Rattle.s2id_core.specs.CellId.{path_of, first_of, end_of}
 use Rattle.s2id_core.specs.Leaves.{IsLeafOf}
 use Rattle.s2id_core.specs.Path.{Path, number_of}
 use Rattle.s2id_union.specs.Region.{InRegion, Meets}
-use Rattle.s2ix_bag.specs.Collection.{Collection}
-use Rattle.s2ix_bag.specs.Label.{value_of}
-use Rattle.s2ix_bag.specs.declared.label.Label.{Label}
-use Rattle.s2ix_bag.specs.declared.pair.Held.{Held}
+use Rattle.s2ix_pairs.specs.Collection.{Collection}
+use Rattle.s2ix_pairs.specs.Label.{value_of}
+use Rattle.s2ix_pairs.specs.declared.label.Label.{Label}
+use Rattle.s2ix_pairs.specs.declared.pair.Held.{Held}
 use Rattle.s2ix_ranges.specs.InOrder.{choice}
 use Rattle.s2ix_ranges.specs.Contents.{IsDeeper, depth_key}
 use Rattle.s2ix_ranges.specs.Table.{leaf_end}

@@ -1,7 +1,7 @@
 -- The range table as a function of the collection.
 use Rattle.std.specs.Prelude.{ℕ, List, [], ◌∷◌}
 use Rattle.s2id_core.specs.CellId.{first_of, end_of}
-use Rattle.s2ix_bag.specs.Collection.{Collection}
+use Rattle.s2ix_pairs.specs.Collection.{Collection}
 use Rattle.s2ix_ranges.specs.Contents.{contents_at}
 use Rattle.s2ix_ranges.specs.Once.{put_once}
 use Rattle.s2ix_ranges.specs.Table.{Range, leaf_end}

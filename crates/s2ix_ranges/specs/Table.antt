@@ -1,7 +1,7 @@
 -- The range table of a collection.
 use Rattle.std.specs.Prelude.{◌≡◌, ◌≢◌, ℕ, ◌+◌, ◌%◌, ◌<◌, ◌≤◌, List, [], length, slice_index_or}
 pub use Rattle.s2id_core.specs.Span.{leaf_end}
-use Rattle.s2ix_bag.specs.Collection.{Collection}
+use Rattle.s2ix_pairs.specs.Collection.{Collection}
 use Rattle.s2ix_ranges.specs.Contents.{contents_at}
 
 -- a span of leaves, from the number `start` up to and without `limit`, with the contents that its leaves share

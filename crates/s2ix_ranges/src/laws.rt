@@ -3,8 +3,8 @@
 ghost use Rattle.std.specs.Prelude.{◌≡◌, ℕ, ◌≤◌, Bool, true, List, length};
 ghost use Rattle.s2id_core.specs.declared.cell_id.CellId.{CellId};
 ghost use Rattle.s2id_union.specs.Region.{HaveSameRegion};
-ghost use Rattle.s2ix_bag.specs.Collection.{Collection};
-ghost use Rattle.s2ix_bag.specs.declared.label.Label.{Label};
+ghost use Rattle.s2ix_pairs.specs.Collection.{Collection};
+ghost use Rattle.s2ix_pairs.specs.declared.label.Label.{Label};
 ghost use Rattle.s2ix_ranges.specs.LabelList.{label_list};
 ghost use Rattle.s2ix_ranges.specs.Meeting.{IsLabelList, meeting_of};
 ghost use Rattle.s2ix_ranges.specs.RangeList.{range_table};

@@ -3,12 +3,12 @@ use Rattle.std.proofs.Common.{◌≡◌, ℕ, ◌+◌, ◌<◌, ◌≤◌, true,
 use Rattle.std.proofs.lemmas.Bool.{lt-ltb, ltb-true}
 use Rattle.std.proofs.lemmas.List.{length-append, length_push, take_at}
 use Rattle.std.proofs.lemmas.List.Elements.{All-cons, All-head, All-nil, All-push, All-tail, All-take}
-use Rattle.s2ix_bag.specs.Collection.{Collection, IsBag, IsCollection, IsCollectionFrom}
-use Rattle.s2ix_bag.specs.Limits.{count_limit, pairs_limit}
-use Rattle.s2ix_bag.specs.Pair.{rank_of}
-use Rattle.s2ix_bag.specs.declared.limits.Limits.{Limits}
-use Rattle.s2ix_bag.specs.declared.pair.Held.{Held}
-use Rattle.s2ix_bag.proofs.Parts.{collection_take}
+use Rattle.s2ix_pairs.specs.Collection.{Collection, IsBag, IsCollection, IsCollectionFrom}
+use Rattle.s2ix_pairs.specs.Limits.{count_limit, pairs_limit}
+use Rattle.s2ix_pairs.specs.Pair.{rank_of}
+use Rattle.s2ix_pairs.specs.declared.limits.Limits.{Limits}
+use Rattle.s2ix_pairs.specs.declared.pair.Held.{Held}
+use Rattle.s2ix_lists.proofs.Parts.{collection_take}
 use Rattle.s2ix_read_dump.specs.PairLines.{last_pair}
 use Rattle.s2ix_parts.specs.Written.{comes_before}
 use Rattle.s2ix_read_dump.proofs.PairTexts.{HasCount}

@@ -11,10 +11,10 @@ use Rattle.s2id_core.specs.CellId.{raw_of}
 use Rattle.s2id_core.specs.Token.{IsLowerHex, canonical_token}
 use Rattle.s2id_core.proofs.Canonical.{canonical_spells, lower-canonical_token}
 use Rattle.s2id_core.specs.declared.cell_id.CellId.{CellId}
-use Rattle.s2ix_bag.specs.Collection.{Collection, copies_in}
-use Rattle.s2ix_bag.specs.Label.{value_of}
-use Rattle.s2ix_bag.specs.declared.label.Label.{Label}
-use Rattle.s2ix_bag.specs.declared.pair.Held.{Held}
+use Rattle.s2ix_pairs.specs.Collection.{Collection, copies_in}
+use Rattle.s2ix_pairs.specs.Label.{value_of}
+use Rattle.s2ix_pairs.specs.declared.label.Label.{Label}
+use Rattle.s2ix_pairs.specs.declared.pair.Held.{Held}
 use Rattle.s2ix_text.specs.Dump.{end_line, pair_line}
 use Rattle.s2ix_text.proofs.Journals.{IsGraphic, decimal_graphic, token_graphic}
 use Rattle.s2ix_read_dump.specs.DumpFaults.{end_of, is_end}

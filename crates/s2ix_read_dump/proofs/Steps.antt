@@ -6,10 +6,10 @@ use Rattle.std.proofs.lemmas.Bool.{cond-false, cond-true, false_from_ne_true, no
 use Rattle.std.proofs.lemmas.List.{flat_map_more, length-map, length_push, map_push}
 use Rattle.std.proofs.lemmas.List.Sums.{sum_by-append}
 use Rattle.std.proofs.lemmas.Slice.Eq.{bytes_eq-Decides}
-use Rattle.s2ix_bag.specs.Collection.{Collection, IsBag, copies_in}
-use Rattle.s2ix_bag.specs.declared.limits.Limits.{Limits}
-use Rattle.s2ix_bag.specs.declared.pair.Held.{Held}
-use Rattle.s2ix_bag.proofs.Refusals.{copies_bound}
+use Rattle.s2ix_pairs.specs.Collection.{Collection, IsBag, copies_in}
+use Rattle.s2ix_pairs.specs.declared.limits.Limits.{Limits}
+use Rattle.s2ix_pairs.specs.declared.pair.Held.{Held}
+use Rattle.s2ix_lists.proofs.Refusals.{copies_bound}
 use Rattle.s2ix_text.specs.Dump.{end_line, pair_line}
 use Rattle.s2ix_read_dump.specs.declared.errors.DumpFault.{DumpFault}
 use Rattle.s2ix_read_dump.specs.declared.errors.DumpFault.TheVariants.{Truncated, BadHeader, BadEnd, TrailingBytes}

@@ -7,10 +7,10 @@ use Rattle.std.proofs.lemmas.Bool.{both_ways, cases_Bool, cases_lt, cond-false, 
 use Rattle.std.proofs.lemmas.List.{append-nil, length-append}
 use Rattle.std.proofs.lemmas.List.Elements.{All-cons, All-head, All-nil, All-tail}
 use Rattle.std.proofs.lemmas.Slice.Eq.{bytes_eq-Decides}
-use Rattle.s2ix_bag.specs.Collection.{Collection, IsBag, LimitedCollection, copies_in}
-use Rattle.s2ix_bag.specs.Limits.{count_limit, pairs_limit}
-use Rattle.s2ix_bag.specs.declared.limits.Limits.{Limits}
-use Rattle.s2ix_bag.specs.declared.pair.Held.{Held}
+use Rattle.s2ix_pairs.specs.Collection.{Collection, IsBag, LimitedCollection, copies_in}
+use Rattle.s2ix_pairs.specs.Limits.{count_limit, pairs_limit}
+use Rattle.s2ix_pairs.specs.declared.limits.Limits.{Limits}
+use Rattle.s2ix_pairs.specs.declared.pair.Held.{Held}
 use Rattle.s2ix_text.specs.Dump.{dump_text, end_line, pair_line}
 use Rattle.s2ix_text.proofs.Dumps.{one_dump_of_bags}
 use Rattle.s2ix_read_dump.specs.declared.errors.DumpError.{DumpError}

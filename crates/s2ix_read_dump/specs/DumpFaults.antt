@@ -3,9 +3,9 @@ use Rattle.std.specs.Prelude.{◌≡◌, ℕ, Bool, not, ◌&&◌, ◌||◌, nat
 use Rattle.std.specs.List.{list_any}
 use Rattle.std.specs.Option.{option_and_then}
 use Rattle.std.specs.Str.{bytes_eq}
-use Rattle.s2ix_bag.specs.declared.limits.Limits.{Limits}
-use Rattle.s2ix_bag.specs.declared.pair.Pair.{Pair}
-use Rattle.s2ix_bag.specs.Limits.{count_limit, pairs_limit}
+use Rattle.s2ix_pairs.specs.declared.limits.Limits.{Limits}
+use Rattle.s2ix_pairs.specs.declared.pair.Pair.{Pair}
+use Rattle.s2ix_pairs.specs.Limits.{count_limit, pairs_limit}
 use Rattle.s2ix_read_dump.specs.declared.errors.DumpError.{DumpError}
 use Rattle.s2ix_read_dump.specs.declared.errors.DumpError.TheVariants.{At, OutOfMemory}
 use Rattle.s2ix_read_dump.specs.declared.errors.DumpFault.{DumpFault}

@@ -1,7 +1,7 @@
 -- What the definitions of readers say, in other words: each of these is proved, by the function of `laws` of its name.
 use Rattle.std.specs.Prelude.{◌≡◌, ◌↔◌, ℕ, not, None, List, ◌∷◌, ◌++◌}
-use Rattle.s2ix_bag.specs.Collection.{Collection, LimitedCollection, IsBag}
-use Rattle.s2ix_bag.specs.declared.limits.Limits.{Limits}
+use Rattle.s2ix_pairs.specs.Collection.{Collection, LimitedCollection, IsBag}
+use Rattle.s2ix_pairs.specs.declared.limits.Limits.{Limits}
 use Rattle.s2ix_text.specs.Dump.{dump_text}
 use Rattle.s2ix_read_dump.specs.DumpFaults.{dump_fault, line_fault}
 use Rattle.s2ix_parts.specs.Lines.{is_nil, lines_of}

@@ -1,6 +1,6 @@
 //! Dumps, read back.
 ghost use Rattle.std.specs.Prelude.{◌≡◌, ◌∷◌, ◌++◌, [], codes, flat_map, IfErr, IfNone, IfOk, IfSome, MatchResult, None, OnOk, IsTrue, ◌↔◌, true};
-ghost use Rattle.s2ix_bag.specs.Collection.{Collection, IsBag, copies_in};
+ghost use Rattle.s2ix_pairs.specs.Collection.{Collection, IsBag, copies_in};
 ghost use Rattle.s2ix_text.specs.Dump.{dump_text, end_line, pair_line};
 ghost use Rattle.s2ix_read_dump.specs.declared.errors.DumpError.TheVariants.{OutOfMemory};
 ghost use Rattle.s2ix_read_dump.specs.DumpFaults.{IsDumpError, dump_fault, end_of, is_end, line_fault};

@@ -1,7 +1,7 @@
 //! The line of a held pair.
 ghost use Rattle.std.specs.Prelude.{◌≡◌, ◌≤◌, ◌++◌, ◌∷◌, ℕ, false, IfErr, IfNone, IfOk, IfSome, List, Some};
-ghost use Rattle.s2ix_bag.specs.declared.pair.Held.{Held as HeldRecord};
-ghost use Rattle.s2ix_bag.specs.Collection.{IsBag};
+ghost use Rattle.s2ix_pairs.specs.declared.pair.Held.{Held as HeldRecord};
+ghost use Rattle.s2ix_pairs.specs.Collection.{IsBag};
 ghost use Rattle.s2ix_read_dump.specs.DumpFaults.{is_end, line_fault};
 ghost use Rattle.s2ix_read_dump.specs.PairLines.{IsCommonFront, IsCut, IsNext, held_written as held_that, last_pair, line_text, place_below};
 ghost use Rattle.s2ix_parts.specs.Written.{comes_before};

@@ -1,8 +1,8 @@
 -- What a reader of journals answers, and what its definitions say.
 use Rattle.std.proofs.Common.{◌≡◌, ℕ, ◌↔◌, Option, Some, None, Result, Ok, Err, List, [], ◌∷◌, ◌++◌, refl, sym, ap, ◌∙◌}
 use Rattle.std.specs.Prelude.{codes, flat_map, IfOk}
-use Rattle.s2ix_bag.specs.declared.limits.Limits.{Limits}
-use Rattle.s2ix_bag.specs.declared.pair.Entry.{Entry}
+use Rattle.s2ix_pairs.specs.declared.limits.Limits.{Limits}
+use Rattle.s2ix_pairs.specs.declared.pair.Entry.{Entry}
 use Rattle.s2ix_text.specs.Journal.{group_text, journal_text, last_line}
 use Rattle.s2ix_text.proofs.Journals.{one_journal}
 use Rattle.s2ix_parts.specs.Faults.{fault_below}

@@ -7,9 +7,9 @@ use Rattle.s2id_core.specs.CellId.{raw_of}
 use Rattle.s2id_core.specs.Token.{canonical_token}
 use Rattle.s2id_core.proofs.Canonical.{canonical_spells}
 use Rattle.s2id_core.specs.declared.cell_id.CellId.{CellId}
-use Rattle.s2ix_bag.specs.Label.{value_of}
-use Rattle.s2ix_bag.specs.declared.label.Label.{Label}
-use Rattle.s2ix_bag.specs.declared.pair.Entry.{Entry}
+use Rattle.s2ix_pairs.specs.Label.{value_of}
+use Rattle.s2ix_pairs.specs.declared.label.Label.{Label}
+use Rattle.s2ix_pairs.specs.declared.pair.Entry.{Entry}
 use Rattle.s2ix_text.specs.Journal.{entry_line}
 use Rattle.s2ix_text.proofs.Journals.{decimal_graphic, token_graphic}
 use Rattle.s2ix_parts.specs.Lines.{has_parts, is_nil, part, parts_of}

@@ -5,12 +5,12 @@ use Rattle.std.specs.Option.{option_map}
 use Rattle.std.proofs.lemmas.Bool.{both_ways, cases_lt, eq-eqb, le-ltb, lt-ltb, ltb-true, ne_eqb, or_from, or_left, or_right}
 use Rattle.std.proofs.lemmas.List.{take_at}
 use Rattle.std.proofs.lemmas.List.Elements.{All-head, All-push, All-tail, All-take}
-use Rattle.s2ix_bag.specs.Change.{IsChangeList, IsChangeListFrom}
-use Rattle.s2ix_bag.specs.Limits.{count_limit}
-use Rattle.s2ix_bag.specs.Pair.{rank_of}
-use Rattle.s2ix_bag.specs.declared.limits.Limits.{Limits}
-use Rattle.s2ix_bag.specs.declared.pair.Entry.{Entry}
-use Rattle.s2ix_bag.specs.declared.pair.Pair.{Pair}
+use Rattle.s2ix_pairs.specs.Change.{IsChangeList, IsChangeListFrom}
+use Rattle.s2ix_pairs.specs.Limits.{count_limit}
+use Rattle.s2ix_pairs.specs.Pair.{rank_of}
+use Rattle.s2ix_pairs.specs.declared.limits.Limits.{Limits}
+use Rattle.s2ix_pairs.specs.declared.pair.Entry.{Entry}
+use Rattle.s2ix_pairs.specs.declared.pair.Pair.{Pair}
 use Rattle.s2ix_parts.specs.Written.{comes_before, pair_written}
 use Rattle.s2ix_parts.proofs.Rests.{last_pushed}
 use Rattle.s2ix_read_journal.specs.declared.errors.JournalFault.{JournalFault}

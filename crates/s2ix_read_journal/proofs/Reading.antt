@@ -7,9 +7,9 @@ use Rattle.std.proofs.lemmas.Bool.{cond-false, cond-true, false_from_ne_true}
 use Rattle.std.proofs.lemmas.List.{append-nil, flat_map_more, length-append, length-map, length_push}
 use Rattle.std.proofs.lemmas.List.Elements.{All-head, All-push, All-tail}
 use Rattle.std.proofs.lemmas.Slice.Eq.{bytes_eq-Decides}
-use Rattle.s2ix_bag.specs.Limits.{changes_limit}
-use Rattle.s2ix_bag.specs.declared.limits.Limits.{Limits}
-use Rattle.s2ix_bag.specs.declared.pair.Entry.{Entry}
+use Rattle.s2ix_pairs.specs.Limits.{changes_limit}
+use Rattle.s2ix_pairs.specs.declared.limits.Limits.{Limits}
+use Rattle.s2ix_pairs.specs.declared.pair.Entry.{Entry}
 use Rattle.s2ix_text.specs.Journal.{change_line, entry_line, group_text, last_line}
 use Rattle.s2ix_parts.specs.Faults.{IsFromLine}
 use Rattle.s2ix_parts.specs.Lines.{is_nil, lines_of}

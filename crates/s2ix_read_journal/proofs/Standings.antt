@@ -4,7 +4,7 @@ use Rattle.std.specs.Prelude.{codes}
 use Rattle.std.specs.Option.{unwrap_or}
 use Rattle.std.proofs.lemmas.Bool.{cond-false, cond-true}
 use Rattle.std.proofs.lemmas.List.Sums.{fold-append}
-use Rattle.s2ix_bag.specs.declared.pair.Pair.{Pair}
+use Rattle.s2ix_pairs.specs.declared.pair.Pair.{Pair}
 use Rattle.s2ix_parts.specs.Lines.{is_nil, part}
 use Rattle.s2ix_parts.specs.Written.{pair_written}
 use Rattle.s2ix_read_journal.specs.JournalFaults.{Standing, at_start, behind, behind_line, behind_next, is_end}

@@ -4,9 +4,9 @@ use Rattle.std.specs.Prelude.{flat_map}
 use Rattle.std.specs.Result.{result_err}
 use Rattle.std.proofs.lemmas.List.{append-nil}
 use Rattle.std.proofs.lemmas.List.Elements.{All-head, All-tail}
-use Rattle.s2ix_bag.specs.Limits.{changes_limit}
-use Rattle.s2ix_bag.specs.declared.limits.Limits.{Limits}
-use Rattle.s2ix_bag.specs.declared.pair.Entry.{Entry}
+use Rattle.s2ix_pairs.specs.Limits.{changes_limit}
+use Rattle.s2ix_pairs.specs.declared.limits.Limits.{Limits}
+use Rattle.s2ix_pairs.specs.declared.pair.Entry.{Entry}
 use Rattle.s2ix_parts.specs.Faults.{fault_below}
 use Rattle.s2ix_parts.specs.Lines.{is_nil}
 use Rattle.s2ix_parts.proofs.FirstFault.{ended, found_here, found_later, place}

@@ -3,9 +3,9 @@ use Rattle.std.specs.Prelude.{◌≡◌, ℕ, zero, suc, ◌+◌, ◌==◌, Bool
 use Rattle.std.specs.List.{fold}
 use Rattle.std.specs.Option.{unwrap_or}
 use Rattle.std.specs.Str.{bytes_eq}
-use Rattle.s2ix_bag.specs.declared.limits.Limits.{Limits}
-use Rattle.s2ix_bag.specs.declared.pair.Pair.{Pair}
-use Rattle.s2ix_bag.specs.Limits.{changes_limit, count_limit}
+use Rattle.s2ix_pairs.specs.declared.limits.Limits.{Limits}
+use Rattle.s2ix_pairs.specs.declared.pair.Pair.{Pair}
+use Rattle.s2ix_pairs.specs.Limits.{changes_limit, count_limit}
 use Rattle.s2ix_read_journal.specs.declared.errors.JournalError.{JournalError}
 use Rattle.s2ix_read_journal.specs.declared.errors.JournalError.TheVariants.{At, OutOfMemory}
 use Rattle.s2ix_read_journal.specs.declared.errors.JournalFault.{JournalFault}

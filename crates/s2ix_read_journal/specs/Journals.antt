@@ -1,9 +1,9 @@
 -- The lists of changes that a journal read under limits may have.
 use Rattle.std.specs.Prelude.{◌≤◌, List, length, All}
-use Rattle.s2ix_bag.specs.Change.{IsChangeList}
-use Rattle.s2ix_bag.specs.Limits.{changes_limit, count_limit}
-use Rattle.s2ix_bag.specs.declared.limits.Limits.{Limits}
-use Rattle.s2ix_bag.specs.declared.pair.Entry.{Entry}
+use Rattle.s2ix_pairs.specs.Change.{IsChangeList}
+use Rattle.s2ix_pairs.specs.Limits.{changes_limit, count_limit}
+use Rattle.s2ix_pairs.specs.declared.limits.Limits.{Limits}
+use Rattle.s2ix_pairs.specs.declared.pair.Entry.{Entry}
 use Rattle.s2ix_text.specs.Journal.{IsWritable}
 
 -- an entry with counts within the limit

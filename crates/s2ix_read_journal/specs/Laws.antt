@@ -1,7 +1,7 @@
 -- What the definitions of readers say, in other words: each of these is proved, by the function of `laws` of its name.
 use Rattle.std.specs.Prelude.{◌≡◌, ◌↔◌, ℕ, not, None, List, ◌∷◌, ◌++◌}
-use Rattle.s2ix_bag.specs.declared.limits.Limits.{Limits}
-use Rattle.s2ix_bag.specs.declared.pair.Entry.{Entry}
+use Rattle.s2ix_pairs.specs.declared.limits.Limits.{Limits}
+use Rattle.s2ix_pairs.specs.declared.pair.Entry.{Entry}
 use Rattle.s2ix_text.specs.Journal.{journal_text}
 use Rattle.s2ix_read_journal.specs.JournalFaults.{journal_fault, line_fault}
 use Rattle.s2ix_read_journal.specs.Journals.{IsJournal}

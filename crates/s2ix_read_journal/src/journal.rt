@@ -1,7 +1,7 @@
 //! Journals, read back.
 ghost use Rattle.std.specs.Prelude.{◌≡◌, ◌∷◌, ◌++◌, [], ℕ, flat_map, All, IfErr, IfOk, List, MatchResult, None, OnOk};
-ghost use Rattle.s2ix_bag.specs.Change.{IsChangeList};
-ghost use Rattle.s2ix_bag.specs.declared.pair.Entry.{Entry};
+ghost use Rattle.s2ix_pairs.specs.Change.{IsChangeList};
+ghost use Rattle.s2ix_pairs.specs.declared.pair.Entry.{Entry};
 ghost use Rattle.s2ix_text.specs.Journal.{group_text, journal_text, last_line};
 ghost use Rattle.s2ix_read_journal.specs.declared.errors.JournalError.TheVariants.{OutOfMemory};
 ghost use Rattle.s2ix_read_journal.specs.JournalFaults.{IsJournalError, journal_fault, line_fault};

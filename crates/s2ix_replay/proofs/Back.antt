@@ -3,13 +3,13 @@ use Rattle.std.proofs.Common.{◌≡◌, ℕ, ◌+◌, ◌-◌, ◌<◌, ◌≤�
 use Rattle.std.specs.Option.{option_map}
 use Rattle.std.proofs.lemmas.List.{reverse-append, length-take, take_more}
 use Rattle.std.proofs.lemmas.List.Elements.{All-head, All-tail}
-use Rattle.s2ix_bag.specs.declared.pair.Entry.{Entry}
-use Rattle.s2ix_bag.specs.Apply.{apply_refusal}
-use Rattle.s2ix_bag.specs.Change.{inverse_of, IsChangeList}
-use Rattle.s2ix_bag.specs.Collection.{Collection, LimitedCollection, IsBag}
-use Rattle.s2ix_bag.proofs.Applied.{changed_inverse}
-use Rattle.s2ix_bag.proofs.Inverse.{inverse-inverse, inverse_keeps}
-use Rattle.s2ix_bag.proofs.Refusals.{inverse_taken, made_is_bag, refusal_of_taken, taken_from_none}
+use Rattle.s2ix_pairs.specs.declared.pair.Entry.{Entry}
+use Rattle.s2ix_lists.specs.Apply.{apply_refusal}
+use Rattle.s2ix_pairs.specs.Change.{inverse_of, IsChangeList}
+use Rattle.s2ix_pairs.specs.Collection.{Collection, LimitedCollection, IsBag}
+use Rattle.s2ix_lists.proofs.Applied.{changed_inverse}
+use Rattle.s2ix_pairs.proofs.Inverse.{inverse-inverse, inverse_keeps}
+use Rattle.s2ix_lists.proofs.Refusals.{inverse_taken, made_is_bag, refusal_of_taken, taken_from_none}
 use Rattle.s2ix_replay.specs.declared.errors.ReplayError.{ReplayError}
 use Rattle.s2ix_replay.specs.Replay.{IsReplayError, Numbered, after_change, after_changes, back_of, first_refusal, numbered, numbered_from, refusal_numbered, replay_refusal, replayed, rewind_refusal, rewound, way_back}
 use Rattle.s2ix_replay.proofs.Forth.{after_changes-append, first_refusal-append, first_taken, refusal_behind, refused_here, rest_taken}

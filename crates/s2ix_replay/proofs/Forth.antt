@@ -2,13 +2,13 @@
 use Rattle.std.proofs.Common.{◌≡◌, ℕ, ◌+◌, nat_lt, Bool, true, false, cond, List, [], ◌∷◌, ◌++◌, length, Option, Some, None, refl, sym, ap, ◌∙◌}
 use Rattle.std.specs.List.{list_any}
 use Rattle.std.specs.Option.{option_map, option_or}
-use Rattle.s2ix_bag.specs.declared.errors.ApplyError.{ApplyError}
-use Rattle.s2ix_bag.specs.declared.errors.ApplyError.TheVariants.{Mismatch, TooManyCopies, TooManyPairs, OutOfMemory}
-use Rattle.s2ix_bag.specs.declared.pair.Entry.{Entry}
-use Rattle.s2ix_bag.specs.Apply.{apply_refusal, first_mismatch}
-use Rattle.s2ix_bag.specs.Change.{changed}
-use Rattle.s2ix_bag.specs.Collection.{LimitedCollection}
-use Rattle.s2ix_bag.specs.Limits.{count_limit, pairs_limit}
+use Rattle.s2ix_lists.specs.declared.errors.ApplyError.{ApplyError}
+use Rattle.s2ix_lists.specs.declared.errors.ApplyError.TheVariants.{Mismatch, TooManyCopies, TooManyPairs, OutOfMemory}
+use Rattle.s2ix_pairs.specs.declared.pair.Entry.{Entry}
+use Rattle.s2ix_lists.specs.Apply.{apply_refusal, first_mismatch}
+use Rattle.s2ix_pairs.specs.Change.{changed}
+use Rattle.s2ix_pairs.specs.Collection.{LimitedCollection}
+use Rattle.s2ix_pairs.specs.Limits.{count_limit, pairs_limit}
 use Rattle.s2ix_replay.specs.declared.errors.ReplayError.{ReplayError}
 use Rattle.s2ix_replay.specs.declared.errors.ReplayError.TheVariants as told
 use Rattle.s2ix_replay.specs.Replay.{IsReplayError, Numbered, after_change, after_changes, first_refusal, refusal_numbered}

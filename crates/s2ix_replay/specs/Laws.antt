@@ -1,8 +1,8 @@
 -- What the definitions say of one another: each of these is proved, and told in a sentence, by the function of `laws` of its name.
 use Rattle.std.specs.Prelude.{◌≡◌, None, All, List}
-use Rattle.s2ix_bag.specs.declared.pair.Entry.{Entry}
-use Rattle.s2ix_bag.specs.Change.{IsChangeList}
-use Rattle.s2ix_bag.specs.Collection.{LimitedCollection, IsBag}
+use Rattle.s2ix_pairs.specs.declared.pair.Entry.{Entry}
+use Rattle.s2ix_pairs.specs.Change.{IsChangeList}
+use Rattle.s2ix_pairs.specs.Collection.{LimitedCollection, IsBag}
 use Rattle.s2ix_replay.specs.Replay.{replayed, rewound, replay_refusal, rewind_refusal}
 
 abbrev pub RewindTakesReplayBack : Type 0

@@ -1,12 +1,12 @@
 -- What a bag becomes by changes that are done to it or taken back, and the first of them that is refused.
 use Rattle.std.specs.Prelude.{◌≡◌, ℕ, ◌+◌, Option, Some, None, List, [], ◌∷◌, map, reverse}
 use Rattle.std.specs.Option.{option_map, option_or}
-use Rattle.s2ix_bag.specs.declared.errors.ApplyError.{ApplyError}
-use Rattle.s2ix_bag.specs.declared.errors.ApplyError.TheVariants as apply
-use Rattle.s2ix_bag.specs.declared.pair.Entry.{Entry}
-use Rattle.s2ix_bag.specs.Apply.{apply_refusal}
-use Rattle.s2ix_bag.specs.Change.{changed, inverse_of}
-use Rattle.s2ix_bag.specs.Collection.{LimitedCollection}
+use Rattle.s2ix_lists.specs.declared.errors.ApplyError.{ApplyError}
+use Rattle.s2ix_lists.specs.declared.errors.ApplyError.TheVariants as apply
+use Rattle.s2ix_pairs.specs.declared.pair.Entry.{Entry}
+use Rattle.s2ix_lists.specs.Apply.{apply_refusal}
+use Rattle.s2ix_pairs.specs.Change.{changed, inverse_of}
+use Rattle.s2ix_pairs.specs.Collection.{LimitedCollection}
 use Rattle.s2ix_replay.specs.declared.errors.ReplayError.{ReplayError}
 use Rattle.s2ix_replay.specs.declared.errors.ReplayError.TheVariants.{Mismatch, TooManyCopies, TooManyPairs, OutOfMemory}
 

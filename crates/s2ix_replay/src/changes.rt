@@ -1,6 +1,6 @@
 ghost use Rattle.std.specs.Prelude.{◌≡◌, ◌+◌, ◌<◌, ◌^◌, None, IfOk, IfErr, OnOk, take};
 ghost use Rattle.std.specs.Option.{option_map};
-ghost use Rattle.s2ix_bag.specs.Apply.{apply_refusal};
+ghost use Rattle.s2ix_lists.specs.Apply.{apply_refusal};
 ghost use Rattle.s2ix_replay.specs.declared.errors.ReplayError.TheVariants.{OutOfMemory};
 ghost use Rattle.s2ix_replay.specs.Replay.{IsReplayError, after_change, first_refusal, numbered, refusal_numbered, replay_refusal, replayed, rewind_refusal, rewound};
 

@@ -1,6 +1,6 @@
 -- What one line of a script comes to.
 use Rattle.std.specs.Prelude.{ℕ, ◌==◌, if◌then◌else◌, Bool, true, false, Option, Some, None, Result, Ok, Err, List, [], length}
-use Rattle.s2ix_bag.specs.declared.pair.Entry.{Entry}
+use Rattle.s2ix_pairs.specs.declared.pair.Entry.{Entry}
 use Rattle.s2id_core.specs.declared.cell_id.CellId.{CellId}
 use Rattle.s2id_core.specs.CellId.{level_of, path_of, raw_of}
 use Rattle.s2id_cube.specs.Square.{square_of}

@@ -5,12 +5,12 @@ use Rattle.std.proofs.lemmas.List.{append_assoc, length-append, length-reverse, 
 use Rattle.std.proofs.Math.Seq.{get_or-append_seam}
 use Rattle.std.proofs.lemmas.List.Elements.{All-nil, All-cons, All-append, All-head, All-tail}
 use Rattle.std.proofs.lemmas.Option.{slice_get_read}
-use Rattle.s2ix_bag.specs.declared.pair.Entry.{Entry}
-use Rattle.s2ix_bag.specs.Apply.{apply_refusal}
-use Rattle.s2ix_bag.specs.Change.{change_between, changed, inverse_of, IsChangeList}
-use Rattle.s2ix_bag.specs.Collection.{Collection, LimitedCollection, IsBag}
-use Rattle.s2ix_bag.proofs.Inverse.{inverse_keeps}
-use Rattle.s2ix_bag.proofs.Refusals.{made_is_bag, taken_from_none}
+use Rattle.s2ix_pairs.specs.declared.pair.Entry.{Entry}
+use Rattle.s2ix_lists.specs.Apply.{apply_refusal}
+use Rattle.s2ix_pairs.specs.Change.{change_between, changed, inverse_of, IsChangeList}
+use Rattle.s2ix_pairs.specs.Collection.{Collection, LimitedCollection, IsBag}
+use Rattle.s2ix_pairs.proofs.Inverse.{inverse_keeps}
+use Rattle.s2ix_lists.proofs.Refusals.{made_is_bag, taken_from_none}
 use Rattle.s2ix_edit.specs.State.{State, earlier, history_of, later}
 use Rattle.s2ix_edit.specs.History.{changes_along, changes_from}
 use Rattle.s2ix_edit.proofs.Edited.{length-earlier}

@@ -2,9 +2,9 @@
 use Rattle.std.proofs.Common.{ℕ, ◌≡◌, ◌≢◌, ◌-◌, List, [], ◌∷◌, get_or, length, reverse, take, refl, sym, ap, ap₂, ◌∙◌}
 use Rattle.std.proofs.lemmas.List.{length-append}
 use Rattle.std.proofs.Math.Seq.{take-append_seam}
-use Rattle.s2ix_bag.specs.Collection.{Collection}
-use Rattle.s2ix_bag.proofs.Inverse.{changed_inverse_between}
-use Rattle.s2ix_bag.proofs.Refusals.{made_is_bag, taken_from_none}
+use Rattle.s2ix_pairs.specs.Collection.{Collection}
+use Rattle.s2ix_pairs.proofs.Inverse.{changed_inverse_between}
+use Rattle.s2ix_lists.proofs.Refusals.{made_is_bag, taken_from_none}
 use Rattle.s2ix_edit.specs.declared.edit.Edit.{Edit}
 use Rattle.s2ix_edit.specs.Edit.{edited}
 use Rattle.s2ix_edit.specs.State.{State, change_of, history_of, later}

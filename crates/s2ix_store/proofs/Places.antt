@@ -2,16 +2,16 @@
 use Rattle.std.proofs.Common.{◌≡◌, ℕ, ◌+◌, ◌-◌, ◌<◌, List, [], ◌∷◌, ◌++◌, length, take, drop, reverse, Option, Some, None, refl, sym, ap, ap₂, ◌∙◌, subst, arith}
 use Rattle.std.proofs.lemmas.List.{append_assoc, length-append, length-reverse, reverse-append}
 use Rattle.std.proofs.Math.Seq.{drop-append_seam, take-append-add}
-use Rattle.s2ix_bag.specs.declared.pair.Entry.{Entry}
-use Rattle.s2ix_bag.specs.Apply.{apply_refusal, first_mismatch}
-use Rattle.s2ix_bag.specs.Change.{changed, inverse_of, IsChangeList}
-use Rattle.s2ix_bag.specs.Collection.{Collection, LimitedCollection, IsBag, IsCollection}
-use Rattle.s2ix_bag.specs.Limits.{changes_limit}
+use Rattle.s2ix_pairs.specs.declared.pair.Entry.{Entry}
+use Rattle.s2ix_lists.specs.Apply.{apply_refusal, first_mismatch}
+use Rattle.s2ix_pairs.specs.Change.{changed, inverse_of, IsChangeList}
+use Rattle.s2ix_pairs.specs.Collection.{Collection, LimitedCollection, IsBag, IsCollection}
+use Rattle.s2ix_pairs.specs.Limits.{changes_limit}
 use Rattle.s2ix_edit.specs.State.{State, earlier, later, history_of}
 use Rattle.s2ix_edit.specs.History.{History, alone, cursor_alone, one_back, one_on}
 use Rattle.s2ix_edit.proofs.Edited.{length-earlier}
 use Rattle.s2ix_store.specs.Store.{IsStore, CanGoBack, CanGoOn}
-use Rattle.s2ix_bag.proofs.Inverse.{inverse-inverse, inverse_keeps}
+use Rattle.s2ix_pairs.proofs.Inverse.{inverse-inverse, inverse_keeps}
 use Rattle.s2ix_store.specs.Steps.{with_held, after_record, IsShifted}
 use Rattle.s2ix_store.proofs.Taken.{changed_back, not_mismatched, takes_back}
 use Rattle.std.specs.List.{slice_get}

@@ -1,8 +1,8 @@
 -- What a store makes of planned entries.
 use Rattle.std.proofs.Common.{◌≡◌, ◌<◌, List, [], ◌∷◌, ◌++◌, length, sym, ap₂, ◌∙◌}
-use Rattle.s2ix_bag.specs.declared.pair.Entry.{Entry}
-use Rattle.s2ix_bag.specs.Collection.{Collection, IsBag}
-use Rattle.s2ix_bag.specs.Limits.{changes_limit}
+use Rattle.s2ix_pairs.specs.declared.pair.Entry.{Entry}
+use Rattle.s2ix_pairs.specs.Collection.{Collection, IsBag}
+use Rattle.s2ix_pairs.specs.Limits.{changes_limit}
 use Rattle.s2ix_edit.specs.declared.edit.Edit.{Edit}
 use Rattle.s2ix_edit.specs.Plan.{Plans, entries_refusal}
 use Rattle.s2ix_edit.specs.Refusals.{edit_refusal}

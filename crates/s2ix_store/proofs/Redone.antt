@@ -3,8 +3,8 @@ use Rattle.std.proofs.Common.{◌≡◌, ◌≢◌, ◌+◌, ◌-◌, List, [], 
 use Rattle.std.specs.List.{slice_get}
 use Rattle.std.proofs.lemmas.List.{take_more}
 use Rattle.std.proofs.Math.Seq.{take-length}
-use Rattle.s2ix_bag.specs.declared.pair.Entry.{Entry}
-use Rattle.s2ix_bag.specs.Change.{inverse_of}
+use Rattle.s2ix_pairs.specs.declared.pair.Entry.{Entry}
+use Rattle.s2ix_pairs.specs.Change.{inverse_of}
 use Rattle.s2ix_edit.specs.State.{State}
 use Rattle.s2ix_store.specs.Store.{IsStore}
 use Rattle.s2ix_store.specs.Steps.{after_redo, after_redo_of, after_undo, after_undo_of, with_held, last_done, last_undone}

@@ -1,11 +1,11 @@
 -- Changes that a bag takes.
 use Rattle.std.proofs.Common.{◌≡◌, List, None}
-use Rattle.s2ix_bag.specs.declared.pair.Entry.{Entry}
-use Rattle.s2ix_bag.specs.Apply.{apply_refusal, first_mismatch}
-use Rattle.s2ix_bag.specs.Change.{changed, inverse_of, IsChangeList}
-use Rattle.s2ix_bag.specs.Collection.{LimitedCollection, IsBag, IsCollection}
-use Rattle.s2ix_bag.proofs.Applied.{changed_inverse}
-use Rattle.s2ix_bag.proofs.Refusals.{before_from_no_mismatch, inverse_taken, no_mismatch, refusal_of_taken, taken_from_none}
+use Rattle.s2ix_pairs.specs.declared.pair.Entry.{Entry}
+use Rattle.s2ix_lists.specs.Apply.{apply_refusal, first_mismatch}
+use Rattle.s2ix_pairs.specs.Change.{changed, inverse_of, IsChangeList}
+use Rattle.s2ix_pairs.specs.Collection.{LimitedCollection, IsBag, IsCollection}
+use Rattle.s2ix_lists.proofs.Applied.{changed_inverse}
+use Rattle.s2ix_lists.proofs.Refusals.{before_from_no_mismatch, inverse_taken, no_mismatch, refusal_of_taken, taken_from_none}
 
 -- a change and then its inverse gives the first collection
 pub changed_back : (bag : LimitedCollection) (es : List Entry) → IsCollection bag.held → IsChangeList es → first_mismatch bag es ≡ None → changed (changed bag.held es) (inverse_of es) ≡ bag.held

@@ -1,8 +1,8 @@
 pub mod Steps
 pub mod Store
-pub use Rattle.s2ix_bag.specs.Change
-pub use Rattle.s2ix_bag.specs.Collection
-pub use Rattle.s2ix_bag.specs.Limits
+pub use Rattle.s2ix_pairs.specs.Change
+pub use Rattle.s2ix_pairs.specs.Collection
+pub use Rattle.s2ix_pairs.specs.Limits
 pub use Rattle.s2ix_edit.specs.Edit
 pub use Rattle.s2ix_edit.specs.History
 pub use Rattle.s2ix_edit.specs.Refusals

@@ -1,8 +1,8 @@
 -- What each step of a store makes of its state.
 use Rattle.std.specs.Prelude.{◌≡◌, ℕ, ◌-◌, Option, Some, None, List, [], ◌∷◌, ◌++◌, length, take, slice_get}
-use Rattle.s2ix_bag.specs.declared.pair.Entry.{Entry}
-use Rattle.s2ix_bag.specs.Change.{changed, inverse_of}
-use Rattle.s2ix_bag.specs.Collection.{Collection, LimitedCollection}
+use Rattle.s2ix_pairs.specs.declared.pair.Entry.{Entry}
+use Rattle.s2ix_pairs.specs.Change.{changed, inverse_of}
+use Rattle.s2ix_pairs.specs.Collection.{Collection, LimitedCollection}
 use Rattle.s2ix_edit.specs.declared.edit.Edit.{Edit}
 use Rattle.s2ix_edit.specs.Edit.{edited}
 use Rattle.s2ix_edit.specs.State.{State, change_of, history_of}

@@ -1,10 +1,10 @@
 -- Which states a store can stand in.
 use Rattle.std.specs.Prelude.{◌≡◌, ◌+◌, ◌<◌, ◌≤◌, None, List, [], ◌∷◌, length, reverse}
-use Rattle.s2ix_bag.specs.declared.pair.Entry.{Entry}
-use Rattle.s2ix_bag.specs.Apply.{apply_refusal}
-use Rattle.s2ix_bag.specs.Change.{changed, inverse_of, IsChangeList}
-use Rattle.s2ix_bag.specs.Collection.{LimitedCollection, IsBag}
-use Rattle.s2ix_bag.specs.Limits.{changes_limit}
+use Rattle.s2ix_pairs.specs.declared.pair.Entry.{Entry}
+use Rattle.s2ix_lists.specs.Apply.{apply_refusal}
+use Rattle.s2ix_pairs.specs.Change.{changed, inverse_of, IsChangeList}
+use Rattle.s2ix_pairs.specs.Collection.{LimitedCollection, IsBag}
+use Rattle.s2ix_pairs.specs.Limits.{changes_limit}
 use Rattle.s2ix_edit.specs.State.{State}
 use Rattle.s2ix_store.specs.Steps.{with_held}
 

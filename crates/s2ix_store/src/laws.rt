@@ -1,10 +1,10 @@
 //! What holds of stores and their histories, whatever code runs.
 
 ghost use Rattle.std.specs.Prelude.{◌≡◌, ◌≢◌, ◌+◌, Some, ◌<◌, [], ◌∷◌, ◌++◌, length, reverse, slice_get, take, All, List};
-ghost use Rattle.s2ix_bag.specs.declared.pair.Pair.{Pair};
-ghost use Rattle.s2ix_bag.specs.Change.{IsChangeList, counts_at, difference_of};
-ghost use Rattle.s2ix_bag.specs.Collection.{IsBag, count_in};
-ghost use Rattle.s2ix_bag.specs.Pair.{rank_of};
+ghost use Rattle.s2ix_pairs.specs.declared.pair.Pair.{Pair};
+ghost use Rattle.s2ix_pairs.specs.Change.{IsChangeList, counts_at, difference_of};
+ghost use Rattle.s2ix_pairs.specs.Collection.{IsBag, count_in};
+ghost use Rattle.s2ix_pairs.specs.Pair.{rank_of};
 ghost use Rattle.s2ix_edit.specs.declared.edit.Edit.{Edit};
 ghost use Rattle.s2ix_edit.specs.Edit.{edited};
 ghost use Rattle.s2ix_edit.specs.History.{changes_along, cursor_alone, one_back, one_on, with_next};

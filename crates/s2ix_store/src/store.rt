@@ -1,11 +1,11 @@
 ghost use Rattle.std.specs.Prelude.{◌≡◌, ◌≢◌, ◌↔◌, ◌<◌, [], ◌∷◌, length, None, IfOk, IfErr, OnOk, OnErr};
 ghost use Rattle.s2id_union.specs.Region.{HaveSameRegion, IsNormal};
-ghost use Rattle.s2ix_bag.specs.Apply.{first_mismatch};
-ghost use Rattle.s2ix_bag.specs.declared.pair.Pair.{Pair};
-ghost use Rattle.s2ix_bag.specs.Change.{counts_at, difference_of};
-ghost use Rattle.s2ix_bag.specs.Collection.{count_in};
-ghost use Rattle.s2ix_bag.specs.Limits.{changes_limit};
-ghost use Rattle.s2ix_bag.specs.Pair.{rank_of};
+ghost use Rattle.s2ix_lists.specs.Apply.{first_mismatch};
+ghost use Rattle.s2ix_pairs.specs.declared.pair.Pair.{Pair};
+ghost use Rattle.s2ix_pairs.specs.Change.{counts_at, difference_of};
+ghost use Rattle.s2ix_pairs.specs.Collection.{count_in};
+ghost use Rattle.s2ix_pairs.specs.Limits.{changes_limit};
+ghost use Rattle.s2ix_pairs.specs.Pair.{rank_of};
 ghost use Rattle.s2ix_edit.specs.Edit.{edited};
 ghost use Rattle.s2ix_edit.specs.History.{alone, cursor_alone, one_back, one_on, with_next};
 ghost use Rattle.s2ix_edit.specs.Plan.{entries_refusal};

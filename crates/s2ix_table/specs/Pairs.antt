@@ -1,8 +1,8 @@
 -- The pairs that a table was built of.
 use Rattle.std.specs.Prelude.{ℕ, ◌+◌, [], ◌∷◌}
 use Rattle.std.specs.Coded.{le_prop, Unit-prop}
-use Rattle.s2ix_bag.specs.Collection.{Collection, IsCollectionFrom}
-use Rattle.s2ix_bag.specs.Pair.{rank_of}
+use Rattle.s2ix_pairs.specs.Collection.{Collection, IsCollectionFrom}
+use Rattle.s2ix_pairs.specs.Pair.{rank_of}
 
 -- that a list is a collection has one proof
 pub IsCollection-prop : (n : ℕ) (hs : Collection) → IsProp (IsCollectionFrom n hs)

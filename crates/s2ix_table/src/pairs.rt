@@ -1,5 +1,5 @@
 ghost use Rattle.std.specs.Prelude.{◌≡◌, ◌≤◌, IfOk, length};
-ghost use Rattle.s2ix_bag.specs.Collection.{IsCollection};
+ghost use Rattle.s2ix_pairs.specs.Collection.{IsCollection};
 
 use s2id_core::OutOfMemory;
 use s2ix_bag::{Bag, Held};

@@ -1,6 +1,6 @@
 ghost use Rattle.std.specs.Prelude.{◌≡◌, ◌<◌, ◌≤◌, ◌∷◌, IfOk, List, length, drop};
 ghost use Rattle.s2id_core.specs.CellId.{raw_of, level_of};
-ghost use Rattle.s2ix_bag.specs.Collection.{Collection, IsCollection};
+ghost use Rattle.s2ix_pairs.specs.Collection.{Collection, IsCollection};
 ghost use Rattle.s2ix_ranges.specs.LabelList.{label_list};
 ghost use Rattle.s2ix_ranges.specs.Table.{Range, range_at, IsRangeTable};
 ghost use Rattle.s2ix_walk.specs.Places.{IsPlace, LeadsTo};

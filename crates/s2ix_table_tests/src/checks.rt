@@ -1,7 +1,7 @@
 //! Comparisons of what a table answers with plain lists.
 ghost use Rattle.std.specs.Prelude.{◌≡◌, ℕ, Some, IfOk};
 ghost use Rattle.s2id_core.specs.CellId.{level_of, raw_of};
-ghost use Rattle.s2ix_bag.specs.declared.pair.Held.{Held};
+ghost use Rattle.s2ix_pairs.specs.declared.pair.Held.{Held};
 ghost use Rattle.s2ix_ranges.specs.Table.{IsFound, range_at};
 
 use s2id_core::CellId;

@@ -3,8 +3,8 @@ use Rattle.std.specs.Prelude.{ℕ, ◌≤◌, codes, decimal, List, [], ◌∷�
 use Rattle.std.specs.List.{concat}
 use Rattle.s2id_core.specs.CellId.{raw_of}
 use Rattle.s2id_core.specs.Token.{canonical_token}
-use Rattle.s2ix_bag.specs.declared.pair.Entry.{Entry}
-use Rattle.s2ix_bag.specs.Label.{value_of}
+use Rattle.s2ix_pairs.specs.declared.pair.Entry.{Entry}
+use Rattle.s2ix_pairs.specs.Label.{value_of}
 
 -- the line of an entry: TOKEN LABEL BEFORE AFTER
 unfoldable pub entry_line : Entry → List ℕ

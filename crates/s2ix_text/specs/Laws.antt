@@ -1,7 +1,7 @@
 -- What the definitions of texts say, in other words: each of these is proved, and told in a sentence, by the function of `laws` of its name.
 use Rattle.std.specs.Prelude.{◌≡◌, List, All}
-use Rattle.s2ix_bag.specs.declared.pair.Entry.{Entry}
-use Rattle.s2ix_bag.specs.Collection.{Collection, LimitedCollection, IsBag}
+use Rattle.s2ix_pairs.specs.declared.pair.Entry.{Entry}
+use Rattle.s2ix_pairs.specs.Collection.{Collection, LimitedCollection, IsBag}
 use Rattle.s2ix_text.specs.Dump.{HasSmallCount, dump_text}
 use Rattle.s2ix_text.specs.Journal.{IsWritable, journal_text}
 

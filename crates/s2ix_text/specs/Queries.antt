@@ -4,9 +4,9 @@ use Rattle.std.specs.List.{concat}
 use Rattle.s2id_core.specs.declared.cell_id.CellId.{CellId}
 use Rattle.s2id_core.specs.CellId.{raw_of}
 use Rattle.s2id_core.specs.Token.{canonical_token, sixteen_digits}
-use Rattle.s2ix_bag.specs.Label.{value_of}
-use Rattle.s2ix_bag.specs.declared.label.Label.{Label}
-use Rattle.s2ix_bag.specs.declared.pair.Held.{Held}
+use Rattle.s2ix_pairs.specs.Label.{value_of}
+use Rattle.s2ix_pairs.specs.declared.label.Label.{Label}
+use Rattle.s2ix_pairs.specs.declared.pair.Held.{Held}
 use Rattle.s2ix_ranges.specs.Table.{Range}
 
 -- the last line of a list: end N

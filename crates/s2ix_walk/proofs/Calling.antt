@@ -1,8 +1,8 @@
 -- Calls and costs at equal arguments.
 use Rattle.std.proofs.Common.{◌≡◌, ℕ, Bool, List, refl, subst}
 use Rattle.s2id_core.specs.declared.cell_id.CellId.{CellId}
-use Rattle.s2ix_bag.specs.Collection.{Collection}
-use Rattle.s2ix_bag.specs.declared.pair.Held.{Held}
+use Rattle.s2ix_pairs.specs.Collection.{Collection}
+use Rattle.s2ix_pairs.specs.declared.pair.Held.{Held}
 use Rattle.s2ix_walk.specs.Calls.{CallsOn}
 use Rattle.s2ix_ranges.specs.Meeting.{meeting_of}
 use Rattle.s2ix_walk.specs.Costs.{IsWalkCost}

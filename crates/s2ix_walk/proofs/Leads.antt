@@ -1,6 +1,6 @@
 -- Answers that lead to a chain.
 use Rattle.std.proofs.Common.{◌≡◌, ◌<◌, Some, None, [], length, sym, subst}
-use Rattle.s2ix_bag.specs.Collection.{Collection}
+use Rattle.s2ix_pairs.specs.Collection.{Collection}
 use Rattle.s2ix_walk.specs.Places.{LeadsTo}
 
 pub leads_some : {P : Type 0} (chain : P → Collection) (p : P) (pairs : Collection) → chain p ≡ pairs → 0 < length pairs → LeadsTo chain (Some p) pairs

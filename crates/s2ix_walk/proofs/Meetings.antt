@@ -7,8 +7,8 @@ use Rattle.s2id_core.specs.declared.cell_id.CellId.{CellId}
 use Rattle.s2id_core.specs.CellId.{first_of}
 use Rattle.s2id_union.specs.Covers.{Covers}
 use Rattle.s2id_union.proofs.Lists.{at_head, in_tail}
-use Rattle.s2ix_bag.specs.declared.pair.Held.{Held}
-use Rattle.s2ix_bag.specs.Collection.{Collection}
+use Rattle.s2ix_pairs.specs.declared.pair.Held.{Held}
+use Rattle.s2ix_pairs.specs.Collection.{Collection}
 use Rattle.s2ix_ranges.specs.InOrder.{insertion, choice}
 use Rattle.s2ix_ranges.specs.Contents.{covers, depth_key, contents_at}
 use Rattle.s2ix_ranges.specs.Table.{leaf_end}

@@ -1,7 +1,7 @@
 -- The calls of a closure along the meeting list.
 use Rattle.std.proofs.Common.{◌≡◌, ℕ, ◌+◌, ◌≤◌, Bool, true, false, true≢false, inl, inr, [], ◌∷◌, length, refl, sym, subst, arith}
-use Rattle.s2ix_bag.specs.Collection.{Collection}
-use Rattle.s2ix_bag.specs.declared.pair.Held.{Held}
+use Rattle.s2ix_pairs.specs.Collection.{Collection}
+use Rattle.s2ix_pairs.specs.declared.pair.Held.{Held}
 use Rattle.s2ix_walk.specs.Calls.{MayVisit, CallsOn, Visits}
 
 pub may_same : {F : Type 0} (pre : F → Held → Type 0) (step : F → Held → Bool → F → Type 0) (f : F) (xs ys : Collection) → xs ≡ ys → MayVisit pre step f xs → MayVisit pre step f ys

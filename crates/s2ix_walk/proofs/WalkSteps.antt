@@ -6,8 +6,8 @@ use Rattle.s2id_core.specs.declared.cell_id.CellId.{CellId}
 use Rattle.s2id_core.specs.CellId.{raw_of, first_of, end_of}
 use Rattle.s2id_core.proofs.Nested.{span}
 use Rattle.s2id_union.specs.Covers.{Covers, FollowOneAnother}
-use Rattle.s2ix_bag.specs.Collection.{Collection}
-use Rattle.s2ix_bag.specs.declared.pair.Held.{Held}
+use Rattle.s2ix_pairs.specs.Collection.{Collection}
+use Rattle.s2ix_pairs.specs.declared.pair.Held.{Held}
 use Rattle.s2ix_ranges.specs.Meeting.{meeting_from}
 use Rattle.s2ix_walk.specs.Places.{from_place, LeadsTo}
 use Rattle.s2ix_ranges.specs.Table.{Range, range_at, leaf_end, IsRangeTable, IsFound}

@@ -1,7 +1,7 @@
 -- What a visitor asks of a closure, and what its calls come to.
 use Rattle.std.specs.Prelude.{◌≡◌, ◌⊎◌, ℕ, ◌+◌, Bool, true, false, [], ◌∷◌}
-use Rattle.s2ix_bag.specs.Collection.{Collection}
-use Rattle.s2ix_bag.specs.declared.pair.Held.{Held}
+use Rattle.s2ix_pairs.specs.Collection.{Collection}
+use Rattle.s2ix_pairs.specs.declared.pair.Held.{Held}
 
 -- a closure may be called on the first pair of a list, and after each answer true on the next
 abbrev pub MayVisit : {F : Type 0} → (F → Held → Type 0) → (F → Held → Bool → F → Type 0) → F → Collection → Type 0

@@ -2,7 +2,7 @@
 use Rattle.std.specs.Prelude.{◌≡◌, ◌↔◌, ℕ, ◌%◌, ◌<◌, ◌≤◌, true, List, Contains}
 use Rattle.s2id_core.specs.declared.cell_id.CellId.{CellId}
 use Rattle.s2id_union.specs.Covers.{Covers}
-use Rattle.s2ix_bag.specs.Collection.{Collection}
+use Rattle.s2ix_pairs.specs.Collection.{Collection}
 use Rattle.s2ix_ranges.specs.Table.{Range, IsRangeTable}
 use Rattle.s2ix_walk.specs.Costs.{is_met}
 

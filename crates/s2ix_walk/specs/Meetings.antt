@@ -2,7 +2,7 @@
 use Rattle.std.specs.Prelude.{List}
 use Rattle.std.specs.Borrow.{MutBor}
 use Rattle.s2id_core.specs.declared.cell_id.CellId.{CellId}
-use Rattle.s2ix_bag.specs.Collection.{Collection}
+use Rattle.s2ix_pairs.specs.Collection.{Collection}
 use Rattle.s2ix_walk.specs.Walking.{left_of}
 use Rattle.s2ix_walk.specs.declared.meeting.Meeting.{Meeting}
 use Rattle.s2ix_walk.specs.declared.reader.Reader.{Ghosts}

@@ -1,6 +1,6 @@
 -- Places: where a table keeps a chain of held pairs, from the innermost outwards.
 use Rattle.std.specs.Prelude.{◌≡◌, ◌<◌, Option, Some, None, [], length}
-use Rattle.s2ix_bag.specs.Collection.{Collection}
+use Rattle.s2ix_pairs.specs.Collection.{Collection}
 
 -- a place of a table: its chain is not empty
 abbrev pub IsPlace : {P : Type 0} → (P → Collection) → P → Type 0

@@ -1,6 +1,6 @@
 -- The table that a reader reads.
 use Rattle.std.specs.Prelude.{◌≤◌, List, length}
-use Rattle.s2ix_bag.specs.Collection.{Collection, IsCollection}
+use Rattle.s2ix_pairs.specs.Collection.{Collection, IsCollection}
 use Rattle.s2ix_ranges.specs.Table.{Range, IsRangeTable}
 
 -- held pairs, ranges, and the pairs from a place on, outwards

@@ -1,6 +1,6 @@
 //! What the definitions of the walk's cost say, in other words.
 ghost use Rattle.std.specs.Prelude.{◌≡◌, ◌≤◌, ℕ, Bool, true, length};
-ghost use Rattle.s2ix_bag.specs.Collection.{Collection};
+ghost use Rattle.s2ix_pairs.specs.Collection.{Collection};
 ghost use Rattle.s2ix_walk.specs.Calls.{CallsOn};
 ghost use Rattle.s2ix_walk.specs.Laws.{MetRangesShareALeaf};
 

@@ -1,6 +1,6 @@
 // Counted visits and what bounds them.
 ghost use Rattle.std.specs.Prelude.{◌≡◌, ℕ};
-ghost use Rattle.s2ix_bag.specs.declared.pair.Held.{Held};
+ghost use Rattle.s2ix_pairs.specs.declared.pair.Held.{Held};
 
 use s2id_union::CellUnion;
 use s2ix_bag::Held;

@@ -6,7 +6,7 @@ use Rattle.std.specs.Prelude.{String}
 use Rattle.std.specs.declared.alloc.Global.{Global}
 use Rattle.std.specs.Str.Parse.{ParsesUnsigned}
 use Rattle.clap.specs.Words.{Row, Text}
-use Rattle.s2ix_bag.specs.declared.limits.Limits.{Limits}
+use Rattle.s2ix_pairs.specs.declared.limits.Limits.{Limits}
 use Rattle.s2ix_words.specs.Words.{AreGiven, Has, IsFile, IsGiven, IsOf, IsUsage, Lacks, Refuses, word_of}
 use Rattle.s2ix_words.specs.declared.command.Command.{Command}
 use Rattle.s2ix_words.specs.declared.command.Command.TheVariants.{Run, Check, Replay, Rewind}

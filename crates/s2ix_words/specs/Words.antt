@@ -7,8 +7,8 @@ use Rattle.clap.specs.Words.{Row, Text, fault_of, first_of, subcommand_of}
 use Rattle.clap.specs.Words.{IsAmong, Kinds}
 use Rattle.clap.specs.declared.error.ErrorKind.{ErrorKind}
 use Rattle.clap.specs.declared.error.ErrorKind.TheVariants as kind
-use Rattle.s2ix_bag.specs.Limits.{changes_limit, count_limit, pairs_limit}
-use Rattle.s2ix_bag.specs.declared.limits.Limits.{Limits}
+use Rattle.s2ix_pairs.specs.Limits.{changes_limit, count_limit, pairs_limit}
+use Rattle.s2ix_pairs.specs.declared.limits.Limits.{Limits}
 use Rattle.s2ix_clap.specs.Tree.{program}
 use Rattle.s2ix_words.specs.declared.command.Command.{Command}
 use Rattle.s2ix_words.specs.declared.command.Command.TheVariants.{Run, Check, Replay, Rewind}

@@ -1,7 +1,7 @@
 //! What was given behind the word of a subcommand.
 ghost use Rattle.std.specs.Prelude.{◌≡◌, ◌↔◌, ℕ, Some, IfErr, IfNone, IfOk, IfSome, IsTrue, codes, option_map, string_bytes};
 ghost use Rattle.clap.specs.Words.{first_of, found_of, rows_of, subcommand_rows_of};
-ghost use Rattle.s2ix_bag.specs.declared.limits.Limits.{Limits as OfLimits};
+ghost use Rattle.s2ix_pairs.specs.declared.limits.Limits.{Limits as OfLimits};
 ghost use Rattle.s2ix_words.specs.Words.{AreGiven, IsFile, IsGiven, IsMet, IsOf, IsUsage, Lacks, Refuses};
 
 use crate::{Command, WordsFault};

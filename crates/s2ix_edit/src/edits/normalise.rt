@@ -1,5 +1,5 @@
 ghost use Rattle.std.specs.Prelude.{◌≡◌, map, IfOk, IfErr};
-ghost use Rattle.s2ix_bag.specs.OfLabel.{held_of};
+ghost use Rattle.s2ix_pairs.specs.OfLabel.{held_of};
 ghost use Rattle.s2ix_edit.specs.Plan.{IsPlanRefusal, Plans, one_copy};
 
 use crate::edit::Edit;

@@ -1,8 +1,8 @@
 //! What several edits are made of.
 
 ghost use Rattle.std.specs.Prelude.{◌≡◌, ◌∷◌, ◌++◌, [], IfOk, OnOk};
-ghost use Rattle.s2ix_bag.specs.Change.{removal_of};
-ghost use Rattle.s2ix_bag.specs.Collection.{IsBag};
+ghost use Rattle.s2ix_pairs.specs.Change.{removal_of};
+ghost use Rattle.s2ix_pairs.specs.Collection.{IsBag};
 ghost use Rattle.s2ix_edit.specs.Plan.{one_entry};
 ghost use Rattle.s2ix_edit.specs.Refusals.{holds_none};
 

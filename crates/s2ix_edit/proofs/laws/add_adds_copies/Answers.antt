@@ -1,7 +1,7 @@
 use Rattle.std.proofs.Common.{◌+◌}
-use Rattle.s2ix_bag.specs.Collection.{count_in}
-use Rattle.s2ix_bag.proofs.Collections.{count_in-set_count_other, count_in-set_count_same}
-use Rattle.s2ix_bag.proofs.Pairs.{same_pair}
+use Rattle.s2ix_pairs.specs.Collection.{count_in}
+use Rattle.s2ix_pairs.proofs.Collections.{count_in-set_count_other, count_in-set_count_same}
+use Rattle.s2ix_pairs.proofs.Pairs.{same_pair}
 use Rattle.s2ix_edit.proofs.laws.add_adds_copies.Goals as goal
 
 pub returns-clause-pair : goal.returns-clause-pair

@@ -1,7 +1,7 @@
 use Rattle.std.proofs.Common.{◌≡◌, sym, ap, subst, Contains}
-use Rattle.s2ix_bag.specs.declared.pair.Pair.{Pair}
-use Rattle.s2ix_bag.specs.Pair.{rank_of}
-use Rattle.s2ix_bag.proofs.Pairs.{same_pair}
+use Rattle.s2ix_pairs.specs.declared.pair.Pair.{Pair}
+use Rattle.s2ix_pairs.specs.Pair.{rank_of}
+use Rattle.s2ix_pairs.proofs.Pairs.{same_pair}
 use Rattle.s2ix_edit.specs.Edit.{pair_of}
 use Rattle.s2ix_edit.proofs.AddUnion.{with_each_other, with_each_same}
 use Rattle.s2ix_edit.proofs.laws.add_union_adds_a_copy_each.Goals as goal

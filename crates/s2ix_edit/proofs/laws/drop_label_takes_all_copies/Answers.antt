@@ -1,6 +1,6 @@
 use Rattle.std.proofs.Common.{ap}
-use Rattle.s2ix_bag.specs.Label.{value_of}
-use Rattle.s2ix_bag.proofs.Pairs.{same_label}
+use Rattle.s2ix_pairs.specs.Label.{value_of}
+use Rattle.s2ix_pairs.proofs.Pairs.{same_label}
 use Rattle.s2ix_edit.proofs.DropLabel.{without_other, without_own}
 use Rattle.s2ix_edit.proofs.laws.drop_label_takes_all_copies.Goals as goal
 

@@ -1,4 +1,4 @@
-use Rattle.s2ix_bag.proofs.Pairs.{same_label}
+use Rattle.s2ix_pairs.proofs.Pairs.{same_label}
 use Rattle.s2ix_edit.specs.Region.{region_of}
 use Rattle.s2ix_edit.proofs.Normalise.{normalised_cell, normalised_cells, normalised_elsewhere, normalised_region, replaced_other}
 use Rattle.s2ix_edit.proofs.laws.normalise_leaves_a_copy_each.Goals as goal

@@ -1,5 +1,5 @@
 use Rattle.std.proofs.Common.{refl}
-use Rattle.s2ix_bag.proofs.Pairs.{same_label}
+use Rattle.s2ix_pairs.proofs.Pairs.{same_label}
 use Rattle.s2ix_edit.specs.Edit.{pair_of}
 use Rattle.s2ix_edit.proofs.Relabel.{moved_to_itself, relabelled_other, relabelled_source, relabelled_target}
 use Rattle.s2ix_edit.proofs.laws.relabel_moves_copies.Goals as goal

@@ -1,7 +1,7 @@
 -- Each step's refusal decides, and the next step goes on from what it came to.
 use Rattle.std.proofs.Common.{List, Ok, sym, subst, inl}
 use Rattle.std.proofs.lemmas.Result.{err_from_is_err_and}
-use Rattle.s2ix_bag.specs.declared.pair.Entry.{Entry}
+use Rattle.s2ix_pairs.specs.declared.pair.Entry.{Entry}
 use Rattle.s2ix_replay.specs.Replay.{replay_refusal}
 use Rattle.s2ix_files.specs.Reads.{DumpReads, JournalReads, ReplayLeads, Then}
 use Rattle.s2ix_files.specs.Refusals.{error_of_replay}

@@ -1,7 +1,7 @@
 -- One line more.
 use Rattle.std.proofs.Common.{◌≡◌, ℕ, ◌+◌, ◌≤◌, ◌∷◌, [], ◌++◌, sym, subst, arith}
 use Rattle.std.proofs.lemmas.Result.{err_from_is_err_and}
-use Rattle.s2ix_bag.specs.Collection.{Collection, copies_in}
+use Rattle.s2ix_pairs.specs.Collection.{Collection, copies_in}
 use Rattle.s2ix_read_dump.specs.PairLines.{IsNext, line_text}
 use Rattle.s2ix_read_dump.proofs.Steps.{IsReadSoFar, at_some, next_sum, read_more, wants_below}
 use Rattle.s2ix_read_dump.proofs.dump.read_below.Goals as goal

@@ -1,7 +1,7 @@
 -- The header is compared, and what is below it is read.
 use Rattle.std.proofs.Common.{ℕ, Option, sym, ap, ◌∙◌, subst}
 use Rattle.std.proofs.lemmas.Result.{err_from_is_err_and}
-use Rattle.s2ix_bag.specs.Collection.{LimitedCollection}
+use Rattle.s2ix_pairs.specs.Collection.{LimitedCollection}
 use Rattle.s2ix_text.specs.Dump.{dump_text}
 use Rattle.s2ix_read_dump.specs.declared.errors.DumpFault.{DumpFault}
 use Rattle.s2ix_read_dump.specs.DumpFaults.{IsDumpError}

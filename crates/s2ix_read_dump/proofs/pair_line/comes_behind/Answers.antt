@@ -1,7 +1,7 @@
 use Rattle.std.proofs.Common.{Option, Some, ◌∙◌, ap}
 use Rattle.std.specs.Option.{option_map}
 use Rattle.std.proofs.lemmas.Bool.{ltb_from_iff}
-use Rattle.s2ix_bag.specs.declared.pair.Held.{Held}
+use Rattle.s2ix_pairs.specs.declared.pair.Held.{Held}
 use Rattle.s2ix_parts.specs.Written.{comes_before}
 use Rattle.s2ix_parts.proofs.Rests.{last_read}
 use Rattle.s2ix_read_dump.proofs.pair_line.comes_behind.Goals as goal

@@ -2,7 +2,7 @@
 use Rattle.std.proofs.Common.{arith}
 use Rattle.std.proofs.lemmas.Bool.{false≢true}
 use Rattle.s2id_core.specs.CellId.{raw_of}
-use Rattle.s2ix_bag.specs.Label.{value_of}
+use Rattle.s2ix_pairs.specs.Label.{value_of}
 use Rattle.s2ix_read_dump.proofs.FrontReads.{count_is, count_stands, label_stands, parts_of_common}
 use Rattle.s2ix_read_dump.proofs.PairTexts.{line_of_parts}
 use Rattle.s2ix_read_dump.proofs.pair_line.held_in_front.Goals as goal

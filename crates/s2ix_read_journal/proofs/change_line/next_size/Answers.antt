@@ -2,7 +2,7 @@
 use Rattle.std.proofs.Common.{arith, None, Some, sym, ap, ◌∙◌, List, ℕ, []}
 use Rattle.std.specs.Prelude.{slice_index_or}
 use Rattle.std.proofs.lemmas.Bool.{cond-false, cond-true, le-leb, lt-leb}
-use Rattle.s2ix_bag.specs.Limits.{changes_limit}
+use Rattle.s2ix_pairs.specs.Limits.{changes_limit}
 use Rattle.s2ix_read_journal.specs.Numbers.{size_written}
 use Rattle.s2ix_read_journal.proofs.ChangeTexts.{change_from_word, no_change_word, no_change_parts, size_by, size_unless}
 use Rattle.s2ix_parts.proofs.Rests.{agrees, differs}

@@ -2,7 +2,7 @@
 use Rattle.std.proofs.Common.{arith, true, false, refl, sym, ◌∙◌, lt-ltb}
 use Rattle.std.proofs.lemmas.Bool.{eq-eqb, ne_eqb, or_left, or_right}
 use Rattle.std.proofs.lemmas.Result.{err_from_is_err_and}
-use Rattle.s2ix_bag.specs.Limits.{count_limit}
+use Rattle.s2ix_pairs.specs.Limits.{count_limit}
 use Rattle.s2ix_read_journal.specs.JournalLines.{last_pair}
 use Rattle.s2ix_read_journal.proofs.NextEntries.{above_test, next_by, next_unless}
 use Rattle.s2ix_read_journal.proofs.entry_line.next_entry.Goals as goal

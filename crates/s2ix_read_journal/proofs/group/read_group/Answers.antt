@@ -1,7 +1,7 @@
 -- One entry more, or the fault of its line.
 use Rattle.std.proofs.Common.{◌≡◌, suc, ◌+◌, ◌-◌, List, length, Err, Ok, sym, ap, ◌∙◌, subst, arith}
 use Rattle.std.proofs.lemmas.Result.{err_from_is_err_and}
-use Rattle.s2ix_bag.specs.declared.pair.Entry.{Entry}
+use Rattle.s2ix_pairs.specs.declared.pair.Entry.{Entry}
 use Rattle.s2ix_parts.specs.Lines.{lines_of}
 use Rattle.s2ix_read_journal.specs.JournalLines.{last_pair, next_entry}
 use Rattle.s2ix_read_journal.proofs.Reading.{IsGroupSoFar, group_fault, group_more, group_truncated, wants_memory}

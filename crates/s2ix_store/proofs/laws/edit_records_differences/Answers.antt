@@ -1,4 +1,4 @@
-use Rattle.s2ix_bag.proofs.Differences.{between_is_change, counts_between}
+use Rattle.s2ix_pairs.proofs.Differences.{between_is_change, counts_between}
 use Rattle.s2ix_edit.specs.Edit.{edited}
 use Rattle.s2ix_edit.specs.State.{history_of}
 use Rattle.s2ix_edit.proofs.Edited.{held_edited_is_collection}

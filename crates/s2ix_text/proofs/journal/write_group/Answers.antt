@@ -1,6 +1,6 @@
 -- The line above the entries and theirs are written one after the other.
 use Rattle.std.proofs.Common.{List, flat_map, subst}
-use Rattle.s2ix_bag.specs.declared.pair.Entry.{Entry}
+use Rattle.s2ix_pairs.specs.declared.pair.Entry.{Entry}
 use Rattle.s2ix_text.specs.Journal.{entry_line, group_text}
 use Rattle.s2ix_io.specs.Puts.{Writes}
 use Rattle.s2ix_io.proofs.Writing.{Writes-cut, Writes-then}

@@ -1,6 +1,6 @@
 use Rattle.std.proofs.Common.{◌≡◌, ℕ, ◌+◌, [], Option, None, ◌++◌, ◌∙◌, sym, ap, subst, rules, arith}
-use Rattle.s2ix_bag.specs.Collection.{Collection}
-use Rattle.s2ix_bag.specs.declared.pair.Held.{Held}
+use Rattle.s2ix_pairs.specs.Collection.{Collection}
+use Rattle.s2ix_pairs.specs.declared.pair.Held.{Held}
 use Rattle.s2ix_ranges.specs.Meeting.{meeting_from}
 use Rattle.s2ix_walk.specs.Places.{from_place}
 use Rattle.s2ix_walk.specs.Walking.{front_from}

@@ -1,9 +1,9 @@
 -- A change that is not refused is taken.
 use Rattle.std.proofs.Common.{sym, ◌∙◌, subst, List}
-use Rattle.s2ix_bag.specs.Change.{IsChangeList}
-use Rattle.s2ix_bag.specs.Collection.{Collection, LimitedCollection, IsBag}
-use Rattle.s2ix_bag.specs.declared.pair.Entry.{Entry}
-use Rattle.s2ix_bag.proofs.Refusals.{taken_from_none, made_is_bag}
+use Rattle.s2ix_pairs.specs.Change.{IsChangeList}
+use Rattle.s2ix_pairs.specs.Collection.{Collection, LimitedCollection, IsBag}
+use Rattle.s2ix_pairs.specs.declared.pair.Entry.{Entry}
+use Rattle.s2ix_lists.proofs.Refusals.{taken_from_none, made_is_bag}
 use Rattle.s2ix_bag.proofs.bag.Bag.applied.Goals as goal
 
 pub merge-requires-clause-before : goal.merge-requires-clause-before

@@ -1,8 +1,8 @@
 -- The sum of all counts fits, and so does each part of it.
 use Rattle.std.proofs.Common.{sum_by, ap, arith}
 use Rattle.std.proofs.lemmas.List.Sums.{sum_by_more_le}
-use Rattle.s2ix_bag.specs.declared.pair.Held.{Held}
-use Rattle.s2ix_bag.proofs.Refusals.{copies_bound}
+use Rattle.s2ix_pairs.specs.declared.pair.Held.{Held}
+use Rattle.s2ix_lists.proofs.Refusals.{copies_bound}
 use Rattle.s2ix_bag.proofs.bag.Bag.copies.Goals as goal
 
 pub overflow_add-copies : goal.overflow_add-copies

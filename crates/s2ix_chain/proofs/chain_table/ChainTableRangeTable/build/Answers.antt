@@ -1,7 +1,7 @@
 use Rattle.std.proofs.Common.{◌≡◌, ℕ, List, length, take, sym, ◌∙◌, ap, arith, subst}
 use Rattle.std.proofs.lemmas.List.{length-take}
-use Rattle.s2ix_bag.specs.Collection.{Collection}
-use Rattle.s2ix_table.specs.Table.{leaf_end, IsRangeTable}
+use Rattle.s2ix_pairs.specs.Collection.{Collection}
+use Rattle.s2ix_ranges.specs.Table.{leaf_end, IsRangeTable}
 use Rattle.s2ix_chain.specs.Chains.{AreFirsts}
 use Rattle.s2ix_chain.specs.Starts.{runs_over}
 use Rattle.s2ix_chain.specs.Sweep.{IsSwept}

@@ -1,6 +1,6 @@
 use Rattle.std.proofs.Common.{sym, ◌∙◌, ◌∷◌, drop, ap, arith, Some}
 use Rattle.std.proofs.lemmas.Option.{slice_get-get_or}
-use Rattle.s2ix_bag.specs.declared.pair.Held.{Held}
+use Rattle.s2ix_pairs.specs.declared.pair.Held.{Held}
 use Rattle.s2ix_chain.specs.Chains.{chain_of}
 use Rattle.s2ix_chain.proofs.Chains.{place_within}
 use Rattle.s2ix_chain.proofs.Tables.{headed}

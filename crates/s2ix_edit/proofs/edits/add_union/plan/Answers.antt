@@ -2,8 +2,8 @@ use Rattle.std.proofs.Common.{◌≡◌, ◌<◌, List, Some, AllPairs, map, ref
 use Rattle.std.proofs.lemmas.List.{take_all}
 use Rattle.s2id_core.specs.declared.cell_id.CellId.{CellId}
 use Rattle.s2id_core.specs.CellId.{raw_of}
-use Rattle.s2ix_bag.specs.declared.pair.Entry.{Entry}
-use Rattle.s2ix_bag.specs.Change.{IsChangeList}
+use Rattle.s2ix_pairs.specs.declared.pair.Entry.{Entry}
+use Rattle.s2ix_pairs.specs.Change.{IsChangeList}
 use Rattle.s2ix_edit.specs.declared.edit.Edit.TheVariants.{AddUnion}
 use Rattle.s2ix_edit.specs.declared.errors.EditError.TheVariants.{TooManyCopies}
 use Rattle.s2ix_edit.specs.Plan.{Plans}

@@ -1,6 +1,6 @@
 use Rattle.std.proofs.Common.{List, refl, sym, ◌∙◌, subst}
-use Rattle.s2ix_bag.specs.declared.pair.Entry.{Entry}
-use Rattle.s2ix_bag.specs.Change.{IsChangeList}
+use Rattle.s2ix_pairs.specs.declared.pair.Entry.{Entry}
+use Rattle.s2ix_pairs.specs.Change.{IsChangeList}
 use Rattle.s2ix_edit.specs.declared.edit.Edit.TheVariants.{DropLabel}
 use Rattle.s2ix_edit.specs.Plan.{Plans}
 use Rattle.s2ix_edit.proofs.DropLabel.{removals_make}

@@ -3,7 +3,7 @@ use Rattle.std.proofs.lemmas.Iterator.Consumers.{YieldsList-from_first}
 use Rattle.std.proofs.lemmas.Iterator.Search.{any_from_yields_List}
 use Rattle.std.specs.Prelude.{nat_lt, ◌+◌}
 use Rattle.s2id_core.specs.CellId.{level_of}
-use Rattle.s2ix_bag.specs.declared.pair.Held.{Held}
+use Rattle.s2ix_pairs.specs.declared.pair.Held.{Held}
 use Rattle.s2ix_edit.proofs.Grow.{too_fine_for_held}
 use Rattle.s2ix_edit.proofs.edits.grow.is_too_fine.Goals as goal
 

@@ -1,6 +1,6 @@
 use Rattle.std.proofs.Common.{List, map, refl, sym, ap, ◌∙◌, subst}
-use Rattle.s2ix_bag.specs.declared.pair.Entry.{Entry}
-use Rattle.s2ix_bag.specs.Change.{IsChangeList}
+use Rattle.s2ix_pairs.specs.declared.pair.Entry.{Entry}
+use Rattle.s2ix_pairs.specs.Change.{IsChangeList}
 use Rattle.s2ix_edit.specs.declared.edit.Edit.TheVariants.{Grow}
 use Rattle.s2ix_edit.specs.Plan.{Plans, first_copy}
 use Rattle.s2ix_edit.proofs.Grow.{first_copies_make}

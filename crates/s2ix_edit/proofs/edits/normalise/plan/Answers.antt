@@ -2,10 +2,10 @@
 use Rattle.std.proofs.Common.{◌<◌, List, AllPairs, refl, sym, ap, ap₂, ◌∙◌, subst}
 use Rattle.s2id_core.specs.declared.cell_id.CellId.{CellId}
 use Rattle.s2id_core.specs.CellId.{raw_of}
-use Rattle.s2ix_bag.specs.declared.pair.Entry.{Entry}
-use Rattle.s2ix_bag.specs.Change.{change_between}
-use Rattle.s2ix_bag.specs.Collection.{Collection, IsCollection}
-use Rattle.s2ix_bag.proofs.OfLabel.{of_label_from}
+use Rattle.s2ix_pairs.specs.declared.pair.Entry.{Entry}
+use Rattle.s2ix_pairs.specs.Change.{change_between}
+use Rattle.s2ix_pairs.specs.Collection.{Collection, IsCollection}
+use Rattle.s2ix_pairs.proofs.OfLabel.{of_label_from}
 use Rattle.s2ix_edit.specs.declared.edit.Edit.TheVariants.{Normalise}
 use Rattle.s2ix_edit.specs.Plan.{Plans}
 use Rattle.s2ix_edit.specs.Region.{region_of}

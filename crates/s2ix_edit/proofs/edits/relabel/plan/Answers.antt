@@ -1,5 +1,5 @@
 use Rattle.std.proofs.Common.{List, refl, sym, ◌∙◌, subst}
-use Rattle.s2ix_bag.specs.declared.pair.Entry.{Entry}
+use Rattle.s2ix_pairs.specs.declared.pair.Entry.{Entry}
 use Rattle.s2ix_edit.specs.declared.edit.Edit.TheVariants.{Relabel}
 use Rattle.s2ix_edit.specs.Plan.{Plans}
 use Rattle.s2ix_edit.proofs.Relabel.{moved_to_itself}

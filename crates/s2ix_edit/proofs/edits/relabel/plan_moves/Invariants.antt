@@ -1,5 +1,5 @@
 use Rattle.std.proofs.Common.{◌≡◌, ◌++◌}
-use Rattle.s2ix_bag.specs.OfLabel.{held_of}
+use Rattle.s2ix_pairs.specs.OfLabel.{held_of}
 use Rattle.s2ix_edit.proofs.Relabel.{moves}
 use Rattle.s2ix_edit.proofs.edits.relabel.plan_moves.Given as goal
 

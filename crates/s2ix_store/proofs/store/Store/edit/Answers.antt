@@ -1,6 +1,6 @@
 use Rattle.std.proofs.Common.{◌<◌, length, Option, sym, ap, ◌∙◌, subst, arith}
 use Rattle.std.proofs.lemmas.Result.{IfErr-weaker, IfOk-weaker, on_ok_weaker, err_from_is_err_and}
-use Rattle.s2ix_bag.specs.Limits.{changes_limit}
+use Rattle.s2ix_pairs.specs.Limits.{changes_limit}
 use Rattle.s2ix_edit.specs.declared.errors.EditError.{EditError}
 use Rattle.s2ix_edit.specs.State.{State, history_of, starting_at}
 use Rattle.s2ix_edit.specs.Plan.{Plans}

@@ -1,6 +1,6 @@
 use Rattle.std.proofs.Common.{◌≡◌, sym, ap, ◌∙◌, subst, arith}
 use Rattle.std.proofs.lemmas.Grind.{common_steps}
-use Rattle.s2ix_bag.specs.Apply.{apply_refusal}
+use Rattle.s2ix_lists.specs.Apply.{apply_refusal}
 use Rattle.s2ix_edit.specs.State.{State}
 use Rattle.s2ix_edit.proofs.Refused.{some_entries}
 use Rattle.s2ix_store.specs.Store.{IsStore}

@@ -1,5 +1,5 @@
 use Rattle.std.proofs.Common.{◌-◌, List, length, ap, ◌∙◌}
-use Rattle.s2ix_bag.specs.declared.pair.Entry.{Entry}
+use Rattle.s2ix_pairs.specs.declared.pair.Entry.{Entry}
 use Rattle.std.specs.List.{slice_get}
 use Rattle.s2ix_edit.specs.State.{State, history_of}
 use Rattle.s2ix_edit.specs.History.{one_on}

@@ -1,5 +1,0 @@
-use Rattle.s2ix_bag.proofs.Comparing.{Comparing}
-use Rattle.s2ix_bag.proofs.compare.differences.Given as goal
-
-abbrev pub invariant-loop-held : goal.invariant-loop-held
-invariant-loop-held l = Comparing l.old l.new l.out.items l.rest l.held-index

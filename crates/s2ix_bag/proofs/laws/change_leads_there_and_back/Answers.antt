@@ -1,7 +1,0 @@
-use Rattle.s2ix_bag.proofs.Differences.{changed_between}
-use Rattle.s2ix_bag.proofs.Inverse.{changed_inverse_between}
-use Rattle.s2ix_bag.proofs.laws.change_leads_there_and_back.Goals as goal
-
-pub returns : goal.returns
-returns c =
-    λ old new old_is new_is. (changed_between old new old_is new_is, changed_inverse_between old new old_is new_is)

@@ -1,5 +1,0 @@
-use Rattle.s2ix_bag.proofs.Unsorted.{changes_have_no_fault}
-use Rattle.s2ix_bag.proofs.laws.changes_have_no_fault.Goals as goal
-
-pub returns : goal.returns
-returns c = changes_have_no_fault

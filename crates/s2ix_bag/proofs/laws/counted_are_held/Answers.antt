@@ -1,5 +1,0 @@
-use Rattle.s2ix_bag.proofs.Collections.{counted_held}
-use Rattle.s2ix_bag.proofs.laws.counted_are_held.Goals as goal
-
-pub returns : goal.returns
-returns c = counted_held

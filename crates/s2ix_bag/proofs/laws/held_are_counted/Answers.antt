@@ -1,5 +1,0 @@
-use Rattle.s2ix_bag.proofs.Collections.{held_count}
-use Rattle.s2ix_bag.proofs.laws.held_are_counted.Goals as goal
-
-pub returns : goal.returns
-returns c = held_count

@@ -1,5 +1,0 @@
-use Rattle.s2ix_bag.proofs.Pairs.{rank_order}
-use Rattle.s2ix_bag.proofs.laws.ranks_order_pairs.Goals as goal
-
-pub returns : goal.returns
-returns c = rank_order

@@ -1,0 +1,32 @@
+-- Where the steps end, the pair at hand isn't before the one that is asked for, or the list ends.
+use Rattle.std.proofs.Common.{◌≡◌, ◌<◌, ◌≤◌, length, drop, get_or, sym, subst, arith, ℕ, ⊎_elim}
+use Rattle.std.proofs.lemmas.Bool.{iff_false, cases_lt}
+use Rattle.s2ix_pairs.specs.Collection.{Collection, IsCollection, IsCollectionFrom}
+use Rattle.s2ix_pairs.specs.Pair.{rank_of}
+use Rattle.s2ix_pairs.specs.declared.pair.Held.{Held}
+use Rattle.s2ix_lists.proofs.Parts.{collection_take, from_front, next_from_read}
+use Rattle.s2ix_lists.proofs.search.next_from.Goals as goal
+use Rattle.s2ix_lists.proofs.search.next_from.Goals.{then-loop-high-test+else-is_before, else-loop-high-test}
+
+le_from_not_lt : (m n : ℕ) → (m < n → ⊥) → n ≤ m
+le_from_not_lt m n not_lt = ⊎_elim (λ lt. absurd (not_lt lt)) (λ le. le) (cases_lt m n)
+
+pub first_from-requires : goal.first_from-requires
+first_from-requires c =
+    subst IsCollection (sym c.split_at.ensures.front) (collection_take c.min.result 0 c.args.held.now c.requires)
+
+pub returns-clause-rest : goal.returns-clause-rest
+returns-clause-rest c =
+    let hs = c.args.held.now in
+    let rank = rank_of c.args.pair in
+    let Rises : Collection → Type 0 = λ x. IsCollectionFrom rank (drop c.first_from.result x) in
+    let front = subst Rises c.split_at.ensures.front c.first_from.ensures.rest in
+    from_front rank c.min.result c.first_from.result 0 hs c.requires (omega (arith, c.first_from.ensures.within, c.split_at.ensures.front_len)) front
+    (elim c.loop-high-test.branch [
+      | then-loop-high-test+else-is_before w ↦
+          let LastIsPast : ℕ → Type 0 = λ k. (d : Held) → k < length hs → rank ≤ rank_of (get_or hs k d).pair in
+          let high_is : c.loop-high.high ≡ c.min.result = omega arith in
+          let not_before = le_from_not_lt _ _ (iff_false w.is_before.ensures w.if-is_before.false) in
+          subst LastIsPast high_is (next_from_read rank c.loop-high.high hs w.index-held-high.result c.requires (omega arith) not_before)
+      | else-loop-high-test w ↦ λ d within. absurd (omega arith)
+    ])

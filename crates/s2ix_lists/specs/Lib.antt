@@ -1,0 +1,10 @@
+pub mod Apply
+pub mod Entries
+pub mod Laws
+pub use Rattle.s2id_core.specs.CellId
+pub use Rattle.s2ix_pairs.specs.Change
+pub use Rattle.s2ix_pairs.specs.Collection
+pub use Rattle.s2ix_pairs.specs.Label
+pub use Rattle.s2ix_pairs.specs.Limits
+pub use Rattle.s2ix_pairs.specs.Pair
+pub use Rattle.s2ix_pairs.specs.Ranges

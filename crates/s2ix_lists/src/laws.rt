@@ -1,0 +1,13 @@
+//! What the definitions that the contracts cite say, in other words. Each function is a law: it does nothing, and
+//! its contract is the fact.
+ghost use Rattle.s2ix_lists.specs.Laws.{ChangesHaveNoFault, InverseTakesBack};
+
+/// A list of entries is a change exactly where it has no fault.
+pub fn changes_have_no_fault()
+    ensures { ChangesHaveNoFault }
+{}
+
+/// A change that a bag takes can be taken back: the inverse isn't refused, and gives the first bag.
+pub fn inverse_takes_back()
+    ensures { InverseTakesBack }
+{}

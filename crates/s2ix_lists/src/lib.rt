@@ -1,0 +1,18 @@
+//! What bags and changes are made of: rising lists of held pairs and of entries, as slices.
+//!
+//! A count is found in a list of held pairs; a change is refused by one, or merged with one; two lists are compared, and a list of
+//! entries is tested for being a change.
+#![tactic(auto)]
+
+mod apply;
+mod compare;
+mod entries;
+mod errors;
+pub mod laws;
+mod search;
+
+pub use apply::{merge, refusal};
+pub use compare::{differences, exchanged_entries};
+pub use entries::fault;
+pub use errors::{ApplyError, ChangeError};
+pub use search::count_of;

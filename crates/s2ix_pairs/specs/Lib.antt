@@ -1,0 +1,9 @@
+pub mod Change
+pub mod Collection
+pub mod Label
+pub mod Laws
+pub mod Limits
+pub mod OfLabel
+pub mod Pair
+pub mod Ranges
+pub use Rattle.s2id_core.specs.CellId
