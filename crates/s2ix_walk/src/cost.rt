@@ -25,13 +25,13 @@ impl Cost {
     pub fn add_look(&mut self)
         ensures { self.new ≡ with_look self.old }
     {
-        self.looks += u64::from(self.looks < u64::MAX);
+        self.looks = self.looks.saturating_add(1);
     }
 
     /// Counts one range more.
     pub fn add_probe(&mut self)
         ensures { self.new ≡ with_probe self.old }
     {
-        self.probes += u64::from(self.probes < u64::MAX);
+        self.probes = self.probes.saturating_add(1);
     }
 }
