@@ -1,6 +1,9 @@
 mod Cases
 mod Quadrants
 pub mod Squares
+mod Steps
+mod Groups
+mod Woven
 pub mod Grid
 mod Beside
 pub mod Sides
@@ -8,6 +11,7 @@ pub mod Shared
 pub mod OverSides
 mod Loop
 mod Nesting
+mod Leaves
 mod Perimeter
 mod Round
 pub mod Gathering

@@ -12,7 +12,8 @@ use Rattle.s2id_cube.specs.Edge.{ShareEdge}
 use Rattle.s2id_cube.specs.Grid.{IsBeside, column_on, row_on}
 use Rattle.s2id_cube.proofs.Cases.{three, four, six, four_by_four}
 use Rattle.s2id_cube.proofs.Grid.{IsStep}
-use Rattle.s2id_cube.proofs.Squares.{square_at, square_of_place, IsSquare-square_at, face-square_at}
+use Rattle.s2id_cube.specs.Loops.{square_at}
+use Rattle.s2id_cube.proofs.Squares.{square_of_place, IsSquare-square_at, face-square_at}
 use Rattle.s2id_cube.proofs.Beside.{along_over, over_edge_is, beside_step, beside_moved}
 use Rattle.s2id_cube.proofs.Shared.{shares_from_beside}
 

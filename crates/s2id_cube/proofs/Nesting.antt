@@ -12,7 +12,8 @@ use Rattle.s2id_cube.specs.Square.{quadrant, quarter, whole_face, square_of}
 use Rattle.s2id_cube.proofs.Quadrants.{positions, quadrant_below, position_below, quadrant_of_position}
 use Rattle.s2id_core.proofs.Bits.{cell_at_place, level_at_place, place_at_place}
 use Rattle.s2id_cube.specs.Neighbor.{number_at}
-use Rattle.s2id_cube.proofs.Squares.{square_at, square_at_more, square_of_place, IsSquare-square_at}
+use Rattle.s2id_cube.specs.Loops.{square_at}
+use Rattle.s2id_cube.proofs.Squares.{square_at_more, square_of_place, IsSquare-square_at}
 use Rattle.s2id_cube.proofs.Shared.{one_path}
 
 -- the square t has the square s, which is d levels finer
@@ -25,7 +26,7 @@ half_quotient : (x b d : ℕ) → b < 2 → (2 * x + b) / 2 ^ suc d ≡ x / 2 ^ 
 half_quotient x b d h =
     ap (λ z. (2 * x + b) / z) (two_step d) ∙ sym (div-div-eq-div-mul (2 * x + b) 2 (2 ^ d)) ∙ ap (λ z. z / 2 ^ d) (let e : (2 * x + b) / 2 ≡ x = omega arith in e)
 
-above_at : (d k q : ℕ) → q < 6 * 4 ^ (d + k) → IsAbove d (square_at k (q / 4 ^ d)) (square_at (d + k) q)
+pub above_at : (d k q : ℕ) → q < 6 * 4 ^ (d + k) → IsAbove d (square_at k (q / 4 ^ d)) (square_at (d + k) q)
 unfolding square_at quarter
 above_at zero k q h =
     let e : square_at (0 + k) q ≡ square_at k (q / 4 ^ 0) = ap₂ square_at (let a : 0 + k ≡ k = omega arith in a) (let b : q ≡ q / 4 ^ 0 = omega arith in b) in

@@ -1,10 +1,22 @@
--- Private words: what the private functions promise that gather a border. No public contract cites them. They speak of a square that is
--- cut into 2 ^ depth columns and rows.
-use Rattle.std.specs.Prelude.{◌≡◌, ℕ, ◌+◌, ◌-◌, ◌*◌, ◌^◌, ◌<◌}
+-- Private words: what the private functions promise that find squares and that gather a border. No public contract cites them.
+use Rattle.std.specs.Prelude.{◌≡◌, ℕ, zero, suc, ◌+◌, ◌-◌, ◌*◌, ◌/◌, ◌%◌, ◌^◌, ◌<◌}
 use Rattle.s2id_core.specs.Path.{Path}
 use Rattle.s2id_cube.specs.declared.face_ij.FaceIj.{FaceIj}
-use Rattle.s2id_cube.specs.Square.{square_of}
+use Rattle.s2id_cube.specs.Square.{quarter, whole_face, square_of}
 use Rattle.s2id_cube.specs.Grid.{IsBeside, column_on, row_on}
+
+-- the square of the cell at a place of level k
+unfoldable pub square_at : ℕ → ℕ → FaceIj
+square_at zero place = whole_face place
+square_at (suc k) place = quarter (place % 4) (square_at k (place / 4))
+
+-- the bytes of two words, the highest first, are four bits of i and four of j each: those that stand in the upper halves of the bytes of
+-- i and j, and those in the lower halves
+pub record AreWoven (i j upper lower : ℕ) : Type 0 where
+  pub at_upper : (k : ℕ) → k < 4 → upper * 256 ^ k % 2 ^ 32 / 2 ^ 24 ≡ 16 * (i / 2 ^ (28 - 8 * k) % 16) + j / 2 ^ (28 - 8 * k) % 16
+  pub at_lower : (k : ℕ) → k < 4 → lower * 256 ^ k % 2 ^ 32 / 2 ^ 24 ≡ 16 * (i / 2 ^ (24 - 8 * k) % 16) + j / 2 ^ (24 - 8 * k) % 16
+
+-- Of a square that is cut into 2 ^ depth columns and rows:
 
 -- the cell lies over side `side` of the finer square that lies at place `along` of that side of the square
 pub record IsOverAt (s : FaceIj) (depth side along : ℕ) (q : Path) : Type 0 where

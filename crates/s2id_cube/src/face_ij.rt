@@ -1,7 +1,9 @@
 ghost use Rattle.std.specs.Prelude.{◌≡◌, ◌↔◌, ℕ, ◌+◌, ◌*◌, ◌/◌, ◌^◌, ◌<◌, ◌≤◌, IsSome, IfSome};
 ghost use Rattle.s2id_core.specs.CellId.{path_of};
-ghost use Rattle.s2id_cube.specs.Square.{square_of, quarter, whole_face, quadrant, turned};
+ghost use Rattle.s2id_cube.specs.Square.{square_of};
+ghost use Rattle.s2id_cube.specs.Loops.{square_at, AreWoven};
 
+use crate::curve::{place_entry, square_entry};
 use s2id_core::CellId;
 
 /// A cell as a square of its level's grid on its face (S2's `(face, i, j)` coordinates, there of leaves).
@@ -19,31 +21,25 @@ pub struct FaceIj {
     pub orientation: u8,
 }
 
-/// The quadrant, `2 * i bit + j bit`, of each child position, a row for each orientation.
-const QUADRANTS: [u8; 16] = [0, 1, 3, 2, 0, 2, 3, 1, 3, 2, 0, 1, 3, 1, 0, 2];
-
-/// The child position of each quadrant, a row for each orientation.
-const POSITIONS: [u8; 16] = [0, 1, 3, 2, 0, 3, 1, 2, 2, 3, 1, 0, 2, 1, 3, 0];
-
-/// What a child's orientation differs by from the cell's, for each child position.
-const FLIPS: [u8; 4] = [1, 0, 0, 3];
-
-/// The square of a cell (S2's `ToFaceIJOrientation`, there in leaf squares). One step for each level.
+/// The square of a cell (S2's `ToFaceIJOrientation`, there in leaf squares). Eight steps of four levels.
 pub fn to_face_ij(cell: CellId) -> FaceIj
     ensures { result ≡ square_of (path_of cell) }
 {
     let level = cell.level();
+    let below = 30 - level;
     let place = cell.place_at(level);
-    let mut square = face_square(cell.face());
-    for step in 0..level {
-        let position = (place >> (2 * (level - 1 - step)) as u32) % 4;
-        square = child_square(square, position as u8);
+    let leaf = leaf_square(place << (2 * below));
+    FaceIj {
+        face: leaf.face,
+        i: leaf.i >> below,
+        j: leaf.j >> below,
+        level,
+        orientation: leaf.orientation ^ (below % 2),
     }
-    square
 }
 
 /// The cell of a square, or `None` for a face above 5, a level above 30, or an `i` or `j` of `2^level` or more
-/// (S2's `FromFaceIJ`, there for leaves). One step for each level.
+/// (S2's `FromFaceIJ`, there for leaves). Eight steps of four levels.
 pub fn from_face_ij(face: u8, i: u32, j: u32, level: u8) -> Option<CellId>
     ensures found { IsSome result ↔ ((face < 6) × (level ≤ 30) × (i < 2 ^ level) × (j < 2 ^ level)) }
     ensures face { IfSome result (λ cell. (square_of (path_of cell)).face ≡ face) }
@@ -58,7 +54,7 @@ pub fn from_face_ij(face: u8, i: u32, j: u32, level: u8) -> Option<CellId>
     }
 }
 
-// The cell of a square that lies in its level's grid: the curve is followed from the face down, a child position for each level.
+// The cell of a square that lies in its level's grid: the one that has the leaf at its lowest corner.
 fn cell_of_square(face: u8, i: u32, j: u32, level: u8) -> CellId
     requires face { face < 6 }
     requires level { level ≤ 30 }
@@ -69,46 +65,65 @@ fn cell_of_square(face: u8, i: u32, j: u32, level: u8) -> CellId
     ensures j { (square_of (path_of result)).j ≡ j }
     ensures level { (square_of (path_of result)).level ≡ level }
 {
-    let mut place = face as u64;
-    let mut orientation = face % 2;
-    for step in 0..level {
-        let height = (level - 1 - step) as u32;
-        let quadrant = 2 * ((i >> height) % 2) + (j >> height) % 2;
-        let position = POSITIONS[4 * orientation as usize + quadrant as usize];
-        place = 4 * place + position as u64;
-        orientation ^= FLIPS[position as usize];
-    }
-    CellId::at_place(level, place)
+    let below = 30 - level;
+    let leaf = leaf_place(face, i << below, j << below);
+    CellId::at_place(level, leaf >> (2 * below))
 }
 
-// The square of a whole face; `i` and `j` are swapped on odd faces.
-fn face_square(face: u8) -> FaceIj
-    ensures { result ≡ whole_face face }
+// The square of the leaf at a place along the whole curve, eight groups of four levels from the face down. Two positions 0 stand before
+// the 30 of the leaf, which lead back to where they began.
+fn leaf_square(place: u64) -> FaceIj
+    requires { place < 6 * 2 ^ 60 }
+    ensures { result ≡ square_at 30 place }
 {
+    let face = (place >> 60) as u8;
+    let mut rest = place % (1 << 60);
+    let mut square = 0;
+    let mut orientation = (face % 2) as u64;
+    for group in 0u8..8 {
+        let entry = square_entry(orientation, rest >> 56);
+        square = (square << 4) + entry;
+        orientation = entry >> 62;
+        rest <<= 8;
+    }
     FaceIj {
         face,
-        i: 0,
-        j: 0,
-        level: 0,
-        orientation: face % 2,
+        i: ((square >> 32) % (1 << 30)) as u32,
+        j: (square % (1 << 32)) as u32,
+        level: 30,
+        orientation: orientation as u8,
     }
 }
 
-// The square of the child at a position: the quadrant that the orientation gives, half as wide.
-fn child_square(square: FaceIj, position: u8) -> FaceIj
-    requires i { square.i < 2 ^ 31 }
-    requires j { square.j < 2 ^ 31 }
-    requires level { square.level < 30 }
-    requires orientation { square.orientation < 4 }
-    requires position { position < 4 }
-    ensures { result ≡ quarter position square }
+// The place along the whole curve of the leaf of a square, two groups of four levels at a time.
+fn leaf_place(face: u8, i: u32, j: u32) -> u64
+    requires face { face < 6 }
+    requires column { i < 2 ^ 30 }
+    requires row { j < 2 ^ 30 }
+    ensures below { result < 6 * 4 ^ 30 }
+    ensures face { (square_at 30 result).face ≡ face }
+    ensures column { (square_at 30 result).i ≡ i }
+    ensures row { (square_at 30 result).j ≡ j }
 {
-    let quadrant = QUADRANTS[(4 * square.orientation + position) as usize];
-    FaceIj {
-        face: square.face,
-        i: 2 * square.i + (quadrant / 2) as u32,
-        j: 2 * square.j + (quadrant % 2) as u32,
-        level: square.level + 1,
-        orientation: square.orientation ^ FLIPS[position as usize],
+    let (mut odd, mut even) = woven(i, j);
+    let mut places = 0;
+    let mut orientation = face as u64 % 2;
+    for pair in 0u8..4 {
+        let upper = place_entry(orientation, (odd >> 24) as u64);
+        let lower = place_entry(upper >> 62, (even >> 24) as u64);
+        places = (places << 16) + (upper << 8) + lower;
+        orientation = lower >> 62;
+        odd <<= 8;
+        even <<= 8;
     }
+    ((face as u64) << 60) + places % (1 << 62)
+}
+
+// Two columns of bytes, each byte four bits of `i` and then four of `j`: those of the upper half of each byte, and of the lower.
+fn woven(i: u32, j: u32) -> (u32, u32)
+    ensures { AreWoven i j result.0 result.1 }
+{
+    let lower_i = i & 0x0f0f0f0f;
+    let lower_j = j & 0x0f0f0f0f;
+    (i - lower_i + ((j - lower_j) >> 4), (lower_i << 4) + lower_j)
 }

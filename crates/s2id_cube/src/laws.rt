@@ -1,11 +1,14 @@
 //! What holds of squares and shared edges, whatever code runs.
 
-ghost use Rattle.std.specs.Prelude.{◌≡◌, ℕ, ◌+◌, ◌*◌, ◌%◌, ◌^◌, ◌<◌, ◌≤◌, length};
+ghost use Rattle.std.specs.Prelude.{◌≡◌, ℕ, ◌+◌, ◌*◌, ◌/◌, ◌%◌, ◌^◌, ◌<◌, ◌≤◌, length, slice_index};
 ghost use Rattle.s2id_core.specs.declared.cell_id.CellId.{CellId};
 ghost use Rattle.s2id_core.specs.CellId.{path_of};
 ghost use Rattle.s2id_core.specs.Path.{Path, IsPath, place_of};
 ghost use Rattle.s2id_cube.specs.Edge.{SharesSide, ShareEdge};
 ghost use Rattle.s2id_cube.specs.Square.{square_of};
+ghost use Rattle.s2id_cube.specs.Steps.{AreFourSteps};
+
+use crate::curve::{PLACES, SQUARES};
 
 /// A cell's square is one that `from_face_ij` takes, and its face, column, row and level tell the cell: so
 /// `from_face_ij` of what `to_face_ij` gives is the cell again.
@@ -39,4 +42,19 @@ pub fn two_cells_share_one_side()
         → SharesSide m p q
         → SharesSide n p q
         → m ≡ n }
+{}
+
+/// Every entry of the two tables of the curve is four steps of it.
+pub fn entries_are_four_steps()
+    ensures squares { (orientation positions : ℕ)
+        → orientation < 4
+        → positions < 256
+        → let entry = slice_index SQUARES (256 * orientation + positions) in
+        AreFourSteps orientation positions (entry % 2 ^ 62 / 2 ^ 32) (entry % 2 ^ 32) (entry / 2 ^ 62) }
+    ensures places { (orientation i j : ℕ)
+        → orientation < 4
+        → i < 16
+        → j < 16
+        → let entry = slice_index PLACES (256 * orientation + (16 * i + j)) in
+        AreFourSteps orientation (entry % 2 ^ 62) i j (entry / 2 ^ 62) }
 {}

@@ -2,6 +2,7 @@
 #![tactic(auto)]
 
 mod borders;
+pub mod curve;
 mod error;
 mod face_ij;
 pub mod laws;

@@ -98,11 +98,13 @@ fn from_path_reads_digits(rt: HostRuntime) {
 }
 
 // Tokens of cells, with the texts of their paths.
-const PATHS: [(&str, &str); 9] = [
+const PATHS: [(&str, &str); 11] = [
     ("1", "0/"),
     ("3", "1/"),
     ("04", "0/0"),
     ("1d", "0/32"),
+    ("1c1", "0/3200"),
+    ("1c14", "0/32002"),
     ("bc", "5/3"),
     ("94", "4/2"),
     ("0000000000000003", "0/000000000000000000000000000001"),

@@ -1,42 +1,29 @@
-use Rattle.std.proofs.Common.{◌+◌, ◌-◌, ◌*◌, ◌/◌, ◌%◌, ◌^◌, refl, arith}
+use Rattle.std.proofs.Common.{◌≡◌, ◌*◌, ◌/◌, ◌-◌, ◌^◌, ◌∙◌, sym, ap₂, subst, refl, arith}
 use Rattle.s2id_core.specs.CellId.{path_of}
 use Rattle.s2id_core.proofs.Numbers.{path_of_cell}
-use Rattle.s2id_cube.specs.Square.{turned}
-use Rattle.s2id_cube.proofs.Quadrants.{position_below}
-use Rattle.s2id_cube.proofs.Squares.{led_none, led_orientation, led_more, led_square, small_place}
+use Rattle.s2id_cube.proofs.Groups.{IsLeafPlace}
+use Rattle.s2id_cube.proofs.Leaves.{shifted_coordinate, place_of_leaf, square_from_leaf}
 use Rattle.s2id_cube.proofs.face_ij.cell_of_square.Goals as goal
 
-pub loop-step-init : goal.loop-step-init
-loop-step-init c = led_none c.args.face c.args.i c.args.j c.args.level c.requires.face c.requires.i c.requires.j
+pub leaf_place-leaf-requires-clause-column : goal.leaf_place-leaf-requires-clause-column
+leaf_place-leaf-requires-clause-column c = let s = shifted_coordinate c.args.level c.args.i c.requires.level c.requires.i in omega arith
 
-pub bounds-orientation : goal.bounds-orientation
-bounds-orientation c =
-    let o = led_orientation _ _ _ _ _ _ _ c.loop-step.invariant in
+pub leaf_place-leaf-requires-clause-row : goal.leaf_place-leaf-requires-clause-row
+leaf_place-leaf-requires-clause-row c = let s = shifted_coordinate c.args.level c.args.j c.requires.level c.requires.j in omega arith
+
+pub at_place-requires-clause-within : goal.at_place-requires-clause-within
+at_place-requires-clause-within c =
+    let s = place_of_leaf c.args.level c.leaf_place-leaf.result c.requires.level c.leaf_place-leaf.ensures.below in
     omega arith
-
-pub overflow_mul-place : goal.overflow_mul-place
-overflow_mul-place c =
-    let p = small_place c.loop-step.step c.loop-step.place (omega arith) c.loop-step.invariant.bound in
-    omega arith
-
-pub overflow_add-place : goal.overflow_add-place
-overflow_add-place c =
-    let p = small_place c.loop-step.step c.loop-step.place (omega arith) c.loop-step.invariant.bound in
-    let o = led_orientation _ _ _ _ _ _ _ c.loop-step.invariant in
-    let q = position_below c.loop-step.orientation (2 * (c.args.i / 2 ^ (c.args.level - 1 - c.loop-step.step) % 2) + c.args.j / 2 ^ (c.args.level - 1 - c.loop-step.step) % 2) o (omega arith) in
-    omega arith
-
-pub bounds-position : goal.bounds-position
-bounds-position c =
-    let o = led_orientation _ _ _ _ _ _ _ c.loop-step.invariant in
-    position_below c.loop-step.orientation (2 * (c.args.i / 2 ^ (c.args.level - 1 - c.loop-step.step) % 2) + c.args.j / 2 ^ (c.args.level - 1 - c.loop-step.step) % 2) o (omega arith)
-
-pub loop-step-preserved : goal.loop-step-preserved
-unfolding turned
-loop-step-preserved c =
-    led_more c.args.face c.args.i c.args.j c.args.level c.loop-step.step c.loop-step.place c.loop-step.orientation (omega arith) c.loop-step.invariant _ _ refl refl _ refl
 
 pub returns : goal.returns
 returns c =
-    let s = led_square (path_of c.at_place.result) (path_of_cell c.at_place.result.raw c.at_place.result.valid) c.args.face c.args.i c.args.j c.args.level c.loop-step.step c.loop-step.place c.loop-step.orientation c.at_place.ensures.level c.at_place.ensures.place (omega arith) c.loop-step.invariant in
-    record { face = s.at_face; i = s.at_i; j = s.at_j; level = s.at_level }
+    let level = c.args.level in
+    let leaf = c.leaf_place-leaf.result in
+    let l = c.leaf_place-leaf.ensures in
+    let i = shifted_coordinate level c.args.i c.requires.level c.requires.i in
+    let j = shifted_coordinate level c.args.j c.requires.level c.requires.j in
+    let s = place_of_leaf level leaf c.requires.level l.below in
+    let at : IsLeafPlace c.args.face (c.args.i * 2 ^ (30 - level)) (c.args.j * 2 ^ (30 - level)) leaf = record { below = l.below; at_face = l.face; at_i = l.column ∙ i.0; at_j = l.row ∙ j.0 } in
+    let r = square_from_leaf (path_of c.at_place.result) (path_of_cell c.at_place.result.raw c.at_place.result.valid) c.args.face c.args.i c.args.j level leaf c.requires.level c.at_place.ensures.level (c.at_place.ensures.place ∙ s.0) i.2 j.2 at in
+    record { face = r.at_face; i = r.at_i; j = r.at_j; level = r.at_level }
