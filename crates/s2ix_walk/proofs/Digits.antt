@@ -30,3 +30,11 @@ pub digits_halve : (size : ℕ) → 1 < size → binary_digits (size - size / 2 
 digits_halve size more =
     let e : size - size / 2 - 1 ≡ (size - 1) / 2 = omega arith in
     omega (arith, ap binary_digits e, digits_step (size - 1) (omega arith))
+
+-- a look that leaves at most half of what was left costs one digit
+pub digits_halved : (size rest : ℕ) → 0 < rest → size ≤ rest / 2 → binary_digits size + 1 ≤ binary_digits rest
+digits_halved size rest some le = omega (arith, digits_rise size (rest / 2) le, digits_step rest some)
+
+-- as does one that leaves eight
+pub digits_near : (rest : ℕ) → 8 ≤ rest → binary_digits 7 + 1 ≤ binary_digits rest
+digits_near rest le = omega (arith, digits_rise 8 rest le, digits_step 7 (omega arith), digits_step 3 (omega arith), digits_step 8 (omega arith), digits_step 4 (omega arith), digits_step 2 (omega arith))

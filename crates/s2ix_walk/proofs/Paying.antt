@@ -21,14 +21,14 @@ use Rattle.s2ix_walk.proofs.Counts.{count_grows, count_gains}
 
 -- ---- what is passed
 
--- a step over a range that has the first leaf, from `seen` on, of a cell of the target: up to the nearer end of the two
+-- a step over a range that has the first leaf, from `seen` on, of a cell of the target: to the nearer end of the two, or beyond it
 pub record IsPassed (target : List CellId) (ranges : List Range) (x : CellId) (k seen next : ℕ) : Type 0 where
   pub held : Contains target x
   pub beyond : seen < end_of x
   pub within : k < length ranges
   pub start : (range_at ranges k).start ≤ max seen (first_of x)
   pub limit : max seen (first_of x) < (range_at ranges k).limit
-  pub goes : next ≡ min (range_at ranges k).limit (end_of x)
+  pub goes : min (range_at ranges k).limit (end_of x) ≤ next
 
 later : (a b s t : ℕ) → s ≤ t → leb a s ≡ true → leb a t ≡ true
 later a b s t le e = let l = leb-true a s e in le-leb a t (omega arith)

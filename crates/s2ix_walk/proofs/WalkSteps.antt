@@ -111,6 +111,32 @@ pub record IsAt (target : List CellId) (hs : Collection) (ranges : List Range) (
   pub beyond : seen < end_of x
   pub found : IsFound ranges range (max seen (first_of x))
 
+-- a cell of the target, from the k-th on, that begins before the limit of a range
+pub record IsBegun (target : List CellId) (k limit last : ℕ) (y : CellId) : Type 0 where
+  pub from : k ≤ last
+  pub within : last < length target
+  pub is : y ≡ get_or target last y
+  pub begins : first_of y < limit
+
+-- cells of a target that are not the same follow one another
+pub begun_after : (target : List CellId) (k limit last : ℕ) (x y : CellId) → FollowOneAnother target → x ≡ get_or target k x → IsBegun target k limit last y → (end_of x ≤ first_of y) ⊎ (end_of x ≡ end_of y)
+begun_after target k limit last x y follow is b =
+    let w = b.within in
+    let f = b.from in
+    let z = ap (λ (c : CellId). first_of c) b.is in
+    elim (cases_lt k last) [
+      | inl less ↦
+          (let c = follow k last y less w in
+          let e = ap (λ (c : CellId). end_of c) (is ∙ get_or_default target k x y (omega arith)) in
+          inl (omega arith))
+      | inr ge ↦
+          (let same : k ≡ last = omega arith in
+          let e = ap (λ (c : CellId). end_of c) (is ∙ get_or_default target k x y (omega arith)) in
+          let g = ap (λ i. end_of (get_or target i y)) same in
+          let h = ap (λ (c : CellId). end_of c) b.is in
+          inr (omega arith))
+    ]
+
 -- where a walk goes on behind a range: at the next one, or where the cell ends before that
 abbrev pub GoesOn : ℕ → ℕ → ℕ → ℕ × ℕ → Type 0
 GoesOn range limit end to = ((limit ≤ end) × (to ≡ (range + 1, limit))) ⊎ ((end < limit) × (to ≡ (range, end)))
@@ -120,10 +146,18 @@ pub record IsPast {P : Type 0} (shown : Shown P) (target : List CellId) (walk : 
   pub left : meeting_from target walk.from shown.pairs ≡ left_of shown target walk
   pub next : IsWalk shown target walk
 
-pub walk_past : {P : Type 0} (shown : Shown P) (target : List CellId) (range limit end : ℕ) (x : CellId) (walk : WalkState P) → IsAt target shown.pairs shown.ranges walk.cell walk.from range x → LeadsTo shown.chain walk.place (range_at shown.ranges range).contents → limit ≡ (range_at shown.ranges range).limit → end ≡ end_of x → GoesOn range limit end (walk.range, walk.seen) → IsPast shown target walk
-walk_past {P} shown target range limit end x walk a leads is_limit is_end on =
+pub walk_past : {P : Type 0} (shown : Shown P) (target : List CellId) (k range limit end : ℕ) (x y : CellId) (walk : WalkState P) → IsAt target shown.pairs shown.ranges k walk.from range x → IsBegun target k limit walk.cell y → LeadsTo shown.chain walk.place (range_at shown.ranges range).contents → limit ≡ (range_at shown.ranges range).limit → end ≡ end_of y → GoesOn range limit end (walk.range, walk.seen) → IsPast shown target walk
+walk_past {P} shown target k range limit end x y walk a begun leads is_limit is_end on =
     let hs = shown.pairs in
     let ranges = shown.ranges in
+    let r = span (raw_of y) y.valid in
+    let r1 = r.odd in
+    let r2 = r.from in
+    let r3 = r.to in
+    let r4 = r.ends in
+    let r5 = r.odd_end in
+    let u = begun.begins in
+    let ends : end_of x ≤ end_of y = elim (begun_after target k limit walk.cell x y a.follow a.is begun) [ inl le ↦ omega arith | inr e ↦ omega arith ] in
     let s = span (raw_of x) x.valid in
     let s1 = s.odd in
     let s2 = s.from in
@@ -144,14 +178,15 @@ walk_past {P} shown target range limit end x walk a leads is_limit is_end on =
     let odd_at : at % 2 ≡ 1 = elim (cases_lt seen (first_of x)) [ inl lt ↦ omega arith | inr ge ↦ omega arith ] in
     let odd_next : next % 2 ≡ 1 = elim (cases_lt limit end) [ inl lt ↦ omega arith | inr ge ↦ omega arith ] in
     let after : at < next = omega arith in
-    let covers : (q : ℕ) → first_of x ≤ q → q < end_of x → Covers target q = λ q from to. record { cell = x; held = (walk.cell, a.within, sym a.is); from = from; to = to } in
+    let covers : (q : ℕ) → first_of x ≤ q → q < end_of x → Covers target q = λ q from to. record { cell = x; held = (k, a.within, sym a.is); from = from; to = to } in
+    let covers_last : (q : ℕ) → first_of y ≤ q → q < end_of y → Covers target q = λ q from to. record { cell = y; held = (walk.cell, begun.within, sym begun.is); from = from; to = to } in
     let step : IsStep target hs seen at next = record {
       odd = o;
       reached = omega arith;
       after = after;
       on_curve = omega arith;
       here = covers at (omega arith) (omega arith);
-      gap = λ q v le. let g = gap_from target walk.cell seen x a.follow a.passed a.within a.is q v le in omega arith;
+      gap = λ q v le. let g = gap_from target k seen x a.follow a.passed a.within a.is q v le in omega arith;
       tight = a.tight;
       stays = λ h q held odd_q from to over. stays_in hs ranges a.table range at a.found odd_at h q held odd_q from (omega arith) over;
     } in
@@ -162,8 +197,11 @@ walk_past {P} shown target range limit end x walk a leads is_limit is_end on =
       next = record {
         odd = odd_next;
         within = omega arith;
-        tight = λ q some e. covered_from target q (covers q (omega arith) (omega arith));
-        passed = passed_later target walk.cell seen next (omega arith) a.passed;
+        tight = λ q some e. covered_from target q (covers_last q (omega arith) (omega arith));
+        passed = λ j d less within.
+            let c = a.follow j walk.cell d less begun.within in
+            let e = ap (λ (c : CellId). first_of c) (begun.is ∙ get_or_default target walk.cell y d begun.within) in
+            omega arith;
         found = λ lt. elim on [
           | inl i ↦ subst At (sym i.1) (found_next hs ranges a.table range limit a.found.within is_limit (omega (arith, ap (λ to. to.1) i.1)))
           | inr i ↦ subst At (sym i.1) (record { within = a.found.within; start = omega arith; limit = omega (arith, i.0) })

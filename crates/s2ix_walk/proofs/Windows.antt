@@ -4,13 +4,7 @@ use Rattle.std.proofs.lemmas.Bool.{cases_lt}
 use Rattle.s2ix_pairs.specs.Collection.{Collection}
 use Rattle.s2ix_ranges.specs.Table.{Range, range_at, leaf_end, IsRangeTable, IsFound}
 use Rattle.s2ix_ranges.proofs.Tables.{limits_rise}
-
--- the range with a leaf is one of `size` from `first` on
-pub record IsWindow (ranges : List Range) (leaf first size : ℕ) : Type 0 where
-  pub some : 1 ≤ size
-  pub within : first + size ≤ length ranges
-  pub start : (range_at ranges first).start ≤ leaf
-  pub limit : first + size < length ranges → leaf < (range_at ranges (first + size)).start
+use Rattle.s2ix_walk.specs.Searching.{IsWindow}
 
 pub all_ranges : (hs : Collection) (ranges : List Range) (leaf : ℕ) → IsRangeTable hs ranges → 1 ≤ leaf → IsWindow ranges leaf 0 (length ranges)
 all_ranges hs ranges leaf t from =
@@ -49,6 +43,23 @@ lower_half hs ranges leaf first size half t w more is lt =
           let q = ap (λ k. (range_at ranges k).start) f in
           omega arith;
     }
+
+-- what is left of a window behind a range, and before it
+pub upper_part : (ranges : List Range) (leaf first size step left : ℕ) → IsWindow ranges leaf first size → step + left ≡ size → 0 < left → (range_at ranges (first + step)).start ≤ leaf → IsWindow ranges leaf (first + step) left
+upper_part ranges leaf first size step left w parts some le =
+    let a = w.within in
+    let e : first + step + left ≡ first + size = omega arith in
+    let f = ap (λ k. (range_at ranges k).start) e in
+    record { some = omega arith; within = omega arith; start = le; limit = λ lt. let l = w.limit (omega arith) in omega arith }
+
+pub lower_part : (ranges : List Range) (leaf first size step : ℕ) → IsWindow ranges leaf first size → 0 < step → step ≤ size → leaf < (range_at ranges (first + step)).start → IsWindow ranges leaf first step
+lower_part ranges leaf first size step w some le lt =
+    let a = w.within in
+    record { some = omega arith; within = omega arith; start = w.start; limit = λ _. lt }
+
+-- the ranges from one on that begins by a leaf
+pub window_from : (ranges : List Range) (leaf first size : ℕ) → first + size ≡ length ranges → 0 < size → (range_at ranges first).start ≤ leaf → IsWindow ranges leaf first size
+window_from ranges leaf first size all some le = record { some = omega arith; within = omega arith; start = le; limit = λ lt. absurd (omega arith) }
 
 pub one_left : (hs : Collection) (ranges : List Range) (leaf first size : ℕ) → IsRangeTable hs ranges → IsWindow ranges leaf first size → size ≤ 1 → leaf < leaf_end → IsFound ranges first leaf
 one_left hs ranges leaf first size t w one below =

@@ -1,7 +1,7 @@
 // The walk over the ranges that a target meets: it gives each pair of the meeting list once, in order.
-ghost use Rattle.std.specs.Prelude.{◌≡◌, ◌<◌, ◌≤◌, ◌+◌, ◌∷◌, ℕ, [], Some, None, IfSome, length, slice_index_or};
+ghost use Rattle.std.specs.Prelude.{◌≡◌, ◌<◌, ◌≤◌, ◌+◌, ◌∷◌, ℕ, [], Some, None, IfSome, IsTrue, length, slice_index_or};
 ghost use Rattle.s2id_core.specs.declared.cell_id.CellId.{CellId};
-ghost use Rattle.s2id_core.specs.CellId.{end_of};
+ghost use Rattle.s2id_core.specs.CellId.{first_of, end_of};
 ghost use Rattle.s2id_union.specs.Covers.{FollowOneAnother};
 ghost use Rattle.s2ix_ranges.specs.Meeting.{meeting_from};
 ghost use Rattle.s2ix_walk.specs.Places.{IsPlace, from_place};
@@ -72,7 +72,7 @@ pub(crate) fn next_met<R: Reader>(
 }
 
 // The walk at the next range that the target meets, with the chain of that range at hand, or `None` where the target
-// has no leaf left.
+// has no leaf left. All cells that end in the range are passed at once.
 fn advance<R: Reader>(
     reader: &mut R,
     cells: &[CellId],
@@ -98,8 +98,10 @@ fn advance<R: Reader>(
     }
     let target = cells[cell];
     let range = range_from(reader, target, walk.range, walk.seen);
-    let end = target.span_end();
     let row = reader.row(range);
+    let last = last_begun(cells, cell, row.limit);
+    let last_cell = cells[last];
+    let end = last_cell.span_end();
     let (next, seen) = if row.limit <= end {
         (range + 1, row.limit)
     } else {
@@ -108,7 +110,7 @@ fn advance<R: Reader>(
     let from = walk.seen;
     let place = reader.first(range);
     Some(WalkState {
-        cell,
+        cell: last,
         range: next,
         seen,
         from,
@@ -130,4 +132,39 @@ fn first_beyond(cells: &[CellId], k: usize, seen: u64) -> usize
         cell += 1;
     }
     cell
+}
+
+// The last cell, from the k-th on, that begins before a leaf: in steps that double, then halve. O(log m) where it is the m-th.
+fn last_begun(cells: &[CellId], k: usize, limit: u64) -> usize
+    requires within { k < length cells.now }
+    requires begins { (d : CellId) → first_of (slice_index_or cells.now k d) < limit }
+    ensures from { k ≤ result }
+    ensures within { result < length cells.now }
+    ensures begins { (d : CellId) → first_of (slice_index_or cells.now result d) < limit }
+{
+    if limit <= cells[k].span_end() {
+        return k;
+    }
+    let mut last = k;
+    let mut step = 1usize;
+    while begins_before(cells, last, step, limit) {
+        last += step;
+        step = step.saturating_mul(2);
+    }
+    while step > 1 {
+        step /= 2;
+        if begins_before(cells, last, step, limit) {
+            last += step;
+        }
+    }
+    last
+}
+
+// Whether there is a cell some steps on, and begins before a leaf.
+fn begins_before(cells: &[CellId], k: usize, step: usize, limit: u64) -> bool
+    requires { k < length cells.now }
+    ensures within { IsTrue result → k + step < length cells.now }
+    ensures begins { (d : CellId) → IsTrue result → first_of (slice_index_or cells.now (k + step) d) < limit }
+{
+    step < cells.len() - k && cells[k + step].span_start() < limit
 }

@@ -1,23 +1,18 @@
-use Rattle.std.proofs.Common.{◌≡◌, ◌+◌, ◌-◌, ◌/◌, ℕ, length, refl, sym, ◌∙◌, ap, subst, arith}
+use Rattle.std.proofs.Common.{◌+◌, ◌-◌, ◌/◌, ℕ, refl, sym, ◌∙◌, ap, subst, rules, arith}
 use Rattle.s2ix_ranges.specs.Table.{range_at}
+use Rattle.s2ix_walk.proofs.WalkSteps.{range_fits}
 use Rattle.s2ix_walk.specs.Shown.{Shown}
 use Rattle.s2ix_walk.specs.declared.cost.Cost.{Cost}
-use Rattle.s2ix_walk.proofs.Digits.{digits_rise, digits_halve}
-use Rattle.s2ix_walk.proofs.Windows.{IsWindow, all_ranges, upper_half, lower_half}
+use Rattle.s2ix_walk.proofs.Digits.{digits_halve}
+use Rattle.s2ix_walk.specs.Searching.{IsWindow}
+use Rattle.s2ix_walk.proofs.Windows.{upper_half, lower_half}
 use Rattle.s2ix_walk.proofs.search.search.Goals as goal
 use Rattle.s2ix_walk.proofs.search.search.Goals.{then-row-leaf, else-row-leaf}
 
 pub loop-size-init : goal.loop-size-init
 loop-size-init g c =
-    let r = c.args.reader.now in
-    let s = g.R.Reader.shown r in
-    let t = (g.met.R.Reader.is_shown r).is_table in
-    let n : c.range_count-size.result ≡ length s.ranges = c.range_count-size.ensures in (
-      subst (λ (k : ℕ). IsWindow s.ranges c.args.leaf 0 k) (sym n) (all_ranges s.pairs s.ranges c.args.leaf t c.requires.from),
-      refl,
-      refl,
-      omega (arith, digits_rise (c.range_count-size.result - 1) (length s.ranges + 1) (omega arith)),
-    )
+    let n = c.narrowed-window.ensures in
+    (n.window, n.same, n.looks, n.probes)
 
 pub loop-size-preserved : goal.loop-size-preserved
 loop-size-preserved g c =
@@ -44,3 +39,23 @@ loop-size-preserved g c =
       looks ∙ i.2,
       omega (arith, digits_halve size c.loop-size-test.true),
     )
+
+pub overflow_add-first : goal.overflow_add-first
+overflow_add-first g c =
+    let r = c.args.reader.now in
+    let s = g.R.Reader.shown r in
+    let w = c.loop-size.invariant.0 in
+    let a = w.within in
+    let more = c.loop-size-test.true in
+    let fits = range_fits s.pairs s.ranges (g.met.R.Reader.is_shown r).is_table (c.loop-size.first + c.loop-size.size / 2) (omega arith) in
+    search (rules, fits)
+
+pub overflow_add-first-then-row-leaf : goal.overflow_add-first-then-row-leaf
+overflow_add-first-then-row-leaf g c =
+    let r = c.args.reader.now in
+    let s = g.R.Reader.shown r in
+    let w = c.loop-size.invariant.0 in
+    let a = w.within in
+    let more = c.loop-size-test.true in
+    let fits = range_fits s.pairs s.ranges (g.met.R.Reader.is_shown r).is_table (c.loop-size.first + c.loop-size.size / 2) (omega arith) in
+    search (rules, fits)

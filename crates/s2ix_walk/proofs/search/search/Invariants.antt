@@ -1,6 +1,6 @@
 use Rattle.std.proofs.Common.{◌≡◌, ◌+◌, ◌-◌, ◌≤◌, length}
 use Rattle.s2ix_walk.specs.Costs.{binary_digits}
-use Rattle.s2ix_walk.proofs.Windows.{IsWindow}
+use Rattle.s2ix_walk.specs.Searching.{IsWindow}
 use Rattle.s2ix_walk.proofs.search.search.Given as goal
 
 abbrev pub invariant-loop-size : goal.invariant-loop-size

@@ -1,10 +1,11 @@
-use Rattle.std.proofs.Common.{◌≡◌, ◌∙◌, ap, subst, sym, inl, inr, rules, arith}
+use Rattle.std.proofs.Common.{◌≡◌, ◌≤◌, ◌∙◌, ap, subst, sym, inl, inr, rules, arith}
 use Rattle.s2id_core.specs.declared.cell_id.CellId.{CellId}
-use Rattle.s2id_core.specs.CellId.{end_of}
+use Rattle.s2id_core.specs.CellId.{raw_of, first_of, end_of}
+use Rattle.s2id_core.proofs.Nested.{span}
 use Rattle.s2ix_walk.specs.Places.{LeadsTo}
 use Rattle.s2ix_ranges.specs.Table.{range_at}
 use Rattle.s2ix_walk.proofs.Meetings.{none_meets}
-use Rattle.s2ix_walk.proofs.WalkSteps.{IsPast, passed_all, range_fits, walk_past}
+use Rattle.s2ix_walk.proofs.WalkSteps.{IsPast, IsBegun, begun_after, passed_all, range_fits, walk_past}
 use Rattle.s2ix_walk.specs.Shown.{Shown}
 use Rattle.s2ix_walk.specs.declared.cost.Cost.{Cost}
 use Rattle.s2ix_walk.proofs.Walked.{covered}
@@ -29,8 +30,17 @@ limit_is : (g : Over) (c : goal.After-first-place g) → c.row-row.result.limit 
 limit_is g c =
     c.row-row.ensures.limit ∙ ap (λ (z : Shown g.row.R-Place.Denot). (range_at z.ranges c.range_from-range.result).limit) c.range_from-range.ensures.same
 
+-- the last cell that begins in the range
+last_is : (g : Over) (c : goal.After-first-place g) → IsBegun c.args.cells.now c.first_beyond-cell.result c.row-row.result.limit c.last_begun-last.result c.index-cells-last.result
+last_is g c = record {
+  from = c.last_begun-last.ensures.from;
+  within = c.last_begun-last.ensures.within;
+  is = c.index-cells-last.is;
+  begins = let b = c.last_begun-last.ensures.begins c.index-cells-last.result in let e = ap (λ (y : CellId). first_of y) c.index-cells-last.is in omega arith;
+}
+
 -- the walk behind the range at hand
-step_past : (g : Over) (c : goal.After-first-place g) → IsPast (g.R.Reader.shown c.args.reader.now) c.args.cells.now (record { cell = c.first_beyond-cell.result; range = c.if-row-end.next.0; seen = c.if-row-end.next.1; from = c.args.walk.seen; place = c.first-place.result })
+step_past : (g : Over) (c : goal.After-first-place g) → IsPast (g.R.Reader.shown c.args.reader.now) c.args.cells.now (record { cell = c.last_begun-last.result; range = c.if-row-end.next.0; seen = c.if-row-end.next.1; from = c.args.walk.seen; place = c.first-place.result })
 step_past g c =
     let s = g.R.Reader.shown c.args.reader.now in
     let x = c.index-cells-cell.result in
@@ -38,7 +48,8 @@ step_past g c =
     let ends = ap (λ (y : CellId). end_of y) c.index-cells-cell.is in
     let beyond = c.first_beyond-cell.ensures.beyond x (omega arith) in
     let leads = subst (λ (z : Shown g.row.R-Place.Denot). LeadsTo z.chain c.first-place.result (range_at z.ranges c.range_from-range.result).contents) (c.row-row.ensures.same ∙ c.range_from-range.ensures.same) c.first-place.ensures in
-    walk_past s c.args.cells.now c.range_from-range.result _ _ x _ (record {
+    let y = c.index-cells-last.result in
+    walk_past s c.args.cells.now c.first_beyond-cell.result c.range_from-range.result _ _ x y _ (record {
       follow = c.requires.follow;
       table = (g.met.R.Reader.is_shown c.args.reader.now).is_table;
       odd = c.requires.walk.odd;
@@ -48,7 +59,7 @@ step_past g c =
       is = c.index-cells-cell.is;
       beyond = omega arith;
       found = c.range_from-range.ensures.found;
-    }) leads (limit_is g c) c.span_end-end.ensures (elim c.if-row-end.branch [
+    }) (last_is g c) leads (limit_is g c) c.span_end-end.ensures (elim c.if-row-end.branch [
       | then-row-end w ↦ inl (w.if-row-end.true, w.next-is)
       | else-row-end w ↦ inr (w.if-row-end.false, w.next-is)
     ])
@@ -67,6 +78,7 @@ step_passes g c =
     let ends = ap (λ (y : CellId). end_of y) c.index-cells-cell.is in
     let beyond = c.first_beyond-cell.ensures.beyond x (omega arith) in
     let found = c.range_from-range.ensures.found in
+    let y = c.index-cells-last.result in
     let limit = limit_is g c in
     let end = c.span_end-end.ensures in
     record {
@@ -75,10 +87,15 @@ step_passes g c =
       within = found.within;
       start = found.start;
       limit = found.limit;
-      goes = elim c.if-row-end.branch [
-        | then-row-end w ↦ omega (arith, w.if-row-end.true, ap (λ to. to.1) w.next-is)
-        | else-row-end w ↦ omega (arith, w.if-row-end.false, ap (λ to. to.1) w.next-is)
-      ];
+      goes = let b = begun_after c.args.cells.now c.first_beyond-cell.result c.row-row.result.limit c.last_begun-last.result x y c.requires.follow c.index-cells-cell.is (last_is g c) in
+          let z = span (raw_of y) y.valid in
+          let z1 = z.from in
+          let z2 = z.to in
+          let later : end_of x ≤ end_of y = elim b [ inl le ↦ omega arith | inr e ↦ omega arith ] in
+          elim c.if-row-end.branch [
+            | then-row-end w ↦ omega (arith, w.if-row-end.true, ap (λ to. to.1) w.next-is)
+            | else-row-end w ↦ omega (arith, w.if-row-end.false, later, ap (λ to. to.1) w.next-is)
+          ];
     }
 
 pub returns-clause-paid : goal.returns-clause-paid
@@ -89,3 +106,11 @@ returns-clause-paid g c calls paid =
     let e = c.range_from-range.ensures in
     let searched = e.probes in
     step_pays (g.R.Reader.shown c.args.reader.now) c.args.cells.now c.args.walk _ c.index-cells-cell.result c.range_from-range.result calls _ _ (step_passes g (goal.at.returns-clause-paid g c).After-first-place) (looks ∙ e.looks) (λ le. let same = ap (λ (z : Cost). z.probes) (e.at_hand le) in omega arith) (omega arith) paid
+
+pub returns-clause-rises : goal.returns-clause-rises
+returns-clause-rises g c =
+    let p = step_passes g (goal.at.returns-clause-rises g c).After-first-place in
+    let a = p.goes in
+    let b = p.beyond in
+    let l = p.limit in
+    omega arith
