@@ -1,0 +1,171 @@
+"""Readers of dumps and journals, written from docs/FORMATS.md alone, to compare the program with."""
+import re
+
+NUMBER = re.compile(rb"0|[1-9][0-9]*")
+MOST_LABEL, MOST_COUNT, MOST_PAIRS, MOST_CHANGES, MOST_ENTRIES = 2147483647, 65535, 1000000, 100000, 2000000
+
+
+def cell_of(part):
+    """The number of the cell that a canonical token names, or None."""
+    if not re.fullmatch(rb"[0-9a-f]{0,15}[1-9a-f]", part):
+        return None
+    number = int(part.ljust(16, b"0"), 16)
+    lowest = number & -number
+    return number if number >> 61 < 6 and lowest.bit_length() % 2 == 1 else None
+
+
+def number_of(part, least, most):
+    """The number that a part writes without a leading zero, where it is from least to most, or None."""
+    if not NUMBER.fullmatch(part) or len(part) > 10:
+        return None
+    return int(part) if least <= int(part) <= most else None
+
+
+class Lines:
+    """The lines of a text, one after the other; their numbers count from 1."""
+
+    def __init__(self, text):
+        *self.lines, self.rest = text.split(b"\n")
+        self.number = 0
+
+    def next(self):
+        """The next line, or None where the rest of the text has no line feed."""
+        self.number += 1
+        return self.lines[self.number - 1] if self.number <= len(self.lines) else None
+
+    def trailing(self):
+        return bool(self.lines[self.number :]) or self.rest != b""
+
+
+def pair_fault(parts):
+    """The fault of the first two parts of a line, or the pair that they write."""
+    cell = cell_of(parts[0])
+    if cell is None:
+        return "BadToken", None
+    label = number_of(parts[1], 0, MOST_LABEL)
+    return ("BadLabel", None) if label is None else (None, (cell, label))
+
+
+def read_dump(text):
+    """The pairs and counts of a dump, or its fault and the number of its line."""
+    lines, pairs = Lines(text), []
+    line = lines.next()
+    if line is None:
+        return None, ("Truncated", 1)
+    if line != b"s2ix 1":
+        return None, ("BadHeader", 1)
+    while True:
+        line = lines.next()
+        if line is None:
+            return None, ("Truncated", lines.number)
+        if line.split(b" ")[0] == b"end":
+            if line != b"end %d %d" % (len(pairs), sum(count for _, count in pairs)):
+                return None, ("BadEnd", lines.number)
+            return (None, ("TrailingBytes", lines.number + 1)) if lines.trailing() else (pairs, None)
+        fault, pair = dump_line(line.split(b" "), pairs)
+        if fault:
+            return None, (fault, lines.number)
+        pairs.append(pair)
+
+
+def dump_line(parts, pairs):
+    """The fault of a line of a dump under the pairs above it, or its pair with its count."""
+    if len(parts) != 3 or b"" in parts:
+        return "BadLine", None
+    fault, pair = pair_fault(parts)
+    if fault:
+        return fault, None
+    count = number_of(parts[2], 1, MOST_COUNT)
+    if count is None:
+        return "BadCount", None
+    if pairs and pair <= pairs[-1][0]:
+        return "Unsorted", None
+    return ("TooManyPairs", None) if len(pairs) == MOST_PAIRS else (None, (pair, count))
+
+
+def read_journal(text):
+    """The changes of a journal, each a list of pairs with two counts, or its fault and the number of its line."""
+    lines, changes, wanted = Lines(text), [], 0
+    line = lines.next()
+    if line is None:
+        return None, ("Truncated", 1)
+    if line != b"s2ix-journal 1":
+        return None, ("BadHeader", 1)
+    while True:
+        line = lines.next()
+        if line is None:
+            return None, ("Truncated", lines.number)
+        parts = line.split(b" ")
+        if wanted == 0 and parts[0] == b"end":
+            if line != b"end %d" % len(changes):
+                return None, ("BadEnd", lines.number)
+            return (None, ("TrailingBytes", lines.number + 1)) if lines.trailing() else (changes, None)
+        if wanted == 0:
+            fault, wanted = group_line(parts, changes)
+            if not fault:
+                changes.append([])
+        else:
+            fault, entry = entry_line(parts, changes[-1])
+            if not fault:
+                changes[-1].append(entry)
+                wanted -= 1
+        if fault:
+            return None, (fault, lines.number)
+
+
+def group_line(parts, changes):
+    """The fault of a line that begins a change, or how many entries it has."""
+    if len(parts) != 2 or parts[0] != b"change" or b"" in parts:
+        return "BadLine", 0
+    wanted = number_of(parts[1], 1, MOST_ENTRIES)
+    if wanted is None:
+        return "BadCount", 0
+    return ("TooManyChanges", 0) if len(changes) == MOST_CHANGES else (None, wanted)
+
+
+def entry_line(parts, above):
+    """The fault of an entry's line under the entries above it, or its pair with its two counts."""
+    if len(parts) != 4 or b"" in parts:
+        return "BadLine", None
+    fault, pair = pair_fault(parts)
+    if fault:
+        return fault, None
+    before, after = (number_of(part, 0, MOST_COUNT) for part in parts[2:])
+    if before is None or after is None:
+        return "BadCount", None
+    if before == after:
+        return "NoDifference", None
+    return ("Unsorted", None) if above and pair <= above[-1][0] else (None, (pair, before, after))
+
+
+def check(text):
+    """What `check` prints of a text."""
+    pairs, fault = read_dump(text)
+    if fault:
+        return b"no %s %d\n" % (fault[0].encode(), fault[1])
+    return b"ok %d %d\n" % (len(pairs), sum(count for _, count in pairs))
+
+
+def moved(dump, journal, is_back):
+    """What `replay` prints of two texts, or `rewind` where it goes back."""
+    pairs, fault = read_dump(dump)
+    if fault:
+        return b"no %s %d\n" % (fault[0].encode(), fault[1])
+    changes, fault = read_journal(journal)
+    if fault:
+        return b"no journal %s %d\n" % (fault[0].encode(), fault[1])
+    counts = dict(pairs)
+    numbered = list(enumerate(changes, 1))
+    for number, change in reversed(numbered) if is_back else numbered:
+        for place, (pair, before, after) in enumerate(change, 1):
+            old, new = (after, before) if is_back else (before, after)
+            if counts.get(pair, 0) != old:
+                return b"no Mismatch %d %d\n" % (number, place)
+            counts[pair] = new
+    held = sorted((pair, count) for pair, count in counts.items() if count > 0)
+    lines = [b"%s %d %d\n" % (token_of(cell), label, count) for (cell, label), count in held]
+    return b"s2ix 1\n%send %d %d\n" % (b"".join(lines), len(held), sum(count for _, count in held))
+
+
+def token_of(cell):
+    return (b"%016x" % cell).rstrip(b"0")

@@ -1,0 +1,90 @@
+/* Loaded before the program under test: refuses one growth of memory, or has one call of a device fail, come short or be
+   interrupted, and counts them all. The environment says which: REFUSE_GROWTH is the number of the growth that is refused, from 1;
+   REFUSE_CALL is read or write, REFUSE_AT the number of that call, and REFUSE_HOW is fail, short or interrupt; at 0 for REFUSE_AT
+   each call comes short. What was counted is written to the file that REFUSE_COUNTS names, as "growths reads writes". */
+#define _GNU_SOURCE
+#include <errno.h>
+#include <stdio.h>
+#include <stdlib.h>
+#include <string.h>
+#include <sys/syscall.h>
+#include <unistd.h>
+
+extern void *__libc_malloc(size_t size);
+extern void *__libc_realloc(void *old, size_t size);
+
+static unsigned long growths, reads, writes;
+static unsigned long refused_growth, refused_at;
+static char refused_call, refused_how;
+
+static unsigned long number_in(const char *name) {
+  const char *text = getenv(name);
+  return text ? strtoul(text, NULL, 10) : 0;
+}
+
+__attribute__((constructor)) static void begin(void) {
+  const char *call = getenv("REFUSE_CALL"), *how = getenv("REFUSE_HOW");
+  refused_growth = number_in("REFUSE_GROWTH");
+  refused_at = number_in("REFUSE_AT");
+  refused_call = call ? call[0] : 0;
+  refused_how = how ? how[0] : 0;
+  growths = 0;
+}
+
+__attribute__((destructor)) static void end(void) {
+  const char *path = getenv("REFUSE_COUNTS");
+  unsigned long counted[3] = {growths, reads, writes};
+  refused_growth = 0;
+  FILE *file = path ? fopen(path, "w") : NULL;
+  if (file) {
+    fprintf(file, "%lu %lu %lu\n", counted[0], counted[1], counted[2]);
+    fclose(file);
+  }
+}
+
+void *malloc(size_t size) {
+  growths += 1;
+  if (growths == refused_growth) {
+    errno = ENOMEM;
+    return NULL;
+  }
+  return __libc_malloc(size);
+}
+
+void *realloc(void *old, size_t size) {
+  growths += 1;
+  if (growths == refused_growth) {
+    errno = ENOMEM;
+    return NULL;
+  }
+  return __libc_realloc(old, size);
+}
+
+/* What is left of a call of so many bytes: -1 where it fails. */
+static ssize_t granted(char call, unsigned long number, size_t size) {
+  if (refused_call != call || (refused_at != 0 && refused_at != number)) {
+    return (ssize_t)size;
+  }
+  if (refused_how == 's') {
+    return size > 0 ? 1 : 0;
+  }
+  errno = refused_how == 'i' ? EINTR : EIO;
+  return -1;
+}
+
+ssize_t read(int file, void *bytes, size_t size) {
+  reads += 1;
+  ssize_t left = granted('r', reads, size);
+  return left < 0 ? left : syscall(SYS_read, file, bytes, (size_t)left);
+}
+
+ssize_t write(int file, const void *bytes, size_t size) {
+  if (file != STDOUT_FILENO) {
+    return syscall(SYS_write, file, bytes, size);
+  }
+  writes += 1;
+  ssize_t left = granted('w', writes, size);
+  return left < 0 ? left : syscall(SYS_write, file, bytes, (size_t)left);
+}
+
+ssize_t __write(int file, const void *bytes, size_t size) { return write(file, bytes, size); }
