@@ -1,1 +1,4 @@
-mod Reached
+mod Among
+mod Feeds
+mod Holding
+mod Steps
