@@ -18,10 +18,7 @@ use Rattle.s2ix_cli.specs.Run.{KeepsOn, StandsAfter, last_line}
 use Rattle.s2ix_cli.specs.Script.{MOST, output_of, refused_in}
 use Rattle.s2ix_cli.proofs.Feeds.{ended_behind-line, unended_behind-line, ended_behind-none, unended_behind-none}
 use Rattle.s2ix_cli.proofs.Holding.{held_of-some, held_more-of}
-use Rattle.s2ix_cli.proofs.Steps.{StandsAfter-none, StandsAfter-append, CountsMore-none, CountsMore-append, Reached-append}
-
-plus_none : (n : ℕ) → n + 0 ≡ n
-plus_none n = omega arith
+use Rattle.s2ix_cli.proofs.Steps.{StandsAfter-none, StandsAfter-append, CountsMore-none, CountsMore-append, Reached-append, counted_one, plus_none}
 
 -- a line that is not refused with `stop` lets the run go on
 keeps_one : (stop : Bool) (s : State) (line : List ℕ) → stop && (step_of s line).is_refused ≡ false → KeepsOn stop s (line ∷ [])
@@ -37,16 +34,16 @@ pub record Among (stop : Bool) (front piece rest : List ℕ) (old now : State) (
   pub reached : Reached stop done old now before behind start told
 
 -- nothing of the piece is done
-pub Among-none : (stop : Bool) (front piece : List ℕ) (s : State) (held : Option (List ℕ)) (out : Option (List ℕ)) (told : RunEnd) → told.lines ≤ MOST → told.refused ≤ MOST → held ≡ held_of front
+pub Among-none : (stop : Bool) (front piece : List ℕ) (s : State) (held : Option (List ℕ)) (out : Option (List ℕ)) (told : RunEnd) → held ≡ held_of front
     → Among stop front piece piece s s held out out told told
-Among-none stop front piece s held out told lines refused is =
+Among-none stop front piece s held out told is =
     record {
       done = [];
       come = front;
       is_held = is;
       ended = refl;
       unended = refl;
-      reached = record { keeps_on = λ e. refl; stands = StandsAfter-none s out; counts = CountsMore-none s told lines refused };
+      reached = record { keeps_on = λ e. refl; stands = StandsAfter-none s out; counts = CountsMore-none s told };
     }
 
 -- one line
@@ -58,8 +55,8 @@ with_one : (s : State) (line : List ℕ) (told more : RunEnd) (new : State) (bef
     → CountsMore (line ∷ []) s told more
 with_one s line told more new before behind outcome taken lines refused =
     record {
-      lines = lines ∙ ap (λ n. min (told.lines + n) MOST) (ap (λ b. if b then 1 else 0) taken.counted ∙ sym (plus_none _));
-      refused = refused ∙ ap (λ n. min (told.refused + n) MOST) (ap (λ b. if b then 1 else 0) taken.refused ∙ sym (plus_none _));
+      lines = λ n e. counted_one n told.lines more.lines _ e lines ∙ ap (λ k. min (n + k) MOST) (ap (λ b. if b then 1 else 0) taken.counted ∙ sym (plus_none _));
+      refused = λ n e. counted_one n told.refused more.refused _ e refused ∙ ap (λ k. min (n + k) MOST) (ap (λ b. if b then 1 else 0) taken.refused ∙ sym (plus_none _));
     }
 
 -- the loop goes on behind a line
@@ -151,10 +148,10 @@ Among-end stop front piece rest old now held held' before behind start told a no
 -- ---- the last line
 
 -- nothing is held
-pub CarriesLast-none : (front : List ℕ) (s : State) (out : Option (List ℕ)) (told : RunEnd) → told.lines ≤ MOST → told.refused ≤ MOST → Some [] ≡ held_of front
+pub CarriesLast-none : (front : List ℕ) (s : State) (out : Option (List ℕ)) (told : RunEnd) → Some [] ≡ held_of front
     → StandsAfter (last_line front) s s out out × CountsMore (last_line front) s told told
-CarriesLast-none front s out told lines refused is =
-    subst (λ l. StandsAfter (last_line l) s s out out × CountsMore (last_line l) s told told) (held_of-some [] front is) (StandsAfter-none s out, CountsMore-none s told lines refused)
+CarriesLast-none front s out told is =
+    subst (λ l. StandsAfter (last_line l) s s out out × CountsMore (last_line l) s told told) (held_of-some [] front is) (StandsAfter-none s out, CountsMore-none s told)
 
 -- a line with a byte
 last_is : (front : List ℕ) → (Some [] ≡ held_of front → ⊥) → last_line front ≡ front ∷ []

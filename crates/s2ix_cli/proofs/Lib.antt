@@ -1,4 +1,5 @@
 mod Among
+mod Between
 mod Feeds
 mod Holding
 mod Steps

@@ -69,19 +69,30 @@ StandsAfter-append done more old mid new before between behind a b =
 
 -- ---- how many lines count
 
-min-more : (told mid more a b : ℕ) → mid ≡ min (told + a) MOST → more ≡ min (mid + b) MOST → more ≡ min (told + (a + b)) MOST
-min-more told mid more a b e e' = omega arith
+pub plus_none : (n : ℕ) → n + 0 ≡ n
+plus_none n = omega arith
 
-pub CountsMore-none : (s : State) (told : RunEnd) → told.lines ≤ MOST → told.refused ≤ MOST → CountsMore [] s told told
-CountsMore-none s told l r = record { lines = omega arith; refused = omega arith }
+pub CountsMore-none : (s : State) (told : RunEnd) → CountsMore [] s told told
+CountsMore-none s told = record { lines = λ n e. e ∙ ap (λ k. min k MOST) (sym (plus_none n)); refused = λ n e. e ∙ ap (λ k. min k MOST) (sym (plus_none n)) }
+
+plus_twice : (n a b : ℕ) → n + a + b ≡ n + (a + b)
+plus_twice n a b = omega arith
 
 pub CountsMore-append : (done more : List (List ℕ)) (old mid : State) (told told' told'' : RunEnd) → mid ≡ after old done
     → CountsMore done old told told' → CountsMore more mid told' told'' → CountsMore (done ++ more) old told told''
 CountsMore-append done more old mid told told' told'' is a b =
     record {
-      lines = min-more _ _ _ _ _ a.lines b.lines ∙ ap (λ n. min (told.lines + n) MOST) (ap (λ s. counted_in old done + counted_in s more) is ∙ sym (counted_in-append old done more));
-      refused = min-more _ _ _ _ _ a.refused b.refused ∙ ap (λ n. min (told.refused + n) MOST) (ap (λ s. refused_in old done + refused_in s more) is ∙ sym (refused_in-append old done more));
+      lines = λ n e.
+        b.lines (n + counted_in old done) (a.lines n e) ∙ ap (λ k. min k MOST) (plus_twice n (counted_in old done) (counted_in mid more)
+        ∙ ap (λ k. n + k) (ap (λ s. counted_in old done + counted_in s more) is ∙ sym (counted_in-append old done more)));
+      refused = λ n e.
+        b.refused (n + refused_in old done) (a.refused n e) ∙ ap (λ k. min k MOST) (plus_twice n (refused_in old done) (refused_in mid more)
+        ∙ ap (λ k. n + k) (ap (λ s. refused_in old done + refused_in s more) is ∙ sym (refused_in-append old done more)));
     }
+
+-- the counts of one line more
+pub counted_one : (n told more one : ℕ) → told ≡ min n MOST → more ≡ min (told + one) MOST → more ≡ min (n + one) MOST
+counted_one n told more one e e' = omega arith
 
 -- ---- lines and then more of which none ends the run
 

@@ -19,10 +19,10 @@ use Rattle.s2ix_cli.specs.Script.{MOST, after, counted_in, output_of, refused_in
 abbrev pub HasNoFeed : List ℕ → Type 0
 HasNoFeed text = All (λ byte. byte ≢ 10) text
 
--- the counts of a run and those of lines more
+-- counts of a run, and those of lines more: both tell no more than the greatest count
 pub record CountsMore (carried : List (List ℕ)) (old : State) (told more : RunEnd) : Type 0 where
-  pub lines : more.lines ≡ min (told.lines + counted_in old carried) MOST
-  pub refused : more.refused ≡ min (told.refused + refused_in old carried) MOST
+  pub lines : (n : ℕ) → told.lines ≡ min n MOST → more.lines ≡ min (n + counted_in old carried) MOST
+  pub refused : (n : ℕ) → told.refused ≡ min n MOST → more.refused ≡ min (n + refused_in old carried) MOST
 
 -- lines were carried out, and none ends the run
 pub record Reached (stop : Bool) (lines : List (List ℕ)) (old new : State) (before behind : Option (List ℕ)) (told more : RunEnd) : Type 0 where
