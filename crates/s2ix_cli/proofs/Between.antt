@@ -1,17 +1,21 @@
 -- Between the pieces of a run, and how it ends.
-use Rattle.std.proofs.Common.{◌≡◌, ℕ, ◌+◌, ◌<◌, ◌≤◌, ◌⊎◌, ◌&&◌, min, Bool, true, false, if◌then◌else◌, Option, Some, Ok, Err, List, [], ◌∷◌, ◌++◌, length, drop, refl, sym, ap, ◌∙◌, subst, inl, inr, append_assoc, append-nil, length-append, arith}
+use Rattle.std.proofs.Common.{◌≡◌, ℕ, suc, ◌+◌, ◌<◌, ◌≤◌, ◌⊎◌, ◌&&◌, min, Bool, true, false, if◌then◌else◌, Option, Some, Ok, Err, List, [], ◌∷◌, ◌++◌, length, drop, refl, sym, ap, ◌∙◌, subst, inl, inr, append_assoc, append-nil, length-append, arith}
 use Rattle.std.specs.Io.KnownBytes.{Appends, Consumes, Keeps}
 use Rattle.std.proofs.KnownBytes.{Appends-kept, Consumes-nil, Consumes-trans, Consumes-kept}
 use Rattle.s2ix_edit.specs.State.{State}
+use Rattle.s2ix_io.specs.Faults.{source_faults}
+use Rattle.s2ix_io.specs.Pieces.{ReadsOn}
 use Rattle.s2ix_io.specs.Puts.{AppendsFront}
 use Rattle.s2ix_io.specs.declared.run_fault.RunFault.{RunFault}
 use Rattle.s2ix_io.specs.declared.run_fault.RunFault.TheVariants.{Read, Write, OutOfMemory, ReaderTooLong}
 use Rattle.s2ix_script.specs.Lines.{lines_of}
 use Rattle.s2ix_step.specs.Step.{step_of}
 use Rattle.s2ix_cli.specs.declared.run_end.RunEnd.{RunEnd}
+use Rattle.s2ix_cli.specs.declared.coming.PieceEnd.{PieceEnd}
+use Rattle.s2ix_cli.specs.declared.coming.PieceEnd.TheVariants.{GoesOn, Stops}
 use Rattle.s2ix_cli.specs.Coming.{ended_behind, unended_behind, ended_lines, held_of}
-use Rattle.s2ix_cli.specs.Piece.{CountsMore, Reached, Stopped, Cut, Wanting, FaultAmong}
-use Rattle.s2ix_cli.specs.Run.{AreRead, Ran, KeepsOn, StandsAfter, Finishes, IsStopped, StopsReading, StopsWriting, last_line}
+use Rattle.s2ix_cli.specs.Piece.{CarriesPiece, CountsMore, Reached, Stopped, Cut, Wanting, FaultAmong}
+use Rattle.s2ix_cli.specs.Run.{AreRead, Flushes, Ran, KeepsOn, StandsAfter, Finishes, IsStopped, StopsReading, StopsWriting, last_line}
 use Rattle.s2ix_cli.specs.Script.{MOST, after, carried_lines, counted_in, output_of, refused_in}
 use Rattle.s2ix_cli.specs.Wants.{WantsAmong}
 use Rattle.s2ix_cli.proofs.Feeds.{ended_behind-append, unended_behind-append, lines_of-ended}
@@ -24,9 +28,15 @@ none_told = record { lines = 0; refused = 0 }
 more_none : (n : ℕ) → n ≡ n + 0
 more_none n = omega arith
 
-none_left : (b : Bool) → (if b then [] {List ℕ} else []) ≡ []
-none_left true = refl
-none_left false = refl
+suc_is : (n : ℕ) → suc n ≡ n + 1
+suc_is n = omega arith
+
+none_more : (n : ℕ) → 0 + n ≡ n
+none_more n = omega arith
+
+either_way : (b : Bool) (lines : List (List ℕ)) → (if b then lines else lines) ≡ lines
+either_way true lines = refl
+either_way false lines = refl
 
 -- lines that are carried out to the end of a run
 Finishes-of : (stop : Bool) (input : List ℕ) (carried : List (List ℕ)) (old new : State) (before behind flushed : Option (List ℕ)) (more : RunEnd) → carried_lines stop old (lines_of input) ≡ carried
@@ -35,8 +45,8 @@ Finishes-of stop input carried old new before behind flushed more is stands coun
     record {
       store = stands.store ∙ ap (after old) (sym is);
       output = subst (λ l. Appends before flushed (output_of old l)) (sym is) (Appends-kept before behind flushed (output_of old carried) stands.output kept);
-      lines = counts.lines 0 refl ∙ ap (λ l. min (counted_in old l) MOST) (sym is);
-      refused = counts.refused 0 refl ∙ ap (λ l. min (refused_in old l) MOST) (sym is);
+      lines = counts.lines 0 refl ∙ ap (λ n. min n MOST) (none_more (counted_in old carried)) ∙ ap (λ l. min (counted_in old l) MOST) (sym is);
+      refused = counts.refused 0 refl ∙ ap (λ n. min n MOST) (none_more (refused_in old carried)) ∙ ap (λ l. min (refused_in old l) MOST) (sym is);
     }
 
 -- this was read; the lines that end in it are carried out, and what is left behind them is held
@@ -83,6 +93,37 @@ Between-more left mid left' stop old now new held held' before between behind fl
         (Reached-kept stop _ old new before behind flushed none_told more
         (Reached-append stop (ended_lines b.input) (ended_behind (unended_behind [] b.input) piece) old now new before between behind none_told told more b.reached carried.0) kept);
     }
+
+-- the piece at the end has no byte
+pub Between-last : (left mid left' : Option (List ℕ)) (stop : Bool) (old now : State) (held : Option (List ℕ)) (before behind : Option (List ℕ)) (told : RunEnd) (piece : List ℕ)
+    → Between left mid stop old now held before behind told → Consumes mid left' piece → piece ≡ [] → Between left left' stop old now held before behind told
+Between-last left mid left' stop old now held before behind told piece b consumed none =
+    record {
+      input = b.input;
+      consumed = subst (Consumes left left') (ap (λ l. b.input ++ l) none ∙ append-nil b.input) (Consumes-trans left mid left' b.input piece b.consumed consumed);
+      is_held = b.is_held;
+      reached = b.reached;
+    }
+
+-- ---- a fault among lines is none of the source
+
+pub FaultAmong-flushes : {K : Type 0} (flushes : K → K → Type 0) (s s' : K) (fault : RunFault) (stop : Bool) (lines : List (List ℕ)) (old new : State) (before behind : Option (List ℕ))
+    → FaultAmong fault stop lines old new before behind → Flushes flushes (Err fault) s s'
+FaultAmong-flushes flushes s s' Read stop lines old new before behind f = absurd f
+FaultAmong-flushes flushes s s' ReaderTooLong stop lines old new before behind f = absurd f
+FaultAmong-flushes flushes s s' Write stop lines old new before behind f = tt
+FaultAmong-flushes flushes s s' OutOfMemory stop lines old new before behind f = tt
+
+pub FaultAmong-reads : {P : Type 0} (fault : RunFault) (stop : Bool) (lines : List (List ℕ)) (old new : State) (before behind : Option (List ℕ))
+    → FaultAmong fault stop lines old new before behind → fault ≡ ReaderTooLong → P
+FaultAmong-reads fault stop lines old new before behind f e = absurd (subst (λ x. FaultAmong x stop lines old new before behind) e f)
+
+pub FaultAmong-source : (fault : RunFault) (stop : Bool) (lines : List (List ℕ)) (old new : State) (before behind : Option (List ℕ))
+    → FaultAmong fault stop lines old new before behind → source_faults {A = RunEnd} (Err fault) ≡ 0
+FaultAmong-source Read stop lines old new before behind f = absurd f
+FaultAmong-source ReaderTooLong stop lines old new before behind f = absurd f
+FaultAmong-source Write stop lines old new before behind f = refl
+FaultAmong-source OutOfMemory stop lines old new before behind f = refl
 
 -- ---- no more can be read
 
@@ -165,7 +206,7 @@ Between-fault_last fault End left left' stop old now new held before between beh
 
 carried_last : (stop : Bool) (s : State) (front : List ℕ) → carried_lines stop s (last_line front) ≡ last_line front
 carried_last stop s [] = refl
-carried_last stop s (byte ∷ front) = ap (λ l. (byte ∷ front) ∷ l) (none_left (stop && (step_of s (byte ∷ front)).is_refused))
+carried_last stop s (byte ∷ front) = ap (λ l. (byte ∷ front) ∷ l) (either_way (stop && (step_of s (byte ∷ front)).is_refused) [])
 
 pub Between-finishes : (left left' : Option (List ℕ)) (stop : Bool) (old now new : State) (held : Option (List ℕ)) (before between behind flushed : Option (List ℕ)) (told more : RunEnd)
     → (b : Between left left' stop old now held before between told) → StandsAfter (last_line (unended_behind [] b.input)) now new between behind
@@ -183,7 +224,7 @@ pub Between-ends : (End : Type 0) (left left' : Option (List ℕ)) (stop : Bool)
     → End → (b : Between left left' stop old now held before between told) → StandsAfter (last_line (unended_behind [] b.input)) now new between behind × CountsMore (last_line (unended_behind [] b.input)) now told more
     → Keeps behind flushed → (input : List ℕ) × Consumes left left' input × Ran (Ok more) End stop input old new before flushed
 Between-ends End left left' stop old now new held before between behind flushed told more end b last kept =
-    (b.input, b.consumed, inl end, Between-finishes left left' stop old now new held before between behind flushed told more b last.0 last.1 kept)
+    (b.input, b.consumed, (inl end, Between-finishes left left' stop old now new held before between behind flushed told more b last.0 last.1 kept))
 
 pub Between-ends_flushing : (End : Type 0) (left left' : Option (List ℕ)) (stop : Bool) (old now new : State) (held : Option (List ℕ)) (before between behind flushed : Option (List ℕ)) (told more : RunEnd)
     → End → (b : Between left left' stop old now held before between told) → StandsAfter (last_line (unended_behind [] b.input)) now new between behind × CountsMore (last_line (unended_behind [] b.input)) now told more
@@ -246,12 +287,12 @@ Between-stops End left mid left' stop old now new held before between behind flu
     let input = b.input ++ piece in
     let is : carried_lines stop old (lines_of input) ≡ h.carried = ap (carried_lines stop old) (lines_of-ended input) ∙ h.are_carried (last_line (unended_behind [] input)) in
     (input, Consumes-trans left mid left' b.input piece b.consumed consumed,
-    inr (record {
+    (inr (record {
       stops = h.stops;
       refused = subst (λ l. 0 < refused_in old l) (sym is) h.refused;
       ended = subst (λ l. length l ≤ length (ended_lines input)) (sym is) h.ended;
     }),
-    Finishes-of stop input h.carried old new before behind flushed more is h.stands h.counts kept)
+    Finishes-of stop input h.carried old new before behind flushed more is h.stands h.counts kept))
 
 pub Between-stops_flushing : (End : Type 0) (left mid left' : Option (List ℕ)) (stop : Bool) (old now new : State) (held : Option (List ℕ)) (before between behind flushed : Option (List ℕ)) (told more : RunEnd) (piece : List ℕ)
     → (b : Between left mid stop old now held before between told) → Consumes mid left' piece → Stopped stop (ended_behind (unended_behind [] b.input) piece) now new between behind told more
@@ -263,3 +304,20 @@ Between-stops_flushing End left mid left' stop old now new held before between b
     (input, Consumes-trans left mid left' b.input piece b.consumed consumed, (ended_lines input, inl refl,
     inr (subst (λ l. StandsAfter l old new before flushed) (sym is)
       (record { store = h.stands.store; output = Appends-kept before behind flushed (output_of old h.carried) h.stands.output kept }))))
+
+-- ---- how a piece ended
+
+pub goes_on : (end : PieceEnd) (more : RunEnd) (stop : Bool) (front piece : List ℕ) (old new : State) (held before behind : Option (List ℕ)) (told : RunEnd) → end ≡ GoesOn more
+    → CarriesPiece (Ok end) stop front piece old new held before behind told → CarriesPiece (Ok (GoesOn more)) stop front piece old new held before behind told
+goes_on end more stop front piece old new held before behind told is c = subst (λ e. CarriesPiece (Ok e) stop front piece old new held before behind told) is c
+
+pub stops_at : (end : PieceEnd) (more : RunEnd) (stop : Bool) (front piece : List ℕ) (old new : State) (held before behind : Option (List ℕ)) (told : RunEnd) → end ≡ Stops more
+    → CarriesPiece (Ok end) stop front piece old new held before behind told → CarriesPiece (Ok (Stops more)) stop front piece old new held before behind told
+stops_at end more stop front piece old new held before behind told is c = subst (λ e. CarriesPiece (Ok e) stop front piece old new held before behind told) is c
+
+-- ---- one piece more
+
+pub ReadsOn-more : {S : Type 0} (gives : S → ℕ → S → Type 0) (pieces n : ℕ) (old mid new : S) → ReadsOn gives pieces old mid → 0 < n → gives mid n new → ReadsOn gives (pieces + 1) old new
+ReadsOn-more gives pieces n old mid new on some call =
+    let more : ReadsOn gives (suc pieces) old new = (mid, on, n, some, call) in
+    subst (λ k. ReadsOn gives k old new) (suc_is pieces) more
