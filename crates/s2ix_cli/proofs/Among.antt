@@ -1,5 +1,5 @@
 -- Among the lines of a piece: those that have ended are carried out, the rest is to come.
-use Rattle.std.proofs.Common.{◌≡◌, ℕ, ◌+◌, ◌≤◌, min, Bool, true, false, ◌&&◌, if◌then◌else◌, Option, Some, List, [], ◌∷◌, ◌++◌, refl, sym, ap, ◌∙◌, subst, append_assoc, append-nil, arith}
+use Rattle.std.proofs.Common.{◌≡◌, ℕ, ◌+◌, min, Bool, true, false, ◌&&◌, if◌then◌else◌, Option, Some, List, [], ◌∷◌, ◌++◌, refl, sym, ap, ◌∙◌, subst, append_assoc, append-nil}
 use Rattle.std.specs.Io.KnownBytes.{Appends}
 use Rattle.std.proofs.KnownBytes.{Appends-kept}
 use Rattle.s2ix_edit.specs.State.{State}
@@ -13,9 +13,9 @@ use Rattle.s2ix_step.specs.Wants.{LineWants}
 use Rattle.s2ix_step.specs.declared.outcome.LineOutcome.{LineOutcome}
 use Rattle.s2ix_cli.specs.declared.run_end.RunEnd.{RunEnd}
 use Rattle.s2ix_cli.specs.Coming.{ended_behind, unended_behind, held_of, held_more}
-use Rattle.s2ix_cli.specs.Piece.{HasNoFeed, Reached, Stopped, CountsMore, Cut, Wanting, FaultAmong}
+use Rattle.s2ix_cli.specs.Piece.{HasNoFeed, Reached, Stopped, CountsMore, FaultAmong}
 use Rattle.s2ix_cli.specs.Run.{KeepsOn, StandsAfter, last_line}
-use Rattle.s2ix_cli.specs.Script.{MOST, output_of, refused_in}
+use Rattle.s2ix_cli.specs.Script.{MOST, output_of}
 use Rattle.s2ix_cli.proofs.Feeds.{ended_behind-line, unended_behind-line, ended_behind-none, unended_behind-none}
 use Rattle.s2ix_cli.proofs.Holding.{held_of-some, held_more-of}
 use Rattle.s2ix_cli.proofs.Steps.{StandsAfter-none, StandsAfter-append, CountsMore-none, CountsMore-append, Reached-append, counted_one, plus_none}
