@@ -141,9 +141,10 @@ Among-fault fault stop front piece rest end behind_it old now new held before mi
 pub Among-end : (stop : Bool) (front piece rest : List ℕ) (old now : State) (held held' : Option (List ℕ)) (before behind : Option (List ℕ)) (start told : RunEnd)
     → Among stop front piece rest old now held before behind start told → HasNoFeed rest → held' ≡ held_more held rest
     → Reached stop (ended_behind front piece) old now before behind start told × (held' ≡ held_of (unended_behind front piece))
-Among-end stop front piece rest old now held held' before behind start told a none is =
-    (subst (λ l. Reached stop l old now before behind start told) (sym (a.ended ∙ ap (λ l. a.done ++ l) (ended_behind-none a.come rest none) ∙ append-nil a.done)) a.reached,
-    is ∙ ap (λ h. held_more h rest) a.is_held ∙ held_more-of a.come rest ∙ ap held_of (sym (a.unended ∙ unended_behind-none a.come rest none)))
+Among-end stop front piece rest old now held held' before behind start told a none is = (
+  subst (λ l. Reached stop l old now before behind start told) (sym (a.ended ∙ ap (λ l. a.done ++ l) (ended_behind-none a.come rest none) ∙ append-nil a.done)) a.reached,
+  is ∙ ap (λ h. held_more h rest) a.is_held ∙ held_more-of a.come rest ∙ ap held_of (sym (a.unended ∙ unended_behind-none a.come rest none)),
+)
 
 -- ---- the last line
 

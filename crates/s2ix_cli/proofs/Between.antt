@@ -89,8 +89,8 @@ Between-more left mid left' stop old now new held held' before between behind fl
       consumed = Consumes-trans left mid left' b.input piece b.consumed consumed;
       is_held = carried.1 ∙ ap held_of (sym (unended_behind-append [] b.input piece));
       reached = subst (λ l. Reached stop l old new before flushed none_told more) (sym (ended-more b.input piece))
-        (Reached-kept stop _ old new before behind flushed none_told more
-        (Reached-append stop (ended_lines b.input) (ended_behind (unended_behind [] b.input) piece) old now new before between behind none_told told more b.reached carried.0) kept);
+          (Reached-kept stop _ old new before behind flushed none_told more
+          (Reached-append stop (ended_lines b.input) (ended_behind (unended_behind [] b.input) piece) old now new before between behind none_told told more b.reached carried.0) kept);
     }
 
 -- the piece at the end has no byte
@@ -141,9 +141,15 @@ pub Between-flushing : (End : Type 0) (left mid left' : Option (List ℕ)) (stop
     → Reached stop (ended_behind (unended_behind [] b.input) piece) now new between behind told more × (held' ≡ held_of (unended_behind (unended_behind [] b.input) piece))
     → Keeps behind flushed → (input : List ℕ) × Consumes left left' input × Ran (Err Write) End stop input old new before flushed
 Between-flushing End left mid left' stop old now new held held' before between behind flushed told more piece b consumed carried kept =
-    let b' = Between-more left mid left' stop old now new held held' before between behind flushed told more piece b consumed carried kept in
-    (b'.input, b'.consumed, (ended_lines b'.input, inl refl,
-    inr (subst (λ l. StandsAfter l old new before flushed) (sym (carried_lines-all stop old (ended_lines b'.input) b'.reached.keeps_on)) b'.reached.stands)))
+    let b' = Between-more left mid left' stop old now new held held' before between behind flushed told more piece b consumed carried kept in (
+      b'.input,
+      b'.consumed,
+      (
+        ended_lines b'.input,
+        inl refl,
+        inr (subst (λ l. StandsAfter l old new before flushed) (sym (carried_lines-all stop old (ended_lines b'.input) b'.reached.keeps_on)) b'.reached.stands),
+      ),
+    )
 
 -- ---- a fault among lines
 
@@ -160,46 +166,56 @@ pub FaultAmong-ran : (fault : RunFault) (End : Type 0) (stop : Bool) (input : Li
 FaultAmong-ran Read End stop input lines done more old mid new before between behind told read is a f = absurd f
 FaultAmong-ran ReaderTooLong End stop input lines done more old mid new before between behind told read is a f = absurd f
 FaultAmong-ran Write End stop input lines done more old mid new before between behind told read is a f =
-    let stands = StandsAfter-append done f.done old mid (after mid f.done) before between f.mid a.stands (record { store = refl; output = f.output }) in
-    (lines, read, inl (record {
-      done = done ++ f.done;
-      line = f.line;
-      rest = drop 1 (carried_lines stop (after old (done ++ f.done)) (f.line ∷ f.rest));
-      are_carried = carried_cut stop old mid lines done more f.done f.rest f.line is f.are a.keeps_on a.stands.store f.keeps_on;
-      store = f.store ∙ ap (λ s. (step_of s f.line).after) stands.store;
-      mid = f.mid;
-      output = stands.output;
-      cut = subst (λ s. AppendsFront f.mid behind (step_of s f.line).answer) stands.store f.cut;
-    }))
+    let stands = StandsAfter-append done f.done old mid (after mid f.done) before between f.mid a.stands (record { store = refl; output = f.output }) in (
+      lines,
+      read,
+      inl (record {
+        done = done ++ f.done;
+        line = f.line;
+        rest = drop 1 (carried_lines stop (after old (done ++ f.done)) (f.line ∷ f.rest));
+        are_carried = carried_cut stop old mid lines done more f.done f.rest f.line is f.are a.keeps_on a.stands.store f.keeps_on;
+        store = f.store ∙ ap (λ s. (step_of s f.line).after) stands.store;
+        mid = f.mid;
+        output = stands.output;
+        cut = subst (λ s. AppendsFront f.mid behind (step_of s f.line).answer) stands.store f.cut;
+      }),
+    )
 FaultAmong-ran OutOfMemory End stop input lines done more old mid new before between behind told read is a f =
-    let stands = StandsAfter-append done f.done old mid new before between behind a.stands f.stands in
-    (lines, read, record {
-      done = done ++ f.done;
-      line = f.line;
-      rest = drop 1 (carried_lines stop (after old (done ++ f.done)) (f.line ∷ f.rest));
-      are_carried = carried_cut stop old mid lines done more f.done f.rest f.line is f.are a.keeps_on a.stands.store f.keeps_on;
-      store = stands.store;
-      output = stands.output;
-      wants = f.wants;
-    })
+    let stands = StandsAfter-append done f.done old mid new before between behind a.stands f.stands in (
+      lines,
+      read,
+      record {
+        done = done ++ f.done;
+        line = f.line;
+        rest = drop 1 (carried_lines stop (after old (done ++ f.done)) (f.line ∷ f.rest));
+        are_carried = carried_cut stop old mid lines done more f.done f.rest f.line is f.are a.keeps_on a.stands.store f.keeps_on;
+        store = stands.store;
+        output = stands.output;
+        wants = f.wants;
+      },
+    )
 
 -- a fault among the lines of a piece
 pub Between-fault : (fault : RunFault) (End : Type 0) (left mid left' : Option (List ℕ)) (stop : Bool) (old now new : State) (held : Option (List ℕ)) (before between behind : Option (List ℕ)) (told : RunEnd) (piece : List ℕ)
     → (b : Between left mid stop old now held before between told) → Consumes mid left' piece → FaultAmong fault stop (ended_behind (unended_behind [] b.input) piece) now new between behind
     → (input : List ℕ) × Consumes left left' input × Ran (Err fault) End stop input old new before behind
-Between-fault fault End left mid left' stop old now new held before between behind told piece b consumed f =
-    (b.input ++ piece, Consumes-trans left mid left' b.input piece b.consumed consumed,
-    FaultAmong-ran fault End stop (b.input ++ piece) (ended_lines (b.input ++ piece)) (ended_lines b.input) (ended_behind (unended_behind [] b.input) piece) old now new before between behind told
-    (inl refl) (ended-more b.input piece) b.reached f)
+Between-fault fault End left mid left' stop old now new held before between behind told piece b consumed f = (
+  b.input ++ piece,
+  Consumes-trans left mid left' b.input piece b.consumed consumed,
+  FaultAmong-ran fault End stop (b.input ++ piece) (ended_lines (b.input ++ piece)) (ended_lines b.input) (ended_behind (unended_behind [] b.input) piece) old now new before between behind told
+      (inl refl) (ended-more b.input piece) b.reached f,
+)
 
 -- one in the last line
 pub Between-fault_last : (fault : RunFault) (End : Type 0) (left left' : Option (List ℕ)) (stop : Bool) (old now new : State) (held : Option (List ℕ)) (before between behind : Option (List ℕ)) (told : RunEnd)
     → End → (b : Between left left' stop old now held before between told) → FaultAmong fault stop (last_line (unended_behind [] b.input)) now new between behind
     → (input : List ℕ) × Consumes left left' input × Ran (Err fault) End stop input old new before behind
-Between-fault_last fault End left left' stop old now new held before between behind told end b f =
-    (b.input, b.consumed,
-    FaultAmong-ran fault End stop b.input (lines_of b.input) (ended_lines b.input) (last_line (unended_behind [] b.input)) old now new before between behind told
-    (inr (end, refl)) (lines_of-ended b.input) b.reached f)
+Between-fault_last fault End left left' stop old now new held before between behind told end b f = (
+  b.input,
+  b.consumed,
+  FaultAmong-ran fault End stop b.input (lines_of b.input) (ended_lines b.input) (last_line (unended_behind [] b.input)) old now new before between behind told
+      (inr (end, refl)) (lines_of-ended b.input) b.reached f,
+)
 
 -- ---- the end of the input
 
@@ -214,7 +230,7 @@ Between-finishes left left' stop old now new held before between behind flushed 
     let last = last_line (unended_behind [] b.input) in
     Finishes-of stop b.input (ended_lines b.input ++ last) old new before behind flushed more
     (ap (carried_lines stop old) (lines_of-ended b.input) ∙ carried_lines-append stop old (ended_lines b.input) last b.reached.keeps_on
-      ∙ ap (λ l. ended_lines b.input ++ l) (carried_last stop (after old (ended_lines b.input)) (unended_behind [] b.input)))
+    ∙ ap (λ l. ended_lines b.input ++ l) (carried_last stop (after old (ended_lines b.input)) (unended_behind [] b.input)))
     (StandsAfter-append (ended_lines b.input) last old now new before between behind b.reached.stands stands)
     (CountsMore-append (ended_lines b.input) last old now none_told told more b.reached.stands.store b.reached.counts counts)
     kept
@@ -262,9 +278,9 @@ Halts-of stop lines done more old mid new before between behind told told' is a 
     record {
       carried = full ++ s.line ∷ [];
       are_carried = λ tail.
-        ap (λ l. carried_lines stop old (l ++ tail)) are ∙ ap (carried_lines stop old) (append_assoc full (s.line ∷ s.rest) tail)
-        ∙ carried_lines-append stop old full (s.line ∷ (s.rest ++ tail)) on
-        ∙ ap (λ l. full ++ l) (carried_lines-stop stop (after old full) s.line (s.rest ++ tail) s.stops refused);
+          ap (λ l. carried_lines stop old (l ++ tail)) are ∙ ap (carried_lines stop old) (append_assoc full (s.line ∷ s.rest) tail)
+          ∙ carried_lines-append stop old full (s.line ∷ (s.rest ++ tail)) on
+          ∙ ap (λ l. full ++ l) (carried_lines-stop stop (after old full) s.line (s.rest ++ tail) s.stops refused);
       stands = subst (λ l. StandsAfter l old new before behind) same (StandsAfter-append done (s.done ++ s.line ∷ []) old mid new before between behind a.stands s.stands);
       counts = subst (λ l. CountsMore l old none_told told') same (CountsMore-append done (s.done ++ s.line ∷ []) old mid none_told told told' a.stands.store a.counts s.counts);
       stops = s.stops;
@@ -284,14 +300,18 @@ pub Between-stops : (End : Type 0) (left mid left' : Option (List ℕ)) (stop : 
 Between-stops End left mid left' stop old now new held before between behind flushed told more piece b consumed s kept =
     let h = Between-halts left mid stop old now new held before between behind told more piece b s in
     let input = b.input ++ piece in
-    let is : carried_lines stop old (lines_of input) ≡ h.carried = ap (carried_lines stop old) (lines_of-ended input) ∙ h.are_carried (last_line (unended_behind [] input)) in
-    (input, Consumes-trans left mid left' b.input piece b.consumed consumed,
-    (inr (record {
-      stops = h.stops;
-      refused = subst (λ l. 0 < refused_in old l) (sym is) h.refused;
-      ended = subst (λ l. length l ≤ length (ended_lines input)) (sym is) h.ended;
-    }),
-    Finishes-of stop input h.carried old new before behind flushed more is h.stands h.counts kept))
+    let is : carried_lines stop old (lines_of input) ≡ h.carried = ap (carried_lines stop old) (lines_of-ended input) ∙ h.are_carried (last_line (unended_behind [] input)) in (
+      input,
+      Consumes-trans left mid left' b.input piece b.consumed consumed,
+      (
+        inr (record {
+          stops = h.stops;
+          refused = subst (λ l. 0 < refused_in old l) (sym is) h.refused;
+          ended = subst (λ l. length l ≤ length (ended_lines input)) (sym is) h.ended;
+        }),
+        Finishes-of stop input h.carried old new before behind flushed more is h.stands h.counts kept,
+      ),
+    )
 
 pub Between-stops_flushing : (End : Type 0) (left mid left' : Option (List ℕ)) (stop : Bool) (old now new : State) (held : Option (List ℕ)) (before between behind flushed : Option (List ℕ)) (told more : RunEnd) (piece : List ℕ)
     → (b : Between left mid stop old now held before between told) → Consumes mid left' piece → Stopped stop (ended_behind (unended_behind [] b.input) piece) now new between behind told more
@@ -299,10 +319,16 @@ pub Between-stops_flushing : (End : Type 0) (left mid left' : Option (List ℕ))
 Between-stops_flushing End left mid left' stop old now new held before between behind flushed told more piece b consumed s kept =
     let h = Between-halts left mid stop old now new held before between behind told more piece b s in
     let input = b.input ++ piece in
-    let is : carried_lines stop old (ended_lines input) ≡ h.carried = ap (carried_lines stop old) (sym (append-nil (ended_lines input))) ∙ h.are_carried [] in
-    (input, Consumes-trans left mid left' b.input piece b.consumed consumed, (ended_lines input, inl refl,
-    inr (subst (λ l. StandsAfter l old new before flushed) (sym is)
-      (record { store = h.stands.store; output = Appends-kept before behind flushed (output_of old h.carried) h.stands.output kept }))))
+    let is : carried_lines stop old (ended_lines input) ≡ h.carried = ap (carried_lines stop old) (sym (append-nil (ended_lines input))) ∙ h.are_carried [] in (
+      input,
+      Consumes-trans left mid left' b.input piece b.consumed consumed,
+      (
+        ended_lines input,
+        inl refl,
+        inr (subst (λ l. StandsAfter l old new before flushed) (sym is)
+            (record { store = h.stands.store; output = Appends-kept before behind flushed (output_of old h.carried) h.stands.output kept })),
+      ),
+    )
 
 -- ---- how a piece ended
 

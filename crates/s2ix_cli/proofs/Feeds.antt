@@ -27,9 +27,10 @@ no_feed_before (byte ∷ text) (suc end) before =
 pub cut_at_first : (text : List ℕ) (end : ℕ) → IsFirstByte (is_byte 10) text (Some end) → (text ≡ take end text ++ 10 ∷ drop (end + 1) text) × HasNoFeed (take end text)
 cut_at_first text end found =
     let is : get_or text end 0 ≡ 10 = eqb-true (get_or text end 0) 10 found.1 in
-    let inside : end < length text = found.0.high in
-    (sym (take-append-drop end text) ∙ ap (λ rest. take end text ++ rest) (drop_more text end 0 inside ∙ ap (λ byte. byte ∷ drop (end + 1) text) is),
-    no_feed_before text end (λ k h i is_feed. found.0.before k (omega arith) h (eq-eqb (get_or text k 0) 10 is_feed)))
+    let inside : end < length text = found.0.high in (
+      sym (take-append-drop end text) ∙ ap (λ rest. take end text ++ rest) (drop_more text end 0 inside ∙ ap (λ byte. byte ∷ drop (end + 1) text) is),
+      no_feed_before text end (λ k h i is_feed. found.0.before k (omega arith) h (eq-eqb (get_or text k 0) 10 is_feed)),
+    )
 
 -- and what it says where it finds none
 pub none_at_all : (text : List ℕ) → IsFirstByte (is_byte 10) text None → HasNoFeed text

@@ -83,11 +83,11 @@ pub CountsMore-append : (done more : List (List ℕ)) (old mid : State) (told to
 CountsMore-append done more old mid told told' told'' is a b =
     record {
       lines = λ n e.
-        b.lines (n + counted_in old done) (a.lines n e) ∙ ap (λ k. min k MOST) (plus_twice n (counted_in old done) (counted_in mid more)
-        ∙ ap (λ k. n + k) (ap (λ s. counted_in old done + counted_in s more) is ∙ sym (counted_in-append old done more)));
+          b.lines (n + counted_in old done) (a.lines n e) ∙ ap (λ k. min k MOST) (plus_twice n (counted_in old done) (counted_in mid more)
+          ∙ ap (λ k. n + k) (ap (λ s. counted_in old done + counted_in s more) is ∙ sym (counted_in-append old done more)));
       refused = λ n e.
-        b.refused (n + refused_in old done) (a.refused n e) ∙ ap (λ k. min k MOST) (plus_twice n (refused_in old done) (refused_in mid more)
-        ∙ ap (λ k. n + k) (ap (λ s. refused_in old done + refused_in s more) is ∙ sym (refused_in-append old done more)));
+          b.refused (n + refused_in old done) (a.refused n e) ∙ ap (λ k. min k MOST) (plus_twice n (refused_in old done) (refused_in mid more)
+          ∙ ap (λ k. n + k) (ap (λ s. refused_in old done + refused_in s more) is ∙ sym (refused_in-append old done more)));
     }
 
 -- the counts of one line more

@@ -45,13 +45,22 @@ const WHOLE: Devices = Devices {
 
 const DUMP_LEN: usize = 15;
 
-// A run that the source ends: what came out before is a beginning of the dump.
+// A run that the source ends before the line's end has come.
 const UNREAD: Devices = Devices {
     name: "a source that fails",
     turns: 100,
     ends_by: Some(RunFault::Read),
     least: 0,
+    most: 0,
     flushed: 0,
+    ..WHOLE
+};
+
+// A run that the source ends behind the line, whose answer is out and flushed.
+const ANSWERED: Devices = Devices {
+    name: "a source that fails behind the line",
+    turns: 100,
+    ends_by: Some(RunFault::Read),
     ..WHOLE
 };
 
@@ -61,7 +70,7 @@ const RUNS: [Devices; 8] = [
         name: "no turn for the end",
         turns: 1,
         ends_by: Some(RunFault::ReaderTooLong),
-        ..UNREAD
+        ..ANSWERED
     },
     Devices {
         name: "a fault at the first piece",
@@ -71,7 +80,7 @@ const RUNS: [Devices; 8] = [
     Devices {
         name: "a fault at the end",
         piece_fault: 2,
-        ..UNREAD
+        ..ANSWERED
     },
     Devices {
         name: "short pieces, a fault at the first",
@@ -89,7 +98,7 @@ const RUNS: [Devices; 8] = [
         name: "short pieces, a fault at the end",
         piece_len: 2,
         piece_fault: 4,
-        ..UNREAD
+        ..ANSWERED
     },
     Devices {
         name: "a flush that fails",

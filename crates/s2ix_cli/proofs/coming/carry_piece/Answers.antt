@@ -15,11 +15,12 @@ lines-preserved g c =
     let on : c.args.stop && is_refused c.in_ok-outcome.outcome ≡ false = elim c.else-stop.branch [
       | else-stop-via-then-stop+else-is_refused w ↦ ap (λ b. c.args.stop && b) (sym w.is_refused.ensures ∙ w.if-is_refused.false) ∙ ap (λ b. b && false) w.if-stop.true
       | else-stop-via-else-stop w ↦ ap (λ b. b && is_refused c.in_ok-outcome.outcome) w.if-stop.false
-    ] in
-    (λ front is. (let a = c.lines.invariant.0 front is in
-      Among-on _ front _ _ _ _ _ _ _ _ _ _ _ _ _ _ _ a c.in-Some.ensures.some.0 c.in-Some.ensures.some.1 (c.in_ok-outcome.ensures.carries a.come a.is_held)
-      c.with-told.ensures.lines c.with-told.ensures.refused on _ c.in_ok-outcome.ensures.held),
-    c.in_ok-outcome.ensures.faults ∙ plus_none _ ∙ c.lines.invariant.1)
+    ] in (
+      λ front is. (let a = c.lines.invariant.0 front is in
+          Among-on _ front _ _ _ _ _ _ _ _ _ _ _ _ _ _ _ a c.in-Some.ensures.some.0 c.in-Some.ensures.some.1 (c.in_ok-outcome.ensures.carries a.come a.is_held)
+          c.with-told.ensures.lines c.with-told.ensures.refused on _ c.in_ok-outcome.ensures.held),
+      c.in_ok-outcome.ensures.faults ∙ plus_none _ ∙ c.lines.invariant.1,
+    )
 
 pub returns-then-is_refused-clause-carries : goal.returns-then-is_refused-clause-carries
 returns-then-is_refused-clause-carries g c = λ front is.
