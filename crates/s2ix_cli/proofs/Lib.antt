@@ -1,1 +1,5 @@
-mod Reached
+mod Among
+mod Between
+mod Feeds
+mod Holding
+mod Steps

@@ -1,2 +1,5 @@
+pub mod Coming
+pub mod Piece
+pub mod Run
 pub mod Script
 pub mod Wants

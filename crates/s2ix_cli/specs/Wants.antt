@@ -1,5 +1,5 @@
 -- Where a run may want memory among its lines.
-use Rattle.std.specs.Prelude.{◌≡◌, ℕ, Bool, Option, List, [], ◌∷◌, ◌++◌}
+use Rattle.std.specs.Prelude.{◌≡◌, ℕ, Bool, Option, List, ◌∷◌, ◌++◌}
 use Rattle.std.specs.Io.KnownBytes.{Appends}
 use Rattle.s2ix_edit.specs.State.{State}
 use Rattle.s2ix_step.specs.Wants.{LineWants}

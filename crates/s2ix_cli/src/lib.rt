@@ -1,6 +1,8 @@
-//! Runs of scripts: their lines carried out over a store, and the answers printed.
+//! Runs of scripts: their lines carried out over a store as they come, and the answers printed.
 #![tactic(auto)]
 
+mod coming;
+mod held_line;
 mod run_end;
 mod script;
 

@@ -23,13 +23,18 @@ const NAMES: [&str; 10] = [
     "NothingToRedo",
 ];
 
-// Runs a script over an empty store.
-fn run_script(alloc: Global, script: &[u8], sink: &mut KeepingSink) -> Result<RunEnd, Fail>
+// Runs a script over an empty store, in pieces of so many bytes.
+fn run_script(
+    alloc: Global,
+    script: &[u8],
+    piece_len: usize,
+    sink: &mut KeepingSink,
+) -> Result<RunEnd, Fail>
     requires { CanCount (⟦<KeepingSink as Sink>⟧.fault_count sink.old) }
 {
     let limits = Limits::new(PAIRS, COPIES, CHANGES).ok_or("a limit is out of its range")?;
     let mut store = Store::new(alloc, limits)?;
-    let mut source = SliceSource::new(script, 1000, 0);
+    let mut source = SliceSource::new(script, piece_len, 0);
     let options = RunOptions {
         stop: false,
         turns: u64::MAX,
@@ -37,10 +42,10 @@ fn run_script(alloc: Global, script: &[u8], sink: &mut KeepingSink) -> Result<Ru
     Ok(run(alloc, &mut source, sink, &mut store, options)?)
 }
 
-// Whether a run of a record's script comes to what the record tells.
-fn comes_true(alloc: Global, record: &Record) -> Result<bool, Fail> {
+// Whether a run of a record's script, in pieces of so many bytes, comes to what the record tells.
+fn comes_true(alloc: Global, record: &Record, piece_len: usize) -> Result<bool, Fail> {
     let mut sink = KeepingSink::new(alloc, 1000, 0, false);
-    let end = run_script(alloc, record.script.as_bytes(), &mut sink)?;
+    let end = run_script(alloc, record.script.as_bytes(), piece_len, &mut sink)?;
     Ok(
         sink.kept() == record.output.as_bytes()
             && end.lines == record.lines
@@ -63,11 +68,12 @@ fn check_seed(alloc: Global, seed: u64) -> Result<(), Fail> {
     if let Some(name) = refusal_left_out(record.output.as_str()) {
         return Err(Fail::new(format_args!("seed {seed} has no {name}")));
     }
-    if comes_true(alloc, &record)? {
-        Ok(())
-    } else {
-        Err(Fail::new(format_args!("seed {seed}")))
+    for piece_len in [1, 7, 1000] {
+        if !comes_true(alloc, &record, piece_len)? {
+            return Err(Fail::new(format_args!("seed {seed}, pieces of {piece_len}")));
+        }
     }
+    Ok(())
 }
 
 #[test]

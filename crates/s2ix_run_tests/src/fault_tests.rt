@@ -56,13 +56,22 @@ const WHOLE: Devices = Devices {
 
 const DUMP_LEN: usize = 15;
 
-// A run that the source ends: what came out before is a beginning of the dump.
+// A run that the source ends before the line's end has come.
 const UNREAD: Devices = Devices {
     name: "a source that fails",
     turns: 100,
     ends_by: Some(RunFault::Read),
     least: 0,
+    most: 0,
     flushed: 0,
+    ..WHOLE
+};
+
+// A run that the source ends behind the line, whose answer is out and flushed.
+const ANSWERED: Devices = Devices {
+    name: "a source that fails behind the line",
+    turns: 100,
+    ends_by: Some(RunFault::Read),
     ..WHOLE
 };
 
@@ -72,7 +81,7 @@ const RUNS: [Devices; 9] = [
         name: "no turn for the end",
         turns: 1,
         ends_by: Some(RunFault::ReaderTooLong),
-        ..UNREAD
+        ..ANSWERED
     },
     Devices {
         name: "a fault at the first piece",
@@ -82,7 +91,7 @@ const RUNS: [Devices; 9] = [
     Devices {
         name: "a fault at the end",
         piece_fault: 2,
-        ..UNREAD
+        ..ANSWERED
     },
     Devices {
         name: "short pieces, a fault at the first",
@@ -100,7 +109,7 @@ const RUNS: [Devices; 9] = [
         name: "short pieces, a fault at the end",
         piece_len: 2,
         piece_fault: 4,
-        ..UNREAD
+        ..ANSWERED
     },
     Devices {
         name: "a fault within the second line",
@@ -108,7 +117,9 @@ const RUNS: [Devices; 9] = [
         output: b"ok 1\n",
         piece_len: 11,
         piece_fault: 2,
+        least: 5,
         most: 5,
+        flushed: 5,
         ..UNREAD
     },
     Devices {

@@ -8,6 +8,8 @@ mod grow_tests;
 #[cfg(test)]
 mod history_tests;
 #[cfg(test)]
+mod piece_tests;
+#[cfg(test)]
 mod query_tests;
 #[cfg(test)]
 mod region_tests;

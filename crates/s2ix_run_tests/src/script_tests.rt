@@ -203,6 +203,7 @@ fn check_comment(alloc: Global, length: usize, output: &[u8]) -> Result<(), Fail
 
 #[test]
 fn long_lines(rt: HostRuntime) -> Result<(), Fail> {
+    check_comment(rt.alloc(), 65_535, b"s2ix 1\nend 0 0\n")?;
     check_comment(rt.alloc(), 65_536, b"s2ix 1\nend 0 0\n")?;
     check_comment(rt.alloc(), 65_537, b"no LineTooLong\ns2ix 1\nend 0 0\n")
 }

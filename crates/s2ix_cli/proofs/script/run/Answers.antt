@@ -1,27 +1,109 @@
--- A fault while the input was read stops the run before its first line; one while the sink was flushed behind its last.
-use Rattle.std.proofs.Common.{inl, refl, sym, subst, ◌∙◌}
-use Rattle.std.specs.Io.KnownBytes.{Consumes}
-use Rattle.std.proofs.KnownBytes.{Keeps-refl}
+-- A piece is carried out behind those before it; the piece with no byte is the end.
+use Rattle.std.proofs.Common.{◌+◌, [], take, sym, ap, ◌∙◌, inr, subst, arith}
 use Rattle.std.proofs.lemmas.Result.{err_from_is_err_and}
-use Rattle.s2ix_cli.proofs.Reached.{StopsAfter-nothing, StopsAfter-finished}
+use Rattle.s2ix_cli.specs.Coming.{unended_behind}
+use Rattle.s2ix_cli.specs.Run.{EndWasRead}
+use Rattle.s2ix_cli.proofs.Between.{Between-last, Between-more, Between-flushing, Between-fault, Between-fault_last, Between-ends, Between-ends_flushing, Between-stops, Between-stops_flushing, FaultAmong-flushes, FaultAmong-reads, FaultAmong-source, ReadsOn-more, goes_on, stops_at}
+use Rattle.s2ix_cli.proofs.Steps.{plus_none}
 use Rattle.s2ix_cli.proofs.script.run.Goals as goal
 
-pub returns-in_err-input-clause-stopped : goal.returns-in_err-input-clause-stopped
-returns-in_err-input-clause-stopped g c =
-    let read = c.in_err-input.ensures.stopped in
-    let p = err_from_is_err_and c.from_residual.result c.from_residual.ensures.1 in
-    rw p.1 (read.0, read.1, StopsAfter-nothing _ _ _ _ _ _)
+-- ---- the end of the input
 
-pub returns-in_err-flush-clause-stopped : goal.returns-in_err-flush-clause-stopped
-returns-in_err-flush-clause-stopped g c =
-    let exit = c.from_residual-in_err-flush in
-    let whole = c.in_ok-input.ensures.whole in
-    let told = c.in_ok-told.ensures.finished in
+pub returns-in_err-told-clause-ran : goal.returns-in_err-told-clause-ran
+returns-in_err-told-clause-ran g c =
+    let exit = c.from_residual-in_err-told in
     let p = err_from_is_err_and exit.result exit.ensures.1 in
-    rw p.1
-    (c.deref.result.now, subst (λ l. Consumes (g.S.Source.left c.args.source.now) (g.S.Source.left c.read_whole.new.source) l) (sym c.deref.ensures.value) whole.0, StopsAfter-finished _ _ _ _ _ _ _ _ _ _ whole.1 told c.in_err-flush.ensures.bytes)
+    let b = Between-last _ _ _ _ _ _ _ _ _ _ _ c.pieces.invariant.0 c.in_ok-count.ensures.bytes (ap (λ n. take n c.piece.new.buf) c.if-count-eq0.true) in
+    let end : EndWasRead g.S.Source.left g.S.Source.gives c.args.options.turns c.args.source.now c.piece.new.self = (
+      c.in_ok-count.ensures.end c.if-count-eq0.true,
+      (c.pieces._turn, omega (arith, c.pieces-test.true), c.pieces.source, c.pieces.invariant.1, subst (λ n. g.S.Source.gives c.pieces.source n c.piece.new.self) c.if-count-eq0.true c.in_ok-count.ensures.call),
+    ) in
+    rw (p.1, p.2) (Between-fault_last _ _ _ _ _ _ _ _ _ _ _ _ _ end b (c.in_err-told.ensures.carries c.args.options.stop (unended_behind [] b.input) b.is_held))
 
-pub returns-in_err-input-clause-memory : goal.returns-in_err-input-clause-memory
-returns-in_err-input-clause-memory g c =
-    let p = err_from_is_err_and c.from_residual.result c.from_residual.ensures.1 in
-    rw p.1 (λ wanted. inl (c.in_err-input.ensures.memory (sym p.2 ∙ wanted), refl, Keeps-refl (g.K.Sink.taken c.args.sink.now)))
+pub returns-in_err-told-clause-flushed : goal.returns-in_err-told-clause-flushed
+returns-in_err-told-clause-flushed g c =
+    let exit = c.from_residual-in_err-told in
+    let p = err_from_is_err_and exit.result exit.ensures.1 in
+    let b = c.pieces.invariant.0 in
+    rw (p.1, p.2) (FaultAmong-flushes g.K.Sink.flushes _ _ _ _ _ _ _ _ _ (c.in_err-told.ensures.carries c.args.options.stop (unended_behind [] b.input) b.is_held))
+
+pub returns-in_err-told-clause-too_long : goal.returns-in_err-told-clause-too_long
+returns-in_err-told-clause-too_long g c =
+    let exit = c.from_residual-in_err-told in
+    let p = err_from_is_err_and exit.result exit.ensures.1 in
+    let b = c.pieces.invariant.0 in
+    rw (p.1, p.2) (FaultAmong-reads _ _ _ _ _ _ _ (c.in_err-told.ensures.carries c.args.options.stop (unended_behind [] b.input) b.is_held))
+
+pub returns-in_err-told-clause-source_faults : goal.returns-in_err-told-clause-source_faults
+returns-in_err-told-clause-source_faults g c =
+    let exit = c.from_residual-in_err-told in
+    let p = err_from_is_err_and exit.result exit.ensures.1 in
+    let b = c.pieces.invariant.0 in
+    rw (p.1, p.2) (c.in_ok-count.ensures.faults ∙ ap (λ n. n + 0) c.pieces.invariant.3
+    ∙ ap (λ n. g.S.Source.fault_count c.args.source.now + n) (sym (FaultAmong-source _ _ _ _ _ _ _ (c.in_err-told.ensures.carries c.args.options.stop (unended_behind [] b.input) b.is_held))))
+
+pub returns-in_err-flush-clause-ran : goal.returns-in_err-flush-clause-ran
+returns-in_err-flush-clause-ran g c =
+    let exit = c.from_residual-in_err-flush in
+    let p = err_from_is_err_and exit.result exit.ensures.1 in
+    let b = Between-last _ _ _ _ _ _ _ _ _ _ _ c.pieces.invariant.0 c.in_ok-count.ensures.bytes (ap (λ n. take n c.piece.new.buf) c.if-count-eq0.true) in
+    let end : EndWasRead g.S.Source.left g.S.Source.gives c.args.options.turns c.args.source.now c.piece.new.self = (
+      c.in_ok-count.ensures.end c.if-count-eq0.true,
+      (c.pieces._turn, omega (arith, c.pieces-test.true), c.pieces.source, c.pieces.invariant.1, subst (λ n. g.S.Source.gives c.pieces.source n c.piece.new.self) c.if-count-eq0.true c.in_ok-count.ensures.call),
+    ) in
+    rw (p.1, p.2) (Between-ends_flushing _ _ _ _ _ _ _ _ _ _ _ _ _ _ end b (c.in_ok-told.ensures.carries c.args.options.stop (unended_behind [] b.input) b.is_held) c.in_err-flush.ensures.bytes)
+
+pub returns-then-count-eq0-clause-ran : goal.returns-then-count-eq0-clause-ran
+returns-then-count-eq0-clause-ran g c =
+    let b = Between-last _ _ _ _ _ _ _ _ _ _ _ c.pieces.invariant.0 c.in_ok-count.ensures.bytes (ap (λ n. take n c.piece.new.buf) c.if-count-eq0.true) in
+    let end : EndWasRead g.S.Source.left g.S.Source.gives c.args.options.turns c.args.source.now c.piece.new.self = (
+      c.in_ok-count.ensures.end c.if-count-eq0.true,
+      (c.pieces._turn, omega (arith, c.pieces-test.true), c.pieces.source, c.pieces.invariant.1, subst (λ n. g.S.Source.gives c.pieces.source n c.piece.new.self) c.if-count-eq0.true c.in_ok-count.ensures.call),
+    ) in
+    Between-ends _ _ _ _ _ _ _ _ _ _ _ _ _ _ end b (c.in_ok-told.ensures.carries c.args.options.stop (unended_behind [] b.input) b.is_held) c.in_ok-flush.ensures.bytes
+
+-- ---- a piece
+
+pub returns-in_err-more-clause-ran : goal.returns-in_err-more-clause-ran
+returns-in_err-more-clause-ran g c =
+    let exit = c.from_residual-in_err-more in
+    let p = err_from_is_err_and exit.result exit.ensures.1 in
+    let b = c.pieces.invariant.0 in
+    rw (p.1, p.2) (Between-fault _ _ _ _ _ _ _ _ _ _ _ _ _ _ _ b c.in_ok-count.ensures.bytes (c.in_err-more.ensures.carries (unended_behind [] b.input) b.is_held))
+
+pub returns-in_err-flush-in-GoesOn-clause-ran : goal.returns-in_err-flush-in-GoesOn-clause-ran
+returns-in_err-flush-in-GoesOn-clause-ran g c =
+    let exit = c.from_residual-in_err-flush-in-GoesOn in
+    let p = err_from_is_err_and exit.result exit.ensures.1 in
+    let b = c.pieces.invariant.0 in
+    let front = unended_behind [] b.input in
+    rw (p.1, p.2) (Between-flushing _ _ _ _ _ _ _ _ _ _ _ _ _ _ _ _ _ b c.in_ok-count.ensures.bytes
+    (goes_on _ _ c.args.options.stop front _ _ _ _ _ _ _ c.in-GoesOn.is (c.in_ok-more.ensures.carries front b.is_held)) c.in_err-flush-in-GoesOn.ensures.bytes)
+
+pub returns-in_err-flush-in-Stops-clause-ran : goal.returns-in_err-flush-in-Stops-clause-ran
+returns-in_err-flush-in-Stops-clause-ran g c =
+    let exit = c.from_residual-in_err-flush-in-Stops in
+    let p = err_from_is_err_and exit.result exit.ensures.1 in
+    let b = c.pieces.invariant.0 in
+    let front = unended_behind [] b.input in
+    rw (p.1, p.2) (Between-stops_flushing _ _ _ _ _ _ _ _ _ _ _ _ _ _ _ _ b c.in_ok-count.ensures.bytes
+    (stops_at _ _ c.args.options.stop front _ _ _ _ _ _ _ c.in-Stops.is (c.in_ok-more.ensures.carries front b.is_held)) c.in_err-flush-in-Stops.ensures.bytes)
+
+pub returns-in-Stops-clause-ran : goal.returns-in-Stops-clause-ran
+returns-in-Stops-clause-ran g c =
+    let b = c.pieces.invariant.0 in
+    let front = unended_behind [] b.input in
+    Between-stops _ _ _ _ _ _ _ _ _ _ _ _ _ _ _ _ b c.in_ok-count.ensures.bytes
+    (stops_at _ _ c.args.options.stop front _ _ _ _ _ _ _ c.in-Stops.is (c.in_ok-more.ensures.carries front b.is_held)) c.in_ok-flush-in-Stops.ensures.bytes
+
+pub pieces-preserved : goal.pieces-preserved
+pieces-preserved g c =
+    let b = c.pieces.invariant.0 in
+    let front = unended_behind [] b.input in (
+      Between-more _ _ _ _ _ _ _ _ _ _ _ _ _ _ _ _ b c.in_ok-count.ensures.bytes
+          (goes_on _ _ c.args.options.stop front _ _ _ _ _ _ _ c.in-GoesOn.is (c.in_ok-more.ensures.carries front b.is_held)) c.in_ok-flush-in-GoesOn.ensures.bytes,
+      ReadsOn-more g.S.Source.gives _ _ _ _ _ c.pieces.invariant.1 (let some = c.if-count-eq0.false in omega arith) c.in_ok-count.ensures.call,
+      inr (_, c.in_ok-flush-in-GoesOn.ensures.call),
+      c.in_ok-count.ensures.faults ∙ plus_none _ ∙ c.pieces.invariant.3,
+      c.in_ok-flush-in-GoesOn.ensures.faults ∙ plus_none _ ∙ c.in_ok-more.ensures.faults ∙ plus_none _ ∙ c.pieces.invariant.4,
+    )

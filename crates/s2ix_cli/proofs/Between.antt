@@ -1,0 +1,348 @@
+-- Between the pieces of a run, and how it ends.
+use Rattle.std.proofs.Common.{◌≡◌, ℕ, suc, ◌+◌, ◌<◌, ◌≤◌, ◌&&◌, min, Bool, true, false, if◌then◌else◌, Option, Ok, Err, List, [], ◌∷◌, ◌++◌, length, drop, refl, sym, ap, ◌∙◌, subst, inl, inr, append_assoc, append-nil, length-append, arith}
+use Rattle.std.specs.Io.KnownBytes.{Appends, Consumes, Keeps}
+use Rattle.std.proofs.KnownBytes.{Appends-kept, Consumes-nil, Consumes-trans, Consumes-kept}
+use Rattle.s2ix_edit.specs.State.{State}
+use Rattle.s2ix_io.specs.Faults.{source_faults}
+use Rattle.s2ix_io.specs.Pieces.{ReadsOn}
+use Rattle.s2ix_io.specs.Puts.{AppendsFront}
+use Rattle.s2ix_io.specs.declared.run_fault.RunFault.{RunFault}
+use Rattle.s2ix_io.specs.declared.run_fault.RunFault.TheVariants.{Read, Write, OutOfMemory, ReaderTooLong}
+use Rattle.s2ix_script.specs.Lines.{lines_of}
+use Rattle.s2ix_step.specs.Step.{step_of}
+use Rattle.s2ix_cli.specs.declared.run_end.RunEnd.{RunEnd}
+use Rattle.s2ix_cli.specs.declared.coming.PieceEnd.{PieceEnd}
+use Rattle.s2ix_cli.specs.declared.coming.PieceEnd.TheVariants.{GoesOn, Stops}
+use Rattle.s2ix_cli.specs.Coming.{ended_behind, unended_behind, ended_lines, held_of}
+use Rattle.s2ix_cli.specs.Piece.{CarriesPiece, CountsMore, Reached, Stopped, FaultAmong}
+use Rattle.s2ix_cli.specs.Run.{AreRead, Flushes, Ran, KeepsOn, StandsAfter, Finishes, StopsReading, last_line}
+use Rattle.s2ix_cli.specs.Script.{MOST, after, carried_lines, counted_in, output_of, refused_in}
+use Rattle.s2ix_cli.proofs.Feeds.{ended_behind-append, unended_behind-append, lines_of-ended}
+use Rattle.s2ix_cli.proofs.Steps.{after-append, KeepsOn-append, StandsAfter-none, StandsAfter-append, CountsMore-append, Reached-append, carried_lines-append, carried_lines-all, carried_lines-stop, refused_in-append}
+
+-- the counts before the first line
+abbrev pub none_told : RunEnd
+none_told = record { lines = 0; refused = 0 }
+
+more_none : (n : ℕ) → n ≡ n + 0
+more_none n = omega arith
+
+suc_is : (n : ℕ) → suc n ≡ n + 1
+suc_is n = omega arith
+
+none_more : (n : ℕ) → 0 + n ≡ n
+none_more n = omega arith
+
+either_way : (b : Bool) (lines : List (List ℕ)) → (if b then lines else lines) ≡ lines
+either_way true lines = refl
+either_way false lines = refl
+
+-- lines that are carried out to the end of a run
+Finishes-of : (stop : Bool) (input : List ℕ) (carried : List (List ℕ)) (old new : State) (before behind flushed : Option (List ℕ)) (more : RunEnd) → carried_lines stop old (lines_of input) ≡ carried
+    → StandsAfter carried old new before behind → CountsMore carried old none_told more → Keeps behind flushed → Finishes stop input old new before flushed more
+Finishes-of stop input carried old new before behind flushed more is stands counts kept =
+    record {
+      store = stands.store ∙ ap (after old) (sym is);
+      output = subst (λ l. Appends before flushed (output_of old l)) (sym is) (Appends-kept before behind flushed (output_of old carried) stands.output kept);
+      lines = counts.lines 0 refl ∙ ap (λ n. min n MOST) (none_more (counted_in old carried)) ∙ ap (λ l. min (counted_in old l) MOST) (sym is);
+      refused = counts.refused 0 refl ∙ ap (λ n. min n MOST) (none_more (refused_in old carried)) ∙ ap (λ l. min (refused_in old l) MOST) (sym is);
+    }
+
+-- this was read; the lines that end in it are carried out, and what is left behind them is held
+pub record Between (left left' : Option (List ℕ)) (stop : Bool) (old now : State) (held : Option (List ℕ)) (before behind : Option (List ℕ)) (told : RunEnd) : Type 0 where
+  pub input : List ℕ
+  pub consumed : Consumes left left' input
+  pub is_held : held ≡ held_of (unended_behind [] input)
+  pub reached : Reached stop (ended_lines input) old now before behind none_told told
+
+-- nothing is read
+pub Between-none : (left : Option (List ℕ)) (stop : Bool) (s : State) (held : Option (List ℕ)) (out : Option (List ℕ)) (told : RunEnd) → held ≡ held_of [] → told.lines ≡ 0 → told.refused ≡ 0
+    → Between left left stop s s held out out told
+Between-none left stop s held out told is lines refused =
+    record {
+      input = [];
+      consumed = Consumes-nil left;
+      is_held = is;
+      reached = record {
+        keeps_on = λ e. refl;
+        stands = StandsAfter-none s out;
+        counts = record { lines = λ n e. lines ∙ e ∙ ap (λ k. min k MOST) (more_none n); refused = λ n e. refused ∙ e ∙ ap (λ k. min k MOST) (more_none n) };
+      };
+    }
+
+Reached-kept : (stop : Bool) (lines : List (List ℕ)) (old new : State) (before between behind : Option (List ℕ)) (told more : RunEnd) → Reached stop lines old new before between told more → Keeps between behind
+    → Reached stop lines old new before behind told more
+Reached-kept stop lines old new before between behind told more r kept =
+    record { keeps_on = r.keeps_on; stands = record { store = r.stands.store; output = Appends-kept before between behind (output_of old lines) r.stands.output kept }; counts = r.counts }
+
+ended-more : (input piece : List ℕ) → ended_lines (input ++ piece) ≡ ended_lines input ++ ended_behind (unended_behind [] input) piece
+ended-more input piece = ended_behind-append [] input piece
+
+-- a piece more, and what was written is flushed
+pub Between-more : (left mid left' : Option (List ℕ)) (stop : Bool) (old now new : State) (held held' : Option (List ℕ)) (before between behind flushed : Option (List ℕ)) (told more : RunEnd) (piece : List ℕ)
+    → (b : Between left mid stop old now held before between told) → Consumes mid left' piece
+    → Reached stop (ended_behind (unended_behind [] b.input) piece) now new between behind told more × (held' ≡ held_of (unended_behind (unended_behind [] b.input) piece))
+    → Keeps behind flushed → Between left left' stop old new held' before flushed more
+Between-more left mid left' stop old now new held held' before between behind flushed told more piece b consumed carried kept =
+    record {
+      input = b.input ++ piece;
+      consumed = Consumes-trans left mid left' b.input piece b.consumed consumed;
+      is_held = carried.1 ∙ ap held_of (sym (unended_behind-append [] b.input piece));
+      reached = subst (λ l. Reached stop l old new before flushed none_told more) (sym (ended-more b.input piece))
+          (Reached-kept stop _ old new before behind flushed none_told more
+          (Reached-append stop (ended_lines b.input) (ended_behind (unended_behind [] b.input) piece) old now new before between behind none_told told more b.reached carried.0) kept);
+    }
+
+-- the piece at the end has no byte
+pub Between-last : (left mid left' : Option (List ℕ)) (stop : Bool) (old now : State) (held : Option (List ℕ)) (before behind : Option (List ℕ)) (told : RunEnd) (piece : List ℕ)
+    → Between left mid stop old now held before behind told → Consumes mid left' piece → piece ≡ [] → Between left left' stop old now held before behind told
+Between-last left mid left' stop old now held before behind told piece b consumed none =
+    record {
+      input = b.input;
+      consumed = subst (Consumes left left') (ap (λ l. b.input ++ l) none ∙ append-nil b.input) (Consumes-trans left mid left' b.input piece b.consumed consumed);
+      is_held = b.is_held;
+      reached = b.reached;
+    }
+
+-- ---- a fault among lines is none of the source
+
+pub FaultAmong-flushes : {K : Type 0} (flushes : K → K → Type 0) (s s' : K) (fault : RunFault) (stop : Bool) (lines : List (List ℕ)) (old new : State) (before behind : Option (List ℕ))
+    → FaultAmong fault stop lines old new before behind → Flushes flushes (Err fault) s s'
+FaultAmong-flushes flushes s s' Read stop lines old new before behind f = absurd f
+FaultAmong-flushes flushes s s' ReaderTooLong stop lines old new before behind f = absurd f
+FaultAmong-flushes flushes s s' Write stop lines old new before behind f = tt
+FaultAmong-flushes flushes s s' OutOfMemory stop lines old new before behind f = tt
+
+pub FaultAmong-reads : {P : Type 0} (fault : RunFault) (stop : Bool) (lines : List (List ℕ)) (old new : State) (before behind : Option (List ℕ))
+    → FaultAmong fault stop lines old new before behind → fault ≡ ReaderTooLong → P
+FaultAmong-reads fault stop lines old new before behind f e = absurd (subst (λ x. FaultAmong x stop lines old new before behind) e f)
+
+pub FaultAmong-source : (fault : RunFault) (stop : Bool) (lines : List (List ℕ)) (old new : State) (before behind : Option (List ℕ))
+    → FaultAmong fault stop lines old new before behind → source_faults {A = RunEnd} (Err fault) ≡ 0
+FaultAmong-source Read stop lines old new before behind f = absurd f
+FaultAmong-source ReaderTooLong stop lines old new before behind f = absurd f
+FaultAmong-source Write stop lines old new before behind f = refl
+FaultAmong-source OutOfMemory stop lines old new before behind f = refl
+
+-- ---- no more can be read
+
+pub Between-reading : (left mid left' : Option (List ℕ)) (stop : Bool) (old now : State) (held : Option (List ℕ)) (before behind : Option (List ℕ)) (told : RunEnd)
+    → Between left mid stop old now held before behind told → Keeps mid left' → (input : List ℕ) × Consumes left left' input × StopsReading stop input old now before behind
+Between-reading left mid left' stop old now held before behind told b kept =
+    (b.input, Consumes-kept left mid left' b.input b.consumed kept, record { keeps_on = b.reached.keeps_on; stands = b.reached.stands })
+
+pub Between-ended : (left mid : Option (List ℕ)) (stop : Bool) (old now : State) (held : Option (List ℕ)) (before behind : Option (List ℕ)) (told : RunEnd)
+    → Between left mid stop old now held before behind told → (input : List ℕ) × Consumes left mid input × StopsReading stop input old now before behind
+Between-ended left mid stop old now held before behind told b = (b.input, b.consumed, record { keeps_on = b.reached.keeps_on; stands = b.reached.stands })
+
+-- the sink fails at the flush behind a piece
+pub Between-flushing : (End : Type 0) (left mid left' : Option (List ℕ)) (stop : Bool) (old now new : State) (held held' : Option (List ℕ)) (before between behind flushed : Option (List ℕ)) (told more : RunEnd) (piece : List ℕ)
+    → (b : Between left mid stop old now held before between told) → Consumes mid left' piece
+    → Reached stop (ended_behind (unended_behind [] b.input) piece) now new between behind told more × (held' ≡ held_of (unended_behind (unended_behind [] b.input) piece))
+    → Keeps behind flushed → (input : List ℕ) × Consumes left left' input × Ran (Err Write) End stop input old new before flushed
+Between-flushing End left mid left' stop old now new held held' before between behind flushed told more piece b consumed carried kept =
+    let b' = Between-more left mid left' stop old now new held held' before between behind flushed told more piece b consumed carried kept in (
+      b'.input,
+      b'.consumed,
+      (
+        ended_lines b'.input,
+        inl refl,
+        inr (subst (λ l. StandsAfter l old new before flushed) (sym (carried_lines-all stop old (ended_lines b'.input) b'.reached.keeps_on)) b'.reached.stands),
+      ),
+    )
+
+-- ---- a fault among lines
+
+-- a line that is carried out, behind others
+carried_cut : (stop : Bool) (old mid : State) (lines done more done' rest : List (List ℕ)) (line : List ℕ) → lines ≡ done ++ more → more ≡ done' ++ line ∷ rest → KeepsOn stop old done → mid ≡ after old done → KeepsOn stop mid done'
+    → carried_lines stop old lines ≡ (done ++ done') ++ line ∷ drop 1 (carried_lines stop (after old (done ++ done')) (line ∷ rest))
+carried_cut stop old mid lines done more done' rest line is are on stands on' =
+    ap (carried_lines stop old) (is ∙ ap (λ l. done ++ l) are ∙ sym (append_assoc done done' (line ∷ rest)))
+    ∙ carried_lines-append stop old (done ++ done') (line ∷ rest) (KeepsOn-append stop old done done' on (subst (λ s. KeepsOn stop s done') stands on'))
+
+pub FaultAmong-ran : (fault : RunFault) (End : Type 0) (stop : Bool) (input : List ℕ) (lines done more : List (List ℕ)) (old mid new : State) (before between behind : Option (List ℕ)) (told : RunEnd)
+    → AreRead End input lines → lines ≡ done ++ more → Reached stop done old mid before between none_told told → FaultAmong fault stop more mid new between behind
+    → Ran (Err fault) End stop input old new before behind
+FaultAmong-ran Read End stop input lines done more old mid new before between behind told read is a f = absurd f
+FaultAmong-ran ReaderTooLong End stop input lines done more old mid new before between behind told read is a f = absurd f
+FaultAmong-ran Write End stop input lines done more old mid new before between behind told read is a f =
+    let stands = StandsAfter-append done f.done old mid (after mid f.done) before between f.mid a.stands (record { store = refl; output = f.output }) in (
+      lines,
+      read,
+      inl (record {
+        done = done ++ f.done;
+        line = f.line;
+        rest = drop 1 (carried_lines stop (after old (done ++ f.done)) (f.line ∷ f.rest));
+        are_carried = carried_cut stop old mid lines done more f.done f.rest f.line is f.are a.keeps_on a.stands.store f.keeps_on;
+        store = f.store ∙ ap (λ s. (step_of s f.line).after) stands.store;
+        mid = f.mid;
+        output = stands.output;
+        cut = subst (λ s. AppendsFront f.mid behind (step_of s f.line).answer) stands.store f.cut;
+      }),
+    )
+FaultAmong-ran OutOfMemory End stop input lines done more old mid new before between behind told read is a f =
+    let stands = StandsAfter-append done f.done old mid new before between behind a.stands f.stands in (
+      lines,
+      read,
+      record {
+        done = done ++ f.done;
+        line = f.line;
+        rest = drop 1 (carried_lines stop (after old (done ++ f.done)) (f.line ∷ f.rest));
+        are_carried = carried_cut stop old mid lines done more f.done f.rest f.line is f.are a.keeps_on a.stands.store f.keeps_on;
+        store = stands.store;
+        output = stands.output;
+        wants = f.wants;
+      },
+    )
+
+-- a fault among the lines of a piece
+pub Between-fault : (fault : RunFault) (End : Type 0) (left mid left' : Option (List ℕ)) (stop : Bool) (old now new : State) (held : Option (List ℕ)) (before between behind : Option (List ℕ)) (told : RunEnd) (piece : List ℕ)
+    → (b : Between left mid stop old now held before between told) → Consumes mid left' piece → FaultAmong fault stop (ended_behind (unended_behind [] b.input) piece) now new between behind
+    → (input : List ℕ) × Consumes left left' input × Ran (Err fault) End stop input old new before behind
+Between-fault fault End left mid left' stop old now new held before between behind told piece b consumed f = (
+  b.input ++ piece,
+  Consumes-trans left mid left' b.input piece b.consumed consumed,
+  FaultAmong-ran fault End stop (b.input ++ piece) (ended_lines (b.input ++ piece)) (ended_lines b.input) (ended_behind (unended_behind [] b.input) piece) old now new before between behind told
+      (inl refl) (ended-more b.input piece) b.reached f,
+)
+
+-- one in the last line
+pub Between-fault_last : (fault : RunFault) (End : Type 0) (left left' : Option (List ℕ)) (stop : Bool) (old now new : State) (held : Option (List ℕ)) (before between behind : Option (List ℕ)) (told : RunEnd)
+    → End → (b : Between left left' stop old now held before between told) → FaultAmong fault stop (last_line (unended_behind [] b.input)) now new between behind
+    → (input : List ℕ) × Consumes left left' input × Ran (Err fault) End stop input old new before behind
+Between-fault_last fault End left left' stop old now new held before between behind told end b f = (
+  b.input,
+  b.consumed,
+  FaultAmong-ran fault End stop b.input (lines_of b.input) (ended_lines b.input) (last_line (unended_behind [] b.input)) old now new before between behind told
+      (inr (end, refl)) (lines_of-ended b.input) b.reached f,
+)
+
+-- ---- the end of the input
+
+carried_last : (stop : Bool) (s : State) (front : List ℕ) → carried_lines stop s (last_line front) ≡ last_line front
+carried_last stop s [] = refl
+carried_last stop s (byte ∷ front) = ap (λ l. (byte ∷ front) ∷ l) (either_way (stop && (step_of s (byte ∷ front)).is_refused) [])
+
+pub Between-finishes : (left left' : Option (List ℕ)) (stop : Bool) (old now new : State) (held : Option (List ℕ)) (before between behind flushed : Option (List ℕ)) (told more : RunEnd)
+    → (b : Between left left' stop old now held before between told) → StandsAfter (last_line (unended_behind [] b.input)) now new between behind
+    → CountsMore (last_line (unended_behind [] b.input)) now told more → Keeps behind flushed → Finishes stop b.input old new before flushed more
+Between-finishes left left' stop old now new held before between behind flushed told more b stands counts kept =
+    let last = last_line (unended_behind [] b.input) in
+    Finishes-of stop b.input (ended_lines b.input ++ last) old new before behind flushed more
+    (ap (carried_lines stop old) (lines_of-ended b.input) ∙ carried_lines-append stop old (ended_lines b.input) last b.reached.keeps_on
+    ∙ ap (λ l. ended_lines b.input ++ l) (carried_last stop (after old (ended_lines b.input)) (unended_behind [] b.input)))
+    (StandsAfter-append (ended_lines b.input) last old now new before between behind b.reached.stands stands)
+    (CountsMore-append (ended_lines b.input) last old now none_told told more b.reached.stands.store b.reached.counts counts)
+    kept
+
+pub Between-ends : (End : Type 0) (left left' : Option (List ℕ)) (stop : Bool) (old now new : State) (held : Option (List ℕ)) (before between behind flushed : Option (List ℕ)) (told more : RunEnd)
+    → End → (b : Between left left' stop old now held before between told) → StandsAfter (last_line (unended_behind [] b.input)) now new between behind × CountsMore (last_line (unended_behind [] b.input)) now told more
+    → Keeps behind flushed → (input : List ℕ) × Consumes left left' input × Ran (Ok more) End stop input old new before flushed
+Between-ends End left left' stop old now new held before between behind flushed told more end b last kept =
+    (b.input, b.consumed, (inl end, Between-finishes left left' stop old now new held before between behind flushed told more b last.0 last.1 kept))
+
+pub Between-ends_flushing : (End : Type 0) (left left' : Option (List ℕ)) (stop : Bool) (old now new : State) (held : Option (List ℕ)) (before between behind flushed : Option (List ℕ)) (told more : RunEnd)
+    → End → (b : Between left left' stop old now held before between told) → StandsAfter (last_line (unended_behind [] b.input)) now new between behind × CountsMore (last_line (unended_behind [] b.input)) now told more
+    → Keeps behind flushed → (input : List ℕ) × Consumes left left' input × Ran (Err Write) End stop input old new before flushed
+Between-ends_flushing End left left' stop old now new held before between behind flushed told more end b last kept =
+    let f = Between-finishes left left' stop old now new held before between behind flushed told more b last.0 last.1 kept in
+    (b.input, b.consumed, (lines_of b.input, inr (end, refl), inr (record { store = f.store; output = f.output })))
+
+-- ---- a refused line ends the run
+
+-- lines up to and with one that is refused
+record Halts (stop : Bool) (lines : List (List ℕ)) (old new : State) (before behind : Option (List ℕ)) (more : RunEnd) : Type 0 where
+  pub carried : List (List ℕ)
+  pub are_carried : (tail : List (List ℕ)) → carried_lines stop old (lines ++ tail) ≡ carried
+  pub stands : StandsAfter carried old new before behind
+  pub counts : CountsMore carried old none_told more
+  pub stops : stop ≡ true
+  pub refused : 0 < refused_in old carried
+  pub ended : length carried ≤ length lines
+
+halted_at : (done rest : List (List ℕ)) (line : List ℕ) → length (done ++ line ∷ []) ≤ length (done ++ line ∷ rest)
+halted_at done rest line = omega (arith, length-append done (line ∷ []), length-append done (line ∷ rest))
+
+refused_last : (s : State) (done : List (List ℕ)) (line : List ℕ) → (step_of (after s done) line).is_refused ≡ true → 0 < refused_in s (done ++ line ∷ [])
+refused_last s done line is = omega (arith, refused_in-append s done (line ∷ []), ap (λ b. (if b then 1 else 0) + 0) is)
+
+Halts-of : (stop : Bool) (lines done more : List (List ℕ)) (old mid new : State) (before between behind : Option (List ℕ)) (told told' : RunEnd) → lines ≡ done ++ more
+    → Reached stop done old mid before between none_told told → Stopped stop more mid new between behind told told' → Halts stop lines old new before behind told'
+Halts-of stop lines done more old mid new before between behind told told' is a s =
+    let full = done ++ s.done in
+    let same : done ++ (s.done ++ s.line ∷ []) ≡ full ++ s.line ∷ [] = sym (append_assoc done s.done (s.line ∷ [])) in
+    let at : after mid s.done ≡ after old full = ap (λ x. after x s.done) a.stands.store ∙ sym (after-append old done s.done) in
+    let refused : (step_of (after old full) s.line).is_refused ≡ true = ap (λ x. (step_of x s.line).is_refused) (sym at) ∙ s.refused in
+    let are : lines ≡ full ++ s.line ∷ s.rest = is ∙ ap (λ l. done ++ l) s.are ∙ sym (append_assoc done s.done (s.line ∷ s.rest)) in
+    let on : KeepsOn stop old full = KeepsOn-append stop old done s.done a.keeps_on (subst (λ x. KeepsOn stop x s.done) a.stands.store s.keeps_on) in
+    record {
+      carried = full ++ s.line ∷ [];
+      are_carried = λ tail.
+          ap (λ l. carried_lines stop old (l ++ tail)) are ∙ ap (carried_lines stop old) (append_assoc full (s.line ∷ s.rest) tail)
+          ∙ carried_lines-append stop old full (s.line ∷ (s.rest ++ tail)) on
+          ∙ ap (λ l. full ++ l) (carried_lines-stop stop (after old full) s.line (s.rest ++ tail) s.stops refused);
+      stands = subst (λ l. StandsAfter l old new before behind) same (StandsAfter-append done (s.done ++ s.line ∷ []) old mid new before between behind a.stands s.stands);
+      counts = subst (λ l. CountsMore l old none_told told') same (CountsMore-append done (s.done ++ s.line ∷ []) old mid none_told told told' a.stands.store a.counts s.counts);
+      stops = s.stops;
+      refused = refused_last old full s.line refused;
+      ended = subst (λ l. length (full ++ s.line ∷ []) ≤ length l) (sym are) (halted_at full s.rest s.line);
+    }
+
+Between-halts : (left mid : Option (List ℕ)) (stop : Bool) (old now new : State) (held : Option (List ℕ)) (before between behind : Option (List ℕ)) (told more : RunEnd) (piece : List ℕ)
+    → (b : Between left mid stop old now held before between told) → Stopped stop (ended_behind (unended_behind [] b.input) piece) now new between behind told more
+    → Halts stop (ended_lines (b.input ++ piece)) old new before behind more
+Between-halts left mid stop old now new held before between behind told more piece b s =
+    Halts-of stop (ended_lines (b.input ++ piece)) (ended_lines b.input) (ended_behind (unended_behind [] b.input) piece) old now new before between behind told more (ended-more b.input piece) b.reached s
+
+pub Between-stops : (End : Type 0) (left mid left' : Option (List ℕ)) (stop : Bool) (old now new : State) (held : Option (List ℕ)) (before between behind flushed : Option (List ℕ)) (told more : RunEnd) (piece : List ℕ)
+    → (b : Between left mid stop old now held before between told) → Consumes mid left' piece → Stopped stop (ended_behind (unended_behind [] b.input) piece) now new between behind told more
+    → Keeps behind flushed → (input : List ℕ) × Consumes left left' input × Ran (Ok more) End stop input old new before flushed
+Between-stops End left mid left' stop old now new held before between behind flushed told more piece b consumed s kept =
+    let h = Between-halts left mid stop old now new held before between behind told more piece b s in
+    let input = b.input ++ piece in
+    let is : carried_lines stop old (lines_of input) ≡ h.carried = ap (carried_lines stop old) (lines_of-ended input) ∙ h.are_carried (last_line (unended_behind [] input)) in (
+      input,
+      Consumes-trans left mid left' b.input piece b.consumed consumed,
+      (
+        inr (record {
+          stops = h.stops;
+          refused = subst (λ l. 0 < refused_in old l) (sym is) h.refused;
+          ended = subst (λ l. length l ≤ length (ended_lines input)) (sym is) h.ended;
+        }),
+        Finishes-of stop input h.carried old new before behind flushed more is h.stands h.counts kept,
+      ),
+    )
+
+pub Between-stops_flushing : (End : Type 0) (left mid left' : Option (List ℕ)) (stop : Bool) (old now new : State) (held : Option (List ℕ)) (before between behind flushed : Option (List ℕ)) (told more : RunEnd) (piece : List ℕ)
+    → (b : Between left mid stop old now held before between told) → Consumes mid left' piece → Stopped stop (ended_behind (unended_behind [] b.input) piece) now new between behind told more
+    → Keeps behind flushed → (input : List ℕ) × Consumes left left' input × Ran (Err Write) End stop input old new before flushed
+Between-stops_flushing End left mid left' stop old now new held before between behind flushed told more piece b consumed s kept =
+    let h = Between-halts left mid stop old now new held before between behind told more piece b s in
+    let input = b.input ++ piece in
+    let is : carried_lines stop old (ended_lines input) ≡ h.carried = ap (carried_lines stop old) (sym (append-nil (ended_lines input))) ∙ h.are_carried [] in (
+      input,
+      Consumes-trans left mid left' b.input piece b.consumed consumed,
+      (
+        ended_lines input,
+        inl refl,
+        inr (subst (λ l. StandsAfter l old new before flushed) (sym is)
+            (record { store = h.stands.store; output = Appends-kept before behind flushed (output_of old h.carried) h.stands.output kept })),
+      ),
+    )
+
+-- ---- how a piece ended
+
+pub goes_on : (end : PieceEnd) (more : RunEnd) (stop : Bool) (front piece : List ℕ) (old new : State) (held before behind : Option (List ℕ)) (told : RunEnd) → end ≡ GoesOn more
+    → CarriesPiece (Ok end) stop front piece old new held before behind told → CarriesPiece (Ok (GoesOn more)) stop front piece old new held before behind told
+goes_on end more stop front piece old new held before behind told is c = subst (λ e. CarriesPiece (Ok e) stop front piece old new held before behind told) is c
+
+pub stops_at : (end : PieceEnd) (more : RunEnd) (stop : Bool) (front piece : List ℕ) (old new : State) (held before behind : Option (List ℕ)) (told : RunEnd) → end ≡ Stops more
+    → CarriesPiece (Ok end) stop front piece old new held before behind told → CarriesPiece (Ok (Stops more)) stop front piece old new held before behind told
+stops_at end more stop front piece old new held before behind told is c = subst (λ e. CarriesPiece (Ok e) stop front piece old new held before behind told) is c
+
+-- ---- one piece more
+
+pub ReadsOn-more : {S : Type 0} (gives : S → ℕ → S → Type 0) (pieces n : ℕ) (old mid new : S) → ReadsOn gives pieces old mid → 0 < n → gives mid n new → ReadsOn gives (pieces + 1) old new
+ReadsOn-more gives pieces n old mid new on some call =
+    let more : ReadsOn gives (suc pieces) old new = (mid, on, n, some, call) in
+    subst (λ k. ReadsOn gives k old new) (suc_is pieces) more

@@ -1,0 +1,110 @@
+-- The lines that end in a text, and what is left behind them.
+use Rattle.std.proofs.Common.{◌≡◌, ◌≢◌, ℕ, zero, suc, ◌+◌, ◌<◌, Some, None, List, [], ◌∷◌, ◌++◌, length, get_or, take, drop, refl, sym, ap, ◌∙◌, inl, inr, append_assoc, append-nil, arith}
+use Rattle.std.proofs.lemmas.Bool.{eq-eqb, eqb-true, ne_eqb}
+use Rattle.std.proofs.lemmas.Bool.Decides.{eqb_tells}
+use Rattle.std.proofs.lemmas.List.{drop_more, take-append-drop}
+use Rattle.std.proofs.lemmas.List.Elements.{All-from_get_or}
+use Rattle.bstr.specs.Find.{IsFirstByte, is_byte}
+use Rattle.s2ix_script.specs.Lines.{with_first, lines_of}
+use Rattle.s2ix_cli.specs.Coming.{ended_behind, unended_behind, ended_lines}
+use Rattle.s2ix_cli.specs.Piece.{HasNoFeed}
+use Rattle.s2ix_cli.specs.Run.{last_line}
+
+-- ---- a text up to its first line feed
+
+no_feed_first : (byte : ℕ) (text : List ℕ) → byte ≢ 10 → HasNoFeed text → HasNoFeed (byte ∷ text)
+no_feed_first byte text is none zero d h = is
+no_feed_first byte text is none (suc k) d h = none k d (omega arith)
+
+no_feed_before : (text : List ℕ) (end : ℕ) → ((k : ℕ) → k < end → k < length text → get_or text k 0 ≢ 10) → HasNoFeed (take end text)
+no_feed_before [] zero before = λ k d h. absurd (omega arith)
+no_feed_before [] (suc end) before = λ k d h. absurd (omega arith)
+no_feed_before (byte ∷ text) zero before = λ k d h. absurd (omega arith)
+no_feed_before (byte ∷ text) (suc end) before =
+    no_feed_first byte (take end text) (before 0 (omega arith) (omega arith)) (no_feed_before text end (λ k h i. before (suc k) (omega arith) (omega arith)))
+
+-- what a search for a line feed finds
+pub cut_at_first : (text : List ℕ) (end : ℕ) → IsFirstByte (is_byte 10) text (Some end) → (text ≡ take end text ++ 10 ∷ drop (end + 1) text) × HasNoFeed (take end text)
+cut_at_first text end found =
+    let is : get_or text end 0 ≡ 10 = eqb-true (get_or text end 0) 10 found.1 in
+    let inside : end < length text = found.0.high in (
+      sym (take-append-drop end text) ∙ ap (λ rest. take end text ++ rest) (drop_more text end 0 inside ∙ ap (λ byte. byte ∷ drop (end + 1) text) is),
+      no_feed_before text end (λ k h i is_feed. found.0.before k (omega arith) h (eq-eqb (get_or text k 0) 10 is_feed)),
+    )
+
+-- and what it says where it finds none
+pub none_at_all : (text : List ℕ) → IsFirstByte (is_byte 10) text None → HasNoFeed text
+none_at_all text none = All-from_get_or (λ byte. byte ≢ 10) text 0 (λ k h is_feed. none k (omega arith) h (eq-eqb (get_or text k 0) 10 is_feed))
+
+-- ---- what ends in a text
+
+-- a line and its feed come first
+pub ended_behind-line : (front line rest : List ℕ) → HasNoFeed line → ended_behind front (line ++ 10 ∷ rest) ≡ (front ++ line) ∷ ended_behind [] rest
+ended_behind-line front [] rest none = ap (λ l. l ∷ ended_behind [] rest) (sym (append-nil front))
+ended_behind-line front (byte ∷ line) rest none =
+    rw (ne_eqb byte 10 (none 0 0 (omega arith)))
+    (ended_behind-line (front ++ byte ∷ []) line rest (λ k d h. none (suc k) d (omega arith)) ∙ ap (λ l. l ∷ ended_behind [] rest) (append_assoc front (byte ∷ []) line))
+
+pub unended_behind-line : (front line rest : List ℕ) → HasNoFeed line → unended_behind front (line ++ 10 ∷ rest) ≡ unended_behind [] rest
+unended_behind-line front [] rest none = refl
+unended_behind-line front (byte ∷ line) rest none =
+    rw (ne_eqb byte 10 (none 0 0 (omega arith))) (unended_behind-line (front ++ byte ∷ []) line rest (λ k d h. none (suc k) d (omega arith)))
+
+-- nothing ends in a text without a line feed
+pub ended_behind-none : (front text : List ℕ) → HasNoFeed text → ended_behind front text ≡ []
+ended_behind-none front [] none = refl
+ended_behind-none front (byte ∷ text) none =
+    rw (ne_eqb byte 10 (none 0 0 (omega arith))) (ended_behind-none (front ++ byte ∷ []) text (λ k d h. none (suc k) d (omega arith)))
+
+pub unended_behind-none : (front text : List ℕ) → HasNoFeed text → unended_behind front text ≡ front ++ text
+unended_behind-none front [] none = sym (append-nil front)
+unended_behind-none front (byte ∷ text) none =
+    rw (ne_eqb byte 10 (none 0 0 (omega arith)))
+    (unended_behind-none (front ++ byte ∷ []) text (λ k d h. none (suc k) d (omega arith)) ∙ append_assoc front (byte ∷ []) text)
+
+-- of two texts, what ends in the second has what the first left before it
+pub ended_behind-append : (front text more : List ℕ) → ended_behind front (text ++ more) ≡ ended_behind front text ++ ended_behind (unended_behind front text) more
+ended_behind-append front [] more = refl
+ended_behind-append front (byte ∷ text) more =
+    elim (eqb_tells byte 10) [
+      | inl w ↦ rw w.0 (ap (λ lines. front ∷ lines) (ended_behind-append [] text more))
+      | inr w ↦ rw w.0 (ended_behind-append (front ++ byte ∷ []) text more)
+    ]
+
+pub unended_behind-append : (front text more : List ℕ) → unended_behind front (text ++ more) ≡ unended_behind (unended_behind front text) more
+unended_behind-append front [] more = refl
+unended_behind-append front (byte ∷ text) more =
+    elim (eqb_tells byte 10) [
+      | inl w ↦ rw w.0 (unended_behind-append [] text more)
+      | inr w ↦ rw w.0 (unended_behind-append (front ++ byte ∷ []) text more)
+    ]
+
+-- ---- the lines of a script are those that are ended, and its last one
+
+-- bytes at the front of the first of some lines
+abbrev onto : List ℕ → List (List ℕ) → List (List ℕ)
+onto front [] = last_line front
+onto front (line ∷ lines) = (front ++ line) ∷ lines
+
+onto-nil : (lines : List (List ℕ)) → onto [] lines ≡ lines
+onto-nil [] = refl
+onto-nil (line ∷ lines) = refl
+
+last_line-more : (front : List ℕ) (byte : ℕ) → last_line (front ++ byte ∷ []) ≡ (front ++ byte ∷ []) ∷ []
+last_line-more [] byte = refl
+last_line-more (x ∷ front) byte = refl
+
+onto-with_first : (front : List ℕ) (byte : ℕ) (lines : List (List ℕ)) → onto (front ++ byte ∷ []) lines ≡ onto front (with_first byte lines)
+onto-with_first front byte [] = last_line-more front byte
+onto-with_first front byte (line ∷ lines) = ap (λ l. l ∷ lines) (append_assoc front (byte ∷ []) line)
+
+lines_behind : (front text : List ℕ) → ended_behind front text ++ last_line (unended_behind front text) ≡ onto front (lines_of text)
+lines_behind front [] = refl
+lines_behind front (byte ∷ text) =
+    elim (eqb_tells byte 10) [
+      | inl w ↦ rw w.0 (ap (λ lines. front ∷ lines) (lines_behind [] text ∙ onto-nil (lines_of text)) ∙ ap (λ l. l ∷ lines_of text) (sym (append-nil front)))
+      | inr w ↦ rw w.0 (lines_behind (front ++ byte ∷ []) text ∙ onto-with_first front byte (lines_of text))
+    ]
+
+pub lines_of-ended : (text : List ℕ) → lines_of text ≡ ended_lines text ++ last_line (unended_behind [] text)
+lines_of-ended text = sym (lines_behind [] text ∙ onto-nil (lines_of text))

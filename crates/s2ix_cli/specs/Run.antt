@@ -1,0 +1,88 @@
+-- What a run comes to.
+use Rattle.std.specs.Prelude.{◌≡◌, ℕ, ◌<◌, ◌≤◌, ◌⊎◌, min, Bool, true, Option, Result, Ok, Err, List, [], ◌∷◌, ◌++◌, length}
+use Rattle.std.specs.Io.KnownBytes.{Appends, IsAtEnd}
+use Rattle.s2ix_edit.specs.State.{State}
+use Rattle.s2ix_io.specs.Pieces.{ReadsToEnd}
+use Rattle.s2ix_io.specs.Puts.{AppendsFront}
+use Rattle.s2ix_io.specs.declared.run_fault.RunFault.{RunFault}
+use Rattle.s2ix_io.specs.declared.run_fault.RunFault.TheVariants.{Read, Write, OutOfMemory, ReaderTooLong}
+use Rattle.s2ix_script.specs.Lines.{lines_of}
+use Rattle.s2ix_step.specs.Step.{step_of}
+use Rattle.s2ix_cli.specs.declared.run_end.RunEnd.{RunEnd}
+use Rattle.s2ix_cli.specs.Coming.{ended_lines}
+use Rattle.s2ix_cli.specs.Script.{MOST, after, carried_lines, counted_in, output_of, refused_in}
+use Rattle.s2ix_cli.specs.Wants.{WantsAmong}
+
+-- the end of the input was read, by at most `turns` pieces
+abbrev pub EndWasRead : {S : Type 0} → (S → Option (List ℕ)) → (S → ℕ → S → Type 0) → ℕ → S → S → Type 0
+EndWasRead left gives turns old new = IsAtEnd (left new) × ReadsToEnd gives turns old new
+
+-- the lines of an input that a run can carry out: those that are ended, and where the end of the input was read its last line too
+abbrev pub AreRead : Type 0 → List ℕ → List (List ℕ) → Type 0
+AreRead End input lines = (lines ≡ ended_lines input) ⊎ (End × (lines ≡ lines_of input))
+
+-- the last line of a script, where no line feed ends it: if it has a byte
+abbrev pub last_line : List ℕ → List (List ℕ)
+last_line [] = []
+last_line (byte ∷ rest) = (byte ∷ rest) ∷ []
+
+-- no line was refused that would have ended the run
+abbrev pub KeepsOn : Bool → State → List (List ℕ) → Type 0
+KeepsOn stop old lines = stop ≡ true → refused_in old lines ≡ 0
+
+-- the store stands after lines, and their whole output went out
+pub record StandsAfter (lines : List (List ℕ)) (old new : State) (before behind : Option (List ℕ)) : Type 0 where
+  pub store : new ≡ after old lines
+  pub output : Appends before behind (output_of old lines)
+
+-- a run carried the lines of `input` out and wrote exactly their output
+pub record Finishes (stop : Bool) (input : List ℕ) (old new : State) (before behind : Option (List ℕ)) (told : RunEnd) : Type 0 where
+  pub store : new ≡ after old (carried_lines stop old (lines_of input))
+  pub output : Appends before behind (output_of old (carried_lines stop old (lines_of input)))
+  pub lines : told.lines ≡ min (counted_in old (carried_lines stop old (lines_of input))) MOST
+  pub refused : told.refused ≡ min (refused_in old (carried_lines stop old (lines_of input))) MOST
+
+-- with `stop` a run was ended by a refused line, whose line feed was read
+pub record IsStopped (stop : Bool) (input : List ℕ) (old : State) : Type 0 where
+  pub stops : stop ≡ true
+  pub refused : 0 < refused_in old (carried_lines stop old (lines_of input))
+  pub ended : length (carried_lines stop old (lines_of input)) ≤ length (ended_lines input)
+
+-- no more could be read: the store stands after all lines whose ends were read, and their whole output went out
+pub record StopsReading (stop : Bool) (input : List ℕ) (old new : State) (before behind : Option (List ℕ)) : Type 0 where
+  pub keeps_on : KeepsOn stop old (ended_lines input)
+  pub stands : StandsAfter (ended_lines input) old new before behind
+
+-- the sink failed in the answer of a line: the store stands after that line, and what went out is the output of those before it and a
+-- front of its answer
+pub record StopsWriting (stop : Bool) (lines : List (List ℕ)) (old new : State) (before behind : Option (List ℕ)) : Type 0 where
+  pub done : List (List ℕ)
+  pub line : List ℕ
+  pub rest : List (List ℕ)
+  pub are_carried : carried_lines stop old lines ≡ done ++ line ∷ rest
+  pub store : new ≡ (step_of (after old done) line).after
+  pub mid : Option (List ℕ)
+  pub output : Appends before mid (output_of old done)
+  pub cut : AppendsFront mid behind (step_of (after old done) line).answer
+
+-- a run that ended so, over an input of which it read this, comes to this; `End` says that its end was read
+abbrev pub Ran : Result RunEnd RunFault → Type 0 → Bool → List ℕ → State → State → Option (List ℕ) → Option (List ℕ) → Type 0
+Ran (Ok told) End stop input old new before behind = (End ⊎ IsStopped stop input old) × Finishes stop input old new before behind told
+Ran (Err Read) End stop input old new before behind = StopsReading stop input old new before behind
+Ran (Err ReaderTooLong) End stop input old new before behind = StopsReading stop input old new before behind
+Ran (Err Write) End stop input old new before behind =
+    (lines : List (List ℕ)) × AreRead End input lines
+    × (StopsWriting stop lines old new before behind ⊎ StandsAfter (carried_lines stop old lines) old new before behind)
+Ran (Err OutOfMemory) End stop input old new before behind = (lines : List (List ℕ)) × AreRead End input lines × WantsAmong stop lines old new before behind
+
+-- a flush was the last thing that the sink was asked for
+abbrev pub IsFlushed : {K : Type 0} → (K → K → Type 0) → K → Type 0
+IsFlushed {K} flushes new = (written : K) × flushes written new
+
+-- what was written is flushed at the end of a run, and before each piece that is asked for
+abbrev pub Flushes : {K : Type 0} → (K → K → Type 0) → Result RunEnd RunFault → K → K → Type 0
+Flushes flushes (Ok told) old new = IsFlushed flushes new
+Flushes flushes (Err Read) old new = (new ≡ old) ⊎ IsFlushed flushes new
+Flushes flushes (Err ReaderTooLong) old new = (new ≡ old) ⊎ IsFlushed flushes new
+Flushes flushes (Err Write) old new = Unit {0}
+Flushes flushes (Err OutOfMemory) old new = Unit {0}
