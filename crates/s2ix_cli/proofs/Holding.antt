@@ -6,7 +6,7 @@ use Rattle.std.specs.Io.KnownBytes.{Appends}
 use Rattle.s2ix_edit.specs.State.{State}
 use Rattle.s2ix_fields.specs.Fields.{fields_of}
 use Rattle.s2ix_script.specs.Meaning.{LONGEST, meaning_of, meaning_of_fields}
-use Rattle.s2ix_script.specs.Names.{fault_name}
+use Rattle.s2ix_line.specs.Names.{fault_name}
 use Rattle.s2ix_line.specs.declared.line_fault.LineFault.TheVariants.{LineTooLong}
 use Rattle.s2ix_io.specs.Puts.{AppendsFront}
 use Rattle.s2ix_io.specs.declared.run_fault.RunFault.TheVariants.{Write}
