@@ -102,7 +102,14 @@ fn squares_are_those_found_level_by_level(rt: HostRuntime) {
     for level in 0..31u8 {
         let last = !(u32::MAX << level);
         for face in 0..6u8 {
-            for (i, j) in [(0, 0), (last, 0), (0, last), (last, last), (last / 2, 0), (last, last / 3)] {
+            for (i, j) in [
+                (0, 0),
+                (last, 0),
+                (0, last),
+                (last, last),
+                (last / 2, 0),
+                (last, last / 3),
+            ] {
                 check_both_ways(&rt, face, i, j, level);
             }
             for _ in 0..20 {
