@@ -1,6 +1,8 @@
 """Readers of dumps and journals, written from docs/FORMATS.md alone, to compare the program with."""
 import re
 
+from plain_cells import cell_spelled, token_of
+
 NUMBER = re.compile(rb"0|[1-9][0-9]*")
 MOST_LABEL, MOST_COUNT, MOST_PAIRS, MOST_CHANGES, MOST_ENTRIES = 2147483647, 65535, 1000000, 100000, 2000000
 
@@ -9,9 +11,7 @@ def cell_of(part):
     """The number of the cell that a canonical token names, or None."""
     if not re.fullmatch(rb"[0-9a-f]{0,15}[1-9a-f]", part):
         return None
-    number = int(part.ljust(16, b"0"), 16)
-    lowest = number & -number
-    return number if number >> 61 < 6 and lowest.bit_length() % 2 == 1 else None
+    return cell_spelled(part)
 
 
 def number_of(part, least, most):
@@ -46,8 +46,8 @@ def pair_fault(parts):
     return ("BadLabel", None) if label is None else (None, (cell, label))
 
 
-def read_dump(text):
-    """The pairs and counts of a dump, or its fault and the number of its line."""
+def read_dump(text, most_pairs=MOST_PAIRS, most_copies=MOST_COUNT):
+    """The pairs and counts of a dump within limits, or its fault and the number of its line."""
     lines, pairs = Lines(text), []
     line = lines.next()
     if line is None:
@@ -62,13 +62,13 @@ def read_dump(text):
             if line != b"end %d %d" % (len(pairs), sum(count for _, count in pairs)):
                 return None, ("BadEnd", lines.number)
             return (None, ("TrailingBytes", lines.number + 1)) if lines.trailing() else (pairs, None)
-        fault, pair = dump_line(line.split(b" "), pairs)
+        fault, pair = dump_line(line.split(b" "), pairs, most_pairs, most_copies)
         if fault:
             return None, (fault, lines.number)
         pairs.append(pair)
 
 
-def dump_line(parts, pairs):
+def dump_line(parts, pairs, most_pairs, most_copies):
     """The fault of a line of a dump under the pairs above it, or its pair with its count."""
     if len(parts) != 3 or b"" in parts:
         return "BadLine", None
@@ -80,7 +80,9 @@ def dump_line(parts, pairs):
         return "BadCount", None
     if pairs and pair <= pairs[-1][0]:
         return "Unsorted", None
-    return ("TooManyPairs", None) if len(pairs) == MOST_PAIRS else (None, (pair, count))
+    if count > most_copies:
+        return "TooManyCopies", None
+    return ("TooManyPairs", None) if len(pairs) == most_pairs else (None, (pair, count))
 
 
 def read_journal(text):
@@ -146,6 +148,12 @@ def check(text):
     return b"ok %d %d\n" % (len(pairs), sum(count for _, count in pairs))
 
 
+def loaded(text, most_pairs, most_copies):
+    """What a run that loads a text within limits prints of it, where its script is empty."""
+    _, fault = read_dump(text, most_pairs, most_copies)
+    return b"no %s %d\n" % (fault[0].encode(), fault[1]) if fault else b""
+
+
 def moved(dump, journal, is_back):
     """What `replay` prints of two texts, or `rewind` where it goes back."""
     pairs, fault = read_dump(dump)
@@ -163,9 +171,5 @@ def moved(dump, journal, is_back):
                 return b"no Mismatch %d %d\n" % (number, place)
             counts[pair] = new
     held = sorted((pair, count) for pair, count in counts.items() if count > 0)
-    lines = [b"%s %d %d\n" % (token_of(cell), label, count) for (cell, label), count in held]
+    lines = [b"%s %d %d\n" % (token_of(cell).encode(), label, count) for (cell, label), count in held]
     return b"s2ix 1\n%send %d %d\n" % (b"".join(lines), len(held), sum(count for _, count in held))
-
-
-def token_of(cell):
-    return (b"%016x" % cell).rstrip(b"0")

@@ -1,7 +1,8 @@
 /* Loaded before the program under test: refuses one growth of memory, or has one call of a device fail, come short or be
    interrupted, and counts them all. The environment says which: REFUSE_GROWTH is the number of the growth that is refused, from 1;
    REFUSE_CALL is read or write, REFUSE_AT the number of that call, and REFUSE_HOW is fail, short or interrupt; at 0 for REFUSE_AT
-   each call comes short. What was counted is written to the file that REFUSE_COUNTS names, as "growths reads writes". */
+   each call comes short, to REFUSE_LENGTH bytes at most, or to one. What was counted is written to the file that REFUSE_COUNTS names, as
+   "growths reads writes". */
 #define _GNU_SOURCE
 #include <errno.h>
 #include <stdio.h>
@@ -14,7 +15,7 @@ extern void *__libc_malloc(size_t size);
 extern void *__libc_realloc(void *old, size_t size);
 
 static unsigned long growths, reads, writes;
-static unsigned long refused_growth, refused_at;
+static unsigned long refused_growth, refused_at, refused_length;
 static char refused_call, refused_how;
 
 static unsigned long number_in(const char *name) {
@@ -26,6 +27,7 @@ __attribute__((constructor)) static void begin(void) {
   const char *call = getenv("REFUSE_CALL"), *how = getenv("REFUSE_HOW");
   refused_growth = number_in("REFUSE_GROWTH");
   refused_at = number_in("REFUSE_AT");
+  refused_length = number_in("REFUSE_LENGTH");
   refused_call = call ? call[0] : 0;
   refused_how = how ? how[0] : 0;
   growths = 0;
@@ -66,7 +68,8 @@ static ssize_t granted(char call, unsigned long number, size_t size) {
     return (ssize_t)size;
   }
   if (refused_how == 's') {
-    return size > 0 ? 1 : 0;
+    size_t most = refused_length > 0 ? refused_length : 1;
+    return (ssize_t)(size < most ? size : most);
   }
   errno = refused_how == 'i' ? EINTR : EIO;
   return -1;
