@@ -3,10 +3,9 @@
 #![tactic(auto)]
 
 mod carry;
-mod ending;
 
 use carry::carry_command;
-use ending::{Ending, status};
+use s2ix_ending::{Ending, status};
 use s2ix_io::RunFault;
 use s2ix_words::{Command, WordsFault, command_of};
 use std::env;

@@ -2,8 +2,8 @@
 use Rattle.std.specs.Prelude.{ℕ}
 use Rattle.s2ix_io.specs.declared.run_fault.RunFault.{RunFault}
 use Rattle.s2ix_io.specs.declared.run_fault.RunFault.TheVariants.{OutOfMemory}
-use Rattle.s2ix.specs.declared.ending.Ending.{Ending}
-use Rattle.s2ix.specs.declared.ending.Ending.TheVariants.{Accepted, Refused, Usage, Fault}
+use Rattle.s2ix_ending.specs.declared.ending.Ending.{Ending}
+use Rattle.s2ix_ending.specs.declared.ending.Ending.TheVariants.{Accepted, Refused, Usage, Fault}
 
 -- want of memory, or another fault of a run
 abbrev pub fault_status : RunFault → ℕ

@@ -1,13 +1,13 @@
 ghost use Rattle.std.specs.Prelude.{◌≡◌};
 ghost use Rattle.std.specs.Process.{exit_status};
-ghost use Rattle.s2ix.specs.Statuses.{status_of};
+ghost use Rattle.s2ix_ending.specs.Statuses.{status_of};
 
 use s2ix_io::RunFault;
 use std::process::ExitCode;
 
-/// What the program came to.
+/// What the program came to; this project's own.
 #[derive(Clone, Copy, Debug, PartialEq, Eq)]
-pub(crate) enum Ending {
+pub enum Ending {
     /// All was accepted, or help was asked and told.
     Accepted,
     /// A refusal was printed.
@@ -19,8 +19,8 @@ pub(crate) enum Ending {
 }
 
 /// The exit status: 0 where all was accepted, 1 where a refusal was printed, 2 for usage, 4 for want of memory, and 3 for any other
-/// fault.
-pub(crate) fn status(ending: Ending) -> ExitCode
+/// fault. This project's own.
+pub fn status(ending: Ending) -> ExitCode
     ensures { exit_status result ≡ status_of ending }
 {
     ExitCode::from(match ending {
