@@ -15,7 +15,7 @@ use Rattle.s2ix_cli.specs.declared.coming.PieceEnd.{PieceEnd}
 use Rattle.s2ix_cli.specs.declared.coming.PieceEnd.TheVariants.{GoesOn, Stops}
 use Rattle.s2ix_cli.specs.Coming.{ended_behind, unended_behind, ended_lines, held_of}
 use Rattle.s2ix_cli.specs.Piece.{CarriesPiece, CountsMore, Reached, Stopped, FaultAmong}
-use Rattle.s2ix_cli.specs.Run.{AreRead, Flushes, Ran, KeepsOn, StandsAfter, Finishes, StopsReading, last_line}
+use Rattle.s2ix_cli.specs.Run.{AreRead, Flushes, Ran, KeepsOn, StandsAfter, Finishes, last_line}
 use Rattle.s2ix_cli.specs.Script.{MOST, after, carried_lines, counted_in, output_of, refused_in}
 use Rattle.s2ix_cli.proofs.Feeds.{ended_behind-append, unended_behind-append, lines_of-ended}
 use Rattle.s2ix_cli.proofs.Steps.{after-append, KeepsOn-append, StandsAfter-none, StandsAfter-append, CountsMore-append, Reached-append, carried_lines-append, carried_lines-all, carried_lines-stop, refused_in-append}
@@ -126,25 +126,24 @@ FaultAmong-source OutOfMemory stop lines old new before behind f = refl
 
 -- ---- no more can be read
 
-pub Between-reading : (left mid left' : Option (List ℕ)) (stop : Bool) (old now : State) (held : Option (List ℕ)) (before behind : Option (List ℕ)) (told : RunEnd)
-    → Between left mid stop old now held before behind told → Keeps mid left' → (input : List ℕ) × Consumes left left' input × StopsReading stop input old now before behind
-Between-reading left mid left' stop old now held before behind told b kept =
+pub Between-reading : (End : Type 0) (IsLast : List ℕ → List ℕ → Type 0) (left mid left' : Option (List ℕ)) (stop : Bool) (old now : State) (held : Option (List ℕ)) (before behind : Option (List ℕ)) (told : RunEnd)
+    → Between left mid stop old now held before behind told → Keeps mid left' → (input : List ℕ) × Consumes left left' input × Ran (Err Read) End IsLast stop input old now before behind
+unfolding Ran
+Between-reading End IsLast left mid left' stop old now held before behind told b kept =
     (b.input, Consumes-kept left mid left' b.input b.consumed kept, record { keeps_on = b.reached.keeps_on; stands = b.reached.stands })
 
-pub Between-ended : (left mid : Option (List ℕ)) (stop : Bool) (old now : State) (held : Option (List ℕ)) (before behind : Option (List ℕ)) (told : RunEnd)
-    → Between left mid stop old now held before behind told → (input : List ℕ) × Consumes left mid input × StopsReading stop input old now before behind
-Between-ended left mid stop old now held before behind told b = (b.input, b.consumed, record { keeps_on = b.reached.keeps_on; stands = b.reached.stands })
+pub Between-ended : (End : Type 0) (IsLast : List ℕ → List ℕ → Type 0) (left mid : Option (List ℕ)) (stop : Bool) (old now : State) (held : Option (List ℕ)) (before behind : Option (List ℕ)) (told : RunEnd)
+    → Between left mid stop old now held before behind told → (input : List ℕ) × Consumes left mid input × Ran (Err ReaderTooLong) End IsLast stop input old now before behind
+unfolding Ran
+Between-ended End IsLast left mid stop old now held before behind told b = (b.input, b.consumed, record { keeps_on = b.reached.keeps_on; stands = b.reached.stands })
 
--- after a fault it doesn't matter which piece was the last
-abbrev no_piece : List ℕ → List ℕ → Type 0
-no_piece front piece = ⊥
-
--- the sink fails at the flush behind a piece
-pub Between-flushing : (End : Type 0) (left mid left' : Option (List ℕ)) (stop : Bool) (old now new : State) (held held' : Option (List ℕ)) (before between behind flushed : Option (List ℕ)) (told more : RunEnd) (piece : List ℕ)
+-- the sink fails at the flush behind lines of which none ends the run
+Between-flushing : (End : Type 0) (IsLast : List ℕ → List ℕ → Type 0) (left mid left' : Option (List ℕ)) (stop : Bool) (old now new : State) (held held' : Option (List ℕ)) (before between behind flushed : Option (List ℕ)) (told more : RunEnd) (piece : List ℕ)
     → (b : Between left mid stop old now held before between told) → Consumes mid left' piece
     → Reached stop (ended_behind (unended_behind [] b.input) piece) now new between behind told more × (held' ≡ held_of (unended_behind (unended_behind [] b.input) piece))
-    → Keeps behind flushed → (input : List ℕ) × Consumes left left' input × Ran (Err Write) End no_piece stop input old new before flushed
-Between-flushing End left mid left' stop old now new held held' before between behind flushed told more piece b consumed carried kept =
+    → Keeps behind flushed → (input : List ℕ) × Consumes left left' input × Ran (Err Write) End IsLast stop input old new before flushed
+unfolding Ran
+Between-flushing End IsLast left mid left' stop old now new held held' before between behind flushed told more piece b consumed carried kept =
     let b' = Between-more left mid left' stop old now new held held' before between behind flushed told more piece b consumed carried kept in (
       b'.input,
       b'.consumed,
@@ -167,6 +166,7 @@ carried_cut stop old mid lines done more done' rest line is are on stands on' =
 pub FaultAmong-ran : (fault : RunFault) (End : Type 0) (IsLast : List ℕ → List ℕ → Type 0) (stop : Bool) (input : List ℕ) (lines done more : List (List ℕ)) (old mid new : State) (before between behind : Option (List ℕ)) (told : RunEnd)
     → AreRead End input lines → lines ≡ done ++ more → Reached stop done old mid before between none_told told → FaultAmong fault stop more mid new between behind
     → Ran (Err fault) End IsLast stop input old new before behind
+unfolding Ran
 FaultAmong-ran Read End IsLast stop input lines done more old mid new before between behind told read is a f = absurd f
 FaultAmong-ran ReaderTooLong End IsLast stop input lines done more old mid new before between behind told read is a f = absurd f
 FaultAmong-ran Write End IsLast stop input lines done more old mid new before between behind told read is a f =
@@ -242,13 +242,15 @@ Between-finishes left left' stop old now new held before between behind flushed 
 pub Between-ends : (End : Type 0) (IsLast : List ℕ → List ℕ → Type 0) (left left' : Option (List ℕ)) (stop : Bool) (old now new : State) (held : Option (List ℕ)) (before between behind flushed : Option (List ℕ)) (told more : RunEnd)
     → End → (b : Between left left' stop old now held before between told) → StandsAfter (last_line (unended_behind [] b.input)) now new between behind × CountsMore (last_line (unended_behind [] b.input)) now told more
     → Keeps behind flushed → (input : List ℕ) × Consumes left left' input × Ran (Ok more) End IsLast stop input old new before flushed
+unfolding Ran
 Between-ends End IsLast left left' stop old now new held before between behind flushed told more end b last kept =
     (b.input, b.consumed, (inl end, Between-finishes left left' stop old now new held before between behind flushed told more b last.0 last.1 kept))
 
-pub Between-ends_flushing : (End : Type 0) (left left' : Option (List ℕ)) (stop : Bool) (old now new : State) (held : Option (List ℕ)) (before between behind flushed : Option (List ℕ)) (told more : RunEnd)
+pub Between-ends_flushing : (End : Type 0) (IsLast : List ℕ → List ℕ → Type 0) (left left' : Option (List ℕ)) (stop : Bool) (old now new : State) (held : Option (List ℕ)) (before between behind flushed : Option (List ℕ)) (told more : RunEnd)
     → End → (b : Between left left' stop old now held before between told) → StandsAfter (last_line (unended_behind [] b.input)) now new between behind × CountsMore (last_line (unended_behind [] b.input)) now told more
-    → Keeps behind flushed → (input : List ℕ) × Consumes left left' input × Ran (Err Write) End no_piece stop input old new before flushed
-Between-ends_flushing End left left' stop old now new held before between behind flushed told more end b last kept =
+    → Keeps behind flushed → (input : List ℕ) × Consumes left left' input × Ran (Err Write) End IsLast stop input old new before flushed
+unfolding Ran
+Between-ends_flushing End IsLast left left' stop old now new held before between behind flushed told more end b last kept =
     let f = Between-finishes left left' stop old now new held before between behind flushed told more b last.0 last.1 kept in
     (b.input, b.consumed, (lines_of b.input, inr (end, refl), inr (record { store = f.store; output = f.output })))
 
@@ -301,6 +303,7 @@ Between-halts left mid stop old now new held before between behind told more pie
 pub Between-stops : (End : Type 0) (IsLast : List ℕ → List ℕ → Type 0) (left mid left' : Option (List ℕ)) (stop : Bool) (old now new : State) (held : Option (List ℕ)) (before between behind flushed : Option (List ℕ)) (told more : RunEnd) (piece : List ℕ)
     → (b : Between left mid stop old now held before between told) → Consumes mid left' piece → Stopped stop (ended_behind (unended_behind [] b.input) piece) now new between behind told more
     → IsLast b.input piece → Keeps behind flushed → (input : List ℕ) × Consumes left left' input × Ran (Ok more) End IsLast stop input old new before flushed
+unfolding Ran
 Between-stops End IsLast left mid left' stop old now new held before between behind flushed told more piece b consumed s last kept =
     let h = Between-halts left mid stop old now new held before between behind told more piece b s in
     let input = b.input ++ piece in
@@ -322,10 +325,11 @@ Between-stops End IsLast left mid left' stop old now new held before between beh
       ),
     )
 
-pub Between-stops_flushing : (End : Type 0) (left mid left' : Option (List ℕ)) (stop : Bool) (old now new : State) (held : Option (List ℕ)) (before between behind flushed : Option (List ℕ)) (told more : RunEnd) (piece : List ℕ)
+Between-stops_flushing : (End : Type 0) (IsLast : List ℕ → List ℕ → Type 0) (left mid left' : Option (List ℕ)) (stop : Bool) (old now new : State) (held : Option (List ℕ)) (before between behind flushed : Option (List ℕ)) (told more : RunEnd) (piece : List ℕ)
     → (b : Between left mid stop old now held before between told) → Consumes mid left' piece → Stopped stop (ended_behind (unended_behind [] b.input) piece) now new between behind told more
-    → Keeps behind flushed → (input : List ℕ) × Consumes left left' input × Ran (Err Write) End no_piece stop input old new before flushed
-Between-stops_flushing End left mid left' stop old now new held before between behind flushed told more piece b consumed s kept =
+    → Keeps behind flushed → (input : List ℕ) × Consumes left left' input × Ran (Err Write) End IsLast stop input old new before flushed
+unfolding Ran
+Between-stops_flushing End IsLast left mid left' stop old now new held before between behind flushed told more piece b consumed s kept =
     let h = Between-halts left mid stop old now new held before between behind told more piece b s in
     let input = b.input ++ piece in
     let is : carried_lines stop old (ended_lines input) ≡ h.carried = ap (carried_lines stop old) (sym (append-nil (ended_lines input))) ∙ h.are_carried [] in (
@@ -348,6 +352,15 @@ goes_on end more stop front piece old new held before behind told is c = subst (
 pub stops_at : (end : PieceEnd) (more : RunEnd) (stop : Bool) (front piece : List ℕ) (old new : State) (held before behind : Option (List ℕ)) (told : RunEnd) → end ≡ Stops more
     → CarriesPiece (Ok end) stop front piece old new held before behind told → CarriesPiece (Ok (Stops more)) stop front piece old new held before behind told
 stops_at end more stop front piece old new held before behind told is c = subst (λ e. CarriesPiece (Ok e) stop front piece old new held before behind told) is c
+
+-- the sink fails at the flush behind a piece
+pub Between-piece_flushing : (End : Type 0) (IsLast : List ℕ → List ℕ → Type 0) (left mid left' : Option (List ℕ)) (stop : Bool) (old now new : State) (held held' : Option (List ℕ)) (before between behind flushed : Option (List ℕ)) (told : RunEnd) (piece : List ℕ) (end : PieceEnd)
+    → (b : Between left mid stop old now held before between told) → Consumes mid left' piece → CarriesPiece (Ok end) stop (unended_behind [] b.input) piece now new held' between behind told
+    → Keeps behind flushed → (input : List ℕ) × Consumes left left' input × Ran (Err Write) End IsLast stop input old new before flushed
+Between-piece_flushing End IsLast left mid left' stop old now new held held' before between behind flushed told piece (GoesOn more) b consumed carried kept =
+    Between-flushing End IsLast left mid left' stop old now new held held' before between behind flushed told more piece b consumed carried kept
+Between-piece_flushing End IsLast left mid left' stop old now new held held' before between behind flushed told piece (Stops more) b consumed carried kept =
+    Between-stops_flushing End IsLast left mid left' stop old now new held before between behind flushed told more piece b consumed carried kept
 
 -- ---- one piece more
 

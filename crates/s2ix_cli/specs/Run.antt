@@ -84,7 +84,7 @@ pub record StopsWriting (stop : Bool) (lines : List (List ℕ)) (old new : State
 
 -- a run that ended so, over an input of which it read this, comes to this; `End` says that its end was read, `IsLast` which piece was
 -- the last one that was read
-abbrev pub Ran : Result RunEnd RunFault → Type 0 → (List ℕ → List ℕ → Type 0) → Bool → List ℕ → State → State → Option (List ℕ) → Option (List ℕ) → Type 0
+unfoldable pub Ran : Result RunEnd RunFault → Type 0 → (List ℕ → List ℕ → Type 0) → Bool → List ℕ → State → State → Option (List ℕ) → Option (List ℕ) → Type 0
 Ran (Ok told) End IsLast stop input old new before behind = (End ⊎ IsStopped IsLast stop input old) × Finishes stop input old new before behind told
 Ran (Err Read) End IsLast stop input old new before behind = StopsReading stop input old new before behind
 Ran (Err ReaderTooLong) End IsLast stop input old new before behind = StopsReading stop input old new before behind

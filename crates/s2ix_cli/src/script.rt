@@ -54,15 +54,11 @@ pub fn run<S: Source, K: Sink>(
             return Ok(told);
         }
         let text = &piece[..count];
-        match carry_piece(alloc, store, sink, &mut held, told, text, options.stop)? {
-            PieceEnd::GoesOn(more) => {
-                sink.flush()?;
-                told = more;
-            }
-            PieceEnd::Stops(more) => {
-                sink.flush()?;
-                return Ok(more);
-            }
+        let end = carry_piece(alloc, store, sink, &mut held, told, text, options.stop)?;
+        sink.flush()?;
+        match end {
+            PieceEnd::GoesOn(more) => told = more,
+            PieceEnd::Stops(more) => return Ok(more),
         }
     }
     Err(RunFault::ReaderTooLong)
