@@ -20,7 +20,7 @@ decoded-low : (byte : ℕ) (rest : List ℕ) → byte < 128 → decoded (byte �
 decoded-low byte rest low = value-1 (length (byte ∷ rest)) byte (slice_index rest 0) (slice_index rest 1) (slice_index rest 2) (omega arith, low)
 
 -- and its span comes first
-spans-low : (byte : ℕ) (rest : List ℕ) (off : ℕ) → byte < 128 → spans_from off (pieces (byte ∷ rest)) ≡ (off, off + 1, byte) ∷ spans_from (off + 1) (pieces rest)
+pub spans-low : (byte : ℕ) (rest : List ℕ) (off : ℕ) → byte < 128 → spans_from off (pieces (byte ∷ rest)) ≡ (off, off + 1, byte) ∷ spans_from (off + 1) (pieces rest)
 spans-low byte rest off low =
     spans-first (byte ∷ rest) off (omega arith)
     ∙ ap (λ (p : Decoded). (off, off + p.size, or_replacement p.char) ∷ spans_from (off + p.size) (pieces (drop p.size (byte ∷ rest)))) (decoded-low byte rest low)
