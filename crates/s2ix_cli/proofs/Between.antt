@@ -15,7 +15,7 @@ use Rattle.s2ix_cli.specs.declared.coming.PieceEnd.{PieceEnd}
 use Rattle.s2ix_cli.specs.declared.coming.PieceEnd.TheVariants.{GoesOn, Stops}
 use Rattle.s2ix_cli.specs.Coming.{ended_behind, unended_behind, ended_lines, held_of}
 use Rattle.s2ix_cli.specs.Piece.{CarriesPiece, CountsMore, Reached, Stopped, FaultAmong}
-use Rattle.s2ix_cli.specs.Run.{AreRead, Flushes, Ran, KeepsOn, StandsAfter, Finishes, StopsReading, last_line}
+use Rattle.s2ix_cli.specs.Run.{AreRead, Flushes, Ran, KeepsOn, StandsAfter, Finishes, last_line}
 use Rattle.s2ix_cli.specs.Script.{MOST, after, carried_lines, counted_in, output_of, refused_in}
 use Rattle.s2ix_cli.proofs.Feeds.{ended_behind-append, unended_behind-append, lines_of-ended}
 use Rattle.s2ix_cli.proofs.Steps.{after-append, KeepsOn-append, StandsAfter-none, StandsAfter-append, CountsMore-append, Reached-append, carried_lines-append, carried_lines-all, carried_lines-stop, refused_in-append}
@@ -126,21 +126,24 @@ FaultAmong-source OutOfMemory stop lines old new before behind f = refl
 
 -- ---- no more can be read
 
-pub Between-reading : (left mid left' : Option (List ℕ)) (stop : Bool) (old now : State) (held : Option (List ℕ)) (before behind : Option (List ℕ)) (told : RunEnd)
-    → Between left mid stop old now held before behind told → Keeps mid left' → (input : List ℕ) × Consumes left left' input × StopsReading stop input old now before behind
-Between-reading left mid left' stop old now held before behind told b kept =
+pub Between-reading : (End : Type 0) (IsLast : List ℕ → List ℕ → Type 0) (left mid left' : Option (List ℕ)) (stop : Bool) (old now : State) (held : Option (List ℕ)) (before behind : Option (List ℕ)) (told : RunEnd)
+    → Between left mid stop old now held before behind told → Keeps mid left' → (input : List ℕ) × Consumes left left' input × Ran (Err Read) End IsLast stop input old now before behind
+unfolding Ran
+Between-reading End IsLast left mid left' stop old now held before behind told b kept =
     (b.input, Consumes-kept left mid left' b.input b.consumed kept, record { keeps_on = b.reached.keeps_on; stands = b.reached.stands })
 
-pub Between-ended : (left mid : Option (List ℕ)) (stop : Bool) (old now : State) (held : Option (List ℕ)) (before behind : Option (List ℕ)) (told : RunEnd)
-    → Between left mid stop old now held before behind told → (input : List ℕ) × Consumes left mid input × StopsReading stop input old now before behind
-Between-ended left mid stop old now held before behind told b = (b.input, b.consumed, record { keeps_on = b.reached.keeps_on; stands = b.reached.stands })
+pub Between-ended : (End : Type 0) (IsLast : List ℕ → List ℕ → Type 0) (left mid : Option (List ℕ)) (stop : Bool) (old now : State) (held : Option (List ℕ)) (before behind : Option (List ℕ)) (told : RunEnd)
+    → Between left mid stop old now held before behind told → (input : List ℕ) × Consumes left mid input × Ran (Err ReaderTooLong) End IsLast stop input old now before behind
+unfolding Ran
+Between-ended End IsLast left mid stop old now held before behind told b = (b.input, b.consumed, record { keeps_on = b.reached.keeps_on; stands = b.reached.stands })
 
--- the sink fails at the flush behind a piece
-pub Between-flushing : (End : Type 0) (left mid left' : Option (List ℕ)) (stop : Bool) (old now new : State) (held held' : Option (List ℕ)) (before between behind flushed : Option (List ℕ)) (told more : RunEnd) (piece : List ℕ)
+-- the sink fails at the flush behind lines of which none ends the run
+Between-flushing : (End : Type 0) (IsLast : List ℕ → List ℕ → Type 0) (left mid left' : Option (List ℕ)) (stop : Bool) (old now new : State) (held held' : Option (List ℕ)) (before between behind flushed : Option (List ℕ)) (told more : RunEnd) (piece : List ℕ)
     → (b : Between left mid stop old now held before between told) → Consumes mid left' piece
     → Reached stop (ended_behind (unended_behind [] b.input) piece) now new between behind told more × (held' ≡ held_of (unended_behind (unended_behind [] b.input) piece))
-    → Keeps behind flushed → (input : List ℕ) × Consumes left left' input × Ran (Err Write) End stop input old new before flushed
-Between-flushing End left mid left' stop old now new held held' before between behind flushed told more piece b consumed carried kept =
+    → Keeps behind flushed → (input : List ℕ) × Consumes left left' input × Ran (Err Write) End IsLast stop input old new before flushed
+unfolding Ran
+Between-flushing End IsLast left mid left' stop old now new held held' before between behind flushed told more piece b consumed carried kept =
     let b' = Between-more left mid left' stop old now new held held' before between behind flushed told more piece b consumed carried kept in (
       b'.input,
       b'.consumed,
@@ -160,12 +163,13 @@ carried_cut stop old mid lines done more done' rest line is are on stands on' =
     ap (carried_lines stop old) (is ∙ ap (λ l. done ++ l) are ∙ sym (append_assoc done done' (line ∷ rest)))
     ∙ carried_lines-append stop old (done ++ done') (line ∷ rest) (KeepsOn-append stop old done done' on (subst (λ s. KeepsOn stop s done') stands on'))
 
-pub FaultAmong-ran : (fault : RunFault) (End : Type 0) (stop : Bool) (input : List ℕ) (lines done more : List (List ℕ)) (old mid new : State) (before between behind : Option (List ℕ)) (told : RunEnd)
+pub FaultAmong-ran : (fault : RunFault) (End : Type 0) (IsLast : List ℕ → List ℕ → Type 0) (stop : Bool) (input : List ℕ) (lines done more : List (List ℕ)) (old mid new : State) (before between behind : Option (List ℕ)) (told : RunEnd)
     → AreRead End input lines → lines ≡ done ++ more → Reached stop done old mid before between none_told told → FaultAmong fault stop more mid new between behind
-    → Ran (Err fault) End stop input old new before behind
-FaultAmong-ran Read End stop input lines done more old mid new before between behind told read is a f = absurd f
-FaultAmong-ran ReaderTooLong End stop input lines done more old mid new before between behind told read is a f = absurd f
-FaultAmong-ran Write End stop input lines done more old mid new before between behind told read is a f =
+    → Ran (Err fault) End IsLast stop input old new before behind
+unfolding Ran
+FaultAmong-ran Read End IsLast stop input lines done more old mid new before between behind told read is a f = absurd f
+FaultAmong-ran ReaderTooLong End IsLast stop input lines done more old mid new before between behind told read is a f = absurd f
+FaultAmong-ran Write End IsLast stop input lines done more old mid new before between behind told read is a f =
     let stands = StandsAfter-append done f.done old mid (after mid f.done) before between f.mid a.stands (record { store = refl; output = f.output }) in (
       lines,
       read,
@@ -180,7 +184,7 @@ FaultAmong-ran Write End stop input lines done more old mid new before between b
         cut = subst (λ s. AppendsFront f.mid behind (step_of s f.line).answer) stands.store f.cut;
       }),
     )
-FaultAmong-ran OutOfMemory End stop input lines done more old mid new before between behind told read is a f =
+FaultAmong-ran OutOfMemory End IsLast stop input lines done more old mid new before between behind told read is a f =
     let stands = StandsAfter-append done f.done old mid new before between behind a.stands f.stands in (
       lines,
       read,
@@ -196,24 +200,24 @@ FaultAmong-ran OutOfMemory End stop input lines done more old mid new before bet
     )
 
 -- a fault among the lines of a piece
-pub Between-fault : (fault : RunFault) (End : Type 0) (left mid left' : Option (List ℕ)) (stop : Bool) (old now new : State) (held : Option (List ℕ)) (before between behind : Option (List ℕ)) (told : RunEnd) (piece : List ℕ)
+pub Between-fault : (fault : RunFault) (End : Type 0) (IsLast : List ℕ → List ℕ → Type 0) (left mid left' : Option (List ℕ)) (stop : Bool) (old now new : State) (held : Option (List ℕ)) (before between behind : Option (List ℕ)) (told : RunEnd) (piece : List ℕ)
     → (b : Between left mid stop old now held before between told) → Consumes mid left' piece → FaultAmong fault stop (ended_behind (unended_behind [] b.input) piece) now new between behind
-    → (input : List ℕ) × Consumes left left' input × Ran (Err fault) End stop input old new before behind
-Between-fault fault End left mid left' stop old now new held before between behind told piece b consumed f = (
+    → (input : List ℕ) × Consumes left left' input × Ran (Err fault) End IsLast stop input old new before behind
+Between-fault fault End IsLast left mid left' stop old now new held before between behind told piece b consumed f = (
   b.input ++ piece,
   Consumes-trans left mid left' b.input piece b.consumed consumed,
-  FaultAmong-ran fault End stop (b.input ++ piece) (ended_lines (b.input ++ piece)) (ended_lines b.input) (ended_behind (unended_behind [] b.input) piece) old now new before between behind told
+  FaultAmong-ran fault End IsLast stop (b.input ++ piece) (ended_lines (b.input ++ piece)) (ended_lines b.input) (ended_behind (unended_behind [] b.input) piece) old now new before between behind told
       (inl refl) (ended-more b.input piece) b.reached f,
 )
 
 -- one in the last line
-pub Between-fault_last : (fault : RunFault) (End : Type 0) (left left' : Option (List ℕ)) (stop : Bool) (old now new : State) (held : Option (List ℕ)) (before between behind : Option (List ℕ)) (told : RunEnd)
+pub Between-fault_last : (fault : RunFault) (End : Type 0) (IsLast : List ℕ → List ℕ → Type 0) (left left' : Option (List ℕ)) (stop : Bool) (old now new : State) (held : Option (List ℕ)) (before between behind : Option (List ℕ)) (told : RunEnd)
     → End → (b : Between left left' stop old now held before between told) → FaultAmong fault stop (last_line (unended_behind [] b.input)) now new between behind
-    → (input : List ℕ) × Consumes left left' input × Ran (Err fault) End stop input old new before behind
-Between-fault_last fault End left left' stop old now new held before between behind told end b f = (
+    → (input : List ℕ) × Consumes left left' input × Ran (Err fault) End IsLast stop input old new before behind
+Between-fault_last fault End IsLast left left' stop old now new held before between behind told end b f = (
   b.input,
   b.consumed,
-  FaultAmong-ran fault End stop b.input (lines_of b.input) (ended_lines b.input) (last_line (unended_behind [] b.input)) old now new before between behind told
+  FaultAmong-ran fault End IsLast stop b.input (lines_of b.input) (ended_lines b.input) (last_line (unended_behind [] b.input)) old now new before between behind told
       (inr (end, refl)) (lines_of-ended b.input) b.reached f,
 )
 
@@ -235,16 +239,18 @@ Between-finishes left left' stop old now new held before between behind flushed 
     (CountsMore-append (ended_lines b.input) last old now none_told told more b.reached.stands.store b.reached.counts counts)
     kept
 
-pub Between-ends : (End : Type 0) (left left' : Option (List ℕ)) (stop : Bool) (old now new : State) (held : Option (List ℕ)) (before between behind flushed : Option (List ℕ)) (told more : RunEnd)
+pub Between-ends : (End : Type 0) (IsLast : List ℕ → List ℕ → Type 0) (left left' : Option (List ℕ)) (stop : Bool) (old now new : State) (held : Option (List ℕ)) (before between behind flushed : Option (List ℕ)) (told more : RunEnd)
     → End → (b : Between left left' stop old now held before between told) → StandsAfter (last_line (unended_behind [] b.input)) now new between behind × CountsMore (last_line (unended_behind [] b.input)) now told more
-    → Keeps behind flushed → (input : List ℕ) × Consumes left left' input × Ran (Ok more) End stop input old new before flushed
-Between-ends End left left' stop old now new held before between behind flushed told more end b last kept =
+    → Keeps behind flushed → (input : List ℕ) × Consumes left left' input × Ran (Ok more) End IsLast stop input old new before flushed
+unfolding Ran
+Between-ends End IsLast left left' stop old now new held before between behind flushed told more end b last kept =
     (b.input, b.consumed, (inl end, Between-finishes left left' stop old now new held before between behind flushed told more b last.0 last.1 kept))
 
-pub Between-ends_flushing : (End : Type 0) (left left' : Option (List ℕ)) (stop : Bool) (old now new : State) (held : Option (List ℕ)) (before between behind flushed : Option (List ℕ)) (told more : RunEnd)
+pub Between-ends_flushing : (End : Type 0) (IsLast : List ℕ → List ℕ → Type 0) (left left' : Option (List ℕ)) (stop : Bool) (old now new : State) (held : Option (List ℕ)) (before between behind flushed : Option (List ℕ)) (told more : RunEnd)
     → End → (b : Between left left' stop old now held before between told) → StandsAfter (last_line (unended_behind [] b.input)) now new between behind × CountsMore (last_line (unended_behind [] b.input)) now told more
-    → Keeps behind flushed → (input : List ℕ) × Consumes left left' input × Ran (Err Write) End stop input old new before flushed
-Between-ends_flushing End left left' stop old now new held before between behind flushed told more end b last kept =
+    → Keeps behind flushed → (input : List ℕ) × Consumes left left' input × Ran (Err Write) End IsLast stop input old new before flushed
+unfolding Ran
+Between-ends_flushing End IsLast left left' stop old now new held before between behind flushed told more end b last kept =
     let f = Between-finishes left left' stop old now new held before between behind flushed told more b last.0 last.1 kept in
     (b.input, b.consumed, (lines_of b.input, inr (end, refl), inr (record { store = f.store; output = f.output })))
 
@@ -294,10 +300,11 @@ Between-halts : (left mid : Option (List ℕ)) (stop : Bool) (old now new : Stat
 Between-halts left mid stop old now new held before between behind told more piece b s =
     Halts-of stop (ended_lines (b.input ++ piece)) (ended_lines b.input) (ended_behind (unended_behind [] b.input) piece) old now new before between behind told more (ended-more b.input piece) b.reached s
 
-pub Between-stops : (End : Type 0) (left mid left' : Option (List ℕ)) (stop : Bool) (old now new : State) (held : Option (List ℕ)) (before between behind flushed : Option (List ℕ)) (told more : RunEnd) (piece : List ℕ)
+pub Between-stops : (End : Type 0) (IsLast : List ℕ → List ℕ → Type 0) (left mid left' : Option (List ℕ)) (stop : Bool) (old now new : State) (held : Option (List ℕ)) (before between behind flushed : Option (List ℕ)) (told more : RunEnd) (piece : List ℕ)
     → (b : Between left mid stop old now held before between told) → Consumes mid left' piece → Stopped stop (ended_behind (unended_behind [] b.input) piece) now new between behind told more
-    → Keeps behind flushed → (input : List ℕ) × Consumes left left' input × Ran (Ok more) End stop input old new before flushed
-Between-stops End left mid left' stop old now new held before between behind flushed told more piece b consumed s kept =
+    → IsLast b.input piece → Keeps behind flushed → (input : List ℕ) × Consumes left left' input × Ran (Ok more) End IsLast stop input old new before flushed
+unfolding Ran
+Between-stops End IsLast left mid left' stop old now new held before between behind flushed told more piece b consumed s last kept =
     let h = Between-halts left mid stop old now new held before between behind told more piece b s in
     let input = b.input ++ piece in
     let is : carried_lines stop old (lines_of input) ≡ h.carried = ap (carried_lines stop old) (lines_of-ended input) ∙ h.are_carried (last_line (unended_behind [] input)) in (
@@ -306,6 +313,11 @@ Between-stops End left mid left' stop old now new held before between behind flu
       (
         inr (record {
           stops = h.stops;
+          front = b.input;
+          piece = piece;
+          are = refl;
+          is_last = last;
+          keeps_on = b.reached.keeps_on h.stops;
           refused = subst (λ l. 0 < refused_in old l) (sym is) h.refused;
           ended = subst (λ l. length l ≤ length (ended_lines input)) (sym is) h.ended;
         }),
@@ -313,10 +325,11 @@ Between-stops End left mid left' stop old now new held before between behind flu
       ),
     )
 
-pub Between-stops_flushing : (End : Type 0) (left mid left' : Option (List ℕ)) (stop : Bool) (old now new : State) (held : Option (List ℕ)) (before between behind flushed : Option (List ℕ)) (told more : RunEnd) (piece : List ℕ)
+Between-stops_flushing : (End : Type 0) (IsLast : List ℕ → List ℕ → Type 0) (left mid left' : Option (List ℕ)) (stop : Bool) (old now new : State) (held : Option (List ℕ)) (before between behind flushed : Option (List ℕ)) (told more : RunEnd) (piece : List ℕ)
     → (b : Between left mid stop old now held before between told) → Consumes mid left' piece → Stopped stop (ended_behind (unended_behind [] b.input) piece) now new between behind told more
-    → Keeps behind flushed → (input : List ℕ) × Consumes left left' input × Ran (Err Write) End stop input old new before flushed
-Between-stops_flushing End left mid left' stop old now new held before between behind flushed told more piece b consumed s kept =
+    → Keeps behind flushed → (input : List ℕ) × Consumes left left' input × Ran (Err Write) End IsLast stop input old new before flushed
+unfolding Ran
+Between-stops_flushing End IsLast left mid left' stop old now new held before between behind flushed told more piece b consumed s kept =
     let h = Between-halts left mid stop old now new held before between behind told more piece b s in
     let input = b.input ++ piece in
     let is : carried_lines stop old (ended_lines input) ≡ h.carried = ap (carried_lines stop old) (sym (append-nil (ended_lines input))) ∙ h.are_carried [] in (
@@ -339,6 +352,15 @@ goes_on end more stop front piece old new held before behind told is c = subst (
 pub stops_at : (end : PieceEnd) (more : RunEnd) (stop : Bool) (front piece : List ℕ) (old new : State) (held before behind : Option (List ℕ)) (told : RunEnd) → end ≡ Stops more
     → CarriesPiece (Ok end) stop front piece old new held before behind told → CarriesPiece (Ok (Stops more)) stop front piece old new held before behind told
 stops_at end more stop front piece old new held before behind told is c = subst (λ e. CarriesPiece (Ok e) stop front piece old new held before behind told) is c
+
+-- the sink fails at the flush behind a piece
+pub Between-piece_flushing : (End : Type 0) (IsLast : List ℕ → List ℕ → Type 0) (left mid left' : Option (List ℕ)) (stop : Bool) (old now new : State) (held held' : Option (List ℕ)) (before between behind flushed : Option (List ℕ)) (told : RunEnd) (piece : List ℕ) (end : PieceEnd)
+    → (b : Between left mid stop old now held before between told) → Consumes mid left' piece → CarriesPiece (Ok end) stop (unended_behind [] b.input) piece now new held' between behind told
+    → Keeps behind flushed → (input : List ℕ) × Consumes left left' input × Ran (Err Write) End IsLast stop input old new before flushed
+Between-piece_flushing End IsLast left mid left' stop old now new held held' before between behind flushed told piece (GoesOn more) b consumed carried kept =
+    Between-flushing End IsLast left mid left' stop old now new held held' before between behind flushed told more piece b consumed carried kept
+Between-piece_flushing End IsLast left mid left' stop old now new held held' before between behind flushed told piece (Stops more) b consumed carried kept =
+    Between-stops_flushing End IsLast left mid left' stop old now new held before between behind flushed told more piece b consumed carried kept
 
 -- ---- one piece more
 

@@ -1,8 +1,8 @@
 -- What a run comes to.
 use Rattle.std.specs.Prelude.{◌≡◌, ℕ, ◌<◌, ◌≤◌, ◌⊎◌, min, Bool, true, Option, Result, Ok, Err, List, [], ◌∷◌, ◌++◌, length}
-use Rattle.std.specs.Io.KnownBytes.{Appends, IsAtEnd}
+use Rattle.std.specs.Io.KnownBytes.{Appends, Consumes, IsAtEnd}
 use Rattle.s2ix_edit.specs.State.{State}
-use Rattle.s2ix_io.specs.Pieces.{ReadsToEnd}
+use Rattle.s2ix_io.specs.Pieces.{ReadsOn, ReadsToEnd}
 use Rattle.s2ix_io.specs.Puts.{AppendsFront}
 use Rattle.s2ix_io.specs.declared.run_fault.RunFault.{RunFault}
 use Rattle.s2ix_io.specs.declared.run_fault.RunFault.TheVariants.{Read, Write, OutOfMemory, ReaderTooLong}
@@ -16,6 +16,17 @@ use Rattle.s2ix_cli.specs.Wants.{WantsAmong}
 -- the end of the input was read, by at most `turns` pieces
 abbrev pub EndWasRead : {S : Type 0} → (S → Option (List ℕ)) → (S → ℕ → S → Type 0) → ℕ → S → S → Type 0
 EndWasRead left gives turns old new = IsAtEnd (left new) × ReadsToEnd gives turns old new
+
+-- by fewer than `turns` pieces `front` was read, and by one more `piece`
+pub record BringsLast {S : Type 0} (left : S → Option (List ℕ)) (gives : S → ℕ → S → Type 0) (turns : ℕ) (old new : S) (front piece : List ℕ) : Type 0 where
+  pub mid : S
+  pub pieces : ℕ
+  pub within : pieces < turns
+  pub reads_on : ReadsOn gives pieces old mid
+  pub before : Consumes (left old) (left mid) front
+  pub count : ℕ
+  pub gives_last : gives mid count new
+  pub last : Consumes (left mid) (left new) piece
 
 -- the lines of an input that a run can carry out: those that are ended, and where the end of the input was read its last line too
 abbrev pub AreRead : Type 0 → List ℕ → List (List ℕ) → Type 0
@@ -42,9 +53,15 @@ pub record Finishes (stop : Bool) (input : List ℕ) (old new : State) (before b
   pub lines : told.lines ≡ min (counted_in old (carried_lines stop old (lines_of input))) MOST
   pub refused : told.refused ≡ min (refused_in old (carried_lines stop old (lines_of input))) MOST
 
--- with `stop` a run was ended by a refused line, whose line feed was read
-pub record IsStopped (stop : Bool) (input : List ℕ) (old : State) : Type 0 where
+-- with `stop` a run was ended by a refused line, whose line feed the last piece brought; `IsLast` says which piece was the last one, and
+-- what was read before it
+pub record IsStopped (IsLast : List ℕ → List ℕ → Type 0) (stop : Bool) (input : List ℕ) (old : State) : Type 0 where
   pub stops : stop ≡ true
+  pub front : List ℕ
+  pub piece : List ℕ
+  pub are : input ≡ front ++ piece
+  pub is_last : IsLast front piece
+  pub keeps_on : refused_in old (ended_lines front) ≡ 0
   pub refused : 0 < refused_in old (carried_lines stop old (lines_of input))
   pub ended : length (carried_lines stop old (lines_of input)) ≤ length (ended_lines input)
 
@@ -65,15 +82,16 @@ pub record StopsWriting (stop : Bool) (lines : List (List ℕ)) (old new : State
   pub output : Appends before mid (output_of old done)
   pub cut : AppendsFront mid behind (step_of (after old done) line).answer
 
--- a run that ended so, over an input of which it read this, comes to this; `End` says that its end was read
-abbrev pub Ran : Result RunEnd RunFault → Type 0 → Bool → List ℕ → State → State → Option (List ℕ) → Option (List ℕ) → Type 0
-Ran (Ok told) End stop input old new before behind = (End ⊎ IsStopped stop input old) × Finishes stop input old new before behind told
-Ran (Err Read) End stop input old new before behind = StopsReading stop input old new before behind
-Ran (Err ReaderTooLong) End stop input old new before behind = StopsReading stop input old new before behind
-Ran (Err Write) End stop input old new before behind =
+-- a run that ended so, over an input of which it read this, comes to this; `End` says that its end was read, `IsLast` which piece was
+-- the last one that was read
+unfoldable pub Ran : Result RunEnd RunFault → Type 0 → (List ℕ → List ℕ → Type 0) → Bool → List ℕ → State → State → Option (List ℕ) → Option (List ℕ) → Type 0
+Ran (Ok told) End IsLast stop input old new before behind = (End ⊎ IsStopped IsLast stop input old) × Finishes stop input old new before behind told
+Ran (Err Read) End IsLast stop input old new before behind = StopsReading stop input old new before behind
+Ran (Err ReaderTooLong) End IsLast stop input old new before behind = StopsReading stop input old new before behind
+Ran (Err Write) End IsLast stop input old new before behind =
     (lines : List (List ℕ)) × AreRead End input lines
     × (StopsWriting stop lines old new before behind ⊎ StandsAfter (carried_lines stop old lines) old new before behind)
-Ran (Err OutOfMemory) End stop input old new before behind = (lines : List (List ℕ)) × AreRead End input lines × WantsAmong stop lines old new before behind
+Ran (Err OutOfMemory) End IsLast stop input old new before behind = (lines : List (List ℕ)) × AreRead End input lines × WantsAmong stop lines old new before behind
 
 -- a flush was the last thing that the sink was asked for
 abbrev pub IsFlushed : {K : Type 0} → (K → K → Type 0) → K → Type 0

@@ -18,6 +18,7 @@ use s2ix_text::write_no;
 use std::alloc::Global;
 
 // How the lines of a piece ended.
+#[derive(Drop)]
 pub(crate) enum PieceEnd {
     // All that have ended are carried out.
     GoesOn(RunEnd),

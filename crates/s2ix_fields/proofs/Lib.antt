@@ -1,3 +1,4 @@
 pub mod FieldLaws
+pub mod FieldStart
 mod PlainFields
 pub mod ScriptNumbers

@@ -1,5 +1,5 @@
 -- Fields of a text whose front has no byte above 127.
-use Rattle.std.proofs.Common.{◌≡◌, ℕ, zero, suc, ◌+◌, ◌-◌, ◌<◌, ◌≤◌, Bool, true, false, ◌&&◌, Some, None, List, [], ◌∷◌, ◌++◌, length, take, drop, refl, sym, ap, subst, ◌∙◌, get_or, get_or-drop, true≢false, length-drop, arith, add-one}
+use Rattle.std.proofs.Common.{◌≡◌, ℕ, ◌+◌, ◌-◌, ◌<◌, ◌≤◌, Bool, true, false, Some, None, List, [], ◌∷◌, ◌++◌, length, take, drop, refl, sym, ap, subst, ◌∙◌, get_or, get_or-drop, length-drop, arith, add-one}
 use Rattle.std.specs.Prelude.{slice_index}
 use Rattle.std.specs.Char.{is_whitespace}
 use Rattle.std.specs.List.{list_all}
@@ -20,7 +20,7 @@ decoded-low : (byte : ℕ) (rest : List ℕ) → byte < 128 → decoded (byte �
 decoded-low byte rest low = value-1 (length (byte ∷ rest)) byte (slice_index rest 0) (slice_index rest 1) (slice_index rest 2) (omega arith, low)
 
 -- and its span comes first
-spans-low : (byte : ℕ) (rest : List ℕ) (off : ℕ) → byte < 128 → spans_from off (pieces (byte ∷ rest)) ≡ (off, off + 1, byte) ∷ spans_from (off + 1) (pieces rest)
+pub spans-low : (byte : ℕ) (rest : List ℕ) (off : ℕ) → byte < 128 → spans_from off (pieces (byte ∷ rest)) ≡ (off, off + 1, byte) ∷ spans_from (off + 1) (pieces rest)
 spans-low byte rest off low =
     spans-first (byte ∷ rest) off (omega arith)
     ∙ ap (λ (p : Decoded). (off, off + p.size, or_replacement p.char) ∷ spans_from (off + p.size) (pieces (drop p.size (byte ∷ rest)))) (decoded-low byte rest low)

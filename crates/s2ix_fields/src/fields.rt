@@ -110,17 +110,30 @@ fn plain_len(text: &[u8]) -> usize
     ensures plain { list_all is_plain_byte (take result text.now) ≡ true }
 {
     let mut end = 0;
-    while text.len() - end >= BLOCK && are_plain(&text[end..end + BLOCK]) {
-        end += BLOCK;
+    while text.len() - end >= 16 && are_plain(&text[end..end + 16]) {
+        end += 16;
     }
+    end = behind_block(text, end, 8);
+    end = behind_block(text, end, 4);
     while end < text.len() && is_plain(text[end]) {
         end += 1;
     }
     end
 }
 
-// How many bytes are looked at together.
-const BLOCK: usize = 16;
+// The place behind one more block of plain bytes, or the same place where no such block is there.
+fn behind_block(text: &[u8], end: usize, size: usize) -> usize
+    requires inside { end ≤ length text.now }
+    requires front { list_all is_plain_byte (take end text.now) ≡ true }
+    ensures within { result ≤ length text.now }
+    ensures plain { list_all is_plain_byte (take result text.now) ≡ true }
+{
+    if text.len() - end >= size && are_plain(&text[end..end + size]) {
+        end + size
+    } else {
+        end
+    }
+}
 
 // Whether a block of bytes is of the plain bytes behind the space. Each is looked at, so that the compiler looks at all at once.
 fn are_plain(block: &[u8]) -> bool

@@ -1,7 +1,6 @@
 //! The cells that the fields of a line name, as their normal union. Memory is taken here alone, and only where each of these fields
 //! names a cell.
-ghost use Rattle.std.specs.Prelude.{◌≡◌, Ok, None, ◌∷◌, true, MatchResult};
-ghost use Rattle.std.specs.Result.{result_err};
+ghost use Rattle.std.specs.Prelude.{◌≡◌, Ok, ◌∷◌, true, MatchResult};
 ghost use Rattle.s2ix_line.specs.Named.{IsFault, Means, add_union_named as add_union_of, cells_named, is_add_union, union_named as union_in, union_of as union_that};
 
 use crate::fields::{cell_from_field, label_from_field};
@@ -41,46 +40,31 @@ pub fn union_named(alloc: Global, mut fields: Fields<'_>) -> Result<CellUnion, L
     union_of(alloc, token, fields)
 }
 
-// The cells that the fields TOKEN.. name, the first of them and the rest. Each is read before room is made for any.
+// The normal union of the cells that the fields TOKEN.. name, the first of them and the rest.
 #[tactic(auto, using(crate::proofs::WantedMemory::wanting))]
 fn union_of(alloc: Global, first: &[u8], rest: Fields<'_>) -> Result<CellUnion, LineError>
     ensures { Means (λ _. true) result (union_that (first.now ∷ rest.entry)) }
 {
-    let count = count_cells(first, rest.clone().unwrap())?;
-    let cells = gather_cells(alloc, first, rest, count)?;
+    let cells = read_cells(alloc, first, rest)?;
     Ok(CellUnion::normalise(alloc, &cells)?)
 }
 
-// How many fields TOKEN.. there are, the first of them and the rest, where each names a cell.
-fn count_cells(first: &[u8], rest: Fields<'_>) -> Result<usize, LineFault>
-    ensures { result_err result ≡ result_err (cells_named (first.now ∷ rest.entry)) }
-{
-    cell_from_field(first)?;
-    let mut count: usize = 1;
-    'tokens: for token in rest {
-        cell_from_field(token)?;
-        count = count.saturating_add(1);
-    }
-    Ok(count)
-}
-
-// The cells that the fields TOKEN.. name, the first of them and the rest. Room is made for so many at once.
+// The cells that the fields TOKEN.. name, the first of them and the rest. Where room was refused for one, those behind it are read all the
+// same: only a list without a fault wants memory.
 #[tactic(auto, using(crate::proofs::WantedMemory::wanting))]
-fn gather_cells(
-    alloc: Global,
-    first: &[u8],
-    rest: Fields<'_>,
-    count: usize,
-) -> Result<Vec<CellId>, LineError>
-    requires { result_err (cells_named (first.now ∷ rest)) ≡ None }
+fn read_cells(alloc: Global, first: &[u8], rest: Fields<'_>) -> Result<Vec<CellId>, LineError>
     ensures { MatchResult result
         (λ cells. cells_named (first.now ∷ rest.entry) ≡ Ok cells.items)
         (λ error. IsFault (λ _. true) error (cells_named (first.now ∷ rest.entry))) }
 {
-    let mut cells = Vec::with_capacity(alloc, count)?;
-    cells.push(cell_from_field(first)?)?;
+    let mut cells = Vec::new(alloc);
+    let mut has_room = cells.push(cell_from_field(first)?).is_ok();
     'tokens: for token in rest {
-        cells.push(cell_from_field(token)?)?;
+        let cell = cell_from_field(token)?;
+        has_room = has_room && cells.push(cell).is_ok();
+    }
+    if !has_room {
+        return Err(LineError::OutOfMemory);
     }
     Ok(cells)
 }

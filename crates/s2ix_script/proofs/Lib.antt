@@ -1,3 +1,3 @@
-pub mod ScriptLines
+mod Comments
 mod PlainWords
 mod WantedMemory

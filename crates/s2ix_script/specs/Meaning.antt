@@ -83,7 +83,7 @@ cell_words =
 
 -- the words of a script
 abbrev pub words : Words
-words = union_words ++ edit_words ++ history_words ++ query_words ++ cell_words
+words = union_words ++ cell_words ++ query_words ++ history_words ++ edit_words
 
 -- what a word of these and the fields behind it ask for: the first entry with that word decides
 abbrev pub asked_in : Words → List ℕ → List (List ℕ) → Result Instruction LineFault

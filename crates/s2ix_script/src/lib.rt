@@ -1,15 +1,13 @@
-//! Scripts: their lines, what each line asks for, and the names by which lines are refused.
+//! Scripts: what a line asks for, and the names by which lines are refused.
 #![tactic(auto)]
 
 mod instruction;
 mod line_meaning;
-mod lines;
 mod names;
 mod plain;
 mod words;
 
 pub use instruction::Instruction;
 pub use line_meaning::{LONGEST_LINE, meaning};
-pub use lines::Lines;
 pub use names::{edit_error_name, not_leaf_name, redo_error_name, undo_error_name};
 pub use s2ix_line::{LineError, LineFault};

@@ -19,12 +19,15 @@ pub const LONGEST_LINE: usize = 65536;
 ///
 /// The first of these faults that applies is answered: too long, no word of a script, a number of fields that does
 /// not fit the word, then the first unfit field from the left. This project's own.
-#[tactic(auto, unfolding(crate::specs::Meaning::meaning_of))]
+#[tactic(auto, using(crate::proofs::Comments::comment_means), unfolding(crate::specs::Meaning::meaning_of))]
 pub fn meaning(alloc: Global, line: &[u8]) -> Result<Option<Instruction>, LineError>
     ensures { Means asks_on_union result (meaning_of line.now) }
 {
     if line.len() > LONGEST_LINE {
         return Err(LineError::Fault(LineFault::LineTooLong));
+    }
+    if is_comment(line) {
+        return Ok(None);
     }
     meaning_of_fields(alloc, Fields::new(line))
 }
@@ -46,9 +49,9 @@ fn meaning_of_fields(
     Ok(Some(asked_by(alloc, word, fields)?))
 }
 
-// Whether a line with this first field is a comment.
-fn is_comment(word: &[u8]) -> bool
-    ensures { result ≡ (slice_index word.now 0 == 35) }
+// Whether a line with this first field, or that begins so, is a comment.
+fn is_comment(text: &[u8]) -> bool
+    ensures { result ≡ (slice_index text.now 0 == 35) }
 {
-    matches!(word, [b'#', ..])
+    matches!(text, [b'#', ..])
 }

@@ -1,8 +1,8 @@
 //! The words of a script.
 //!
-//! A word is looked for among those that ask for something on a union of cells, which alone may want memory, then among the other edits,
-//! then among those that go along the history, then among the queries, and last among those of a cell alone: a word that is none of the
-//! first is left to the next.
+//! A word is looked for among those that ask for something on a union of cells, which alone may want memory, then among those of a cell
+//! alone, then among the other queries, then among those that go along the history, and last among the other edits: a word that is none of
+//! the first is left to the next. The quick lines come first: what an edit does takes longer than to find its word.
 ghost use Rattle.std.specs.Prelude.{◌≡◌, ◌++◌};
 ghost use Rattle.s2ix_line.specs.Named.{Means};
 ghost use Rattle.s2ix_script.specs.Meaning.{asked_by as asked_of, asked_in, cell_words, edit_words, history_words, is_on_union, query_words};
@@ -41,13 +41,54 @@ fn by_union(alloc: Global, word: &str, fields: Fields<'_>) -> Result<Instruction
         "addunion" => Ok(Instruction::Edit(add_union_named(alloc, fields)?)),
         "meet" => Ok(Instruction::Meet(union_named(alloc, fields)?)),
         "labels" => Ok(Instruction::Labels(union_named(alloc, fields)?)),
-        _ => Ok(by_edit(word, fields)?),
+        _ => Ok(by_cell(word, fields)?),
     }
 }
 
 // What a word asks for that asks for nothing on a union of cells.
+fn by_cell(word: &str, fields: Fields<'_>) -> Result<Instruction, LineFault>
+    ensures { result ≡ asked_in (cell_words ++ query_words ++ history_words ++ edit_words) word.now fields.entry }
+{
+    match word {
+        "path" => Ok(Instruction::Path(cell_named(fields)?)),
+        "neighbors" => Ok(Instruction::Neighbors(cell_named(fields)?)),
+        "face" => Ok(Instruction::Face(cell_named(fields)?)),
+        _ => by_query(word, fields),
+    }
+}
+
+// What a word asks for that asks for no cell alone either.
+fn by_query(word: &str, fields: Fields<'_>) -> Result<Instruction, LineFault>
+    ensures { result ≡ asked_in (query_words ++ history_words ++ edit_words) word.now fields.entry }
+{
+    match word {
+        "at" => Ok(Instruction::At(cell_named(fields)?)),
+        "region" => Ok(Instruction::Region(label_named(fields)?)),
+        "common" => common_named(fields),
+        "only" => only_named(fields),
+        "ranges" => bare(Instruction::Ranges, fields),
+        "dump" => bare(Instruction::Dump, fields),
+        "journal" => bare(Instruction::Journal, fields),
+        "export" => bare(Instruction::Export, fields),
+        _ => by_history(word, fields),
+    }
+}
+
+// What a word asks for that asks for nothing that is held.
+fn by_history(word: &str, fields: Fields<'_>) -> Result<Instruction, LineFault>
+    ensures { result ≡ asked_in (history_words ++ edit_words) word.now fields.entry }
+{
+    match word {
+        "undo" => bare(Instruction::Undo, fields),
+        "redo" => bare(Instruction::Redo, fields),
+        "forget" => bare(Instruction::Forget, fields),
+        _ => by_edit(word, fields),
+    }
+}
+
+// What a word asks for that can be but an edit.
 fn by_edit(word: &str, fields: Fields<'_>) -> Result<Instruction, LineFault>
-    ensures { result ≡ asked_in (edit_words ++ history_words ++ query_words ++ cell_words) word.now fields.entry }
+    ensures { result ≡ asked_in edit_words word.now fields.entry }
 {
     match word {
         "add" => {
@@ -62,47 +103,6 @@ fn by_edit(word: &str, fields: Fields<'_>) -> Result<Instruction, LineFault>
         "relabel" => Ok(Instruction::Edit(relabel_named(fields)?)),
         "grow" => Ok(Instruction::Edit(grow_named(fields)?)),
         "normal" => Ok(Instruction::Edit(normal_named(fields)?)),
-        _ => by_history(word, fields),
-    }
-}
-
-// What a word asks for that asks for no edit either.
-fn by_history(word: &str, fields: Fields<'_>) -> Result<Instruction, LineFault>
-    ensures { result ≡ asked_in (history_words ++ query_words ++ cell_words) word.now fields.entry }
-{
-    match word {
-        "undo" => bare(Instruction::Undo, fields),
-        "redo" => bare(Instruction::Redo, fields),
-        "forget" => bare(Instruction::Forget, fields),
-        _ => by_query(word, fields),
-    }
-}
-
-// What a word asks for that neither edits nor goes along the history.
-fn by_query(word: &str, fields: Fields<'_>) -> Result<Instruction, LineFault>
-    ensures { result ≡ asked_in (query_words ++ cell_words) word.now fields.entry }
-{
-    match word {
-        "at" => Ok(Instruction::At(cell_named(fields)?)),
-        "region" => Ok(Instruction::Region(label_named(fields)?)),
-        "common" => common_named(fields),
-        "only" => only_named(fields),
-        "ranges" => bare(Instruction::Ranges, fields),
-        "dump" => bare(Instruction::Dump, fields),
-        "journal" => bare(Instruction::Journal, fields),
-        "export" => bare(Instruction::Export, fields),
-        _ => by_cell(word, fields),
-    }
-}
-
-// What a word asks for that asks for a cell alone.
-fn by_cell(word: &str, fields: Fields<'_>) -> Result<Instruction, LineFault>
-    ensures { result ≡ asked_in cell_words word.now fields.entry }
-{
-    match word {
-        "path" => Ok(Instruction::Path(cell_named(fields)?)),
-        "neighbors" => Ok(Instruction::Neighbors(cell_named(fields)?)),
-        "face" => Ok(Instruction::Face(cell_named(fields)?)),
         _ => Err(LineFault::BadCommand),
     }
 }

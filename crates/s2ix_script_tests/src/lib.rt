@@ -2,8 +2,6 @@
 #![tactic(auto)]
 
 #[cfg(test)]
-mod line_tests;
-#[cfg(test)]
 mod meaning_tests;
 #[cfg(test)]
 mod name_tests;
