@@ -7,7 +7,7 @@ use Rattle.s2id_core.proofs.Powers.{four_step, two_step, four_pos}
 use Rattle.s2id_cube.specs.declared.face_ij.FaceIj.{FaceIj}
 use Rattle.s2id_cube.specs.Square.{quadrant, turned, quarter, whole_face, square_after}
 use Rattle.s2id_cube.specs.Steps.{uncut, four_steps, AreFourSteps}
-use Rattle.s2id_cube.specs.Loops.{square_at, AreWoven}
+use Rattle.s2id_cube.specs.Loops.{square_at, square_in, AreOrientations, AreFirst, AreWoven}
 use Rattle.s2id_cube.proofs.Squares.{IsSquare, IsSquare-square_at, face-square_at}
 use Rattle.s2id_cube.proofs.Steps.{IsSquareEntry, IsPlaceEntry}
 
@@ -118,10 +118,6 @@ bytes_pow (suc g) =
 pub group_more : (g q b : ℕ) → b < 256 → IsFourBelow (square_at (4 * g) q) (square_at (4 * (g + 1)) (q * 256 + b)) b
 group_more g q b h = subst (λ n. IsFourBelow (square_at (4 * g) q) (square_at n (q * 256 + b)) b) (let e : deeper (4 * g) ≡ 4 * (g + 1) = omega arith in e) (four_more (4 * g) q b h)
 
--- the square of the first groups of a face's 32 positions, of which the first two are 0
-pub square_in : ℕ → ℕ → ℕ → FaceIj
-square_in f g d = square_at (4 * g) (f * 256 ^ g + d)
-
 square_in_is : (f g d : ℕ) → f < 6 → d < 256 ^ g → IsSquare (4 * g) (square_in f g d)
 unfolding square_in
 square_in_is f g d hf hd = IsSquare-square_at (4 * g) (f * 256 ^ g + d) (let e = bytes_pow g in bound f (256 ^ g) d hf hd (4 ^ (4 * g)) e)
@@ -185,7 +181,7 @@ down_none f d h =
     record { at_rest = omega arith; at_square = refl; at_orientation = ap (λ x. x % 2) (let a : f ≡ f * 256 ^ 0 + d * 256 ^ 0 / 2 ^ 64 = omega arith in a) }
 
 -- of the positions of d, those of the first groups
-few_groups : (d g : ℕ) → d < 2 ^ 60 → 16 * (d * 256 ^ g / 2 ^ 64) < 256 ^ g
+pub few_groups : (d g : ℕ) → d < 2 ^ 60 → 16 * (d * 256 ^ g / 2 ^ 64) < 256 ^ g
 few_groups d g h = by d (256 ^ g) h (let e = bytes_pow g in let p = four_pos (4 * g) in omega arith)
   where
     by : (d p : ℕ) → d < 2 ^ 60 → 0 < p → 16 * (d * p / 2 ^ 64) < p
@@ -279,7 +275,7 @@ pub up_none : (f i j : ℕ) → i < 2 ^ 30 → j < 2 ^ 30 → IsUp f i j 0 0 (f 
 unfolding square_in square_at whole_face
 up_none f i j hi hj = record { few = omega arith; at_i = omega arith; at_j = omega arith; at_orientation = ap (λ x. x % 2) (let a : f ≡ f * 256 ^ 0 + 0 % 2 ^ 62 = omega arith in a) }
 
-up_orientation : (f i j g places orientation : ℕ) → f < 6 → IsUp f i j g places orientation → orientation < 4
+pub up_orientation : (f i j g places orientation : ℕ) → f < 6 → IsUp f i j g places orientation → orientation < 4
 up_orientation f i j g places orientation hf h =
     let few = h.few in
     let is = (square_in_is f g (places % 2 ^ 62) hf (omega arith)).orientation in
