@@ -9,20 +9,20 @@ use Rattle.s2id_core.specs.CellId.{path_of}
 use Rattle.s2id_core.specs.Path.{Path, IsPath, place_of}
 use Rattle.s2id_core.proofs.Powers.{four_step, four_pow, four_pos}
 use Rattle.s2id_cube.specs.declared.face_ij.FaceIj.{FaceIj}
-use Rattle.s2id_cube.specs.Loops.{square_at, square_in, AreOrientations, AreFirst}
+use Rattle.s2id_cube.specs.Loops.{square_at, square_in, AreStarts, AreFirst}
 use Rattle.s2id_cube.proofs.Squares.{IsSquare, IsSquareOf, square_of_place, IsSquare-square_at, face-square_at}
 use Rattle.s2id_cube.proofs.Nesting.{IsAbove, above_at}
 use Rattle.s2id_cube.proofs.Leaves.{shifted_coordinate}
 use Rattle.s2id_cube.proofs.Groups.{IsDown, IsUp, AreAlike, padded, leaf_in, bytes_pow, few_groups, up_more}
-use Rattle.s2id_cube.proofs.Steps.{IsPlaceEntry}
+use Rattle.s2id_cube.proofs.Steps.{IsPlaceEntry, row_of_entry}
 use Rattle.s2id_cube.specs.Square.{square_of}
 
 -- ---- kept on the way down
 
--- the orientations before the first groups are kept
-pub record AreBefore (place group : ℕ) (orientations : List ℕ) : Type 0 where
-  pub long : length orientations ≡ 8
-  pub at : (g : ℕ) → g < group → get_or orientations g 0 ≡ (square_in (place / 2 ^ 60) g (place % 2 ^ 60 / 256 ^ (8 - g))).orientation
+-- the rows for the first groups are kept
+pub record AreBefore (place group : ℕ) (starts : List ℕ) : Type 0 where
+  pub long : length starts ≡ 8
+  pub at : (g : ℕ) → g < group → get_or starts g 0 ≡ 256 * (square_in (place / 2 ^ 60) g (place % 2 ^ 60 / 256 ^ (8 - g))).orientation
 
 bytes_pos : (g : ℕ) → 0 < 256 ^ g
 bytes_pos g = let e = bytes_pow g in let p = four_pos (4 * g) in omega arith
@@ -35,21 +35,22 @@ first_groups d g h =
     let whole : 2 ^ 64 ≡ p * w = (let e : 2 ^ 64 ≡ 256 ^ 8 = refl in e) ∙ ap (λ x. 256 ^ x) (let e : 8 ≡ 8 - g + g = omega arith in e) ∙ pow-add 256 (8 - g) g in
     ap (λ x. d * w / x) whole ∙ mul-div-mul_right d p (bytes_pos g)
 
-pub before_none : (place : ℕ) (orientations : List ℕ) → length orientations ≡ 8 → AreBefore place 0 orientations
-before_none place orientations long = record { long = long; at = λ g h. absurd (omega arith) }
+pub before_none : (place : ℕ) (starts : List ℕ) → length starts ≡ 8 → AreBefore place 0 starts
+before_none place starts long = record { long = long; at = λ g h. absurd (omega arith) }
 
-pub before_more : (place group rest square orientation : ℕ) (orientations : List ℕ) → group < 8 → IsDown (place / 2 ^ 60) (place % 2 ^ 60) group rest square orientation → AreBefore place group orientations → AreBefore place (group + 1) (set orientations group orientation)
-before_more place group rest square orientation orientations hg down h =
+pub before_more : (place group rest square start : ℕ) (starts : List ℕ) → group < 8 → start % 256 ≡ 0 → IsDown (place / 2 ^ 60) (place % 2 ^ 60) group rest square (start / 256) → AreBefore place group starts → AreBefore place (group + 1) (set starts group start)
+before_more place group rest square start starts hg whole down h =
     let f = place / 2 ^ 60 in
     let d = place % 2 ^ 60 in
-    let Kept : ℕ → Type 0 = λ g. get_or (set orientations group orientation) g 0 ≡ (square_in f g (d / 256 ^ (8 - g))).orientation in
-    let earlier : (g : ℕ) → g < group → Kept g = λ g less. let apart : g ≢ group = omega arith in get_or-set_other orientations group g orientation 0 apart ∙ h.at g less in
+    let Kept : ℕ → Type 0 = λ g. get_or (set starts group start) g 0 ≡ 256 * (square_in f g (d / 256 ^ (8 - g))).orientation in
+    let earlier : (g : ℕ) → g < group → Kept g = λ g less. let apart : g ≢ group = omega arith in get_or-set_other starts group g start 0 apart ∙ h.at g less in
     let long = h.long in
-    let here : Kept group = get_or-set_same orientations group orientation 0 (omega arith) ∙ down.at_orientation ∙ ap (λ x. (square_in f group x).orientation) (first_groups d group (omega arith)) in
-    record { long = length-set orientations group orientation ∙ h.long; at = λ g less. below_more Kept group earlier here g (omega arith) }
+    let now : start ≡ 256 * (start / 256) = omega arith in
+    let here : Kept group = get_or-set_same starts group start 0 (omega arith) ∙ now ∙ ap (λ x. 256 * x) (down.at_orientation ∙ ap (λ x. (square_in f group x).orientation) (first_groups d group (omega arith))) in
+    record { long = length-set starts group start ∙ h.long; at = λ g less. below_more Kept group earlier here g (omega arith) }
 
-pub before_all : (place group : ℕ) (orientations : List ℕ) → group ≡ 8 → AreBefore place group orientations → AreOrientations place orientations
-before_all place group orientations e h = record { long = h.long; at = λ g less. h.at g (omega arith) }
+pub before_all : (place group : ℕ) (starts : List ℕ) → group ≡ 8 → AreBefore place group starts → AreStarts place starts
+before_all place group starts e h = record { long = h.long; at = λ g less. h.at g (omega arith) }
 
 -- ---- the group in which two ways part
 
@@ -130,8 +131,8 @@ kept d g h =
     shr-shr d (56 - 8 * g) 8 ∙ ap (λ x. d / x) bits
 
 -- the positions of the leaf before the group in which the ways part are those of the square
-pub near_start : (place i j below first positions orientation : ℕ) (leaf : FaceIj) (orientations : List ℕ) → place < 6 * 2 ^ 60 → leaf ≡ square_at 30 place → AreOrientations place orientations → ArePartedFrom leaf.i leaf.j i j below first → positions ≡ place % 2 ^ 60 / 2 ^ (56 - 8 * first) / 2 ^ 8 → orientation ≡ get_or orientations first 0 → IsUp leaf.face i j first positions orientation
-near_start place i j below first positions orientation leaf orientations hp el kept_are parts ep eo =
+pub near_start : (place i j below first positions start : ℕ) (leaf : FaceIj) (starts : List ℕ) → place < 6 * 2 ^ 60 → leaf ≡ square_at 30 place → AreStarts place starts → ArePartedFrom leaf.i leaf.j i j below first → positions ≡ place % 2 ^ 60 / 2 ^ (56 - 8 * first) / 2 ^ 8 → start ≡ get_or starts first 0 → IsUp leaf.face i j first positions (start / 256) × (start % 256 ≡ 0)
+near_start place i j below first positions start leaf starts hp el kept_are parts ep eo =
     let f = place / 2 ^ 60 in
     let d = place % 2 ^ 60 in
     let within = parts.within in
@@ -146,18 +147,19 @@ near_start place i j below first positions orientation leaf orientations hp el k
     let above = first_above f d first (omega arith) (omega arith) (omega arith) in
     let alike : AreAlike (square_in f 8 d) leaf = subst (AreAlike (square_in f 8 d)) (sym el) (subst (λ x. AreAlike (square_in f 8 d) (square_at 30 x)) (let w : f * 2 ^ 60 + d ≡ place = omega arith in w) (leaf_in f d (omega arith))) in
     let bits : 4 * (8 - first) ≡ 32 - 4 * first = omega arith in
-    record {
+    let row : start ≡ 256 * (square_in f first c).orientation = eo ∙ kept_are.at first g in
+    (record {
       few = subst (λ x. 16 * x < 256 ^ first) (sym same) few;
       at_i = ap (λ (s : FaceIj). s.i) here ∙ sym above.column ∙ ap₂ (λ x y. x / 2 ^ y) alike.i bits ∙ parts.front_i;
       at_j = ap (λ (s : FaceIj). s.j) here ∙ sym above.row ∙ ap₂ (λ x y. x / 2 ^ y) alike.j bits ∙ parts.front_j;
-      at_orientation = eo ∙ kept_are.at first g ∙ sym (ap (λ (s : FaceIj). s.orientation) here);
-    }
+      at_orientation = (let o : start / 256 ≡ (square_in f first c).orientation = omega arith in o) ∙ sym (ap (λ (s : FaceIj). s.orientation) here);
+    }, omega arith)
 
 -- ---- one group more
 
 pub record IsMore (f i j g positions e : ℕ) : Type 0 where
   pub fits : positions * 2 ^ 8 % 2 ^ 64 + e < 2 ^ 64
-  pub up : IsUp f i j (g + 1) (positions * 2 ^ 8 % 2 ^ 64 + e) (e / 2 ^ 62)
+  pub up : IsUp f i j (g + 1) (positions * 2 ^ 8 % 2 ^ 64 + e) (e / 2 ^ 54 / 256)
 
 one_more : (positions e d b : ℕ) → d ≡ positions % 2 ^ 62 → d < 2 ^ 52 → b ≡ e % 2 ^ 62 → b < 256 → e < 2 ^ 64 → (positions * 2 ^ 8 % 2 ^ 64 + e < 2 ^ 64) × ((positions * 2 ^ 8 % 2 ^ 64 + e) % 2 ^ 62 ≡ d * 256 + b)
 one_more positions e d b ed hd eb hb he =
@@ -170,7 +172,7 @@ near_more f i j g positions orientation square e hf hi hj hg he h es entry =
     let few = h.few in
     let most : 256 ^ g ≤ 256 ^ 7 = pow-le-pow_right {n = 256} (omega arith) {i = g} {j = 7} (omega arith) in
     let one = one_more positions e (positions % 2 ^ 62) (e % 2 ^ 62) refl (omega arith) refl entry.steps.below he in
-    record { fits = one.0; up = up_more f i j g positions orientation e square (positions * 2 ^ 8 % 2 ^ 64 + e) hf hi hj hg h es entry one.1 }
+    record { fits = one.0; up = subst (λ x. IsUp f i j (g + 1) (positions * 2 ^ 8 % 2 ^ 64 + e) x) (sym (row_of_entry e)) (up_more f i j g positions orientation e square (positions * 2 ^ 8 % 2 ^ 64 + e) hf hi hj hg h es entry one.1) }
 
 pub near_done : (f i j group groups positions orientation result : ℕ) → group ≡ groups → IsUp f i j group positions orientation → result ≡ positions % 2 ^ 62 → AreFirst f i j groups result
 near_done f i j group groups positions orientation result eg h er =

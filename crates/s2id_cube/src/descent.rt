@@ -3,7 +3,7 @@
 ghost use Rattle.std.specs.Prelude.{◌≡◌, ℕ, ◌-◌, ◌*◌, ◌/◌, ◌^◌, ◌<◌, ◌≤◌};
 ghost use Rattle.s2id_core.specs.CellId.{path_of};
 ghost use Rattle.s2id_cube.specs.Square.{square_of};
-ghost use Rattle.s2id_cube.specs.Loops.{square_at, AreOrientations, AreFirst};
+ghost use Rattle.s2id_cube.specs.Loops.{square_at, AreStarts, AreFirst};
 
 use crate::curve::{place_entry, square_entry};
 use crate::face_ij::FaceIj;
@@ -17,8 +17,8 @@ pub(crate) struct Descent {
     pub(crate) leaf: FaceIj,
     /// The leaf's place along the whole curve.
     pub(crate) place: u64,
-    /// How the curve runs where each group begins.
-    pub(crate) orientations: [u64; 8],
+    /// Where the tables' row starts for each group: 256 times how the curve runs there.
+    pub(crate) starts: [u64; 8],
 }
 
 /// The way to the leaf at a place along the whole curve.
@@ -28,18 +28,18 @@ pub(crate) fn descend(place: u64) -> Descent
     ensures leaf { result.leaf ≡ square_at 30 place }
     ensures place { result.place ≡ place }
     ensures below { result.place < 6 * 2 ^ 60 }
-    ensures orientations { AreOrientations place result.orientations }
+    ensures starts { AreStarts place result.starts }
 {
     let face = (place >> 60) as u8;
     let mut rest = place % (1 << 60);
     let mut square = 0;
-    let mut orientation = (face % 2) as u64;
-    let mut orientations = [0; 8];
+    let mut start = 256 * (face % 2) as u64;
+    let mut starts = [0; 8];
     for group in 0usize..8 {
-        orientations[group] = orientation;
-        let entry = square_entry(orientation, rest >> 56);
+        starts[group] = start;
+        let entry = square_entry(start, rest >> 56);
         square = (square << 4) + entry;
-        orientation = entry >> 62;
+        start = entry >> 54;
         rest <<= 8;
     }
     let leaf = FaceIj {
@@ -47,25 +47,25 @@ pub(crate) fn descend(place: u64) -> Descent
         i: ((square >> 32) % (1 << 30)) as u32,
         j: (square % (1 << 32)) as u32,
         level: 30,
-        orientation: orientation as u8,
+        orientation: (start >> 8) as u8,
     };
     Descent {
         leaf,
         place,
-        orientations,
+        starts,
     }
 }
 
 /// The cell of a square on the leaf's face, by the positions of its first leaf from the group on in which the two ways part.
 #[inline(always)]
-pub(crate) fn cell_near(way: Descent, i: u32, j: u32, level: u8) -> CellId
-    requires place { way.place < 6 * 2 ^ 60 }
-    requires leaf { way.leaf ≡ square_at 30 way.place }
-    requires orientations { AreOrientations way.place way.orientations }
+pub(crate) fn cell_near(way: &Descent, i: u32, j: u32, level: u8) -> CellId
+    requires place { way.now.place < 6 * 2 ^ 60 }
+    requires leaf { way.now.leaf ≡ square_at 30 way.now.place }
+    requires starts { AreStarts way.now.place way.now.starts }
     requires level { level ≤ 30 }
     requires i { i < 2 ^ level }
     requires j { j < 2 ^ level }
-    ensures face { (square_of (path_of result)).face ≡ way.leaf.face }
+    ensures face { (square_of (path_of result)).face ≡ way.now.leaf.face }
     ensures i { (square_of (path_of result)).i ≡ i }
     ensures j { (square_of (path_of result)).j ≡ j }
     ensures level { (square_of (path_of result)).level ≡ level }
@@ -78,25 +78,25 @@ pub(crate) fn cell_near(way: Descent, i: u32, j: u32, level: u8) -> CellId
 
 // The positions that lead to a leaf square on the leaf's face, without the groups that lie whole in the last levels, `below` of them.
 #[inline(always)]
-fn positions_near(way: Descent, i: u32, j: u32, below: u8) -> u64
-    requires place { way.place < 6 * 2 ^ 60 }
-    requires leaf { way.leaf ≡ square_at 30 way.place }
-    requires orientations { AreOrientations way.place way.orientations }
+fn positions_near(way: &Descent, i: u32, j: u32, below: u8) -> u64
+    requires place { way.now.place < 6 * 2 ^ 60 }
+    requires leaf { way.now.leaf ≡ square_at 30 way.now.place }
+    requires starts { AreStarts way.now.place way.now.starts }
     requires below { below ≤ 30 }
     requires i { i < 2 ^ 30 }
     requires j { j < 2 ^ 30 }
-    ensures { AreFirst way.leaf.face i j (8 - below / 4) result }
+    ensures { AreFirst way.now.leaf.face i j (8 - below / 4) result }
 {
     let changed = (way.leaf.i ^ i) | (way.leaf.j ^ j) | (1 << below);
     let first = (changed.leading_zeros() / 4) as u8;
-    let mut orientation = way.orientations[first as usize];
+    let mut start = way.starts[first as usize];
     let mut positions = (way.place % (1 << 60)) >> (56 - 8 * first) >> 8;
     for group in first..8 - below / 4 {
         let bits = 28 - 4 * group;
         let square = 16 * ((i >> bits) % 16) + (j >> bits) % 16;
-        let entry = place_entry(orientation, square as u64);
+        let entry = place_entry(start, square as u64);
         positions = (positions << 8) + entry;
-        orientation = entry >> 62;
+        start = entry >> 54;
     }
     positions % (1 << 62)
 }

@@ -83,12 +83,12 @@ fn leaf_place(face: u8, i: u32, j: u32) -> u64
 {
     let (mut odd, mut even) = woven(i, j);
     let mut places = 0;
-    let mut orientation = face as u64 % 2;
+    let mut start = 256 * (face as u64 % 2);
     for pair in 0u8..4 {
-        let upper = place_entry(orientation, (odd >> 24) as u64);
-        let lower = place_entry(upper >> 62, (even >> 24) as u64);
+        let upper = place_entry(start, (odd >> 24) as u64);
+        let lower = place_entry(upper >> 54, (even >> 24) as u64);
         places = (places << 16) + (upper << 8) + lower;
-        orientation = lower >> 62;
+        start = lower >> 54;
         odd <<= 8;
         even <<= 8;
     }

@@ -5,7 +5,7 @@ ghost use Rattle.s2id_cube.specs.Square.{square_of};
 ghost use Rattle.s2id_cube.specs.Edge.{SharesSide, ShareEdge};
 ghost use Rattle.s2id_cube.specs.Neighbor.{neighbor_number};
 ghost use Rattle.s2id_cube.specs.Grid.{IsBeside, column_on, row_on};
-ghost use Rattle.s2id_cube.specs.Loops.{square_at, AreOrientations};
+ghost use Rattle.s2id_cube.specs.Loops.{square_at, AreStarts};
 
 use crate::descent::{Descent, cell_near, descend};
 use crate::face_ij::cell_of_square;
@@ -44,24 +44,24 @@ pub fn edge_neighbors(cell: CellId) -> [CellId; 4]
     let level = cell.level();
     let way = descend(cell.place_at(level) << (2 * (30 - level)));
     [
-        cell_over(way, level, 0),
-        cell_over(way, level, 1),
-        cell_over(way, level, 2),
-        cell_over(way, level, 3),
+        cell_over(&way, level, 0),
+        cell_over(&way, level, 1),
+        cell_over(&way, level, 2),
+        cell_over(&way, level, 3),
     ]
 }
 
 // The cell over one side of the cell of a level that the way's leaf lies in.
 #[inline(always)]
-fn cell_over(way: Descent, level: u8, side: u8) -> CellId
-    requires place { way.place < 6 * 2 ^ 60 }
-    requires leaf { way.leaf ≡ square_at 30 way.place }
-    requires orientations { AreOrientations way.place way.orientations }
+fn cell_over(way: &Descent, level: u8, side: u8) -> CellId
+    requires place { way.now.place < 6 * 2 ^ 60 }
+    requires leaf { way.now.leaf ≡ square_at 30 way.now.place }
+    requires starts { AreStarts way.now.place way.now.starts }
     requires level { level ≤ 30 }
     requires side { side < 4 }
     ensures level { (square_of (path_of result)).level ≡ level }
     ensures beside { let other = square_of (path_of result)
-        in IsBeside (2 ^ level) side way.leaf.face (way.leaf.i / 2 ^ (30 - level)) (way.leaf.j / 2 ^ (30 - level)) other.face other.i other.j }
+        in IsBeside (2 ^ level) side way.now.leaf.face (way.now.leaf.i / 2 ^ (30 - level)) (way.now.leaf.j / 2 ^ (30 - level)) other.face other.i other.j }
 {
     let below = 30 - level;
     let last = (1 << level) - 1;

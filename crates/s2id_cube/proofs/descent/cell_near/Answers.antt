@@ -16,20 +16,20 @@ positions_near-positions-requires-clause-j c = let s = shifted_coordinate c.args
 pub overflow_add-way : goal.overflow_add-way
 overflow_add-way c =
     let r = c.requires in
-    let w = near_written c.args.way.place c.args.i c.args.j c.args.level c.positions_near-positions.result c.args.way.leaf r.place r.leaf r.level r.i r.j c.positions_near-positions.ensures in
+    let w = near_written c.args.way.now.place c.args.i c.args.j c.args.level c.positions_near-positions.result c.args.way.now.leaf r.place r.leaf r.level r.i r.j c.positions_near-positions.ensures in
     let f = w.fits in
     omega arith
 
 pub at_place-requires-clause-within : goal.at_place-requires-clause-within
 at_place-requires-clause-within c =
     let r = c.requires in
-    (near_written c.args.way.place c.args.i c.args.j c.args.level c.positions_near-positions.result c.args.way.leaf r.place r.leaf r.level r.i r.j c.positions_near-positions.ensures).within
+    (near_written c.args.way.now.place c.args.i c.args.j c.args.level c.positions_near-positions.result c.args.way.now.leaf r.place r.leaf r.level r.i r.j c.positions_near-positions.ensures).within
 
-is_near : (c : After-at_place) → IsSquareOf (path_of c.at_place.result) c.args.way.leaf.face c.args.i c.args.j c.args.level
+is_near : (c : After-at_place) → IsSquareOf (path_of c.at_place.result) c.args.way.now.leaf.face c.args.i c.args.j c.args.level
 is_near c =
     let r = c.requires in
-    let w = near_written c.args.way.place c.args.i c.args.j c.args.level c.positions_near-positions.result c.args.way.leaf r.place r.leaf r.level r.i r.j c.positions_near-positions.ensures in
-    near_cell (path_of c.at_place.result) (path_of_cell c.at_place.result.raw c.at_place.result.valid) c.args.way.leaf.face c.args.i c.args.j c.args.level _ r.level c.at_place.ensures.level c.at_place.ensures.place w.at
+    let w = near_written c.args.way.now.place c.args.i c.args.j c.args.level c.positions_near-positions.result c.args.way.now.leaf r.place r.leaf r.level r.i r.j c.positions_near-positions.ensures in
+    near_cell (path_of c.at_place.result) (path_of_cell c.at_place.result.raw c.at_place.result.valid) c.args.way.now.leaf.face c.args.i c.args.j c.args.level _ r.level c.at_place.ensures.level c.at_place.ensures.place w.at
 
 pub returns-clause-face : goal.returns-clause-face
 returns-clause-face c = (is_near c).at_face
