@@ -1,12 +1,12 @@
 -- Squares and places, four levels at a time.
-use Rattle.std.proofs.Common.{◌≡◌, ℕ, zero, suc, ◌+◌, ◌-◌, ◌*◌, ◌/◌, ◌%◌, ◌^◌, ◌<◌, ◌≤◌, inl, inr, sym, ◌∙◌, ap, ap₂, refl, arith, subst}
+use Rattle.std.proofs.Common.{◌≡◌, ℕ, zero, suc, ◌+◌, ◌-◌, ◌*◌, ◌/◌, ◌%◌, ◌^◌, ◌<◌, ◌≤◌, sym, ◌∙◌, ap, ap₂, refl, arith, subst}
 use Rattle.std.proofs.Math.Nat.{pow-suc, pow-le-pow_right}
 use Rattle.std.proofs.lemmas.Nat.{shr-shr}
 use Rattle.s2id_core.specs.Path.{last_digits}
-use Rattle.s2id_core.proofs.Powers.{four_step, two_step, four_pos}
+use Rattle.s2id_core.proofs.Powers.{four_step, four_pos}
 use Rattle.s2id_cube.specs.declared.face_ij.FaceIj.{FaceIj}
 use Rattle.s2id_cube.specs.Square.{quadrant, turned, quarter, whole_face, square_after}
-use Rattle.s2id_cube.specs.Steps.{uncut, four_steps, AreFourSteps}
+use Rattle.s2id_cube.specs.Steps.{four_steps}
 use Rattle.s2id_cube.specs.Loops.{square_at, square_in, AreWoven}
 use Rattle.s2id_cube.proofs.Squares.{IsSquare, IsSquare-square_at, face-square_at}
 use Rattle.s2id_cube.proofs.Steps.{IsSquareEntry, IsPlaceEntry, row_of_entry}

@@ -14,10 +14,10 @@ square_at (suc k) place = quarter (place % 4) (square_at k (place / 4))
 unfoldable pub square_in : ℕ → ℕ → ℕ → FaceIj
 square_in f g positions = square_at (4 * g) (f * 256 ^ g + positions)
 
--- for each of the eight groups on the way to the leaf at a place, 256 times how the curve runs where it begins
+-- for each of the eight groups on the way to the leaf at a place, the last group first, 256 times how the curve runs where it begins
 pub record AreStarts (place : ℕ) (starts : List ℕ) : Type 0 where
   pub long : length starts ≡ 8
-  pub at : (g : ℕ) → g < 8 → slice_index starts g ≡ 256 * (square_in (place / 2 ^ 60) g (place % 2 ^ 60 / 256 ^ (8 - g))).orientation
+  pub at : (n : ℕ) → n < 8 → slice_index starts n ≡ 256 * (square_in (place / 2 ^ 60) (7 - n) (place % 2 ^ 60 / 256 ^ (n + 1))).orientation
 
 -- the positions of the first g groups lead as far towards leaf column i and leaf row j as these groups do
 pub record AreFirst (f i j g positions : ℕ) : Type 0 where

@@ -17,7 +17,7 @@ pub(crate) struct Descent {
     pub(crate) leaf: FaceIj,
     /// The leaf's place along the whole curve.
     pub(crate) place: u64,
-    /// Where the tables' row starts for each group: 256 times how the curve runs there.
+    /// Where the tables' row starts for each group, the last group first: 256 times how the curve runs there.
     pub(crate) starts: [u64; 8],
 }
 
@@ -36,7 +36,7 @@ pub(crate) fn descend(place: u64) -> Descent
     let mut start = 256 * (face % 2) as u64;
     let mut starts = [0; 8];
     for group in 0usize..8 {
-        starts[group] = start;
+        starts[7 - group] = start;
         let entry = square_entry(start, rest >> 56);
         square = (square << 4) + entry;
         start = entry >> 54;
@@ -71,29 +71,32 @@ pub(crate) fn cell_near(way: &Descent, i: u32, j: u32, level: u8) -> CellId
     ensures level { (square_of (path_of result)).level ≡ level }
 {
     let below = 30 - level;
-    let positions = positions_near(way, i << below, j << below, below);
+    let positions = positions_near(way, i, j, below);
     let inside = positions >> (2 * (below % 4));
     CellId::at_place(level, ((way.leaf.face as u64) << (2 * level)) + inside)
 }
 
-// The positions that lead to a leaf square on the leaf's face, without the groups that lie whole in the last levels, `below` of them.
+// The positions that lead to a square on the leaf's face, `below` levels above the leaves, without the groups that lie whole in these.
 #[inline(always)]
 fn positions_near(way: &Descent, i: u32, j: u32, below: u8) -> u64
     requires place { way.now.place < 6 * 2 ^ 60 }
     requires leaf { way.now.leaf ≡ square_at 30 way.now.place }
     requires starts { AreStarts way.now.place way.now.starts }
     requires below { below ≤ 30 }
-    requires i { i < 2 ^ 30 }
-    requires j { j < 2 ^ 30 }
-    ensures { AreFirst way.now.leaf.face i j (8 - below / 4) result }
+    requires i { i < 2 ^ (30 - below) }
+    requires j { j < 2 ^ (30 - below) }
+    ensures { AreFirst way.now.leaf.face (i * 2 ^ below) (j * 2 ^ below) (8 - below / 4) result }
 {
-    let changed = (way.leaf.i ^ i) | (way.leaf.j ^ j) | (1 << below);
-    let first = (changed.leading_zeros() / 4) as u8;
-    let mut start = way.starts[first as usize];
-    let mut positions = (way.place % (1 << 60)) >> (56 - 8 * first) >> 8;
-    for group in first..8 - below / 4 {
-        let bits = 28 - 4 * group;
-        let square = 16 * ((i >> bits) % 16) + (j >> bits) % 16;
+    let changed = ((way.leaf.i >> below) ^ i) | ((way.leaf.j >> below) ^ j) | 1;
+    let parting = ((31 - (changed << below).leading_zeros()) / 4) as u8;
+    let column = i << below;
+    let row = j << below;
+    let mut start = way.starts[parting as usize];
+    let mut positions = (way.place % (1 << 60)) >> (8 * parting) >> 8;
+    let mut left = parting + 1;
+    while left > below / 4 {
+        left -= 1;
+        let square = 16 * ((column >> (4 * left)) % 16) + (row >> (4 * left)) % 16;
         let entry = place_entry(start, square as u64);
         positions = (positions << 8) + entry;
         start = entry >> 54;

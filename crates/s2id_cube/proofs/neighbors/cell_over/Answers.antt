@@ -1,5 +1,3 @@
-use Rattle.std.proofs.Common.{refl, sym, arith}
-use Rattle.s2id_cube.proofs.Beside.{beside_moved}
 use Rattle.s2id_cube.proofs.Near.{in_grid}
 use Rattle.s2id_cube.proofs.neighbors.cell_over.Goals as goal
 

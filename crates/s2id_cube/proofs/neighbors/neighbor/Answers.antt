@@ -1,4 +1,4 @@
-use Rattle.std.proofs.Common.{◌≡◌, ◌^◌, ◌≤◌, refl, sym, arith}
+use Rattle.std.proofs.Common.{◌^◌, ◌≤◌, refl, sym, arith}
 use Rattle.std.proofs.Math.Nat.{pow-le-pow_right}
 use Rattle.std.proofs.lemmas.Nat.{one_shl, pow_pos}
 use Rattle.s2id_cube.proofs.Beside.{beside_moved}
