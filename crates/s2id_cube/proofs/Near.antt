@@ -51,9 +51,9 @@ pub before_all : (place group : ℕ) (starts : List ℕ) → group ≡ 8 → Are
 before_all place group starts e h = record {
   long = h.long;
   at = λ n less.
-    let same : 7 - (7 - n) ≡ n = omega arith in
-    let rest : 8 - (7 - n) ≡ n + 1 = omega arith in
-    ap (λ x. get_or starts x 0) (sym same) ∙ h.at (7 - n) (omega arith) ∙ ap (λ x. 256 * (square_in (place / 2 ^ 60) (7 - n) (place % 2 ^ 60 / 256 ^ x)).orientation) rest;
+      let same : 7 - (7 - n) ≡ n = omega arith in
+      let rest : 8 - (7 - n) ≡ n + 1 = omega arith in
+      ap (λ x. get_or starts x 0) (sym same) ∙ h.at (7 - n) (omega arith) ∙ ap (λ x. 256 * (square_in (place / 2 ^ 60) (7 - n) (place % 2 ^ 60 / 256 ^ x)).orientation) rest;
 }
 
 -- ---- the group in which two ways part
@@ -180,13 +180,15 @@ near_start place i j below parting positions start leaf starts hp el kept_are pa
     let bits : 4 * (8 - first) ≡ 4 * parting + 4 = omega arith in
     let end : 4 * parting + 4 ≡ 32 - 4 * first = omega arith in
     let at : 7 - parting ≡ first = omega arith in
-    let row : start ≡ 256 * (square_in f first c).orientation = eo ∙ kept_are.at parting parts.few ∙ ap₂ (λ x y. 256 * (square_in f x (d / 256 ^ y)).orientation) at (sym rest) in
-    (record {
-      few = subst (λ x. 16 * x < 256 ^ first) (sym same) few;
-      at_i = ap (λ (s : FaceIj). s.i) here ∙ sym above.column ∙ ap₂ (λ x y. x / 2 ^ y) alike.i bits ∙ parts.front_i ∙ ap (λ x. i * 2 ^ below / 2 ^ x) end;
-      at_j = ap (λ (s : FaceIj). s.j) here ∙ sym above.row ∙ ap₂ (λ x y. x / 2 ^ y) alike.j bits ∙ parts.front_j ∙ ap (λ x. j * 2 ^ below / 2 ^ x) end;
-      at_orientation = (let o : start / 256 ≡ (square_in f first c).orientation = omega arith in o) ∙ sym (ap (λ (s : FaceIj). s.orientation) here);
-    }, omega arith)
+    let row : start ≡ 256 * (square_in f first c).orientation = eo ∙ kept_are.at parting parts.few ∙ ap₂ (λ x y. 256 * (square_in f x (d / 256 ^ y)).orientation) at (sym rest) in (
+      record {
+        few = subst (λ x. 16 * x < 256 ^ first) (sym same) few;
+        at_i = ap (λ (s : FaceIj). s.i) here ∙ sym above.column ∙ ap₂ (λ x y. x / 2 ^ y) alike.i bits ∙ parts.front_i ∙ ap (λ x. i * 2 ^ below / 2 ^ x) end;
+        at_j = ap (λ (s : FaceIj). s.j) here ∙ sym above.row ∙ ap₂ (λ x y. x / 2 ^ y) alike.j bits ∙ parts.front_j ∙ ap (λ x. j * 2 ^ below / 2 ^ x) end;
+        at_orientation = (let o : start / 256 ≡ (square_in f first c).orientation = omega arith in o) ∙ sym (ap (λ (s : FaceIj). s.orientation) here);
+      },
+      omega arith,
+    )
 
 -- a coordinate of a leaf
 pub leaf_coordinate : (i below : ℕ) → below ≤ 30 → i < 2 ^ (30 - below) → (i * 2 ^ below % 2 ^ 32 ≡ i * 2 ^ below) × (i * 2 ^ below < 2 ^ 30)

@@ -27,7 +27,8 @@ const REVERSALS: [u8; 24] = [
 ];
 
 /// The cells of the cell's level that share an edge with it: down (`j` less), right (`i` more), up (`j` more) and
-/// left (`i` less), over the edges of the cube too (S2's `GetEdgeNeighbors`). One step for each level and cell.
+/// left (`i` less), over the edges of the cube too (S2's `GetEdgeNeighbors`). Eight steps of four levels for the cell, mostly
+/// one more for each neighbour on its face, and eight for each over an edge of the cube.
 pub fn edge_neighbors(cell: CellId) -> [CellId; 4]
     ensures sides { (side : ℕ)
         → side < 4
@@ -65,7 +66,13 @@ fn cell_over(way: &Descent, level: u8, side: u8) -> CellId
 {
     let below = 30 - level;
     let last = (1 << level) - 1;
-    let (face, i, j) = beside(way.leaf.face, way.leaf.i >> below, way.leaf.j >> below, last, side);
+    let (face, i, j) = beside(
+        way.leaf.face,
+        way.leaf.i >> below,
+        way.leaf.j >> below,
+        last,
+        side,
+    );
     if face == way.leaf.face {
         cell_near(way, i, j, level)
     } else {

@@ -28,10 +28,10 @@ pub loop-group-preserved : goal.loop-group-preserved
 loop-group-preserved c =
     let next = c.square_entry-entry.ensures.next in
     let down = (step (goal.at.loop-group-preserved c).After-square_entry-entry).down in (
-    down,
-    omega arith,
-    before_more c.args.place c.loop-group.group c.loop-group.rest c.loop-group.square c.loop-group.start c.loop-group.starts (omega arith) c.loop-group.invariant.1 c.loop-group.invariant.0 c.loop-group.invariant.2,
-)
+      down,
+      omega arith,
+      before_more c.args.place c.loop-group.group c.loop-group.rest c.loop-group.square c.loop-group.start c.loop-group.starts (omega arith) c.loop-group.invariant.1 c.loop-group.invariant.0 c.loop-group.invariant.2,
+    )
 
 pub overflow_cast-leaf-3 : goal.overflow_cast-leaf-3
 overflow_cast-leaf-3 c =
