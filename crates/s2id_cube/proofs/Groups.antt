@@ -1,15 +1,15 @@
 -- Squares and places, four levels at a time.
-use Rattle.std.proofs.Common.{◌≡◌, ℕ, zero, suc, ◌+◌, ◌-◌, ◌*◌, ◌/◌, ◌%◌, ◌^◌, ◌<◌, ◌≤◌, inl, inr, sym, ◌∙◌, ap, ap₂, refl, arith, subst}
+use Rattle.std.proofs.Common.{◌≡◌, ℕ, zero, suc, ◌+◌, ◌-◌, ◌*◌, ◌/◌, ◌%◌, ◌^◌, ◌<◌, ◌≤◌, sym, ◌∙◌, ap, ap₂, refl, arith, subst}
 use Rattle.std.proofs.Math.Nat.{pow-suc, pow-le-pow_right}
 use Rattle.std.proofs.lemmas.Nat.{shr-shr}
 use Rattle.s2id_core.specs.Path.{last_digits}
-use Rattle.s2id_core.proofs.Powers.{four_step, two_step, four_pos}
+use Rattle.s2id_core.proofs.Powers.{four_step, four_pos}
 use Rattle.s2id_cube.specs.declared.face_ij.FaceIj.{FaceIj}
 use Rattle.s2id_cube.specs.Square.{quadrant, turned, quarter, whole_face, square_after}
-use Rattle.s2id_cube.specs.Steps.{uncut, four_steps, AreFourSteps}
-use Rattle.s2id_cube.specs.Loops.{square_at, AreWoven}
+use Rattle.s2id_cube.specs.Steps.{four_steps}
+use Rattle.s2id_cube.specs.Loops.{square_at, square_in, AreWoven}
 use Rattle.s2id_cube.proofs.Squares.{IsSquare, IsSquare-square_at, face-square_at}
-use Rattle.s2id_cube.proofs.Steps.{IsSquareEntry, IsPlaceEntry}
+use Rattle.s2id_cube.proofs.Steps.{IsSquareEntry, IsPlaceEntry, row_of_entry}
 
 -- ---- four steps from any square
 
@@ -118,10 +118,6 @@ bytes_pow (suc g) =
 pub group_more : (g q b : ℕ) → b < 256 → IsFourBelow (square_at (4 * g) q) (square_at (4 * (g + 1)) (q * 256 + b)) b
 group_more g q b h = subst (λ n. IsFourBelow (square_at (4 * g) q) (square_at n (q * 256 + b)) b) (let e : deeper (4 * g) ≡ 4 * (g + 1) = omega arith in e) (four_more (4 * g) q b h)
 
--- the square of the first groups of a face's 32 positions, of which the first two are 0
-pub square_in : ℕ → ℕ → ℕ → FaceIj
-square_in f g d = square_at (4 * g) (f * 256 ^ g + d)
-
 square_in_is : (f g d : ℕ) → f < 6 → d < 256 ^ g → IsSquare (4 * g) (square_in f g d)
 unfolding square_in
 square_in_is f g d hf hd = IsSquare-square_at (4 * g) (f * 256 ^ g + d) (let e = bytes_pow g in bound f (256 ^ g) d hf hd (4 ^ (4 * g)) e)
@@ -178,14 +174,14 @@ pub record IsDown (f d g rest square orientation : ℕ) : Type 0 where
   pub at_square : square % 2 ^ 62 ≡ (square_in f g (d * 256 ^ g / 2 ^ 64)).i * 2 ^ 32 + (square_in f g (d * 256 ^ g / 2 ^ 64)).j
   pub at_orientation : orientation ≡ (square_in f g (d * 256 ^ g / 2 ^ 64)).orientation
 
-pub down_none : (f d : ℕ) → d < 2 ^ 60 → IsDown f d 0 d 0 (f % 2)
+pub down_none : (f d o : ℕ) → d < 2 ^ 60 → o ≡ f % 2 → IsDown f d 0 d 0 o
 unfolding square_in square_at whole_face
-down_none f d h =
+down_none f d o h eo =
     let e : d * 256 ^ 0 / 2 ^ 64 ≡ 0 = omega arith in
-    record { at_rest = omega arith; at_square = refl; at_orientation = ap (λ x. x % 2) (let a : f ≡ f * 256 ^ 0 + d * 256 ^ 0 / 2 ^ 64 = omega arith in a) }
+    record { at_rest = omega arith; at_square = refl; at_orientation = eo ∙ ap (λ x. x % 2) (let a : f ≡ f * 256 ^ 0 + d * 256 ^ 0 / 2 ^ 64 = omega arith in a) }
 
 -- of the positions of d, those of the first groups
-few_groups : (d g : ℕ) → d < 2 ^ 60 → 16 * (d * 256 ^ g / 2 ^ 64) < 256 ^ g
+pub few_groups : (d g : ℕ) → d < 2 ^ 60 → 16 * (d * 256 ^ g / 2 ^ 64) < 256 ^ g
 few_groups d g h = by d (256 ^ g) h (let e = bytes_pow g in let p = four_pos (4 * g) in omega arith)
   where
     by : (d p : ℕ) → d < 2 ^ 60 → 0 < p → 16 * (d * p / 2 ^ 64) < p
@@ -200,7 +196,7 @@ down_orientation f d g rest square orientation hf hd h =
 
 pub record IsStepDown (f d g rest square e : ℕ) : Type 0 where
   pub fits : square * 2 ^ 4 % 2 ^ 64 + e < 2 ^ 64
-  pub down : IsDown f d (g + 1) (rest * 2 ^ 8 % 2 ^ 64) (square * 2 ^ 4 % 2 ^ 64 + e) (e / 2 ^ 62)
+  pub down : IsDown f d (g + 1) (rest * 2 ^ 8 % 2 ^ 64) (square * 2 ^ 4 % 2 ^ 64 + e) (e / 2 ^ 54 / 256)
 
 packed_more : (square i j ti tj i' j' e : ℕ) → square % 2 ^ 62 ≡ i * 2 ^ 32 + j → i < 2 ^ 28 → j < 2 ^ 28 → e < 2 ^ 64 → ti ≡ e % 2 ^ 62 / 2 ^ 32 → tj ≡ e % 2 ^ 32 → i' ≡ 16 * i + ti → j' ≡ 16 * j + tj → i' < 2 ^ 30 → j' < 2 ^ 30 → (square * 2 ^ 4 % 2 ^ 64 + e < 2 ^ 64) × ((square * 2 ^ 4 % 2 ^ 64 + e) % 2 ^ 62 ≡ i' * 2 ^ 32 + j')
 packed_more square i j ti tj i' j' e is hi hj he ei ej ei' ej' hi' hj' =
@@ -239,7 +235,7 @@ down_more f d g rest square orientation e hf hd hg he h entry =
       down = record {
         at_rest = more.0 ∙ ap (λ x. d * x % 2 ^ 64) (sym p');
         at_square = both.1 ∙ ap (λ x. (square_in f (g + 1) x).i * 2 ^ 32 + (square_in f (g + 1) x).j) (sym next);
-        at_orientation = sym entry.steps.at_orientation ∙ ap (λ (x : FaceIj). x.orientation) (sym turn) ∙ sym up.at_orientation ∙ ap (λ x. (square_in f (g + 1) x).orientation) (sym next);
+        at_orientation = row_of_entry e ∙ sym entry.steps.at_orientation ∙ ap (λ (x : FaceIj). x.orientation) (sym turn) ∙ sym up.at_orientation ∙ ap (λ x. (square_in f (g + 1) x).orientation) (sym next);
       };
     }
 
@@ -279,7 +275,7 @@ pub up_none : (f i j : ℕ) → i < 2 ^ 30 → j < 2 ^ 30 → IsUp f i j 0 0 (f 
 unfolding square_in square_at whole_face
 up_none f i j hi hj = record { few = omega arith; at_i = omega arith; at_j = omega arith; at_orientation = ap (λ x. x % 2) (let a : f ≡ f * 256 ^ 0 + 0 % 2 ^ 62 = omega arith in a) }
 
-up_orientation : (f i j g places orientation : ℕ) → f < 6 → IsUp f i j g places orientation → orientation < 4
+pub up_orientation : (f i j g places orientation : ℕ) → f < 6 → IsUp f i j g places orientation → orientation < 4
 up_orientation f i j g places orientation hf h =
     let few = h.few in
     let is = (square_in_is f g (places % 2 ^ 62) hf (omega arith)).orientation in
@@ -362,13 +358,13 @@ pub record IsPairUp (f i j odd0 even0 pair places orientation odd even : ℕ) : 
   pub at_odd : odd ≡ odd0 * 256 ^ pair % 2 ^ 32
   pub at_even : even ≡ even0 * 256 ^ pair % 2 ^ 32
 
-pub pair_none : (f i j odd0 even0 : ℕ) → i < 2 ^ 30 → j < 2 ^ 30 → odd0 < 2 ^ 32 → even0 < 2 ^ 32 → IsPairUp f i j odd0 even0 0 0 (f % 2) odd0 even0
-pair_none f i j odd0 even0 hi hj ho he = record { up = up_none f i j hi hj; at_odd = omega arith; at_even = omega arith }
+pub pair_none : (f i j odd0 even0 o : ℕ) → i < 2 ^ 30 → j < 2 ^ 30 → odd0 < 2 ^ 32 → even0 < 2 ^ 32 → o ≡ f % 2 → IsPairUp f i j odd0 even0 0 0 o odd0 even0
+pair_none f i j odd0 even0 o hi hj ho he eo = record { up = subst (IsUp f i j 0 0) (sym eo) (up_none f i j hi hj); at_odd = omega arith; at_even = omega arith }
 
 pub record IsPairMore (f i j odd0 even0 pair places odd even upper lower : ℕ) : Type 0 where
   pub fits_upper : places * 2 ^ 16 % 2 ^ 64 + upper * 2 ^ 8 % 2 ^ 64 < 2 ^ 64
   pub fits : places * 2 ^ 16 % 2 ^ 64 + upper * 2 ^ 8 % 2 ^ 64 + lower < 2 ^ 64
-  pub more : IsPairUp f i j odd0 even0 (pair + 1) (places * 2 ^ 16 % 2 ^ 64 + upper * 2 ^ 8 % 2 ^ 64 + lower) (lower / 2 ^ 62) (odd * 2 ^ 8 % 2 ^ 32) (even * 2 ^ 8 % 2 ^ 32)
+  pub more : IsPairUp f i j odd0 even0 (pair + 1) (places * 2 ^ 16 % 2 ^ 64 + upper * 2 ^ 8 % 2 ^ 64 + lower) (lower / 2 ^ 54 / 256) (odd * 2 ^ 8 % 2 ^ 32) (even * 2 ^ 8 % 2 ^ 32)
 
 next_byte : (w w0 p : ℕ) → w ≡ w0 * 256 ^ p % 2 ^ 32 → w * 2 ^ 8 % 2 ^ 32 ≡ w0 * 256 ^ (p + 1) % 2 ^ 32
 next_byte w w0 p e =
@@ -386,7 +382,7 @@ two_more places upper lower d u l ed hd eu hu el hl h =
     let c : lower ≡ lower / 2 ^ 62 * 2 ^ 62 + l = omega arith in
     (omega arith, omega arith, omega arith)
 
-pub pair_more : (f i j odd0 even0 pair places orientation odd even upper lower : ℕ) → f < 6 → i < 2 ^ 30 → j < 2 ^ 30 → pair < 4 → lower < 2 ^ 64 → AreWoven i j odd0 even0 → IsPairUp f i j odd0 even0 pair places orientation odd even → IsPlaceEntry orientation (odd / 2 ^ 24) upper → IsPlaceEntry (upper / 2 ^ 62) (even / 2 ^ 24) lower → IsPairMore f i j odd0 even0 pair places odd even upper lower
+pub pair_more : (f i j odd0 even0 pair places orientation odd even upper lower : ℕ) → f < 6 → i < 2 ^ 30 → j < 2 ^ 30 → pair < 4 → lower < 2 ^ 64 → AreWoven i j odd0 even0 → IsPairUp f i j odd0 even0 pair places orientation odd even → IsPlaceEntry orientation (odd / 2 ^ 24) upper → IsPlaceEntry (upper / 2 ^ 54 / 256) (even / 2 ^ 24) lower → IsPairMore f i j odd0 even0 pair places odd even upper lower
 pair_more f i j odd0 even0 pair places orientation odd even upper lower hf hi hj hp hl woven h first second =
     let g = 2 * pair in
     let d = places % 2 ^ 62 in
@@ -404,12 +400,12 @@ pair_more f i j odd0 even0 pair places orientation odd even upper lower hf hi hj
     let bu = first.steps.below in
     let mid_is : mid % 2 ^ 62 ≡ mid = omega arith in
     let one = up_more f i j g places orientation upper (odd / 2 ^ 24) mid hf hi hj (omega arith) h.up b1 first mid_is in
-    let both = up_more f i j (g + 1) mid (upper / 2 ^ 62) lower (even / 2 ^ 24) sum hf hi hj (omega arith) one b2 second (two.2 ∙ ap (λ x. x * 256 + l) (sym mid_is)) in
+    let both = up_more f i j (g + 1) mid (upper / 2 ^ 62) lower (even / 2 ^ 24) sum hf hi hj (omega arith) one b2 (subst (λ o. IsPlaceEntry o (even / 2 ^ 24) lower) (row_of_entry upper) second) (two.2 ∙ ap (λ x. x * 256 + l) (sym mid_is)) in
     record {
       fits_upper = two.0;
       fits = two.1;
       more = record {
-        up = subst (λ n. IsUp f i j n sum (lower / 2 ^ 62)) (let e : g + 1 + 1 ≡ 2 * (pair + 1) = omega arith in e) both;
+        up = subst (λ o. IsUp f i j (2 * (pair + 1)) sum o) (sym (row_of_entry lower)) (subst (λ n. IsUp f i j n sum (lower / 2 ^ 62)) (let e : g + 1 + 1 ≡ 2 * (pair + 1) = omega arith in e) both);
         at_odd = next_byte odd odd0 pair h.at_odd;
         at_even = next_byte even even0 pair h.at_even;
       };

@@ -1,10 +1,9 @@
 -- A cell's square from the square of a leaf in it, and back.
 use Rattle.std.proofs.Common.{◌≡◌, ℕ, zero, suc, ◌+◌, ◌-◌, ◌*◌, ◌/◌, ◌%◌, ◌^◌, ◌<◌, ◌≤◌, bit_xor, length, sym, ◌∙◌, ap, ap₂, refl, arith, subst}
 use Rattle.std.proofs.Math.Nat.{mul-lt-mul_of_pos_right}
-use Rattle.std.proofs.lemmas.Nat.{div-mul-add, mod-mul-add, pow-add, pow_pos}
+use Rattle.std.proofs.lemmas.Nat.{div-mul-add, pow-add, pow_pos}
 use Rattle.s2id_core.specs.Path.{Path, IsPath, place_of}
-use Rattle.s2id_core.proofs.Powers.{four_step, two_step, four_pos, four_pow, four_split}
-use Rattle.s2id_core.proofs.Numbers.{place_below}
+use Rattle.s2id_core.proofs.Powers.{four_step, four_pos, four_pow, four_split}
 use Rattle.s2id_cube.specs.declared.face_ij.FaceIj.{FaceIj}
 use Rattle.s2id_cube.specs.Square.{turned, quarter, square_of}
 use Rattle.s2id_cube.specs.Loops.{square_at}

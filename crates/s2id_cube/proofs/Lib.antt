@@ -12,6 +12,7 @@ pub mod OverSides
 mod Loop
 mod Nesting
 mod Leaves
+mod Near
 mod Perimeter
 mod Round
 pub mod Gathering

@@ -7,7 +7,7 @@ use Rattle.s2id_core.specs.Path.{Path, IsPath, base_four, place_of}
 use Rattle.s2id_core.proofs.Powers.{four_step, two_step, four_pos, four_split}
 use Rattle.s2id_core.proofs.Numbers.{path_of_place-place_of, place_below}
 use Rattle.s2id_cube.specs.declared.face_ij.FaceIj.{FaceIj}
-use Rattle.s2id_cube.specs.Square.{quadrant, turned, quarter, whole_face, square_after, square_of}
+use Rattle.s2id_cube.specs.Square.{quadrant, quarter, whole_face, square_after, square_of}
 use Rattle.s2id_cube.specs.Loops.{square_at}
 use Rattle.s2id_cube.proofs.Quadrants.{positions, quadrant_below, turned_below, position_of_quadrant}
 

@@ -1,5 +1,5 @@
 -- The tables of four levels, entry by entry.
-use Rattle.std.proofs.Common.{◌≡◌, ℕ, zero, suc, ◌+◌, ◌*◌, ◌/◌, ◌%◌, ◌^◌, ◌<◌, ◌≤◌, ◌&&◌, ◌||◌, Bool, true, List, [], ◌∷◌, length, map, get_or, sym, ◌∙◌, ap, ap₂, refl, arith, subst, ◌⊎◌, inl, inr, false}
+use Rattle.std.proofs.Common.{◌≡◌, ℕ, zero, suc, ◌+◌, ◌*◌, ◌/◌, ◌%◌, ◌^◌, ◌<◌, ◌&&◌, ◌||◌, Bool, true, List, [], ◌∷◌, length, map, get_or, sym, ◌∙◌, ap, ap₂, refl, arith, subst, ◌⊎◌, inl, inr, false}
 use Rattle.std.specs.List.{range_with_len}
 use Rattle.std.proofs.Math.Dec.{eqb, ltb}
 use Rattle.std.proofs.lemmas.Bool.{eqb-true, ltb-true}
@@ -37,6 +37,7 @@ pub record IsSquareEntry (o b e : ℕ) : Type 0 where
   pub steps : AreFourSteps o b (e % 2 ^ 62 / 2 ^ 32) (e % 2 ^ 32) (e / 2 ^ 62)
   pub column : e % 2 ^ 62 / 2 ^ 32 < 16
   pub row : e % 2 ^ 32 < 16
+  pub next : e / 2 ^ 54 ≡ 256 * (e / 2 ^ 62)
 
 unpacked : (o b e : ℕ) → o < 4 → b < 256 → e ≡ packed (four_steps o b) → IsSquareEntry o b e
 unfolding packed
@@ -52,6 +53,7 @@ unpacked o b e ho hb is =
       steps = record { below = hb; at_i = at_i; at_j = at_j; at_orientation = at_orientation };
       column = omega arith;
       row = omega arith;
+      next = omega arith;
     }
 
 pub square_entry_is : (o b : ℕ) → o < 4 → b < 256 → IsSquareEntry o b (get_or SQUARES (256 * o + b) 0)
@@ -62,6 +64,10 @@ square_entry_is o b ho hb =
     let row : n / 256 ≡ o = omega arith in
     let column : n % 256 ≡ b = omega arith in
     unpacked o b (get_or SQUARES n 0) ho hb (at ∙ ap₂ (λ x y. packed (four_steps x y)) row column)
+
+pub square_entry_from : (start b : ℕ) → start < 1024 → start % 256 ≡ 0 → b < 256 → IsSquareEntry (start / 256) b (get_or SQUARES (start + b) 0)
+square_entry_from start b hs whole hb =
+    subst (λ n. IsSquareEntry (start / 256) b (get_or SQUARES n 0)) (let e : 256 * (start / 256) + b ≡ start + b = omega arith in e) (square_entry_is (start / 256) b (omega arith) hb)
 
 -- ---- positions by squares
 
@@ -96,6 +102,7 @@ all_fit_at (e ∷ es) n (suc k) h all = ap (λ x. fits x (get_or es k 0)) (let a
 pub record IsPlaceEntry (o x e : ℕ) : Type 0 where
   pub steps : AreFourSteps o (e % 2 ^ 62) (x / 16) (x % 16) (e / 2 ^ 62)
   pub corner : o < 2 → x / 16 < 4 → x % 16 < 4 → e % 2 ^ 62 < 16
+  pub next : e / 2 ^ 54 ≡ 256 * (e / 2 ^ 62)
 
 fitting : (o x n e : ℕ) → n / 256 ≡ o → n % 256 ≡ x → fits n e ≡ true → IsPlaceEntry o x e
 unfolding fits
@@ -117,6 +124,7 @@ fitting o x n e row column h =
         at_j = ap (λ (t : FaceIj). t.j) (sym same) ∙ at_j ∙ (let m : n % 16 ≡ x % 16 = omega arith in m);
         at_orientation = ap (λ (t : FaceIj). t.orientation) (sym same) ∙ at_orientation;
       };
+      next = omega arith;
       corner = λ small left low. elim (either _ _ d.1) [
         | inl big ↦ absurd (let g = ltb-true 511 n big in omega arith)
         | inr more ↦ elim (either _ _ more) [
@@ -133,6 +141,14 @@ pub place_entry_is : (o x : ℕ) → o < 4 → x < 256 → IsPlaceEntry o x (get
 place_entry_is o x ho hx =
     let n = 256 * o + x in
     fitting o x n (get_or PLACES n 0) (omega arith) (omega arith) (ap (λ y. fits y (get_or PLACES n 0)) (let e : n ≡ 0 + n = omega arith in e) ∙ all_fit_at PLACES 0 n (omega arith) places_fit)
+
+pub place_entry_from : (start x : ℕ) → start < 1024 → start % 256 ≡ 0 → x < 256 → IsPlaceEntry (start / 256) x (get_or PLACES (start + x) 0)
+place_entry_from start x hs whole hx =
+    subst (λ n. IsPlaceEntry (start / 256) x (get_or PLACES n 0)) (let e : 256 * (start / 256) + x ≡ start + x = omega arith in e) (place_entry_is (start / 256) x (omega arith) hx)
+
+-- the orientation of an entry is that of the row that starts by it
+pub row_of_entry : (e : ℕ) → e / 2 ^ 54 / 256 ≡ e / 2 ^ 62
+row_of_entry e = omega arith
 
 pub place_entry_at : (o i j : ℕ) → o < 4 → i < 16 → j < 16 → let e = get_or PLACES (256 * o + (16 * i + j)) 0 in AreFourSteps o (e % 2 ^ 62) i j (e / 2 ^ 62)
 place_entry_at o i j ho hi hj =

@@ -184,26 +184,31 @@ pub static PLACES: [u64; 1024] = places![
     0x3eb, 0x0ea, 0x215, 0x314, 0x013, 0x210, 0x30f, 0x00e, 0x201, 0x300,
 ];
 
-// The entry for four child positions.
+// The entry for four child positions, in the row of an orientation, which starts at 256 times the orientation. An entry divided by
+// `2^54` is where the row of its own orientation starts.
 #[inline(always)]
-pub(crate) fn square_entry(orientation: u64, positions: u64) -> u64
-    requires orientation { orientation < 4 }
+pub(crate) fn square_entry(start: u64, positions: u64) -> u64
+    requires start { start < 1024 }
+    requires whole { start % 256 ≡ 0 }
     requires positions { positions < 256 }
-    ensures steps { AreFourSteps orientation positions (result % 2 ^ 62 / 2 ^ 32) (result % 2 ^ 32) (result / 2 ^ 62) }
+    ensures steps { AreFourSteps (start / 256) positions (result % 2 ^ 62 / 2 ^ 32) (result % 2 ^ 32) (result / 2 ^ 62) }
     ensures column { result % 2 ^ 62 / 2 ^ 32 < 16 }
     ensures row { result % 2 ^ 32 < 16 }
+    ensures next { result / 2 ^ 54 ≡ 256 * (result / 2 ^ 62) }
 {
-    SQUARES[(256 * orientation + positions) as usize]
+    SQUARES[(start + positions) as usize]
 }
 
-// The entry for four bits of `i` and of `j`. From a whole face, whose orientation is 0 or 1, the square's first quarter of a quarter
-// takes two positions alone.
+// The entry for four bits of `i` and of `j`, likewise. From a whole face, whose orientation is 0 or 1, the square's first quarter of a
+// quarter takes two positions alone.
 #[inline(always)]
-pub(crate) fn place_entry(orientation: u64, square: u64) -> u64
-    requires orientation { orientation < 4 }
+pub(crate) fn place_entry(start: u64, square: u64) -> u64
+    requires start { start < 1024 }
+    requires whole { start % 256 ≡ 0 }
     requires square { square < 256 }
-    ensures steps { AreFourSteps orientation (result % 2 ^ 62) (square / 16) (square % 16) (result / 2 ^ 62) }
-    ensures corner { orientation < 2 → square / 16 < 4 → square % 16 < 4 → result % 2 ^ 62 < 16 }
+    ensures steps { AreFourSteps (start / 256) (result % 2 ^ 62) (square / 16) (square % 16) (result / 2 ^ 62) }
+    ensures corner { start / 256 < 2 → square / 16 < 4 → square % 16 < 4 → result % 2 ^ 62 < 16 }
+    ensures next { result / 2 ^ 54 ≡ 256 * (result / 2 ^ 62) }
 {
-    PLACES[(256 * orientation + square) as usize]
+    PLACES[(start + square) as usize]
 }

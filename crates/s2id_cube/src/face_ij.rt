@@ -3,7 +3,8 @@ ghost use Rattle.s2id_core.specs.CellId.{path_of};
 ghost use Rattle.s2id_cube.specs.Square.{square_of};
 ghost use Rattle.s2id_cube.specs.Loops.{square_at, AreWoven};
 
-use crate::curve::{place_entry, square_entry};
+use crate::curve::place_entry;
+use crate::descent::descend;
 use s2id_core::CellId;
 
 /// A cell as a square of its level's grid on its face (S2's `(face, i, j)` coordinates, there of leaves).
@@ -28,7 +29,7 @@ pub fn to_face_ij(cell: CellId) -> FaceIj
     let level = cell.level();
     let below = 30 - level;
     let place = cell.place_at(level);
-    let leaf = leaf_square(place << (2 * below));
+    let leaf = descend(place << (2 * below)).leaf;
     FaceIj {
         face: leaf.face,
         i: leaf.i >> below,
@@ -54,8 +55,8 @@ pub fn from_face_ij(face: u8, i: u32, j: u32, level: u8) -> Option<CellId>
     }
 }
 
-// The cell of a square that lies in its level's grid: the one that has the leaf at its lowest corner.
-fn cell_of_square(face: u8, i: u32, j: u32, level: u8) -> CellId
+/// The cell of a square that lies in its level's grid: the one that has the leaf at its lowest corner.
+pub(crate) fn cell_of_square(face: u8, i: u32, j: u32, level: u8) -> CellId
     requires face { face < 6 }
     requires level { level ≤ 30 }
     requires i { i < 2 ^ level }
@@ -70,31 +71,6 @@ fn cell_of_square(face: u8, i: u32, j: u32, level: u8) -> CellId
     CellId::at_place(level, leaf >> (2 * below))
 }
 
-// The square of the leaf at a place along the whole curve, eight groups of four levels from the face down. Two positions 0 stand before
-// the 30 of the leaf, which lead back to where they began.
-fn leaf_square(place: u64) -> FaceIj
-    requires { place < 6 * 2 ^ 60 }
-    ensures { result ≡ square_at 30 place }
-{
-    let face = (place >> 60) as u8;
-    let mut rest = place % (1 << 60);
-    let mut square = 0;
-    let mut orientation = (face % 2) as u64;
-    for group in 0u8..8 {
-        let entry = square_entry(orientation, rest >> 56);
-        square = (square << 4) + entry;
-        orientation = entry >> 62;
-        rest <<= 8;
-    }
-    FaceIj {
-        face,
-        i: ((square >> 32) % (1 << 30)) as u32,
-        j: (square % (1 << 32)) as u32,
-        level: 30,
-        orientation: orientation as u8,
-    }
-}
-
 // The place along the whole curve of the leaf of a square, two groups of four levels at a time.
 fn leaf_place(face: u8, i: u32, j: u32) -> u64
     requires face { face < 6 }
@@ -107,12 +83,12 @@ fn leaf_place(face: u8, i: u32, j: u32) -> u64
 {
     let (mut odd, mut even) = woven(i, j);
     let mut places = 0;
-    let mut orientation = face as u64 % 2;
+    let mut start = 256 * (face as u64 % 2);
     for pair in 0u8..4 {
-        let upper = place_entry(orientation, (odd >> 24) as u64);
-        let lower = place_entry(upper >> 62, (even >> 24) as u64);
+        let upper = place_entry(start, (odd >> 24) as u64);
+        let lower = place_entry(upper >> 54, (even >> 24) as u64);
         places = (places << 16) + (upper << 8) + lower;
-        orientation = lower >> 62;
+        start = lower >> 54;
         odd <<= 8;
         even <<= 8;
     }

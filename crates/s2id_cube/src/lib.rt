@@ -3,6 +3,7 @@
 
 mod borders;
 pub mod curve;
+mod descent;
 mod error;
 mod face_ij;
 pub mod laws;

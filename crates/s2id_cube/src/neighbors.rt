@@ -1,12 +1,14 @@
-ghost use Rattle.std.specs.Prelude.{◌≡◌, ◌≢◌, ℕ, ◌+◌, ◌^◌, ◌<◌, ◌≤◌, slice_index_or, AllPairs};
+ghost use Rattle.std.specs.Prelude.{◌≡◌, ◌≢◌, ℕ, ◌+◌, ◌-◌, ◌*◌, ◌/◌, ◌^◌, ◌<◌, ◌≤◌, slice_index_or, AllPairs};
 ghost use Rattle.s2id_core.specs.Path.{Path, IsPath};
 ghost use Rattle.s2id_core.specs.CellId.{path_of, raw_of};
 ghost use Rattle.s2id_cube.specs.Square.{square_of};
 ghost use Rattle.s2id_cube.specs.Edge.{SharesSide, ShareEdge};
 ghost use Rattle.s2id_cube.specs.Neighbor.{neighbor_number};
 ghost use Rattle.s2id_cube.specs.Grid.{IsBeside, column_on, row_on};
+ghost use Rattle.s2id_cube.specs.Loops.{square_at, AreStarts};
 
-use crate::face_ij::{from_face_ij, to_face_ij};
+use crate::descent::{Descent, cell_near, descend};
+use crate::face_ij::cell_of_square;
 use s2id_core::CellId;
 
 /// The face over each side of a face, in the order down, right, up, left, four for each face.
@@ -25,7 +27,8 @@ const REVERSALS: [u8; 24] = [
 ];
 
 /// The cells of the cell's level that share an edge with it: down (`j` less), right (`i` more), up (`j` more) and
-/// left (`i` less), over the edges of the cube too (S2's `GetEdgeNeighbors`). One step for each level and cell.
+/// left (`i` less), over the edges of the cube too (S2's `GetEdgeNeighbors`). Eight steps of four levels for the cell, mostly
+/// one more for each neighbour on its face, and eight for each over an edge of the cube.
 pub fn edge_neighbors(cell: CellId) -> [CellId; 4]
     ensures sides { (side : ℕ)
         → side < 4
@@ -39,13 +42,42 @@ pub fn edge_neighbors(cell: CellId) -> [CellId; 4]
         → raw_of (slice_index_or result side cell) ≡ neighbor_number side (path_of cell) }
     ensures distinct { AllPairs (λ x y. x ≢ y) result }
 {
-    let square = to_face_ij(cell);
+    let level = cell.level();
+    let way = descend(cell.place_at(level) << (2 * (30 - level)));
     [
-        neighbor(square.face, square.i, square.j, square.level, 0),
-        neighbor(square.face, square.i, square.j, square.level, 1),
-        neighbor(square.face, square.i, square.j, square.level, 2),
-        neighbor(square.face, square.i, square.j, square.level, 3),
+        cell_over(&way, level, 0),
+        cell_over(&way, level, 1),
+        cell_over(&way, level, 2),
+        cell_over(&way, level, 3),
     ]
+}
+
+// The cell over one side of the cell of a level that the way's leaf lies in.
+#[inline(always)]
+fn cell_over(way: &Descent, level: u8, side: u8) -> CellId
+    requires place { way.now.place < 6 * 2 ^ 60 }
+    requires leaf { way.now.leaf ≡ square_at 30 way.now.place }
+    requires starts { AreStarts way.now.place way.now.starts }
+    requires level { level ≤ 30 }
+    requires side { side < 4 }
+    ensures level { (square_of (path_of result)).level ≡ level }
+    ensures beside { let other = square_of (path_of result)
+        in IsBeside (2 ^ level) side way.now.leaf.face (way.now.leaf.i / 2 ^ (30 - level)) (way.now.leaf.j / 2 ^ (30 - level)) other.face other.i other.j }
+{
+    let below = 30 - level;
+    let last = (1 << level) - 1;
+    let (face, i, j) = beside(
+        way.leaf.face,
+        way.leaf.i >> below,
+        way.leaf.j >> below,
+        last,
+        side,
+    );
+    if face == way.leaf.face {
+        cell_near(way, i, j, level)
+    } else {
+        cell_of_square(face, i, j, level)
+    }
 }
 
 /// The cell over one side of a square of a level.
@@ -61,7 +93,7 @@ pub(crate) fn neighbor(face: u8, i: u32, j: u32, level: u8, side: u8) -> CellId
 {
     let last = (1 << level) - 1;
     let (face_over, column, row) = beside(face, i, j, last, side);
-    from_face_ij(face_over, column, row, level).unwrap()
+    cell_of_square(face_over, column, row, level)
 }
 
 // The square over one side of a square, on the same face or over an edge of the cube: its face, column and row. `last` is the grid's

@@ -1,4 +1,4 @@
-use Rattle.std.proofs.Common.{◌≡◌, ◌*◌, ◌/◌, ◌-◌, ◌^◌, ◌∙◌, sym, ap₂, subst, refl, arith}
+use Rattle.std.proofs.Common.{◌*◌, ◌-◌, ◌^◌, ◌∙◌, arith}
 use Rattle.s2id_core.specs.CellId.{path_of}
 use Rattle.s2id_core.proofs.Numbers.{path_of_cell}
 use Rattle.s2id_cube.proofs.Groups.{IsLeafPlace}

@@ -1,17 +1,20 @@
-use Rattle.std.proofs.Common.{◌≡◌, ℕ, ◌^◌, ◌<◌, ◌≤◌, List, [], ◌∷◌, get_or, refl, arith}
+use Rattle.std.proofs.Common.{◌≡◌, ℕ, ◌-◌, ◌*◌, ◌%◌, ◌^◌, ◌<◌, ◌≤◌, List, [], ◌∷◌, get_or, sym, subst, refl, arith}
 use Rattle.s2id_core.specs.declared.cell_id.CellId.{CellId}
-use Rattle.s2id_core.specs.CellId.{path_of, raw_of}
-use Rattle.s2id_core.specs.Path.{Path, IsPath}
+use Rattle.s2id_core.specs.CellId.{path_of, raw_of, level_of}
+use Rattle.s2id_core.specs.Path.{Path, IsPath, place_of, ancestor}
 use Rattle.s2id_core.proofs.Numbers.{path_of_cell}
+use Rattle.s2id_core.proofs.Ancestry.{own_place}
 use Rattle.s2id_cube.specs.declared.face_ij.FaceIj.{FaceIj}
 use Rattle.s2id_cube.specs.Grid.{IsBeside}
+use Rattle.s2id_cube.specs.Loops.{square_at}
 use Rattle.s2id_cube.specs.Square.{square_of}
 use Rattle.s2id_cube.specs.Edge.{SharesSide, ShareEdge}
 use Rattle.s2id_cube.specs.Neighbor.{neighbor_number}
 use Rattle.s2id_cube.proofs.Cases.{four}
 use Rattle.s2id_cube.proofs.OverSides.{neighbor_number-is}
 use Rattle.s2id_cube.proofs.Distinct.{all_distinct}
-use Rattle.s2id_cube.proofs.Shared.{square_facts, shares_from_square, one_neighbor}
+use Rattle.s2id_cube.proofs.Shared.{shares_from_square, one_neighbor}
+use Rattle.s2id_cube.proofs.Leaves.{taken, taken_is, shifted_to_leaf}
 use Rattle.s2id_cube.proofs.neighbors.edge_neighbors.Goals as goal
 
 pathed : (c : CellId) → IsPath (path_of c)
@@ -20,21 +23,6 @@ pathed c = path_of_cell c.raw c.valid
 others : (cell : CellId) (cs : List CellId) → ((m : ℕ) → m < 4 → SharesSide m (path_of cell) (path_of (get_or cs m cell))) → (q : Path) → IsPath q → ShareEdge (path_of cell) q → (m : ℕ) × (m < 4) × (path_of (get_or cs m cell) ≡ q)
 others cell cs sides q path h =
     (h.side, h.is_side, one_neighbor h.side (path_of cell) (path_of (get_or cs h.side cell)) q h.is_side (pathed cell) (pathed (get_or cs h.side cell)) path (sides h.side h.is_side) h.shares)
-
-facts : (cell : CellId) (s : FaceIj) → s ≡ square_of (path_of cell) → (s.face < 6) × (s.level ≤ 30) × (s.i < 2 ^ s.level) × (s.j < 2 ^ s.level)
-facts cell s is = square_facts (path_of cell) (pathed cell) s is
-
-pub neighbor-requires : goal.neighbor-requires
-neighbor-requires c = let f = facts c.args.cell c.to_face_ij-square.result c.to_face_ij-square.ensures in omega arith
-
-pub neighbor-requires-2 : goal.neighbor-requires-2
-neighbor-requires-2 c = let f = facts c.args.cell c.to_face_ij-square.result c.to_face_ij-square.ensures in omega arith
-
-pub neighbor-requires-3 : goal.neighbor-requires-3
-neighbor-requires-3 c = let f = facts c.args.cell c.to_face_ij-square.result c.to_face_ij-square.ensures in omega arith
-
-pub neighbor-requires-4 : goal.neighbor-requires-4
-neighbor-requires-4 c = let f = facts c.args.cell c.to_face_ij-square.result c.to_face_ij-square.ensures in omega arith
 
 numbered : (cell : CellId) (cs : List CellId) → ((m : ℕ) → m < 4 → SharesSide m (path_of cell) (path_of (get_or cs m cell))) → (m : ℕ) → m < 4 → raw_of (get_or cs m cell) ≡ neighbor_number m (path_of cell)
 numbered cell cs sides m hm =
@@ -59,15 +47,27 @@ four_sides cell s down right up left is d r u l =
       shares_over cell s left 3 (omega arith) is l,
     )
 
+-- the square of the cell, as the code has it from the way to its first leaf
+taken_square : (cell : CellId) (level place : ℕ) (leaf : FaceIj) → level ≡ level_of cell → place ≡ place_of (ancestor level (path_of cell)) → place < 6 * 4 ^ level → leaf ≡ square_at 30 (place * 2 ^ (2 * (30 - level)) % 2 ^ 64) → taken leaf level ≡ square_of (path_of cell)
+taken_square cell level place leaf el ep below is =
+    let fine : level ≤ 30 = subst (λ x. x ≤ 30) (sym el) (pathed cell).at_most in
+    let shifted = shifted_to_leaf level place fine below in
+    taken_is (path_of cell) (pathed cell) level place _ leaf el (own_place cell.raw level place el ep) shifted.0 is
+
+pub descend-way-requires : goal.descend-way-requires
+descend-way-requires c =
+    let s = shifted_to_leaf c.level-level.result c.place_at.result c.level-level.ensures.at_most c.place_at.ensures.bound in
+    omega arith
+
 pub returns-clause-sides : goal.returns-clause-sides
 returns-clause-sides c =
-    four_sides c.args.cell c.to_face_ij-square.result c.neighbor.result c.neighbor-2.result c.neighbor-3.result c.neighbor-4.result c.to_face_ij-square.ensures (c.neighbor.ensures.level, c.neighbor.ensures.beside) (c.neighbor-2.ensures.level, c.neighbor-2.ensures.beside) (c.neighbor-3.ensures.level, c.neighbor-3.ensures.beside) (c.neighbor-4.ensures.level, c.neighbor-4.ensures.beside)
+    four_sides c.args.cell (taken c.descend-way.result.leaf c.level-level.result) c.cell_over.result c.cell_over-2.result c.cell_over-3.result c.cell_over-4.result (taken_square c.args.cell c.level-level.result c.place_at.result c.descend-way.result.leaf c.level-level.ensures.level c.place_at.ensures.place c.place_at.ensures.bound c.descend-way.ensures.leaf) (c.cell_over.ensures.level, c.cell_over.ensures.beside) (c.cell_over-2.ensures.level, c.cell_over-2.ensures.beside) (c.cell_over-3.ensures.level, c.cell_over-3.ensures.beside) (c.cell_over-4.ensures.level, c.cell_over-4.ensures.beside)
 
 pub returns-clause-only : goal.returns-clause-only
-returns-clause-only c = others c.args.cell (c.neighbor.result ∷ c.neighbor-2.result ∷ c.neighbor-3.result ∷ c.neighbor-4.result ∷ []) (returns-clause-sides c)
+returns-clause-only c = others c.args.cell (c.cell_over.result ∷ c.cell_over-2.result ∷ c.cell_over-3.result ∷ c.cell_over-4.result ∷ []) (returns-clause-sides c)
 
 pub returns-clause-numbers : goal.returns-clause-numbers
-returns-clause-numbers c = numbered c.args.cell (c.neighbor.result ∷ c.neighbor-2.result ∷ c.neighbor-3.result ∷ c.neighbor-4.result ∷ []) (returns-clause-sides c)
+returns-clause-numbers c = numbered c.args.cell (c.cell_over.result ∷ c.cell_over-2.result ∷ c.cell_over-3.result ∷ c.cell_over-4.result ∷ []) (returns-clause-sides c)
 
 pub returns-clause-distinct : goal.returns-clause-distinct
-returns-clause-distinct c = all_distinct c.args.cell (c.neighbor.result ∷ c.neighbor-2.result ∷ c.neighbor-3.result ∷ c.neighbor-4.result ∷ []) refl pathed (returns-clause-sides c)
+returns-clause-distinct c = all_distinct c.args.cell (c.cell_over.result ∷ c.cell_over-2.result ∷ c.cell_over-3.result ∷ c.cell_over-4.result ∷ []) refl pathed (returns-clause-sides c)

@@ -1,6 +1,0 @@
-use Rattle.std.proofs.Common.{◌/◌, ◌%◌, ◌^◌}
-use Rattle.s2id_cube.proofs.Groups.{IsDown}
-use Rattle.s2id_cube.proofs.face_ij.leaf_square.Given as goal
-
-abbrev pub invariant-loop-group : goal.invariant-loop-group
-invariant-loop-group l = IsDown (l.fn.place / 2 ^ 60) (l.fn.place % 2 ^ 60) l.group l.rest l.square l.orientation
