@@ -138,8 +138,9 @@ fn first_beyond(cells: &[CellId], k: usize, seen: u64) -> usize
     cell
 }
 
-// A cell, from the k-th on, that begins before a leaf: the last one, or one next to it. In steps that double, then halve, by the cells'
-// numbers, which are cheaper to tell than where they begin. O(log m) where it is the m-th.
+// The last cell, from the k-th on, that begins before a leaf: in steps that double, then halve, by the cells' numbers, which are cheaper to
+// tell than where they begin, and one look at the next cell, which may begin before the leaf though its number is behind. O(log m) where it
+// is the m-th.
 #[inline(always)]
 fn last_begun(cells: &[CellId], k: usize, limit: u64) -> usize
     requires within { k < length cells.now }
