@@ -1,5 +1,6 @@
 -- How many binary digits numbers have.
-use Rattle.std.proofs.Common.{◌≡◌, ℕ, zero, suc, ◌+◌, ◌-◌, ◌/◌, ◌<◌, ◌≤◌, inl, inr, ap, arith, refl}
+use Rattle.std.proofs.Common.{◌≡◌, ℕ, zero, suc, ◌+◌, ◌-◌, ◌/◌, ◌^◌, ◌<◌, ◌≤◌, inl, inr, ap, arith, refl}
+use Rattle.std.proofs.Math.Nat.{pow-suc, one-le-pow}
 use Rattle.std.proofs.lemmas.Bool.{cases_lt}
 use Rattle.std.proofs.lemmas.Int.Digits.{length-digits_of_step}
 use Rattle.s2ix_walk.specs.Costs.{binary_digits}
@@ -25,16 +26,25 @@ rise_by (suc turns) m n few le =
 pub digits_rise : (m n : ℕ) → m ≤ n → binary_digits m ≤ binary_digits n
 digits_rise m n le = rise_by n m n (omega arith) le
 
--- one step of halving what lies between
-pub digits_halve : (size : ℕ) → 1 < size → binary_digits (size - size / 2 - 1) + 1 ≤ binary_digits (size - 1)
-digits_halve size more =
-    let e : size - size / 2 - 1 ≡ (size - 1) / 2 = omega arith in
-    omega (arith, ap binary_digits e, digits_step (size - 1) (omega arith))
+-- a power of two has one digit more than what is below it
+digits_of_power : (k : ℕ) → binary_digits (2 ^ k - 1) + 1 ≤ binary_digits (2 ^ k)
+digits_of_power zero = omega (arith, digits_step 1 (omega arith))
+digits_of_power (suc k) =
+    let twice = pow-suc 2 k in
+    let some = one-le-pow k 2 (omega arith) in
+    let e : (2 ^ suc k - 1) / 2 ≡ 2 ^ k - 1 = omega arith in
+    let f : 2 ^ suc k / 2 ≡ 2 ^ k = omega arith in
+    omega (arith, digits_step (2 ^ suc k - 1) (omega arith), digits_step (2 ^ suc k) (omega arith), ap binary_digits e, ap binary_digits f, digits_of_power k)
 
--- a look that leaves at most half of what was left costs one digit
-pub digits_halved : (size rest : ℕ) → 0 < rest → size ≤ rest / 2 → binary_digits size + 1 ≤ binary_digits rest
-digits_halved size rest some le = omega (arith, digits_rise size (rest / 2) le, digits_step rest some)
+-- a look that leaves a power of two costs one digit
+pub digits_above : (k n : ℕ) → 2 ^ k ≤ n → binary_digits (2 ^ k - 1) + 1 ≤ binary_digits n
+digits_above k n le = omega (arith, digits_of_power k, digits_rise (2 ^ k) n le)
 
--- as does one that leaves eight
-pub digits_near : (rest : ℕ) → 8 ≤ rest → binary_digits 7 + 1 ≤ binary_digits rest
-digits_near rest le = omega (arith, digits_rise 8 rest le, digits_step 7 (omega arith), digits_step 3 (omega arith), digits_step 8 (omega arith), digits_step 4 (omega arith), digits_step 2 (omega arith))
+-- what is below a power of two has as many digits as it has halves
+pub digits_below : (k : ℕ) → binary_digits (2 ^ k - 1) ≡ k
+digits_below zero = no_digits
+digits_below (suc k) =
+    let twice = pow-suc 2 k in
+    let some = one-le-pow k 2 (omega arith) in
+    let e : (2 ^ suc k - 1) / 2 ≡ 2 ^ k - 1 = omega arith in
+    omega (arith, digits_step (2 ^ suc k - 1) (omega arith), ap binary_digits e, digits_below k)

@@ -1,5 +1,6 @@
 -- The ranges among which a search still looks.
-use Rattle.std.proofs.Common.{◌≡◌, ℕ, ◌+◌, ◌-◌, ◌/◌, ◌<◌, ◌≤◌, inl, inr, List, length, ap, arith, refl}
+use Rattle.std.proofs.Common.{◌≡◌, ℕ, zero, suc, ◌+◌, ◌-◌, ◌*◌, ◌/◌, ◌^◌, ◌<◌, ◌≤◌, inl, inr, List, length, ap, sym, ◌∙◌, subst, arith, refl}
+use Rattle.std.proofs.Math.Nat.{pow-suc}
 use Rattle.std.proofs.lemmas.Bool.{cases_lt}
 use Rattle.s2ix_pairs.specs.Collection.{Collection}
 use Rattle.s2ix_ranges.specs.Table.{Range, range_at, leaf_end, IsRangeTable, IsFound}
@@ -19,47 +20,75 @@ starts_rise hs ranges i j t le lt =
     let r = limits_rise hs 1 leaf_end ranges t i j le (omega arith) in
     omega arith
 
-pub upper_half : (ranges : List Range) (leaf first size half : ℕ) → IsWindow ranges leaf first size → 1 < size → half ≡ size / 2 → (range_at ranges (first + half)).start ≤ leaf → IsWindow ranges leaf (first + half) (size - half)
-upper_half ranges leaf first size half w more is le =
-    let a = w.within in
-    let e : first + half + (size - half) ≡ first + size = omega arith in
-    let f = ap (λ k. (range_at ranges k).start) e in
-    record { some = omega arith; within = omega arith; start = le; limit = λ lt. let l = w.limit (omega arith) in omega arith }
+-- the ranges from one on that begins by a leaf
+window_from : (ranges : List Range) (leaf first size : ℕ) → first + size ≡ length ranges → 0 < size → (range_at ranges first).start ≤ leaf → IsWindow ranges leaf first size
+window_from ranges leaf first size all some le = record { some = omega arith; within = omega arith; start = le; limit = λ lt. absurd (omega arith) }
 
-pub lower_half : (hs : Collection) (ranges : List Range) (leaf first size half : ℕ) → IsRangeTable hs ranges → IsWindow ranges leaf first size → 1 < size → half ≡ size / 2 → leaf < (range_at ranges (first + half)).start → IsWindow ranges leaf first (size - half)
-lower_half hs ranges leaf first size half t w more is lt =
+-- one half of a window, by whether its second half begins by the leaf
+pub half_left : (hs : Collection) (ranges : List Range) (leaf first half one : ℕ) → IsRangeTable hs ranges → IsWindow ranges leaf first (half * 2) → 0 < half → ((range_at ranges (first + half)).start ≤ leaf → one ≡ 1) → (leaf < (range_at ranges (first + half)).start → one ≡ 0) → IsWindow ranges leaf (first + half * one) half
+half_left hs ranges leaf first half one t w some by behind =
     let a = w.within in
+    elim (cases_lt leaf (range_at ranges (first + half)).start) [
+      | inl lt ↦
+          (let is : first + half * one ≡ first = ap (λ (k : ℕ). first + half * k) (behind lt) ∙ (omega arith) in
+          subst (λ (k : ℕ). IsWindow ranges leaf k half) (sym is) (record { some = omega arith; within = omega arith; start = w.start; limit = λ _. lt }))
+      | inr le ↦
+          (let is : first + half * one ≡ first + half = ap (λ (k : ℕ). first + half * k) (by le) ∙ (omega arith) in
+          let e : first + half + half ≡ first + half * 2 = omega arith in
+          let f = ap (λ k. (range_at ranges k).start) e in
+          subst (λ (k : ℕ). IsWindow ranges leaf k half) (sym is) (record { some = omega arith; within = omega arith; start = le; limit = λ more. let l = w.limit (omega arith) in omega arith }))
+    ]
+
+-- what is left of a power of two, whose half was looked at
+pub record IsHalved (ranges : List Range) (leaf first half k : ℕ) : Type 0 where
+  pub left : ℕ
+  pub fewer : k ≡ left + 1
+  pub is : half ≡ 2 ^ left
+  pub window : IsWindow ranges leaf first (2 ^ left)
+
+pub halved : (hs : Collection) (ranges : List Range) (leaf first half one k : ℕ) → IsRangeTable hs ranges → IsWindow ranges leaf first (2 ^ k) → half ≡ 2 ^ k / 2 → 0 < half → ((range_at ranges (first + half)).start ≤ leaf → one ≡ 1) → (leaf < (range_at ranges (first + half)).start → one ≡ 0) → IsHalved ranges leaf (first + half * one) half k
+halved hs ranges leaf first half one zero t w is some by behind = absurd (omega arith)
+halved hs ranges leaf first half one (suc j) t w is some by behind =
+    let twice = pow-suc 2 j in
+    let same : half ≡ 2 ^ j = omega arith in
+    let all : 2 ^ suc j ≡ half * 2 = omega arith in
     record {
-      some = omega arith;
-      within = omega arith;
-      start = w.start;
-      limit = λ less.
-          let i : ℕ = first + half - 1 in
-          let j : ℕ = first + (size - half) - 1 in
-          let e : i + 1 ≡ first + half = omega arith in
-          let f : j + 1 ≡ first + (size - half) = omega arith in
-          let r = starts_rise hs ranges i j t (omega arith) (omega arith) in
-          let p = ap (λ k. (range_at ranges k).start) e in
-          let q = ap (λ k. (range_at ranges k).start) f in
-          omega arith;
+      left = j;
+      fewer = omega arith;
+      is = same;
+      window = subst (λ (size : ℕ). IsWindow ranges leaf (first + half * one) size) same (half_left hs ranges leaf first half one t (subst (λ (size : ℕ). IsWindow ranges leaf first size) all w) some by behind);
     }
 
--- what is left of a window behind a range, and before it
-pub upper_part : (ranges : List Range) (leaf first size step left : ℕ) → IsWindow ranges leaf first size → step + left ≡ size → 0 < left → (range_at ranges (first + step)).start ≤ leaf → IsWindow ranges leaf (first + step) left
-upper_part ranges leaf first size step left w parts some le =
-    let a = w.within in
-    let e : first + step + left ≡ first + size = omega arith in
-    let f = ap (λ k. (range_at ranges k).start) e in
-    record { some = omega arith; within = omega arith; start = le; limit = λ lt. let l = w.limit (omega arith) in omega arith }
-
-pub lower_part : (ranges : List Range) (leaf first size step : ℕ) → IsWindow ranges leaf first size → 0 < step → step ≤ size → leaf < (range_at ranges (first + step)).start → IsWindow ranges leaf first step
-lower_part ranges leaf first size step w some le lt =
-    let a = w.within in
-    record { some = omega arith; within = omega arith; start = w.start; limit = λ _. lt }
-
--- the ranges from one on that begins by a leaf
-pub window_from : (ranges : List Range) (leaf first size : ℕ) → first + size ≡ length ranges → 0 < size → (range_at ranges first).start ≤ leaf → IsWindow ranges leaf first size
-window_from ranges leaf first size all some le = record { some = omega arith; within = omega arith; start = le; limit = λ lt. absurd (omega arith) }
+-- as many ranges as there is room for, at the end of those that are left or at their beginning
+pub room_left : (hs : Collection) (ranges : List Range) (leaf from size over one : ℕ) → IsRangeTable hs ranges → from + (over + size) ≡ length ranges → over < size → (range_at ranges from).start ≤ leaf → ((range_at ranges (from + over)).start ≤ leaf → one ≡ 1) → (leaf < (range_at ranges (from + over)).start → one ≡ 0) → IsWindow ranges leaf (from + over * one) size
+room_left hs ranges leaf from size over one t all less begins by behind =
+    elim (cases_lt leaf (range_at ranges (from + over)).start) [
+      | inl lt ↦
+          (let is : from + over * one ≡ from = ap (λ (k : ℕ). from + over * k) (behind lt) ∙ (omega arith) in
+          subst (λ (k : ℕ). IsWindow ranges leaf k size) (sym is) (record {
+            some = omega arith;
+            within = omega arith;
+            start = begins;
+            limit = λ more. elim (cases_lt 0 over) [
+              | inl some ↦
+                  (let i : ℕ = from + over - 1 in
+                  let j : ℕ = from + size - 1 in
+                  let e : i + 1 ≡ from + over = omega arith in
+                  let f : j + 1 ≡ from + size = omega arith in
+                  let r = starts_rise hs ranges i j t (omega arith) (omega arith) in
+                  let p = ap (λ k. (range_at ranges k).start) e in
+                  let q = ap (λ k. (range_at ranges k).start) f in
+                  omega arith)
+              | inr none ↦
+                  (let e : from + over ≡ from = omega arith in
+                  let p = ap (λ k. (range_at ranges k).start) e in
+                  absurd (omega arith))
+            ];
+          }))
+      | inr le ↦
+          (let is : from + over * one ≡ from + over = ap (λ (k : ℕ). from + over * k) (by le) ∙ (omega arith) in
+          subst (λ (k : ℕ). IsWindow ranges leaf k size) (sym is) (window_from ranges leaf (from + over) size (omega arith) (omega arith) le))
+    ]
 
 pub one_left : (hs : Collection) (ranges : List Range) (leaf first size : ℕ) → IsRangeTable hs ranges → IsWindow ranges leaf first size → size ≤ 1 → leaf < leaf_end → IsFound ranges first leaf
 one_left hs ranges leaf first size t w one below =

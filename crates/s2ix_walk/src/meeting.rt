@@ -50,6 +50,7 @@ impl<'a, R: Reader> Meeting<'a, R> {
     }
 
     /// The next pair, or `None` behind the last one.
+    #[inline(always)]
     pub fn advance(&mut self) -> Option<Held>
         ensures reference { (reader_in self.new).ghost_name ≡ (reader_in self.old).ghost_name }
         ensures shown { R.shown (reader_in self.new).now ≡ R.shown (reader_in self.old).now }

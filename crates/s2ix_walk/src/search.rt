@@ -1,5 +1,5 @@
 // The range that has a leaf, found by reading few ranges.
-ghost use Rattle.std.specs.Prelude.{◌≡◌, ◌+◌, ◌-◌, ◌<◌, ◌≤◌, length, max};
+ghost use Rattle.std.specs.Prelude.{◌≡◌, ℕ, ◌+◌, ◌-◌, ◌*◌, ◌^◌, ◌%◌, ◌<◌, ◌≤◌, length, max};
 ghost use Rattle.s2id_core.specs.CellId.{first_of, end_of};
 ghost use Rattle.s2ix_ranges.specs.Table.{range_at, IsFound, leaf_end};
 ghost use Rattle.s2ix_walk.specs.Costs.{binary_digits};
@@ -8,9 +8,6 @@ ghost use Rattle.s2ix_walk.specs.Searching.{IsWindow};
 use crate::reader::Reader;
 use s2id_core::CellId;
 
-// How many ranges ahead a search looks before it halves what is left.
-const NEAR: usize = 8;
-
 // The ranges among which one is looked for: `size` of them, from `first` on.
 #[derive(Clone, Copy)]
 struct Window {
@@ -18,7 +15,8 @@ struct Window {
     size: usize,
 }
 
-// The range that has a leaf, from one on that begins by it: half of those that are left at each probe, but few for one nearby.
+// The range that has a leaf, from one on that begins by it: half of those that are left at each probe. No branch depends on what is read.
+#[inline(always)]
 fn search<R: Reader>(reader: &mut R, leaf: u64, from: usize) -> usize
     requires within { leaf < leaf_end }
     requires from { from < length (R.shown reader.old).ranges }
@@ -31,61 +29,57 @@ fn search<R: Reader>(reader: &mut R, leaf: u64, from: usize) -> usize
 {
     let window = narrowed(reader, leaf, from);
     let mut first = window.first;
-    let mut size = window.size;
-    while size > 1 {
-        let half = size / 2;
-        if reader.row(first + half).start <= leaf {
-            first += half;
-        }
-        size -= half;
+    let mut half = window.size / 2;
+    while half > 0 {
+        first += half * begun(reader.row(first + half).start, leaf);
+        half /= 2;
     }
     first
 }
 
-// The ranges from one on, of which those are left that a few probes leave. Each probe leaves at most as many as halving all ranges would:
-// so it may look nearby where few are ahead.
+// The ranges from one on, or the last of them, so many that halving leaves none over: the greatest power of two that there is room for.
+#[inline(always)]
 fn narrowed<R: Reader>(reader: &mut R, leaf: u64, from: usize) -> Window
+    requires within { leaf < leaf_end }
     requires from { from < length (R.shown reader.old).ranges }
     requires start { (range_at (R.shown reader.old).ranges from).start ≤ leaf }
     ensures window { IsWindow (R.shown reader.old).ranges leaf result.first result.size }
+    ensures power { (k : ℕ) × (result.size ≡ 2 ^ k) }
     ensures same { R.shown reader.new ≡ R.shown reader.old }
     ensures looks { (R.spent reader.new).looks ≡ (R.spent reader.old).looks }
     ensures probes { (R.spent reader.new).probes + binary_digits (result.size - 1)
         ≤ (R.spent reader.old).probes + binary_digits (length (R.shown reader.old).ranges + 1) }
 {
-    let mut rest = reader.range_count();
-    let mut size = rest - from;
-    if from == 0 {
-        return Window { first: from, size };
-    }
-    while rest / 2 + NEAR < size {
-        rest /= 2;
-        let step = size - 1 - rest;
-        if reader.row(from + step).start <= leaf {
-            return Window {
-                first: from + step,
-                size: rest + 1,
-            };
-        }
-        size = step;
-    }
-    if size <= NEAR {
-        return Window { first: from, size };
-    }
-    if reader.row(from + NEAR).start <= leaf {
-        Window {
-            first: from + NEAR,
-            size: size - NEAR,
-        }
-    } else {
-        Window {
-            first: from,
-            size: NEAR,
-        }
-    }
+    let ahead = reader.range_count() - from;
+    let size = power_within(ahead);
+    let over = ahead - size;
+    let first = from + over * begun(reader.row(from + over).start, leaf);
+    Window { first, size }
+}
+
+// The greatest power of two that is not above a number.
+#[inline(always)]
+fn power_within(number: usize) -> usize
+    requires { 0 < number }
+    ensures { (k : ℕ) × (result ≡ 2 ^ k) × (2 ^ k ≤ number) × (number < 2 ^ k * 2) }
+{
+    1 << (63 - number.leading_zeros())
+}
+
+// 1 where what begins at a leaf number has begun by a leaf, else 0: the top bit of a difference, so that no branch depends on it.
+#[inline(always)]
+fn begun(start: u64, leaf: u64) -> usize
+    requires odd { start % 2 ≡ 1 }
+    requires leaf { leaf < leaf_end }
+    ensures by { start ≤ leaf → result ≡ 1 }
+    ensures behind { leaf < start → result ≡ 0 }
+{
+    let behind = leaf - leaf / 2;
+    ((start / 2).wrapping_sub(behind) >> 63) as usize
 }
 
 // The range that has the first leaf of a cell from `seen` on: that at hand, or the one with the cell's first leaf.
+#[inline(always)]
 pub(crate) fn range_from<R: Reader>(reader: &mut R, cell: CellId, range: usize, seen: u64) -> usize
     requires beyond { seen < end_of cell }
     requires at_hand { seen < leaf_end → IsFound (R.shown reader.old).ranges range seen }

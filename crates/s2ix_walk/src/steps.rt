@@ -21,6 +21,7 @@ struct Link<P> {
 }
 
 // The pair at a place, where its cell begins at a leaf or behind it.
+#[inline(always)]
 fn new_pair<R: Reader>(reader: &mut R, from: u64, place: Option<R::Place>) -> Option<Link<R::Place>>
     requires { (p : R.Place) → place ≡ Some p → IsPlace (R.shown reader.old).chain p }
     ensures ends { result ≡ None → front_from from (from_place (R.shown reader.old).chain place) ≡ [] }
@@ -43,6 +44,7 @@ fn new_pair<R: Reader>(reader: &mut R, from: u64, place: Option<R::Place>) -> Op
 }
 
 // The next pair that is met, or `None` where all have been.
+#[inline(always)]
 pub(crate) fn next_met<R: Reader>(
     reader: &mut R,
     cells: &[CellId],
@@ -73,6 +75,7 @@ pub(crate) fn next_met<R: Reader>(
 
 // The walk at the next range that the target meets, with the chain of that range at hand, or `None` where the target
 // has no leaf left. All cells that end in the range are passed at once.
+#[inline(always)]
 fn advance<R: Reader>(
     reader: &mut R,
     cells: &[CellId],
@@ -119,6 +122,7 @@ fn advance<R: Reader>(
 }
 
 // The first cell from the k-th on that goes beyond a leaf.
+#[inline(always)]
 fn first_beyond(cells: &[CellId], k: usize, seen: u64) -> usize
     requires { ArePassed cells.now k seen }
     ensures passed { ArePassed cells.now result seen }
@@ -134,7 +138,10 @@ fn first_beyond(cells: &[CellId], k: usize, seen: u64) -> usize
     cell
 }
 
-// The last cell, from the k-th on, that begins before a leaf: in steps that double, then halve. O(log m) where it is the m-th.
+// The last cell, from the k-th on, that begins before a leaf: in steps that double, then halve, by the cells' numbers, which are cheaper to
+// tell than where they begin, and one look at the next cell, which may begin before the leaf though its number is behind. O(log m) where it
+// is the m-th.
+#[inline(always)]
 fn last_begun(cells: &[CellId], k: usize, limit: u64) -> usize
     requires within { k < length cells.now }
     requires begins { (d : CellId) → first_of (slice_index_or cells.now k d) < limit }
@@ -147,24 +154,28 @@ fn last_begun(cells: &[CellId], k: usize, limit: u64) -> usize
     }
     let mut last = k;
     let mut step = 1usize;
-    while begins_before(cells, last, step, limit) {
+    while is_before(cells, last, step, limit) {
         last += step;
         step = step.saturating_mul(2);
     }
     while step > 1 {
         step /= 2;
-        if begins_before(cells, last, step, limit) {
+        if is_before(cells, last, step, limit) {
             last += step;
         }
+    }
+    if last < cells.len() - 1 && cells[last + 1].span_start() < limit {
+        last += 1;
     }
     last
 }
 
-// Whether there is a cell some steps on, and begins before a leaf.
-fn begins_before(cells: &[CellId], k: usize, step: usize, limit: u64) -> bool
+// Whether there is a cell some steps on, and its number is below a leaf's: then it begins before the leaf.
+#[inline(always)]
+fn is_before(cells: &[CellId], k: usize, step: usize, limit: u64) -> bool
     requires { k < length cells.now }
     ensures within { IsTrue result → k + step < length cells.now }
     ensures begins { (d : CellId) → IsTrue result → first_of (slice_index_or cells.now (k + step) d) < limit }
 {
-    step < cells.len() - k && cells[k + step].span_start() < limit
+    step < cells.len() - k && cells[k + step].raw() < limit
 }

@@ -1,61 +1,70 @@
-use Rattle.std.proofs.Common.{◌+◌, ◌-◌, ◌/◌, ℕ, refl, sym, ◌∙◌, ap, subst, rules, arith}
+use Rattle.std.proofs.Common.{◌≡◌, ◌+◌, ◌-◌, ◌*◌, ◌/◌, ◌^◌, ℕ, ◌∙◌, ap, subst, rules, arith}
 use Rattle.s2ix_ranges.specs.Table.{range_at}
 use Rattle.s2ix_walk.proofs.WalkSteps.{range_fits}
+use Rattle.s2ix_walk.specs.Costs.{binary_digits}
+use Rattle.s2ix_walk.specs.Searching.{IsWindow}
 use Rattle.s2ix_walk.specs.Shown.{Shown}
 use Rattle.s2ix_walk.specs.declared.cost.Cost.{Cost}
-use Rattle.s2ix_walk.proofs.Digits.{digits_halve}
-use Rattle.s2ix_walk.specs.Searching.{IsWindow}
-use Rattle.s2ix_walk.proofs.Windows.{upper_half, lower_half}
+use Rattle.s2ix_walk.proofs.Digits.{digits_below}
+use Rattle.s2ix_walk.proofs.Windows.{IsHalved, halved}
+use Rattle.s2ix_walk.proofs.search.search.Given.{Over}
 use Rattle.s2ix_walk.proofs.search.search.Goals as goal
-use Rattle.s2ix_walk.proofs.search.search.Goals.{then-row-leaf, else-row-leaf}
+use Rattle.s2ix_walk.proofs.search.search.Goals.{After-begun}
 
-pub loop-size-init : goal.loop-size-init
-loop-size-init g c =
+pub loop-half-init : goal.loop-half-init
+loop-half-init g c =
     let n = c.narrowed-window.ensures in
-    (n.window, n.same, n.looks, n.probes)
+    let ranges = (g.R.Reader.shown c.args.reader.now).ranges in
+    let k = n.power.0 in
+    let is = n.power.1 in
+    let paid = n.probes in
+    let same = ap (λ (size : ℕ). binary_digits (size - 1)) is in (
+      (k, ap (λ (size : ℕ). size / 2) is, subst (λ (size : ℕ). IsWindow ranges c.args.leaf c.narrowed-window.result.first size) is n.window, omega (arith, digits_below k)),
+      n.same,
+      n.looks,
+    )
 
-pub loop-size-preserved : goal.loop-size-preserved
-loop-size-preserved g c =
+-- the half that is left
+half_is : (g : Over) (c : After-begun g) → IsHalved (g.R.Reader.shown c.args.reader.now).ranges c.args.leaf (c.loop-half.first + c.loop-half.half * c.begun.result) c.loop-half.half c.loop-half.invariant.0.0
+half_is g c =
     let r = c.args.reader.now in
     let s = g.R.Reader.shown r in
-    let t = (g.met.R.Reader.is_shown r).is_table in
-    let i = c.loop-size.invariant in
-    let size = c.loop-size.size in
-    let first = c.loop-size.first in
-    let half : ℕ = size / 2 in
-    let leaf = c.args.leaf in
-    let start = c.row.ensures.start ∙ ap (λ (z : Shown g.row.R-Place.Denot). (range_at z.ranges (first + half)).start) i.1 in
+    let i = c.loop-half.invariant in
+    let at : ℕ = c.loop-half.first + c.loop-half.half in
+    let start = c.row.ensures.start ∙ ap (λ (z : Shown g.row.R-Place.Denot). (range_at z.ranges at).start) i.1 in
+    halved s.pairs s.ranges c.args.leaf c.loop-half.first c.loop-half.half c.begun.result i.0.0 (g.met.R.Reader.is_shown r).is_table i.0.2 i.0.1 c.loop-half-test.true (λ by. c.begun.ensures.by (omega arith)) (λ lt. c.begun.ensures.behind (omega arith))
+
+pub loop-half-preserved : goal.loop-half-preserved
+loop-half-preserved g c =
+    let h = half_is g (goal.at.loop-half-preserved g c).After-begun in
+    let i = c.loop-half.invariant in
     let counts = c.row.ensures.counts in
     let looks = ap (λ (z : Cost). z.looks) counts in
     let probes = ap (λ (z : Cost). z.probes) counts in
-    let before = i.3 in (
-      elim c.if-row-leaf.branch [
-        | then-row-leaf w ↦
-            subst (λ (k : ℕ). IsWindow s.ranges leaf k (size - half)) (sym w.first-is) (upper_half s.ranges leaf first size half i.0 c.loop-size-test.true refl (omega (arith, w.if-row-leaf.true)))
-        | else-row-leaf w ↦
-            subst (λ (k : ℕ). IsWindow s.ranges leaf k (size - half)) (sym w.first-is) (lower_half s.pairs s.ranges leaf first size half t i.0 c.loop-size-test.true refl (omega (arith, w.if-row-leaf.false)))
-      ],
+    let fewer = h.fewer in
+    let paid = i.0.3 in (
+      (h.left, ap (λ (half : ℕ). half / 2) h.is, h.window, omega arith),
       c.row.ensures.same ∙ i.1,
       looks ∙ i.2,
-      omega (arith, digits_halve size c.loop-size-test.true),
     )
 
 pub overflow_add-first : goal.overflow_add-first
 overflow_add-first g c =
     let r = c.args.reader.now in
     let s = g.R.Reader.shown r in
-    let w = c.loop-size.invariant.0 in
-    let a = w.within in
-    let more = c.loop-size-test.true in
-    let fits = range_fits s.pairs s.ranges (g.met.R.Reader.is_shown r).is_table (c.loop-size.first + c.loop-size.size / 2) (omega arith) in
+    let i = c.loop-half.invariant in
+    let w = i.0.2.within in
+    let is = i.0.1 in
+    let some = c.loop-half-test.true in
+    let fits = range_fits s.pairs s.ranges (g.met.R.Reader.is_shown r).is_table (c.loop-half.first + c.loop-half.half) (omega arith) in
     search (rules, fits)
 
-pub overflow_add-first-then-row-leaf : goal.overflow_add-first-then-row-leaf
-overflow_add-first-then-row-leaf g c =
+pub overflow_add-first-in-loop-half : goal.overflow_add-first-in-loop-half
+overflow_add-first-in-loop-half g c =
     let r = c.args.reader.now in
     let s = g.R.Reader.shown r in
-    let w = c.loop-size.invariant.0 in
-    let a = w.within in
-    let more = c.loop-size-test.true in
-    let fits = range_fits s.pairs s.ranges (g.met.R.Reader.is_shown r).is_table (c.loop-size.first + c.loop-size.size / 2) (omega arith) in
+    let h = half_is g (goal.at.overflow_add-first-in-loop-half g c).After-begun in
+    let w = h.window.within in
+    let some = h.window.some in
+    let fits = range_fits s.pairs s.ranges (g.met.R.Reader.is_shown r).is_table (c.loop-half.first + c.loop-half.half * c.begun.result) (omega arith) in
     search (rules, fits)

@@ -1,14 +1,16 @@
-use Rattle.std.proofs.Common.{◌≡◌, ◌+◌, ◌-◌, ◌≤◌, length}
+use Rattle.std.proofs.Common.{◌≡◌, ◌+◌, ◌/◌, ◌^◌, ◌≤◌, ℕ, length}
 use Rattle.s2ix_walk.specs.Costs.{binary_digits}
 use Rattle.s2ix_walk.specs.Searching.{IsWindow}
 use Rattle.s2ix_walk.proofs.search.search.Given as goal
 
-abbrev pub invariant-loop-size : goal.invariant-loop-size
-invariant-loop-size g l =
-    IsWindow (g.R.Reader.shown l.fn.reader).ranges l.leaf l.first l.size
+abbrev pub invariant-loop-half : goal.invariant-loop-half
+invariant-loop-half g l =
+    ((k : ℕ)
+    × (l.half ≡ 2 ^ k / 2)
+    × IsWindow (g.R.Reader.shown l.fn.reader).ranges l.leaf l.first (2 ^ k)
+    × ((g.R.Reader.spent l.reader).probes + k ≤ (g.R.Reader.spent l.fn.reader).probes + binary_digits (length (g.R.Reader.shown l.fn.reader).ranges + 1)))
     × (g.R.Reader.shown l.reader ≡ g.R.Reader.shown l.fn.reader)
     × ((g.R.Reader.spent l.reader).looks ≡ (g.R.Reader.spent l.fn.reader).looks)
-    × ((g.R.Reader.spent l.reader).probes + binary_digits (l.size - 1) ≤ (g.R.Reader.spent l.fn.reader).probes + binary_digits (length (g.R.Reader.shown l.fn.reader).ranges + 1))
 
-abbrev pub decreases-loop-size : goal.decreases-loop-size
-decreases-loop-size g l = l.size
+abbrev pub decreases-loop-half : goal.decreases-loop-half
+decreases-loop-half g l = l.half
