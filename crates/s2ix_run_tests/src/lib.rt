@@ -1,4 +1,5 @@
-//! Tests of whole runs: worked scripts from bytes to bytes, and devices that fail; and of single lines and instructions.
+//! Tests of whole runs: worked scripts from bytes to bytes, long ones beside a plain model, and devices that fail; and of single lines and
+//! instructions.
 #![tactic(auto)]
 
 #[cfg(test)]
@@ -7,6 +8,8 @@ mod fault_tests;
 mod grow_tests;
 #[cfg(test)]
 mod history_tests;
+#[cfg(test)]
+mod model_tests;
 #[cfg(test)]
 mod piece_tests;
 #[cfg(test)]

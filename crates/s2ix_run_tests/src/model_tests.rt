@@ -1,11 +1,8 @@
 // Long scripts, run by the program and by a plain model.
-ghost use Rattle.s2ix_io.specs.Faults.{CanCount};
-
-use s2ix_bag::Limits;
-use s2ix_cli::{RunEnd, RunOptions, run};
-use s2ix_io::{KeepingSink, Sink, SliceSource};
+use crate::runs::run_over_empty;
+use s2ix_cli::RunOptions;
+use s2ix_io::{KeepingSink, SliceSource};
 use s2ix_model::{CHANGES, COPIES, PAIRS, Record};
-use s2ix_store::Store;
 use std::alloc::Global;
 use std::test::Fail;
 
@@ -23,29 +20,16 @@ const NAMES: [&str; 10] = [
     "NothingToRedo",
 ];
 
-// Runs a script over an empty store, in pieces of so many bytes.
-fn run_script(
-    alloc: Global,
-    script: &[u8],
-    piece_len: usize,
-    sink: &mut KeepingSink,
-) -> Result<RunEnd, Fail>
-    requires { CanCount (⟦<KeepingSink as Sink>⟧.fault_count sink.old) }
-{
-    let limits = Limits::new(PAIRS, COPIES, CHANGES).ok_or("a limit is out of its range")?;
-    let mut store = Store::new(alloc, limits)?;
-    let mut source = SliceSource::new(script, piece_len, 0);
+// Whether a run of a record's script, in pieces of so many bytes, comes to what the record tells.
+fn comes_true(alloc: Global, record: &Record, piece_len: usize) -> Result<bool, Fail> {
+    let mut source = SliceSource::new(record.script.as_bytes(), piece_len, 0);
+    let mut sink = KeepingSink::new(alloc, 1000, 0, false);
     let options = RunOptions {
         stop: false,
         turns: u64::MAX,
     };
-    Ok(run(alloc, &mut source, sink, &mut store, options)?)
-}
-
-// Whether a run of a record's script, in pieces of so many bytes, comes to what the record tells.
-fn comes_true(alloc: Global, record: &Record, piece_len: usize) -> Result<bool, Fail> {
-    let mut sink = KeepingSink::new(alloc, 1000, 0, false);
-    let end = run_script(alloc, record.script.as_bytes(), piece_len, &mut sink)?;
+    let limits = [PAIRS, COPIES, CHANGES];
+    let end = run_over_empty(alloc, &mut source, &mut sink, limits, options)??;
     Ok(
         sink.kept() == record.output.as_bytes()
             && end.lines == record.lines
