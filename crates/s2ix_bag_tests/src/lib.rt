@@ -1,4 +1,4 @@
-//! Tests of bags: counts, limits, labels, and the changes between two bags.
+//! Tests of bags: counts, limits, labels, the changes between two bags, and changes that are done again and taken back.
 #![tactic(auto)]
 
 #[cfg(test)]
@@ -7,5 +7,7 @@ mod bag_tests;
 mod change_tests;
 #[cfg(test)]
 mod limit_tests;
+#[cfg(test)]
+mod replay_tests;
 #[cfg(test)]
 mod same_tests;

@@ -7,33 +7,57 @@ use s2ix_io::KeepingSink;
 use s2ix_script::Instruction;
 use s2ix_step::{LineOutcome, carry_instruction, carry_out};
 use s2ix_store::Store;
+use std::alloc::Global;
 use std::test::Fail;
 
-#[test]
-fn an_instruction_is_carried_out_as_its_line_is(rt: HostRuntime) -> Result<(), Fail> {
-    let alloc = rt.alloc();
+// Carries out a comment, a line that holds a face, and an instruction, and compares how each ends and what they print.
+fn check_instruction(
+    alloc: Global,
+    instruction: Instruction,
+    outcome: LineOutcome,
+    printed: &[u8],
+) -> Result<(), Fail> {
     let mut store = Store::new(alloc, Limits::default())?;
     let mut sink = KeepingSink::new(alloc, ALL, 0, false);
-    let cell = CellId::from_token(b"0c")?;
-    let target = CellUnion::normalise(alloc, &[cell])?;
-    let outcomes = [
-        carry_out(alloc, &mut store, &mut sink, b"# a face")?,
-        carry_out(alloc, &mut store, &mut sink, b"add 1 7")?,
-        carry_instruction(alloc, &mut store, &mut sink, Instruction::Meet(target))?,
-        carry_instruction(alloc, &mut store, &mut sink, Instruction::At(cell))?,
-        carry_instruction(alloc, &mut store, &mut sink, Instruction::Undo)?,
-    ];
-    let wanted = [
-        LineOutcome::PassedOver,
-        LineOutcome::Accepted,
-        LineOutcome::Accepted,
-        LineOutcome::Refused,
-        LineOutcome::Accepted,
-    ];
-    let printed = b"ok 1\n1:7:1\nend 1\nno NotLeaf\nok 1\n".as_slice();
-    if outcomes == wanted && sink.kept() == printed {
+    let comment = carry_out(alloc, &mut store, &mut sink, b"# a face")?;
+    let line = carry_out(alloc, &mut store, &mut sink, b"add 1 7")?;
+    let step = carry_instruction(alloc, &mut store, &mut sink, instruction)?;
+    if [comment, line, step] == [LineOutcome::PassedOver, LineOutcome::Accepted, outcome]
+        && sink.kept() == printed
+    {
         Ok(())
     } else {
-        Err(Fail::new(format_args!("{outcomes:?}, {:?}", sink.kept())))
+        Err(Fail::new(format_args!("{step:?}, {:?}", sink.kept())))
     }
+}
+
+#[test]
+fn a_meeting_is_told(rt: HostRuntime) -> Result<(), Fail> {
+    let target = CellUnion::normalise(rt.alloc(), &[CellId::from_token(b"0c")?])?;
+    check_instruction(
+        rt.alloc(),
+        Instruction::Meet(target),
+        LineOutcome::Accepted,
+        b"ok 1\n1:7:1\nend 1\n",
+    )
+}
+
+#[test]
+fn a_cell_that_is_no_leaf_is_refused(rt: HostRuntime) -> Result<(), Fail> {
+    check_instruction(
+        rt.alloc(),
+        Instruction::At(CellId::from_token(b"0c")?),
+        LineOutcome::Refused,
+        b"ok 1\nno NotLeaf\n",
+    )
+}
+
+#[test]
+fn an_undo_is_told(rt: HostRuntime) -> Result<(), Fail> {
+    check_instruction(
+        rt.alloc(),
+        Instruction::Undo,
+        LineOutcome::Accepted,
+        b"ok 1\nok 1\n",
+    )
 }

@@ -1,0 +1,5 @@
+use Rattle.std.proofs.Common.{rules}
+use Rattle.s2id_core.proofs.cell_id.CellId.span_start.Goals as goal
+
+pub returns : goal.returns
+returns c = search rules

@@ -1,5 +1,0 @@
-//! Tests of changes that are done again and taken back.
-#![tactic(auto)]
-
-#[cfg(test)]
-mod replay_tests;
