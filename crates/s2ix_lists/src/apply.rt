@@ -5,12 +5,13 @@ ghost use Rattle.s2ix_pairs.specs.Change.{IsChangeList, changed};
 ghost use Rattle.s2ix_pairs.specs.Collection.{IsCollection, count_in, held_with};
 
 use crate::errors::ApplyError;
+use crate::flat::FlatHeld;
 use crate::search::{count_first, next_from, past_pair};
 use s2ix_pairs::{Entry, Held, Limits, Pair};
 use std::alloc::{AllocError, Global};
 
 /// The place of the first entry whose count before is not that of the held pairs. O(n + m).
-pub fn first_mismatch(held: &[Held], entries: &[Entry]) -> Option<usize>
+pub fn first_mismatch(held: &[FlatHeld], entries: &[Entry]) -> Option<usize>
     requires held_rise { IsCollection held.now }
     requires entries_rise { IsChangeList entries.now }
     ensures { result ≡ position (λ e. not (e.before == count_in held.now e.pair)) entries.now }
@@ -41,7 +42,7 @@ fn losses(entries: &[Entry]) -> usize
 }
 
 /// How many pairs are held once a change is applied that has the right counts before. O(m).
-pub fn length_after(held: &[Held], entries: &[Entry]) -> usize
+pub fn length_after(held: &[FlatHeld], entries: &[Entry]) -> usize
     requires held_rise { IsCollection held.now }
     requires entries_rise { IsChangeList entries.now }
     requires before { AreBefore held.now entries.now }
@@ -58,7 +59,7 @@ fn has_count_above(entries: &[Entry], limit: u32) -> bool
 }
 
 /// Why a change is refused, memory aside: each test goes over all entries, in the order of the errors. O(n + m).
-pub fn refusal(limits: Limits, held: &[Held], entries: &[Entry]) -> Option<ApplyError>
+pub fn refusal(limits: Limits, held: &[FlatHeld], entries: &[Entry]) -> Option<ApplyError>
     requires held_rise { IsCollection held.now }
     requires entries_rise { IsChangeList entries.now }
     ensures { result ≡ apply_refusal (record { limits = limits; held = held.now }) entries.now }
@@ -76,17 +77,17 @@ pub fn refusal(limits: Limits, held: &[Held], entries: &[Entry]) -> Option<Apply
 }
 
 /// Appends a pair that is held where its count is above 0.
-fn push_held(out: &mut Vec<Held>, pair: Pair, count: u32) -> Result<(), AllocError>
+fn push_held(out: &mut Vec<FlatHeld>, pair: Pair, count: u32) -> Result<(), AllocError>
     ensures { OnOk result (out.new.items ≡ out.old.items ++ held_with pair count []) }
 {
     if count > 0 {
-        out.push(Held { pair, count })?;
+        out.push(FlatHeld::new(Held { pair, count }))?;
     }
     Ok(())
 }
 
 /// What a change that has the right counts before makes of the held pairs, in one growth. O(n + m).
-pub fn merge(alloc: Global, held: &[Held], entries: &[Entry]) -> Result<Vec<Held>, AllocError>
+pub fn merge(alloc: Global, held: &[FlatHeld], entries: &[Entry]) -> Result<Vec<FlatHeld>, AllocError>
     requires held_rise { IsCollection held.now }
     requires entries_rise { IsChangeList entries.now }
     requires before { AreBefore held.now entries.now }

@@ -8,6 +8,7 @@ mod apply;
 mod compare;
 mod entries;
 mod errors;
+mod flat;
 pub mod laws;
 mod search;
 
@@ -15,4 +16,5 @@ pub use apply::{merge, refusal};
 pub use compare::{differences, exchanged_entries};
 pub use entries::fault;
 pub use errors::{ApplyError, ChangeError};
+pub use flat::FlatHeld;
 pub use search::count_of;
