@@ -27,15 +27,15 @@ pub fn first_mismatch(held: &[FlatHeld], entries: &[Entry]) -> Option<usize>
     None
 }
 
-/// How many entries have a pair that is not held before.
-fn gains(entries: &[Entry]) -> usize
+/// How many entries have a pair that is not held before. O(n).
+pub fn gains(entries: &[Entry]) -> usize
     ensures { result ≡ count_by (λ e. e.before == 0) entries.now }
 {
     entries.iter().filter(|e| e.before == 0).count()
 }
 
-/// How many entries have a pair that is not held after.
-fn losses(entries: &[Entry]) -> usize
+/// How many entries have a pair that is not held after. O(n).
+pub fn losses(entries: &[Entry]) -> usize
     ensures { result ≡ count_by (λ e. e.after == 0) entries.now }
 {
     entries.iter().filter(|e| e.after == 0).count()
@@ -52,7 +52,7 @@ pub fn length_after(held: &[FlatHeld], entries: &[Entry]) -> usize
 }
 
 /// Whether a count after is above the limit. O(m).
-fn has_count_above(entries: &[Entry], limit: u32) -> bool
+pub fn has_count_above(entries: &[Entry], limit: u32) -> bool
     ensures { result ≡ list_any (λ e. nat_lt limit e.after) entries.now }
 {
     entries.iter().any(|e| limit < e.after)

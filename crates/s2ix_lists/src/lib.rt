@@ -12,7 +12,7 @@ mod flat;
 pub mod laws;
 mod search;
 
-pub use apply::{merge, refusal};
+pub use apply::{first_mismatch, gains, has_count_above, losses, merge, refusal};
 pub use compare::{differences, exchanged_entries};
 pub use entries::fault;
 pub use errors::{ApplyError, ChangeError};
