@@ -6,7 +6,7 @@ ghost use Rattle.s2ix_pairs.specs.Collection.{IsCollection, count_in};
 use crate::apply::{FACES, mismatch, put_all_changed, put_held};
 use crate::face_list::FaceList;
 use crate::held_iter::HeldIter;
-use crate::read::{count_on, pair_at};
+use crate::read::{count_on, pair_at, push_all};
 use s2id_core::OutOfMemory;
 use s2ix_lists::{ApplyError, FlatHeld, gains, has_count_above, losses};
 use s2ix_pairs::{Entry, Held, Limits, Pair};
@@ -100,6 +100,15 @@ impl FaceLists {
         ensures { result ≡ self.now }
     {
         HeldIter::new(&self.lists)
+    }
+
+    /// A copy of all pairs in one list. O(n) for n pairs. `OutOfMemory` where a growth is refused.
+    pub fn flat(&self, alloc: Global) -> Result<Vec<FlatHeld>, OutOfMemory>
+        ensures { IfOk result (λ all. all.items ≡ self.now) }
+    {
+        let mut all = Vec::with_capacity(alloc, self.len)?;
+        push_all(&mut all, &self.lists)?;
+        Ok(all)
     }
 
     /// Why a change is refused, memory aside: each test goes over all entries, in the order of the errors. O(n + m) for n pairs and m

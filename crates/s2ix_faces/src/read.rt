@@ -1,11 +1,12 @@
-// Single pairs of the lists of the faces.
-ghost use Rattle.std.specs.Prelude.{◌≡◌, ◌<◌, Some, length, slice_get};
+// Pairs of the lists of the faces.
+ghost use Rattle.std.specs.Prelude.{◌≡◌, ◌++◌, ◌<◌, Some, length, slice_get, OnOk};
 ghost use Rattle.s2ix_faces.specs.Faces.{AreFacesFrom, all_of};
 ghost use Rattle.s2ix_pairs.specs.Collection.{count_in};
 
 use crate::face_list::FaceList;
 use s2ix_lists::{FlatHeld, count_of};
 use s2ix_pairs::Pair;
+use std::alloc::AllocError;
 
 // The count of a pair, found in its face's list. O(log n).
 pub(crate) fn count_on(lists: &[FaceList], pair: Pair) -> u32
@@ -31,4 +32,14 @@ pub(crate) fn pair_at(lists: &[FaceList], place: usize) -> FlatHeld
         left -= held.len();
     }
     unreachable!()
+}
+
+// Appends what some lists hold, one after the other. O(n) for n pairs.
+pub(crate) fn push_all(all: &mut Vec<FlatHeld>, lists: &[FaceList]) -> Result<(), AllocError>
+    ensures { OnOk result (all.new.items ≡ all.old.items ++ all_of lists.now) }
+{
+    for list in lists {
+        all.extend_from_slice(list.as_slice())?;
+    }
+    Ok(())
 }

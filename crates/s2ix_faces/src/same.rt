@@ -16,9 +16,8 @@ impl PartialEq for FaceLists {
     fn eq(&self, other: &FaceLists) -> bool {
         let mut theirs = other.iter();
         for held in self.iter() {
-            match theirs.next() {
-                Some(their) if their == held => {}
-                _ => return false,
+            if theirs.next() != Some(held) {
+                return false;
             }
         }
         theirs.next().is_none()

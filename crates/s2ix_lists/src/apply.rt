@@ -1,13 +1,12 @@
 ghost use Rattle.std.specs.Prelude.{◌≡◌, ◌<◌, ◌≤◌, ◌==◌, ◌++◌, not, nat_lt, [], length, count_by, position, IfOk, OnOk};
 ghost use Rattle.std.specs.List.{list_any};
-ghost use Rattle.s2ix_lists.specs.Apply.{AreBefore, apply_refusal};
+ghost use Rattle.s2ix_lists.specs.Apply.{AreBefore};
 ghost use Rattle.s2ix_pairs.specs.Change.{IsChangeList, changed};
 ghost use Rattle.s2ix_pairs.specs.Collection.{IsCollection, count_in, held_with};
 
-use crate::errors::ApplyError;
 use crate::flat::FlatHeld;
 use crate::search::{count_first, next_from, past_pair};
-use s2ix_pairs::{Entry, Held, Limits, Pair};
+use s2ix_pairs::{Entry, Held, Pair};
 use std::alloc::{AllocError, Global};
 
 /// The place of the first entry whose count before is not that of the held pairs. O(n + m).
@@ -56,24 +55,6 @@ pub fn has_count_above(entries: &[Entry], limit: u32) -> bool
     ensures { result ≡ list_any (λ e. nat_lt limit e.after) entries.now }
 {
     entries.iter().any(|e| limit < e.after)
-}
-
-/// Why a change is refused, memory aside: each test goes over all entries, in the order of the errors. O(n + m).
-pub fn refusal(limits: Limits, held: &[FlatHeld], entries: &[Entry]) -> Option<ApplyError>
-    requires held_rise { IsCollection held.now }
-    requires entries_rise { IsChangeList entries.now }
-    ensures { result ≡ apply_refusal (record { limits = limits; held = held.now }) entries.now }
-{
-    if let Some(place) = first_mismatch(held, entries) {
-        return Some(ApplyError::Mismatch(place));
-    }
-    if has_count_above(entries, limits.count()) {
-        return Some(ApplyError::TooManyCopies);
-    }
-    if length_after(held, entries) > limits.pairs() as usize {
-        return Some(ApplyError::TooManyPairs);
-    }
-    None
 }
 
 /// Appends a pair that is held where its count is above 0.
