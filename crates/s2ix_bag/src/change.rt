@@ -64,7 +64,11 @@ impl Change {
 
     /// The same between two lists of held pairs, each rising strictly with counts above 0: what a bag holds, or a part of it.
     /// O(n + m) for their n and m pairs. `OutOfMemory` where a growth is refused.
-    pub fn between_lists(alloc: Global, old: &[FlatHeld], new: &[FlatHeld]) -> Result<Change, OutOfMemory>
+    pub fn between_lists(
+        alloc: Global,
+        old: &[FlatHeld],
+        new: &[FlatHeld],
+    ) -> Result<Change, OutOfMemory>
         requires old_rise { IsCollection old.now }
         requires new_rise { IsCollection new.now }
         ensures { IfOk result (λ change. change ≡ change_between old.now new.now) }

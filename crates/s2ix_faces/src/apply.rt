@@ -36,7 +36,12 @@ pub(crate) fn mismatch(lists: &[FaceList], entries: &[Entry]) -> Option<usize>
 }
 
 // Puts what its entries make of one face's list in its place.
-fn put_changed(alloc: Global, lists: &mut [FaceList], face: usize, own: &[Entry]) -> Result<(), OutOfMemory>
+fn put_changed(
+    alloc: Global,
+    lists: &mut [FaceList],
+    face: usize,
+    own: &[Entry],
+) -> Result<(), OutOfMemory>
     requires within { face < length lists.old }
     requires held_rise { IsCollection (get_or lists.old face []) }
     requires entries_rise { IsChangeList own.now }
@@ -52,7 +57,11 @@ fn put_changed(alloc: Global, lists: &mut [FaceList], face: usize, own: &[Entry]
 }
 
 // Puts what a change makes of the faces' lists in their places. The lists of the faces without an entry stay as they are.
-pub(crate) fn put_all_changed(alloc: Global, lists: &mut [FaceList], entries: &[Entry]) -> Result<(), OutOfMemory>
+pub(crate) fn put_all_changed(
+    alloc: Global,
+    lists: &mut [FaceList],
+    entries: &[Entry],
+) -> Result<(), OutOfMemory>
     requires six { length lists.old ≡ 6 }
     requires apart { AreFacesFrom 0 lists.old }
     requires entries_rise { IsChangeList entries.now }
@@ -71,7 +80,11 @@ pub(crate) fn put_all_changed(alloc: Global, lists: &mut [FaceList], entries: &[
 }
 
 // Puts the pairs of each face into its list, where nothing is held yet.
-pub(crate) fn put_held(alloc: Global, lists: &mut [FaceList], held: &[FlatHeld]) -> Result<(), OutOfMemory>
+pub(crate) fn put_held(
+    alloc: Global,
+    lists: &mut [FaceList],
+    held: &[FlatHeld],
+) -> Result<(), OutOfMemory>
     requires six { length lists.old ≡ 6 }
     requires apart { AreFacesFrom 0 lists.old }
     requires none { all_of lists.old ≡ [] }

@@ -18,7 +18,7 @@ impl Model for FaceList {
 
     ghost Value = { Collection };
 
-    ghost view = { λ list. elim list.shared [ | None ↦ [] | Some shared ↦ shared.value.items ] };
+    ghost view = { λ list. elim list.shared [ None ↦ [] | Some shared ↦ shared.value.items ] };
 }
 
 impl FaceList {

@@ -14,4 +14,3 @@ mod same;
 
 pub use held_iter::HeldIter;
 pub use lists::FaceLists;
-

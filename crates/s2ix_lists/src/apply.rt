@@ -68,7 +68,11 @@ fn push_held(out: &mut Vec<FlatHeld>, pair: Pair, count: u32) -> Result<(), Allo
 }
 
 /// What a change that has the right counts before makes of the held pairs, in one growth. O(n + m).
-pub fn merge(alloc: Global, held: &[FlatHeld], entries: &[Entry]) -> Result<Vec<FlatHeld>, AllocError>
+pub fn merge(
+    alloc: Global,
+    held: &[FlatHeld],
+    entries: &[Entry],
+) -> Result<Vec<FlatHeld>, AllocError>
     requires held_rise { IsCollection held.now }
     requires entries_rise { IsChangeList entries.now }
     requires before { AreBefore held.now entries.now }

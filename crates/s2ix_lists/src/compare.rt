@@ -41,7 +41,11 @@ fn push_difference(
 }
 
 /// The entries of the change that leads from `old` to `new`. O(n + m).
-pub fn differences(alloc: Global, old: &[FlatHeld], new: &[FlatHeld]) -> Result<Vec<Entry>, AllocError>
+pub fn differences(
+    alloc: Global,
+    old: &[FlatHeld],
+    new: &[FlatHeld],
+) -> Result<Vec<Entry>, AllocError>
     requires old_rise { IsCollection old.now }
     requires new_rise { IsCollection new.now }
     ensures { IfOk result (λ v. v.items ≡ change_between old.now new.now) }
