@@ -7,7 +7,8 @@ ghost use Rattle.s2ix_pairs.specs.OfLabel.{held_of};
 use crate::change::Change;
 use crate::label_iter::LabelIter;
 use s2id_core::OutOfMemory;
-use s2ix_lists::{ApplyError, count_of, merge, refusal};
+use s2ix_faces::{FaceLists, HeldIter};
+use s2ix_lists::{ApplyError, FlatHeld};
 use s2ix_pairs::{Held, Label, Limits, Pair};
 use std::alloc::{AllocError, Global};
 use std::marker::Model;
@@ -17,7 +18,7 @@ use std::marker::Model;
 #[derive(Debug, Drop)]
 pub struct Bag {
     limits: Limits,
-    held: Vec<Held>,
+    lists: FaceLists,
 }
 
 impl Model for Bag {
@@ -25,28 +26,29 @@ impl Model for Bag {
 
     ghost Value = { LimitedCollection };
 
-    ghost view = { λ b. record { limits = b.limits; held = b.held.items } };
+    ghost view = { λ b. record { limits = b.limits; held = b.lists } };
 
-    ghost invariant = { λ b. IsBag (record { limits = b.limits; held = b.held.items }) };
+    ghost invariant = { λ b. IsBag (record { limits = b.limits; held = b.lists }) };
 }
 
 impl Bag {
-    /// The bag that holds no pair. It keeps `alloc` for what is made of it, and takes no memory.
-    pub fn empty(alloc: Global, limits: Limits) -> Bag
+    /// The bag that holds no pair. It takes no memory.
+    pub fn empty(_alloc: Global, limits: Limits) -> Bag
         ensures { result ≡ record { limits = limits; held = [] } }
     {
         Bag {
             limits,
-            held: Vec::new(alloc),
+            lists: FaceLists::empty(),
         }
     }
 
-    /// The bag with these limits that holds these pairs with these counts. It takes no memory.
-    pub fn from_vec(limits: Limits, held: Vec<Held>) -> Bag
-        requires { IsBag (record { limits = limits; held = held.items }) }
-        ensures { result ≡ record { limits = limits; held = held.items } }
+    /// The bag with these limits that holds these pairs with these counts. O(n) for n pairs. `OutOfMemory` where a growth is refused.
+    pub fn from_held(alloc: Global, limits: Limits, held: &[FlatHeld]) -> Result<Bag, OutOfMemory>
+        requires { IsBag (record { limits = limits; held = held.now }) }
+        ensures { IfOk result (λ bag. bag ≡ record { limits = limits; held = held.now }) }
     {
-        Bag { limits, held }
+        let lists = FaceLists::from_held(alloc, held)?;
+        Ok(Bag { limits, lists })
     }
 
     /// The limits that the bag stays within.
@@ -61,7 +63,7 @@ impl Bag {
         ensures count { result ≡ count_in self.now.held pair }
         ensures within { IsBag self.now }
     {
-        count_of(self.held.as_slice(), pair)
+        self.lists.count(pair)
     }
 
     /// How many distinct pairs are held, at most 1,000,000.
@@ -69,14 +71,14 @@ impl Bag {
         ensures number { result ≡ length self.now.held }
         ensures within { IsBag self.now }
     {
-        self.held.len()
+        self.lists.len()
     }
 
     /// Whether no pair is held.
     pub fn is_empty(&self) -> bool
         ensures { result ≡ (length self.now.held == 0) }
     {
-        self.held.is_empty()
+        self.lists.len() == 0
     }
 
     /// The sum of the counts, in copies. O(n) for n pairs.
@@ -84,7 +86,7 @@ impl Bag {
         ensures { result ≡ copies_in self.now.held }
     {
         let mut copies = 0;
-        for held in self.held.as_slice() {
+        for held in self.iter() {
             copies += u64::from(held.count);
         }
         copies
@@ -95,7 +97,7 @@ impl Bag {
         requires { k < length self.now.held }
         ensures { slice_get self.now.held k ≡ Some result }
     {
-        self.held[k]
+        self.lists.held(k)
     }
 
     /// The pairs held with a label, with their counts, by rising cell. O(n) from the first to the end, for n pairs
@@ -104,31 +106,44 @@ impl Bag {
         ensures list { result ≡ held_of label self.now.held }
         ensures within { IsBag self.now }
     {
-        LabelIter::new(label, self.held.as_slice())
+        LabelIter::new(label, self.lists.iter())
     }
 
-    /// The held pairs with their counts, in rising order.
-    pub(crate) fn pairs(&self) -> &[Held]
-        ensures list { result.now ≡ self.now.held }
+    /// The held pairs with their counts, in rising order. O(n) from the first to the end, for n pairs.
+    pub fn iter(&self) -> HeldIter<'_>
+        ensures list { result ≡ self.now.held }
         ensures within { IsBag self.now }
     {
-        self.held.as_slice()
+        self.lists.iter()
     }
 
-    /// A bag with the same limits that holds the same pairs with the same counts. O(n) for n pairs. `OutOfMemory` where a growth is refused.
-    pub fn copied(&self, alloc: Global) -> Result<Bag, OutOfMemory>
+    // The lists of the faces.
+    pub(crate) fn lists(&self) -> &FaceLists
+        ensures { result.now ≡ self.now.held }
+    {
+        &self.lists
+    }
+
+    /// A copy of the held pairs with their counts, in rising order. O(n) for n pairs. `OutOfMemory` where a growth is refused.
+    pub fn flat(&self, alloc: Global) -> Result<Vec<FlatHeld>, OutOfMemory>
+        ensures list { IfOk result (λ flat. flat.items ≡ self.now.held) }
+        ensures within { IsBag self.now }
+    {
+        self.lists.flat(alloc)
+    }
+
+    /// A bag with the same limits that holds the same pairs with the same counts, which the two bags share. O(1). `OutOfMemory` where
+    /// they are shared too often.
+    pub fn copied(&self, _alloc: Global) -> Result<Bag, OutOfMemory>
         ensures { IfOk result (λ bag. bag ≡ self.now) }
     {
-        let held = Vec::from_slice(alloc, self.held.as_slice())?;
-        Ok(Bag {
-            limits: self.limits,
-            held,
-        })
+        Ok(self.clone()?)
     }
 
     /// The bag that a change makes of this one: each pair of the change has its count after, and no other count
     /// differs. The three refusals are each tested over all entries, in their order, before any growth; `OutOfMemory` where
-    /// a growth is refused. O(n + m) for n pairs and m entries.
+    /// a growth is refused. The pairs of the faces without an entry are shared, the others copied: O(k + m) for m entries and the k pairs on
+    /// their faces.
     pub fn applied(&self, alloc: Global, change: &Change) -> Result<Bag, ApplyError>
         ensures limits { IfOk result (λ bag. bag.limits ≡ self.now.limits) }
         ensures held { IfOk result (λ bag. bag.held ≡ changed self.now.held change.now) }
@@ -136,28 +151,27 @@ impl Bag {
         ensures accepted { OnOk result (apply_refusal self.now change.now ≡ None) }
         ensures refused { IfErr result (λ error. IsApplyRefusal error (apply_refusal self.now change.now)) }
     {
-        let held = self.held.as_slice();
         let entries = change.entries();
-        if let Some(error) = refusal(self.limits, held, entries) {
+        if let Some(error) = self.lists.refusal(self.limits, entries) {
             return Err(error);
         }
-        let held = merge(alloc, held, entries)?;
+        let lists = self.lists.after(alloc, entries)?;
         Ok(Bag {
             limits: self.limits,
-            held,
+            lists,
         })
     }
 }
 
-/// A bag with the same limits, pairs and counts, made with the bag's own allocator; `copied` is given one. O(n) for n pairs.
+/// A bag with the same limits, pairs and counts, which the two bags share. O(1).
 impl Clone for Bag {
     ghost is_clone = { λ bag copy. copy ≡ bag };
 
     fn clone(&self) -> Result<Bag, AllocError> {
-        let held = self.held.clone()?;
+        let lists = self.lists.clone()?;
         Ok(Bag {
             limits: self.limits,
-            held,
+            lists,
         })
     }
 }

@@ -5,8 +5,8 @@ ghost use Rattle.s2ix_lists.specs.Entries.{IsChangeError, change_fault};
 
 use crate::bag::Bag;
 use s2id_core::OutOfMemory;
-use s2ix_lists::{ChangeError, differences, exchanged_entries, fault};
-use s2ix_pairs::{Entry, Held};
+use s2ix_lists::{ChangeError, FlatHeld, differences, exchanged_entries, fault};
+use s2ix_pairs::Entry;
 use std::alloc::{AllocError, Global};
 use std::marker::Model;
 
@@ -57,12 +57,18 @@ impl Change {
     pub fn between(alloc: Global, old: &Bag, new: &Bag) -> Result<Change, OutOfMemory>
         ensures { IfOk result (λ change. change ≡ change_between old.now.held new.now.held) }
     {
-        Change::between_lists(alloc, old.pairs(), new.pairs())
+        let old = old.flat(alloc)?;
+        let new = new.flat(alloc)?;
+        Change::between_lists(alloc, &old, &new)
     }
 
     /// The same between two lists of held pairs, each rising strictly with counts above 0: what a bag holds, or a part of it.
     /// O(n + m) for their n and m pairs. `OutOfMemory` where a growth is refused.
-    pub fn between_lists(alloc: Global, old: &[Held], new: &[Held]) -> Result<Change, OutOfMemory>
+    pub fn between_lists(
+        alloc: Global,
+        old: &[FlatHeld],
+        new: &[FlatHeld],
+    ) -> Result<Change, OutOfMemory>
         requires old_rise { IsCollection old.now }
         requires new_rise { IsCollection new.now }
         ensures { IfOk result (λ change. change ≡ change_between old.now new.now) }

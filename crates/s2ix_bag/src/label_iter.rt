@@ -2,6 +2,7 @@ ghost use Rattle.std.specs.Prelude.{◌≡◌};
 ghost use Rattle.std.specs.Iterator.{YieldsFirst, item_count};
 ghost use Rattle.s2ix_pairs.specs.OfLabel.{held_of};
 
+use s2ix_faces::HeldIter;
 use s2ix_pairs::{Held, Label};
 use std::marker::Model;
 
@@ -11,7 +12,7 @@ use std::marker::Model;
 #[derive(Clone, Debug, Drop)]
 pub struct LabelIter<'a> {
     label: Label,
-    rest: &'a [Held],
+    rest: HeldIter<'a>,
 }
 
 impl<'a> Model for LabelIter<'a> {
@@ -20,13 +21,13 @@ impl<'a> Model for LabelIter<'a> {
 
     ghost Value = { Collection };
 
-    ghost view = { λ s. held_of s.label s.rest.now };
+    ghost view = { λ s. held_of s.label s.rest };
 }
 
 impl<'a> LabelIter<'a> {
     /// Those of the held pairs that have the label.
-    pub(crate) fn new(label: Label, held: &'a [Held]) -> LabelIter<'a>
-        ensures { result ≡ held_of label held.now }
+    pub(crate) fn new(label: Label, held: HeldIter<'a>) -> LabelIter<'a>
+        ensures { result ≡ held_of label held.entry }
     {
         LabelIter { label, rest: held }
     }
@@ -40,10 +41,9 @@ impl<'a> Iterator for LabelIter<'a> {
     ghost remaining = { item_count (λ rest. rest) };
 
     fn next(&mut self) -> Option<Held> {
-        while let Some((first, rest)) = self.rest.split_first() {
-            self.rest = rest;
-            if first.pair.label == self.label {
-                return Some(*first);
+        while let Some(held) = self.rest.next() {
+            if held.pair.label == self.label {
+                return Some(held);
             }
         }
         None

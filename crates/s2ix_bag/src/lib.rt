@@ -14,5 +14,6 @@ mod same;
 pub use bag::Bag;
 pub use change::Change;
 pub use label_iter::LabelIter;
-pub use s2ix_lists::{ApplyError, ChangeError};
+pub use s2ix_faces::HeldIter;
+pub use s2ix_lists::{ApplyError, ChangeError, FlatHeld};
 pub use s2ix_pairs::{Entry, Held, Label, Limits, Pair};

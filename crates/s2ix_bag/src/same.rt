@@ -18,7 +18,7 @@ impl PartialEq for Bag {
     ghost laws = { partial_equiv_from_equiv (and_equiv (on_equiv (λ bag. bag.limits) of_limits.laws-law) (on_equiv (λ bag. bag.held) (lists_equiv of_held.laws-law))) };
 
     fn eq(&self, other: &Bag) -> bool {
-        self.limits() == other.limits() && self.pairs() == other.pairs()
+        self.limits() == other.limits() && self.lists() == other.lists()
     }
 }
 

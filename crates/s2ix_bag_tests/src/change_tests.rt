@@ -1,5 +1,5 @@
 // Changes between bags.
-use s2ix_bag::{Bag, Change, ChangeError, Entry};
+use s2ix_bag::{Bag, Change, ChangeError, Entry, FlatHeld};
 use s2ix_samples::{LimitRow, bag_of, entry_of, held_of, holds_pairs, lists_entries};
 use std::alloc::Global;
 use std::process::Abort;
@@ -47,7 +47,7 @@ fn change_of_pair(alloc: Global, old: &str, new: &str) -> Option<Change> {
     if old.count == 0 || new.count == 0 {
         return None;
     }
-    Change::between_lists(alloc, &[old], &[new]).ok()
+    Change::between_lists(alloc, &[FlatHeld::new(old)], &[FlatHeld::new(new)]).ok()
 }
 
 #[test]

@@ -6,6 +6,8 @@ mod bag_tests;
 #[cfg(test)]
 mod change_tests;
 #[cfg(test)]
+mod face_tests;
+#[cfg(test)]
 mod limit_tests;
 #[cfg(test)]
 mod replay_tests;

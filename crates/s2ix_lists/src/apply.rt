@@ -1,16 +1,16 @@
 ghost use Rattle.std.specs.Prelude.{◌≡◌, ◌<◌, ◌≤◌, ◌==◌, ◌++◌, not, nat_lt, [], length, count_by, position, IfOk, OnOk};
 ghost use Rattle.std.specs.List.{list_any};
-ghost use Rattle.s2ix_lists.specs.Apply.{AreBefore, apply_refusal};
+ghost use Rattle.s2ix_lists.specs.Apply.{AreBefore};
 ghost use Rattle.s2ix_pairs.specs.Change.{IsChangeList, changed};
 ghost use Rattle.s2ix_pairs.specs.Collection.{IsCollection, count_in, held_with};
 
-use crate::errors::ApplyError;
+use crate::flat::FlatHeld;
 use crate::search::{count_first, next_from, past_pair};
-use s2ix_pairs::{Entry, Held, Limits, Pair};
+use s2ix_pairs::{Entry, Held, Pair};
 use std::alloc::{AllocError, Global};
 
 /// The place of the first entry whose count before is not that of the held pairs. O(n + m).
-pub fn first_mismatch(held: &[Held], entries: &[Entry]) -> Option<usize>
+pub fn first_mismatch(held: &[FlatHeld], entries: &[Entry]) -> Option<usize>
     requires held_rise { IsCollection held.now }
     requires entries_rise { IsChangeList entries.now }
     ensures { result ≡ position (λ e. not (e.before == count_in held.now e.pair)) entries.now }
@@ -26,22 +26,22 @@ pub fn first_mismatch(held: &[Held], entries: &[Entry]) -> Option<usize>
     None
 }
 
-/// How many entries have a pair that is not held before.
-fn gains(entries: &[Entry]) -> usize
+/// How many entries have a pair that is not held before. O(n).
+pub fn gains(entries: &[Entry]) -> usize
     ensures { result ≡ count_by (λ e. e.before == 0) entries.now }
 {
     entries.iter().filter(|e| e.before == 0).count()
 }
 
-/// How many entries have a pair that is not held after.
-fn losses(entries: &[Entry]) -> usize
+/// How many entries have a pair that is not held after. O(n).
+pub fn losses(entries: &[Entry]) -> usize
     ensures { result ≡ count_by (λ e. e.after == 0) entries.now }
 {
     entries.iter().filter(|e| e.after == 0).count()
 }
 
 /// How many pairs are held once a change is applied that has the right counts before. O(m).
-pub fn length_after(held: &[Held], entries: &[Entry]) -> usize
+pub fn length_after(held: &[FlatHeld], entries: &[Entry]) -> usize
     requires held_rise { IsCollection held.now }
     requires entries_rise { IsChangeList entries.now }
     requires before { AreBefore held.now entries.now }
@@ -51,42 +51,28 @@ pub fn length_after(held: &[Held], entries: &[Entry]) -> usize
 }
 
 /// Whether a count after is above the limit. O(m).
-fn has_count_above(entries: &[Entry], limit: u32) -> bool
+pub fn has_count_above(entries: &[Entry], limit: u32) -> bool
     ensures { result ≡ list_any (λ e. nat_lt limit e.after) entries.now }
 {
     entries.iter().any(|e| limit < e.after)
 }
 
-/// Why a change is refused, memory aside: each test goes over all entries, in the order of the errors. O(n + m).
-pub fn refusal(limits: Limits, held: &[Held], entries: &[Entry]) -> Option<ApplyError>
-    requires held_rise { IsCollection held.now }
-    requires entries_rise { IsChangeList entries.now }
-    ensures { result ≡ apply_refusal (record { limits = limits; held = held.now }) entries.now }
-{
-    if let Some(place) = first_mismatch(held, entries) {
-        return Some(ApplyError::Mismatch(place));
-    }
-    if has_count_above(entries, limits.count()) {
-        return Some(ApplyError::TooManyCopies);
-    }
-    if length_after(held, entries) > limits.pairs() as usize {
-        return Some(ApplyError::TooManyPairs);
-    }
-    None
-}
-
 /// Appends a pair that is held where its count is above 0.
-fn push_held(out: &mut Vec<Held>, pair: Pair, count: u32) -> Result<(), AllocError>
+fn push_held(out: &mut Vec<FlatHeld>, pair: Pair, count: u32) -> Result<(), AllocError>
     ensures { OnOk result (out.new.items ≡ out.old.items ++ held_with pair count []) }
 {
     if count > 0 {
-        out.push(Held { pair, count })?;
+        out.push(FlatHeld::new(Held { pair, count }))?;
     }
     Ok(())
 }
 
 /// What a change that has the right counts before makes of the held pairs, in one growth. O(n + m).
-pub fn merge(alloc: Global, held: &[Held], entries: &[Entry]) -> Result<Vec<Held>, AllocError>
+pub fn merge(
+    alloc: Global,
+    held: &[FlatHeld],
+    entries: &[Entry],
+) -> Result<Vec<FlatHeld>, AllocError>
     requires held_rise { IsCollection held.now }
     requires entries_rise { IsChangeList entries.now }
     requires before { AreBefore held.now entries.now }

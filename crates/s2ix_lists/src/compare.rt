@@ -2,18 +2,19 @@ ghost use Rattle.std.specs.Prelude.{◌≡◌, ◌++◌, [], map, IfOk, OnOk};
 ghost use Rattle.s2ix_pairs.specs.Change.{change_between, entry_with, removal_of, inverse_of};
 ghost use Rattle.s2ix_pairs.specs.Collection.{IsCollection};
 
+use crate::flat::FlatHeld;
 use crate::search::{count_first, next_from, past_pair};
-use s2ix_pairs::{Entry, Held, Pair};
+use s2ix_pairs::{Entry, Pair};
 use std::alloc::{AllocError, Global};
 
 /// Appends an entry for each held pair, which is held no more.
-fn push_removals(out: &mut Vec<Entry>, held: &[Held]) -> Result<(), AllocError>
+fn push_removals(out: &mut Vec<Entry>, held: &[FlatHeld]) -> Result<(), AllocError>
     ensures { OnOk result (out.new.items ≡ out.old.items ++ map removal_of held.now) }
 {
     for h in held {
         out.push(Entry {
-            pair: h.pair,
-            before: h.count,
+            pair: h.pair(),
+            before: h.count(),
             after: 0,
         })?;
     }
@@ -40,14 +41,19 @@ fn push_difference(
 }
 
 /// The entries of the change that leads from `old` to `new`. O(n + m).
-pub fn differences(alloc: Global, old: &[Held], new: &[Held]) -> Result<Vec<Entry>, AllocError>
+pub fn differences(
+    alloc: Global,
+    old: &[FlatHeld],
+    new: &[FlatHeld],
+) -> Result<Vec<Entry>, AllocError>
     requires old_rise { IsCollection old.now }
     requires new_rise { IsCollection new.now }
     ensures { IfOk result (λ v. v.items ≡ change_between old.now new.now) }
 {
     let mut out = Vec::new(alloc);
     let mut rest = old;
-    for held in new {
+    for flat in new {
+        let held = flat.held();
         let (smaller, from_pair) = rest.split_at(next_from(rest, held.pair));
         push_removals(&mut out, smaller)?;
         push_difference(

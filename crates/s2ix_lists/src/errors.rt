@@ -2,6 +2,7 @@ ghost use Rattle.std.specs.Prelude.{◌≡◌};
 ghost use Rattle.s2ix_lists.specs.declared.errors.ApplyError.TheVariants as apply;
 ghost use Rattle.s2ix_lists.specs.declared.errors.ChangeError.TheVariants as change;
 
+use s2id_core::OutOfMemory;
 use std::alloc::AllocError;
 use thiserror::Error;
 
@@ -26,6 +27,14 @@ impl From<AllocError> for ApplyError {
     ghost from_gives = { λ _ error. error ≡ apply.OutOfMemory };
 
     fn from(_: AllocError) -> Self {
+        ApplyError::OutOfMemory
+    }
+}
+
+impl From<OutOfMemory> for ApplyError {
+    ghost from_gives = { λ _ error. error ≡ apply.OutOfMemory };
+
+    fn from(_: OutOfMemory) -> Self {
         ApplyError::OutOfMemory
     }
 }

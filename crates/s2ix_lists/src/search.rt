@@ -2,7 +2,8 @@ ghost use Rattle.std.specs.Prelude.{◌≡◌, ◌<◌, ◌≤◌, ◌↔◌, Is
 ghost use Rattle.s2ix_pairs.specs.Collection.{IsCollection, IsCollectionFrom, AreBelow, count_in, past};
 ghost use Rattle.s2ix_pairs.specs.Pair.{rank_of};
 
-use s2ix_pairs::{Held, Pair};
+use crate::flat::FlatHeld;
+use s2ix_pairs::Pair;
 
 /// Whether two pairs are the same.
 pub fn is_same(one: Pair, other: Pair) -> bool
@@ -12,25 +13,25 @@ pub fn is_same(one: Pair, other: Pair) -> bool
 }
 
 /// How many of the held pairs come before `pair`. O(log n).
-pub fn first_from(held: &[Held], pair: Pair) -> usize
+pub fn first_from(held: &[FlatHeld], pair: Pair) -> usize
     requires { IsCollection held.now }
     ensures within { result ≤ length held.now }
     ensures below { AreBelow (rank_of pair) (take result held.now) }
     ensures rest { IsCollectionFrom (rank_of pair) (drop result held.now) }
 {
-    held.partition_point(|h| h.pair.is_before(pair))
+    held.partition_point(|h| h.pair().is_before(pair))
 }
 
 /// How many of the held pairs come before `pair`, searched from the front in growing steps: O(log k) for the
 /// answer k.
-pub fn next_from(held: &[Held], pair: Pair) -> usize
+pub fn next_from(held: &[FlatHeld], pair: Pair) -> usize
     requires { IsCollection held.now }
     ensures within { result ≤ length held.now }
     ensures below { AreBelow (rank_of pair) (take result held.now) }
     ensures rest { IsCollectionFrom (rank_of pair) (drop result held.now) }
 {
     let mut high = 1;
-    while high < held.len() && held[high - 1].pair.is_before(pair) {
+    while high < held.len() && held[high - 1].pair().is_before(pair) {
         high *= 2;
     }
     let (front, _) = held.split_at(high.min(held.len()));
@@ -38,18 +39,18 @@ pub fn next_from(held: &[Held], pair: Pair) -> usize
 }
 
 /// The count of a pair before which none is held: only the first can be it.
-pub fn count_first(held: &[Held], pair: Pair) -> u32
+pub fn count_first(held: &[FlatHeld], pair: Pair) -> u32
     requires { IsCollectionFrom (rank_of pair) held.now }
     ensures { result ≡ count_in held.now pair }
 {
     match held.first() {
-        Some(first) if is_same(first.pair, pair) => first.count,
+        Some(first) if is_same(first.pair(), pair) => first.count(),
         _ => 0,
     }
 }
 
 /// The count of a pair. O(log n).
-pub fn count_of(held: &[Held], pair: Pair) -> u32
+pub fn count_of(held: &[FlatHeld], pair: Pair) -> u32
     requires { IsCollection held.now }
     ensures { result ≡ count_in held.now pair }
 {
@@ -58,11 +59,11 @@ pub fn count_of(held: &[Held], pair: Pair) -> u32
 }
 
 /// The held pairs past `pair`, where that stands first.
-pub fn past_pair(held: &[Held], pair: Pair) -> &[Held]
+pub fn past_pair(held: &[FlatHeld], pair: Pair) -> &[FlatHeld]
     ensures { result.now ≡ past held.now (rank_of pair) }
 {
     match held.first() {
-        Some(first) if is_same(first.pair, pair) => &held[1..],
+        Some(first) if is_same(first.pair(), pair) => &held[1..],
         _ => held,
     }
 }

@@ -11,7 +11,7 @@ ghost use Rattle.s2ix_read_dump.specs.PairLines.{IsCut, IsNext, line_text, lines
 use crate::errors::{DumpError, DumpFault};
 use crate::pair_line::{next_held, next_in_front};
 use itoa::Buffer;
-use s2ix_bag::{Bag, Held, Limits};
+use s2ix_bag::{Bag, FlatHeld, Held, Limits};
 use s2ix_parts::{cut_line, first_part, three_parts};
 use std::alloc::{AllocError, Global};
 
@@ -34,7 +34,7 @@ fn is_end_of(pairs: usize, copies: u64, line: &[u8]) -> bool
 const BLOCK: usize = 128;
 
 // Room for as many pairs as a text has line feeds, within the limit.
-fn room_for(alloc: Global, limits: Limits, text: &[u8]) -> Result<Vec<Held>, AllocError>
+fn room_for(alloc: Global, limits: Limits, text: &[u8]) -> Result<Vec<FlatHeld>, AllocError>
     ensures { IfOk result (λ room. room.items ≡ []) }
 {
     let mut feeds = 0usize;
@@ -54,10 +54,10 @@ fn feeds_in(block: &[u8]) -> usize {
 }
 
 // Appends a held pair.
-fn push(held: &mut Vec<Held>, next: Held) -> Result<(), AllocError>
+fn push(held: &mut Vec<FlatHeld>, next: Held) -> Result<(), AllocError>
     ensures { OnOk result (held.new.items ≡ held.old.items ++ next ∷ []) }
 {
-    held.push(next)?;
+    held.push(FlatHeld::new(next))?;
     Ok(())
 }
 
@@ -65,7 +65,7 @@ fn push(held: &mut Vec<Held>, next: Held) -> Result<(), AllocError>
 // where what is left is the end line.
 fn next_line<'a>(
     limits: Limits,
-    before: &[Held],
+    before: &[FlatHeld],
     copies: u64,
     text: &'a [u8],
 ) -> Result<Option<(Held, &'a [u8])>, DumpError>
@@ -112,7 +112,7 @@ fn next_line<'a>(
 }
 
 // What is read of a dump below its header, into a list that is empty at first.
-fn read_below(limits: Limits, room: Vec<Held>, text: &[u8]) -> Result<Vec<Held>, DumpError>
+fn read_below(limits: Limits, room: Vec<FlatHeld>, text: &[u8]) -> Result<Vec<FlatHeld>, DumpError>
     requires { room.items ≡ [] }
     ensures bag { IfOk result (λ held. IsBag (record { limits = limits; held = held.items })) }
     ensures text { IfOk result (λ held. text.now ≡ flat_map pair_line held.items ++ end_line held.items) }
@@ -132,7 +132,7 @@ fn read_below(limits: Limits, room: Vec<Held>, text: &[u8]) -> Result<Vec<Held>,
 
 /// Reads a dump under limits: the bag whose dump the text is, or the first line that has a fault and the first fault of that line.
 ///
-/// Lines count from 1. Want of memory may be told in place of a fault of line 2 or a later one. O(n) for n bytes, and one growth.
+/// Lines count from 1. Want of memory may be told in place of a fault of line 2 or a later one. O(n) for n bytes.
 /// This project's own.
 pub fn read_dump(alloc: Global, text: &[u8], limits: Limits) -> Result<Bag, DumpError>
     ensures limits { IfOk result (λ bag. bag.limits ≡ limits) }
@@ -157,5 +157,5 @@ pub fn read_dump(alloc: Global, text: &[u8], limits: Limits) -> Result<Bag, Dump
     }
     let room = room_for(alloc, limits, below)?;
     let held = read_below(limits, room, below)?;
-    Ok(Bag::from_vec(limits, held))
+    Ok(Bag::from_held(alloc, limits, held.as_slice())?)
 }

@@ -75,3 +75,11 @@ impl From<AllocError> for DumpError {
         DumpError::OutOfMemory
     }
 }
+
+impl From<s2id_core::OutOfMemory> for DumpError {
+    ghost from_gives = { λ _ error. error ≡ OutOfMemory };
+
+    fn from(_: s2id_core::OutOfMemory) -> Self {
+        DumpError::OutOfMemory
+    }
+}

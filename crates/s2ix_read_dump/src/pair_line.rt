@@ -7,7 +7,7 @@ ghost use Rattle.s2ix_read_dump.specs.PairLines.{IsCommonFront, IsCut, IsNext, h
 ghost use Rattle.s2ix_parts.specs.Written.{comes_before};
 
 use crate::errors::DumpFault;
-use s2ix_bag::{Held, Label, Limits, Pair};
+use s2ix_bag::{FlatHeld, Held, Label, Limits, Pair};
 use s2ix_parts::{
     cell_written, count_written, label_written, number_in_front, three_parts, token_in_front,
 };
@@ -35,17 +35,17 @@ fn held_written(line: &[u8]) -> Result<Held, DumpFault>
 }
 
 // Whether a pair comes behind the last of those before, where there is one.
-fn comes_behind(before: &[Held], pair: Pair) -> bool
+fn comes_behind(before: &[FlatHeld], pair: Pair) -> bool
     ensures { result ≡ comes_before (last_pair before.now) (Some pair) }
 {
     match before.last() {
-        Some(last) => last.pair.is_before(pair),
+        Some(last) => last.pair().is_before(pair),
         None => true,
     }
 }
 
 /// The held pair of the line that follows those of the pairs before, or the fault of that line.
-pub fn next_held(limits: Limits, before: &[Held], line: &[u8]) -> Result<Held, DumpFault>
+pub fn next_held(limits: Limits, before: &[FlatHeld], line: &[u8]) -> Result<Held, DumpFault>
     requires bag { IsBag (record { limits = limits; held = before.now }) }
     requires pair { is_end line.now ≡ false }
     ensures next { IfOk result (IsNext limits before.now line.now) }
@@ -91,7 +91,7 @@ fn held_in_front(text: &[u8]) -> Option<(Held, &[u8])>
 #[inline]
 pub fn next_in_front<'a>(
     limits: Limits,
-    before: &[Held],
+    before: &[FlatHeld],
     text: &'a [u8],
 ) -> Option<(Held, &'a [u8])>
     requires { IsBag (record { limits = limits; held = before.now }) }

@@ -1,4 +1,4 @@
-ghost use Rattle.std.specs.Prelude.{◌≡◌, map, IfOk, IfErr};
+ghost use Rattle.std.specs.Prelude.{◌≡◌, ◌++◌, map, IfOk, IfErr, OnOk};
 ghost use Rattle.s2ix_pairs.specs.OfLabel.{held_of};
 ghost use Rattle.s2ix_edit.specs.Plan.{IsPlanRefusal, Plans, one_copy};
 
@@ -7,7 +7,7 @@ use crate::edits::parts::lacks_label;
 use crate::errors::PlanError;
 use crate::region::region_of;
 use s2id_core::CellId;
-use s2ix_bag::{Bag, Change, Held, Label, Pair};
+use s2ix_bag::{Bag, Change, FlatHeld, Held, Label, LabelIter, Pair};
 use std::alloc::{AllocError, Global};
 
 // The change that replaces a label's pairs by one copy at each cell of its region. O(n + m log m) for n pairs held, m of
@@ -26,19 +26,33 @@ pub(crate) fn plan(alloc: Global, bag: &Bag, label: Label) -> Result<Change, Pla
 }
 
 // The pairs that are held with a label.
-fn held_pairs(alloc: Global, bag: &Bag, label: Label) -> Result<Vec<Held>, AllocError>
+fn held_pairs(alloc: Global, bag: &Bag, label: Label) -> Result<Vec<FlatHeld>, AllocError>
     ensures { IfOk result (λ held. held.items ≡ held_of label bag.now.held) }
 {
-    bag.of_label(label).collect(alloc)
+    let mut pairs = Vec::new(alloc);
+    push_pairs(&mut pairs, bag.of_label(label))?;
+    Ok(pairs)
+}
+
+// Appends the pairs that are still to come.
+fn push_pairs(pairs: &mut Vec<FlatHeld>, left: LabelIter<'_>) -> Result<(), AllocError>
+    ensures { OnOk result (pairs.new.items ≡ pairs.old.items ++ left.entry) }
+{
+    for held in left {
+        pairs.push(FlatHeld::new(held))?;
+    }
+    Ok(())
 }
 
 // The cells' pairs under a label, each held with one copy.
-fn one_copy_each(alloc: Global, cells: &[CellId], label: Label) -> Result<Vec<Held>, AllocError>
+fn one_copy_each(alloc: Global, cells: &[CellId], label: Label) -> Result<Vec<FlatHeld>, AllocError>
     ensures { IfOk result (λ held. held.items ≡ map (one_copy label) cells.now) }
 {
-    let one_copy = |cell: &CellId| Held {
-        pair: Pair { cell: *cell, label },
-        count: 1,
+    let one_copy = |cell: &CellId| {
+        FlatHeld::new(Held {
+            pair: Pair { cell: *cell, label },
+            count: 1,
+        })
     };
     cells.iter().map(one_copy).collect(alloc)
 }

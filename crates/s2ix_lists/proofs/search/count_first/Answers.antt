@@ -4,6 +4,7 @@ use Rattle.std.proofs.lemmas.Bool.{iff_false}
 use Rattle.std.proofs.lemmas.Option.{same_Some}
 use Rattle.s2ix_pairs.specs.Pair.{rank_of}
 use Rattle.s2ix_pairs.specs.declared.pair.Held.{Held}
+use Rattle.s2ix_pairs.specs.declared.pair.Pair.{Pair}
 use Rattle.s2ix_lists.proofs.Parts.{count_first_none}
 use Rattle.s2ix_lists.proofs.search.count_first.Goals as goal
 
@@ -12,4 +13,4 @@ returns-in_default c =
     sym (count_first_none (rank_of c.args.pair) c.args.held.now c.requires
     (λ h first same.
     let is_first : c.in-Some.first.now ≡ h = same_Some _ _ (c.in-Some.ensures.value ∙ first) in
-    iff_false c.is_same.ensures c.if-is_same.false (ap (λ (x : Held). rank_of x.pair) is_first ∙ same)))
+    iff_false c.is_same.ensures c.if-is_same.false (ap (λ (p : Pair). rank_of p) c.pair.ensures ∙ ap (λ (x : Held). rank_of x.pair) is_first ∙ same)))

@@ -1,7 +1,7 @@
 -- The header is compared, and what is below it is read.
 use Rattle.std.proofs.Common.{ℕ, Option, sym, ap, ◌∙◌, subst}
 use Rattle.std.proofs.lemmas.Result.{err_from_is_err_and}
-use Rattle.s2ix_pairs.specs.Collection.{LimitedCollection}
+use Rattle.s2ix_pairs.specs.Collection.{Collection, LimitedCollection}
 use Rattle.s2ix_text.specs.Dump.{dump_text}
 use Rattle.s2ix_read_dump.specs.declared.errors.DumpFault.{DumpFault}
 use Rattle.s2ix_read_dump.specs.DumpFaults.{IsDumpError}
@@ -50,15 +50,22 @@ pub returns-clause-text : goal.returns-clause-text
 returns-clause-text c =
     let header = agrees c.in-Some.header.now c.as_slice.result.now c.ne.result c.ne.ensures c.if-ne.false ∙ c.as_slice.ensures in
     dump_put_together c.args.text.now c.in-Some.header.now c.in-Some.below.now c.in_ok-held.held.items c.in-Some.ensures.cut header c.in_ok-held.ensures.text
-    ∙ ap (λ (bag : LimitedCollection). dump_text bag.held) (sym c.from_vec.ensures)
+    ∙ ap (λ (hs : Collection). dump_text hs) (sym c.as_slice-2.ensures.value) ∙ ap (λ (bag : LimitedCollection). dump_text bag.held) (sym c.in_ok-from_held.ensures)
 
 pub returns-clause-every : goal.returns-clause-every
 returns-clause-every c =
     let header = agrees c.in-Some.header.now c.as_slice.result.now c.ne.result c.ne.ensures c.if-ne.false ∙ c.as_slice.ensures in
     let own = dump_put_together c.args.text.now c.in-Some.header.now c.in-Some.below.now c.in_ok-held.held.items c.in-Some.ensures.cut header c.in_ok-held.ensures.text in
-    λ hs is same. ap (λ (bag : LimitedCollection). bag.held) c.from_vec.ensures ∙ one_held c.args.limits c.args.text.now c.in_ok-held.held.items hs c.in_ok-held.ensures.bag is own same
+    λ hs is same. ap (λ (bag : LimitedCollection). bag.held) c.in_ok-from_held.ensures ∙ c.as_slice-2.ensures.value ∙ one_held c.args.limits c.args.text.now c.in_ok-held.held.items hs c.in_ok-held.ensures.bag is own same
 
 pub returns-clause-accepted : goal.returns-clause-accepted
 returns-clause-accepted c =
     let header = agrees c.in-Some.header.now c.as_slice.result.now c.ne.result c.ne.ensures c.if-ne.false ∙ c.as_slice.ensures in
     below_header c.args.limits c.args.text.now c.in-Some.header.now c.in-Some.below.now c.in-Some.ensures.line header ∙ c.in_ok-held.ensures.accepted
+
+pub returns-in_err-from_held-clause-refused : goal.returns-in_err-from_held-clause-refused
+returns-in_err-from_held-clause-refused c =
+    let p = err_from_is_err_and c.from_residual-in_err-from_held.result c.from_residual-in_err-from_held.ensures.1 in
+    let header = agrees c.in-Some.header.now c.as_slice.result.now c.ne.result c.ne.ensures c.if-ne.false ∙ c.as_slice.ensures in
+    let none = below_header c.args.limits c.args.text.now c.in-Some.header.now c.in-Some.below.now c.in-Some.ensures.line header ∙ c.in_ok-held.ensures.accepted in
+    rw (p.1, p.2) (subst (λ (d : Option (ℕ × DumpFault)). IsFromLine 2 d) (sym none) tt)

@@ -1,6 +1,7 @@
-use Rattle.std.proofs.Common.{◌≡◌, take, sum_by}
-use Rattle.s2ix_pairs.specs.declared.pair.Held.{Held}
+-- What was added up and what is still to come make up the whole.
+use Rattle.std.proofs.Common.{◌≡◌, ◌+◌}
+use Rattle.s2ix_pairs.specs.Collection.{copies_in}
 use Rattle.s2ix_bag.proofs.bag.Bag.copies.Given as goal
 
 abbrev pub invariant-loop-held : goal.invariant-loop-held
-invariant-loop-held l = l.copies ≡ sum_by (λ (h : Held). h.count) (take l.held-index l.held-items)
+invariant-loop-held l = l.copies + copies_in l.held-iterator ≡ copies_in l.self.held

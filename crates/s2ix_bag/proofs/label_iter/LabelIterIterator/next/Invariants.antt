@@ -3,8 +3,8 @@ use Rattle.std.proofs.Common.{◌≡◌, length}
 use Rattle.s2ix_pairs.specs.OfLabel.{held_of}
 use Rattle.s2ix_bag.proofs.label_iter.LabelIterIterator.next.Given as goal
 
-abbrev pub invariant-loop-first : goal.invariant-loop-first
-invariant-loop-first l = l.fn.self ≡ held_of l.self-inside.label l.self-inside.rest.now
+abbrev pub invariant-loop-held : goal.invariant-loop-held
+invariant-loop-held l = l.fn.self ≡ held_of l.self-inside.label l.self-inside.rest
 
-abbrev pub decreases-loop-first : goal.decreases-loop-first
-decreases-loop-first l = length l.self-inside.rest.now
+abbrev pub decreases-loop-held : goal.decreases-loop-held
+decreases-loop-held l = length l.self-inside.rest

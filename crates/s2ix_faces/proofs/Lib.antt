@@ -1,0 +1,5 @@
+pub mod Joined
+pub mod Faces
+pub mod Ends
+pub mod Steps
+pub mod Places

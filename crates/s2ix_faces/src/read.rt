@@ -1,0 +1,45 @@
+// Pairs of the lists of the faces.
+ghost use Rattle.std.specs.Prelude.{◌≡◌, ◌++◌, ◌<◌, Some, length, slice_get, OnOk};
+ghost use Rattle.s2ix_faces.specs.Faces.{AreFacesFrom, all_of};
+ghost use Rattle.s2ix_pairs.specs.Collection.{count_in};
+
+use crate::face_list::FaceList;
+use s2ix_lists::{FlatHeld, count_of};
+use s2ix_pairs::Pair;
+use std::alloc::AllocError;
+
+// The count of a pair, found in its face's list. O(log n).
+pub(crate) fn count_on(lists: &[FaceList], pair: Pair) -> u32
+    requires six { length lists.now ≡ 6 }
+    requires apart { AreFacesFrom 0 lists.now }
+    ensures { result ≡ count_in (all_of lists.now) pair }
+{
+    let own = &lists[usize::from(pair.cell.face())];
+    count_of(own.as_slice(), pair)
+}
+
+// The pair at a place of all, counted from 0. O(1): it looks at six lengths at most.
+pub(crate) fn pair_at(lists: &[FaceList], place: usize) -> FlatHeld
+    requires { place < length (all_of lists.now) }
+    ensures { slice_get (all_of lists.now) place ≡ Some result }
+{
+    let mut left = place;
+    for list in lists {
+        let held = list.as_slice();
+        if left < held.len() {
+            return held[left];
+        }
+        left -= held.len();
+    }
+    unreachable!()
+}
+
+// Appends what some lists hold, one after the other. O(n) for n pairs.
+pub(crate) fn push_all(all: &mut Vec<FlatHeld>, lists: &[FaceList]) -> Result<(), AllocError>
+    ensures { OnOk result (all.new.items ≡ all.old.items ++ all_of lists.now) }
+{
+    for list in lists {
+        all.extend_from_slice(list.as_slice())?;
+    }
+    Ok(())
+}
