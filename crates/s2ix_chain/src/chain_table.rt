@@ -5,12 +5,11 @@ ghost use Rattle.s2ix_ranges.specs.Table.{IsRangeTable, leaf_end};
 ghost use Rattle.s2ix_chain.specs.Chains.{chain_of, AreOuter, AreFirsts};
 ghost use Rattle.s2ix_chain.specs.Starts.{runs_over};
 
-use crate::node::{Node, nodes_of};
 use crate::order::sweep_order;
 use crate::places::{last_start, place_of};
 use crate::sweep::swept;
 use s2id_core::{CellId, LEAF_END, OutOfMemory};
-use s2ix_bag::{Bag, Held};
+use s2ix_bag::{Bag, FlatHeld, Held};
 use s2ix_table::{RangeRow, RangeTable};
 use std::alloc::Global;
 
@@ -18,7 +17,7 @@ use std::alloc::Global;
 /// innermost pair, so ranges share their chains (S2's `S2CellIndex`, its cell tree). Building takes O(n) for n pairs.
 #[derive(Debug, Drop)]
 pub struct ChainTable {
-    held: Vec<Node>,
+    held: Vec<FlatHeld>,
     outer: Vec<u32>,
     starts: Vec<u64>,
     firsts: Vec<u32>,
@@ -29,6 +28,15 @@ pub struct ChainTable {
     ghost table: { IsRangeTable held.items (runs_over held.items starts.items leaf_end) },
     ghost outwards: { AreOuter held.items outer.items },
     ghost leads: { AreFirsts held.items starts.items firsts.items },
+}
+
+// What a bag holds, in its order. O(n) for n pairs.
+fn held_pairs(alloc: Global, bag: &Bag) -> Result<Vec<FlatHeld>, OutOfMemory>
+    ensures list { IfOk result (λ held. held.items ≡ bag.now.held) }
+    ensures rises { IfOk result (λ held. IsCollection held.items) }
+    ensures few { IfOk result (λ held. length held.items ≤ 1000000) }
+{
+    bag.flat(alloc)
 }
 
 impl RangeTable for ChainTable {
@@ -47,7 +55,7 @@ impl RangeTable for ChainTable {
     ghost few = { λ t. t.few };
 
     fn build(alloc: Global, bag: &Bag) -> Result<Self, OutOfMemory> {
-        let held = nodes_of(alloc, bag)?;
+        let held = held_pairs(alloc, bag)?;
         let order = sweep_order(alloc, held.as_slice())?;
         let pass = swept(alloc, held.as_slice(), order.as_slice(), 1, LEAF_END)?;
         let outer = pass.outer;

@@ -3,7 +3,6 @@
 
 mod chain_table;
 pub mod laws;
-mod node;
 mod order;
 mod pass;
 mod places;

@@ -4,15 +4,15 @@ ghost use Rattle.s2ix_pairs.specs.Collection.{IsCollection};
 ghost use Rattle.s2ix_chain.specs.Order.{IsSweepOrder, ArePlaces};
 ghost use Rattle.s2ix_chain.specs.Sweep.{IsInSpan, IsFresh, IsSwept, start_at, IsEndBy, EndsBehind};
 
-use crate::node::Node;
 use crate::pass::Pass;
 use s2id_core::OutOfMemory;
+use s2ix_bag::FlatHeld;
 use std::alloc::Global;
 
 // The sweep over the leaves from one number up to another, with room for what it writes.
 pub(crate) fn swept(
     alloc: Global,
-    held: &[Node],
+    held: &[FlatHeld],
     order: &[u32],
     from: u64,
     to: u64,
@@ -41,7 +41,7 @@ pub(crate) fn swept(
 }
 
 // Goes over the leaves up to `to`: a cell is taken off where it ends, and put on where it begins.
-fn sweep(held: &[Node], order: &[u32], pass: &mut Pass, to: u64)
+fn sweep(held: &[FlatHeld], order: &[u32], pass: &mut Pass, to: u64)
     requires rises { IsCollection held.now }
     requires few { length held.now ≤ 1000000 }
     requires order { IsSweepOrder held.now order.now }
@@ -68,7 +68,7 @@ fn sweep(held: &[Node], order: &[u32], pass: &mut Pass, to: u64)
 }
 
 // Where the k-th cell of the sweep begins, and where all have begun, the end of the span.
-fn next_start(held: &[Node], order: &[u32], k: usize, to: u64) -> u64
+fn next_start(held: &[FlatHeld], order: &[u32], k: usize, to: u64) -> u64
     requires { ArePlaces held.now order.now }
     ensures { result ≡ start_at held.now order.now to k }
 {
@@ -80,7 +80,7 @@ fn next_start(held: &[Node], order: &[u32], k: usize, to: u64) -> u64
 }
 
 // Where the cell of a place ends, if it is one and ends by a bound.
-fn end_by(held: &[Node], place: u32, bound: u64) -> Option<u64>
+fn end_by(held: &[FlatHeld], place: u32, bound: u64) -> Option<u64>
     ensures ends { IfSome result (λ end. IsEndBy held.now place bound end) }
     ensures stays { result ≡ None → EndsBehind held.now place bound }
 {

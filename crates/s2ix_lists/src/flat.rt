@@ -45,6 +45,13 @@ impl FlatHeld {
         }
     }
 
+    /// The pair's cell.
+    pub fn cell(self) -> CellId
+        ensures { result ≡ self.pair.cell }
+    {
+        self.cell
+    }
+
     /// The pair.
     pub fn pair(self) -> Pair
         ensures { result ≡ self.pair }
