@@ -1,8 +1,9 @@
 /* Loaded before the program under test: refuses one growth of memory, or has one call of a device fail, come short or be
    interrupted, and counts them all. The environment says which: REFUSE_GROWTH is the number of the growth that is refused, from 1;
-   REFUSE_CALL is read or write, REFUSE_AT the number of that call, and REFUSE_HOW is fail, short or interrupt; at 0 for REFUSE_AT
-   each call comes short, to REFUSE_LENGTH bytes at most, or to one. What was counted is written to the file that REFUSE_COUNTS names, as
-   "growths reads writes". */
+   REFUSE_CALL is read or write, REFUSE_AT the number of that call, and REFUSE_HOW is fail, interrupt or short; at 0 for REFUSE_AT
+   each call comes short, to REFUSE_LENGTH bytes, or to one. Where REFUSE_HOW is random, each read comes short to some length of at most
+   REFUSE_LENGTH; where it is line, each read of a file ends behind a line feed, where there is one. What was counted is written to the
+   file that REFUSE_COUNTS names, as "growths reads writes". */
 #define _GNU_SOURCE
 #include <errno.h>
 #include <stdio.h>
@@ -67,8 +68,12 @@ static ssize_t granted(char call, unsigned long number, size_t size) {
   if (refused_call != call || (refused_at != 0 && refused_at != number)) {
     return (ssize_t)size;
   }
-  if (refused_how == 's') {
+  if (refused_how == 'l') {
+    return (ssize_t)size;
+  }
+  if (refused_how == 's' || refused_how == 'r') {
     size_t most = refused_length > 0 ? refused_length : 1;
+    most = refused_how == 'r' ? 1 + (size_t)random() % most : most;
     return (ssize_t)(size < most ? size : most);
   }
   errno = refused_how == 'i' ? EINTR : EIO;
@@ -78,7 +83,17 @@ static ssize_t granted(char call, unsigned long number, size_t size) {
 ssize_t read(int file, void *bytes, size_t size) {
   reads += 1;
   ssize_t left = granted('r', reads, size);
-  return left < 0 ? left : syscall(SYS_read, file, bytes, (size_t)left);
+  if (left < 0) {
+    return left;
+  }
+  ssize_t came = syscall(SYS_read, file, bytes, (size_t)left);
+  const char *feed = refused_how == 'l' && came > 0 ? memchr(bytes, '\n', (size_t)came) : NULL;
+  if (feed) {
+    ssize_t line = feed - (const char *)bytes + 1;
+    lseek(file, line - came, SEEK_CUR);
+    return line;
+  }
+  return came;
 }
 
 ssize_t write(int file, const void *bytes, size_t size) {

@@ -1,10 +1,13 @@
 // Counted visits and what bounds them.
 ghost use Rattle.std.specs.Prelude.{◌≡◌, ℕ};
 ghost use Rattle.s2ix_pairs.specs.declared.pair.Held.{Held};
+ghost use Rattle.s2ix_walk.specs.Costs.{no_cost};
 
 use s2id_union::CellUnion;
 use s2ix_bag::Held;
-use s2ix_table::{Cost, Meeting, Meter, RangeRow, RangeTable, Visit, ranges, visit_counted};
+use s2ix_table::{
+    Cost, Meeting, Meter, RangeRow, RangeTable, Reader, Visit, ranges, visit_counted,
+};
 use std::fmt::Display;
 use std::test::Fail;
 
@@ -100,15 +103,23 @@ fn is_bounded<T: RangeTable>(table: &T, target: &CellUnion, calls: usize, cost: 
 }
 
 // Whether the pairs that meet a target, read one by one, are these.
-fn gives<T: RangeTable>(table: &T, target: &CellUnion, pairs: &[Held]) -> bool {
-    let mut meter = Meter::new(table);
-    let mut meeting = Meeting::new(&mut meter, target);
+fn gives<'a, T: RangeTable>(meter: &mut Meter<'a, T>, target: &CellUnion, pairs: &[Held]) -> bool
+    requires { ⟦<Meter<'a, T> as Reader>⟧.spent meter.old ≡ no_cost }
+{
+    let mut meeting = Meeting::new(meter, target);
     for &held in pairs {
         if meeting.next() != Some(held) {
             return false;
         }
     }
     meeting.advance().is_none()
+}
+
+// Whether reading these pairs one by one costs as much as a visit of all says that it read.
+fn costs_the_same<T: RangeTable>(table: &T, target: &CellUnion, pairs: &[Held]) -> bool {
+    let mut meter = Meter::new(table);
+    gives(&mut meter, target, pairs)
+        && meter.cost() == seen_by(table, target, pairs, usize::MAX).cost
 }
 
 // Compares what visits of a target call, with the first call that answers false, the second, the last or none, and bounds what they read.
@@ -131,5 +142,9 @@ pub(crate) fn check_target<R: Display, T: RangeTable>(
             "the cost of a counted visit",
         )?;
     }
-    expect(gives(table, target, pairs), row, "the pairs one by one")
+    expect(
+        costs_the_same(table, target, pairs),
+        row,
+        "the pairs one by one, and what reading them costs",
+    )
 }
