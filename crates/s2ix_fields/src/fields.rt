@@ -93,7 +93,7 @@ fn behind_blank(text: &[u8]) -> &[u8]
     &text[start..]
 }
 
-// The field that a text begins with, and what is behind it; nothing where a byte above 127 stands in or behind the field.
+// The field that a text begins with, and what is behind it; nothing where a byte above 127 stands in the field or right behind it.
 fn cut_plain(text: &[u8]) -> Option<(&[u8], &[u8])>
     ensures { IfSome result (λ cut. fields_of text.now ≡ cut.0.now ∷ fields_of cut.1.now) }
 {

@@ -1,5 +1,5 @@
--- Where a walk over the ranges that a target meets stands, what it has still to give, and what it may have read so far: private words of the
--- walk.
+-- Where a walk over the ranges that a target meets stands, what it has still to give, and what it may have read so far: what the view of
+-- `Meeting` and the invariants of the walk stand on.
 use Rattle.std.specs.Prelude.{◌≡◌, ℕ, ◌+◌, ◌-◌, ◌*◌, ◌%◌, ◌<◌, ◌≤◌, nat_le, nat_lt, ◌&&◌, if◌then◌else◌, Bool, true, Option, Some, None, List, [], ◌∷◌, ◌++◌, length, slice_index_or}
 use Rattle.std.specs.List.{count_by, list_any}
 use Rattle.s2id_core.specs.declared.cell_id.CellId.{CellId}
