@@ -12,6 +12,10 @@ mod piece_tests;
 #[cfg(test)]
 mod query_tests;
 #[cfg(test)]
+mod random_pieces;
+#[cfg(test)]
+mod random_tests;
+#[cfg(test)]
 mod region_tests;
 #[cfg(test)]
 mod runs;
