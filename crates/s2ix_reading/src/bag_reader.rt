@@ -1,0 +1,52 @@
+ghost use Rattle.std.specs.Prelude.{◌≡◌, ◌≤◌, length};
+ghost use Rattle.s2ix_pairs.specs.Collection.{IsCollection};
+ghost use Rattle.s2ix_reading.specs.Reading.{IsCollection-prop};
+
+use crate::pair_reader::PairReader;
+use s2ix_bag::{Bag, Held};
+
+/// A reader of a bag that counts what is read of it. This project's own.
+#[derive(Drop)]
+pub struct BagReader<'a> {
+    bag: &'a Bag,
+    len: usize,
+    reads: u64,
+    ghost counted: { len ≡ length bag.now.held },
+    ghost rises: { IsCollection bag.now.held } by { IsCollection-prop 0 bag.now.held },
+    ghost few: { length bag.now.held ≤ 1000000 },
+}
+
+impl<'a> BagReader<'a> {
+    /// A reader of a bag that has read nothing. O(1).
+    pub fn new(bag: &'a Bag) -> BagReader<'a>
+        ensures shown { ⟦<BagReader<'a> as PairReader>⟧.shown result ≡ bag.now.held }
+        ensures unread { ⟦<BagReader<'a> as PairReader>⟧.spent result ≡ 0 }
+    {
+        BagReader {
+            bag,
+            len: bag.len(),
+            reads: 0,
+        }
+    }
+}
+
+impl PairReader for BagReader<'_> {
+    ghost shown = { λ reader. reader.bag.now.held };
+
+    ghost spent = { λ reader. reader.reads };
+
+    ghost is_read = { λ reader. record { is_collection = reader.rises; few = reader.few } };
+
+    fn len(&self) -> usize {
+        self.len
+    }
+
+    fn read(&mut self, k: usize) -> Held {
+        self.reads = self.reads.saturating_add(1);
+        self.bag.held(k)
+    }
+
+    fn reads(&self) -> u64 {
+        self.reads
+    }
+}
