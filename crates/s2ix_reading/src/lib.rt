@@ -5,7 +5,10 @@
 #![tactic(auto)]
 
 mod bag_reader;
+mod changes;
+pub mod laws;
 mod pair_reader;
 
 pub use bag_reader::BagReader;
+pub use changes::{changed_face_count, changed_faces};
 pub use pair_reader::PairReader;
