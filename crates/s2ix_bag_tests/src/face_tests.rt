@@ -9,13 +9,18 @@ const LIMITS: LimitRow = (12, 9, 1);
 // A cell of each face.
 const ALL_FACES: &str = "1:7:1 3:7:2 5:7:3 7:7:4 9:7:5 b:7:6";
 
-// What a bag becomes by these entries.
-fn changed(alloc: Global, bag: &Bag, entries: &str) -> Option<Bag> {
+// The change with these entries.
+pub(crate) fn change_with(alloc: Global, entries: &str) -> Option<Change> {
     let mut all = Vec::new(alloc);
     for text in entries.split_ascii_whitespace() {
         all.push(entry_of(text)?).ok()?;
     }
-    let change = Change::from_entries(alloc, &all).ok()?;
+    Change::from_entries(alloc, &all).ok()
+}
+
+// What a bag becomes by these entries.
+fn changed(alloc: Global, bag: &Bag, entries: &str) -> Option<Bag> {
+    let change = change_with(alloc, entries)?;
     bag.applied(alloc, &change).ok()
 }
 

@@ -1,4 +1,5 @@
-//! Tests of bags: counts, limits, labels, the changes between two bags, and changes that are done again and taken back.
+//! Tests of bags: counts, limits, labels, reading pair by pair, the changes between two bags, and changes that are done again and taken
+//! back.
 #![tactic(auto)]
 
 #[cfg(test)]
@@ -9,6 +10,8 @@ mod change_tests;
 mod face_tests;
 #[cfg(test)]
 mod limit_tests;
+#[cfg(test)]
+mod reading_tests;
 #[cfg(test)]
 mod replay_tests;
 #[cfg(test)]
