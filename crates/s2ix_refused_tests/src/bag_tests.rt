@@ -1,0 +1,78 @@
+// Bags, the changes between them, and what is done with them.
+use crate::calls::{SET_UP, answer};
+use s2ix_bag::{Bag, Change};
+use s2ix_export::export;
+use s2ix_replay::{replay, rewind};
+use s2ix_samples::{WIDEST, bag_of, holds_pairs, lists_entries};
+use std::alloc::Global;
+use std::process::Abort;
+use std::slice;
+
+// The copies of a label go to another one of the same cell.
+const OLD: &str = "04:3:1 04:9:2";
+
+const NEW: &str = "04:3:3";
+
+const THERE: &str = "04:3:1:3 04:9:2:0";
+
+const BACK: &str = "04:3:3:1 04:9:0:2";
+
+fn bag(rt: &impl Abort, alloc: Global, pairs: &str) -> Bag {
+    bag_of(alloc, WIDEST, pairs).expect(rt, SET_UP)
+}
+
+fn are_bags(old: &Bag, new: &Bag) -> bool {
+    holds_pairs(old, OLD) && holds_pairs(new, NEW)
+}
+
+// The change that leads there.
+fn change(rt: &impl Abort, alloc: Global) -> Change {
+    let (old, new) = (bag(rt, alloc, OLD), bag(rt, alloc, NEW));
+    Change::between(alloc, &old, &new).expect(rt, SET_UP)
+}
+
+#[test]
+fn refused_changes(rt: HostRuntime) {
+    let (old, new) = (bag(&rt, rt.alloc(), OLD), bag(&rt, rt.alloc(), NEW));
+    let change = answer!(&rt, Change::between(rt.alloc(), &old, &new));
+    assert!(&rt; lists_entries(&change, THERE) && are_bags(&old, &new));
+}
+
+#[test]
+fn refused_lists(rt: HostRuntime) {
+    let change = change(&rt, rt.alloc());
+    let inverse = answer!(&rt, change.inverse(rt.alloc()));
+    let listed = answer!(&rt, Change::from_entries(rt.alloc(), change.entries()));
+    let are_listed = lists_entries(&inverse, BACK) && lists_entries(&listed, THERE);
+    assert!(&rt; are_listed && lists_entries(&change, THERE));
+}
+
+#[test]
+fn refused_bags(rt: HostRuntime) {
+    let (old, change) = (bag(&rt, rt.alloc(), OLD), change(&rt, rt.alloc()));
+    let copy = answer!(&rt, old.copied(rt.alloc()));
+    let led = answer!(&rt, old.applied(rt.alloc(), &change));
+    assert!(&rt; are_bags(&copy, &led) && holds_pairs(&old, OLD) && lists_entries(&change, THERE));
+}
+
+#[test]
+fn refused_replays(rt: HostRuntime) {
+    let (old, change) = (bag(&rt, rt.alloc(), OLD), change(&rt, rt.alloc()));
+    let after = answer!(&rt, replay(rt.alloc(), &old, slice::from_ref(&change)));
+    assert!(&rt; are_bags(&old, &after) && lists_entries(&change, THERE));
+}
+
+#[test]
+fn refused_rewinds(rt: HostRuntime) {
+    let (new, change) = (bag(&rt, rt.alloc(), NEW), change(&rt, rt.alloc()));
+    let before = answer!(&rt, rewind(rt.alloc(), &new, slice::from_ref(&change)));
+    assert!(&rt; are_bags(&before, &new) && lists_entries(&change, THERE));
+}
+
+#[test]
+fn refused_exports(rt: HostRuntime) {
+    let old = bag(&rt, rt.alloc(), OLD);
+    let text = answer!(&rt, export(rt.alloc(), &old));
+    assert!(&rt; text.as_str() == "{\"pairs\":[[\"04\",3,1],[\"04\",9,2]],\"version\":1}");
+    assert!(&rt; holds_pairs(&old, OLD));
+}

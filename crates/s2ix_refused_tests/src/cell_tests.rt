@@ -1,0 +1,60 @@
+// Borders and unions.
+use crate::calls::{SET_UP, answer};
+use s2id_core::CellId;
+use s2id_cube::border;
+use s2id_samples::{cell_of, cells_of};
+use s2id_union::CellUnion;
+use std::alloc::Global;
+use std::process::Abort;
+
+// Whether some cells are those that the tokens name, in their order.
+fn are_cells(cells: &[CellId], tokens: &str) -> bool {
+    let mut left = cells.iter();
+    for token in tokens.split_ascii_whitespace() {
+        if left.next().copied() != cell_of(token) {
+            return false;
+        }
+    }
+    left.next().is_none()
+}
+
+#[test]
+fn refused_borders(rt: HostRuntime) {
+    let cell = cell_of("04").expect(&rt, "a cell");
+    let cells = answer!(&rt, border(rt.alloc(), cell, 2));
+    assert!(&rt; are_cells(&cells, "09 0f 1b 1d 93 95 b9 bf"));
+}
+
+// The union of the cells that some tokens name, and whether they are still those.
+fn union_of(rt: &(impl Abort + Print), alloc: Global, tokens: &str) -> CellUnion {
+    let cells = cells_of(alloc, tokens).expect(rt, SET_UP);
+    let union = answer!(rt, CellUnion::normalise(alloc, &cells));
+    assert!(rt; are_cells(&cells, tokens));
+    union
+}
+
+#[test]
+fn refused_unions(rt: HostRuntime) {
+    let union = union_of(&rt, rt.alloc(), "14 5 1c 0c 04");
+    assert!(&rt; are_cells(union.cells(), "1 5"));
+    let leaves = answer!(
+        &rt,
+        CellUnion::from_leaves(rt.alloc(), 1, 0x0800000000000003)
+    );
+    assert!(&rt; are_cells(leaves.cells(), "04 0800000000000001"));
+}
+
+#[test]
+fn refused_operations_on_unions(rt: HostRuntime) {
+    let (one, other) = (
+        union_of(&rt, rt.alloc(), "1"),
+        union_of(&rt, rt.alloc(), "04 5"),
+    );
+    let both = answer!(&rt, one.union(rt.alloc(), &other));
+    assert!(&rt; are_cells(both.cells(), "1 5"));
+    let shared = answer!(&rt, one.intersection(rt.alloc(), &other));
+    assert!(&rt; are_cells(shared.cells(), "04"));
+    let rest = answer!(&rt, one.difference(rt.alloc(), &other));
+    assert!(&rt; are_cells(rest.cells(), "0c 14 1c"));
+    assert!(&rt; are_cells(one.cells(), "1") && are_cells(other.cells(), "04 5"));
+}

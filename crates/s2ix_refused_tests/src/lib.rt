@@ -1,0 +1,20 @@
+//! Calls whose growths are refused one by one. `tests/hostile` runs each test here once for each growth that it asks for, and has that one
+//! refused: the call tells so and has changed nothing, and made again it answers as it does with memory.
+#![tactic(auto)]
+
+#[cfg(test)]
+mod bag_tests;
+#[cfg(test)]
+mod calls;
+#[cfg(test)]
+mod cell_tests;
+#[cfg(test)]
+mod store_tests;
+#[cfg(test)]
+mod table_tests;
+#[cfg(test)]
+mod tables;
+#[cfg(test)]
+mod text_tests;
+#[cfg(test)]
+mod word_tests;

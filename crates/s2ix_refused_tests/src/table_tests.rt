@@ -1,0 +1,69 @@
+// Tables, and what meets a target.
+use crate::calls::{SET_UP, answer};
+use crate::tables::{Row, has_ranges};
+use s2id_samples::cells_of;
+use s2id_union::CellUnion;
+use s2ix_bag::{Bag, Held, Label};
+use s2ix_chain::ChainTable;
+use s2ix_copied::CopiedTable;
+use s2ix_samples::{WIDEST, bag_of, held_of, holds_pairs, label_of};
+use s2ix_table::RangeTable;
+use std::alloc::Global;
+use std::process::Abort;
+
+const PAIRS: &str = "04:9:1 44:6:1 4c:1:1 5:3:1";
+
+const RANGES: [Row; 6] = [
+    (0x0800000000000001, "04:9:1"),
+    (0x4000000000000001, ""),
+    (0x4800000000000001, "44:6:1 5:3:1"),
+    (0x5000000000000001, "4c:1:1 5:3:1"),
+    (0x6000000000000001, "5:3:1"),
+    (0xc000000000000001, ""),
+];
+
+// Whether some pairs are these, in their order.
+fn are_pairs(pairs: &[Held], wanted: &str) -> bool {
+    let mut left = pairs.iter();
+    for text in wanted.split_ascii_whitespace() {
+        if left.next().copied() != held_of(text) {
+            return false;
+        }
+    }
+    left.next().is_none()
+}
+
+// Whether some labels are these, in their order.
+fn are_labels(labels: &[Label], wanted: &str) -> bool {
+    let mut left = labels.iter();
+    for text in wanted.split_ascii_whitespace() {
+        if left.next().copied() != label_of(text) {
+            return false;
+        }
+    }
+    left.next().is_none()
+}
+
+// Builds a table, and asks it what meets a target.
+fn check_table<T: RangeTable + Drop>(
+    rt: &(impl Abort + Print),
+    alloc: Global,
+    bag: &Bag,
+    target: &CellUnion,
+) {
+    let table = answer!(rt, T::build(alloc, bag));
+    let pairs = answer!(rt, table.meeting(alloc, target));
+    let labels = answer!(rt, table.labels(alloc, target));
+    assert!(rt; are_pairs(&pairs, "04:9:1 4c:1:1 5:3:1"));
+    assert!(rt; are_labels(&labels, "1 3 9"));
+    assert!(rt; has_ranges(&table, &RANGES) && holds_pairs(bag, PAIRS));
+}
+
+#[test]
+fn refused_tables(rt: HostRuntime) {
+    let bag = bag_of(rt.alloc(), WIDEST, PAIRS).expect(&rt, SET_UP);
+    let cells = cells_of(rt.alloc(), "04 4c").expect(&rt, SET_UP);
+    let target = CellUnion::normalise(rt.alloc(), &cells).expect(&rt, SET_UP);
+    check_table::<ChainTable>(&rt, rt.alloc(), &bag, &target);
+    check_table::<CopiedTable>(&rt, rt.alloc(), &bag, &target);
+}

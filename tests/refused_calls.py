@@ -1,0 +1,76 @@
+"""The tests of refused calls: each is run once for each growth that it asks for, with that growth refused.
+
+Such a test makes what it needs, and then makes its calls. Where a call gives up, the test prints 'refused: ' and the call's error, looks
+that everything is as it was, and makes the call again, which must answer as it does with memory. A test without memory for what it
+needs ends with a line that says so.
+"""
+import glob
+import os
+import re
+import resource
+import subprocess
+
+TOP = os.path.dirname(os.path.dirname(os.path.realpath(__file__)))
+CRATE = f"{TOP}/crates/s2ix_refused_tests"
+TESTS = f"{CRATE}/out/s2ix_refused_tests_tests"
+WELL, NO_SET_UP = "\ntest result: ok\n", "no memory for the set-up"
+# A step of a store tells of which kind its error is; a sink in memory that has no room for a text fails.
+TOLD = re.compile(r"refused: (OutOfMemory|(Edit|Undo|Redo)\(OutOfMemory\)|Write)\n")
+
+
+def names():
+    """Each test by its module and name, from the sources."""
+    for path in sorted(glob.glob(f"{CRATE}/src/*_tests.rt")):
+        with open(path, encoding="utf-8") as file:
+            found = re.findall(r"#\[test\]\nfn (\w+)\(", file.read())
+        yield from (f"{os.path.basename(path)[:-3]}::{name}" for name in found)
+
+
+def keep_no_core():
+    resource.setrlimit(resource.RLIMIT_CORE, (0, 0))
+
+
+def run(room, name, growth):
+    """Runs a test with a growth refused. Says its status, what it wrote, what it said on standard error, and how many growths it asked for."""
+    counts = f"{room.path}/counts"
+    if os.path.exists(counts):
+        os.remove(counts)
+    shim = {"LD_PRELOAD": room.shim, "REFUSE_COUNTS": counts, "REFUSE_GROWTH": str(growth)}
+    ran = subprocess.run([TESTS, name], stdin=subprocess.DEVNULL, capture_output=True, env=shim, timeout=60, preexec_fn=keep_no_core)
+    many = None
+    if os.path.exists(counts):
+        with open(counts, encoding="ascii") as file:
+            many = int(file.read().split()[0])
+    return ran.returncode, ran.stdout.decode(), ran.stderr.decode(), many
+
+
+def refuse(room, name):
+    """Refuses each growth of a test in turn. Says in how many of the runs a call gave up, and in how many what it needs."""
+    calls, set_ups, growth = 0, 0, 0
+    while True:
+        growth += 1
+        status, output, words, many = run(room, name, growth)
+        if many is not None and many < growth:
+            room.expect(f"{name}: no growth was refused: {status} {output!r} {words!r}", (status, output, words) == (0, WELL, ""))
+            return calls, set_ups
+        if status == 0:
+            gave_up = TOLD.fullmatch(output.removesuffix(WELL))
+            calls += gave_up is not None
+            is_well = output == WELL or gave_up is not None and output.endswith(WELL)
+        else:
+            is_well = NO_SET_UP in words and "refused: " not in output
+            set_ups += is_well
+        room.expect(f"{name}: growth {growth} is refused: {status} {output!r} {words!r}", is_well)
+
+
+def refuse_calls(room):
+    """Refuses each growth of each test. Says in how many runs a call gave up."""
+    if not os.access(TESTS, os.X_OK):
+        room.expect(f"there is no {TESTS}: ./test builds it", False)
+        return 0
+    refused = 0
+    for name in names():
+        calls, _ = refuse(room, name)
+        room.expect(f"{name}: none of its calls gave up", calls > 0)
+        refused += calls
+    return refused
