@@ -6,6 +6,7 @@ pub mod Levels
 pub mod Bits
 pub mod Spans
 pub mod Nested
+mod Next
 pub mod Ancestry
 mod PathTexts
 pub mod Digits

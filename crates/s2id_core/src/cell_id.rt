@@ -1,9 +1,12 @@
-ghost use Rattle.std.specs.Prelude.{◌≡◌, ℕ, ◌↔◌, ◌-◌, ◌*◌, ◌^◌, ◌<◌, ◌≤◌, IsTrue, IsSome, IfSome};
+ghost use Rattle.std.specs.Prelude.{◌≡◌, ℕ, ◌↔◌, ◌+◌, ◌-◌, ◌*◌, ◌%◌, ◌^◌, ◌<◌, ◌≤◌, IsTrue, IsSome, IfSome};
 ghost use Rattle.s2id_core.specs.Cell.{IsCellNumber};
 
 /// The leaf number that would come next after that of the last leaf: an end for spans of leaves, and no cell's number.
 /// This project's own.
 pub const LEAF_END: u64 = 0xc000000000000001;
+
+// The number where face 5 ends.
+const CURVE_END: u64 = 6 << 61;
 
 /// A cell of the S2 curve, named by its 64-bit number: three bits of face, two bits for each child position,
 /// a bit 1, then zeros (S2's `S2CellId`). Each value is a cell: there is no invalid `CellId`.
@@ -86,6 +89,22 @@ impl CellId {
     {
         CellId {
             raw: (2 * place + 1) << (60 - 2 * level),
+        }
+    }
+    /// The next cell of its level along the curve, where the first of face 0 comes after the last of face 5
+    /// (S2's `next_wrap()`).
+    pub fn next_wrap(self) -> CellId
+        ensures level { level_of result ≡ level_of self }
+        ensures place { place_of (path_of result)
+            ≡ (place_of (path_of self) + 1) % (6 * 4 ^ level_of self) }
+    {
+        let next = self.raw + 2 * self.lsb();
+        CellId {
+            raw: if next < CURVE_END {
+                next
+            } else {
+                next - CURVE_END
+            },
         }
     }
 }

@@ -48,18 +48,6 @@ impl CellId {
         }
     }
 
-    /// The next cell of its level along the curve, where the first of face 0 comes after the last of face 5
-    /// (S2's `next_wrap()`).
-    pub fn next_wrap(self) -> CellId
-        ensures level { level_of result ≡ level_of self }
-        ensures place { place_of (path_of result)
-            ≡ (place_of (path_of self) + 1) % (6 * 4 ^ level_of self) }
-    {
-        let level = self.level();
-        let next = self.place_at(level) + 1;
-        CellId::at_place(level, if next == 6 << (2 * level) { 0 } else { next })
-    }
-
     /// The level of the smallest cell that contains both; `None` for cells of two faces
     /// (S2's `GetCommonAncestorLevel()`).
     pub fn common_level(self, other: CellId) -> Option<u8>

@@ -5,7 +5,7 @@ use Rattle.std.proofs.lemmas.List.Elements.{All-head, All-tail}
 use Rattle.std.proofs.lemmas.Nat.{div-mul-add, mod-mul-add, div_below}
 use Rattle.s2id_core.specs.Path.{Path, IsPath, base_four, place_of}
 use Rattle.s2id_core.proofs.Powers.{four_step, two_step, four_pos, four_split}
-use Rattle.s2id_core.proofs.Numbers.{path_of_place-place_of, place_below}
+use Rattle.s2id_core.proofs.Numbers.{place_below}
 use Rattle.s2id_cube.specs.declared.face_ij.FaceIj.{FaceIj}
 use Rattle.s2id_cube.specs.Square.{quadrant, quarter, whole_face, square_after, square_of}
 use Rattle.s2id_cube.specs.Loops.{square_at}
@@ -31,9 +31,6 @@ square_after_at (d ∷ ds) k q h =
 pub square_of_place : (p : Path) → IsPath p → square_of p ≡ square_at (length p.digits) (place_of p)
 unfolding square_of square_at place_of
 square_of_place p path = square_after_at p.digits 0 p.face path.digits_below ∙ ap (λ k. square_at k (p.face * 4 ^ length p.digits + base_four p.digits)) (let e : length p.digits + 0 ≡ length p.digits = omega arith in e)
-
-pub face_of_place : (p : Path) → IsPath p → p.face ≡ place_of p / 4 ^ length p.digits
-face_of_place p path = ap (λ (x : Path). x.face) (sym (path_of_place-place_of p path))
 
 -- what every square of a cell is
 pub record IsSquare (k : ℕ) (s : FaceIj) : Type 0 where

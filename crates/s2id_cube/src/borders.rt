@@ -2,7 +2,6 @@ ghost use Rattle.std.specs.Prelude.{◌≡◌, ◌↔◌, ℕ, ◌+◌, ◌-◌,
 ghost use Rattle.s2id_core.specs.declared.cell_id.CellId.{CellId};
 ghost use Rattle.s2id_core.specs.Path.{Path};
 ghost use Rattle.s2id_core.specs.CellId.{raw_of, path_of, level_of};
-ghost use Rattle.s2id_cube.specs.Square.{square_of};
 ghost use Rattle.s2id_cube.specs.Border.{IsOnBorder};
 ghost use Rattle.s2id_cube.specs.Loops.{IsOverAt, IsOverFirst, IsOverSides};
 

@@ -1,4 +1,4 @@
-//! What holds of squares and shared edges, whatever code runs.
+//! Laws: functions that do nothing, and whose contracts are facts on the definitions.
 
 ghost use Rattle.std.specs.Prelude.{◌≡◌, ℕ, ◌+◌, ◌*◌, ◌/◌, ◌%◌, ◌^◌, ◌<◌, ◌≤◌, length, slice_index};
 ghost use Rattle.s2id_core.specs.declared.cell_id.CellId.{CellId};

@@ -43,7 +43,7 @@ fn run(
 
 // The store of the dump in a file, or `None` once its fault is told.
 fn load_file(rt: &HostRuntime, file: &str, limits: Limits) -> Result<Option<Store>, RunFault> {
-    let text = contents(rt, file)?;
+    let text = file_text(rt, file)?;
     let mut sink = output(rt)?;
     load_text(rt.alloc(), text.as_slice(), limits, &mut sink)
 }
@@ -62,29 +62,29 @@ fn run_over(rt: &HostRuntime, mut store: Store, stop: bool) -> Result<bool, RunF
 
 // Reads a dump.
 fn check(rt: &HostRuntime, file: &str) -> Result<bool, RunFault> {
-    let text = contents(rt, file)?;
+    let text = file_text(rt, file)?;
     let mut sink = output(rt)?;
     check_text(rt.alloc(), text.as_slice(), &mut sink)
 }
 
 // Prints a dump after a journal's changes.
 fn replay(rt: &HostRuntime, dump: &str, journal: &str) -> Result<bool, RunFault> {
-    let dump = contents(rt, dump)?;
-    let journal = contents(rt, journal)?;
+    let dump = file_text(rt, dump)?;
+    let journal = file_text(rt, journal)?;
     let mut sink = output(rt)?;
     replay_texts(rt.alloc(), dump.as_slice(), journal.as_slice(), &mut sink)
 }
 
 // Prints a dump before a journal's changes.
 fn rewind(rt: &HostRuntime, dump: &str, journal: &str) -> Result<bool, RunFault> {
-    let dump = contents(rt, dump)?;
-    let journal = contents(rt, journal)?;
+    let dump = file_text(rt, dump)?;
+    let journal = file_text(rt, journal)?;
     let mut sink = output(rt)?;
     rewind_texts(rt.alloc(), dump.as_slice(), journal.as_slice(), &mut sink)
 }
 
 // All of a file. One that can't be opened is a fault of reading.
-fn contents(rt: &HostRuntime, name: &str) -> Result<Vec<u8>, RunFault> {
+fn file_text(rt: &HostRuntime, name: &str) -> Result<Vec<u8>, RunFault> {
     let file = File::open(rt, name).map_err(|_| RunFault::Read)?;
     read_whole(rt.alloc(), &mut FromRead::new(file), TURNS)
 }

@@ -3,6 +3,9 @@
 //! A [`Bag`] is a finite map from pairs of a cell and a label to counts above 0, within stated [`Limits`]. A
 //! [`Change`] lists what differs between two bags: each pair with its count before and after. A change is
 //! applied to a bag whose counts are those before, and gives the bag whose counts are those after.
+//!
+//! [`Bag::applied`] leaves its bag as it is and gives another one, which shares the pairs of each face that the change leaves alone.
+//! [`Change::between`], [`Change::from_entries`] and [`Change::inverse`] make changes. A bag has no history: `s2ix_store` keeps one.
 #![tactic(auto)]
 
 mod bag;

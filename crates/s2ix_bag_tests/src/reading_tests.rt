@@ -1,7 +1,9 @@
 // Bags that are read pair by pair, and the faces that changes have entries on.
 use crate::face_tests::change_with;
-use s2ix_bag::Held;
-use s2ix_reading::{BagReader, PairReader, changed_face_count, changed_faces};
+use s2ix_bag::{FlatHeld, Held};
+use s2ix_reading::{
+    BagReader, PairReader, changed_face_count, changed_faces, read_changed, read_face,
+};
 use s2ix_samples::{LimitRow, bag_of, held_of};
 use std::process::Abort;
 
@@ -64,4 +66,59 @@ fn a_change_tells_its_faces(rt: HostRuntime) {
             "another number at {entries}"
         );
     }
+}
+
+// Whether these are the pairs of a text, in their order.
+fn are_pairs(held: &[FlatHeld], pairs: &str) -> bool {
+    let mut left = held.iter();
+    for text in pairs.split_ascii_whitespace() {
+        if left.next().map(|flat| flat.held()) != held_of(text) {
+            return false;
+        }
+    }
+    left.next().is_none()
+}
+
+// The pairs of a bag, a face, the pairs on it, and what reading it may cost at most: a read for each, and two searches.
+const FACES: [(&str, u8, &str, u64); 8] = [
+    ("", 0, "", 2),
+    ("04:7:1", 0, "04:7:1", 5),
+    ("04:7:1", 5, "", 4),
+    ("04:7:1", 6, "", 4),
+    ("04:7:1 1:7:2 1:9:3 5:7:4 b:7:5", 0, "04:7:1 1:7:2 1:9:3", 9),
+    ("04:7:1 1:7:2 1:9:3 5:7:4 b:7:5", 2, "5:7:4", 7),
+    ("04:7:1 1:7:2 1:9:3 5:7:4 b:7:5", 3, "", 6),
+    ("b:7:1 b:8:2 b:9:3", 5, "b:7:1 b:8:2 b:9:3", 9),
+];
+
+#[test]
+fn a_face_is_read_by_few_reads(rt: HostRuntime) {
+    for (pairs, face, wanted, most) in FACES {
+        let bag = bag_of(rt.alloc(), LIMITS, pairs).expect(&rt, pairs);
+        let mut reader = BagReader::new(&bag);
+        let held = read_face(rt.alloc(), &mut reader, face).expect(&rt, pairs);
+        assert!(rt; are_pairs(held.as_slice(), wanted), "wrong at {pairs}");
+        assert!(rt; (held.len() as u64) <= reader.reads(), "too few at {pairs}");
+        assert!(rt; reader.reads() <= most, "too many at {pairs}");
+    }
+}
+
+// Whether a face was read, and gave these pairs.
+fn gives(read: &Option<Vec<FlatHeld>>, pairs: &str) -> bool {
+    match read {
+        Some(held) => are_pairs(held.as_slice(), pairs),
+        None => false,
+    }
+}
+
+#[test]
+fn changed_faces_alone_are_read(rt: HostRuntime) {
+    let pairs = "04:7:1 1:7:2 1:9:3 5:7:4 b:7:5";
+    let bag = bag_of(rt.alloc(), LIMITS, pairs).expect(&rt, pairs);
+    let change = change_with(rt.alloc(), "3:7:2:0 5:7:3:4").expect(&rt, pairs);
+    let mut reader = BagReader::new(&bag);
+    let read = read_changed(rt.alloc(), &mut reader, &change).expect(&rt, pairs);
+    assert!(rt; gives(&read[1], "") && gives(&read[2], "5:7:4"));
+    assert!(rt; read[0].is_none() && read[3].is_none() && read[4].is_none() && read[5].is_none());
+    assert!(rt; 1 <= reader.reads() && reader.reads() <= 13);
 }

@@ -1,6 +1,6 @@
 pub mod Keys
 pub mod Chains
-pub mod Runs
+pub mod Ranges
 pub mod Passing
 pub mod Orders
 pub mod Sweeping

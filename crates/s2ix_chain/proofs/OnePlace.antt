@@ -1,12 +1,11 @@
 -- A pair has one place.
-use Rattle.std.proofs.Common.{◌≡◌, ℕ, zero, suc, ◌+◌, ◌<◌, inl, inr, Some, List, [], ◌∷◌, drop, length, get_or, slice_get, slice_index_or, refl, sym, ◌∙◌, ap, arith, Contains, subst}
+use Rattle.std.proofs.Common.{◌≡◌, ℕ, zero, suc, ◌<◌, inl, inr, Some, List, ◌∷◌, drop, length, get_or, slice_get, slice_index_or, refl, sym, ◌∙◌, ap, arith, Contains, subst}
 use Rattle.std.proofs.lemmas.Option.{slice_get-get_or, slice_get_cases}
-use Rattle.s2id_union.proofs.Lists.{cons_cases, none_in_nil, at_head}
 use Rattle.s2ix_pairs.specs.Collection.{Collection, IsCollection}
 use Rattle.s2ix_pairs.specs.declared.pair.Held.{Held}
 use Rattle.s2ix_chain.specs.Chains.{chain_of, AreOuter}
 use Rattle.s2ix_chain.specs.Once.{IsHeldAt}
-use Rattle.s2ix_chain.proofs.Chains.{place_within, chain_none}
+use Rattle.s2ix_chain.proofs.Chains.{chain_none}
 use Rattle.s2ix_chain.proofs.Passing.{same_place}
 use Rattle.s2ix_chain.proofs.Tables.{headed}
 

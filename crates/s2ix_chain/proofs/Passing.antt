@@ -16,10 +16,10 @@ use Rattle.s2ix_ranges.proofs.Tables.{IsTable, IsRangeFrom, changes_at, table_pu
 use Rattle.s2ix_chain.specs.Chains.{is_on_chain, chain_of, AreFirsts}
 use Rattle.s2ix_chain.specs.Order.{sweep_key}
 use Rattle.s2ix_chain.specs.Pass.{Progress, written}
-use Rattle.s2ix_chain.specs.Starts.{runs_over}
+use Rattle.s2ix_chain.specs.Starts.{ranges_from}
 use Rattle.s2ix_chain.proofs.Chains.{on_at, outward-true, outward-from, outward_self, outward_ends, contents_are_chain, chain_cons, in_chain, chain_has}
 use Rattle.s2ix_chain.proofs.Keys.{first_by_key, depth_by_key, depth_before, inner_nested, over_first, same_by_depth, same_by_key}
-use Rattle.s2ix_chain.proofs.Runs.{run, runs_push}
+use Rattle.s2ix_chain.proofs.Ranges.{row_from, ranges_push}
 
 pub contains_at : (held : Collection) (place : ℕ) (h : Held) → slice_get held place ≡ Some h → Contains held h
 contains_at held place h is = (place, slice_get_within held place h is, get_or_from_slice_get held place h h is)
@@ -44,7 +44,7 @@ pub record IsPassing (held : Collection) (from to last room : ℕ) (outer : List
   pub within : s.at ≤ to
   pub odd : s.at % 2 ≡ 1
   pub is_bound : from < s.at → s.at < to → IsBound held s.at
-  pub table : IsTable held from (runs_over held s.starts s.at) s.at
+  pub table : IsTable held from (ranges_from held s.starts s.at) s.at
   pub firsts : AreFirsts held s.starts s.firsts
   pub rows : s.count + length (chain_of held s.top) ≤ room
 
@@ -94,13 +94,13 @@ passes_more held from to last room outer s bound p reach lt =
     let w = reach.within in
     let b = p.begins in
     let same : (q : ℕ) → s.at ≤ q → q < bound → contents_at q held ≡ chain_of held s.top = λ q. open_contents held to last s bound q o reach in
-    let is_range : IsRangeFrom held s.at (run held s.at bound) = record {
+    let is_range : IsRangeFrom held s.at (row_from held s.at bound) = record {
       start = refl;
       odd = p.odd;
       rises = lt;
       shared = λ q odd le less. same q le less ∙ sym (same s.at (omega arith) lt);
     } in
-    let pushed = table_push held from (runs_over held s.starts s.at) s.at (run held s.at bound) p.table is_range
+    let pushed = table_push held from (ranges_from held s.starts s.at) s.at (row_from held s.at bound) p.table is_range
     (λ q le two. let odd = p.odd in changes_at held q s.at (omega arith) two (p.is_bound (omega arith) (omega arith))) in
     record {
       open_cells = record {
@@ -115,7 +115,7 @@ passes_more held from to last room outer s bound p reach lt =
       within = reach.within;
       odd = reach.odd;
       is_bound = λ _ less. reach.is_bound less;
-      table = subst (λ rs. IsTable held from rs bound) (sym (runs_push held s.starts s.at bound)) pushed;
+      table = subst (λ rs. IsTable held from rs bound) (sym (ranges_push held s.starts s.at bound)) pushed;
       firsts = map-append (chain_of held) s.firsts (s.top ∷ [])
           ∙ ap (λ cs. cs ++ chain_of held s.top ∷ []) p.firsts
           ∙ ap (λ c. map (λ start. contents_at start held) s.starts ++ c ∷ []) (sym (same s.at (omega arith) lt))

@@ -13,8 +13,9 @@ use Rattle.s2ix_ranges.proofs.Tables.{IsTable}
 use Rattle.s2ix_chain.specs.Chains.{is_on_chain, chain_of}
 use Rattle.s2ix_chain.specs.Order.{sweep_key, first_at, IsSweepOrder}
 use Rattle.s2ix_chain.specs.Pass.{Progress}
-use Rattle.s2ix_chain.specs.Starts.{runs_over}
-use Rattle.s2ix_chain.specs.Sweep.{IsInSpan, start_at, EndsBehind}
+use Rattle.s2ix_chain.specs.Starts.{ranges_from}
+use Rattle.s2ix_chain.specs.SpanTable.{IsInSpan}
+use Rattle.s2ix_chain.specs.Sweep.{start_at, EndsBehind}
 use Rattle.s2ix_chain.proofs.Chains.{on_at, none_on, outward-true, outward_ends, chain_none}
 use Rattle.s2ix_chain.proofs.Keys.{first_by_key, key_some}
 use Rattle.s2ix_chain.proofs.Orders.{at_is, key_is, reached, to_come}
@@ -40,7 +41,7 @@ fresh_passes held from to outer s span at count top starts firsts =
       within = omega arith;
       odd = ap (λ n. n % 2) at ∙ odd;
       is_bound = λ lt less. absurd (omega arith);
-      table = subst (λ ss. IsTable held from (runs_over held ss s.at) s.at) (sym starts) (sym at);
+      table = subst (λ ss. IsTable held from (ranges_from held ss s.at) s.at) (sym starts) (sym at);
       firsts = ap (map (chain_of held)) firsts ∙ sym (ap (map (λ start. contents_at start held)) starts);
       rows = let len = ap length (chain_none held s.top none) in omega arith;
     }
@@ -58,11 +59,6 @@ start_is held order to k p h is at =
 
 pub start_end : (held : Collection) (order : List ℕ) (to k : ℕ) → slice_get order k ≡ None → start_at held order to k ≡ to
 start_end held order to k is = ap (λ (o : Option ℕ). unwrap_or (option_map (first_at held) o) to) is
-
--- a place of the order, and its pair
-pub record IsTurn (held : Collection) (order : List ℕ) (k p : ℕ) (h : Held) : Type 0 where
-  pub place : slice_get order k ≡ Some p
-  pub pair : slice_get held p ≡ Some h
 
 pub next_is : (held : Collection) (order : List ℕ) (from to k : ℕ) → IsSweepOrder held order → IsInSpan held from to → k ≤ length order → IsNext held to (reached held order k) (start_at held order to k)
 next_is held order from to k o span within =

@@ -9,8 +9,9 @@ use Rattle.s2ix_chain.specs.declared.pass.Pass.{Pass}
 use Rattle.s2ix_chain.specs.Chains.{is_on_chain, chain_of}
 use Rattle.s2ix_chain.specs.Order.{sweep_key, IsSweepOrder}
 use Rattle.s2ix_chain.specs.Pass.{Progress, progress_of, written, IsWritten}
-use Rattle.s2ix_chain.specs.Starts.{runs_over}
-use Rattle.s2ix_chain.specs.Sweep.{IsInSpan, IsFresh, IsSwept, start_at, IsEndBy, EndsBehind}
+use Rattle.s2ix_chain.specs.Starts.{ranges_from}
+use Rattle.s2ix_chain.specs.SpanTable.{IsInSpan}
+use Rattle.s2ix_chain.specs.Sweep.{IsFresh, IsSwept, start_at, IsEndBy, EndsBehind}
 use Rattle.s2ix_chain.proofs.Orders.{reached, reached_next, reached_less, to_come, key_is}
 use Rattle.s2ix_chain.proofs.Passing.{IsPassing, CanReach, written_passes, written_at, written_top, with_top, popped, popped_chain, can_pop, put_on, contains_at}
 use Rattle.s2ix_chain.proofs.Sweeping.{fresh_passes, IsNext, next_is, start_is, start_end, can_reach, ends_behind}
@@ -172,7 +173,7 @@ way_ends held order from to k bound old mid o span way is_bound ahead behind w p
           ]);
       size = ap (λ (os : List ℕ). length os) w.outer ∙ way.size;
       firsts = passes.firsts;
-      table = places_from_table held from to (runs_over held (progress_of mid).starts to) span.some (subst (λ n. IsTable held from (runs_over held (progress_of mid).starts n) n) at_to passes.table);
+      table = places_from_table held from to (ranges_from held (progress_of mid).starts to) span.some (subst (λ n. IsTable held from (ranges_from held (progress_of mid).starts n) n) at_to passes.table);
       few = omega arith;
       starts_room = w.starts_room ∙ way.starts_room;
       firsts_room = w.firsts_room ∙ way.firsts_room;

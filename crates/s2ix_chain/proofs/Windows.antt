@@ -2,10 +2,10 @@
 use Rattle.std.proofs.Common.{◌≡◌, ℕ, zero, suc, ◌+◌, ◌-◌, ◌/◌, ◌<◌, ◌≤◌, inl, inr, List, length, slice_index_or, AllPairs, ap, arith}
 use Rattle.std.proofs.lemmas.Bool.{cases_eq}
 use Rattle.s2ix_pairs.specs.Collection.{Collection}
-use Rattle.s2ix_ranges.specs.Table.{leaf_end, range_at, IsRangeTable}
+use Rattle.s2ix_ranges.specs.Table.{IsTableOver, IsFound}
 use Rattle.s2ix_ranges.proofs.Tables.{limits_rise}
-use Rattle.s2ix_chain.specs.Starts.{runs_over, IsLastStart}
-use Rattle.s2ix_chain.proofs.Runs.{length_runs, run_start, run_limit, last_limit}
+use Rattle.s2ix_chain.specs.Starts.{ranges_from, IsLastStart}
+use Rattle.s2ix_chain.proofs.Ranges.{length_ranges, range_start, range_limit, last_limit}
 
 -- the start that is looked for is among `size` from `first` on
 pub record IsWindow (starts : List ℕ) (leaf first size : ℕ) : Type 0 where
@@ -45,41 +45,43 @@ window_down starts leaf first size lt w behind rises =
 
 -- ---- the starts of a table
 
-pub starts_rise : (held : Collection) (starts : List ℕ) → IsRangeTable held (runs_over held starts leaf_end) → AllPairs (λ a b. a < b) starts
-starts_rise held starts t i zero d lt within = absurd (omega arith)
-starts_rise held starts t i (suc j) d lt within =
-    let n = length_runs held starts leaf_end in
+pub starts_rise : (held : Collection) (from to : ℕ) (starts : List ℕ) → IsTableOver held from to (ranges_from held starts to) → AllPairs (λ a b. a < b) starts
+starts_rise held from to starts t i zero d lt within = absurd (omega arith)
+starts_rise held from to starts t i (suc j) d lt within =
+    let n = length_ranges held starts to in
     let a = t.rises i (omega arith) in
-    let b = limits_rise held 1 leaf_end (runs_over held starts leaf_end) t i j (omega arith) (omega arith) in
+    let b = limits_rise held from to (ranges_from held starts to) t i j (omega arith) (omega arith) in
     let c = t.next j (suc j) (omega arith) (omega arith) in
-    let e = run_start held starts leaf_end i d (omega arith) in
-    let f = run_start held starts leaf_end (suc j) d within in
+    let e = range_start held starts to i d (omega arith) in
+    let f = range_start held starts to (suc j) d within in
     omega arith
 
-pub first_start : (held : Collection) (starts : List ℕ) → IsRangeTable held (runs_over held starts leaf_end) → (0 < length starts) × (slice_index_or starts 0 0 ≡ 1)
-first_start held starts t =
-    let n = length_runs held starts leaf_end in
+pub first_start : (held : Collection) (from to : ℕ) (starts : List ℕ) → IsTableOver held from to (ranges_from held starts to) → (0 < length starts) × (slice_index_or starts 0 0 ≡ from)
+first_start held from to starts t =
+    let n = length_ranges held starts to in
     let some = t.some in
     let within : 0 < length starts = omega arith in
-    let e = run_start held starts leaf_end 0 0 within in
+    let e = range_start held starts to 0 0 within in
     let f = t.first in
     (within, omega arith)
 
 -- the range that a search finds
-pub found_start : (held : Collection) (starts : List ℕ) (leaf k : ℕ) → IsRangeTable held (runs_over held starts leaf_end) → leaf < leaf_end → IsLastStart starts leaf k → (k < length (runs_over held starts leaf_end)) × ((range_at (runs_over held starts leaf_end) k).start ≤ leaf) × (leaf < (range_at (runs_over held starts leaf_end) k).limit)
-found_start held starts leaf k t on l =
-    let n = length_runs held starts leaf_end in
+pub found_start : (held : Collection) (from to : ℕ) (starts : List ℕ) (leaf k : ℕ) → IsTableOver held from to (ranges_from held starts to) → leaf < to → IsLastStart starts leaf k → IsFound (ranges_from held starts to) k leaf
+found_start held from to starts leaf k t on l =
+    let n = length_ranges held starts to in
     let within = l.within in
     let by = l.by in
-    let e = run_start held starts leaf_end k 0 within in (
-      omega arith,
-      omega arith,
-      elim (cases_eq (k + 1) (length starts)) [
-        | inl last ↦ (let f = last_limit held starts leaf_end k last in omega arith)
-        | inr ne ↦
-            (let less : k + 1 < length starts = omega (arith, ne) in
-            let f = run_limit held starts leaf_end k (k + 1) 0 (omega arith) less in
-            let b = l.next less in
-            omega arith)
-      ],
-    )
+    let e = range_start held starts to k 0 within in
+    record {
+      within = omega arith;
+      start = omega arith;
+      limit =
+          elim (cases_eq (k + 1) (length starts)) [
+            | inl last ↦ (let f = last_limit held starts to k last in omega arith)
+            | inr ne ↦
+                (let less : k + 1 < length starts = omega (arith, ne) in
+                let f = range_limit held starts to k (k + 1) 0 (omega arith) less in
+                let b = l.next less in
+                omega arith)
+          ];
+    }

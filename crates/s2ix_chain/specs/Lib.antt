@@ -1,5 +1,7 @@
 pub mod Chains
 pub mod Starts
+pub mod SpanTable
+pub mod Nodes
 pub mod Order
 pub mod Pass
 pub mod Sweep

@@ -5,10 +5,10 @@ use Rattle.s2ix_ranges.specs.Contents.{contents_at}
 use Rattle.s2ix_ranges.specs.Table.{Range}
 
 -- the ranges with these starts, each up to the next start and the last one up to `to`
-abbrev pub runs_over : Collection → List ℕ → ℕ → List Range
-runs_over held [] to = []
-runs_over held (start ∷ starts) to =
-    record { start = start; limit = slice_index_or starts 0 to; contents = contents_at start held } ∷ runs_over held starts to
+abbrev pub ranges_from : Collection → List ℕ → ℕ → List Range
+ranges_from held [] to = []
+ranges_from held (start ∷ starts) to =
+    record { start = start; limit = slice_index_or starts 0 to; contents = contents_at start held } ∷ ranges_from held starts to
 
 -- a start by a leaf, whose next one, if there is one, is behind the leaf
 pub record IsLastStart (starts : List ℕ) (leaf k : ℕ) : Type 0 where

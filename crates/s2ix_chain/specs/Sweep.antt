@@ -1,7 +1,7 @@
 -- What a sweep over a span of leaves makes.
-use Rattle.std.specs.Prelude.{◌≡◌, ℕ, ◌+◌, ◌*◌, ◌%◌, ◌<◌, ◌≤◌, Some, List, length, slice_get, option_map, Contains}
+use Rattle.std.specs.Prelude.{◌≡◌, ℕ, ◌+◌, ◌*◌, ◌<◌, ◌≤◌, Some, List, length, slice_get, option_map}
 use Rattle.std.specs.Option.{unwrap_or}
-use Rattle.s2id_core.specs.CellId.{first_of, end_of}
+use Rattle.s2id_core.specs.CellId.{end_of}
 use Rattle.s2ix_pairs.specs.Collection.{Collection}
 use Rattle.s2ix_pairs.specs.declared.pair.Held.{Held}
 use Rattle.s2ix_ranges.specs.Table.{IsTableOver}
@@ -9,15 +9,7 @@ use Rattle.s2ix_chain.specs.declared.pass.Pass.{Pass}
 use Rattle.s2ix_chain.specs.Chains.{AreOuter, AreFirsts}
 use Rattle.s2ix_chain.specs.Order.{first_at}
 use Rattle.s2ix_chain.specs.Pass.{progress_of}
-use Rattle.s2ix_chain.specs.Starts.{runs_over}
-
--- held cells lie in a span of leaves
-pub record IsInSpan (held : Collection) (from to : ℕ) : Type 0 where
-  pub odd : from % 2 ≡ 1
-  pub odd_end : to % 2 ≡ 1
-  pub some : from < to
-  pub begins : (h : Held) → Contains held h → from ≤ first_of h.pair.cell
-  pub ends : (h : Held) → Contains held h → end_of h.pair.cell ≤ to
+use Rattle.s2ix_chain.specs.Starts.{ranges_from}
 
 -- nothing is open or written, and there is room for all
 pub record IsFresh (held : Collection) (pass : Pass) : Type 0 where
@@ -32,7 +24,7 @@ pub record IsSwept (held : Collection) (from to : ℕ) (pass : Pass) : Type 0 wh
   pub outer : AreOuter held pass.outer.items
   pub size : length pass.outer.items ≡ length held
   pub firsts : AreFirsts held (progress_of pass).starts (progress_of pass).firsts
-  pub table : IsTableOver held from to (runs_over held (progress_of pass).starts to)
+  pub table : IsTableOver held from to (ranges_from held (progress_of pass).starts to)
   pub few : pass.count ≤ 2 * length held + 1
   pub starts_room : length pass.starts.items ≡ 2 * length held + 1
   pub firsts_room : length pass.firsts.items ≡ 2 * length held + 1

@@ -1,13 +1,10 @@
-ghost use Rattle.std.specs.Prelude.{◌≡◌, ◌<◌, ◌≤◌, ◌+◌, ◌*◌, IfOk, length, take};
+ghost use Rattle.std.specs.Prelude.{◌≡◌, ◌≤◌, IfOk, length};
 ghost use Rattle.s2ix_pairs.specs.Collection.{IsCollection};
 ghost use Rattle.s2ix_table.specs.Pairs.{IsCollection-prop};
 ghost use Rattle.s2ix_ranges.specs.Table.{IsRangeTable, leaf_end};
-ghost use Rattle.s2ix_chain.specs.Chains.{chain_of, AreOuter, AreFirsts};
-ghost use Rattle.s2ix_chain.specs.Starts.{runs_over};
+ghost use Rattle.s2ix_chain.specs.Chains.{chain_of};
 
-use crate::order::sweep_order;
-use crate::places::{last_start, place_of};
-use crate::sweep::swept;
+use crate::span_table::SpanTable;
 use s2id_core::{CellId, LEAF_END, OutOfMemory};
 use s2ix_bag::{Bag, FlatHeld, Held};
 use s2ix_table::{RangeRow, RangeTable};
@@ -17,17 +14,12 @@ use std::alloc::Global;
 /// innermost pair, so ranges share their chains (S2's `S2CellIndex`, its cell tree). Building takes O(n) for n pairs.
 #[derive(Debug, Drop)]
 pub struct ChainTable {
-    held: Vec<FlatHeld>,
-    outer: Vec<u32>,
-    starts: Vec<u64>,
-    firsts: Vec<u32>,
-    ghost rises: { IsCollection held.items } by { IsCollection-prop 0 held.items },
-    ghost few: { length held.items ≤ 1000000 },
-    ghost size: { length outer.items ≡ length held.items },
-    ghost ranges_few: { length starts.items ≤ 2 * length held.items + 1 },
-    ghost table: { IsRangeTable held.items (runs_over held.items starts.items leaf_end) },
-    ghost outwards: { AreOuter held.items outer.items },
-    ghost leads: { AreFirsts held.items starts.items firsts.items },
+    pub(crate) span: SpanTable,
+    ghost rises: { IsCollection span.held } by { IsCollection-prop 0 span.held },
+    ghost few: { length span.held ≤ 1000000 },
+    ghost begins: { span.from ≡ 1 },
+    ghost ends: { span.to ≡ leaf_end },
+    ghost table: { IsRangeTable span.held span.ranges },
 }
 
 // What a bag holds, in its order. O(n) for n pairs.
@@ -42,11 +34,11 @@ fn held_pairs(alloc: Global, bag: &Bag) -> Result<Vec<FlatHeld>, OutOfMemory>
 impl RangeTable for ChainTable {
     type Place = u32;
 
-    ghost pairs = { λ t. t.held.items };
+    ghost pairs = { λ t. t.span.held };
 
-    ghost ranges = { λ t. runs_over t.held.items t.starts.items leaf_end };
+    ghost ranges = { λ t. t.span.ranges };
 
-    ghost chain = { λ t p. chain_of t.held.items p };
+    ghost chain = { λ t p. chain_of t.span.held p };
 
     ghost is_collection = { λ t. t.rises };
 
@@ -56,55 +48,37 @@ impl RangeTable for ChainTable {
 
     fn build(alloc: Global, bag: &Bag) -> Result<Self, OutOfMemory> {
         let held = held_pairs(alloc, bag)?;
-        let order = sweep_order(alloc, held.as_slice())?;
-        let pass = swept(alloc, held.as_slice(), order.as_slice(), 1, LEAF_END)?;
-        let outer = pass.outer;
-        let starts = trimmed(pass.starts, pass.count);
-        let firsts = trimmed(pass.firsts, pass.count);
-        Ok(ChainTable {
-            held,
-            outer,
-            starts,
-            firsts,
-        })
+        let span = SpanTable::over(alloc, held, 1, LEAF_END)?;
+        Ok(ChainTable { span })
     }
 
+    #[inline]
     fn range_count(&self) -> usize {
-        self.starts.len()
+        self.span.range_count()
     }
 
+    #[inline]
     fn range(&self, k: usize) -> RangeRow {
-        let start = self.starts[k];
-        let limit = if k < self.starts.len() - 1 {
-            self.starts[k + 1]
-        } else {
-            LEAF_END
-        };
-        RangeRow { start, limit }
+        self.span.range(k)
     }
 
+    #[inline]
     fn first(&self, k: usize) -> Option<u32> {
-        place_of(self.held.as_slice(), self.firsts[k])
+        self.span.first(k)
     }
 
+    #[inline]
     fn held_at(&self, place: u32) -> Held {
-        self.held[place as usize].held()
+        self.span.held_at(place)
     }
 
+    #[inline]
     fn outer(&self, place: u32) -> Option<u32> {
-        place_of(self.held.as_slice(), self.outer[place as usize])
+        self.span.outer(place)
     }
 
+    #[inline]
     fn find(&self, leaf: CellId) -> usize {
-        last_start(self.starts.as_slice(), leaf.raw())
+        self.span.find(leaf)
     }
-}
-
-// The first elements of a list, in no more room than they need; where a smaller block is refused, they stay where they are.
-fn trimmed<T: Drop>(mut list: Vec<T>, len: usize) -> Vec<T>
-    ensures { result.items ≡ take len list.items }
-{
-    list.truncate(len);
-    list.shrink_to_fit();
-    list
 }

@@ -1,10 +1,33 @@
 //! What is true of every table with shared chains. Each function is a law: it does nothing, and its contract is the fact.
 ghost use Rattle.std.specs.Prelude.{◌≡◌, ℕ, ◌+◌, ◌*◌, ◌≤◌, Contains, length};
 ghost use Rattle.s2ix_pairs.specs.declared.pair.Held.{Held};
+ghost use Rattle.s2ix_chain.specs.Chains.{chain_of};
 ghost use Rattle.s2ix_chain.specs.Once.{IsHeldAt};
+ghost use Rattle.s2ix_chain.specs.SpanTable.{IsSpanTable};
 
 use crate::chain_table::ChainTable;
+use crate::span_table::SpanTable;
 use s2ix_table::RangeTable;
+
+/// The ranges of a span's table are those of its pairs over the span, at most 2 * n + 1 for n pairs.
+pub fn ranges_are_those_of_the_span(table: &SpanTable)
+    ensures { IsSpanTable table.now }
+{
+    let _ = &table.held;
+}
+
+/// A pair has one place in a span's table: each chain that holds it holds it at a place, and two chains hold it at the same one.
+pub fn span_keeps_a_pair_once(table: &SpanTable)
+    ensures place { (start : ℕ) (h : Held)
+        → Contains (chain_of table.now.held start) h
+        → (p : ℕ) × IsHeldAt (chain_of table.now.held) start h p }
+    ensures same { (start other p q : ℕ) (h : Held)
+        → IsHeldAt (chain_of table.now.held) start h p
+        → IsHeldAt (chain_of table.now.held) other h q
+        → p ≡ q }
+{
+    let _ = &table.held;
+}
 
 /// A pair has one place: each chain that holds it holds it at a place, and two chains hold it at the same one.
 pub fn keeps_a_pair_once(table: &ChainTable)
@@ -15,9 +38,13 @@ pub fn keeps_a_pair_once(table: &ChainTable)
         → IsHeldAt (⟦<ChainTable as RangeTable>⟧.chain table.now) start h p
         → IsHeldAt (⟦<ChainTable as RangeTable>⟧.chain table.now) other h q
         → p ≡ q }
-{}
+{
+    span_keeps_a_pair_once(&table.span);
+}
 
 /// A table of n pairs has at most 2 * n + 1 ranges.
 pub fn has_few_ranges(table: &ChainTable)
     ensures { length (⟦<ChainTable as RangeTable>⟧.ranges table.now) ≤ 2 * length (⟦<ChainTable as RangeTable>⟧.pairs table.now) + 1 }
-{}
+{
+    ranges_are_those_of_the_span(&table.span);
+}

@@ -7,7 +7,7 @@ ghost use Rattle.s2ix_chain.specs.Starts.{IsLastStart};
 use s2ix_bag::FlatHeld;
 
 // A number as a place, where it is one.
-pub(crate) fn place_of(held: &[FlatHeld], number: u32) -> Option<u32>
+pub(crate) fn as_place(held: &[FlatHeld], number: u32) -> Option<u32>
     ensures { LeadsTo (chain_of held.now) result (chain_of held.now number) }
 {
     if (number as usize) < held.len() {

@@ -2,7 +2,8 @@
 ghost use Rattle.std.specs.Prelude.{◌≡◌, ◌≤◌, None, length, IfOk, IfSome};
 ghost use Rattle.s2ix_pairs.specs.Collection.{IsCollection};
 ghost use Rattle.s2ix_chain.specs.Order.{IsSweepOrder, ArePlaces};
-ghost use Rattle.s2ix_chain.specs.Sweep.{IsInSpan, IsFresh, IsSwept, start_at, IsEndBy, EndsBehind};
+ghost use Rattle.s2ix_chain.specs.SpanTable.{IsInSpan};
+ghost use Rattle.s2ix_chain.specs.Sweep.{IsFresh, IsSwept, start_at, IsEndBy, EndsBehind};
 
 use crate::pass::Pass;
 use s2id_core::OutOfMemory;

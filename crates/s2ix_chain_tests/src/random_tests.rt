@@ -11,8 +11,8 @@ use s2ix_table::RangeTable;
 use std::alloc::Global;
 use std::test::Fail;
 
-// The union of some cells.
-fn target_of(alloc: Global, cells: Option<Vec<CellId>>) -> Result<CellUnion, Fail> {
+/// The union of some cells.
+pub(crate) fn target_of(alloc: Global, cells: Option<Vec<CellId>>) -> Result<CellUnion, Fail> {
     let cells = cells.ok_or("no cells")?;
     Ok(CellUnion::normalise(alloc, &cells)?)
 }

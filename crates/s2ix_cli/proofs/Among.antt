@@ -12,12 +12,12 @@ use Rattle.s2ix_step.specs.Step.{step_of}
 use Rattle.s2ix_step.specs.Wants.{LineWants}
 use Rattle.s2ix_step.specs.declared.outcome.LineOutcome.{LineOutcome}
 use Rattle.s2ix_cli.specs.declared.run_end.RunEnd.{RunEnd}
-use Rattle.s2ix_cli.specs.Coming.{ended_behind, unended_behind, held_of, held_more}
+use Rattle.s2ix_cli.specs.Coming.{ended_behind, unended_behind, kept_of, held_more}
 use Rattle.s2ix_cli.specs.Piece.{HasNoFeed, Reached, Stopped, CountsMore, FaultAmong}
-use Rattle.s2ix_cli.specs.Run.{KeepsOn, StandsAfter, last_line}
+use Rattle.s2ix_cli.specs.Run.{KeepsOn, StandsAfter, line_left}
 use Rattle.s2ix_cli.specs.Script.{MOST, output_of}
 use Rattle.s2ix_cli.proofs.Feeds.{ended_behind-line, unended_behind-line, ended_behind-none, unended_behind-none}
-use Rattle.s2ix_cli.proofs.Holding.{held_of-some, held_more-of}
+use Rattle.s2ix_cli.proofs.Holding.{held_more-of}
 use Rattle.s2ix_cli.proofs.Steps.{StandsAfter-none, StandsAfter-append, CountsMore-none, CountsMore-append, Reached-append, counted_one, plus_none}
 
 -- a line that is not refused with `stop` lets the run go on
@@ -28,13 +28,13 @@ keeps_one stop s line on = λ e. rw (ap (λ b. b && (step_of s line).is_refused)
 pub record Among (stop : Bool) (front piece rest : List ℕ) (old now : State) (held : Option (List ℕ)) (before behind : Option (List ℕ)) (start told : RunEnd) : Type 0 where
   pub done : List (List ℕ)
   pub come : List ℕ
-  pub is_held : held ≡ held_of come
+  pub is_held : held ≡ kept_of come
   pub ended : ended_behind front piece ≡ done ++ ended_behind come rest
   pub unended : unended_behind front piece ≡ unended_behind come rest
   pub reached : Reached stop done old now before behind start told
 
 -- nothing of the piece is done
-pub Among-none : (stop : Bool) (front piece : List ℕ) (s : State) (held : Option (List ℕ)) (out : Option (List ℕ)) (told : RunEnd) → held ≡ held_of front
+pub Among-none : (stop : Bool) (front piece : List ℕ) (s : State) (held : Option (List ℕ)) (out : Option (List ℕ)) (told : RunEnd) → held ≡ kept_of front
     → Among stop front piece piece s s held out out told told
 Among-none stop front piece s held out told is =
     record {
@@ -63,7 +63,7 @@ with_one s line told more new before behind outcome taken lines refused =
 pub Among-on : (stop : Bool) (front piece rest end behind_it : List ℕ) (old now new : State) (held : Option (List ℕ)) (before mid behind : Option (List ℕ)) (start told more : RunEnd) (outcome : LineOutcome)
     → (a : Among stop front piece rest old now held before mid start told) → rest ≡ end ++ 10 ∷ behind_it → HasNoFeed end → Takes (step_of now (a.come ++ end)) new mid behind outcome
     → more.lines ≡ min (told.lines + (if is_counted outcome then 1 else 0)) MOST → more.refused ≡ min (told.refused + (if is_refused outcome then 1 else 0)) MOST
-    → stop && is_refused outcome ≡ false → (held' : Option (List ℕ)) → held' ≡ held_of [] → Among stop front piece behind_it old new held' before behind start more
+    → stop && is_refused outcome ≡ false → (held' : Option (List ℕ)) → held' ≡ kept_of [] → Among stop front piece behind_it old new held' before behind start more
 Among-on stop front piece rest end behind_it old now new held before mid behind start told more outcome a cut none taken lines refused on held' is =
     let line = a.come ++ end in
     let one : Reached stop (line ∷ []) now new mid behind told more =
@@ -140,35 +140,21 @@ Among-fault fault stop front piece rest end behind_it old now new held before mi
 -- no line ends in the rest, which is held
 pub Among-end : (stop : Bool) (front piece rest : List ℕ) (old now : State) (held held' : Option (List ℕ)) (before behind : Option (List ℕ)) (start told : RunEnd)
     → Among stop front piece rest old now held before behind start told → HasNoFeed rest → held' ≡ held_more held rest
-    → Reached stop (ended_behind front piece) old now before behind start told × (held' ≡ held_of (unended_behind front piece))
+    → Reached stop (ended_behind front piece) old now before behind start told × (held' ≡ kept_of (unended_behind front piece))
 Among-end stop front piece rest old now held held' before behind start told a none is = (
   subst (λ l. Reached stop l old now before behind start told) (sym (a.ended ∙ ap (λ l. a.done ++ l) (ended_behind-none a.come rest none) ∙ append-nil a.done)) a.reached,
-  is ∙ ap (λ h. held_more h rest) a.is_held ∙ held_more-of a.come rest ∙ ap held_of (sym (a.unended ∙ unended_behind-none a.come rest none)),
+  is ∙ ap (λ h. held_more h rest) a.is_held ∙ held_more-of a.come rest ∙ ap kept_of (sym (a.unended ∙ unended_behind-none a.come rest none)),
 )
 
 -- ---- the last line
 
--- nothing is held
-pub CarriesLast-none : (front : List ℕ) (s : State) (out : Option (List ℕ)) (told : RunEnd) → Some [] ≡ held_of front
-    → StandsAfter (last_line front) s s out out × CountsMore (last_line front) s told told
-CarriesLast-none front s out told is =
-    subst (λ l. StandsAfter (last_line l) s s out out × CountsMore (last_line l) s told told) (held_of-some [] front is) (StandsAfter-none s out, CountsMore-none s told)
-
 -- a line with a byte
-last_is : (front : List ℕ) → (Some [] ≡ held_of front → ⊥) → last_line front ≡ front ∷ []
+last_is : (front : List ℕ) → (Some [] ≡ kept_of front → ⊥) → line_left front ≡ front ∷ []
 last_is [] some = absurd (some refl)
 last_is (byte ∷ front) some = refl
 
-pub CarriesLast-line : (front : List ℕ) (s new : State) (before behind : Option (List ℕ)) (outcome : LineOutcome) (told more : RunEnd) → (Some [] ≡ held_of front → ⊥)
-    → Takes (step_of s (front ++ [])) new before behind outcome
-    → more.lines ≡ min (told.lines + (if is_counted outcome then 1 else 0)) MOST → more.refused ≡ min (told.refused + (if is_refused outcome then 1 else 0)) MOST
-    → StandsAfter (last_line front) s new before behind × CountsMore (last_line front) s told more
-CarriesLast-line front s new before behind outcome told more some taken lines refused =
-    let taken' = subst (λ l. Takes (step_of s l) new before behind outcome) (append-nil front) taken in
-    rw (last_is front some) (Takes-stands front s new before behind outcome taken', with_one s front told more new before behind outcome taken' lines refused)
-
-pub CarriesLast-fault : (fault : RunFault) (stop : Bool) (front : List ℕ) (s new : State) (before behind : Option (List ℕ)) → (Some [] ≡ held_of front → ⊥)
-    → StopsAt (step_of s (front ++ [])) s new before behind fault → IsWantOnlyIf (LineWants s (front ++ [])) fault → FaultAmong fault stop (last_line front) s new before behind
+pub CarriesLast-fault : (fault : RunFault) (stop : Bool) (front : List ℕ) (s new : State) (before behind : Option (List ℕ)) → (Some [] ≡ kept_of front → ⊥)
+    → StopsAt (step_of s (front ++ [])) s new before behind fault → IsWantOnlyIf (LineWants s (front ++ [])) fault → FaultAmong fault stop (line_left front) s new before behind
 CarriesLast-fault fault stop front s new before behind some at wants =
-    FaultAmong-line fault stop (last_line front) [] [] front s s new before before behind (last_is front some) (λ e. refl) (StandsAfter-none s before)
+    FaultAmong-line fault stop (line_left front) [] [] front s s new before before behind (last_is front some) (λ e. refl) (StandsAfter-none s before)
     (subst (λ l. StopsAt (step_of s l) s new before behind fault) (append-nil front) at) (subst (λ l. IsWantOnlyIf (LineWants s l) fault) (append-nil front) wants)

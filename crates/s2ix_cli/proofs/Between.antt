@@ -1,31 +1,28 @@
 -- Between the pieces of a run, and how it ends.
 use Rattle.std.proofs.Common.{◌≡◌, ℕ, suc, ◌+◌, ◌<◌, ◌≤◌, ◌&&◌, min, Bool, true, false, if◌then◌else◌, Option, Ok, Err, List, [], ◌∷◌, ◌++◌, length, drop, refl, sym, ap, ◌∙◌, subst, inl, inr, append_assoc, append-nil, length-append, arith}
 use Rattle.std.specs.Io.KnownBytes.{Appends, Consumes, Keeps}
-use Rattle.std.proofs.KnownBytes.{Appends-kept, Consumes-nil, Consumes-trans, Consumes-kept}
+use Rattle.std.proofs.KnownBytes.{Appends-kept, Consumes-trans, Consumes-kept}
 use Rattle.s2ix_edit.specs.State.{State}
 use Rattle.s2ix_io.specs.Faults.{source_faults}
 use Rattle.s2ix_io.specs.Pieces.{ReadsOn}
 use Rattle.s2ix_io.specs.Puts.{AppendsFront}
 use Rattle.s2ix_io.specs.declared.run_fault.RunFault.{RunFault}
 use Rattle.s2ix_io.specs.declared.run_fault.RunFault.TheVariants.{Read, Write, OutOfMemory, ReaderTooLong}
-use Rattle.s2ix_script.specs.Lines.{lines_of}
+use Rattle.s2ix_script.specs.Lines.{script_lines}
 use Rattle.s2ix_step.specs.Step.{step_of}
 use Rattle.s2ix_cli.specs.declared.run_end.RunEnd.{RunEnd}
 use Rattle.s2ix_cli.specs.declared.coming.PieceEnd.{PieceEnd}
 use Rattle.s2ix_cli.specs.declared.coming.PieceEnd.TheVariants.{GoesOn, Stops}
-use Rattle.s2ix_cli.specs.Coming.{ended_behind, unended_behind, ended_lines, held_of}
+use Rattle.s2ix_cli.specs.Coming.{ended_behind, unended_behind, ended_lines, kept_of}
 use Rattle.s2ix_cli.specs.Piece.{CarriesPiece, CountsMore, Reached, Stopped, FaultAmong}
-use Rattle.s2ix_cli.specs.Run.{AreRead, Flushes, Ran, KeepsOn, StandsAfter, Finishes, last_line}
+use Rattle.s2ix_cli.specs.Run.{AreRead, Flushes, Ran, KeepsOn, StandsAfter, Finishes, line_left}
 use Rattle.s2ix_cli.specs.Script.{MOST, after, carried_lines, counted_in, output_of, refused_in}
-use Rattle.s2ix_cli.proofs.Feeds.{ended_behind-append, unended_behind-append, lines_of-ended}
-use Rattle.s2ix_cli.proofs.Steps.{after-append, KeepsOn-append, StandsAfter-none, StandsAfter-append, CountsMore-append, Reached-append, carried_lines-append, carried_lines-all, carried_lines-stop, refused_in-append}
+use Rattle.s2ix_cli.proofs.Feeds.{ended_behind-append, unended_behind-append, script_lines-ended}
+use Rattle.s2ix_cli.proofs.Steps.{after-append, KeepsOn-append, StandsAfter-append, CountsMore-append, Reached-append, carried_lines-append, carried_lines-all, carried_lines-stop, refused_in-append}
 
 -- the counts before the first line
 abbrev pub none_told : RunEnd
 none_told = record { lines = 0; refused = 0 }
-
-more_none : (n : ℕ) → n ≡ n + 0
-more_none n = omega arith
 
 suc_is : (n : ℕ) → suc n ≡ n + 1
 suc_is n = omega arith
@@ -38,7 +35,7 @@ either_way true lines = refl
 either_way false lines = refl
 
 -- lines that are carried out to the end of a run
-Finishes-of : (stop : Bool) (input : List ℕ) (carried : List (List ℕ)) (old new : State) (before behind flushed : Option (List ℕ)) (more : RunEnd) → carried_lines stop old (lines_of input) ≡ carried
+Finishes-of : (stop : Bool) (input : List ℕ) (carried : List (List ℕ)) (old new : State) (before behind flushed : Option (List ℕ)) (more : RunEnd) → carried_lines stop old (script_lines input) ≡ carried
     → StandsAfter carried old new before behind → CountsMore carried old none_told more → Keeps behind flushed → Finishes stop input old new before flushed more
 Finishes-of stop input carried old new before behind flushed more is stands counts kept =
     record {
@@ -52,23 +49,8 @@ Finishes-of stop input carried old new before behind flushed more is stands coun
 pub record Between (left left' : Option (List ℕ)) (stop : Bool) (old now : State) (held : Option (List ℕ)) (before behind : Option (List ℕ)) (told : RunEnd) : Type 0 where
   pub input : List ℕ
   pub consumed : Consumes left left' input
-  pub is_held : held ≡ held_of (unended_behind [] input)
+  pub is_held : held ≡ kept_of (unended_behind [] input)
   pub reached : Reached stop (ended_lines input) old now before behind none_told told
-
--- nothing is read
-pub Between-none : (left : Option (List ℕ)) (stop : Bool) (s : State) (held : Option (List ℕ)) (out : Option (List ℕ)) (told : RunEnd) → held ≡ held_of [] → told.lines ≡ 0 → told.refused ≡ 0
-    → Between left left stop s s held out out told
-Between-none left stop s held out told is lines refused =
-    record {
-      input = [];
-      consumed = Consumes-nil left;
-      is_held = is;
-      reached = record {
-        keeps_on = λ e. refl;
-        stands = StandsAfter-none s out;
-        counts = record { lines = λ n e. lines ∙ e ∙ ap (λ k. min k MOST) (more_none n); refused = λ n e. refused ∙ e ∙ ap (λ k. min k MOST) (more_none n) };
-      };
-    }
 
 Reached-kept : (stop : Bool) (lines : List (List ℕ)) (old new : State) (before between behind : Option (List ℕ)) (told more : RunEnd) → Reached stop lines old new before between told more → Keeps between behind
     → Reached stop lines old new before behind told more
@@ -81,13 +63,13 @@ ended-more input piece = ended_behind-append [] input piece
 -- a piece more, and what was written is flushed
 pub Between-more : (left mid left' : Option (List ℕ)) (stop : Bool) (old now new : State) (held held' : Option (List ℕ)) (before between behind flushed : Option (List ℕ)) (told more : RunEnd) (piece : List ℕ)
     → (b : Between left mid stop old now held before between told) → Consumes mid left' piece
-    → Reached stop (ended_behind (unended_behind [] b.input) piece) now new between behind told more × (held' ≡ held_of (unended_behind (unended_behind [] b.input) piece))
+    → Reached stop (ended_behind (unended_behind [] b.input) piece) now new between behind told more × (held' ≡ kept_of (unended_behind (unended_behind [] b.input) piece))
     → Keeps behind flushed → Between left left' stop old new held' before flushed more
 Between-more left mid left' stop old now new held held' before between behind flushed told more piece b consumed carried kept =
     record {
       input = b.input ++ piece;
       consumed = Consumes-trans left mid left' b.input piece b.consumed consumed;
-      is_held = carried.1 ∙ ap held_of (sym (unended_behind-append [] b.input piece));
+      is_held = carried.1 ∙ ap kept_of (sym (unended_behind-append [] b.input piece));
       reached = subst (λ l. Reached stop l old new before flushed none_told more) (sym (ended-more b.input piece))
           (Reached-kept stop _ old new before behind flushed none_told more
           (Reached-append stop (ended_lines b.input) (ended_behind (unended_behind [] b.input) piece) old now new before between behind none_told told more b.reached carried.0) kept);
@@ -140,7 +122,7 @@ Between-ended End IsLast left mid stop old now held before behind told b = (b.in
 -- the sink fails at the flush behind lines of which none ends the run
 Between-flushing : (End : Type 0) (IsLast : List ℕ → List ℕ → Type 0) (left mid left' : Option (List ℕ)) (stop : Bool) (old now new : State) (held held' : Option (List ℕ)) (before between behind flushed : Option (List ℕ)) (told more : RunEnd) (piece : List ℕ)
     → (b : Between left mid stop old now held before between told) → Consumes mid left' piece
-    → Reached stop (ended_behind (unended_behind [] b.input) piece) now new between behind told more × (held' ≡ held_of (unended_behind (unended_behind [] b.input) piece))
+    → Reached stop (ended_behind (unended_behind [] b.input) piece) now new between behind told more × (held' ≡ kept_of (unended_behind (unended_behind [] b.input) piece))
     → Keeps behind flushed → (input : List ℕ) × Consumes left left' input × Ran (Err Write) End IsLast stop input old new before flushed
 unfolding Ran
 Between-flushing End IsLast left mid left' stop old now new held held' before between behind flushed told more piece b consumed carried kept =
@@ -212,47 +194,47 @@ Between-fault fault End IsLast left mid left' stop old now new held before betwe
 
 -- one in the last line
 pub Between-fault_last : (fault : RunFault) (End : Type 0) (IsLast : List ℕ → List ℕ → Type 0) (left left' : Option (List ℕ)) (stop : Bool) (old now new : State) (held : Option (List ℕ)) (before between behind : Option (List ℕ)) (told : RunEnd)
-    → End → (b : Between left left' stop old now held before between told) → FaultAmong fault stop (last_line (unended_behind [] b.input)) now new between behind
+    → End → (b : Between left left' stop old now held before between told) → FaultAmong fault stop (line_left (unended_behind [] b.input)) now new between behind
     → (input : List ℕ) × Consumes left left' input × Ran (Err fault) End IsLast stop input old new before behind
 Between-fault_last fault End IsLast left left' stop old now new held before between behind told end b f = (
   b.input,
   b.consumed,
-  FaultAmong-ran fault End IsLast stop b.input (lines_of b.input) (ended_lines b.input) (last_line (unended_behind [] b.input)) old now new before between behind told
-      (inr (end, refl)) (lines_of-ended b.input) b.reached f,
+  FaultAmong-ran fault End IsLast stop b.input (script_lines b.input) (ended_lines b.input) (line_left (unended_behind [] b.input)) old now new before between behind told
+      (inr (end, refl)) (script_lines-ended b.input) b.reached f,
 )
 
 -- ---- the end of the input
 
-carried_last : (stop : Bool) (s : State) (front : List ℕ) → carried_lines stop s (last_line front) ≡ last_line front
+carried_last : (stop : Bool) (s : State) (front : List ℕ) → carried_lines stop s (line_left front) ≡ line_left front
 carried_last stop s [] = refl
 carried_last stop s (byte ∷ front) = ap (λ l. (byte ∷ front) ∷ l) (either_way (stop && (step_of s (byte ∷ front)).is_refused) [])
 
 pub Between-finishes : (left left' : Option (List ℕ)) (stop : Bool) (old now new : State) (held : Option (List ℕ)) (before between behind flushed : Option (List ℕ)) (told more : RunEnd)
-    → (b : Between left left' stop old now held before between told) → StandsAfter (last_line (unended_behind [] b.input)) now new between behind
-    → CountsMore (last_line (unended_behind [] b.input)) now told more → Keeps behind flushed → Finishes stop b.input old new before flushed more
+    → (b : Between left left' stop old now held before between told) → StandsAfter (line_left (unended_behind [] b.input)) now new between behind
+    → CountsMore (line_left (unended_behind [] b.input)) now told more → Keeps behind flushed → Finishes stop b.input old new before flushed more
 Between-finishes left left' stop old now new held before between behind flushed told more b stands counts kept =
-    let last = last_line (unended_behind [] b.input) in
+    let last = line_left (unended_behind [] b.input) in
     Finishes-of stop b.input (ended_lines b.input ++ last) old new before behind flushed more
-    (ap (carried_lines stop old) (lines_of-ended b.input) ∙ carried_lines-append stop old (ended_lines b.input) last b.reached.keeps_on
+    (ap (carried_lines stop old) (script_lines-ended b.input) ∙ carried_lines-append stop old (ended_lines b.input) last b.reached.keeps_on
     ∙ ap (λ l. ended_lines b.input ++ l) (carried_last stop (after old (ended_lines b.input)) (unended_behind [] b.input)))
     (StandsAfter-append (ended_lines b.input) last old now new before between behind b.reached.stands stands)
     (CountsMore-append (ended_lines b.input) last old now none_told told more b.reached.stands.store b.reached.counts counts)
     kept
 
 pub Between-ends : (End : Type 0) (IsLast : List ℕ → List ℕ → Type 0) (left left' : Option (List ℕ)) (stop : Bool) (old now new : State) (held : Option (List ℕ)) (before between behind flushed : Option (List ℕ)) (told more : RunEnd)
-    → End → (b : Between left left' stop old now held before between told) → StandsAfter (last_line (unended_behind [] b.input)) now new between behind × CountsMore (last_line (unended_behind [] b.input)) now told more
+    → End → (b : Between left left' stop old now held before between told) → StandsAfter (line_left (unended_behind [] b.input)) now new between behind × CountsMore (line_left (unended_behind [] b.input)) now told more
     → Keeps behind flushed → (input : List ℕ) × Consumes left left' input × Ran (Ok more) End IsLast stop input old new before flushed
 unfolding Ran
 Between-ends End IsLast left left' stop old now new held before between behind flushed told more end b last kept =
     (b.input, b.consumed, (inl end, Between-finishes left left' stop old now new held before between behind flushed told more b last.0 last.1 kept))
 
 pub Between-ends_flushing : (End : Type 0) (IsLast : List ℕ → List ℕ → Type 0) (left left' : Option (List ℕ)) (stop : Bool) (old now new : State) (held : Option (List ℕ)) (before between behind flushed : Option (List ℕ)) (told more : RunEnd)
-    → End → (b : Between left left' stop old now held before between told) → StandsAfter (last_line (unended_behind [] b.input)) now new between behind × CountsMore (last_line (unended_behind [] b.input)) now told more
+    → End → (b : Between left left' stop old now held before between told) → StandsAfter (line_left (unended_behind [] b.input)) now new between behind × CountsMore (line_left (unended_behind [] b.input)) now told more
     → Keeps behind flushed → (input : List ℕ) × Consumes left left' input × Ran (Err Write) End IsLast stop input old new before flushed
 unfolding Ran
 Between-ends_flushing End IsLast left left' stop old now new held before between behind flushed told more end b last kept =
     let f = Between-finishes left left' stop old now new held before between behind flushed told more b last.0 last.1 kept in
-    (b.input, b.consumed, (lines_of b.input, inr (end, refl), inr (record { store = f.store; output = f.output })))
+    (b.input, b.consumed, (script_lines b.input, inr (end, refl), inr (record { store = f.store; output = f.output })))
 
 -- ---- a refused line ends the run
 
@@ -307,7 +289,7 @@ unfolding Ran
 Between-stops End IsLast left mid left' stop old now new held before between behind flushed told more piece b consumed s last kept =
     let h = Between-halts left mid stop old now new held before between behind told more piece b s in
     let input = b.input ++ piece in
-    let is : carried_lines stop old (lines_of input) ≡ h.carried = ap (carried_lines stop old) (lines_of-ended input) ∙ h.are_carried (last_line (unended_behind [] input)) in (
+    let is : carried_lines stop old (script_lines input) ≡ h.carried = ap (carried_lines stop old) (script_lines-ended input) ∙ h.are_carried (line_left (unended_behind [] input)) in (
       input,
       Consumes-trans left mid left' b.input piece b.consumed consumed,
       (

@@ -1,14 +1,11 @@
 -- The lines that end in a text, and what is left behind them.
-use Rattle.std.proofs.Common.{◌≡◌, ◌≢◌, ℕ, zero, suc, ◌+◌, ◌<◌, Some, None, List, [], ◌∷◌, ◌++◌, length, get_or, take, drop, refl, sym, ap, ◌∙◌, inl, inr, append_assoc, append-nil, arith}
-use Rattle.std.proofs.lemmas.Bool.{eq-eqb, eqb-true, ne_eqb}
+use Rattle.std.proofs.Common.{◌≡◌, ◌≢◌, ℕ, zero, suc, ◌<◌, List, [], ◌∷◌, ◌++◌, length, get_or, take, refl, sym, ap, ◌∙◌, inl, inr, append_assoc, append-nil, arith}
+use Rattle.std.proofs.lemmas.Bool.{ne_eqb}
 use Rattle.std.proofs.lemmas.Bool.Decides.{eqb_tells}
-use Rattle.std.proofs.lemmas.List.{drop_more, take-append-drop}
-use Rattle.std.proofs.lemmas.List.Elements.{All-from_get_or}
-use Rattle.bstr.specs.Find.{IsFirstByte, is_byte}
-use Rattle.s2ix_script.specs.Lines.{with_first, lines_of}
+use Rattle.s2ix_script.specs.Lines.{with_first, script_lines}
 use Rattle.s2ix_cli.specs.Coming.{ended_behind, unended_behind, ended_lines}
 use Rattle.s2ix_cli.specs.Piece.{HasNoFeed}
-use Rattle.s2ix_cli.specs.Run.{last_line}
+use Rattle.s2ix_cli.specs.Run.{line_left}
 
 -- ---- a text up to its first line feed
 
@@ -22,19 +19,6 @@ no_feed_before [] (suc end) before = λ k d h. absurd (omega arith)
 no_feed_before (byte ∷ text) zero before = λ k d h. absurd (omega arith)
 no_feed_before (byte ∷ text) (suc end) before =
     no_feed_first byte (take end text) (before 0 (omega arith) (omega arith)) (no_feed_before text end (λ k h i. before (suc k) (omega arith) (omega arith)))
-
--- what a search for a line feed finds
-pub cut_at_first : (text : List ℕ) (end : ℕ) → IsFirstByte (is_byte 10) text (Some end) → (text ≡ take end text ++ 10 ∷ drop (end + 1) text) × HasNoFeed (take end text)
-cut_at_first text end found =
-    let is : get_or text end 0 ≡ 10 = eqb-true (get_or text end 0) 10 found.1 in
-    let inside : end < length text = found.0.high in (
-      sym (take-append-drop end text) ∙ ap (λ rest. take end text ++ rest) (drop_more text end 0 inside ∙ ap (λ byte. byte ∷ drop (end + 1) text) is),
-      no_feed_before text end (λ k h i is_feed. found.0.before k (omega arith) h (eq-eqb (get_or text k 0) 10 is_feed)),
-    )
-
--- and what it says where it finds none
-pub none_at_all : (text : List ℕ) → IsFirstByte (is_byte 10) text None → HasNoFeed text
-none_at_all text none = All-from_get_or (λ byte. byte ≢ 10) text 0 (λ k h is_feed. none k (omega arith) h (eq-eqb (get_or text k 0) 10 is_feed))
 
 -- ---- what ends in a text
 
@@ -83,28 +67,28 @@ unended_behind-append front (byte ∷ text) more =
 
 -- bytes at the front of the first of some lines
 abbrev onto : List ℕ → List (List ℕ) → List (List ℕ)
-onto front [] = last_line front
+onto front [] = line_left front
 onto front (line ∷ lines) = (front ++ line) ∷ lines
 
 onto-nil : (lines : List (List ℕ)) → onto [] lines ≡ lines
 onto-nil [] = refl
 onto-nil (line ∷ lines) = refl
 
-last_line-more : (front : List ℕ) (byte : ℕ) → last_line (front ++ byte ∷ []) ≡ (front ++ byte ∷ []) ∷ []
-last_line-more [] byte = refl
-last_line-more (x ∷ front) byte = refl
+line_left-more : (front : List ℕ) (byte : ℕ) → line_left (front ++ byte ∷ []) ≡ (front ++ byte ∷ []) ∷ []
+line_left-more [] byte = refl
+line_left-more (x ∷ front) byte = refl
 
 onto-with_first : (front : List ℕ) (byte : ℕ) (lines : List (List ℕ)) → onto (front ++ byte ∷ []) lines ≡ onto front (with_first byte lines)
-onto-with_first front byte [] = last_line-more front byte
+onto-with_first front byte [] = line_left-more front byte
 onto-with_first front byte (line ∷ lines) = ap (λ l. l ∷ lines) (append_assoc front (byte ∷ []) line)
 
-lines_behind : (front text : List ℕ) → ended_behind front text ++ last_line (unended_behind front text) ≡ onto front (lines_of text)
+lines_behind : (front text : List ℕ) → ended_behind front text ++ line_left (unended_behind front text) ≡ onto front (script_lines text)
 lines_behind front [] = refl
 lines_behind front (byte ∷ text) =
     elim (eqb_tells byte 10) [
-      | inl w ↦ rw w.0 (ap (λ lines. front ∷ lines) (lines_behind [] text ∙ onto-nil (lines_of text)) ∙ ap (λ l. l ∷ lines_of text) (sym (append-nil front)))
-      | inr w ↦ rw w.0 (lines_behind (front ++ byte ∷ []) text ∙ onto-with_first front byte (lines_of text))
+      | inl w ↦ rw w.0 (ap (λ lines. front ∷ lines) (lines_behind [] text ∙ onto-nil (script_lines text)) ∙ ap (λ l. l ∷ script_lines text) (sym (append-nil front)))
+      | inr w ↦ rw w.0 (lines_behind (front ++ byte ∷ []) text ∙ onto-with_first front byte (script_lines text))
     ]
 
-pub lines_of-ended : (text : List ℕ) → lines_of text ≡ ended_lines text ++ last_line (unended_behind [] text)
-lines_of-ended text = sym (lines_behind [] text ∙ onto-nil (lines_of text))
+pub script_lines-ended : (text : List ℕ) → script_lines text ≡ ended_lines text ++ line_left (unended_behind [] text)
+script_lines-ended text = sym (lines_behind [] text ∙ onto-nil (script_lines text))

@@ -14,19 +14,11 @@ use Rattle.s2ix_step.specs.Carry.{StopsAt, Takes}
 use Rattle.s2ix_step.specs.Step.{Step, step_of, step_at, no_step}
 use Rattle.s2ix_step.specs.declared.outcome.LineOutcome.TheVariants.{Refused}
 use Rattle.s2ix_text.specs.Answers.{no_line}
-use Rattle.s2ix_cli.specs.Coming.{held_of, held_more}
-
-some_held : (is_too_long : Bool) (bytes line : List ℕ) → Some bytes ≡ (if is_too_long then None else Some line) → bytes ≡ line
-some_held true bytes line e = absurd (none-some bytes (sym e))
-some_held false bytes line e = same_Some bytes line e
+use Rattle.s2ix_cli.specs.Coming.{kept_of, held_more}
 
 none_held : (is_too_long : Bool) (line : List ℕ) → None ≡ (if is_too_long then None else Some line) → is_too_long ≡ true
 none_held true line e = refl
 none_held false line e = absurd (none-some line e)
-
--- a line that is held is whole
-pub held_of-some : (bytes line : List ℕ) → Some bytes ≡ held_of line → bytes ≡ line
-held_of-some bytes line e = some_held (nat_lt LONGEST (length line)) bytes line e
 
 -- a line that is too long
 meaning_of-too_long : (line : List ℕ) → nat_lt LONGEST (length line) ≡ true → meaning_of line ≡ Err LineTooLong
@@ -34,16 +26,16 @@ unfolding meaning_of
 meaning_of-too_long line e = ap (λ b. if b then Err LineTooLong else meaning_of_fields (fields_of line)) e
 
 -- a line of which nothing is held is too long
-pub held_of-none : (s : State) (line : List ℕ) → None ≡ held_of line → step_of s line ≡ no_step s (fault_name LineTooLong)
+pub kept_of-none : (s : State) (line : List ℕ) → None ≡ kept_of line → step_of s line ≡ no_step s (fault_name LineTooLong)
 unfolding step_of
-held_of-none s line e = ap (step_at s) (meaning_of-too_long line (none_held (nat_lt LONGEST (length line)) line e))
+kept_of-none s line e = ap (step_at s) (meaning_of-too_long line (none_held (nat_lt LONGEST (length line)) line e))
 
 -- what is held once more bytes have come
-held_more_at : (is_too_long : Bool) (front bytes : List ℕ) → nat_lt LONGEST (length front) ≡ is_too_long → held_more (if is_too_long then None else Some front) bytes ≡ held_of (front ++ bytes)
+held_more_at : (is_too_long : Bool) (front bytes : List ℕ) → nat_lt LONGEST (length front) ≡ is_too_long → held_more (if is_too_long then None else Some front) bytes ≡ kept_of (front ++ bytes)
 held_more_at true front bytes e = rw (lt-ltb LONGEST (length (front ++ bytes)) (omega (arith, ltb-true LONGEST (length front) e, length-append front bytes))) refl
 held_more_at false front bytes e = refl
 
-pub held_more-of : (front bytes : List ℕ) → held_more (held_of front) bytes ≡ held_of (front ++ bytes)
+pub held_more-of : (front bytes : List ℕ) → held_more (kept_of front) bytes ≡ kept_of (front ++ bytes)
 held_more-of front bytes = held_more_at (nat_lt LONGEST (length front)) front bytes refl
 
 -- ---- a line that is refused

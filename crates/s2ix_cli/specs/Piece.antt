@@ -11,15 +11,15 @@ use Rattle.s2ix_step.specs.Wants.{LineWants}
 use Rattle.s2ix_cli.specs.declared.run_end.RunEnd.{RunEnd}
 use Rattle.s2ix_cli.specs.declared.coming.PieceEnd.{PieceEnd}
 use Rattle.s2ix_cli.specs.declared.coming.PieceEnd.TheVariants.{GoesOn, Stops}
-use Rattle.s2ix_cli.specs.Coming.{ended_behind, unended_behind, held_of}
-use Rattle.s2ix_cli.specs.Run.{KeepsOn, StandsAfter, last_line}
+use Rattle.s2ix_cli.specs.Coming.{ended_behind, unended_behind, kept_of}
+use Rattle.s2ix_cli.specs.Run.{KeepsOn, StandsAfter, line_left}
 use Rattle.s2ix_cli.specs.Script.{MOST, after, counted_in, output_of, refused_in}
 
 -- no byte of a text is a line feed
 abbrev pub HasNoFeed : List ℕ → Type 0
 HasNoFeed text = All (λ byte. byte ≢ 10) text
 
--- counts of a run, and those of lines more: both tell no more than the greatest count
+-- `more` is the counts `told` with those of the lines carried out added; a count that would pass the greatest stays at it
 pub record CountsMore (carried : List (List ℕ)) (old : State) (told more : RunEnd) : Type 0 where
   pub lines : (n : ℕ) → told.lines ≡ min n MOST → more.lines ≡ min (n + counted_in old carried) MOST
   pub refused : (n : ℕ) → told.refused ≡ min n MOST → more.refused ≡ min (n + refused_in old carried) MOST
@@ -74,11 +74,11 @@ FaultAmong ReaderTooLong stop lines old new before behind = ⊥
 -- the lines that end in a piece were carried out, where `front` had come of the first, and this is held of the next
 abbrev pub CarriesPiece : Result PieceEnd RunFault → Bool → List ℕ → List ℕ → State → State → Option (List ℕ) → Option (List ℕ) → Option (List ℕ) → RunEnd → Type 0
 CarriesPiece (Ok (GoesOn more)) stop front piece old new held before behind told =
-    Reached stop (ended_behind front piece) old new before behind told more × (held ≡ held_of (unended_behind front piece))
+    Reached stop (ended_behind front piece) old new before behind told more × (held ≡ kept_of (unended_behind front piece))
 CarriesPiece (Ok (Stops more)) stop front piece old new held before behind told = Stopped stop (ended_behind front piece) old new before behind told more
 CarriesPiece (Err fault) stop front piece old new held before behind told = FaultAmong fault stop (ended_behind front piece) old new before behind
 
 -- the last line was carried out, of which this is all
 abbrev pub CarriesLast : Result RunEnd RunFault → Bool → List ℕ → State → State → Option (List ℕ) → Option (List ℕ) → RunEnd → Type 0
-CarriesLast (Ok more) stop front old new before behind told = StandsAfter (last_line front) old new before behind × CountsMore (last_line front) old told more
-CarriesLast (Err fault) stop front old new before behind told = FaultAmong fault stop (last_line front) old new before behind
+CarriesLast (Ok more) stop front old new before behind told = StandsAfter (line_left front) old new before behind × CountsMore (line_left front) old told more
+CarriesLast (Err fault) stop front old new before behind told = FaultAmong fault stop (line_left front) old new before behind

@@ -6,7 +6,7 @@ use Rattle.s2ix_io.specs.Pieces.{ReadsOn, ReadsToEnd}
 use Rattle.s2ix_io.specs.Puts.{AppendsFront}
 use Rattle.s2ix_io.specs.declared.run_fault.RunFault.{RunFault}
 use Rattle.s2ix_io.specs.declared.run_fault.RunFault.TheVariants.{Read, Write, OutOfMemory, ReaderTooLong}
-use Rattle.s2ix_script.specs.Lines.{lines_of}
+use Rattle.s2ix_script.specs.Lines.{script_lines}
 use Rattle.s2ix_step.specs.Step.{step_of}
 use Rattle.s2ix_cli.specs.declared.run_end.RunEnd.{RunEnd}
 use Rattle.s2ix_cli.specs.Coming.{ended_lines}
@@ -30,12 +30,12 @@ pub record BringsLast {S : Type 0} (left : S → Option (List ℕ)) (gives : S �
 
 -- the lines of an input that a run can carry out: those that are ended, and where the end of the input was read its last line too
 abbrev pub AreRead : Type 0 → List ℕ → List (List ℕ) → Type 0
-AreRead End input lines = (lines ≡ ended_lines input) ⊎ (End × (lines ≡ lines_of input))
+AreRead End input lines = (lines ≡ ended_lines input) ⊎ (End × (lines ≡ script_lines input))
 
 -- the last line of a script, where no line feed ends it: if it has a byte
-abbrev pub last_line : List ℕ → List (List ℕ)
-last_line [] = []
-last_line (byte ∷ rest) = (byte ∷ rest) ∷ []
+abbrev pub line_left : List ℕ → List (List ℕ)
+line_left [] = []
+line_left (byte ∷ rest) = (byte ∷ rest) ∷ []
 
 -- no line was refused that would have ended the run
 abbrev pub KeepsOn : Bool → State → List (List ℕ) → Type 0
@@ -48,10 +48,10 @@ pub record StandsAfter (lines : List (List ℕ)) (old new : State) (before behin
 
 -- a run carried the lines of `input` out and wrote exactly their output
 pub record Finishes (stop : Bool) (input : List ℕ) (old new : State) (before behind : Option (List ℕ)) (told : RunEnd) : Type 0 where
-  pub store : new ≡ after old (carried_lines stop old (lines_of input))
-  pub output : Appends before behind (output_of old (carried_lines stop old (lines_of input)))
-  pub lines : told.lines ≡ min (counted_in old (carried_lines stop old (lines_of input))) MOST
-  pub refused : told.refused ≡ min (refused_in old (carried_lines stop old (lines_of input))) MOST
+  pub store : new ≡ after old (carried_lines stop old (script_lines input))
+  pub output : Appends before behind (output_of old (carried_lines stop old (script_lines input)))
+  pub lines : told.lines ≡ min (counted_in old (carried_lines stop old (script_lines input))) MOST
+  pub refused : told.refused ≡ min (refused_in old (carried_lines stop old (script_lines input))) MOST
 
 -- with `stop` a run was ended by a refused line, whose line feed the last piece brought; `IsLast` says which piece was the last one, and
 -- what was read before it
@@ -62,8 +62,8 @@ pub record IsStopped (IsLast : List ℕ → List ℕ → Type 0) (stop : Bool) (
   pub are : input ≡ front ++ piece
   pub is_last : IsLast front piece
   pub keeps_on : refused_in old (ended_lines front) ≡ 0
-  pub refused : 0 < refused_in old (carried_lines stop old (lines_of input))
-  pub ended : length (carried_lines stop old (lines_of input)) ≤ length (ended_lines input)
+  pub refused : 0 < refused_in old (carried_lines stop old (script_lines input))
+  pub ended : length (carried_lines stop old (script_lines input)) ≤ length (ended_lines input)
 
 -- no more could be read: the store stands after all lines whose ends were read, and their whole output went out
 pub record StopsReading (stop : Bool) (input : List ℕ) (old new : State) (before behind : Option (List ℕ)) : Type 0 where

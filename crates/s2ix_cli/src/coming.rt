@@ -4,7 +4,7 @@ ghost use Rattle.s2ix_io.specs.Faults.{CanCount, sink_faults, IsWantOnlyIf};
 ghost use Rattle.s2ix_step.specs.Carry.{Carries, is_refused as is_refused_line};
 ghost use Rattle.s2ix_step.specs.Step.{step_of};
 ghost use Rattle.s2ix_step.specs.Wants.{LineWants};
-ghost use Rattle.s2ix_cli.specs.Coming.{held_of};
+ghost use Rattle.s2ix_cli.specs.Coming.{kept_of};
 ghost use Rattle.s2ix_cli.specs.Piece.{HasNoFeed, CarriesPiece, CarriesLast};
 
 use crate::held_line::HeldLine;
@@ -37,7 +37,7 @@ pub(crate) fn carry_piece<K: Sink>(
     stop: bool,
 ) -> Result<PieceEnd, RunFault>
     requires { CanCount (K.fault_count sink.old) }
-    ensures carries { (front : List ℕ) → held.old ≡ held_of front
+    ensures carries { (front : List ℕ) → held.old ≡ kept_of front
         → CarriesPiece result stop front piece.now store.old store.new held.new (K.taken sink.old) (K.taken sink.new) told }
     ensures faults { K.fault_count sink.new ≡ K.fault_count sink.old + sink_faults result }
 {
@@ -64,7 +64,7 @@ pub(crate) fn carry_last<K: Sink>(
     told: RunEnd,
 ) -> Result<RunEnd, RunFault>
     requires { CanCount (K.fault_count sink.old) }
-    ensures carries { (stop : Bool) (front : List ℕ) → held.old ≡ held_of front
+    ensures carries { (stop : Bool) (front : List ℕ) → held.old ≡ kept_of front
         → CarriesLast result stop front store.old store.new (K.taken sink.old) (K.taken sink.new) told }
     ensures faults { K.fault_count sink.new ≡ K.fault_count sink.old + sink_faults result }
 {
@@ -76,6 +76,7 @@ pub(crate) fn carry_last<K: Sink>(
 }
 
 // Carries out a line of which these are the last bytes. One that lies whole in them isn't copied.
+#[inline(always)]
 fn carry_line<K: Sink>(
     alloc: Global,
     store: &mut Store,
@@ -84,10 +85,10 @@ fn carry_line<K: Sink>(
     end: &[u8],
 ) -> Result<LineOutcome, RunFault>
     requires { CanCount (K.fault_count sink.old) }
-    ensures carries { (front : List ℕ) → held.old ≡ held_of front
+    ensures carries { (front : List ℕ) → held.old ≡ kept_of front
         → Carries (step_of store.old (front ++ end.now)) store.old store.new (K.taken sink.old) (K.taken sink.new) result }
-    ensures memory { (front : List ℕ) → held.old ≡ held_of front → IfErr result (IsWantOnlyIf (LineWants store.old (front ++ end.now))) }
-    ensures held { OnOk result (held.new ≡ held_of []) }
+    ensures memory { (front : List ℕ) → held.old ≡ kept_of front → IfErr result (IsWantOnlyIf (LineWants store.old (front ++ end.now))) }
+    ensures held { OnOk result (held.new ≡ kept_of []) }
     ensures faults { K.fault_count sink.new ≡ K.fault_count sink.old + sink_faults result }
 {
     if held.is_empty() {
@@ -100,6 +101,7 @@ fn carry_line<K: Sink>(
 }
 
 // Carries out a line that is held whole.
+#[inline(never)]
 fn carry_held<K: Sink>(
     alloc: Global,
     store: &mut Store,
@@ -107,9 +109,9 @@ fn carry_held<K: Sink>(
     held: &HeldLine,
 ) -> Result<LineOutcome, RunFault>
     requires { CanCount (K.fault_count sink.old) }
-    ensures carries { (line : List ℕ) → held.now ≡ held_of line
+    ensures carries { (line : List ℕ) → held.now ≡ kept_of line
         → Carries (step_of store.old line) store.old store.new (K.taken sink.old) (K.taken sink.new) result }
-    ensures memory { (line : List ℕ) → held.now ≡ held_of line → IfErr result (IsWantOnlyIf (LineWants store.old line)) }
+    ensures memory { (line : List ℕ) → held.now ≡ kept_of line → IfErr result (IsWantOnlyIf (LineWants store.old line)) }
     ensures faults { K.fault_count sink.new ≡ K.fault_count sink.old + sink_faults result }
 {
     match held.line() {

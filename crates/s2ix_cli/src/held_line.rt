@@ -1,6 +1,6 @@
 ghost use Rattle.std.specs.Prelude.{◌≡◌, ◌↔◌, ℕ, if◌then◌else◌, Some, None, List, [], IfSome, IfNone, IsTrue};
 ghost use Rattle.std.specs.declared.option.Option.{Option as OptionOf};
-ghost use Rattle.s2ix_cli.specs.Coming.{held_of, held_more};
+ghost use Rattle.s2ix_cli.specs.Coming.{held_more};
 
 use arrayvec::ArrayVec;
 use s2ix_script::LONGEST_LINE;

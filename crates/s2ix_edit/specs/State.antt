@@ -1,5 +1,5 @@
 -- What contracts see of a store, the history that it holds, and the change that an edit of it records.
-use Rattle.std.specs.Prelude.{List, [], ◌∷◌, ◌++◌, length, reverse}
+use Rattle.std.specs.Prelude.{ℕ, List, [], ◌∷◌, ◌++◌, length, reverse}
 use Rattle.s2ix_pairs.specs.declared.pair.Entry.{Entry}
 use Rattle.s2ix_pairs.specs.Change.{change_between, changed, inverse_of}
 use Rattle.s2ix_pairs.specs.Collection.{Collection, LimitedCollection}
@@ -7,16 +7,17 @@ use Rattle.s2ix_edit.specs.declared.edit.Edit.{Edit}
 use Rattle.s2ix_edit.specs.Edit.{edited}
 use Rattle.s2ix_edit.specs.History.{History}
 
--- what contracts see of a store: its bag, the changes that led to it, the oldest first, and those that were
--- undone, the last undone at the end
+-- what contracts see of a store: its bag, the changes that led to it, the oldest first, those that were undone, the last
+-- undone at the end, and on how many faces its last step changed something
 pub record State : Type 0 where
   pub bag : LimitedCollection
   pub done : List (List Entry)
   pub undone : List (List Entry)
+  pub faces_rebuilt : ℕ
 
 -- a store that stands at a bag and has no history
 abbrev pub starting_at : LimitedCollection → State
-starting_at bag = record { bag = bag; done = []; undone = [] }
+starting_at bag = record { bag = bag; done = []; undone = []; faces_rebuilt = 0 }
 
 -- the collections before this one, the oldest first, by taking changes back from the newest on
 abbrev pub earlier : Collection → List (List Entry) → List Collection

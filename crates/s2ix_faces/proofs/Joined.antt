@@ -5,7 +5,6 @@ use Rattle.s2ix_pairs.specs.Collection.{Collection, IsCollectionFrom, AreBelow, 
 use Rattle.s2ix_pairs.specs.Change.{IsChangeListFrom, changed}
 use Rattle.s2ix_pairs.specs.Pair.{rank_of}
 use Rattle.s2ix_pairs.specs.declared.pair.Pair.{Pair}
-use Rattle.s2ix_pairs.specs.declared.pair.Held.{Held}
 use Rattle.s2ix_pairs.specs.declared.pair.Entry.{Entry}
 use Rattle.s2ix_pairs.proofs.Counts.{count_head, count_tail, count_below, from_lower, set_before, set_at, set_after}
 use Rattle.s2ix_pairs.proofs.Changes.{changed-append}

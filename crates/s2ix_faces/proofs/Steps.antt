@@ -7,12 +7,11 @@ use Rattle.s2ix_pairs.specs.Collection.{Collection, IsCollection, IsCollectionFr
 use Rattle.s2ix_pairs.specs.Change.{IsChangeList, IsChangeListFrom, changed}
 use Rattle.s2ix_pairs.specs.Pair.{rank_of}
 use Rattle.s2ix_pairs.specs.declared.pair.Entry.{Entry}
-use Rattle.s2ix_pairs.specs.declared.pair.Held.{Held}
 use Rattle.s2ix_pairs.proofs.Counts.{from_lower}
 use Rattle.s2ix_pairs.proofs.Changes.{change_lower, changed_keeps_from}
 use Rattle.s2ix_lists.specs.Apply.{AreBefore}
 use Rattle.s2ix_lists.proofs.Refusals.{is_mismatch, position_is, position_none}
-use Rattle.s2ix_faces.specs.Faces.{AreEntriesBelow, AreFacesFrom, IsOnFace, all_of, face_start}
+use Rattle.s2ix_faces.specs.Faces.{AreEntriesBelow, AreFacesFrom, all_of, face_start}
 use Rattle.s2ix_faces.proofs.Faces.{all_is, all_put, count_on_face, changed_on_face, own_is, put_apart, back_from, start_more}
 use Rattle.s2ix_faces.proofs.Joined.{below_more, before_in_front, before_later, below_append, changed_below, changed_by_parts, none_between, rise_in_front}
 

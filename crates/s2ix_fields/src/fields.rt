@@ -49,6 +49,7 @@ impl<'a> Fields<'a> {
     }
 
     // The next field of a text which has a byte above 127 in it, and all behind it.
+    #[inline(never)]
     fn next_wide(&mut self, text: &'a [u8]) -> Option<&'a [u8]>
         ensures { TakesFirstRef (fields_of text.now) result self.new }
     {
@@ -66,6 +67,7 @@ impl<'a> Iterator for Fields<'a> {
 
     ghost remaining = { item_count (λ rest. rest) };
 
+    #[inline(always)]
     fn next(&mut self) -> Option<&'a [u8]> {
         if let Some(fields) = &mut self.wide {
             return fields.next();
@@ -83,6 +85,7 @@ impl<'a> Iterator for Fields<'a> {
 }
 
 // A text from its first byte on that is no white space below 128.
+#[inline(always)]
 fn behind_blank(text: &[u8]) -> &[u8]
     ensures { fields_of result.now ≡ fields_of text.now }
 {
@@ -94,6 +97,7 @@ fn behind_blank(text: &[u8]) -> &[u8]
 }
 
 // The field that a text begins with, and what is behind it; nothing where a byte above 127 stands in the field or right behind it.
+#[inline(always)]
 fn cut_plain(text: &[u8]) -> Option<(&[u8], &[u8])>
     ensures { IfSome result (λ cut. fields_of text.now ≡ cut.0.now ∷ fields_of cut.1.now) }
 {
@@ -105,6 +109,7 @@ fn cut_plain(text: &[u8]) -> Option<(&[u8], &[u8])>
 }
 
 // How many plain bytes stand in front.
+#[inline(never)]
 fn plain_len(text: &[u8]) -> usize
     ensures within { result ≤ length text.now }
     ensures plain { list_all is_plain_byte (take result text.now) ≡ true }

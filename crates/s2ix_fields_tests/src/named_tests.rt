@@ -24,10 +24,10 @@ fn is_one_cell(cells: &[CellId], token: &[u8]) -> bool {
 }
 
 fn names_cells_and_labels() -> Result<bool, Fail> {
-    let cell = cell_named(Fields::new(b"04"))?;
-    let label = label_named(Fields::new(b"9"))?;
-    let (first, second) = labels_named(Fields::new(b"9 3"))?;
-    let (pair, copies) = pair_named(Fields::new(b"1c 7 12"))?;
+    let cell = cell_named(&mut Fields::new(b"04"))?;
+    let label = label_named(&mut Fields::new(b"9"))?;
+    let (first, second) = labels_named(&mut Fields::new(b"9 3"))?;
+    let (pair, copies) = pair_named(&mut Fields::new(b"1c 7 12"))?;
     Ok(
         is_token(cell, b"04")
             && is_label(label, 9)
@@ -40,10 +40,10 @@ fn names_cells_and_labels() -> Result<bool, Fail> {
 }
 
 fn names_edits(alloc: Global) -> Result<bool, Fail> {
-    let dropped = drop_named(Fields::new(b"9"))?;
-    let relabelled = relabel_named(Fields::new(b"9 3"))?;
-    let grown = grow_named(Fields::new(b"9 30"))?;
-    let normal = normal_named(Fields::new(b"9"))?;
+    let dropped = drop_named(&mut Fields::new(b"9"))?;
+    let relabelled = relabel_named(&mut Fields::new(b"9 3"))?;
+    let grown = grow_named(&mut Fields::new(b"9 30"))?;
+    let normal = normal_named(&mut Fields::new(b"9"))?;
     let added = add_union_named(alloc, Fields::new(b"9 1c 04 14 0C"))?;
     Ok(
         matches!(dropped, Edit::DropLabel { label } if is_label(label, 9))

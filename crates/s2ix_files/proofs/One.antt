@@ -17,7 +17,7 @@ use Rattle.s2ix_files.specs.declared.refusal.Refusal.TheVariants.{Mismatch, TooM
 use Rattle.s2ix_files.specs.declared.refusal.TextsError.TheVariants.{Refused}
 use Rattle.s2ix_files.specs.Answers.{IsAnswerTo, answer_of}
 use Rattle.s2ix_files.specs.Laws.{HasOne}
-use Rattle.s2ix_files.specs.Reads.{DumpReads, IsDumpOf, IsJournalOf, JournalReads, LeadsTo, ReadsAs, ReplayLeads, RewindLeads, TextsReplay, TextsRewind, Then, dump_refusal, journal_refusal}
+use Rattle.s2ix_files.specs.Reads.{DumpReads, IsDumpOf, IsJournalOf, JournalReads, EndsIn, ReadsAs, ReplayLeads, RewindLeads, TextsReplay, TextsRewind, Then, dump_refusal, journal_refusal}
 use Rattle.s2ix_files.specs.Refusals.{error_of_replay}
 
 -- ---- what is read
@@ -122,25 +122,25 @@ one_then First Next first next = then_one First Next first.0 first.1 first.2 nex
 
 -- ---- changes
 
-no_other_bag : (refusal : Option ReplayError) (bag : LimitedCollection) → refusal ≡ None → (other : Result LimitedCollection Refusal) → LeadsTo refusal bag other → other ≡ Ok bag
+no_other_bag : (refusal : Option ReplayError) (bag : LimitedCollection) → refusal ≡ None → (other : Result LimitedCollection Refusal) → EndsIn refusal bag other → other ≡ Ok bag
 no_other_bag refusal bag none (Ok reached) leads = ap Ok leads.1
 no_other_bag refusal bag none (Err found) leads =
     let clash : Some (Refused found) ≡ None = sym leads ∙ ap (option_map error_of_replay) none in cc
 
 no_other_told : (refusal : Option ReplayError) (bag : LimitedCollection) (error : ReplayError) (found : Refusal) → refusal ≡ Some error → error_of_replay error ≡ Refused found
-    → (other : Result LimitedCollection Refusal) → LeadsTo refusal bag other → other ≡ Err found
+    → (other : Result LimitedCollection Refusal) → EndsIn refusal bag other → other ≡ Err found
 no_other_told refusal bag error found is told (Ok reached) leads = let clash : Some error ≡ None = sym is ∙ leads.0 in cc
 no_other_told refusal bag error found is told (Err other) leads =
     let same : Some (Refused other) ≡ Some (Refused found) = sym leads ∙ ap (option_map error_of_replay) is ∙ ap Some told in cc
 
-leads_told : (refusal : Option ReplayError) (bag : LimitedCollection) (error : ReplayError) (found : Refusal) → refusal ≡ Some error → error_of_replay error ≡ Refused found → HasOne (LeadsTo refusal bag)
+leads_told : (refusal : Option ReplayError) (bag : LimitedCollection) (error : ReplayError) (found : Refusal) → refusal ≡ Some error → error_of_replay error ≡ Refused found → HasOne (EndsIn refusal bag)
 leads_told refusal bag error found is told = (
   Err found,
   ap (option_map error_of_replay) is ∙ ap Some told,
   no_other_told refusal bag error found is told,
 )
 
-leads_at : (refusal at : Option ReplayError) (bag : LimitedCollection) → refusal ≡ at → (refusal ≡ Some told.OutOfMemory → ⊥) → HasOne (LeadsTo refusal bag)
+leads_at : (refusal at : Option ReplayError) (bag : LimitedCollection) → refusal ≡ at → (refusal ≡ Some told.OutOfMemory → ⊥) → HasOne (EndsIn refusal bag)
 leads_at refusal None bag is never = (Ok bag, (is, refl), no_other_bag refusal bag is)
 leads_at refusal (Some (told.Mismatch change entry)) bag is never = leads_told refusal bag (told.Mismatch change entry) (Mismatch change entry) is refl
 leads_at refusal (Some (told.TooManyCopies change)) bag is never = leads_told refusal bag (told.TooManyCopies change) (TooManyCopies change) is refl

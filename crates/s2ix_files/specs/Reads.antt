@@ -52,17 +52,17 @@ JournalReads limits text = ReadsAs (IsJournalOf limits text) (option_map journal
 -- ---- a dump and a journal
 
 -- what changes come to, of which the first refusal is this one: the bag that they lead to, or that refusal
-abbrev pub LeadsTo : Option ReplayError → LimitedCollection → Result LimitedCollection Refusal → Type 0
-LeadsTo refusal bag (Ok reached) = (refusal ≡ None) × (reached ≡ bag)
-LeadsTo refusal bag (Err found) = option_map error_of_replay refusal ≡ Some (Refused found)
+abbrev pub EndsIn : Option ReplayError → LimitedCollection → Result LimitedCollection Refusal → Type 0
+EndsIn refusal bag (Ok reached) = (refusal ≡ None) × (reached ≡ bag)
+EndsIn refusal bag (Err found) = option_map error_of_replay refusal ≡ Some (Refused found)
 
 -- changes that are done to a bag
 abbrev pub ReplayLeads : LimitedCollection → List (List Entry) → Result LimitedCollection Refusal → Type 0
-ReplayLeads bag changes = LeadsTo (replay_refusal bag changes) (replayed bag changes)
+ReplayLeads bag changes = EndsIn (replay_refusal bag changes) (replayed bag changes)
 
 -- changes that are taken back from a bag
 abbrev pub RewindLeads : LimitedCollection → List (List Entry) → Result LimitedCollection Refusal → Type 0
-RewindLeads bag changes = LeadsTo (rewind_refusal bag changes) (rewound bag changes)
+RewindLeads bag changes = EndsIn (rewind_refusal bag changes) (rewound bag changes)
 
 -- one thing first, and then the next, which goes on from what the first came to; a refusal of the first decides
 abbrev pub Then : {A B : Type 0} → (Result A Refusal → Type 0) → (A → Result B Refusal → Type 0) → Result B Refusal → Type 0

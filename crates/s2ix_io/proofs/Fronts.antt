@@ -10,10 +10,6 @@ use Rattle.s2ix_io.specs.Puts.{IsFront, AppendsFront, Puts}
 
 -- ---- fronts
 
--- nothing is a front of each text
-pub IsFront-nil : (whole : List ℕ) → IsFront [] whole
-IsFront-nil whole = record { rest = whole; whole_is = refl }
-
 -- a text is a front of itself
 pub IsFront-refl : (whole : List ℕ) → IsFront whole whole
 IsFront-refl whole = record { rest = []; whole_is = sym (append-nil whole) }

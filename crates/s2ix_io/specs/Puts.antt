@@ -17,13 +17,6 @@ pub record AppendsFront (old new : Option (List ℕ)) (text : List ℕ) : Type 0
   pub is_front : IsFront front text
   pub appends : Appends old new front
 
--- known bytes grew by a front of `text` that has at least `least`
-pub record AppendsBetween (old new : Option (List ℕ)) (least text : List ℕ) : Type 0 where
-  pub front : List ℕ
-  pub has_least : IsFront least front
-  pub is_front : IsFront front text
-  pub appends : Appends old new front
-
 -- at `Ok` known bytes grew by all of `text`, at `Err` by a front of it
 abbrev pub Puts : {A E : Type 0} → Option (List ℕ) → Option (List ℕ) → Result A E → List ℕ → Type 0
 Puts old new (Ok _) text = Appends old new text

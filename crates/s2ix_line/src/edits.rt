@@ -10,8 +10,8 @@ use s2ix_fields::{Fields, level_spelled};
 /// The edit of `drop`, whose label the one field LABEL names.
 ///
 /// Errors, the first that applies: `BadArguments` for another number of fields, `BadLabel`. This project's own.
-pub fn drop_named(fields: Fields<'_>) -> Result<Edit, LineFault>
-    ensures { result ≡ drop_of fields.entry }
+pub fn drop_named(fields: &mut Fields<'_>) -> Result<Edit, LineFault>
+    ensures { result ≡ drop_of fields.old }
 {
     let label = label_named(fields)?;
     Ok(Edit::DropLabel { label })
@@ -20,8 +20,8 @@ pub fn drop_named(fields: Fields<'_>) -> Result<Edit, LineFault>
 /// The edit of `relabel`, whose labels the two fields SOURCE TARGET name.
 ///
 /// Errors, the first that applies: `BadArguments` for another number of fields, `BadLabel`. This project's own.
-pub fn relabel_named(fields: Fields<'_>) -> Result<Edit, LineFault>
-    ensures { result ≡ relabel_of fields.entry }
+pub fn relabel_named(fields: &mut Fields<'_>) -> Result<Edit, LineFault>
+    ensures { result ≡ relabel_of fields.old }
 {
     let (source, target) = labels_named(fields)?;
     Ok(Edit::Relabel { source, target })
@@ -30,8 +30,8 @@ pub fn relabel_named(fields: Fields<'_>) -> Result<Edit, LineFault>
 /// The edit of `grow`, whose label and level the two fields LABEL LEVEL name.
 ///
 /// Errors, the first that applies: `BadArguments` for another number of fields, `BadLabel`, `BadLevel`. This project's own.
-pub fn grow_named(fields: Fields<'_>) -> Result<Edit, LineFault>
-    ensures { result ≡ grow_of fields.entry }
+pub fn grow_named(fields: &mut Fields<'_>) -> Result<Edit, LineFault>
+    ensures { result ≡ grow_of fields.old }
 {
     let (label, level) = two_fields(fields)?;
     let label = label_from_field(label)?;
@@ -42,8 +42,8 @@ pub fn grow_named(fields: Fields<'_>) -> Result<Edit, LineFault>
 /// The edit of `normal`, whose label the one field LABEL names.
 ///
 /// Errors, the first that applies: `BadArguments` for another number of fields, `BadLabel`. This project's own.
-pub fn normal_named(fields: Fields<'_>) -> Result<Edit, LineFault>
-    ensures { result ≡ normal_of fields.entry }
+pub fn normal_named(fields: &mut Fields<'_>) -> Result<Edit, LineFault>
+    ensures { result ≡ normal_of fields.old }
 {
     let label = label_named(fields)?;
     Ok(Edit::Normalise { label })

@@ -10,8 +10,8 @@ use s2ix_bag::{Label, Pair};
 use s2ix_fields::{Fields, copies_spelled, label_spelled};
 
 // The one field that there is.
-fn one_field<'a>(mut fields: Fields<'a>) -> Result<&'a [u8], LineFault>
-    ensures { MatchResult result (λ field. one_of fields.entry ≡ Ok field.now) (λ fault. one_of fields.entry ≡ Err fault) }
+fn one_field<'a>(fields: &mut Fields<'a>) -> Result<&'a [u8], LineFault>
+    ensures { MatchResult result (λ field. one_of fields.old ≡ Ok field.now) (λ fault. one_of fields.old ≡ Err fault) }
 {
     match (fields.next(), fields.next()) {
         (Some(field), None) => Ok(field),
@@ -20,8 +20,8 @@ fn one_field<'a>(mut fields: Fields<'a>) -> Result<&'a [u8], LineFault>
 }
 
 // The two fields that there are.
-pub(crate) fn two_fields<'a>(mut fields: Fields<'a>) -> Result<(&'a [u8], &'a [u8]), LineFault>
-    ensures { MatchResult result (λ both. two_of fields.entry ≡ Ok (both.0.now, both.1.now)) (λ fault. two_of fields.entry ≡ Err fault) }
+pub(crate) fn two_fields<'a>(fields: &mut Fields<'a>) -> Result<(&'a [u8], &'a [u8]), LineFault>
+    ensures { MatchResult result (λ both. two_of fields.old ≡ Ok (both.0.now, both.1.now)) (λ fault. two_of fields.old ≡ Err fault) }
 {
     match (fields.next(), fields.next(), fields.next()) {
         (Some(first), Some(second), None) => Ok((first, second)),
@@ -46,8 +46,8 @@ pub(crate) fn label_from_field(field: &[u8]) -> Result<Label, LineFault>
 /// The cell that the one field TOKEN names.
 ///
 /// Errors, the first that applies: `BadArguments` for another number of fields, `BadToken`. This project's own.
-pub fn cell_named(fields: Fields<'_>) -> Result<CellId, LineFault>
-    ensures { result ≡ cell_of fields.entry }
+pub fn cell_named(fields: &mut Fields<'_>) -> Result<CellId, LineFault>
+    ensures { result ≡ cell_of fields.old }
 {
     cell_from_field(one_field(fields)?)
 }
@@ -55,8 +55,8 @@ pub fn cell_named(fields: Fields<'_>) -> Result<CellId, LineFault>
 /// The label that the one field LABEL names.
 ///
 /// Errors, the first that applies: `BadArguments` for another number of fields, `BadLabel`. This project's own.
-pub fn label_named(fields: Fields<'_>) -> Result<Label, LineFault>
-    ensures { result ≡ label_of fields.entry }
+pub fn label_named(fields: &mut Fields<'_>) -> Result<Label, LineFault>
+    ensures { result ≡ label_of fields.old }
 {
     label_from_field(one_field(fields)?)
 }
@@ -64,8 +64,8 @@ pub fn label_named(fields: Fields<'_>) -> Result<Label, LineFault>
 /// The labels that the two fields LABEL LABEL name.
 ///
 /// Errors, the first that applies: `BadArguments` for another number of fields, `BadLabel`. This project's own.
-pub fn labels_named(fields: Fields<'_>) -> Result<(Label, Label), LineFault>
-    ensures { result ≡ labels_of fields.entry }
+pub fn labels_named(fields: &mut Fields<'_>) -> Result<(Label, Label), LineFault>
+    ensures { result ≡ labels_of fields.old }
 {
     let (first, second) = two_fields(fields)?;
     Ok((label_from_field(first)?, label_from_field(second)?))
@@ -74,8 +74,8 @@ pub fn labels_named(fields: Fields<'_>) -> Result<(Label, Label), LineFault>
 /// The pair and the copies that the fields TOKEN LABEL or TOKEN LABEL COPIES name; one copy where none are named.
 ///
 /// Errors, the first that applies: `BadArguments` for another number of fields, `BadToken`, `BadLabel`, `BadCount`. This project's own.
-pub fn pair_named(mut fields: Fields<'_>) -> Result<(Pair, u32), LineFault>
-    ensures { result ≡ pair_of fields.entry }
+pub fn pair_named(fields: &mut Fields<'_>) -> Result<(Pair, u32), LineFault>
+    ensures { result ≡ pair_of fields.old }
 {
     let (Some(token), Some(label)) = (fields.next(), fields.next()) else {
         return Err(LineFault::BadArguments);

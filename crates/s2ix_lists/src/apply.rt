@@ -26,14 +26,14 @@ pub fn first_mismatch(held: &[FlatHeld], entries: &[Entry]) -> Option<usize>
     None
 }
 
-/// How many entries have a pair that is not held before. O(n).
+/// How many entries have a pair that is not held before. O(m).
 pub fn gains(entries: &[Entry]) -> usize
     ensures { result ≡ count_by (λ e. e.before == 0) entries.now }
 {
     entries.iter().filter(|e| e.before == 0).count()
 }
 
-/// How many entries have a pair that is not held after. O(n).
+/// How many entries have a pair that is not held after. O(m).
 pub fn losses(entries: &[Entry]) -> usize
     ensures { result ≡ count_by (λ e. e.after == 0) entries.now }
 {
@@ -41,7 +41,7 @@ pub fn losses(entries: &[Entry]) -> usize
 }
 
 /// How many pairs are held once a change is applied that has the right counts before. O(m).
-pub fn length_after(held: &[FlatHeld], entries: &[Entry]) -> usize
+pub(crate) fn length_after(held: &[FlatHeld], entries: &[Entry]) -> usize
     requires held_rise { IsCollection held.now }
     requires entries_rise { IsChangeList entries.now }
     requires before { AreBefore held.now entries.now }
@@ -50,7 +50,7 @@ pub fn length_after(held: &[FlatHeld], entries: &[Entry]) -> usize
     held.len() + gains(entries) - losses(entries)
 }
 
-/// Whether a count after is above the limit. O(m).
+/// Whether an entry's count after is above the limit. O(m).
 pub fn has_count_above(entries: &[Entry], limit: u32) -> bool
     ensures { result ≡ list_any (λ e. nat_lt limit e.after) entries.now }
 {
@@ -67,7 +67,7 @@ fn push_held(out: &mut Vec<FlatHeld>, pair: Pair, count: u32) -> Result<(), Allo
     Ok(())
 }
 
-/// What a change that has the right counts before makes of the held pairs, in one growth. O(n + m).
+/// The held pairs once a change is applied that has the right counts before. One growth, whose refusal is the error; O(n + m).
 pub fn merge(
     alloc: Global,
     held: &[FlatHeld],

@@ -40,7 +40,8 @@ fn push_difference(
     Ok(())
 }
 
-/// The entries of the change that leads from `old` to `new`. O(n + m).
+/// The entries of the change that leads from `old` to `new`: the pairs whose counts differ, with both counts, rising. The error is a growth
+/// that was refused. O(k + n) for their k and n pairs.
 pub fn differences(
     alloc: Global,
     old: &[FlatHeld],
@@ -68,7 +69,7 @@ pub fn differences(
     Ok(out)
 }
 
-/// The entries with their two counts exchanged. O(n).
+/// The entries with their two counts exchanged. The error is a growth that was refused. O(m).
 pub fn exchanged_entries(alloc: Global, entries: &[Entry]) -> Result<Vec<Entry>, AllocError>
     ensures { IfOk result (λ v. v.items ≡ inverse_of entries.now) }
 {

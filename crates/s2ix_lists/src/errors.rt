@@ -39,7 +39,7 @@ impl From<OutOfMemory> for ApplyError {
     }
 }
 
-/// Why `Change::from_entries` refused a list of entries, in the order of the tests.
+/// Why `Change::from_entries` refused a list of entries, in the order of the tests. This project's own.
 #[derive(Clone, Copy, Debug, PartialEq, Eq, Error)]
 pub enum ChangeError {
     /// The entry at this place, counted from 0, is the first whose pair is not above that of the entry before it.

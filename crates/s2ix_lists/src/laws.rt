@@ -1,5 +1,4 @@
-//! What the definitions that the contracts cite say, in other words. Each function is a law: it does nothing, and
-//! its contract is the fact.
+//! Laws: functions that do nothing, and whose contracts are facts on the definitions.
 ghost use Rattle.s2ix_lists.specs.Laws.{ChangesHaveNoFault, InverseTakesBack};
 
 /// A list of entries is a change exactly where it has no fault.

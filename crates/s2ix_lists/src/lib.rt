@@ -2,6 +2,9 @@
 //!
 //! A count is found in a list of held pairs; a change is compared with one, or merged with one; two lists are compared, and a list of
 //! entries is tested for being a change.
+//!
+//! Each call states the order that it asks of its lists and tests none of it, but for [`fault`], which is that test. Costs are for n held
+//! pairs and m entries. All of it is this project's own.
 #![tactic(auto)]
 
 mod apply;

@@ -6,14 +6,14 @@ use crate::flat::FlatHeld;
 use s2ix_pairs::Pair;
 
 /// Whether two pairs are the same.
-pub fn is_same(one: Pair, other: Pair) -> bool
+pub(crate) fn is_same(one: Pair, other: Pair) -> bool
     ensures { IsTrue result ↔ (rank_of one ≡ rank_of other) }
 {
     one == other
 }
 
 /// How many of the held pairs come before `pair`. O(log n).
-pub fn first_from(held: &[FlatHeld], pair: Pair) -> usize
+pub(crate) fn first_from(held: &[FlatHeld], pair: Pair) -> usize
     requires { IsCollection held.now }
     ensures within { result ≤ length held.now }
     ensures below { AreBelow (rank_of pair) (take result held.now) }
@@ -24,7 +24,7 @@ pub fn first_from(held: &[FlatHeld], pair: Pair) -> usize
 
 /// How many of the held pairs come before `pair`, searched from the front in growing steps: O(log k) for the
 /// answer k.
-pub fn next_from(held: &[FlatHeld], pair: Pair) -> usize
+pub(crate) fn next_from(held: &[FlatHeld], pair: Pair) -> usize
     requires { IsCollection held.now }
     ensures within { result ≤ length held.now }
     ensures below { AreBelow (rank_of pair) (take result held.now) }
@@ -39,7 +39,7 @@ pub fn next_from(held: &[FlatHeld], pair: Pair) -> usize
 }
 
 /// The count of a pair before which none is held: only the first can be it.
-pub fn count_first(held: &[FlatHeld], pair: Pair) -> u32
+pub(crate) fn count_first(held: &[FlatHeld], pair: Pair) -> u32
     requires { IsCollectionFrom (rank_of pair) held.now }
     ensures { result ≡ count_in held.now pair }
 {
@@ -49,7 +49,7 @@ pub fn count_first(held: &[FlatHeld], pair: Pair) -> u32
     }
 }
 
-/// The count of a pair. O(log n).
+/// The count of a pair: 0 where it is not held. O(log n).
 pub fn count_of(held: &[FlatHeld], pair: Pair) -> u32
     requires { IsCollection held.now }
     ensures { result ≡ count_in held.now pair }
@@ -59,7 +59,7 @@ pub fn count_of(held: &[FlatHeld], pair: Pair) -> u32
 }
 
 /// The held pairs past `pair`, where that stands first.
-pub fn past_pair(held: &[FlatHeld], pair: Pair) -> &[FlatHeld]
+pub(crate) fn past_pair(held: &[FlatHeld], pair: Pair) -> &[FlatHeld]
     ensures { result.now ≡ past held.now (rank_of pair) }
 {
     match held.first() {

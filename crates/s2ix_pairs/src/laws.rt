@@ -1,5 +1,4 @@
-//! What the definitions that the contracts cite say, in other words. Each function is a law: it does nothing, and
-//! its contract is the fact.
+//! Laws: functions that do nothing, and whose contracts are facts on the definitions.
 ghost use Rattle.std.specs.Prelude.{◌≡◌, ◌==◌, Some};
 ghost use Rattle.std.specs.Ordering.{nat_cmp};
 ghost use Rattle.s2ix_pairs.specs.declared.pair.Pair.{Pair};

@@ -61,17 +61,8 @@ lower_when c digit value other small =
     (cases_lt c 48) in
     (lower, value lower)
 
-pub lower_unless : (c digit : ℕ) → (IsLowerHex c → digit ≡ digit_value c) → 15 < digit → ¬ IsLowerHex c
-lower_unless c digit value large = λ lower. let below : digit_value c < 16 = value_below c lower in omega (arith, below, value lower)
-  where
-    value_below : (x : ℕ) → IsLowerHex x → digit_value x < 16
-    value_below x h = grind (arith, nat_tests)
-
 pub decimal_when : (c digit : ℕ) → (digit_value c < 10 → digit ≡ digit_value c) → (10 ≤ digit_value c → 10 ≤ digit) → digit < 10 → digit ≡ digit_value c
 decimal_when c digit value other small = ⊎_elim value (λ none. absurd (omega (arith, other none))) (cases_lt (digit_value c) 10)
-
-pub decimal_unless : (c digit : ℕ) → (digit_value c < 10 → digit ≡ digit_value c) → 9 < digit → 10 ≤ digit_value c
-decimal_unless c digit value large = ⊎_elim (λ is. absurd (omega (arith, is, value is))) (λ none. none) (cases_lt (digit_value c) 10)
 
 -- ---- a text cut behind some bytes
 

@@ -1,5 +1,8 @@
-//! What the readers of texts share: a text cut into lines and a line into parts, the cell, the label or the number that a part writes, and
-//! what stands at the front of a text, read in one pass. Its definitions say what the first fault of a text is, whatever a line's fault is.
+//! What the readers of dumps and journals share: a text cut into lines and a line into parts, the cell, the label or the number that a part
+//! writes, and what stands at the front of a text, read in one pass. Its definitions find the first faulty line of a text, given what is
+//! wrong with each line.
+//!
+//! No call here takes memory. Each reads exactly what the writers of `s2ix_text` print: no other spelling of a number or a token.
 #![tactic(auto)]
 
 mod cuts;

@@ -24,7 +24,7 @@ pub record IsContents (leaf : Path) (held contents : Collection) : Type 0 where
 abbrev pub covers : ℕ → Held → Bool
 covers q h = nat_le (first_of h.pair.cell) q && nat_lt q (end_of h.pair.cell)
 
--- rises as the level falls, and with the label at one level; below 2 ^ 36
+-- a number that rises as the level falls, and at one level with the label; it is below 2 ^ 36
 unfoldable pub depth_key : Held → ℕ
 depth_key h = (30 - level_of h.pair.cell) * 2147483648 + value_of h.pair.label
 

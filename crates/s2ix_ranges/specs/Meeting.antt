@@ -44,7 +44,7 @@ first_shared (t ∷ ts) cell =
     if nat_lt (first_of t) (end_of cell) && nat_lt (first_of cell) (end_of t) then min (max (first_of t) (first_of cell)) (first_shared ts cell)
     else first_shared ts cell
 
--- rises with the first shared leaf, and with the depth at one leaf
+-- a number that rises with the first shared leaf, and at one leaf with `depth_key`
 unfoldable pub meeting_key : List CellId → Held → ℕ
 meeting_key target h = first_shared target h.pair.cell * 68719476736 + depth_key h
 

@@ -1,5 +1,4 @@
-//! What the definitions that the contracts cite say, in other words. Each function is a law: it does nothing, and
-//! its contract is the fact.
+//! Laws: functions that do nothing, and whose contracts are facts on the definitions.
 ghost use Rattle.std.specs.Prelude.{◌≡◌, ℕ, ◌≤◌, Bool, true, List, length};
 ghost use Rattle.s2id_core.specs.declared.cell_id.CellId.{CellId};
 ghost use Rattle.s2id_union.specs.Region.{HaveSameRegion};
@@ -11,7 +10,7 @@ ghost use Rattle.s2ix_ranges.specs.RangeList.{range_table};
 ghost use Rattle.s2ix_ranges.specs.Table.{Range, IsRangeTable};
 ghost use Rattle.s2ix_ranges.specs.Laws.{ContentsAreOfTheLeaf, OneListOfContents, OneRangeTable, MeetingListIsTheTargets, OneMeetingList, OneLabelList};
 
-/// The contents that are read from a leaf's number are the held pairs whose cells have the leaf, in order.
+/// `contents_at` of a leaf's number are the leaf's contents: the held pairs whose cells have the leaf, in order.
 pub fn contents_are_of_the_leaf()
     ensures { ContentsAreOfTheLeaf }
 {}
@@ -26,7 +25,7 @@ pub fn one_range_table()
     ensures { OneRangeTable }
 {}
 
-/// The meeting list that is computed has the held pairs that share a leaf with the target, each once and in order.
+/// `meeting_of` a target is its meeting list: the held pairs that share a leaf with it, each once and in order.
 pub fn meeting_list_is_the_targets()
     ensures { MeetingListIsTheTargets }
 {}
@@ -41,13 +40,13 @@ pub fn one_label_list()
     ensures { OneLabelList }
 {}
 
-/// The range table that is computed of a collection is its range table, and the only one.
+/// `range_table` of a collection is its range table, and the only one.
 pub fn range_table_is_the_collections()
     ensures table { (held : Collection) → IsRangeTable held (range_table held) }
     ensures only { (held : Collection) (ranges : List Range) → IsRangeTable held ranges → ranges ≡ range_table held }
 {}
 
-/// The label list that is computed of a meeting list is its label list, and the only one.
+/// `label_list` of a meeting list is its label list, and the only one.
 pub fn label_list_is_the_meetings()
     ensures list { (meeting : Collection) → IsLabelList meeting (label_list meeting) }
     ensures only { (meeting : Collection) (labels : List Label) → IsLabelList meeting labels → labels ≡ label_list meeting }

@@ -17,7 +17,7 @@ use Rattle.s2ix_pairs.specs.declared.label.Label.{Label}
 use Rattle.s2ix_pairs.specs.declared.pair.Held.{Held}
 use Rattle.s2ix_text.specs.Dump.{end_line, pair_line}
 use Rattle.s2ix_text.proofs.Journals.{IsGraphic, decimal_graphic, token_graphic}
-use Rattle.s2ix_read_dump.specs.DumpFaults.{end_of, is_end}
+use Rattle.s2ix_read_dump.specs.DumpFaults.{end_text, is_end}
 use Rattle.s2ix_parts.specs.Lines.{has_parts, is_nil, lines_of, parts_of}
 use Rattle.s2ix_read_dump.specs.PairLines.{IsCut, held_of_parts, held_written, line_text}
 use Rattle.s2ix_parts.specs.Written.{cell_written, count_of_line, count_written, label_written, pair_with, pair_written}
@@ -128,26 +128,26 @@ line_is_no_end h counted =
 end_graphic : All IsGraphic (codes "end")
 end_graphic = All-cons IsGraphic 101 (110 ∷ 100 ∷ []) (omega arith) (All-cons IsGraphic 110 (100 ∷ []) (omega arith) (All-cons IsGraphic 100 [] (omega arith) (All-nil IsGraphic)))
 
-pub end_parts : (pairs copies : ℕ) → pairs < 2 ^ 64 → copies < 2 ^ 64 → parts_of (end_of pairs copies) ≡ codes "end" ∷ decimal pairs ∷ decimal copies ∷ []
+pub end_parts : (pairs copies : ℕ) → pairs < 2 ^ 64 → copies < 2 ^ 64 → parts_of (end_text pairs copies) ≡ codes "end" ∷ decimal pairs ∷ decimal copies ∷ []
 end_parts pairs copies few small = parts_of_three (codes "end") (decimal pairs) (decimal copies) end_graphic (decimal_graphic pairs few) (decimal_graphic copies small)
 
-pub end_lacks_feed : (pairs copies : ℕ) → pairs < 2 ^ 64 → copies < 2 ^ 64 → Lacks 10 (end_of pairs copies)
+pub end_lacks_feed : (pairs copies : ℕ) → pairs < 2 ^ 64 → copies < 2 ^ 64 → Lacks 10 (end_text pairs copies)
 end_lacks_feed pairs copies few small = no_feed (codes "end") (decimal pairs) (decimal copies) end_graphic (decimal_graphic pairs few) (decimal_graphic copies small)
 
-pub end_has_parts : (pairs copies : ℕ) → pairs < 2 ^ 64 → copies < 2 ^ 64 → has_parts 3 (end_of pairs copies) ≡ true
+pub end_has_parts : (pairs copies : ℕ) → pairs < 2 ^ 64 → copies < 2 ^ 64 → has_parts 3 (end_text pairs copies) ≡ true
 end_has_parts pairs copies few small =
-    three_from_parts (end_of pairs copies) (codes "end") (decimal pairs) (decimal copies) (end_parts pairs copies few small) refl (is_some_text _ (decimal_nonempty pairs few)) (is_some_text _ (decimal_nonempty copies small))
+    three_from_parts (end_text pairs copies) (codes "end") (decimal pairs) (decimal copies) (end_parts pairs copies few small) refl (is_some_text _ (decimal_nonempty pairs few)) (is_some_text _ (decimal_nonempty copies small))
 
-pub end_is_end : (pairs copies : ℕ) → pairs < 2 ^ 64 → copies < 2 ^ 64 → is_end (end_of pairs copies) ≡ true
+pub end_is_end : (pairs copies : ℕ) → pairs < 2 ^ 64 → copies < 2 ^ 64 → is_end (end_text pairs copies) ≡ true
 end_is_end pairs copies few small = ap (λ (ps : List (List ℕ)). bytes_eq (slice_index_or ps 0 []) (codes "end")) (end_parts pairs copies few small)
 
-pub end_with_feed : (hs : Collection) → end_line hs ≡ end_of (length hs) (copies_in hs) ++ 10 ∷ []
+pub end_with_feed : (hs : Collection) → end_line hs ≡ end_text (length hs) (copies_in hs) ++ 10 ∷ []
 unfolding end_line
 end_with_feed hs = simp append_assoc
 
 -- what the code tests of an end line
 pub end_tested : (line a b c pairs_digits copies_digits : List ℕ) (pairs copies : ℕ) (p q : Bool) → is_end line ≡ true → parts_of line ≡ a ∷ b ∷ c ∷ [] → pairs < 2 ^ 64 → copies < 2 ^ 64
-    → p ≡ bytes_eq b pairs_digits → pairs_digits ≡ decimal pairs → q ≡ bytes_eq c copies_digits → copies_digits ≡ decimal copies → Decides (p && q) (line ≡ end_of pairs copies)
+    → p ≡ bytes_eq b pairs_digits → pairs_digits ≡ decimal pairs → q ≡ bytes_eq c copies_digits → copies_digits ≡ decimal copies → Decides (p && q) (line ≡ end_text pairs copies)
 end_tested line a b c pairs_digits copies_digits pairs copies p q end are few small p_is pairs_are q_is copies_are = (
   λ both.
       let parts = and_parts p q both in

@@ -17,7 +17,7 @@ use Rattle.s2ix_pairs.specs.declared.limits.Limits.{Limits}
 use Rattle.s2ix_pairs.specs.declared.pair.Held.{Held}
 use Rattle.s2ix_read_dump.specs.declared.errors.DumpFault.{DumpFault}
 use Rattle.s2ix_read_dump.specs.declared.errors.DumpFault.TheVariants.{Truncated, BadHeader, BadEnd, BadLine, BadToken, BadLabel, BadCount, Unsorted, TooManyCopies, TooManyPairs, TrailingBytes}
-use Rattle.s2ix_read_dump.specs.DumpFaults.{copies_above, dump_faults, end_of, is_end, is_first, is_inner, is_of_pair, is_over, line_fault, stands}
+use Rattle.s2ix_read_dump.specs.DumpFaults.{copies_above, dump_faults, end_text, is_end, is_first, is_inner, is_of_pair, is_over, line_fault, stands}
 use Rattle.s2ix_parts.specs.Faults.{Place}
 use Rattle.s2ix_parts.specs.Lines.{has_parts, is_nil, last_of, part, parts_of}
 use Rattle.s2ix_read_dump.specs.PairLines.{IsNext, held_of_parts, held_written, last_pair, line_text, place_below}
@@ -182,7 +182,7 @@ next_is limits hs line h is no_end writes before small few =
 -- ---- the end line
 
 pub end_row : (limits : Limits) (hs : Collection) (line : List ℕ) → IsBag (record { limits = limits; held = hs }) → is_end line ≡ true
-    → line_fault (place_below limits hs line) ≡ cond (not (bytes_eq line (end_of (length hs) (copies_in hs)))) (Some BadEnd) None
+    → line_fault (place_below limits hs line) ≡ cond (not (bytes_eq line (end_text (length hs) (copies_in hs)))) (Some BadEnd) None
 unfolding line_fault stands
 end_row limits hs line is end =
     let counted = counts_are limits hs is in
@@ -194,10 +194,10 @@ end_row limits hs line is end =
     no_pair_fault t (and_left _ _ other) (and_left _ _ other) (and_left _ _ other) (and_left _ _ other) (and_left _ _ other) (and_left _ _ other) (and_left _ _ other)
     ∙ cond-false (t Truncated) _ _ (and_right (not (is_over p)) false refl)
     ∙ cond-false (t BadHeader) (Some BadHeader) _ refl
-    ∙ end_rows (t BadEnd) (not (bytes_eq line (end_of (length hs) (copies_in hs)))) (t TrailingBytes)
+    ∙ end_rows (t BadEnd) (not (bytes_eq line (end_text (length hs) (copies_in hs)))) (t TrailingBytes)
     (same_row _ _ _ (and_from _ _ inner end)
-    (ap (λ m. not (bytes_eq line (end_of m (copies_above p)))) (length-map hs line_text)
-    ∙ ap (λ m. not (bytes_eq line (end_of (length hs) m))) (copies_are hs counted)))
+    (ap (λ m. not (bytes_eq line (end_text m (copies_above p)))) (length-map hs line_text)
+    ∙ ap (λ m. not (bytes_eq line (end_text (length hs) m))) (copies_are hs counted)))
     (and_left _ _ over)
   where
     end_rows : (a b c : Bool) → a ≡ b → c ≡ false → ◌≡◌ {A = Option DumpFault} (cond a (Some BadEnd) (cond c (Some TrailingBytes) None)) (cond b (Some BadEnd) None)

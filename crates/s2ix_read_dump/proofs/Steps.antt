@@ -13,7 +13,7 @@ use Rattle.s2ix_lists.proofs.Refusals.{copies_bound}
 use Rattle.s2ix_text.specs.Dump.{end_line, pair_line}
 use Rattle.s2ix_read_dump.specs.declared.errors.DumpFault.{DumpFault}
 use Rattle.s2ix_read_dump.specs.declared.errors.DumpFault.TheVariants.{Truncated, BadHeader, BadEnd, TrailingBytes}
-use Rattle.s2ix_read_dump.specs.DumpFaults.{dump_fault, end_of, is_end, line_fault}
+use Rattle.s2ix_read_dump.specs.DumpFaults.{dump_fault, end_text, is_end, line_fault}
 use Rattle.s2ix_parts.specs.Faults.{IsFromLine, fault_below}
 use Rattle.s2ix_parts.specs.Lines.{is_nil, lines_of, part}
 use Rattle.s2ix_read_dump.specs.PairLines.{IsCut, IsNext, line_text, lines_down_to, place_below}
@@ -37,14 +37,6 @@ pub record IsReadSoFar (limits : Limits) (whole : List ℕ) (hs : Collection) (s
   pub fault : fault_left limits [] (lines_of whole) ≡ fault_left limits hs (lines_of rest)
   pub copies : sum ≡ copies_in hs
 
-pub read_start : (limits : Limits) (text : List ℕ) → IsReadSoFar limits text [] 0 text
-read_start limits text = record {
-  bag = record { rises = tt; few = omega arith; small = λ k d within. absurd (omega arith) };
-  text = refl;
-  fault = refl;
-  copies = refl;
-}
-
 -- the number of a line below the lines of these pairs
 line_number : (limits : Limits) (hs : Collection) (line : List ℕ) (lines : List (List ℕ)) (fault : DumpFault) → line_fault (place limits (lines_down_to hs) line lines) ≡ Some fault → fault_left limits hs (line ∷ lines) ≡ Some (length hs + 2, fault)
 line_number limits hs line lines fault is =
@@ -61,14 +53,6 @@ fault_after_next limits hs line lines h some next =
 
 copies_more : (hs : Collection) (h : Held) → copies_in (hs ++ h ∷ []) ≡ copies_in hs + h.count
 copies_more hs h = omega (arith, sum_by-append (λ (x : Held). x.count) hs (h ∷ []))
-
--- a line with its line feed is a cut
-pub cut_is : (limits : Limits) (hs : Collection) (text line below : List ℕ) (h : Held) → text ≡ line ++ 10 ∷ below → lines_of text ≡ line ∷ lines_of below → IsNext limits hs line h
-    → IsCut text (line_text h) below × IsNext limits hs (line_text h) h
-cut_is limits hs text line below h cut lines next = (
-  record { whole = cut ∙ ap (λ x. x ++ 10 ∷ below) next.text; lines = lines ∙ ap (λ x. x ∷ lines_of below) next.text },
-  subst (λ x. IsNext limits hs x h) next.text next,
-)
 
 -- one held pair more
 pub read_more : (limits : Limits) (text : List ℕ) (hs : Collection) (copies : ℕ) (rest below : List ℕ) (h : Held) → IsReadSoFar limits text hs copies rest → IsCut rest (line_text h) below → IsNext limits hs (line_text h) h
@@ -98,17 +82,17 @@ truncated limits hs rest bag lines =
 
 -- ---- the end line
 
-end_sound : (limits : Limits) (hs : Collection) (line : List ℕ) → IsBag (record { limits = limits; held = hs }) → is_end line ≡ true → line ≡ end_of (length hs) (copies_in hs) → line_fault (place_below limits hs line) ≡ None
+end_sound : (limits : Limits) (hs : Collection) (line : List ℕ) → IsBag (record { limits = limits; held = hs }) → is_end line ≡ true → line ≡ end_text (length hs) (copies_in hs) → line_fault (place_below limits hs line) ≡ None
 end_sound limits hs line bag end is =
-    end_row limits hs line bag end ∙ cond-false _ _ _ (ap not ((bytes_eq-Decides line (end_of (length hs) (copies_in hs))).1 is))
+    end_row limits hs line bag end ∙ cond-false _ _ _ (ap not ((bytes_eq-Decides line (end_text (length hs) (copies_in hs))).1 is))
 
-pub end_fault : (limits : Limits) (hs : Collection) (line : List ℕ) → IsBag (record { limits = limits; held = hs }) → is_end line ≡ true → (line ≡ end_of (length hs) (copies_in hs) → ⊥) → line_fault (place_below limits hs line) ≡ Some BadEnd
+pub end_fault : (limits : Limits) (hs : Collection) (line : List ℕ) → IsBag (record { limits = limits; held = hs }) → is_end line ≡ true → (line ≡ end_text (length hs) (copies_in hs) → ⊥) → line_fault (place_below limits hs line) ≡ Some BadEnd
 end_fault limits hs line bag end other =
     end_row limits hs line bag end
-    ∙ cond-true _ _ _ (ap not (false_from_ne_true (bytes_eq line (end_of (length hs) (copies_in hs))) (λ same. other ((bytes_eq-Decides line (end_of (length hs) (copies_in hs))).0 same))))
+    ∙ cond-true _ _ _ (ap not (false_from_ne_true (bytes_eq line (end_text (length hs) (copies_in hs))) (λ same. other ((bytes_eq-Decides line (end_text (length hs) (copies_in hs))).0 same))))
 
 -- what is left behind the end line
-pub fault_behind : (limits : Limits) (hs : Collection) (line : List ℕ) (last : List ℕ) (lines : List (List ℕ)) → IsBag (record { limits = limits; held = hs }) → is_end line ≡ true → line ≡ end_of (length hs) (copies_in hs)
+pub fault_behind : (limits : Limits) (hs : Collection) (line : List ℕ) (last : List ℕ) (lines : List (List ℕ)) → IsBag (record { limits = limits; held = hs }) → is_end line ≡ true → line ≡ end_text (length hs) (copies_in hs)
     → fault_left limits hs (line ∷ last ∷ lines) ≡ fault_below line_fault limits (lines_down_to hs ++ line ∷ []) (last ∷ lines)
 fault_behind limits hs line last lines bag end is =
     found_later line_fault limits (lines_down_to hs) line (last ∷ lines) (end_sound limits hs line bag end is)
@@ -118,42 +102,42 @@ last_fault : (limits : Limits) (hs : Collection) (line last : List ℕ) (lines :
 last_fault limits hs line last lines end =
     behind_row (place limits (lines_down_to hs ++ line ∷ []) last lines) refl (over_behind hs line end)
 
-pub nothing_behind : (limits : Limits) (hs : Collection) (line : List ℕ) → IsBag (record { limits = limits; held = hs }) → is_end line ≡ true → line ≡ end_of (length hs) (copies_in hs) → fault_left limits hs (line ∷ [] ∷ []) ≡ None
+pub nothing_behind : (limits : Limits) (hs : Collection) (line : List ℕ) → IsBag (record { limits = limits; held = hs }) → is_end line ≡ true → line ≡ end_text (length hs) (copies_in hs) → fault_left limits hs (line ∷ [] ∷ []) ≡ None
 nothing_behind limits hs line bag end is =
     fault_behind limits hs line [] [] bag end is
     ∙ found_later line_fault limits (lines_down_to hs ++ line ∷ []) [] [] (last_fault limits hs line [] [] end)
     ∙ found_nowhere line_fault limits ((lines_down_to hs ++ line ∷ []) ++ [] ∷ [])
 
-pub bytes_behind : (limits : Limits) (hs : Collection) (line last : List ℕ) (lines : List (List ℕ)) → IsBag (record { limits = limits; held = hs }) → is_end line ≡ true → line ≡ end_of (length hs) (copies_in hs)
+pub bytes_behind : (limits : Limits) (hs : Collection) (line last : List ℕ) (lines : List (List ℕ)) → IsBag (record { limits = limits; held = hs }) → is_end line ≡ true → line ≡ end_text (length hs) (copies_in hs)
     → (not (is_nil lines) || not (is_nil last)) ≡ true → fault_left limits hs (line ∷ last ∷ lines) ≡ Some (length hs + 3, TrailingBytes)
 bytes_behind limits hs line last lines bag end is some =
     fault_behind limits hs line last lines bag end is
     ∙ found_here line_fault limits (lines_down_to hs ++ line ∷ []) last lines TrailingBytes (last_fault limits hs line last lines end ∙ cond-true _ _ _ some)
     ∙ ap (λ n. Some (n, TrailingBytes)) (let same : length (lines_down_to hs ++ line ∷ []) + 1 ≡ length hs + 3 = omega (arith, length_push (lines_down_to hs) line, length-map hs line_text) in same)
 
-pub trailing : (limits : Limits) (hs : Collection) (copies : ℕ) (rest line below : List ℕ) → IsBag (record { limits = limits; held = hs }) → copies ≡ copies_in hs → lines_of rest ≡ line ∷ lines_of below → is_end line ≡ true → line ≡ end_of (length hs) copies → is_nil below ≡ false
+pub trailing : (limits : Limits) (hs : Collection) (copies : ℕ) (rest line below : List ℕ) → IsBag (record { limits = limits; held = hs }) → copies ≡ copies_in hs → lines_of rest ≡ line ∷ lines_of below → is_end line ≡ true → line ≡ end_text (length hs) copies → is_nil below ≡ false
     → fault_left limits hs (lines_of rest) ≡ Some (length hs + 3, TrailingBytes)
 trailing limits hs copies rest line below bag sum lines end is some =
-    let same : line ≡ end_of (length hs) (copies_in hs) = is ∙ ap (λ n. end_of (length hs) n) sum in
+    let same : line ≡ end_text (length hs) (copies_in hs) = is ∙ ap (λ n. end_text (length hs) n) sum in
     let parts = lines_split (lines_of below) (lines_some below) in
     ap (fault_left limits hs) (lines ∙ ap (λ ls. line ∷ ls) parts.2)
     ∙ bytes_behind limits hs line parts.0 parts.1 bag end same (some_behind below parts.0 parts.1 some parts.2)
 
 -- the whole text, where nothing is behind the end line
-pub read_to_end : (limits : Limits) (hs : Collection) (copies : ℕ) (rest line below : List ℕ) → IsBag (record { limits = limits; held = hs }) → copies ≡ copies_in hs → rest ≡ line ++ 10 ∷ below → lines_of rest ≡ line ∷ lines_of below → is_end line ≡ true → line ≡ end_of (length hs) copies → below ≡ []
+pub read_to_end : (limits : Limits) (hs : Collection) (copies : ℕ) (rest line below : List ℕ) → IsBag (record { limits = limits; held = hs }) → copies ≡ copies_in hs → rest ≡ line ++ 10 ∷ below → lines_of rest ≡ line ∷ lines_of below → is_end line ≡ true → line ≡ end_text (length hs) copies → below ≡ []
     → (rest ≡ end_line hs) × (fault_left limits hs (lines_of rest) ≡ None)
 unfolding lines_of
 read_to_end limits hs copies rest line below bag sum cut lines end is none =
-    let same : line ≡ end_of (length hs) (copies_in hs) = is ∙ ap (λ n. end_of (length hs) n) sum in (
+    let same : line ≡ end_text (length hs) (copies_in hs) = is ∙ ap (λ n. end_text (length hs) n) sum in (
       cut ∙ ap (λ x. line ++ 10 ∷ x) none ∙ ap (λ x. x ++ 10 ∷ []) same ∙ sym (end_with_feed hs),
       ap (fault_left limits hs) (lines ∙ ap (λ x. line ∷ lines_of x) none) ∙ nothing_behind limits hs line bag end same,
     )
 
-pub bad_end : (limits : Limits) (hs : Collection) (copies : ℕ) (rest line below : List ℕ) → IsBag (record { limits = limits; held = hs }) → copies ≡ copies_in hs → lines_of rest ≡ line ∷ lines_of below → is_end line ≡ true → (line ≡ end_of (length hs) copies → ⊥)
+pub bad_end : (limits : Limits) (hs : Collection) (copies : ℕ) (rest line below : List ℕ) → IsBag (record { limits = limits; held = hs }) → copies ≡ copies_in hs → lines_of rest ≡ line ∷ lines_of below → is_end line ≡ true → (line ≡ end_text (length hs) copies → ⊥)
     → fault_left limits hs (lines_of rest) ≡ Some (length hs + 2, BadEnd)
 bad_end limits hs copies rest line below bag sum lines end other =
     row_fault limits hs rest line below BadEnd lines
-    (end_fault limits hs line bag end (λ is. other (is ∙ ap (λ n. end_of (length hs) n) (sym sum))))
+    (end_fault limits hs line bag end (λ is. other (is ∙ ap (λ n. end_text (length hs) n) (sym sum))))
 
 -- ---- from the top
 
@@ -191,11 +175,6 @@ end_agrees line first word r is first_is word_is fails = ap₂ (λ (x y : List �
 -- the sum of the counts with the next one fits
 pub next_sum : (limits : Limits) (hs : Collection) (line : List ℕ) (h : Held) → IsNext limits hs line h → copies_in hs + h.count ≤ 65535000000
 next_sum limits hs line h next = omega (arith, copies_more hs h, (copies_small limits (hs ++ h ∷ []) next.bag).1)
-
--- what is read, where the end line is all that is left
-pub read_all : (limits : Limits) (text : List ℕ) (hs : Collection) (copies : ℕ) (rest : List ℕ) → IsReadSoFar limits text hs copies rest → rest ≡ end_line hs → fault_left limits hs (lines_of rest) ≡ None
-    → (text ≡ flat_map pair_line hs ++ end_line hs) × (fault_left limits [] (lines_of text) ≡ None)
-read_all limits text hs copies rest was end sound = (was.text ∙ ap (λ x. flat_map pair_line hs ++ x) end, was.fault ∙ sound)
 
 -- want of memory below the header
 pub wants_below : (limits : Limits) (text : List ℕ) → IsFromLine 2 (fault_left limits [] (lines_of text))

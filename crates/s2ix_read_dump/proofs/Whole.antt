@@ -17,7 +17,7 @@ use Rattle.s2ix_read_dump.specs.declared.errors.DumpError.{DumpError}
 use Rattle.s2ix_read_dump.specs.declared.errors.DumpError.TheVariants.{At, OutOfMemory}
 use Rattle.s2ix_read_dump.specs.declared.errors.DumpFault.{DumpFault}
 use Rattle.s2ix_read_dump.specs.declared.errors.DumpFault.TheVariants.{Truncated, BadHeader, BadEnd, Unsorted, TooManyCopies, TooManyPairs, TrailingBytes}
-use Rattle.s2ix_read_dump.specs.DumpFaults.{IsDumpError, dump_fault, end_of, is_end, line_fault}
+use Rattle.s2ix_read_dump.specs.DumpFaults.{IsDumpError, dump_fault, end_text, is_end, line_fault}
 use Rattle.s2ix_parts.specs.Faults.{fault_below}
 use Rattle.s2ix_parts.specs.Lines.{is_nil, lines_of}
 use Rattle.s2ix_read_dump.specs.PairLines.{IsNext, held_written, last_pair, line_text, lines_down_to, place_below}
@@ -33,7 +33,7 @@ use Rattle.s2ix_read_dump.proofs.Steps.{below_header, bytes_behind, copies_small
 
 -- the lines of a dump below those of some held pairs: of the others, and the end line
 abbrev pub lines_left : Collection → Collection → List (List ℕ)
-lines_left hs ks = map line_text ks ++ end_of (length (hs ++ ks)) (copies_in (hs ++ ks)) ∷ [] ∷ []
+lines_left hs ks = map line_text ks ++ end_text (length (hs ++ ks)) (copies_in (hs ++ ks)) ∷ [] ∷ []
 
 -- ---- a dump has no fault
 
@@ -41,8 +41,8 @@ sound_left : (limits : Limits) (hs ks : Collection) → IsBag (record { limits =
 sound_left limits hs [] is =
     let bag = front_is_bag limits hs [] is in
     let sizes = copies_small limits hs bag in
-    ap (λ (x : Collection). fault_left limits hs (end_of (length x) (copies_in x) ∷ [] ∷ [])) (append-nil hs)
-    ∙ nothing_behind limits hs (end_of (length hs) (copies_in hs)) bag (end_is_end (length hs) (copies_in hs) (omega (arith, sizes.0)) (omega (arith, sizes.1))) refl
+    ap (λ (x : Collection). fault_left limits hs (end_text (length x) (copies_in x) ∷ [] ∷ [])) (append-nil hs)
+    ∙ nothing_behind limits hs (end_text (length hs) (copies_in hs)) bag (end_is_end (length hs) (copies_in hs) (omega (arith, sizes.0)) (omega (arith, sizes.1))) refl
 sound_left limits hs (k ∷ ks) is =
     let bag = front_is_bag limits hs (k ∷ ks) is in
     let counted : HasCount k = here_has HasCount hs k ks (counts_are limits (hs ++ k ∷ ks) is) in
@@ -51,15 +51,15 @@ sound_left limits hs (k ∷ ks) is =
     let next = next_is limits hs (line_text k) k bag (line_is_no_end k counted) (held_of_line k counted) (next_before hs k ks is.rises) small few in
     let With : Collection → Type 0 = λ x. IsBag (record { limits = limits; held = x }) in
     let assoc : hs ++ k ∷ ks ≡ (hs ++ k ∷ []) ++ ks = sym (append_assoc hs (k ∷ []) ks) in
-    fault_after_next limits hs (line_text k) (map line_text ks ++ end_of (length (hs ++ k ∷ ks)) (copies_in (hs ++ k ∷ ks)) ∷ [] ∷ []) k (some_left (map line_text ks) _ _) next
-    ∙ ap (λ (x : Collection). fault_left limits (hs ++ k ∷ []) (map line_text ks ++ end_of (length x) (copies_in x) ∷ [] ∷ [])) assoc
+    fault_after_next limits hs (line_text k) (map line_text ks ++ end_text (length (hs ++ k ∷ ks)) (copies_in (hs ++ k ∷ ks)) ∷ [] ∷ []) k (some_left (map line_text ks) _ _) next
+    ∙ ap (λ (x : Collection). fault_left limits (hs ++ k ∷ []) (map line_text ks ++ end_text (length x) (copies_in x) ∷ [] ∷ [])) assoc
     ∙ sound_left limits (hs ++ k ∷ []) ks (subst With assoc is)
 
 -- the lines of a dump
-lines_written : (ks all : Collection) → All HasCount ks → length all < 2 ^ 64 → copies_in all < 2 ^ 64 → lines_of (flat_map pair_line ks ++ end_line all) ≡ map line_text ks ++ end_of (length all) (copies_in all) ∷ [] ∷ []
+lines_written : (ks all : Collection) → All HasCount ks → length all < 2 ^ 64 → copies_in all < 2 ^ 64 → lines_of (flat_map pair_line ks ++ end_line all) ≡ map line_text ks ++ end_text (length all) (copies_in all) ∷ [] ∷ []
 lines_written [] all counted few small =
-    ap lines_of (end_with_feed all) ∙ lines_apart (end_of (length all) (copies_in all)) [] (end_lacks_feed (length all) (copies_in all) few small)
-    ∙ ap (λ ls. end_of (length all) (copies_in all) ∷ ls) no_lines
+    ap lines_of (end_with_feed all) ∙ lines_apart (end_text (length all) (copies_in all)) [] (end_lacks_feed (length all) (copies_in all) few small)
+    ∙ ap (λ ls. end_text (length all) (copies_in all) ∷ ls) no_lines
 lines_written (k ∷ ks) all counted few small =
     ap lines_of
     (append_assoc (pair_line k) (flat_map pair_line ks) (end_line all) ∙ ap (λ x. x ++ (flat_map pair_line ks ++ end_line all)) (line_with_feed k)
@@ -110,18 +110,18 @@ next_from : (limits : Limits) (hs : Collection) (line : List ℕ) → IsBag (rec
 next_from limits hs line is no_end none =
     next_at limits hs line (held_written line) is no_end refl (sym (pair_row limits hs line is no_end) ∙ none)
 
-end_from : (limits : Limits) (hs : Collection) (line : List ℕ) → IsBag (record { limits = limits; held = hs }) → is_end line ≡ true → line_fault (place_below limits hs line) ≡ None → line ≡ end_of (length hs) (copies_in hs)
+end_from : (limits : Limits) (hs : Collection) (line : List ℕ) → IsBag (record { limits = limits; held = hs }) → is_end line ≡ true → line_fault (place_below limits hs line) ≡ None → line ≡ end_text (length hs) (copies_in hs)
 end_from limits hs line is end none =
     ⊎_elim
-    (λ same. (bytes_eq-Decides line (end_of (length hs) (copies_in hs))).0 same)
+    (λ same. (bytes_eq-Decides line (end_text (length hs) (copies_in hs))).0 same)
     (λ other.
-    let fault = end_fault limits hs line is end (λ e. both_ways (bytes_eq line (end_of (length hs) (copies_in hs))) other ((bytes_eq-Decides line (end_of (length hs) (copies_in hs))).1 e)) in
+    let fault = end_fault limits hs line is end (λ e. both_ways (bytes_eq line (end_text (length hs) (copies_in hs))) other ((bytes_eq-Decides line (end_text (length hs) (copies_in hs))).1 e)) in
     let clash : Some BadEnd ≡ None = sym fault ∙ none in cc)
-    (cases_Bool (bytes_eq line (end_of (length hs) (copies_in hs))))
+    (cases_Bool (bytes_eq line (end_text (length hs) (copies_in hs))))
 
 -- nothing is left behind the end line
-end_left : (limits : Limits) (hs : Collection) (line last : List ℕ) (lines : List (List ℕ)) → IsBag (record { limits = limits; held = hs }) → is_end line ≡ true → line ≡ end_of (length hs) (copies_in hs) → fault_left limits hs (line ∷ last ∷ lines) ≡ None
-    → line ∷ last ∷ lines ≡ end_of (length hs) (copies_in hs) ∷ [] ∷ []
+end_left : (limits : Limits) (hs : Collection) (line last : List ℕ) (lines : List (List ℕ)) → IsBag (record { limits = limits; held = hs }) → is_end line ≡ true → line ≡ end_text (length hs) (copies_in hs) → fault_left limits hs (line ∷ last ∷ lines) ≡ None
+    → line ∷ last ∷ lines ≡ end_text (length hs) (copies_in hs) ∷ [] ∷ []
 end_left limits hs line [] [] is end same none = ap (λ x. x ∷ [] ∷ []) same
 end_left limits hs line (byte ∷ last) [] is end same none =
     let clash : ◌≡◌ {A = Option (ℕ × DumpFault)} (Some (length hs + 3, TrailingBytes)) None = sym (bytes_behind limits hs line (byte ∷ last) [] is end same refl) ∙ none in cc
@@ -133,13 +133,13 @@ record IsLeft (limits : Limits) (hs : Collection) (lines : List (List ℕ)) (ks 
   bag : IsBag (record { limits = limits; held = hs ++ ks })
   is : lines ≡ lines_left hs ks
 
-left_end : (limits : Limits) (hs : Collection) (lines : List (List ℕ)) → IsBag (record { limits = limits; held = hs }) → lines ≡ end_of (length hs) (copies_in hs) ∷ [] ∷ [] → IsLeft limits hs lines []
+left_end : (limits : Limits) (hs : Collection) (lines : List (List ℕ)) → IsBag (record { limits = limits; held = hs }) → lines ≡ end_text (length hs) (copies_in hs) ∷ [] ∷ [] → IsLeft limits hs lines []
 left_end limits hs lines is same =
     let With : Collection → Type 0 = λ x. IsBag (record { limits = limits; held = x }) in
     let whole : hs ≡ hs ++ [] = sym (append-nil hs) in
     record {
       bag = subst With whole is;
-      is = same ∙ ap (λ (x : Collection). end_of (length x) (copies_in x) ∷ [] ∷ []) whole;
+      is = same ∙ ap (λ (x : Collection). end_text (length x) (copies_in x) ∷ [] ∷ []) whole;
     }
 
 left_more : (limits : Limits) (hs : Collection) (line : List ℕ) (lines : List (List ℕ)) (h : Held) (ks : Collection) → line ≡ line_text h → IsLeft limits (hs ++ h ∷ []) lines ks → IsLeft limits hs (line ∷ lines) (h ∷ ks)
@@ -148,7 +148,7 @@ left_more limits hs line lines h ks same left =
     let assoc : (hs ++ h ∷ []) ++ ks ≡ hs ++ h ∷ ks = append_assoc hs (h ∷ []) ks in
     record {
       bag = subst With assoc left.bag;
-      is = ap₂ (λ (x : List ℕ) (xs : List (List ℕ)). x ∷ xs) same (left.is ∙ ap (λ (x : Collection). map line_text ks ++ end_of (length x) (copies_in x) ∷ [] ∷ []) assoc);
+      is = ap₂ (λ (x : List ℕ) (xs : List (List ℕ)). x ∷ xs) same (left.is ∙ ap (λ (x : Collection). map line_text ks ++ end_text (length x) (copies_in x) ∷ [] ∷ []) assoc);
     }
 
 left_from : (limits : Limits) (hs : Collection) (lines : List (List ℕ)) → IsBag (record { limits = limits; held = hs }) → is_nil lines ≡ false → fault_left limits hs lines ≡ None → (ks : Collection) × IsLeft limits hs lines ks
@@ -204,7 +204,7 @@ lines_are_dump limits (header ∷ (next ∷ lines)) some none =
       left.1.bag,
       ap (λ h. h ++ 10 ∷ join_with_byte 10 (next ∷ lines)) is
           ∙ ap (λ (ls : List (List ℕ)). codes "s2ix 1" ++ 10 ∷ join_with_byte 10 ls) left.1.is
-          ∙ ap (λ x. codes "s2ix 1" ++ 10 ∷ x) (join_left left.0 (end_of (length left.0) (copies_in left.0)) ∙ ap (λ x. flat_map pair_line left.0 ++ x) (sym (end_with_feed left.0))),
+          ∙ ap (λ x. codes "s2ix 1" ++ 10 ∷ x) (join_left left.0 (end_text (length left.0) (copies_in left.0)) ∙ ap (λ x. flat_map pair_line left.0 ++ x) (sym (end_with_feed left.0))),
     )
 
 pub sound_is_dump : (limits : Limits) (text : List ℕ) → dump_fault limits text ≡ None → (ks : Collection) × IsBag (record { limits = limits; held = ks }) × (text ≡ dump_text ks)

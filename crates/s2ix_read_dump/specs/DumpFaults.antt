@@ -49,8 +49,8 @@ abbrev pub pair_before : Place → Option Pair
 pair_before p = option_and_then pair_written (last_of (pairs_above p))
 
 -- the end line of so many pairs and copies: `end PAIRS COPIES`
-abbrev pub end_of : ℕ → ℕ → List ℕ
-end_of pairs copies = codes "end " ++ (decimal pairs ++ (codes " " ++ decimal copies))
+abbrev pub end_text : ℕ → ℕ → List ℕ
+end_text pairs copies = codes "end " ++ (decimal pairs ++ (codes " " ++ decimal copies))
 
 -- ---- the faults
 
@@ -58,7 +58,7 @@ end_of pairs copies = codes "end " ++ (decimal pairs ++ (codes " " ++ decimal co
 unfoldable pub stands : Place → DumpFault → Bool
 stands p Truncated = not (is_over p) && not p.ended
 stands p BadHeader = is_first p && not (bytes_eq p.line (codes "s2ix 1"))
-stands p BadEnd = is_inner p && is_end p.line && not (bytes_eq p.line (end_of (length (pairs_above p)) (copies_above p)))
+stands p BadEnd = is_inner p && is_end p.line && not (bytes_eq p.line (end_text (length (pairs_above p)) (copies_above p)))
 stands p BadLine = is_of_pair p && not (has_parts 3 p.line)
 stands p BadToken = is_of_pair p && is_none (cell_written (part 0 p.line))
 stands p BadLabel = is_of_pair p && is_none (label_written (part 1 p.line))

@@ -3,7 +3,7 @@ ghost use Rattle.std.specs.Prelude.{◌≡◌, ◌∷◌, ◌++◌, [], codes, f
 ghost use Rattle.s2ix_pairs.specs.Collection.{Collection, IsBag, copies_in};
 ghost use Rattle.s2ix_text.specs.Dump.{dump_text, end_line, pair_line};
 ghost use Rattle.s2ix_read_dump.specs.declared.errors.DumpError.TheVariants.{OutOfMemory};
-ghost use Rattle.s2ix_read_dump.specs.DumpFaults.{IsDumpError, dump_fault, end_of, is_end, line_fault};
+ghost use Rattle.s2ix_read_dump.specs.DumpFaults.{IsDumpError, dump_fault, end_text, is_end, line_fault};
 ghost use Rattle.s2ix_parts.specs.Faults.{fault_below};
 ghost use Rattle.s2ix_parts.specs.Lines.{lines_of};
 ghost use Rattle.s2ix_read_dump.specs.PairLines.{IsCut, IsNext, line_text, lines_down_to};
@@ -18,7 +18,7 @@ use std::alloc::{AllocError, Global};
 // Whether a line with the first part `end` is the end line of so many pairs and copies.
 fn is_end_of(pairs: usize, copies: u64, line: &[u8]) -> bool
     requires { is_end line.now ≡ true }
-    ensures { IsTrue result ↔ (line.now ≡ end_of pairs copies) }
+    ensures { IsTrue result ↔ (line.now ≡ end_text pairs copies) }
 {
     let Some((_, pairs_text, copies_text)) = three_parts(line) else {
         return false;

@@ -57,7 +57,7 @@ impl fmt::Display for DumpFault {
     }
 }
 
-/// Why [`read_dump`](crate::read_dump) refused a text.
+/// Why [`read_dump`](crate::read_dump) refused a text. This project's own.
 #[derive(Clone, Copy, Debug, PartialEq, Eq, Error)]
 pub enum DumpError {
     /// The first line with a fault, counted from 1.

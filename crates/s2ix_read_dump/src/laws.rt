@@ -1,5 +1,4 @@
-//! What the definitions of readers that the contracts cite say, in other words. Each function is a law: it does nothing, and its contract is
-//! the fact.
+//! Laws: functions that do nothing, and whose contracts are facts on the definitions.
 ghost use Rattle.s2ix_read_dump.specs.Laws.{DumpsHaveNoFault, NoFaultyLineIsAccepted, WrittenDumpsAreReadBack};
 
 /// A text has no fault exactly where it is the dump of a collection within the limits.
@@ -12,7 +11,7 @@ pub fn written_dumps_are_read_back()
     ensures { WrittenDumpsAreReadBack }
 {}
 
-/// No line of a text without a fault has one: a line has either a fault, or a place in a text that is accepted.
+/// In a text without a fault no line has one. So a text with a faulty line is never accepted.
 pub fn no_faulty_line_is_accepted()
     ensures { NoFaultyLineIsAccepted }
 {}

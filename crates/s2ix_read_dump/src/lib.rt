@@ -1,5 +1,8 @@
 //! The reader of dumps. It accepts exactly the texts that are a collection's dump within the limits, and gives that collection; any other
 //! text is refused with its first faulty line and what is wrong there.
+//!
+//! [`read_dump`] reads a text that lies whole in memory; there is no reading from a source as it comes. The faults and their order are
+//! those of `docs/FORMATS.md`.
 #![tactic(auto)]
 
 mod dump;

@@ -45,7 +45,7 @@ fn comes_behind(before: &[FlatHeld], pair: Pair) -> bool
 }
 
 /// The held pair of the line that follows those of the pairs before, or the fault of that line.
-pub fn next_held(limits: Limits, before: &[FlatHeld], line: &[u8]) -> Result<Held, DumpFault>
+pub(crate) fn next_held(limits: Limits, before: &[FlatHeld], line: &[u8]) -> Result<Held, DumpFault>
     requires bag { IsBag (record { limits = limits; held = before.now }) }
     requires pair { is_end line.now ≡ false }
     ensures next { IfOk result (IsNext limits before.now line.now) }
@@ -89,7 +89,7 @@ fn held_in_front(text: &[u8]) -> Option<(Held, &[u8])>
 /// The held pair that follows those of the pairs before, and what is behind its line, where that line stands at the front of a text and has
 /// the common shape. Where it answers nothing, no line of the common shape stands there that is the next.
 #[inline]
-pub fn next_in_front<'a>(
+pub(crate) fn next_in_front<'a>(
     limits: Limits,
     before: &[FlatHeld],
     text: &'a [u8],

@@ -16,7 +16,7 @@ use Rattle.s2ix_parts.proofs.PartCounts.{graphic_lacks, lacks_feed_more, parts_l
 use Rattle.s2ix_parts.proofs.Pieces.{Lacks, is_some_text}
 use Rattle.s2ix_read_journal.specs.declared.errors.JournalFault.{JournalFault}
 use Rattle.s2ix_read_journal.specs.declared.errors.JournalFault.TheVariants.{BadLine, TooManyChanges}
-use Rattle.s2ix_read_journal.specs.JournalFaults.{end_of, is_change, is_end}
+use Rattle.s2ix_read_journal.specs.JournalFaults.{end_text, is_change, is_end}
 use Rattle.s2ix_read_journal.specs.JournalLines.{change_text, next_size, size_behind, size_of_part}
 use Rattle.s2ix_read_journal.specs.Numbers.{size_written}
 use Rattle.s2ix_read_journal.proofs.NumberTexts.{size_of_digits, written_size}
@@ -26,26 +26,26 @@ use Rattle.s2ix_read_journal.proofs.NumberTexts.{size_of_digits, written_size}
 end_graphic : All IsGraphic (codes "end")
 end_graphic = All-cons IsGraphic 101 (110 ∷ 100 ∷ []) (omega arith) (All-cons IsGraphic 110 (100 ∷ []) (omega arith) (All-cons IsGraphic 100 [] (omega arith) (All-nil IsGraphic)))
 
-end_parts : (groups : ℕ) → groups < 2 ^ 64 → parts_of (end_of groups) ≡ codes "end" ∷ decimal groups ∷ []
+end_parts : (groups : ℕ) → groups < 2 ^ 64 → parts_of (end_text groups) ≡ codes "end" ∷ decimal groups ∷ []
 end_parts groups few =
     parts_more (codes "end") (decimal groups) end_graphic ∙ ap (λ (ps : List (List ℕ)). codes "end" ∷ ps) (parts_last (decimal groups) (decimal_graphic groups few))
 
-pub end_lacks_feed : (groups : ℕ) → groups < 2 ^ 64 → Lacks 10 (end_of groups)
+pub end_lacks_feed : (groups : ℕ) → groups < 2 ^ 64 → Lacks 10 (end_text groups)
 end_lacks_feed groups few = lacks_feed_more (codes "end") (decimal groups) end_graphic (graphic_lacks 10 (decimal groups) (omega arith) (decimal_graphic groups few))
 
-pub end_has_parts : (groups : ℕ) → groups < 2 ^ 64 → has_parts 2 (end_of groups) ≡ true
-end_has_parts groups few = two_from_parts (end_of groups) (codes "end") (decimal groups) (end_parts groups few) refl (is_some_text _ (decimal_nonempty groups few))
+pub end_has_parts : (groups : ℕ) → groups < 2 ^ 64 → has_parts 2 (end_text groups) ≡ true
+end_has_parts groups few = two_from_parts (end_text groups) (codes "end") (decimal groups) (end_parts groups few) refl (is_some_text _ (decimal_nonempty groups few))
 
-pub end_is_end : (groups : ℕ) → groups < 2 ^ 64 → is_end (end_of groups) ≡ true
+pub end_is_end : (groups : ℕ) → groups < 2 ^ 64 → is_end (end_text groups) ≡ true
 end_is_end groups few = ap (λ (ps : List (List ℕ)). bytes_eq (slice_index_or ps 0 []) (codes "end")) (end_parts groups few)
 
-pub end_with_feed : (changes : List (List Entry)) → last_line changes ≡ end_of (length changes) ++ 10 ∷ []
+pub end_with_feed : (changes : List (List Entry)) → last_line changes ≡ end_text (length changes) ++ 10 ∷ []
 unfolding last_line
 end_with_feed changes = simp append_assoc
 
 -- what the code of `is_end_of` tests
 pub end_tested : (line a b digits : List ℕ) (groups : ℕ) (r : Bool) → is_end line ≡ true → parts_of line ≡ a ∷ b ∷ [] → groups < 2 ^ 64 → r ≡ bytes_eq b digits → digits ≡ decimal groups
-    → (r ≡ true) ↔ (line ≡ end_of groups)
+    → (r ≡ true) ↔ (line ≡ end_text groups)
 end_tested line a b digits groups r end are few r_is digits_are = (
   λ holds.
       let first : a ≡ codes "end" = (bytes_eq-Decides a (codes "end")).0 (sym (ap (λ (ps : List (List ℕ)). bytes_eq (slice_index_or ps 0 []) (codes "end")) are) ∙ end) in

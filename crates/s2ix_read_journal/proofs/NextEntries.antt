@@ -3,8 +3,7 @@ use Rattle.std.proofs.Common.{◌≡◌, ◌≢◌, ◌==◌, ℕ, ◌+◌, ◌<
 use Rattle.std.specs.Prelude.{nat_lt}
 use Rattle.std.specs.Option.{option_map}
 use Rattle.std.proofs.lemmas.Bool.{both_ways, cases_lt, eq-eqb, le-ltb, lt-ltb, ltb-true, ne_eqb, or_from, or_left, or_right}
-use Rattle.std.proofs.lemmas.List.{take_at}
-use Rattle.std.proofs.lemmas.List.Elements.{All-head, All-push, All-tail, All-take}
+use Rattle.std.proofs.lemmas.List.Elements.{All-head, All-push, All-tail}
 use Rattle.s2ix_pairs.specs.Change.{IsChangeList, IsChangeListFrom}
 use Rattle.s2ix_pairs.specs.Limits.{count_limit}
 use Rattle.s2ix_pairs.specs.Pair.{rank_of}
@@ -116,10 +115,6 @@ no_entries limits = record { list = tt; small = λ k d within. absurd (omega ari
 
 -- ---- an entry among the entries of a group
 
-front_rises : (n : ℕ) (es fs : List Entry) → IsChangeListFrom n (es ++ fs) → IsChangeListFrom n es
-front_rises n [] fs is = tt
-front_rises n (e ∷ es) fs is = (is.0, is.1, front_rises (rank_of e.pair + 1) es fs is.2)
-
 here_differs : (n : ℕ) (es : List Entry) (e : Entry) (fs : List Entry) → IsChangeListFrom n (es ++ e ∷ fs) → e.before ≢ e.after
 here_differs n [] e fs is = is.1
 here_differs n (g ∷ es) e fs is = here_differs (rank_of g.pair + 1) es e fs is.2
@@ -135,12 +130,6 @@ here_behind (g ∷ es) e fs is = before_behind 0 g es e fs is
 here_has : (P : Entry → Type 0) (es : List Entry) (e : Entry) (fs : List Entry) → All P (es ++ e ∷ fs) → P e
 here_has P [] e fs all = All-head P e fs all
 here_has P (g ∷ es) e fs all = here_has P es e fs (All-tail P g (es ++ e ∷ fs) all)
-
-pub front_entries : (limits : Limits) (es fs : List Entry) → AreEntries limits (es ++ fs) → AreEntries limits es
-front_entries limits es fs are = record {
-  list = front_rises 0 es fs are.list;
-  small = subst (All (HasCountsWithin limits)) (take_at es fs _ refl) (All-take (HasCountsWithin limits) _ (es ++ fs) are.small);
-}
 
 -- the line of an entry that is behind the others writes it
 pub next_here : (limits : Limits) (es : List Entry) (e : Entry) (fs : List Entry) → AreEntries limits (es ++ e ∷ fs) → next_entry limits (last_pair es) (entry_text e) ≡ Ok e

@@ -18,12 +18,12 @@ use Rattle.s2ix_parts.proofs.Pieces.{lines_apart, lines_some}
 use Rattle.s2ix_parts.proofs.Rests.{lines_split, some_behind}
 use Rattle.s2ix_read_journal.specs.declared.errors.JournalFault.{JournalFault}
 use Rattle.s2ix_read_journal.specs.declared.errors.JournalFault.TheVariants.{BadEnd, TrailingBytes, Truncated}
-use Rattle.s2ix_read_journal.specs.JournalFaults.{behind, end_of, is_end, line_fault}
+use Rattle.s2ix_read_journal.specs.JournalFaults.{behind, end_text, is_end, line_fault}
 use Rattle.s2ix_read_journal.specs.JournalLines.{at_group, change_text, entry_text, group_lines, last_pair, lines_down_to, next_entry, next_size}
 use Rattle.s2ix_read_journal.specs.Journals.{AreEntries}
 use Rattle.s2ix_read_journal.proofs.ChangeTexts.{IsSize, change_lacks_feed, change_with_feed, end_with_feed, line_from_size}
 use Rattle.s2ix_read_journal.proofs.EntryTexts.{HasSides, entry_lacks_feed, line_with_feed}
-use Rattle.s2ix_read_journal.proofs.NextEntries.{entries_more, no_entries, next_from, sides_within}
+use Rattle.s2ix_read_journal.proofs.NextEntries.{entries_more, next_from, sides_within}
 use Rattle.s2ix_read_journal.proofs.Rows.{IsBetween, IsInside, behind_row, end_row, entry_row, group_row, place_below}
 use Rattle.s2ix_read_journal.proofs.Standings.{between_start, group_begun, inside_group, over_behind, some_behind_line}
 use Rattle.s2ix_read_journal.proofs.Steps.{IsGroup, cut_short, entries_passed, fault_left, groups_passed, passes, stops}
@@ -69,9 +69,6 @@ pub record IsGroupSoFar (limits : Limits) (text : List ℕ) (wanted : ℕ) (es :
   pub entries : AreEntries limits es
   pub few : length es ≤ wanted
   pub cut : text ≡ flat_map entry_line es ++ rest
-
-pub group_start : (limits : Limits) (text : List ℕ) (wanted : ℕ) → IsGroupSoFar limits text wanted [] text
-group_start limits text wanted = record { entries = no_entries limits; few = omega arith; cut = refl }
 
 pub group_more : (limits : Limits) (text : List ℕ) (wanted : ℕ) (es : List Entry) (rest line below : List ℕ) (e : Entry) → IsGroupSoFar limits text wanted es rest → length es < wanted → rest ≡ line ++ 10 ∷ below → next_entry limits (last_pair es) line ≡ Ok e
     → IsGroupSoFar limits text wanted (es ++ e ∷ []) below
@@ -127,9 +124,6 @@ pub record IsJournalSoFar (limits : Limits) (text : List ℕ) (cs : List (List E
   pub cut : text ≡ flat_map group_text cs ++ rest
   pub number : line ≡ length (lines_down_to cs) + 1
   pub small : line ≤ 2 + 2000001 * length cs
-
-pub journal_start : (limits : Limits) (text : List ℕ) → IsJournalSoFar limits text [] 2 text
-journal_start limits text = record { groups = λ k d within. absurd (omega arith); few = omega arith; cut = refl; number = refl; small = omega arith }
 
 pub journal_standing : (limits : Limits) (text : List ℕ) (cs : List (List Entry)) (number : ℕ) (rest : List ℕ) → IsJournalSoFar limits text cs number rest
     → (fault_left limits (lines_down_to []) (lines_of text) ≡ fault_left limits (lines_down_to cs) (lines_of rest)) × IsBetween (lines_down_to cs) (length cs)
@@ -212,32 +206,32 @@ journal_more limits text cs number size rest line below behind es was writes cut
 
 -- ---- the end line
 
-end_sound : (limits : Limits) (above : List (List ℕ)) (groups : ℕ) (line : List ℕ) → IsBetween above groups → is_end line ≡ true → line ≡ end_of groups → line_fault (place_below limits above line) ≡ None
-end_sound limits above groups line is end same = end_row limits above line groups is end ∙ cond-false _ _ _ (ap not ((bytes_eq-Decides line (end_of groups)).1 same))
+end_sound : (limits : Limits) (above : List (List ℕ)) (groups : ℕ) (line : List ℕ) → IsBetween above groups → is_end line ≡ true → line ≡ end_text groups → line_fault (place_below limits above line) ≡ None
+end_sound limits above groups line is end same = end_row limits above line groups is end ∙ cond-false _ _ _ (ap not ((bytes_eq-Decides line (end_text groups)).1 same))
 
-pub end_fault : (limits : Limits) (above : List (List ℕ)) (groups : ℕ) (line : List ℕ) → IsBetween above groups → is_end line ≡ true → (line ≡ end_of groups → ⊥) → line_fault (place_below limits above line) ≡ Some BadEnd
+pub end_fault : (limits : Limits) (above : List (List ℕ)) (groups : ℕ) (line : List ℕ) → IsBetween above groups → is_end line ≡ true → (line ≡ end_text groups → ⊥) → line_fault (place_below limits above line) ≡ Some BadEnd
 end_fault limits above groups line is end other =
     end_row limits above line groups is end
-    ∙ cond-true _ _ _ (ap not (false_from_ne_true (bytes_eq line (end_of groups)) (λ same. other ((bytes_eq-Decides line (end_of groups)).0 same))))
+    ∙ cond-true _ _ _ (ap not (false_from_ne_true (bytes_eq line (end_text groups)) (λ same. other ((bytes_eq-Decides line (end_text groups)).0 same))))
 
 pub journal_bad_end : (limits : Limits) (text : List ℕ) (cs : List (List Entry)) (number groups : ℕ) (rest line below : List ℕ) → IsJournalSoFar limits text cs number rest → lines_of rest ≡ line ∷ lines_of below → is_end line ≡ true
-    → groups ≡ length cs → (line ≡ end_of groups → ⊥) → fault_left limits (lines_down_to []) (lines_of text) ≡ Some (number, BadEnd)
+    → groups ≡ length cs → (line ≡ end_text groups → ⊥) → fault_left limits (lines_down_to []) (lines_of text) ≡ Some (number, BadEnd)
 journal_bad_end limits text cs number groups rest line below was lines end groups_are other =
     next_fault limits text cs number rest line below BadEnd was lines
-    (end_fault limits (lines_down_to cs) (length cs) line (journal_standing limits text cs number rest was).1 end (λ is. other (is ∙ ap end_of (sym groups_are))))
+    (end_fault limits (lines_down_to cs) (length cs) line (journal_standing limits text cs number rest was).1 end (λ is. other (is ∙ ap end_text (sym groups_are))))
 
 last_fault : (limits : Limits) (above : List (List ℕ)) (groups : ℕ) (line last : List ℕ) (lines : List (List ℕ)) → IsBetween above groups → is_end line ≡ true
     → line_fault (place limits (above ++ line ∷ []) last lines) ≡ cond (not (is_nil lines) || not (is_nil last)) (Some TrailingBytes) None
 last_fault limits above groups line last lines is end =
     behind_row (place limits (above ++ line ∷ []) last lines) (some_behind_line above line) (over_behind above line groups is end)
 
-pub nothing_behind : (limits : Limits) (above : List (List ℕ)) (groups : ℕ) (line : List ℕ) → IsBetween above groups → is_end line ≡ true → line ≡ end_of groups → fault_left limits above (line ∷ [] ∷ []) ≡ None
+pub nothing_behind : (limits : Limits) (above : List (List ℕ)) (groups : ℕ) (line : List ℕ) → IsBetween above groups → is_end line ≡ true → line ≡ end_text groups → fault_left limits above (line ∷ [] ∷ []) ≡ None
 nothing_behind limits above groups line is end same =
     passes limits above line ([] ∷ []) refl (end_sound limits above groups line is end same)
     ∙ found_later line_fault limits (above ++ line ∷ []) [] [] (last_fault limits above groups line [] [] is end)
     ∙ found_nowhere line_fault limits ((above ++ line ∷ []) ++ [] ∷ [])
 
-pub bytes_behind : (limits : Limits) (above : List (List ℕ)) (groups : ℕ) (line last : List ℕ) (lines : List (List ℕ)) → IsBetween above groups → is_end line ≡ true → line ≡ end_of groups → (not (is_nil lines) || not (is_nil last)) ≡ true
+pub bytes_behind : (limits : Limits) (above : List (List ℕ)) (groups : ℕ) (line last : List ℕ) (lines : List (List ℕ)) → IsBetween above groups → is_end line ≡ true → line ≡ end_text groups → (not (is_nil lines) || not (is_nil last)) ≡ true
     → fault_left limits above (line ∷ last ∷ lines) ≡ Some (length above + 2, TrailingBytes)
 bytes_behind limits above groups line last lines is end same some =
     passes limits above line (last ∷ lines) refl (end_sound limits above groups line is end same)
@@ -245,15 +239,15 @@ bytes_behind limits above groups line last lines is end same some =
     ∙ at_line _ _ TrailingBytes (omega (arith, length_push above line))
 
 pub journal_trailing : (limits : Limits) (text : List ℕ) (cs : List (List Entry)) (number groups : ℕ) (rest line below : List ℕ) → IsJournalSoFar limits text cs number rest → lines_of rest ≡ line ∷ lines_of below → is_end line ≡ true
-    → groups ≡ length cs → line ≡ end_of groups → is_nil below ≡ false → fault_left limits (lines_down_to []) (lines_of text) ≡ Some (number + 1, TrailingBytes)
+    → groups ≡ length cs → line ≡ end_text groups → is_nil below ≡ false → fault_left limits (lines_down_to []) (lines_of text) ≡ Some (number + 1, TrailingBytes)
 journal_trailing limits text cs number groups rest line below was lines end groups_are is some =
     let now = journal_standing limits text cs number rest was in
     let parts = lines_split (lines_of below) (lines_some below) in
     now.0 ∙ ap (fault_left limits (lines_down_to cs)) (lines ∙ ap (λ ls. line ∷ ls) parts.2)
-    ∙ bytes_behind limits (lines_down_to cs) (length cs) line parts.0 parts.1 now.1 end (is ∙ ap end_of groups_are) (some_behind below parts.0 parts.1 some parts.2)
+    ∙ bytes_behind limits (lines_down_to cs) (length cs) line parts.0 parts.1 now.1 end (is ∙ ap end_text groups_are) (some_behind below parts.0 parts.1 some parts.2)
     ∙ at_line _ _ TrailingBytes (omega (arith, was.number))
 
-pub journal_ends : (limits : Limits) (text : List ℕ) (cs : List (List Entry)) (number groups : ℕ) (rest line below : List ℕ) → IsJournalSoFar limits text cs number rest → rest ≡ line ++ 10 ∷ below → groups ≡ length cs → line ≡ end_of groups → below ≡ []
+pub journal_ends : (limits : Limits) (text : List ℕ) (cs : List (List Entry)) (number groups : ℕ) (rest line below : List ℕ) → IsJournalSoFar limits text cs number rest → rest ≡ line ++ 10 ∷ below → groups ≡ length cs → line ≡ end_text groups → below ≡ []
     → text ≡ flat_map group_text cs ++ last_line cs
 journal_ends limits text cs number groups rest line below was cut groups_are is none =
-    was.cut ∙ ap (λ x. flat_map group_text cs ++ x) (cut ∙ ap₂ (λ (l b : List ℕ). l ++ 10 ∷ b) (is ∙ ap end_of groups_are) none ∙ sym (end_with_feed cs))
+    was.cut ∙ ap (λ x. flat_map group_text cs ++ x) (cut ∙ ap₂ (λ (l b : List ℕ). l ++ 10 ∷ b) (is ∙ ap end_text groups_are) none ∙ sym (end_with_feed cs))

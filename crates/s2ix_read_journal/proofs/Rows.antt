@@ -16,7 +16,7 @@ use Rattle.s2ix_parts.specs.Lines.{has_parts, is_nil, part}
 use Rattle.s2ix_parts.specs.Written.{cell_written, comes_before, label_written, pair_with, pair_written}
 use Rattle.s2ix_read_journal.specs.declared.errors.JournalFault.{JournalFault}
 use Rattle.s2ix_read_journal.specs.declared.errors.JournalFault.TheVariants.{Truncated, BadHeader, BadEnd, BadLine, BadToken, BadLabel, BadCount, NoDifference, Unsorted, TooManyCopies, TooManyChanges, TrailingBytes}
-use Rattle.s2ix_read_journal.specs.JournalFaults.{behind, end_of, is_change, is_end, is_first, is_inner, is_of_entry, is_of_group, is_outside, is_over, line_fault, stands}
+use Rattle.s2ix_read_journal.specs.JournalFaults.{behind, end_text, is_change, is_end, is_first, is_inner, is_of_entry, is_of_group, is_outside, is_over, line_fault, stands}
 use Rattle.s2ix_read_journal.specs.JournalLines.{entry_behind, entry_of_parts, entry_written, next_entry, next_size, size_behind, size_of_part}
 use Rattle.s2ix_read_journal.specs.Numbers.{side_written, size_written}
 
@@ -159,7 +159,7 @@ group_row limits above line groups is no_end =
     ∙ at_change limits groups (is_change line) (size_written (part 1 line))
 
 pub end_row : (limits : Limits) (above : List (List ℕ)) (line : List ℕ) (groups : ℕ) → IsBetween above groups → is_end line ≡ true
-    → line_fault (place_below limits above line) ≡ cond (not (bytes_eq line (end_of groups))) (Some BadEnd) None
+    → line_fault (place_below limits above line) ≡ cond (not (bytes_eq line (end_text groups))) (Some BadEnd) None
 unfolding stands
 end_row limits above line groups is end =
     let p = place_below limits above line in
@@ -168,10 +168,10 @@ end_row limits above line groups is end =
     let entry : is_of_entry p ≡ false = and_right _ _ (ap not wanted) in
     let group : is_of_group p ≡ false = and_right _ _ (ap not end) in
     first_fault p
-    ∙ same_first _ _ _ _ _ _ _ _ _ _ _ _ false false (not (bytes_eq line (end_of groups))) false false false false false false false false false
+    ∙ same_first _ _ _ _ _ _ _ _ _ _ _ _ false false (not (bytes_eq line (end_text groups))) false false false false false false false false false
     (and_right _ _ refl)
     (and_left _ _ is.some)
-    (applies _ _ _ (and_from _ _ (and_from _ _ inner wanted) end) (ap (λ n. not (bytes_eq line (end_of n))) is.number))
+    (applies _ _ _ (and_from _ _ (and_from _ _ inner wanted) end) (ap (λ n. not (bytes_eq line (end_text n))) is.number))
     (neither _ _ _ _ group entry)
     (and_left _ _ entry)
     (and_left _ _ entry)

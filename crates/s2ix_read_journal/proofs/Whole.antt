@@ -19,7 +19,7 @@ use Rattle.s2ix_parts.proofs.Pieces.{Lacks, lines_apart, lines_joined, lines_som
 use Rattle.s2ix_parts.proofs.Rests.{join_more, no_lines, some_joined}
 use Rattle.s2ix_read_journal.specs.declared.errors.JournalFault.{JournalFault}
 use Rattle.s2ix_read_journal.specs.declared.errors.JournalFault.TheVariants.{BadEnd, BadHeader, TrailingBytes, Truncated}
-use Rattle.s2ix_read_journal.specs.JournalFaults.{behind, end_of, is_end, journal_fault, line_fault}
+use Rattle.s2ix_read_journal.specs.JournalFaults.{behind, end_text, is_end, journal_fault, line_fault}
 use Rattle.s2ix_read_journal.specs.JournalLines.{change_text, entry_text, group_lines, last_pair, lines_down_to, next_entry, next_size}
 use Rattle.s2ix_read_journal.specs.Journals.{AreEntries, IsJournal}
 use Rattle.s2ix_read_journal.proofs.ChangeTexts.{IsSize, change_with_feed, end_is_end, end_lacks_feed, end_with_feed, line_from_size}
@@ -98,9 +98,9 @@ header_lacks_feed =
 
 -- ---- a journal has no fault
 
-lines_of_end : (cs : List (List Entry)) → length cs < 2 ^ 64 → lines_of (last_line cs) ≡ end_of (length cs) ∷ [] ∷ []
+lines_of_end : (cs : List (List Entry)) → length cs < 2 ^ 64 → lines_of (last_line cs) ≡ end_text (length cs) ∷ [] ∷ []
 lines_of_end cs few =
-    ap lines_of (end_with_feed cs) ∙ lines_apart (end_of (length cs)) [] (end_lacks_feed (length cs) few) ∙ ap (λ (ls : List (List ℕ)). end_of (length cs) ∷ ls) no_lines
+    ap lines_of (end_with_feed cs) ∙ lines_apart (end_text (length cs)) [] (end_lacks_feed (length cs) few) ∙ ap (λ (ls : List (List ℕ)). end_text (length cs) ∷ ls) no_lines
 
 pub journal_is_sound : (limits : Limits) (cs : List (List Entry)) → IsJournal limits cs → journal_fault limits (journal_text cs) ≡ None
 unfolding journal_text
@@ -115,7 +115,7 @@ journal_is_sound limits cs is =
     ∙ ap (fault_left limits (lines_down_to [])) (lines_of_groups limits cs (last_line cs) groups)
     ∙ passed.fault
     ∙ ap (fault_left limits (lines_down_to cs)) (lines_of_end cs (omega (arith, few, most)))
-    ∙ nothing_behind limits (lines_down_to cs) (length cs) (end_of (length cs)) between (end_is_end (length cs) (omega (arith, few, most))) refl
+    ∙ nothing_behind limits (lines_down_to cs) (length cs) (end_text (length cs)) between (end_is_end (length cs) (omega (arith, few, most))) refl
 
 -- ---- a text without a fault is a journal
 
@@ -123,7 +123,7 @@ journal_is_sound limits cs is =
 record IsWhole (limits : Limits) (lines : List (List ℕ)) (cs : List (List Entry)) : Type 0 where
   groups : All (IsGroup limits) cs
   few : length cs ≤ changes_limit limits
-  are : lines ≡ lines_down_to cs ++ end_of (length cs) ∷ [] ∷ []
+  are : lines ≡ lines_down_to cs ++ end_text (length cs) ∷ [] ∷ []
 
 -- lines down to the last of these groups
 record IsOutside (limits : Limits) (above : List (List ℕ)) (cs : List (List Entry)) : Type 0 where
@@ -219,22 +219,22 @@ front_after_size limits above cs (suc more) line is no_end writes =
 
 -- the end
 
-end_left : (limits : Limits) (above : List (List ℕ)) (groups : ℕ) (line last : List ℕ) (lines : List (List ℕ)) → IsBetween above groups → is_end line ≡ true → line ≡ end_of groups → fault_left limits above (line ∷ last ∷ lines) ≡ None
-    → line ∷ last ∷ lines ≡ end_of groups ∷ [] ∷ []
+end_left : (limits : Limits) (above : List (List ℕ)) (groups : ℕ) (line last : List ℕ) (lines : List (List ℕ)) → IsBetween above groups → is_end line ≡ true → line ≡ end_text groups → fault_left limits above (line ∷ last ∷ lines) ≡ None
+    → line ∷ last ∷ lines ≡ end_text groups ∷ [] ∷ []
 end_left limits above groups line [] [] is end same none = ap (λ x. x ∷ [] ∷ []) same
 end_left limits above groups line (byte ∷ last) [] is end same none =
     let clash : ◌≡◌ {A = Option (ℕ × JournalFault)} (Some (length above + 2, TrailingBytes)) None = sym (bytes_behind limits above groups line (byte ∷ last) [] is end same refl) ∙ none in cc
 end_left limits above groups line last (more ∷ lines) is end same none =
     let clash : ◌≡◌ {A = Option (ℕ × JournalFault)} (Some (length above + 2, TrailingBytes)) None = sym (bytes_behind limits above groups line last (more ∷ lines) is end same refl) ∙ none in cc
 
-end_from : (limits : Limits) (above : List (List ℕ)) (groups : ℕ) (line : List ℕ) → IsBetween above groups → is_end line ≡ true → line_fault (place_below limits above line) ≡ None → line ≡ end_of groups
+end_from : (limits : Limits) (above : List (List ℕ)) (groups : ℕ) (line : List ℕ) → IsBetween above groups → is_end line ≡ true → line_fault (place_below limits above line) ≡ None → line ≡ end_text groups
 end_from limits above groups line is end none =
     ⊎_elim
-    (λ same. (bytes_eq-Decides line (end_of groups)).0 same)
+    (λ same. (bytes_eq-Decides line (end_text groups)).0 same)
     (λ other.
-    let fault = end_fault limits above groups line is end (λ e. both_ways (bytes_eq line (end_of groups)) other ((bytes_eq-Decides line (end_of groups)).1 e)) in
+    let fault = end_fault limits above groups line is end (λ e. both_ways (bytes_eq line (end_text groups)) other ((bytes_eq-Decides line (end_text groups)).1 e)) in
     let clash : Some BadEnd ≡ None = sym fault ∙ none in cc)
-    (cases_Bool (bytes_eq line (end_of groups)))
+    (cases_Bool (bytes_eq line (end_text groups)))
 
 -- one line more: the text ends, or a longer front
 
@@ -313,11 +313,11 @@ join_groups (c ∷ cs) lines some =
     ∙ ap (λ x. group_text c ++ x) (join_groups cs lines some)
     ∙ sym (append_assoc (group_text c) (flat_map group_text cs) (join_with_byte 10 lines))
 
-join_whole : (cs : List (List Entry)) → join_with_byte 10 (lines_down_to cs ++ end_of (length cs) ∷ [] ∷ []) ≡ journal_text cs
+join_whole : (cs : List (List Entry)) → join_with_byte 10 (lines_down_to cs ++ end_text (length cs) ∷ [] ∷ []) ≡ journal_text cs
 unfolding journal_text
 join_whole cs =
-    join_more (codes "s2ix-journal 1") (flat_map group_lines cs ++ end_of (length cs) ∷ [] ∷ []) (some_joined (flat_map group_lines cs) (end_of (length cs) ∷ [] ∷ []) refl)
-    ∙ ap (λ x. codes "s2ix-journal 1" ++ 10 ∷ x) (join_groups cs (end_of (length cs) ∷ [] ∷ []) refl ∙ ap (λ x. flat_map group_text cs ++ x) (sym (end_with_feed cs)))
+    join_more (codes "s2ix-journal 1") (flat_map group_lines cs ++ end_text (length cs) ∷ [] ∷ []) (some_joined (flat_map group_lines cs) (end_text (length cs) ∷ [] ∷ []) refl)
+    ∙ ap (λ x. codes "s2ix-journal 1" ++ 10 ∷ x) (join_groups cs (end_text (length cs) ∷ [] ∷ []) refl ∙ ap (λ x. flat_map group_text cs ++ x) (sym (end_with_feed cs)))
 
 -- ---- from the top
 

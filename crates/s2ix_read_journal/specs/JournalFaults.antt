@@ -83,8 +83,8 @@ abbrev pub after_of_line : List ℕ → ℕ
 after_of_line line = unwrap_or (side_written (part 3 line)) 0
 
 -- the end line of so many groups: `end CHANGES`
-abbrev pub end_of : ℕ → List ℕ
-end_of groups = codes "end " ++ decimal groups
+abbrev pub end_text : ℕ → List ℕ
+end_text groups = codes "end " ++ decimal groups
 
 -- ---- the faults
 
@@ -92,7 +92,7 @@ end_of groups = codes "end " ++ decimal groups
 unfoldable pub stands : Place → JournalFault → Bool
 stands p Truncated = not (is_over p) && not p.ended
 stands p BadHeader = is_first p && not (bytes_eq p.line (codes "s2ix-journal 1"))
-stands p BadEnd = is_outside p && is_end p.line && not (bytes_eq p.line (end_of (behind p.above).groups))
+stands p BadEnd = is_outside p && is_end p.line && not (bytes_eq p.line (end_text (behind p.above).groups))
 stands p BadLine = (is_of_group p && not (is_change p.line)) || (is_of_entry p && not (has_parts 4 p.line))
 stands p BadToken = is_of_entry p && is_none (cell_written (part 0 p.line))
 stands p BadLabel = is_of_entry p && is_none (label_written (part 1 p.line))

@@ -1,6 +1,6 @@
 //! The lines outside groups: those that begin one, and the end line.
 ghost use Rattle.std.specs.Prelude.{◌≡◌, ◌↔◌, IsTrue, true};
-ghost use Rattle.s2ix_read_journal.specs.JournalFaults.{end_of, is_end};
+ghost use Rattle.s2ix_read_journal.specs.JournalFaults.{end_text, is_end};
 ghost use Rattle.s2ix_read_journal.specs.JournalLines.{next_size as next_size_that};
 
 use crate::errors::JournalFault;
@@ -10,9 +10,9 @@ use itoa::Buffer;
 use s2ix_bag::Limits;
 
 /// Whether a line with the first part `end` is the end line of so many groups.
-pub fn is_end_of(groups: usize, line: &[u8]) -> bool
+pub(crate) fn is_end_of(groups: usize, line: &[u8]) -> bool
     requires { is_end line.now ≡ true }
-    ensures { IsTrue result ↔ (line.now ≡ end_of groups) }
+    ensures { IsTrue result ↔ (line.now ≡ end_text groups) }
 {
     let Some((_, number)) = two_parts(line) else {
         return false;
@@ -22,7 +22,7 @@ pub fn is_end_of(groups: usize, line: &[u8]) -> bool
 }
 
 /// How many entries the group has that a line begins, below so many groups; or the fault of the line.
-pub fn next_size(limits: Limits, groups: usize, line: &[u8]) -> Result<u32, JournalFault>
+pub(crate) fn next_size(limits: Limits, groups: usize, line: &[u8]) -> Result<u32, JournalFault>
     ensures { result ≡ next_size_that limits groups line.now }
 {
     let Some((word, number)) = two_parts(line) else {

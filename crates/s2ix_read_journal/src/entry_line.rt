@@ -46,7 +46,11 @@ fn comes_behind(before: &[Entry], pair: Pair) -> bool
 }
 
 /// The entry of the line that follows those of the entries before in its group, or the fault of that line.
-pub fn next_entry(limits: Limits, before: &[Entry], line: &[u8]) -> Result<Entry, JournalFault>
+pub(crate) fn next_entry(
+    limits: Limits,
+    before: &[Entry],
+    line: &[u8],
+) -> Result<Entry, JournalFault>
     ensures { result ≡ next_entry_that limits (last_pair before.now) line.now }
 {
     let next = entry_written(line)?;

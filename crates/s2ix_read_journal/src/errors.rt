@@ -61,7 +61,7 @@ impl fmt::Display for JournalFault {
     }
 }
 
-/// Why [`read_journal`](crate::read_journal) refused a text.
+/// Why [`read_journal`](crate::read_journal) refused a text. This project's own.
 #[derive(Clone, Copy, Debug, PartialEq, Eq, Error)]
 pub enum JournalError {
     /// The first line with a fault, counted from 1.

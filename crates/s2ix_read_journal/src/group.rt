@@ -34,7 +34,7 @@ fn push(entries: &mut Vec<Entry>, next: Entry) -> Result<(), AllocError>
 /// The entries of a group of this size, whose first line has this number, and the text below them; or the first line of the group with a
 /// fault, and the first fault of that line. O(n) for n bytes of the group, and one growth, of at most three bytes for each byte of the
 /// text. This project's own.
-pub fn read_group(
+pub(crate) fn read_group(
     alloc: Global,
     limits: Limits,
     size: u32,

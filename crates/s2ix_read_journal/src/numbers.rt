@@ -11,7 +11,7 @@ const FEWEST_ENTRIES: u32 = 1;
 const MOST_ENTRIES: u32 = 2_000_000;
 
 /// The count before or after a change, from 0 to 65535, which a text writes.
-pub fn side_written(text: &[u8]) -> Option<u32>
+pub(crate) fn side_written(text: &[u8]) -> Option<u32>
     ensures { result ≡ side_that text.now }
 {
     let count = number_written(text)?;
@@ -23,7 +23,7 @@ pub fn side_written(text: &[u8]) -> Option<u32>
 }
 
 /// The number of entries of a change, from 1 to 2000000, which a text writes.
-pub fn size_written(text: &[u8]) -> Option<u32>
+pub(crate) fn size_written(text: &[u8]) -> Option<u32>
     ensures { result ≡ size_that text.now }
 {
     let size = number_written(text)?;

@@ -5,7 +5,7 @@ ghost use Rattle.s2ix_parts.specs.Lines.{has_parts, parts_of};
 use s2ix_parts::cut_part;
 
 /// The parts of a line that has exactly two, none of them empty.
-pub fn two_parts(line: &[u8]) -> Option<(&[u8], &[u8])>
+pub(crate) fn two_parts(line: &[u8]) -> Option<(&[u8], &[u8])>
     ensures none { IfNone result (has_parts 2 line.now ≡ false) }
     ensures some { IfSome result (λ _. has_parts 2 line.now ≡ true) }
     ensures parts { IfSome result (λ parts. parts_of line.now ≡ parts.0.now ∷ parts.1.now ∷ []) }
@@ -21,7 +21,7 @@ pub fn two_parts(line: &[u8]) -> Option<(&[u8], &[u8])>
 }
 
 /// The parts of a line that has exactly four, none of them empty.
-pub fn four_parts(line: &[u8]) -> Option<(&[u8], &[u8], &[u8], &[u8])>
+pub(crate) fn four_parts(line: &[u8]) -> Option<(&[u8], &[u8], &[u8], &[u8])>
     ensures none { IfNone result (has_parts 4 line.now ≡ false) }
     ensures some { IfSome result (λ _. has_parts 4 line.now ≡ true) }
     ensures parts { IfSome result (λ parts. parts_of line.now ≡ parts.0.now ∷ parts.1.now ∷ parts.2.now ∷ parts.3.now ∷ []) }

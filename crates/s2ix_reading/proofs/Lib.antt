@@ -1,1 +1,4 @@
+pub mod OnFaces
+pub mod ReadCounts
+pub mod Summing
 pub mod Unchanged

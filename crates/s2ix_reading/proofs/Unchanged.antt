@@ -15,10 +15,10 @@ use Rattle.s2ix_reading.specs.Faces.{held_on, has_entry_on}
 
 -- ---- one held pair before others
 
-on_face : (face : ℕ) (h : Held) (hs : Collection) → face_of h.pair.cell ≡ face → held_on face (h ∷ hs) ≡ h ∷ held_on face hs
+pub on_face : (face : ℕ) (h : Held) (hs : Collection) → face_of h.pair.cell ≡ face → held_on face (h ∷ hs) ≡ h ∷ held_on face hs
 on_face face h hs e = cond-true _ _ _ (eq-eqb _ _ e)
 
-off_face : (face : ℕ) (h : Held) (hs : Collection) → (face_of h.pair.cell ≡ face → ⊥) → held_on face (h ∷ hs) ≡ held_on face hs
+pub off_face : (face : ℕ) (h : Held) (hs : Collection) → (face_of h.pair.cell ≡ face → ⊥) → held_on face (h ∷ hs) ≡ held_on face hs
 off_face face h hs ne = cond-false _ _ _ (ne_eqb _ _ ne)
 
 -- equal lists stay equal behind a held pair

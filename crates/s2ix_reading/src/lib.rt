@@ -8,7 +8,9 @@ mod bag_reader;
 mod changes;
 pub mod laws;
 mod pair_reader;
+mod read_faces;
 
 pub use bag_reader::BagReader;
 pub use changes::{changed_face_count, changed_faces};
 pub use pair_reader::PairReader;
+pub use read_faces::{read_changed, read_face};

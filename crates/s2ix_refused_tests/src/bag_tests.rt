@@ -1,7 +1,6 @@
 // Bags, the changes between them, and what is done with them.
 use crate::calls::{SET_UP, answer};
 use s2ix_bag::{Bag, Change};
-use s2ix_export::export;
 use s2ix_replay::{replay, rewind};
 use s2ix_samples::{WIDEST, bag_of, holds_pairs, lists_entries};
 use std::alloc::Global;
@@ -67,12 +66,4 @@ fn refused_rewinds(rt: HostRuntime) {
     let (new, change) = (bag(&rt, rt.alloc(), NEW), change(&rt, rt.alloc()));
     let before = answer!(&rt, rewind(rt.alloc(), &new, slice::from_ref(&change)));
     assert!(&rt; are_bags(&before, &new) && lists_entries(&change, THERE));
-}
-
-#[test]
-fn refused_exports(rt: HostRuntime) {
-    let old = bag(&rt, rt.alloc(), OLD);
-    let text = answer!(&rt, export(rt.alloc(), &old));
-    assert!(&rt; text.as_str() == "{\"pairs\":[[\"04\",3,1],[\"04\",9,2]],\"version\":1}");
-    assert!(&rt; holds_pairs(&old, OLD));
 }

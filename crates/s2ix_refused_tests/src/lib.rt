@@ -16,5 +16,3 @@ mod table_tests;
 mod tables;
 #[cfg(test)]
 mod text_tests;
-#[cfg(test)]
-mod word_tests;

@@ -6,6 +6,7 @@ use s2id_union::CellUnion;
 use s2ix_bag::{Bag, Held, Label};
 use s2ix_chain::ChainTable;
 use s2ix_copied::CopiedTable;
+use s2ix_faced::FacedTable;
 use s2ix_samples::{WIDEST, bag_of, held_of, holds_pairs, label_of};
 use s2ix_table::RangeTable;
 use std::alloc::Global;
@@ -66,4 +67,5 @@ fn refused_tables(rt: HostRuntime) {
     let target = CellUnion::normalise(rt.alloc(), &cells).expect(&rt, SET_UP);
     check_table::<ChainTable>(&rt, rt.alloc(), &bag, &target);
     check_table::<CopiedTable>(&rt, rt.alloc(), &bag, &target);
+    check_table::<FacedTable>(&rt, rt.alloc(), &bag, &target);
 }

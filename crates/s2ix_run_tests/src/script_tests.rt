@@ -1,4 +1,4 @@
-// Worked scripts of fields, spellings, limits, paths, neighbors and squares. Their outputs are worked out by hand from the formats.
+// Worked scripts of fields, spellings, limits, paths, neighbours and squares. Their outputs are worked out by hand from the formats.
 use crate::scripts::{PLAIN, Script, check_all};
 use std::alloc::Global;
 use std::test::Fail;

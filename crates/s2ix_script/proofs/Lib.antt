@@ -1,3 +1,2 @@
 mod Comments
-mod PlainWords
 mod WantedMemory

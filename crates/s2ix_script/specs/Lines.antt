@@ -7,6 +7,6 @@ with_first byte [] = (byte ∷ []) ∷ []
 with_first byte (line ∷ lines) = (byte ∷ line) ∷ lines
 
 -- the bytes up to each line feed, and what is left behind the last where it is not empty
-abbrev pub lines_of : List ℕ → List (List ℕ)
-lines_of [] = []
-lines_of (byte ∷ text) = if byte == 10 then [] ∷ lines_of text else with_first byte (lines_of text)
+abbrev pub script_lines : List ℕ → List (List ℕ)
+script_lines [] = []
+script_lines (byte ∷ text) = if byte == 10 then [] ∷ script_lines text else with_first byte (script_lines text)

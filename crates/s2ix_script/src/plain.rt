@@ -9,9 +9,9 @@ use s2ix_line::{LineFault, labels_named};
 // An instruction that takes no field.
 pub(crate) fn bare(
     instruction: Instruction,
-    mut fields: Fields<'_>,
+    fields: &mut Fields<'_>,
 ) -> Result<Instruction, LineFault>
-    ensures { result ≡ bare_of instruction fields.entry }
+    ensures { result ≡ bare_of instruction fields.old }
 {
     match fields.next() {
         None => Ok(instruction),
@@ -20,16 +20,16 @@ pub(crate) fn bare(
 }
 
 // What `common` asks for, whose labels the two fields LABEL LABEL name.
-pub(crate) fn common_named(fields: Fields<'_>) -> Result<Instruction, LineFault>
-    ensures { result ≡ common_of fields.entry }
+pub(crate) fn common_named(fields: &mut Fields<'_>) -> Result<Instruction, LineFault>
+    ensures { result ≡ common_of fields.old }
 {
     let (first, second) = labels_named(fields)?;
     Ok(Instruction::Common(first, second))
 }
 
 // What `only` asks for, whose labels the two fields LABEL LABEL name.
-pub(crate) fn only_named(fields: Fields<'_>) -> Result<Instruction, LineFault>
-    ensures { result ≡ only_of fields.entry }
+pub(crate) fn only_named(fields: &mut Fields<'_>) -> Result<Instruction, LineFault>
+    ensures { result ≡ only_of fields.old }
 {
     let (first, second) = labels_named(fields)?;
     Ok(Instruction::Only(first, second))

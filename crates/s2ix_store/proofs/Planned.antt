@@ -9,13 +9,13 @@ use Rattle.s2ix_edit.specs.Refusals.{edit_refusal}
 use Rattle.s2ix_edit.specs.State.{State}
 use Rattle.s2ix_edit.proofs.Edited.{edited_held}
 use Rattle.s2ix_edit.proofs.Refused.{change_planned, planned_refusal, with_room}
-use Rattle.s2ix_store.specs.Steps.{after_edit, after_record, with_held}
+use Rattle.s2ix_store.specs.Steps.{after_edit, after_record, faces_of, with_held}
 use Rattle.s2ix_store.specs.Store.{IsStore}
 
 -- an edit makes what its planned entries make
 pub planned_state : (s : State) (edit : Edit) (es : List Entry) → IsBag s.bag → Plans s.bag edit es → after_record s es ≡ after_edit s edit
 planned_state s edit es b plans =
-    ap₂ (λ (hs : Collection) (ds : List Entry). let after : State = record { bag = with_held s.bag hs; done = s.done ++ ds ∷ []; undone = [] } in after)
+    ap₂ (λ (hs : Collection) (ds : List Entry). let after : State = record { bag = with_held s.bag hs; done = s.done ++ ds ∷ []; undone = []; faces_rebuilt = faces_of ds } in after)
     (plans.result ∙ sym (edited_held s edit)) (sym (change_planned s edit es b plans))
 
 -- the refusal of an edit, read off its planned entries or off a store with no history

@@ -7,10 +7,10 @@ use Rattle.s2ix_pairs.specs.declared.pair.Entry.{Entry}
 use Rattle.s2ix_pairs.specs.Change.{inverse_of}
 use Rattle.s2ix_edit.specs.State.{State}
 use Rattle.s2ix_store.specs.Store.{IsStore}
-use Rattle.s2ix_store.specs.Steps.{after_redo, after_redo_of, after_undo, after_undo_of, with_held, last_done, last_undone}
+use Rattle.s2ix_store.specs.Steps.{after_redo, after_redo_of, after_undo, after_undo_of, faces_of, with_held, last_done, last_undone}
 use Rattle.s2ix_store.proofs.Places.{forth_again, goes_back, goes_on, slice_get_last}
 use Rattle.s2ix_store.proofs.Taken.{changed_back, not_mismatched}
-use Rattle.s2ix_store.proofs.Undone.{front_of, undo_of_last}
+use Rattle.s2ix_store.proofs.Undone.{front_of, undo_of_last, with_faces}
 
 -- a list that is not empty ends in its last element
 pub ends_in_last : (ess : List (List Entry)) → ess ≢ [] → ess ≡ take (length ess - 1) ess ++ get_or ess (length ess - 1) [] ∷ []
@@ -26,7 +26,7 @@ redo_of_last s undone es is =
     let last = ap (λ (l : List (List Entry)). slice_get l (length l - 1)) is ∙ slice_get_last undone es in
     ap (λ (o : Option (List Entry)). elim o [ Some x ↦ after_redo_of s x | None ↦ s ]) last
 
-pub redo_of_undo : (s : State) → IsStore s → s.done ≢ [] → after_redo (after_undo s) ≡ s
+pub redo_of_undo : (s : State) → IsStore s → s.done ≢ [] → after_redo (after_undo s) ≡ with_faces s (faces_of (get_or s.done (length s.done - 1) []))
 redo_of_undo s st some =
     let front = take (length s.done - 1) s.done in
     let es = get_or s.done (length s.done - 1) [] in
@@ -35,10 +35,10 @@ redo_of_undo s st some =
     let forth = forth_again s.bag es st.bag.rises back.0 (not_mismatched s.bag (inverse_of es) back.2) in
     ap after_redo (undo_of_last s front es is)
     ∙ redo_of_last (after_undo_of s es) s.undone es refl
-    ∙ ap (λ hs. let t : State = record { bag = with_held s.bag hs; done = front ++ es ∷ []; undone = take (length (s.undone ++ es ∷ []) - 1) (s.undone ++ es ∷ []) } in t) forth
-    ∙ ap₂ (λ (done undone : List (List Entry)). let t : State = record { bag = s.bag; done = done; undone = undone } in t) (sym is) (front_of s.undone es)
+    ∙ ap (λ hs. let t : State = record { bag = with_held s.bag hs; done = front ++ es ∷ []; undone = take (length (s.undone ++ es ∷ []) - 1) (s.undone ++ es ∷ []); faces_rebuilt = faces_of es } in t) forth
+    ∙ ap₂ (λ (done undone : List (List Entry)). let t : State = record { bag = s.bag; done = done; undone = undone; faces_rebuilt = faces_of es } in t) (sym is) (front_of s.undone es)
 
-pub undo_of_redo : (s : State) → IsStore s → s.undone ≢ [] → after_undo (after_redo s) ≡ s
+pub undo_of_redo : (s : State) → IsStore s → s.undone ≢ [] → after_undo (after_redo s) ≡ with_faces s (faces_of (get_or s.undone (length s.undone - 1) []))
 undo_of_redo s st some =
     let front = take (length s.undone - 1) s.undone in
     let es = get_or s.undone (length s.undone - 1) [] in
@@ -47,8 +47,8 @@ undo_of_redo s st some =
     let back = changed_back s.bag es st.bag.rises on.0 (not_mismatched s.bag es on.2) in
     ap after_undo (redo_of_last s front es is)
     ∙ undo_of_last (after_redo_of s es) s.done es refl
-    ∙ ap (λ hs. let t : State = record { bag = with_held s.bag hs; done = take (length (s.done ++ es ∷ []) - 1) (s.done ++ es ∷ []); undone = front ++ es ∷ [] } in t) back
-    ∙ ap₂ (λ (done undone : List (List Entry)). let t : State = record { bag = s.bag; done = done; undone = undone } in t) (front_of s.done es) (sym is)
+    ∙ ap (λ hs. let t : State = record { bag = with_held s.bag hs; done = take (length (s.done ++ es ∷ []) - 1) (s.done ++ es ∷ []); undone = front ++ es ∷ []; faces_rebuilt = faces_of es } in t) back
+    ∙ ap₂ (λ (done undone : List (List Entry)). let t : State = record { bag = s.bag; done = done; undone = undone; faces_rebuilt = faces_of es } in t) (front_of s.done es) (sym is)
 
 -- ---- the limits
 

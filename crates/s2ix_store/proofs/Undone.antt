@@ -1,5 +1,5 @@
 -- An edit, and then an undo.
-use Rattle.std.proofs.Common.{◌≡◌, ◌-◌, List, [], ◌∷◌, ◌++◌, length, take, Option, Some, None, refl, ap, ap₂, ◌∙◌, arith}
+use Rattle.std.proofs.Common.{◌≡◌, ℕ, ◌-◌, List, [], ◌∷◌, ◌++◌, length, take, Option, Some, None, refl, ap, ap₂, ◌∙◌, arith}
 use Rattle.std.specs.List.{slice_get}
 use Rattle.std.proofs.lemmas.List.{length-append}
 use Rattle.std.proofs.Math.Seq.{take-append_seam}
@@ -11,8 +11,12 @@ use Rattle.s2ix_edit.specs.Edit.{edited}
 use Rattle.s2ix_edit.specs.State.{State, change_of, history_of}
 use Rattle.s2ix_edit.proofs.Edited.{held_edited_is_collection}
 use Rattle.s2ix_store.specs.Store.{IsStore}
-use Rattle.s2ix_store.specs.Steps.{after_edit, after_undo, after_undo_of, with_held}
+use Rattle.s2ix_store.specs.Steps.{after_edit, after_undo, after_undo_of, faces_of, with_held}
 use Rattle.s2ix_store.proofs.Places.{slice_get_last}
+
+-- a store with another number of faces
+abbrev pub with_faces : State → ℕ → State
+with_faces s n = record { bag = s.bag; done = s.done; undone = s.undone; faces_rebuilt = n }
 
 -- an undo takes back the last change that was done
 pub undo_of_last : (s : State) (done : List (List Entry)) (es : List Entry) → s.done ≡ done ++ es ∷ [] → after_undo s ≡ after_undo_of s es
@@ -26,9 +30,9 @@ front_of done es =
     ap (λ k. take k (done ++ es ∷ [])) place ∙ take-append_seam done (es ∷ [])
 
 -- an edit and then an undo lead back
-pub undo_of_edit : (s : State) (edit : Edit) → IsStore s → after_undo (after_edit s edit) ≡ record { bag = s.bag; done = s.done; undone = change_of s edit ∷ [] }
+pub undo_of_edit : (s : State) (edit : Edit) → IsStore s → after_undo (after_edit s edit) ≡ record { bag = s.bag; done = s.done; undone = change_of s edit ∷ []; faces_rebuilt = faces_of (change_of s edit) }
 undo_of_edit s edit st =
     undo_of_last (after_edit s edit) s.done (change_of s edit) refl
-    ∙ ap₂ (λ (hs : Collection) (done : List (List Entry)). let t : State = record { bag = with_held s.bag hs; done = done; undone = change_of s edit ∷ [] } in t)
+    ∙ ap₂ (λ (hs : Collection) (done : List (List Entry)). let t : State = record { bag = with_held s.bag hs; done = done; undone = change_of s edit ∷ []; faces_rebuilt = faces_of (change_of s edit) } in t)
     (changed_inverse_between s.bag.held (edited (history_of s) edit) st.bag.rises (held_edited_is_collection s edit st.bag.rises))
     (front_of s.done (change_of s edit))

@@ -1,8 +1,9 @@
 -- What each step of a store makes of its state.
-use Rattle.std.specs.Prelude.{◌≡◌, ℕ, ◌-◌, Option, Some, None, List, [], ◌∷◌, ◌++◌, length, take, slice_get}
+use Rattle.std.specs.Prelude.{◌≡◌, ℕ, ◌-◌, Option, Some, None, List, [], ◌∷◌, ◌++◌, length, take, slice_get, count_by}
 use Rattle.s2ix_pairs.specs.declared.pair.Entry.{Entry}
 use Rattle.s2ix_pairs.specs.Change.{changed, inverse_of}
 use Rattle.s2ix_pairs.specs.Collection.{Collection, LimitedCollection}
+use Rattle.s2ix_reading.specs.Faces.{faces, has_entry_on}
 use Rattle.s2ix_edit.specs.declared.edit.Edit.{Edit}
 use Rattle.s2ix_edit.specs.Edit.{edited}
 use Rattle.s2ix_edit.specs.State.{State, change_of, history_of}
@@ -11,12 +12,17 @@ use Rattle.s2ix_edit.specs.State.{State, change_of, history_of}
 abbrev pub with_held : LimitedCollection → Collection → LimitedCollection
 with_held bag hs = record { limits = bag.limits; held = hs }
 
+-- on how many faces a change has entries
+abbrev pub faces_of : List Entry → ℕ
+faces_of es = count_by (has_entry_on es) faces
+
 -- the store after an accepted edit
 abbrev pub after_edit : State → Edit → State
 after_edit s edit = record {
   bag = with_held s.bag (edited (history_of s) edit);
   done = s.done ++ change_of s edit ∷ [];
   undone = [];
+  faces_rebuilt = faces_of (change_of s edit);
 }
 
 -- the store after planned entries: its bag has the counts after, and they are the last change that was done
@@ -25,6 +31,7 @@ after_record s es = record {
   bag = with_held s.bag (changed s.bag.held es);
   done = s.done ++ es ∷ [];
   undone = [];
+  faces_rebuilt = faces_of es;
 }
 
 -- the change that an undo takes back: the last that was done
@@ -37,6 +44,7 @@ after_undo_of s es = record {
   bag = with_held s.bag (changed s.bag.held (inverse_of es));
   done = take (length s.done - 1) s.done;
   undone = s.undone ++ es ∷ [];
+  faces_rebuilt = faces_of es;
 }
 
 -- the store after an undo; with nothing to undo it stays as it is
@@ -57,6 +65,7 @@ after_redo_of s es = record {
   bag = with_held s.bag (changed s.bag.held es);
   done = s.done ++ es ∷ [];
   undone = take (length s.undone - 1) s.undone;
+  faces_rebuilt = faces_of es;
 }
 
 -- the store after a redo; with nothing to redo it stays as it is
@@ -69,7 +78,7 @@ redo_size s = elim (last_undone s) [ Some es ↦ length es | None ↦ 0 ]
 
 -- the store after its changes are forgotten
 abbrev pub after_forget : State → State
-after_forget s = record { bag = s.bag; done = []; undone = [] }
+after_forget s = record { bag = s.bag; done = []; undone = []; faces_rebuilt = s.faces_rebuilt }
 
 -- the last change of one list is now at the end of the other, and has this many entries
 pub record IsShifted (from to from_after to_after : List (List Entry)) (number : ℕ) : Type 0 where

@@ -1,4 +1,4 @@
-//! What holds of stores and their histories, whatever code runs.
+//! Laws: functions that do nothing, and whose contracts are facts on the definitions.
 
 ghost use Rattle.std.specs.Prelude.{◌≡◌, ◌≢◌, ◌+◌, Some, ◌<◌, [], ◌∷◌, ◌++◌, length, reverse, slice_get, take, All, List};
 ghost use Rattle.s2ix_pairs.specs.declared.pair.Pair.{Pair};

@@ -1,5 +1,5 @@
-//! What edits, undos and redos are made of: a bag after a change with its range table, and a change shifted from one list to
-//! the other.
+//! What edits, undos and redos are made of: a bag after a change with its range table, of which the faces that the change has
+//! entries on are read again; and a change shifted from one list to the other.
 
 ghost use Rattle.std.specs.Prelude.{◌≡◌, ◌<◌, None, IfOk, IfErr, OnOk, OnErr, vec_len};
 ghost use Rattle.s2ix_lists.specs.Apply.{apply_refusal, first_mismatch};
@@ -13,16 +13,19 @@ use crate::store_table::StoreTable;
 use s2id_core::OutOfMemory;
 use s2ix_bag::{ApplyError, Bag, Change};
 use s2ix_edit::EditError;
+use s2ix_reading::BagReader;
 use s2ix_table::RangeTable;
 use std::alloc::Global;
 
-/// The bag that planned entries make, with its range table, or why a store refuses them.
-pub fn apply_planned(
+/// The bag that planned entries make of one with this table, with its own table, or why a store refuses them.
+pub(crate) fn apply_planned(
     alloc: Global,
     bag: &Bag,
+    table: &StoreTable,
     change: &Change,
 ) -> Result<(Bag, StoreTable), EditError>
-    requires { first_mismatch bag.now change.now ≡ None }
+    requires matches { first_mismatch bag.now change.now ≡ None }
+    requires of_bag { ⟦<StoreTable as RangeTable>⟧.pairs table.now ≡ bag.now.held }
     ensures made { IfOk result (λ after. after.0 ≡ with_held bag.now (changed bag.now.held change.now)) }
     ensures within { IfOk result (λ after. IsBag after.0) }
     ensures table { IfOk result (λ after. ⟦<StoreTable as RangeTable>⟧.pairs after.1 ≡ after.0.held) }
@@ -36,7 +39,7 @@ pub fn apply_planned(
     }
     match bag.applied(alloc, change) {
         Ok(after) => {
-            let table = StoreTable::build(alloc, &after)?;
+            let table = table.rebuilt(alloc, &mut BagReader::new(&after), change)?;
             Ok((after, table))
         }
         Err(ApplyError::Mismatch(_)) => unreachable!(),
@@ -46,20 +49,22 @@ pub fn apply_planned(
     }
 }
 
-/// The bag that a recorded change makes, with its range table: only memory can be wanting.
-pub fn apply_recorded(
+/// The bag that a recorded change makes of one with this table, with its own table: only memory can be wanting.
+pub(crate) fn apply_recorded(
     alloc: Global,
     bag: &Bag,
+    table: &StoreTable,
     change: &Change,
 ) -> Result<(Bag, StoreTable), OutOfMemory>
-    requires { apply_refusal bag.now change.now ≡ None }
+    requires fits { apply_refusal bag.now change.now ≡ None }
+    requires of_bag { ⟦<StoreTable as RangeTable>⟧.pairs table.now ≡ bag.now.held }
     ensures made { IfOk result (λ next. next.0 ≡ with_held bag.now (changed bag.now.held change.now)) }
     ensures within { IfOk result (λ next. IsBag next.0) }
     ensures table { IfOk result (λ next. ⟦<StoreTable as RangeTable>⟧.pairs next.1 ≡ next.0.held) }
 {
     match bag.applied(alloc, change) {
         Ok(next) => {
-            let table = StoreTable::build(alloc, &next)?;
+            let table = table.rebuilt(alloc, &mut BagReader::new(&next), change)?;
             Ok((next, table))
         }
         Err(ApplyError::Mismatch(_)) => unreachable!(),
@@ -71,7 +76,7 @@ pub fn apply_recorded(
 
 /// Shifts the last change of one list to the end of the other, and answers how many pairs it has. Where a growth is
 /// refused both lists stay.
-pub fn shift_last(from: &mut Vec<Change>, to: &mut Vec<Change>) -> Result<usize, OutOfMemory>
+pub(crate) fn shift_last(from: &mut Vec<Change>, to: &mut Vec<Change>) -> Result<usize, OutOfMemory>
     requires { 0 < vec_len from.old }
     ensures shifted { IfOk result (IsShifted from.old.items to.old.items from.new.items to.new.items) }
     ensures stay { OnErr result ((from.new.items ≡ from.old.items) × (to.new.items ≡ to.old.items)) }

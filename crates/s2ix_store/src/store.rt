@@ -22,6 +22,7 @@ use s2id_core::OutOfMemory;
 use s2id_union::CellUnion;
 use s2ix_bag::{Bag, Change, Label, Limits};
 use s2ix_edit::{Edit, EditError, RedoError, UndoError, plan, region_of};
+use s2ix_reading::changed_face_count;
 use s2ix_table::RangeTable;
 use std::alloc::Global;
 use std::marker::Model;
@@ -35,6 +36,7 @@ pub struct Store {
     table: StoreTable,
     done: Vec<Change>,
     undone: Vec<Change>,
+    faces_rebuilt: u8,
 }
 
 impl Model for Store {
@@ -44,10 +46,15 @@ impl Model for Store {
 
     ghost Value = { State };
 
-    ghost view = { λ s. record { bag = s.bag; done = s.done.items; undone = s.undone.items } };
+    ghost view = { λ s. record {
+      bag = s.bag;
+      done = s.done.items;
+      undone = s.undone.items;
+      faces_rebuilt = s.faces_rebuilt;
+    } };
 
     ghost invariant = { λ s.
-        IsStore (record { bag = s.bag; done = s.done.items; undone = s.undone.items })
+        IsStore (record { bag = s.bag; done = s.done.items; undone = s.undone.items; faces_rebuilt = s.faces_rebuilt })
         × (⟦<StoreTable as RangeTable>⟧.pairs s.table ≡ s.bag.held) };
 }
 
@@ -75,13 +82,14 @@ impl Store {
             table,
             done: Vec::new(alloc),
             undone: Vec::new(alloc),
+            faces_rebuilt: 0,
         })
     }
 
     /// Carries an edit out, and answers how many pairs changed their counts. An accepted edit records the change
     /// at the end of `done` and empties `undone`; a refused one changes nothing. [`EditError`] says when each
     /// refusal stands. It takes what [`plan`] takes, O(n + m) to apply its m entries to n pairs held, what it takes to let the
-    /// undone changes go, and what [`StoreTable`] takes to be built of the new bag.
+    /// undone changes go, and O(p) to read the p pairs again that are held on the faces of the change.
     pub fn edit(&mut self, edit: &Edit) -> Result<usize, EditError>
         ensures state { OnOk result (self.new ≡ after_edit self.old edit.now) }
         ensures history { OnOk result (history_of self.new
@@ -114,17 +122,19 @@ impl Store {
         ensures unchanged { OnErr result (self.new ≡ self.old) }
     {
         let number = change.entries().len();
-        let (bag, table) = apply_planned(self.alloc, &self.bag, &change)?;
+        let faces = changed_face_count(&change);
+        let (bag, table) = apply_planned(self.alloc, &self.bag, &self.table, &change)?;
         self.done.push(change)?;
         self.undone.clear();
         self.bag = bag;
         self.table = table;
+        self.faces_rebuilt = faces;
         Ok(number)
     }
 
     /// Takes the last change back, and answers how many pairs it had. The change goes to the end of `undone`.
     /// `NothingToUndo` is tested first; after it only memory can be wanting. O(n + m) for n pairs held and m in
-    /// the change, and what [`StoreTable`] takes to be built of the new bag.
+    /// the change, p of them on its faces, whose tables are built again: O(n + m) in all.
     pub fn undo(&mut self) -> Result<usize, UndoError>
         ensures state { OnOk result (self.new ≡ after_undo self.old) }
         ensures history { OnOk result (history_of self.new ≡ one_back (history_of self.old)) }
@@ -140,18 +150,19 @@ impl Store {
         let Some(last) = self.done.last() else {
             return Err(UndoError::NothingToUndo);
         };
+        let faces = changed_face_count(last);
         let inverse = last.inverse(self.alloc)?;
-        let (bag, table) = apply_recorded(self.alloc, &self.bag, &inverse)?;
+        let (bag, table) = apply_recorded(self.alloc, &self.bag, &self.table, &inverse)?;
         let number = shift_last(&mut self.done, &mut self.undone)?;
         self.bag = bag;
         self.table = table;
+        self.faces_rebuilt = faces;
         Ok(number)
     }
 
     /// Does the last undone change again, and answers how many pairs it has. The change goes back to the end of
     /// `done`. `NothingToRedo` is tested first; after it only memory can be wanting, and the journal is never
-    /// full: an undo keeps the room of its change. O(n + m) for n pairs held and m in the change, and what
-    /// [`StoreTable`] takes to be built of the new bag.
+    /// full: an undo keeps the room of its change. O(n + m) for n pairs held and m in the change, whose faces alone are read again.
     pub fn redo(&mut self) -> Result<usize, RedoError>
         ensures state { OnOk result (self.new ≡ after_redo self.old) }
         ensures history { OnOk result (history_of self.new ≡ one_on (history_of self.old)) }
@@ -167,10 +178,12 @@ impl Store {
         let Some(last) = self.undone.last() else {
             return Err(RedoError::NothingToRedo);
         };
-        let (bag, table) = apply_recorded(self.alloc, &self.bag, last)?;
+        let faces = changed_face_count(last);
+        let (bag, table) = apply_recorded(self.alloc, &self.bag, &self.table, last)?;
         let number = shift_last(&mut self.undone, &mut self.done)?;
         self.bag = bag;
         self.table = table;
+        self.faces_rebuilt = faces;
         Ok(number)
     }
 
@@ -198,6 +211,14 @@ impl Store {
         ensures within { IsStore self.now }
     {
         &self.table
+    }
+
+    /// How many faces, 0 to 6, the last accepted edit, undo or redo read again: those that its change has an entry on. 0 before
+    /// the first; no refusal and no other call changes it. O(1). This project's own.
+    pub fn faces_rebuilt(&self) -> u8
+        ensures { result ≡ self.now.faces_rebuilt }
+    {
+        self.faces_rebuilt
     }
 
     /// The region of a label: the normal union of the cells that are held with it, which is empty where none is.

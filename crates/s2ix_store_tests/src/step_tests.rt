@@ -1,5 +1,5 @@
 //! Undo, redo and forget, call by call.
-use crate::checks::{check_history, check_steps, ends_with, store_of};
+use crate::checks::{answer_of, check_history, check_steps, ends_with, store_of};
 use s2ix_samples::{LimitRow, WIDEST, bag_of};
 use s2ix_store::Store;
 use std::alloc::Global;
@@ -81,4 +81,27 @@ const FORGETS: [&str; 9] = [
 #[test]
 fn forget_keeps_the_collection_alone(rt: HostRuntime) {
     check_history(&rt, rt.alloc(), TWO_CHANGES, &FORGETS);
+}
+
+// Steps, and on how many faces the last accepted one changed something.
+const FACES: [(&str, u8); 9] = [
+    ("add 1:4:1", 1),
+    ("grow 4 0", 4),
+    ("grow 4 0", 1),
+    ("grow 4 0", 1),
+    ("undo", 1),
+    ("undo", 4),
+    ("forget", 4),
+    ("undo", 4),
+    ("add 5:2:1", 1),
+];
+
+#[test]
+fn the_faces_of_the_last_step_are_counted(rt: HostRuntime) {
+    let mut store = store_of(rt.alloc(), WIDEST).expect(&rt, "a store");
+    assert!(rt; store.faces_rebuilt() == 0);
+    for (step, faces) in FACES {
+        let told = answer_of(rt.alloc(), &mut store, step).is_some();
+        assert!(rt; told && store.faces_rebuilt() == faces, "wrong at {step}");
+    }
 }

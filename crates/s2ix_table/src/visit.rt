@@ -18,8 +18,8 @@ pub struct Visit {
     pub cost: Cost,
 }
 
-/// Visits what meets a target, as `RangeTable::visit` does, and counts what it reads of the table: its cost has the bounds of `walk`.
-/// This project's own.
+/// Visits what meets a target, as [`RangeTable::visit`] does, and counts what it reads of the table: its cost has the bounds that
+/// [`walk`](s2ix_walk::walk) states. This project's own.
 pub fn visit_counted<T: RangeTable, F: FnMut(Held) -> bool>(
     table: &T,
     target: &CellUnion,

@@ -7,6 +7,7 @@ use s2id_union::CellUnion;
 use s2ix_bag::{Bag, Held};
 use s2ix_chain::ChainTable;
 use s2ix_copied::CopiedTable;
+use s2ix_faced::FacedTable;
 use s2ix_samples::{all_faces, deep_bag, nested_bag, random_cells};
 use s2ix_table::{RangeRow, RangeTable};
 use std::alloc::Global;
@@ -79,27 +80,34 @@ fn check_targets<T: RangeTable>(
     Ok(())
 }
 
-// Compares what the table of a bag answers.
+// Compares what a table answers that is a bag's.
+fn check_built<T: RangeTable>(
+    alloc: Global,
+    number: usize,
+    table: &T,
+    bag: &Bag,
+    random: &mut Random,
+) -> Result<(), Fail> {
+    let sample = Sample { number, table, bag };
+    check_all_ranges(alloc, &sample)?;
+    check_targets(alloc, &sample, random)
+}
+
+// Builds the table of a bag, and compares what it answers.
 fn check_table<T: RangeTable + Drop>(
     alloc: Global,
     number: usize,
     bag: &Bag,
     random: &mut Random,
 ) -> Result<(), Fail> {
-    let table = T::build(alloc, bag)?;
-    let sample = Sample {
-        number,
-        table: &table,
-        bag,
-    };
-    check_all_ranges(alloc, &sample)?;
-    check_targets(alloc, &sample, random)
+    check_built(alloc, number, &T::build(alloc, bag)?, bag, random)
 }
 
-// Compares what both tables of a bag answer.
+// Compares what each kind of table of a bag answers.
 fn check_bag(alloc: Global, number: usize, bag: &Bag, random: &mut Random) -> Result<(), Fail> {
     check_table::<CopiedTable>(alloc, number, bag, random)?;
-    check_table::<ChainTable>(alloc, number, bag, random)
+    check_table::<ChainTable>(alloc, number, bag, random)?;
+    check_table::<FacedTable>(alloc, number, bag, random)
 }
 
 #[test]

@@ -4,6 +4,7 @@ use crate::samples::{PairRow, labels_of, list_of, table_of, union_of};
 use s2id_union::CellUnion;
 use s2ix_chain::ChainTable;
 use s2ix_copied::CopiedTable;
+use s2ix_faced::FacedTable;
 use s2ix_table::{RangeRow, RangeTable};
 use std::alloc::Global;
 use std::test::Fail;
@@ -66,6 +67,7 @@ fn check_tables(alloc: Global, tables: &[Worked]) -> Result<(), Fail> {
     for worked in tables {
         check_table::<CopiedTable>(alloc, worked)?;
         check_table::<ChainTable>(alloc, worked)?;
+        check_table::<FacedTable>(alloc, worked)?;
     }
     Ok(())
 }
@@ -141,6 +143,7 @@ fn check_meetings(alloc: Global, meetings: &[Meeting]) -> Result<(), Fail> {
     for meeting in meetings {
         check_meeting::<CopiedTable>(alloc, meeting)?;
         check_meeting::<ChainTable>(alloc, meeting)?;
+        check_meeting::<FacedTable>(alloc, meeting)?;
     }
     Ok(())
 }

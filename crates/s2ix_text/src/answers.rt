@@ -2,17 +2,18 @@ ghost use Rattle.s2ix_io.specs.Faults.{CanCount};
 ghost use Rattle.s2ix_io.specs.Puts.{Writes};
 ghost use Rattle.s2ix_text.specs.Answers.{neighbors_line, no_line, ok_line, path_line, square_line};
 
+use crate::together::put_together;
 use itoa::Buffer;
 use s2id_core::CellId;
 use s2id_cube::{FaceIj, edge_neighbors};
-use s2ix_io::{Sink, WriteFault, put_parts};
+use s2ix_io::{Sink, WriteFault};
 
 /// Writes the line `no` with a name, which says why something was refused. This project's own.
 pub fn write_no<K: Sink>(name: &str, sink: &mut K) -> Result<(), WriteFault>
     requires { CanCount (K.fault_count sink.old) }
     ensures { Writes K.taken K.flush_mark K.fault_count sink.old sink.new result (no_line name.now) }
 {
-    put_parts(sink, &[b"no ", name.as_bytes(), b"\n"])
+    put_together(sink, &[b"no ", name.as_bytes(), b"\n"])
 }
 
 /// Writes the line `ok` with a number. This project's own.
@@ -22,7 +23,7 @@ pub fn write_ok<K: Sink>(pairs: usize, sink: &mut K) -> Result<(), WriteFault>
 {
     let mut buffer = Buffer::new();
     let number = buffer.format(pairs);
-    put_parts(sink, &[b"ok ", number.as_bytes(), b"\n"])
+    put_together(sink, &[b"ok ", number.as_bytes(), b"\n"])
 }
 
 /// Writes a cell's path on a line of its own. This project's own.
@@ -31,7 +32,7 @@ pub fn write_path<K: Sink>(cell: CellId, sink: &mut K) -> Result<(), WriteFault>
     ensures { Writes K.taken K.flush_mark K.fault_count sink.old sink.new result (path_line cell) }
 {
     let path = cell.path();
-    put_parts(sink, &[path.as_bytes(), b"\n"])
+    put_together(sink, &[path.as_bytes(), b"\n"])
 }
 
 /// Writes the tokens of the cells over a cell's sides on one line: down, right, up and left. This project's own.
@@ -44,7 +45,7 @@ pub fn write_neighbors<K: Sink>(cell: CellId, sink: &mut K) -> Result<(), WriteF
     let right = neighbors[1].token();
     let up = neighbors[2].token();
     let left = neighbors[3].token();
-    put_parts(
+    put_together(
         sink,
         &[
             down.as_bytes(),
@@ -66,7 +67,7 @@ pub fn write_square<K: Sink>(square: FaceIj, sink: &mut K) -> Result<(), WriteFa
 {
     let (mut face, mut i, mut j) = (Buffer::new(), Buffer::new(), Buffer::new());
     let (mut level, mut orientation) = (Buffer::new(), Buffer::new());
-    put_parts(
+    put_together(
         sink,
         &[
             face.format(square.face).as_bytes(),

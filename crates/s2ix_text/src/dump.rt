@@ -3,10 +3,11 @@ ghost use Rattle.s2ix_text.specs.Dump.{dump_text, end_line, pair_line};
 ghost use Rattle.s2ix_io.specs.Faults.{CanCount};
 ghost use Rattle.s2ix_io.specs.Puts.{Writes};
 
+use crate::together::put_together;
 use arrayvec::ArrayVec;
 use itoa::Buffer;
 use s2ix_bag::{Bag, Held};
-use s2ix_io::{Sink, WriteFault, put_all, put_parts};
+use s2ix_io::{Sink, WriteFault, put_all};
 
 // How many bytes are gathered before they are put.
 const BLOCK: usize = 1024;
@@ -62,7 +63,7 @@ fn write_end<K: Sink>(bag: &Bag, sink: &mut K) -> Result<(), WriteFault>
 {
     let mut pairs = Buffer::new();
     let mut copies = Buffer::new();
-    put_parts(
+    put_together(
         sink,
         &[
             b"end ".as_slice(),

@@ -4,9 +4,10 @@ ghost use Rattle.s2ix_text.specs.Journal.{change_line, entry_line, group_text, j
 ghost use Rattle.s2ix_io.specs.Puts.{Writes};
 
 use crate::list::{ListItem, write_end_of_list, write_lines};
+use crate::together::put_together;
 use itoa::Buffer;
 use s2ix_bag::{Change, Entry};
-use s2ix_io::{Sink, WriteFault, put_all, put_parts};
+use s2ix_io::{Sink, WriteFault, put_all};
 
 impl ListItem for Entry {
     ghost line = { entry_line };
@@ -17,7 +18,7 @@ impl ListItem for Entry {
         let mut label = Buffer::new();
         let mut before = Buffer::new();
         let mut after = Buffer::new();
-        put_parts(
+        put_together(
             sink,
             &[
                 token.as_bytes(),
@@ -40,7 +41,7 @@ fn write_change_line<K: Sink>(entries: &[Entry], sink: &mut K) -> Result<(), Wri
     ensures { Writes K.taken K.flush_mark K.fault_count sink.old sink.new result (change_line entries.now) }
 {
     let mut number = Buffer::new();
-    put_parts(
+    put_together(
         sink,
         &[
             b"change ".as_slice(),

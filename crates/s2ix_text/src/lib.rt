@@ -12,6 +12,7 @@ mod list;
 mod meeting;
 mod pair;
 mod ranges;
+mod together;
 
 pub use answers::{write_neighbors, write_no, write_ok, write_path, write_square};
 pub use dump::write_dump;

@@ -4,10 +4,11 @@ ghost use Rattle.s2ix_io.specs.Puts.{Writes};
 ghost use Rattle.s2ix_text.specs.Queries.{end_of_list, held_line, label_line, list_text, token_line};
 
 use crate::pair::write_pair_between;
+use crate::together::put_together;
 use itoa::Buffer;
 use s2id_core::CellId;
 use s2ix_bag::{Held, Label};
-use s2ix_io::{Sink, WriteFault, put_parts};
+use s2ix_io::{Sink, WriteFault};
 
 /// An item of a list: it stands there on a line of its own. This project's own.
 pub trait ListItem: Copy {
@@ -35,7 +36,7 @@ impl ListItem for Label {
     #[tactic(auto, unfolding(crate::specs::Queries::label_line))]
     fn write_line<K: Sink>(self, sink: &mut K) -> Result<(), WriteFault> {
         let mut number = Buffer::new();
-        put_parts(sink, &[number.format(self.get()).as_bytes(), b"\n"])
+        put_together(sink, &[number.format(self.get()).as_bytes(), b"\n"])
     }
 }
 
@@ -45,7 +46,7 @@ impl ListItem for CellId {
     #[tactic(auto, unfolding(crate::specs::Queries::token_line))]
     fn write_line<K: Sink>(self, sink: &mut K) -> Result<(), WriteFault> {
         let token = self.token();
-        put_parts(sink, &[token.as_bytes(), b"\n"])
+        put_together(sink, &[token.as_bytes(), b"\n"])
     }
 }
 
@@ -67,7 +68,7 @@ pub(crate) fn write_end_of_list<K: Sink>(count: usize, sink: &mut K) -> Result<(
     ensures { Writes K.taken K.flush_mark K.fault_count sink.old sink.new result (end_of_list count) }
 {
     let mut number = Buffer::new();
-    put_parts(
+    put_together(
         sink,
         &[b"end ".as_slice(), number.format(count).as_bytes(), b"\n"],
     )

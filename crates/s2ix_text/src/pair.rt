@@ -3,9 +3,10 @@ ghost use Rattle.s2ix_io.specs.Faults.{CanCount};
 ghost use Rattle.s2ix_io.specs.Puts.{Writes};
 ghost use Rattle.s2ix_text.specs.Queries.{pair_text};
 
+use crate::together::put_together;
 use itoa::Buffer;
 use s2ix_bag::Held;
-use s2ix_io::{Sink, WriteFault, put_parts};
+use s2ix_io::{Sink, WriteFault};
 
 // Writes a held pair as queries print it, between two texts.
 #[tactic(auto, unfolding(crate::specs::Queries::pair_text))]
@@ -21,7 +22,7 @@ pub(crate) fn write_pair_between<K: Sink>(
     let token = held.pair.cell.token();
     let mut label = Buffer::new();
     let mut count = Buffer::new();
-    put_parts(
+    put_together(
         sink,
         &[
             before,

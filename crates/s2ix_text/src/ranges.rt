@@ -8,8 +8,9 @@ ghost use Rattle.s2ix_text.specs.Queries.{bounds_text, held_line, list_text, ran
 
 use crate::list::{ListItem, write_end_of_list};
 use crate::pair::write_pair_between;
+use crate::together::put_together;
 use s2id_core::{CellId, sixteen_digits};
-use s2ix_io::{Sink, WriteFault, put_all, put_parts};
+use s2ix_io::{Sink, WriteFault, put_all};
 use s2ix_table::{RangeRow, RangeTable, chain_at, contents};
 
 /// Writes what lies over a leaf as a list of pairs, innermost cell first, the labels of one cell rising. O(log n + m) for
@@ -39,7 +40,7 @@ fn write_bounds<K: Sink>(range: RangeRow, sink: &mut K) -> Result<(), WriteFault
 {
     let start = sixteen_digits(range.start);
     let limit = sixteen_digits(range.limit);
-    put_parts(sink, &[start.as_slice(), b" ", limit.as_slice()])
+    put_together(sink, &[start.as_slice(), b" ", limit.as_slice()])
 }
 
 // Writes the pairs of a range, innermost cell first, each behind a space.

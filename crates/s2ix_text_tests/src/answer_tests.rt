@@ -46,9 +46,9 @@ const ANSWERS: [Row; 6] = [
     // a fault ends a line, and the answers behind it
     Row {
         texts: &[Text::Ok(7), Text::Square(SQUARE), Text::No("NotLeaf")],
-        put_len: 9,
-        fault_at: 6,
-        kept: b"ok 7\n0 ",
+        put_len: 3,
+        fault_at: 4,
+        kept: b"ok 7\n0 2",
     },
 ];
 

@@ -78,14 +78,14 @@ const LISTS: [Row; 9] = [
     // a fault leaves the pairs found before it, and a front of the next one's line
     Row {
         texts: &[Text::Meeting(APART, "04 4c")],
-        put_len: 9,
-        fault_at: 9,
+        put_len: 3,
+        fault_at: 5,
         kept: b"04:9:1\n4c:",
     },
     // a fault ends a list
     Row {
         texts: &[Text::Ranges(NESTED)],
-        put_len: 9,
+        put_len: 8,
         fault_at: 3,
         kept: b"0000000000000001",
     },

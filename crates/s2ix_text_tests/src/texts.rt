@@ -43,7 +43,7 @@ pub(crate) enum Text {
     No(&'static str),
     // The path of the cell with a token.
     Path(&'static str),
-    // The neighbors of the cell with a token.
+    // The neighbours of the cell with a token.
     Neighbors(&'static str),
     // A square.
     Square(FaceIj),

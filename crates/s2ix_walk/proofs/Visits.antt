@@ -2,13 +2,10 @@
 use Rattle.std.proofs.Common.{◌≡◌, ℕ, ◌+◌, ◌≤◌, Bool, true, false, true≢false, inl, inr, [], ◌∷◌, length, refl, sym, subst, arith}
 use Rattle.s2ix_pairs.specs.Collection.{Collection}
 use Rattle.s2ix_pairs.specs.declared.pair.Held.{Held}
-use Rattle.s2ix_walk.specs.Calls.{MayVisit, CallsOn, Visits}
+use Rattle.s2ix_walk.specs.Calls.{MayVisit, CallsOn}
 
 pub may_same : {F : Type 0} (pre : F → Held → Type 0) (step : F → Held → Bool → F → Type 0) (f : F) (xs ys : Collection) → xs ≡ ys → MayVisit pre step f xs → MayVisit pre step f ys
 may_same {F} pre step f xs ys e may = subst (λ (zs : Collection). MayVisit pre step f zs) e may
-
-pub visits_same : {F : Type 0} (step : F → Held → Bool → F → Type 0) (f : F) (xs ys : Collection) (k : ℕ) (whole : Bool) (last : F) → xs ≡ ys → CallsOn step f xs k whole last → Visits step f ys whole last
-visits_same {F} step f xs ys k whole last e calls = (k, subst (λ (zs : Collection). CallsOn step f zs k whole last) e calls)
 
 -- a closure that may be called on any pair may visit any list
 pub may_always : {F : Type 0} (pre : F → Held → Type 0) (step : F → Held → Bool → F → Type 0) (f : F) (hs : Collection) → ((g : F) (h : Held) → pre g h) → MayVisit pre step f hs

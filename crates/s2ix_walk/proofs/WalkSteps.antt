@@ -21,9 +21,6 @@ use Rattle.s2ix_walk.proofs.Walked.{covered_from}
 
 -- ---- the cells of the target
 
-pub passed_later : (target : List CellId) (k seen next : ℕ) → seen ≤ next → ArePassed target k seen → ArePassed target k next
-passed_later target k seen next le passed j d less within = let p = passed j d less within in omega arith
-
 -- where all cells are passed, no leaf of the target is left
 pub passed_all : (target : List CellId) (k seen : ℕ) → ArePassed target k seen → length target ≤ k → (q : ℕ) → Covers target q → q < seen
 passed_all target k seen passed le q v =

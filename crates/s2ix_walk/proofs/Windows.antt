@@ -3,15 +3,9 @@ use Rattle.std.proofs.Common.{◌≡◌, ℕ, zero, suc, ◌+◌, ◌-◌, ◌*�
 use Rattle.std.proofs.Math.Nat.{pow-suc}
 use Rattle.std.proofs.lemmas.Bool.{cases_lt}
 use Rattle.s2ix_pairs.specs.Collection.{Collection}
-use Rattle.s2ix_ranges.specs.Table.{Range, range_at, leaf_end, IsRangeTable, IsFound}
+use Rattle.s2ix_ranges.specs.Table.{Range, range_at, leaf_end, IsRangeTable}
 use Rattle.s2ix_ranges.proofs.Tables.{limits_rise}
 use Rattle.s2ix_walk.specs.Searching.{IsWindow}
-
-pub all_ranges : (hs : Collection) (ranges : List Range) (leaf : ℕ) → IsRangeTable hs ranges → 1 ≤ leaf → IsWindow ranges leaf 0 (length ranges)
-all_ranges hs ranges leaf t from =
-    let some = t.some in
-    let first = t.first in
-    record { some = omega arith; within = omega arith; start = omega arith; limit = λ lt. absurd (omega arith) }
 
 starts_rise : (hs : Collection) (ranges : List Range) (i j : ℕ) → IsRangeTable hs ranges → i ≤ j → j + 1 < length ranges → (range_at ranges (i + 1)).start ≤ (range_at ranges (j + 1)).start
 starts_rise hs ranges i j t le lt =
@@ -89,18 +83,3 @@ room_left hs ranges leaf from size over one t all less begins by behind =
           (let is : from + over * one ≡ from + over = ap (λ (k : ℕ). from + over * k) (by le) ∙ (omega arith) in
           subst (λ (k : ℕ). IsWindow ranges leaf k size) (sym is) (window_from ranges leaf (from + over) size (omega arith) (omega arith) le))
     ]
-
-pub one_left : (hs : Collection) (ranges : List Range) (leaf first size : ℕ) → IsRangeTable hs ranges → IsWindow ranges leaf first size → size ≤ 1 → leaf < leaf_end → IsFound ranges first leaf
-one_left hs ranges leaf first size t w one below =
-    let some = w.some in
-    let a = w.within in
-    let e : first + size ≡ first + 1 = omega arith in
-    let f = ap (λ k. (range_at ranges k).start) e in
-    record {
-      within = omega arith;
-      start = w.start;
-      limit = elim (cases_lt (first + 1) (length ranges)) [
-        | inl more ↦ let n = t.next first (first + 1) refl more in let l = w.limit (omega arith) in omega arith
-        | inr end ↦ let n = t.last first (omega arith) in omega arith
-      ];
-    }

@@ -30,7 +30,7 @@ is_covered target q = list_any (λ c. nat_le (first_of c) q && nat_lt q (end_of 
 abbrev pub ArePassed : List CellId → ℕ → ℕ → Type 0
 ArePassed target k seen = (j : ℕ) (d : CellId) → j < k → j < length target → end_of (slice_index_or target j d) ≤ seen
 
--- the range at hand has the leaf `seen`, unless there is none; the leaf before it is the target's, unless there is none
+-- the range at hand has the leaf `seen`, unless `seen` is the end of the leaves; the leaf before `seen` is the target's, where there is one
 pub record IsWalk {P : Type 0} (shown : Shown P) (target : List CellId) (walk : WalkState P) : Type 0 where
   pub odd : walk.seen % 2 ≡ 1
   pub within : walk.seen ≤ leaf_end

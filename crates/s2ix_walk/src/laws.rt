@@ -1,4 +1,4 @@
-//! What the definitions of the walk's cost say, in other words.
+//! Laws: functions that do nothing, and whose contracts are facts on the definitions.
 ghost use Rattle.std.specs.Prelude.{◌≡◌, ◌≤◌, ℕ, Bool, true, length};
 ghost use Rattle.s2ix_pairs.specs.Collection.{Collection};
 ghost use Rattle.s2ix_walk.specs.Calls.{CallsOn};

@@ -1,7 +1,10 @@
 //! The one walk that finds what meets a target, over anything that reads a range table, and what it costs.
 //!
-//! A [`Reader`] gives the ranges of a table and the pairs over them, and counts both. [`walk`] finds the meeting list of a target
-//! through it alone, and so does [`Meeting`], its loop as an iterator.
+//! A [`Reader`] gives the ranges of a table and the pairs over them, and counts both. [`walk`] finds the meeting list of a target through
+//! it alone, and so does [`Meeting`], its loop as an iterator.
+//!
+//! A walk takes no memory. It begins with a reader that has read nothing: a reader serves for one walk, whose cost it then tells. That cost
+//! is bounded by what the walk gives, by the ranges that the target meets and by the target's cells: see [`walk`].
 #![tactic(auto)]
 
 mod cost;

@@ -9,9 +9,11 @@ use s2id_union::CellUnion;
 use s2ix_bag::Held;
 
 /// Calls `f` on each pair of the target's meeting list, in order, up to and with the first call that answers false; whether every call
-/// answered true (S2's `VisitIntersectingCells()`). Takes no memory. The reader must have read nothing. With k calls, r ranges of n
-/// that the target meets and t cells of it, it then has read k to k + r + t pairs, and at most t times the binary digits of
-/// n + 1, and r + t, ranges.
+/// answered true (S2's `VisitIntersectingCells()`). Takes no memory. O(k + r + t log n).
+///
+/// The reader must have read nothing. Let k be the number of calls, t that of the target's cells, n that of the table's ranges, r that of
+/// those which the target meets, and d the number of binary digits of n + 1. Then the reader has read at least k and at most k + r + t
+/// pairs, and at most t * d + r + t ranges.
 pub fn walk<R: Reader, F: FnMut(Held) -> bool>(
     reader: &mut R,
     target: &CellUnion,

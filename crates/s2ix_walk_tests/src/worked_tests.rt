@@ -4,6 +4,7 @@ use crate::samples::{PairRow, table_of, union_of};
 use s2id_union::CellUnion;
 use s2ix_chain::ChainTable;
 use s2ix_copied::CopiedTable;
+use s2ix_faced::FacedTable;
 use s2ix_table::{Cost, RangeTable};
 use std::alloc::Global;
 use std::test::Fail;
@@ -96,6 +97,7 @@ fn check_visits(alloc: Global, visits: &[Worked]) -> Result<(), Fail> {
     for worked in visits {
         check_visit::<CopiedTable>(alloc, worked)?;
         check_visit::<ChainTable>(alloc, worked)?;
+        check_visit::<FacedTable>(alloc, worked)?;
     }
     Ok(())
 }

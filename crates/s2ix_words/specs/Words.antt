@@ -77,19 +77,19 @@ AskFor words command = IsMet (asked words) command
 
 -- ---- refusals
 
--- usage only where nothing could be asked for, and never help
+-- the fault is usage only where no command is asked for, and never help; it may always be want of memory
 abbrev pub Refuses : (Command → Type 0) → WordsFault → Type 0
 Refuses Asks (Usage text) = (command : Command) → Asks command → ⊥
 Refuses Asks (HelpAsked text) = ⊥
 Refuses Asks OutOfMemory = ⊤
 
--- usage only where no file of this name was given, and never help
+-- the fault is usage only where no file of this name was given, and never help; it may always be want of memory
 abbrev pub Lacks : Text → List Row → WordsFault → Type 0
 Lacks name given (Usage text) = first_of name given ≡ None
 Lacks name given (HelpAsked text) = ⊥
 Lacks name given OutOfMemory = ⊤
 
--- usage, or want of memory
+-- the fault is usage or want of memory
 abbrev pub IsUsage : WordsFault → Type 0
 IsUsage (HelpAsked text) = ⊥
 IsUsage _ = ⊤
@@ -100,7 +100,8 @@ IsToldAs why (Usage text) = (why ≢ kind.DisplayHelp) × (why ≢ kind.OutOfMem
 IsToldAs why (HelpAsked text) = why ≡ kind.DisplayHelp
 IsToldAs why OutOfMemory = ⊤
 
--- usage only where the words ask for no command and not for help alone; help only where they ask for it
+-- the fault is usage only where the words ask for no command and not for help alone, and help only where they ask for it; it may always
+-- be want of memory
 abbrev pub AreRefused : List Text → WordsFault → Type 0
 AreRefused words (Usage text) = ((command : Command) → AskFor words command → ⊥) × (fault_of program words ≢ kind.DisplayHelp ∷ [])
 AreRefused words (HelpAsked text) = IsAmong kind.DisplayHelp (fault_of program words)

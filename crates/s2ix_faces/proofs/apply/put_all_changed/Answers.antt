@@ -1,7 +1,7 @@
 -- Each face's entries change its own list.
-use Rattle.std.proofs.Common.{◌≡◌, ℕ, ◌+◌, ◌<◌, List, [], get_or, set, take, length, sym, ap, ◌∙◌, subst, subst₂, arith}
+use Rattle.std.proofs.Common.{◌≡◌, ℕ, ◌+◌, List, [], get_or, set, sym, ap, ◌∙◌, subst, subst₂, arith}
 use Rattle.s2ix_pairs.specs.Change.{IsChangeList, changed}
-use Rattle.s2ix_pairs.specs.Collection.{Collection, IsCollection}
+use Rattle.s2ix_pairs.specs.Collection.{Collection}
 use Rattle.s2ix_pairs.specs.declared.pair.Entry.{Entry}
 use Rattle.s2ix_pairs.proofs.Changes.{change_lower}
 use Rattle.s2ix_lists.specs.Apply.{AreBefore}

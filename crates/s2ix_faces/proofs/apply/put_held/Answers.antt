@@ -1,8 +1,8 @@
 -- Each face's pairs go into its own list.
-use Rattle.std.proofs.Common.{◌≡◌, ℕ, ◌+◌, ◌<◌, List, [], get_or, set, take, length, sym, ap, ◌∙◌, subst, subst₂, arith}
-use Rattle.s2ix_pairs.specs.Collection.{Collection, IsCollection}
+use Rattle.std.proofs.Common.{◌≡◌, ℕ, ◌+◌, set, sym, ◌∙◌, subst, subst₂, arith}
+use Rattle.s2ix_pairs.specs.Collection.{Collection}
 use Rattle.s2ix_pairs.proofs.Counts.{from_lower}
-use Rattle.s2ix_faces.specs.Faces.{all_of, face_start}
+use Rattle.s2ix_faces.specs.Faces.{face_start}
 use Rattle.s2ix_faces.proofs.Steps.{Putting, putting_start, putting_step, putting_end}
 use Rattle.s2ix_faces.proofs.apply.put_held.Goals as goal
 

@@ -1,7 +1,6 @@
 -- Where the steps end, the entry at hand is of a later face, or the list ends.
-use Rattle.std.proofs.Common.{◌≡◌, ℕ, ◌+◌, ◌<◌, ◌≤◌, true, get_or, length, refl, arith, ⊎_elim}
+use Rattle.std.proofs.Common.{ℕ, ◌+◌, ◌<◌, ◌≤◌, true, arith, ⊎_elim}
 use Rattle.std.proofs.lemmas.Bool.{iff_false, cases_lt}
-use Rattle.s2ix_pairs.specs.Pair.{rank_of}
 use Rattle.s2ix_faces.specs.Faces.{face_start}
 use Rattle.s2ix_faces.proofs.Ends.{entries_below_more, entries_from, from_none}
 use Rattle.s2ix_faces.proofs.parts.entries_up_to.Goals as goal

@@ -1,7 +1,6 @@
 -- The place lies in the list at hand, or behind it.
-use Rattle.std.proofs.Common.{◌≡◌, ◌<◌, length, get_or, Some, sym, ap, ◌∙◌, subst, arith, List}
+use Rattle.std.proofs.Common.{◌≡◌, get_or, sym, subst, arith}
 use Rattle.s2ix_pairs.specs.Collection.{Collection}
-use Rattle.s2ix_pairs.specs.declared.pair.Held.{Held}
 use Rattle.s2ix_faces.proofs.Places.{reached_found, reached_step}
 use Rattle.s2ix_faces.proofs.read.pair_at.Goals as goal
 

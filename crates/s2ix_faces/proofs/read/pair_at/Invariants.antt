@@ -1,6 +1,4 @@
 -- The place is counted from the list at hand on.
-use Rattle.std.proofs.Common.{◌≡◌, ◌<◌, drop, length, slice_get}
-use Rattle.s2ix_faces.specs.Faces.{all_of}
 use Rattle.s2ix_faces.proofs.Places.{IsReached}
 use Rattle.s2ix_faces.proofs.read.pair_at.Given as goal
 

@@ -1,5 +1,4 @@
-use Rattle.std.proofs.Common.{◌≡◌, ◌+◌, ◌-◌, ◌^◌, ℕ, length, ◌∙◌, ap, arith}
-use Rattle.s2ix_ranges.specs.Table.{range_at}
+use Rattle.std.proofs.Common.{◌+◌, ◌-◌, ℕ, length, ap, arith}
 use Rattle.s2ix_walk.specs.Costs.{binary_digits}
 use Rattle.s2ix_walk.specs.declared.cost.Cost.{Cost}
 use Rattle.s2ix_walk.proofs.Digits.{digits_above}

@@ -12,7 +12,7 @@ use Rattle.s2ix_walk.proofs.Walked.{covered}
 use Rattle.s2ix_walk.proofs.Paying.{IsPassed, step_pays}
 use Rattle.s2ix_walk.proofs.steps.advance.Given.{Over}
 use Rattle.s2ix_walk.proofs.steps.advance.Goals as goal
-use Rattle.s2ix_walk.proofs.steps.advance.Goals.{After-first-place, After-row-row, then-row-end, else-row-end}
+use Rattle.s2ix_walk.proofs.steps.advance.Goals.{After-first-place, then-row-end, else-row-end}
 
 pub returns-then-cell-cells-clause-ends : goal.returns-then-cell-cells-clause-ends
 returns-then-cell-cells-clause-ends g c e =

@@ -1,26 +1,55 @@
-use Rattle.std.proofs.Common.{◌≡◌, ◌+◌, ◌*◌, ◌%◌, ◌^◌, ap₂, ◌∙◌, arith}
-use Rattle.s2id_core.specs.Path.{place_of, path_at}
-use Rattle.s2id_core.proofs.Powers.{four_pos}
-use Rattle.s2id_core.proofs.Ancestry.{own_place, whole_curve, next_place, wrapped_place}
+-- The number that comes out is that of the place behind the cell's own.
+use Rattle.std.proofs.Common.{◌≡◌, ℕ, ◌-◌, ◌*◌, ◌^◌, ◌≤◌, length, ◌∙◌, arith}
+use Rattle.std.proofs.Math.Nat.{le-mul_of_pos_right}
+use Rattle.s2id_core.specs.Cell.{IsCellNumber}
+use Rattle.s2id_core.specs.Path.{path_at}
+use Rattle.s2id_core.proofs.Bits.{cell_at_place, level_at_place, place_at_place}
+use Rattle.s2id_core.proofs.Next.{next_below, next_form, next_stays, next_wraps}
+use Rattle.s2id_core.proofs.Numbers.{path_of_cell}
+use Rattle.s2id_core.proofs.Powers.{four_pos, four_split}
 use Rattle.s2id_core.proofs.cell_id.CellId.next_wrap.Goals as goal
-use Rattle.s2id_core.proofs.cell_id.CellId.next_wrap.Goals.{then-next-level, else-next-level}
+use Rattle.s2id_core.proofs.cell_id.CellId.next_wrap.Goals.{then-next-lt-CURVE_END, else-next-lt-CURVE_END}
 
-pub at_place-requires-clause-within : goal.at_place-requires-clause-within
-at_place-requires-clause-within c =
-    let k = c.level-level.result in
-    let whole = whole_curve k (omega arith) in
-    let pos = four_pos k in
-    let bound = c.place_at-next.ensures.bound in
-    elim c.if-next-level.branch [ then-next-level w ↦ omega arith | else-next-level w ↦ omega arith ]
+small : (n lowest : ℕ) → IsCellNumber n → lowest ≡ 4 ^ (30 - length (path_at n).digits) → lowest ≤ 2 ^ 60
+small n lowest cell low =
+    let k = length (path_at n).digits in
+    let split = four_split 30 k (path_of_cell n cell).at_most in
+    let grow : 4 ^ (30 - k) ≤ 4 ^ (30 - k) * 4 ^ k = le-mul_of_pos_right (4 ^ (30 - k)) (four_pos k) in
+    omega arith
+
+pub overflow_mul-next : goal.overflow_mul-next
+overflow_mul-next c = let low = small c.args.self.raw c.lsb.result c.args.self.valid c.lsb.ensures in omega arith
+
+pub overflow_add-next : goal.overflow_add-next
+overflow_add-next c =
+    let low = small c.args.self.raw c.lsb.result c.args.self.valid c.lsb.ensures in
+    let below = c.args.self.valid.0 in
+    omega arith
+
+form : (c : goal.Joined-next-lt-CURVE_END) → c.if-next-lt-CURVE_END.result ≡ next_form c.args.self.raw
+form c =
+    elim c.if-next-lt-CURVE_END.branch [
+      | then-next-lt-CURVE_END w ↦ w.result-is ∙ next_stays c.args.self.raw c.lsb.result c.args.self.valid c.lsb.ensures (omega (arith, w.if-next-lt-CURVE_END))
+      | else-next-lt-CURVE_END w ↦ w.result-is ∙ next_wraps c.args.self.raw c.lsb.result c.args.self.valid c.lsb.ensures (omega (arith, w.if-next-lt-CURVE_END))
+    ]
+
+pub invariant_of-result : goal.invariant_of-result
+invariant_of-result c = record {
+  valid =
+      cell_at_place (length (path_at c.args.self.raw).digits) _ _ (path_of_cell c.args.self.raw c.args.self.valid).at_most (next_below c.args.self.raw c.args.self.valid) (form c);
+}
+
+form_after : (c : goal.After-result-1) → c.if-next-lt-CURVE_END.result ≡ next_form c.args.self.raw
+form_after c =
+    elim c.if-next-lt-CURVE_END.branch [
+      | then-next-lt-CURVE_END w ↦ w.result-is ∙ next_stays c.args.self.raw c.lsb.result c.args.self.valid c.lsb.ensures (omega (arith, w.if-next-lt-CURVE_END))
+      | else-next-lt-CURVE_END w ↦ w.result-is ∙ next_wraps c.args.self.raw c.lsb.result c.args.self.valid c.lsb.ensures (omega (arith, w.if-next-lt-CURVE_END))
+    ]
+
+pub returns-clause-level : goal.returns-clause-level
+returns-clause-level c =
+    level_at_place (length (path_at c.args.self.raw).digits) _ _ (path_of_cell c.args.self.raw c.args.self.valid).at_most (form_after c)
 
 pub returns-clause-place : goal.returns-clause-place
 returns-clause-place c =
-    let n = c.args.self in
-    let k = c.level-level.result in
-    let m = c.place_at-next.result in
-    let level = c.level-level.ensures.level in
-    let whole = whole_curve k (omega arith) in
-    let own : m ≡ place_of (path_at n.raw) = own_place n.raw k m level c.place_at-next.ensures.place in
-    let bound = c.place_at-next.ensures.bound in
-    let next : c.if-next-level.at_place ≡ (m + 1) % (6 * 4 ^ k) = elim c.if-next-level.branch [ then-next-level w ↦ w.at_place-is ∙ wrapped_place m (6 * 4 ^ k) (omega arith) | else-next-level w ↦ w.at_place-is ∙ next_place m (6 * 4 ^ k) bound (omega arith) ] in
-    c.at_place.ensures.place ∙ next ∙ ap₂ (λ x y. (x + 1) % (6 * 4 ^ y)) own level
+    place_at_place (length (path_at c.args.self.raw).digits) _ _ (path_of_cell c.args.self.raw c.args.self.valid).at_most (form_after c)

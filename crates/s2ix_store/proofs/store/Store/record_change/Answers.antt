@@ -10,7 +10,7 @@ use Rattle.s2ix_store.proofs.store.Store.record_change.Goals.{After-clear}
 use Rattle.s2ix_store.proofs.store.Store.record_change.Goals as goal
 
 is_recorded : (c : After-clear) →
-    record { bag = c.in_ok-bag.bag; done = c.push.new.self.items; undone = c.clear.new.self.items } ≡ after_record c.args.self.now c.args.change
+    record { bag = c.in_ok-bag.bag; done = c.push.new.self.items; undone = c.clear.new.self.items; faces_rebuilt = c.changed_face_count-faces.result } ≡ after_record c.args.self.now c.args.change
 is_recorded c = grind (arith, common_steps)
 
 stood : (c : After-clear) → IsStore c.args.self.now

@@ -10,8 +10,8 @@ use Rattle.s2ix_store.proofs.store.Store.redo.Goals as goal
 
 -- the store inside, with its last undone change done again
 does_again : (c : In_ok-number) → Redoes
-    (record { bag = c.self.inside.bag; done = c.self.inside.done.items; undone = c.self.inside.undone.items })
-    (record { bag = c.in_ok-bag.bag; done = c.shift_last.new.to.items; undone = c.shift_last.new.from.items })
+    (record { bag = c.self.inside.bag; done = c.self.inside.done.items; undone = c.self.inside.undone.items; faces_rebuilt = c.self.inside.faces_rebuilt })
+    (record { bag = c.in_ok-bag.bag; done = c.shift_last.new.to.items; undone = c.shift_last.new.from.items; faces_rebuilt = c.changed_face_count-faces.result })
     c.in_ok-number.ensures.shifted.last
 does_again c =
     redoes_shifted _ _ c.in-Some.last.now _ c.in_ok-number.ensures.shifted

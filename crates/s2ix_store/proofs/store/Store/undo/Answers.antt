@@ -12,8 +12,8 @@ use Rattle.s2ix_store.proofs.store.Store.undo.Goals as goal
 
 -- the store inside, with its last change taken back
 takes_back : (c : In_ok-number) → Undoes
-    (record { bag = c.self.inside.bag; done = c.self.inside.done.items; undone = c.self.inside.undone.items })
-    (record { bag = c.in_ok-bag.bag; done = c.shift_last.new.from.items; undone = c.shift_last.new.to.items })
+    (record { bag = c.self.inside.bag; done = c.self.inside.done.items; undone = c.self.inside.undone.items; faces_rebuilt = c.self.inside.faces_rebuilt })
+    (record { bag = c.in_ok-bag.bag; done = c.shift_last.new.from.items; undone = c.shift_last.new.to.items; faces_rebuilt = c.changed_face_count-faces.result })
     c.in_ok-number.ensures.shifted.last
 takes_back c =
     let bag = c.self.inside.bag in

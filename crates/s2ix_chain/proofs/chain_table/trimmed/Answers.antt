@@ -1,5 +1,0 @@
-use Rattle.std.proofs.Common.{rules}
-use Rattle.s2ix_chain.proofs.chain_table.trimmed.Goals as goal
-
-pub returns : goal.returns
-returns g c = search rules

@@ -1,0 +1,3 @@
+pub mod AllFaces
+pub mod Few
+pub mod Taking

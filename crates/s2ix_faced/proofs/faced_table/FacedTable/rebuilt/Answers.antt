@@ -1,0 +1,38 @@
+use Rattle.std.proofs.Common.{◌∙◌, length, ap, arith, subst}
+use Rattle.s2ix_pairs.specs.Collection.{Collection}
+use Rattle.s2ix_ranges.specs.Table.{IsRangeTable}
+use Rattle.s2ix_joined.specs.Joined.{held_in, joined_ranges}
+use Rattle.s2ix_reading.specs.Reading.{AreChangedRead}
+use Rattle.s2ix_reading.proofs.ReadCounts.{few_reads}
+use Rattle.s2ix_faced.proofs.faced_table.FacedTable.rebuilt.Goals as goal
+
+pub invariant_of-result : goal.invariant_of-result
+invariant_of-result g c =
+    let held = ap held_in c.together.ensures.same ∙ c.in_ok-tables.ensures.tables.pairs in
+    let few = (g.met.B.PairReader.is_read c.args.bag.now).few in
+    record {
+      rises = c.together.ensures.rises;
+      few = let len = ap length held in omega (arith, few, len);
+      table = c.together.ensures.table;
+    }
+
+pub returns-clause-pairs : goal.returns-clause-pairs
+returns-clause-pairs g c = ap held_in c.together.ensures.same ∙ c.in_ok-tables.ensures.tables.pairs
+
+pub returns-clause-table : goal.returns-clause-table
+returns-clause-table g c =
+    subst (λ (hs : Collection). IsRangeTable hs (joined_ranges c.together.result)) (ap held_in c.together.ensures.same ∙ c.in_ok-tables.ensures.tables.pairs) c.together.ensures.table
+
+pub returns-clause-reads_all : goal.returns-clause-reads_all
+returns-clause-reads_all g c =
+    let hs = g.B.PairReader.shown c.args.bag.now in
+    let is = g.met.B.PairReader.is_read c.args.bag.now in
+    let after = g.B.PairReader.spent c.tables_after.new.reader in
+    (few_reads c.args.change.now hs after is (subst (λ n. AreChangedRead c.args.change.now hs n after) c.requires.unread c.in_ok-tables.ensures.reads)).0
+
+pub returns-clause-reads_few : goal.returns-clause-reads_few
+returns-clause-reads_few g c =
+    let hs = g.B.PairReader.shown c.args.bag.now in
+    let is = g.met.B.PairReader.is_read c.args.bag.now in
+    let after = g.B.PairReader.spent c.tables_after.new.reader in
+    (few_reads c.args.change.now hs after is (subst (λ n. AreChangedRead c.args.change.now hs n after) c.requires.unread c.in_ok-tables.ensures.reads)).1

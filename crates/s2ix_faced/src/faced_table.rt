@@ -1,0 +1,118 @@
+ghost use Rattle.std.specs.Prelude.{◌≡◌, ◌≤◌, ◌+◌, ◌*◌, IfOk, OnOk, length};
+ghost use Rattle.s2ix_pairs.specs.Change.{changed};
+ghost use Rattle.s2ix_pairs.specs.Collection.{IsCollection};
+ghost use Rattle.s2ix_ranges.specs.Table.{IsRangeTable};
+ghost use Rattle.s2ix_walk.specs.Costs.{binary_digits};
+ghost use Rattle.s2ix_table.specs.Pairs.{IsCollection-prop};
+ghost use Rattle.s2ix_reading.specs.Faces.{changed_count};
+ghost use Rattle.s2ix_joined.specs.Joined.{held_in, joined_ranges};
+ghost use Rattle.s2ix_joined.specs.Once.{KeepsOnce};
+ghost use Rattle.s2ix_joined.specs.Places.{chain_at};
+
+use crate::tables::{read_tables, tables_after};
+use s2id_core::{CellId, OutOfMemory};
+use s2ix_bag::{Bag, Change, Held};
+use s2ix_joined::laws::keeps_a_pair_once;
+use s2ix_joined::{FacePlace, JoinedTables};
+use s2ix_reading::{BagReader, PairReader};
+use s2ix_table::{RangeRow, RangeTable};
+use std::alloc::Global;
+
+/// A range table that keeps one table with shared chains for each face, and shares these with the tables that are made of it by
+/// [`FacedTable::rebuilt`]. Empty ranges that meet at the end of a face are one. Building takes O(n) for n pairs. This project's own: S2
+/// builds its whole index again.
+#[derive(Debug, Drop)]
+pub struct FacedTable {
+    tables: JoinedTables,
+    ghost rises: { IsCollection (held_in tables) } by { IsCollection-prop 0 (held_in tables) },
+    ghost few: { length (held_in tables) ≤ 1000000 },
+    ghost table: { IsRangeTable (held_in tables) (joined_ranges tables) },
+}
+
+impl RangeTable for FacedTable {
+    type Place = FacePlace;
+
+    ghost pairs = { λ t. held_in t.tables };
+
+    ghost ranges = { λ t. joined_ranges t.tables };
+
+    ghost chain = { λ t p. chain_at t.tables p };
+
+    ghost is_collection = { λ t. t.rises };
+
+    ghost is_table = { λ t. t.table };
+
+    ghost few = { λ t. t.few };
+
+    fn build(alloc: Global, bag: &Bag) -> Result<Self, OutOfMemory> {
+        let mut reader = BagReader::new(bag);
+        let tables = read_tables(alloc, &mut reader)?;
+        Ok(FacedTable {
+            tables: JoinedTables::together(tables),
+        })
+    }
+
+    #[inline]
+    fn range_count(&self) -> usize {
+        self.tables.range_count()
+    }
+
+    #[inline]
+    fn range(&self, k: usize) -> RangeRow {
+        self.tables.range(k)
+    }
+
+    #[inline]
+    fn first(&self, k: usize) -> Option<FacePlace> {
+        self.tables.first(k)
+    }
+
+    #[inline]
+    fn held_at(&self, place: FacePlace) -> Held {
+        self.tables.held_at(place)
+    }
+
+    #[inline]
+    fn outer(&self, place: FacePlace) -> Option<FacePlace> {
+        self.tables.outer(place)
+    }
+
+    #[inline]
+    fn find(&self, leaf: CellId) -> usize {
+        self.tables.find(leaf)
+    }
+}
+
+impl FacedTable {
+    /// The table of what a reader shows, which a change has made of this table's pairs: the tables of the faces that the change has
+    /// entries on are built again, the others are shared. With p pairs on those faces and n in all it reads p to p + 12 * digits(n + 1)
+    /// pairs, with the binary digits of n + 1. O(m + p) besides, for m entries. `OutOfMemory` where a growth is refused; pairs may have
+    /// been read then. This project's own.
+    pub fn rebuilt<B: PairReader>(
+        &self,
+        alloc: Global,
+        bag: &mut B,
+        change: &Change,
+    ) -> Result<FacedTable, OutOfMemory>
+        requires unread { B.spent bag.old ≡ 0 }
+        requires made { changed (⟦<FacedTable as RangeTable>⟧.pairs self.now) change.now ≡ B.shown bag.old }
+        ensures pairs { IfOk result (λ table. ⟦<FacedTable as RangeTable>⟧.pairs table ≡ B.shown bag.old) }
+        ensures table { IfOk result (λ table. IsRangeTable (B.shown bag.old) (⟦<FacedTable as RangeTable>⟧.ranges table)) }
+        ensures same { B.shown bag.new ≡ B.shown bag.old }
+        ensures reads_all { OnOk result (changed_count change.now (B.shown bag.old) ≤ B.spent bag.new) }
+        ensures reads_few { OnOk result
+            (B.spent bag.new ≤ changed_count change.now (B.shown bag.old) + 12 * binary_digits (length (B.shown bag.old) + 1)) }
+    {
+        let tables = tables_after(alloc, &self.tables, bag, change)?;
+        Ok(FacedTable {
+            tables: JoinedTables::together(tables),
+        })
+    }
+
+    // A law: a pair has one place.
+    pub(crate) fn keeps_its_places(&self)
+        ensures { KeepsOnce (⟦<FacedTable as RangeTable>⟧.chain self.now) }
+    {
+        keeps_a_pair_once(&self.tables);
+    }
+}

@@ -1,0 +1,95 @@
+// The tables of single faces, read from what is held.
+ghost use Rattle.std.specs.Prelude.{◌≡◌, ◌<◌, true, false, IfOk, OnOk};
+ghost use Rattle.s2ix_pairs.specs.Change.{changed};
+ghost use Rattle.s2ix_reading.specs.Faces.{held_on, has_entry_on};
+ghost use Rattle.s2ix_reading.specs.Reading.{IsFaceRead, AreChangedRead};
+ghost use Rattle.s2ix_joined.specs.Faces.{IsOverFace};
+ghost use Rattle.s2ix_joined.specs.Joined.{held_in};
+ghost use Rattle.s2ix_faced.specs.Parts.{AreTablesOf};
+
+use s2id_core::OutOfMemory;
+use s2ix_bag::Change;
+use s2ix_joined::{FaceTable, JoinedTables};
+use s2ix_reading::{PairReader, changed_faces, read_face};
+use std::alloc::Global;
+
+// The table of a face, of what a reader shows of it.
+pub(crate) fn read_table<B: PairReader>(
+    alloc: Global,
+    reader: &mut B,
+    face: u8,
+) -> Result<FaceTable, OutOfMemory>
+    requires six { face < 6 }
+    ensures over { IfOk result (λ table. IsOverFace face table) }
+    ensures pairs { IfOk result (λ table. table.held ≡ held_on face (B.shown reader.old)) }
+    ensures same { B.shown reader.new ≡ B.shown reader.old }
+    ensures reads { OnOk result (IsFaceRead face (B.shown reader.old) (B.spent reader.old) (B.spent reader.new)) }
+{
+    let held = read_face(alloc, reader, face)?;
+    FaceTable::new(alloc, face, held)
+}
+
+// The table of a face after a change: of what a reader shows of it where the change has an entry there, else the one that stands, shared.
+pub(crate) fn table_after<B: PairReader>(
+    alloc: Global,
+    tables: &JoinedTables,
+    reader: &mut B,
+    change: &Change,
+    is_changed: bool,
+    face: u8,
+) -> Result<FaceTable, OutOfMemory>
+    requires six { face < 6 }
+    requires is_changed { is_changed ≡ has_entry_on change.now face }
+    requires made { changed (held_in tables.now) change.now ≡ B.shown reader.old }
+    ensures over { IfOk result (λ table. IsOverFace face table) }
+    ensures pairs { IfOk result (λ table. table.held ≡ held_on face (B.shown reader.old)) }
+    ensures same { B.shown reader.new ≡ B.shown reader.old }
+    ensures read { OnOk result (is_changed ≡ true → IsFaceRead face (B.shown reader.old) (B.spent reader.old) (B.spent reader.new)) }
+    ensures unread { is_changed ≡ false → B.spent reader.new ≡ B.spent reader.old }
+{
+    let _ = change;
+    if is_changed {
+        return read_table(alloc, reader, face);
+    }
+    Ok(tables.face(face).clone()?)
+}
+
+// The tables of the six faces, of what a reader shows.
+pub(crate) fn read_tables<B: PairReader>(
+    alloc: Global,
+    reader: &mut B,
+) -> Result<[FaceTable; 6], OutOfMemory>
+    ensures { IfOk result (λ tables. AreTablesOf (B.shown reader.old) tables) }
+{
+    Ok([
+        read_table(alloc, reader, 0)?,
+        read_table(alloc, reader, 1)?,
+        read_table(alloc, reader, 2)?,
+        read_table(alloc, reader, 3)?,
+        read_table(alloc, reader, 4)?,
+        read_table(alloc, reader, 5)?,
+    ])
+}
+
+// The tables of the six faces after a change, of what a reader shows.
+pub(crate) fn tables_after<B: PairReader>(
+    alloc: Global,
+    tables: &JoinedTables,
+    reader: &mut B,
+    change: &Change,
+) -> Result<[FaceTable; 6], OutOfMemory>
+    requires made { changed (held_in tables.now) change.now ≡ B.shown reader.old }
+    ensures tables { IfOk result (λ tables. AreTablesOf (B.shown reader.old) tables) }
+    ensures same { B.shown reader.new ≡ B.shown reader.old }
+    ensures reads { OnOk result (AreChangedRead change.now (B.shown reader.old) (B.spent reader.old) (B.spent reader.new)) }
+{
+    let changed = changed_faces(change);
+    Ok([
+        table_after(alloc, tables, reader, change, changed[0], 0)?,
+        table_after(alloc, tables, reader, change, changed[1], 1)?,
+        table_after(alloc, tables, reader, change, changed[2], 2)?,
+        table_after(alloc, tables, reader, change, changed[3], 3)?,
+        table_after(alloc, tables, reader, change, changed[4], 4)?,
+        table_after(alloc, tables, reader, change, changed[5], 5)?,
+    ])
+}

@@ -1,0 +1,11 @@
+pub mod Appended
+pub mod Joining
+pub mod Neighbours
+pub mod Places
+pub mod Seating
+pub mod Seats
+pub mod Faces
+pub mod SeatBy
+pub mod Reading
+pub mod OnFaces
+pub mod Once

@@ -1,0 +1,24 @@
+-- The faces' spans of leaves.
+use Rattle.std.specs.Prelude.{◌≡◌, ℕ, ◌+◌, ◌*◌, List, [], ◌∷◌, Contains}
+use Rattle.s2id_core.specs.CellId.{face_of}
+use Rattle.s2ix_pairs.specs.Collection.{Collection}
+use Rattle.s2ix_pairs.specs.declared.pair.Held.{Held}
+use Rattle.s2ix_chain.specs.SpanTable.{SpanRanges}
+
+-- the number of a face's first leaf; behind the last face that of the end of the leaves
+abbrev pub face_begin : ℕ → ℕ
+face_begin face = face * 2305843009213693952 + 1
+
+-- all pairs lie on a face
+abbrev pub AreOnFace : ℕ → Collection → Type 0
+AreOnFace face held = (h : Held) → Contains held h → face_of h.pair.cell ≡ face
+
+-- a table over the span of a face
+pub record IsOverFace (face : ℕ) (table : SpanRanges) : Type 0 where
+  pub from : table.from ≡ face_begin face
+  pub to : table.to ≡ face_begin (face + 1)
+
+-- tables over the spans of faces, from this one on
+abbrev pub AreOverFaces : ℕ → List SpanRanges → Type 0
+AreOverFaces face [] = Unit {0}
+AreOverFaces face (t ∷ ts) = IsOverFace face t × AreOverFaces (face + 1) ts

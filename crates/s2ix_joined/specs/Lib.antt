@@ -1,0 +1,6 @@
+pub mod Joined
+pub mod Seats
+pub mod Faces
+pub mod Places
+pub mod Whole
+pub mod Once

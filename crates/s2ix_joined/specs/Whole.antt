@@ -1,0 +1,17 @@
+-- What contracts see of six joined tables, and what is kept beside them.
+use Rattle.std.specs.Prelude.{◌≡◌, ℕ, ◌≤◌, List, length}
+use Rattle.s2ix_ranges.specs.Table.{leaf_end}
+use Rattle.s2ix_chain.specs.SpanTable.{SpanRanges}
+use Rattle.s2ix_joined.specs.declared.seat.Seat.{Seat}
+use Rattle.s2ix_joined.specs.Faces.{AreOverFaces}
+use Rattle.s2ix_joined.specs.Joined.{joined_ranges, AreNeighbours}
+use Rattle.s2ix_joined.specs.Seats.{seats_of}
+
+-- six tables, one for each face, with their seats and the number of their joined ranges
+pub record AreJoined (tables : List SpanRanges) (seats : List Seat) (count : ℕ) : Type 0 where
+  pub six : length tables ≡ 6
+  pub faces : AreOverFaces 0 tables
+  pub neighbours : AreNeighbours 1 tables leaf_end
+  pub seats_are : seats ≡ seats_of tables
+  pub counted : count ≡ length (joined_ranges tables)
+  pub few : count ≤ 12000006

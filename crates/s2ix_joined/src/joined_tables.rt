@@ -1,0 +1,166 @@
+ghost use Rattle.std.specs.Prelude.{◌≡◌, ◌<◌, ◌∷◌, Some, length, drop, slice_get};
+ghost use Rattle.s2id_core.specs.CellId.{raw_of, level_of};
+ghost use Rattle.s2ix_pairs.specs.Collection.{IsCollection};
+ghost use Rattle.s2ix_reading.specs.Faces.{held_on};
+ghost use Rattle.s2ix_ranges.specs.Table.{range_at, IsRangeTable, IsFound};
+ghost use Rattle.s2ix_walk.specs.Places.{IsPlace, LeadsTo};
+ghost use Rattle.s2ix_joined.specs.Faces.{IsOverFace, AreOverFaces};
+ghost use Rattle.s2ix_joined.specs.Joined.{held_in, joined_ranges};
+ghost use Rattle.s2ix_joined.specs.Once.{KeepsOnce};
+ghost use Rattle.s2ix_joined.specs.Places.{chain_at};
+
+use crate::face_place::FacePlace;
+use crate::face_table::FaceTable;
+use crate::seat::{FACES, Seat, seat_by};
+use s2id_core::CellId;
+use s2ix_bag::Held;
+use s2ix_table::RangeRow;
+use std::marker::Model;
+
+/// The tables of the six faces, read as one: empty ranges that meet at the end of a face are one range. Contracts see the six tables; the
+/// pairs of all are `held_in` them, their ranges `joined_ranges`, and the chain from a place is `chain_at` them. This project's own.
+#[derive(Debug, Drop)]
+pub struct JoinedTables {
+    tables: [FaceTable; FACES],
+    seats: [Seat; FACES],
+    count: usize,
+}
+
+impl Model for JoinedTables {
+    ghost use Rattle.std.specs.Prelude.{List};
+    ghost use Rattle.s2ix_chain.specs.SpanTable.{SpanRanges};
+    ghost use Rattle.s2ix_joined.specs.Whole.{AreJoined};
+
+    ghost Value = { List SpanRanges };
+
+    ghost view = { λ t. t.tables };
+
+    ghost invariant = { λ t. AreJoined t.tables t.seats t.count };
+}
+
+impl JoinedTables {
+    /// The tables of faces 0 to 5, joined. O(1); it takes no memory.
+    pub fn together(tables: [FaceTable; FACES]) -> JoinedTables
+        requires faces { AreOverFaces 0 tables }
+        ensures same { result ≡ tables }
+        ensures rises { IsCollection (held_in result) }
+        ensures table { IsRangeTable (held_in result) (joined_ranges result) }
+    {
+        let first = Seat { place: 0, start: 1 };
+        let second = first.after(&tables[0], &tables[1]);
+        let third = second.after(&tables[1], &tables[2]);
+        let fourth = third.after(&tables[2], &tables[3]);
+        let fifth = fourth.after(&tables[3], &tables[4]);
+        let sixth = fifth.after(&tables[4], &tables[5]);
+        let count = sixth.place + tables[5].span().range_count();
+        JoinedTables {
+            tables,
+            seats: [first, second, third, fourth, fifth, sixth],
+            count,
+        }
+    }
+
+    /// The table of a face, 0 to 5, with the pairs on it. O(1).
+    pub fn face(&self, face: u8) -> &FaceTable
+        requires { face < 6 }
+        ensures table { slice_get self.now face ≡ Some result.now }
+        ensures over { IsOverFace face result.now }
+        ensures pairs { result.now.held ≡ held_on face (held_in self.now) }
+    {
+        &self.tables[usize::from(face)]
+    }
+
+    /// How many ranges there are. O(1).
+    #[inline]
+    pub fn range_count(&self) -> usize
+        ensures { result ≡ length (joined_ranges self.now) }
+    {
+        self.count
+    }
+
+    /// The leaves of a range. O(1).
+    #[inline]
+    pub fn range(&self, k: usize) -> RangeRow
+        requires { k < length (joined_ranges self.now) }
+        ensures start { result.start ≡ (range_at (joined_ranges self.now) k).start }
+        ensures limit { result.limit ≡ (range_at (joined_ranges self.now) k).limit }
+    {
+        let face = seat_by(&self.seats, k);
+        let seat = self.seats[face];
+        let own = k - seat.place;
+        let row = self.tables[face].span().range(own);
+        let start = if own == 0 { seat.start } else { row.start };
+        RangeRow {
+            start,
+            limit: row.limit,
+        }
+    }
+
+    /// The place of a range's innermost pair, or `None` where nothing lies over it. O(1).
+    #[inline]
+    pub fn first(&self, k: usize) -> Option<FacePlace>
+        requires { k < length (joined_ranges self.now) }
+        ensures { LeadsTo (chain_at self.now) result (range_at (joined_ranges self.now) k).contents }
+    {
+        let face = seat_by(&self.seats, k);
+        let own = k - self.seats[face].place;
+        match self.tables[face].span().first(own) {
+            Some(node) => Some(FacePlace {
+                face: face as u8,
+                node,
+            }),
+            None => None,
+        }
+    }
+
+    /// The pair at a place, with its count. O(1).
+    #[inline]
+    pub fn held_at(&self, place: FacePlace) -> Held
+        requires { IsPlace (chain_at self.now) place }
+        ensures { chain_at self.now place ≡ result ∷ drop 1 (chain_at self.now place) }
+    {
+        self.tables[usize::from(place.face)]
+            .span()
+            .held_at(place.node)
+    }
+
+    /// The place of the next pair outwards, or `None` at the outermost. O(1).
+    #[inline]
+    pub fn outer(&self, place: FacePlace) -> Option<FacePlace>
+        requires { IsPlace (chain_at self.now) place }
+        ensures { LeadsTo (chain_at self.now) result (drop 1 (chain_at self.now place)) }
+    {
+        match self.tables[usize::from(place.face)]
+            .span()
+            .outer(place.node)
+        {
+            Some(node) => Some(FacePlace {
+                face: place.face,
+                node,
+            }),
+            None => None,
+        }
+    }
+
+    /// The range that has a leaf. O(log n) for n pairs on the leaf's face.
+    #[inline]
+    pub fn find(&self, leaf: CellId) -> usize
+        requires { level_of leaf ≡ 30 }
+        ensures { IsFound (joined_ranges self.now) result (raw_of leaf) }
+    {
+        let face = usize::from(leaf.face());
+        self.seats[face].place + self.tables[face].span().find(leaf)
+    }
+
+    // A law: a pair has one place.
+    pub(crate) fn keeps_a_pair_once(&self)
+        ensures { KeepsOnce (chain_at self.now) }
+    {
+        self.tables[0].keeps_a_pair_once();
+        self.tables[1].keeps_a_pair_once();
+        self.tables[2].keeps_a_pair_once();
+        self.tables[3].keeps_a_pair_once();
+        self.tables[4].keeps_a_pair_once();
+        self.tables[5].keeps_a_pair_once();
+    }
+}
