@@ -1,4 +1,5 @@
 ghost use Rattle.std.specs.Prelude.{◌≡◌, ◌==◌, ℕ, ◌<◌, ◌≤◌, [], length, slice_get, Some, None, IfOk, IfErr, OnOk};
+ghost use Rattle.s2ix_faces.specs.Faces.{IsFaceAt};
 ghost use Rattle.s2ix_lists.specs.Apply.{apply_refusal, IsApplyRefusal};
 ghost use Rattle.s2ix_pairs.specs.Change.{changed};
 ghost use Rattle.s2ix_pairs.specs.Collection.{LimitedCollection, IsBag, copies_in, count_in};
@@ -98,6 +99,15 @@ impl Bag {
         ensures { slice_get self.now.held k ≡ Some result }
     {
         self.lists.held(k)
+    }
+
+    /// How many pairs stand before the face that the pair at a place is of, counted from 0, and all pairs held on that face, with their
+    /// counts, in rising order. O(1).
+    pub fn face_at(&self, k: usize) -> (usize, &[FlatHeld])
+        requires { k < length self.now.held }
+        ensures { IsFaceAt k self.now.held result.0 result.1.now }
+    {
+        self.lists.face_at(k)
     }
 
     /// The pairs held with a label, with their counts, by rising cell. O(n) from the first to the end, for n pairs

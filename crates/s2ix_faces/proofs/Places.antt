@@ -1,42 +1,44 @@
--- Places in what some lists hold.
-use Rattle.std.proofs.Common.{◌≡◌, ℕ, zero, suc, ◌+◌, ◌-◌, ◌<◌, ◌≤◌, List, [], ◌∷◌, ◌++◌, drop, get_or, length, length-append, slice_get, Some, refl, sym, ap, ◌∙◌, subst, arith}
-use Rattle.std.proofs.lemmas.List.{drop_more}
-use Rattle.std.proofs.lemmas.Option.{slice_get_read}
-use Rattle.s2ix_pairs.specs.Collection.{Collection}
-use Rattle.s2ix_pairs.specs.declared.pair.Held.{Held}
-use Rattle.s2ix_faces.specs.Faces.{all_of}
+-- The face of a place in what the lists of the faces hold.
+use Rattle.std.proofs.Common.{◌≡◌, ℕ, zero, suc, ◌+◌, ◌-◌, ◌<◌, ◌≤◌, List, [], ◌∷◌, ◌++◌, take, drop, get_or, length, refl, sym, ap, ◌∙◌, subst, arith}
+use Rattle.s2ix_pairs.specs.Collection.{Collection, IsCollectionFrom, AreBelow}
+use Rattle.s2ix_faces.specs.Faces.{all_of, face_start, AreFacesFrom, IsFaceAt, IsOnFace}
+use Rattle.s2ix_faces.proofs.Faces.{all_is, back_from, front_below, own_is}
 
--- the place of all is so far behind the lists that were passed
-pub record IsReached (ls : List Collection) (place i left : ℕ) : Type 0 where
-  pub same : slice_get (all_of ls) place ≡ slice_get (all_of (drop i ls)) left
-  pub within : left < length (all_of (drop i ls))
+take_front : (fs hs : Collection) → take (length fs) (fs ++ hs) ≡ fs
+take_front [] hs = refl
+take_front (f ∷ fs) hs = ap (λ (x : Collection). f ∷ x) (take_front fs hs)
 
-get_behind : (hs ks : Collection) (k : ℕ) → length hs ≤ k → slice_get (hs ++ ks) k ≡ slice_get ks (k - length hs)
-get_behind [] ks k le =
-    let same : k ≡ k - 0 = omega arith in
-    ap (λ n. slice_get ks n) same
-get_behind (h ∷ hs) ks zero le = absurd (omega arith)
-get_behind (h ∷ hs) ks (suc k) le =
-    let same : k - length hs ≡ suc k - length (h ∷ hs) = omega arith in
-    get_behind hs ks k (omega arith) ∙ ap (λ n. slice_get ks n) same
+drop_front : (fs hs : Collection) → drop (length fs) (fs ++ hs) ≡ hs
+drop_front [] hs = refl
+drop_front (f ∷ fs) hs = drop_front fs hs
 
-get_inside : (hs ks : Collection) (k : ℕ) → k < length hs → slice_get (hs ++ ks) k ≡ slice_get hs k
-get_inside [] ks k lt = absurd (omega arith)
-get_inside (h ∷ hs) ks zero lt = refl
-get_inside (h ∷ hs) ks (suc k) lt = get_inside hs ks k (omega arith)
+drop_both : (fs own hs : Collection) (n : ℕ) → n ≡ length fs + length own → drop n (fs ++ (own ++ hs)) ≡ hs
+drop_both [] own hs n is =
+    let e : n ≡ length own = omega arith in
+    ap (λ (j : ℕ). drop j (own ++ hs)) e ∙ drop_front own hs
+drop_both (f ∷ fs) own hs zero is = absurd (omega arith)
+drop_both (f ∷ fs) own hs (suc n) is = drop_both fs own hs n (omega arith)
 
-split_at_list : (ls : List Collection) (i : ℕ) (list : Collection) → i < length ls → list ≡ get_or ls i list → all_of (drop i ls) ≡ list ++ all_of (drop (i + 1) ls)
-split_at_list ls i list within is = ap (λ (xs : List Collection). all_of xs) (drop_more ls i list within ∙ ap (λ x. x ∷ drop (i + 1) ls) (sym is))
+-- the place is not before what was passed
+pub record IsPassed (ls : List Collection) (place i before : ℕ) : Type 0 where
+  pub counted : before ≡ length (all_of (take i ls))
+  pub begins : before ≤ place
 
-pub reached_step : (ls : List Collection) (place i left : ℕ) (list : Collection) → i < length ls → list ≡ get_or ls i list → IsReached ls place i left → length list ≤ left → IsReached ls place (i + 1) (left - length list)
-reached_step ls place i left list within is was le =
-    let split = split_at_list ls i list within is in
-    let lengths = ap (λ (hs : Collection). length hs) split ∙ length-append list (all_of (drop (i + 1) ls)) in
+pub face_found : (ls : List Collection) (place i before : ℕ) (own : Collection) → i < length ls → own ≡ get_or ls i [] → AreFacesFrom 0 ls → IsPassed ls place i before → place - before < length own → IsFaceAt place (all_of ls) before own
+face_found ls place i before own within is apart was lt =
+    let front = all_of (take i ls) in
+    let back = all_of (drop (suc i) ls) in
+    let all : all_of ls ≡ front ++ (own ++ back) = all_is ls i within ∙ ap (λ (x : Collection). front ++ (x ++ back)) (sym is) in
+    let behind : drop before (all_of ls) ≡ own ++ back = ap (λ (n : ℕ). drop n (all_of ls)) was.counted ∙ ap (λ (x : Collection). drop (length front) x) all ∙ drop_front front (own ++ back) in
+    let ahead : take before (all_of ls) ≡ front = ap (λ (n : ℕ). take n (all_of ls)) was.counted ∙ ap (λ (x : Collection). take (length front) x) all ∙ take_front front (own ++ back) in
+    let counted = was.counted in
+    let rest : drop (before + length own) (all_of ls) ≡ back = ap (λ (x : Collection). drop (before + length own) x) all ∙ drop_both front own back (before + length own) (omega arith) in
     record {
-      same = was.same ∙ ap (λ hs. slice_get hs left) split ∙ get_behind list (all_of (drop (i + 1) ls)) left le;
-      within = omega (arith, was.within, lengths, le);
+      face = i;
+      on_face = subst (λ (x : Collection). IsOnFace i x) (sym is) (own_is 0 i i ls (omega arith) within apart);
+      begins = was.begins;
+      ends = omega (arith, was.begins, lt);
+      part = ap (λ (x : Collection). take (length own) x) behind ∙ take_front own back;
+      below = subst (λ (x : Collection). AreBelow (face_start i) x) (sym ahead) (front_below 0 i i ls (omega arith) apart);
+      rest = subst (λ (x : Collection). IsCollectionFrom (face_start (i + 1)) x) (sym rest) (back_from 0 (suc i) (i + 1) ls (omega arith) apart);
     }
-
-pub reached_found : (ls : List Collection) (place i left : ℕ) (list : Collection) (h : Held) → i < length ls → list ≡ get_or ls i list → IsReached ls place i left → left < length list → h ≡ get_or list left h → slice_get (all_of ls) place ≡ Some h
-reached_found ls place i left list h within is was lt found =
-    was.same ∙ ap (λ hs. slice_get hs left) (split_at_list ls i list within is) ∙ get_inside list (all_of (drop (i + 1) ls)) left lt ∙ slice_get_read list (length list) left h refl lt found

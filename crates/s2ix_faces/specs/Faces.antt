@@ -1,5 +1,5 @@
 -- The pairs of a collection, face by face.
-use Rattle.std.specs.Prelude.{◌≡◌, ℕ, ◌+◌, ◌*◌, ◌<◌, ◌≤◌, List, [], ◌∷◌, length, flat_map}
+use Rattle.std.specs.Prelude.{◌≡◌, ℕ, ◌+◌, ◌*◌, ◌<◌, ◌≤◌, List, [], ◌∷◌, take, drop, length, flat_map}
 use Rattle.s2ix_pairs.specs.Pair.{rank_of}
 use Rattle.s2ix_pairs.specs.declared.pair.Entry.{Entry}
 use Rattle.s2ix_pairs.specs.Collection.{Collection, IsCollectionFrom, AreBelow}
@@ -26,6 +26,16 @@ AreFacesFrom face (list ∷ lists) =
 -- what one face holds
 abbrev pub IsOnFace : ℕ → Collection → Type 0
 IsOnFace face held = IsCollectionFrom (face_start face) held × AreBelow (face_start (face + 1)) held
+
+-- all that is held on the face of the pair at a place, and how many pairs stand before it
+pub record IsFaceAt (place : ℕ) (held : Collection) (before : ℕ) (own : Collection) : Type 0 where
+  pub face : ℕ
+  pub on_face : IsOnFace face own
+  pub begins : before ≤ place
+  pub ends : place < before + length own
+  pub part : take (length own) (drop before held) ≡ own
+  pub below : AreBelow (face_start face) (take before held)
+  pub rest : IsCollectionFrom (face_start (face + 1)) (drop (before + length own) held)
 
 -- one list for each of the six faces, with so many pairs in all
 pub record AreFaces (lists : List Collection) (len : ℕ) : Type 0 where

@@ -1,4 +1,5 @@
 ghost use Rattle.std.specs.Prelude.{◌≡◌, ◌<◌, ◌≤◌, [], ◌∷◌, Some, length, slice_get, IfOk};
+ghost use Rattle.s2ix_faces.specs.Faces.{IsFaceAt};
 ghost use Rattle.s2ix_lists.specs.Apply.{AreBefore, apply_refusal};
 ghost use Rattle.s2ix_pairs.specs.Change.{IsChangeList, changed};
 ghost use Rattle.s2ix_pairs.specs.Collection.{IsCollection, count_in};
@@ -6,7 +7,7 @@ ghost use Rattle.s2ix_pairs.specs.Collection.{IsCollection, count_in};
 use crate::apply::{FACES, mismatch, put_all_changed, put_held};
 use crate::face_list::FaceList;
 use crate::held_iter::HeldIter;
-use crate::read::{count_on, pair_at, push_all};
+use crate::read::{count_on, face_at, push_all};
 use s2id_core::OutOfMemory;
 use s2ix_lists::{ApplyError, FlatHeld, gains, has_count_above, losses};
 use s2ix_pairs::{Entry, Held, Limits, Pair};
@@ -92,7 +93,16 @@ impl FaceLists {
         requires { place < length self.now }
         ensures { slice_get self.now place ≡ Some result }
     {
-        pair_at(&self.lists, place).held()
+        let (before, own) = self.face_at(place);
+        own[place - before].held()
+    }
+
+    /// How many pairs stand before the face that the pair at a place is of, counted from 0, and all pairs held on that face. O(1).
+    pub fn face_at(&self, place: usize) -> (usize, &[FlatHeld])
+        requires { place < length self.now }
+        ensures { IsFaceAt place self.now result.0 result.1.now }
+    {
+        face_at(&self.lists, place)
     }
 
     /// The held pairs with their counts, in rising order. O(n) from the first to the end, for n pairs.

@@ -1,6 +1,6 @@
 // Pairs of the lists of the faces.
-ghost use Rattle.std.specs.Prelude.{◌≡◌, ◌++◌, ◌<◌, Some, length, slice_get, OnOk};
-ghost use Rattle.s2ix_faces.specs.Faces.{AreFacesFrom, all_of};
+ghost use Rattle.std.specs.Prelude.{◌≡◌, ◌++◌, ◌<◌, length, OnOk};
+ghost use Rattle.s2ix_faces.specs.Faces.{AreFacesFrom, IsFaceAt, all_of};
 ghost use Rattle.s2ix_pairs.specs.Collection.{count_in};
 
 use crate::face_list::FaceList;
@@ -18,18 +18,19 @@ pub(crate) fn count_on(lists: &[FaceList], pair: Pair) -> u32
     count_of(own.as_slice(), pair)
 }
 
-// The pair at a place of all, counted from 0. O(1): it looks at six lengths at most.
-pub(crate) fn pair_at(lists: &[FaceList], place: usize) -> FlatHeld
-    requires { place < length (all_of lists.now) }
-    ensures { slice_get (all_of lists.now) place ≡ Some result }
+// How many pairs stand before the face of the pair at a place, counted from 0, and that face's list. O(1): it looks at six lengths at most.
+pub(crate) fn face_at(lists: &[FaceList], place: usize) -> (usize, &[FlatHeld])
+    requires apart { AreFacesFrom 0 lists.now }
+    requires within { place < length (all_of lists.now) }
+    ensures { IsFaceAt place (all_of lists.now) result.0 result.1.now }
 {
-    let mut left = place;
+    let mut before = 0;
     for list in lists {
-        let held = list.as_slice();
-        if left < held.len() {
-            return held[left];
+        let own = list.as_slice();
+        if place - before < own.len() {
+            return (before, own);
         }
-        left -= held.len();
+        before += own.len();
     }
     unreachable!()
 }

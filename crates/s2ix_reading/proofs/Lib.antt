@@ -1,3 +1,4 @@
+pub mod Marked
 pub mod OnFaces
 pub mod ReadCounts
 pub mod Summing

@@ -1,19 +1,25 @@
-ghost use Rattle.std.specs.Prelude.{◌≡◌, ◌≤◌, length};
+ghost use Rattle.std.specs.Prelude.{◌≡◌, ◌≤◌, length, take, drop};
 ghost use Rattle.s2ix_pairs.specs.Collection.{IsCollection};
 ghost use Rattle.s2ix_reading.specs.Reading.{IsCollection-prop};
 
 use crate::pair_reader::PairReader;
-use s2ix_bag::{Bag, Held};
+use s2ix_bag::{Bag, FlatHeld, Held};
 
 /// A reader of a bag that counts what is read of it. This project's own.
 #[derive(Drop)]
 pub struct BagReader<'a> {
     bag: &'a Bag,
     len: usize,
+    // how many pairs stand before those of the face that was read last
+    before: usize,
+    // the pairs of that face; none before the first read
+    own: &'a [FlatHeld],
     reads: u64,
     ghost counted: { len ≡ length bag.now.held },
     ghost rises: { IsCollection bag.now.held } by { IsCollection-prop 0 bag.now.held },
     ghost few: { length bag.now.held ≤ 1000000 },
+    ghost near: { before ≤ 1000000 },
+    ghost part: { take (length own.now) (drop before bag.now.held) ≡ own.now },
 }
 
 impl<'a> BagReader<'a> {
@@ -25,6 +31,8 @@ impl<'a> BagReader<'a> {
         BagReader {
             bag,
             len: bag.len(),
+            before: 0,
+            own: &[],
             reads: 0,
         }
     }
@@ -43,7 +51,14 @@ impl PairReader for BagReader<'_> {
 
     fn read(&mut self, k: usize) -> Held {
         self.reads = self.reads.saturating_add(1);
-        self.bag.held(k)
+        // a place before the face at hand is far behind it too
+        if let Some(held) = self.own.get(k.wrapping_sub(self.before)) {
+            return held.held();
+        }
+        let (before, own) = self.bag.face_at(k);
+        self.before = before;
+        self.own = own;
+        own[k - before].held()
     }
 
     fn reads(&self) -> u64 {

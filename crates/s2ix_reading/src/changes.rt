@@ -3,11 +3,15 @@ ghost use Rattle.s2ix_reading.specs.Faces.{faces, has_entry_on};
 
 use s2ix_bag::{Change, Entry};
 
-// Whether there is an entry on a face.
-fn is_changed(entries: &[Entry], face: u8) -> bool
-    ensures { result ≡ has_entry_on entries.now face }
+// For each face, 0 to 5, whether there is an entry on it.
+fn faces_of(entries: &[Entry]) -> [bool; 6]
+    ensures { result ≡ map (has_entry_on entries.now) faces }
 {
-    entries.iter().any(|e| e.pair.cell.face() == face)
+    let mut changed = [false; 6];
+    for entry in entries {
+        changed[usize::from(entry.pair.cell.face())] = true;
+    }
+    changed
 }
 
 /// For each face, 0 to 5, whether a change has an entry on it. Where it has none, the pairs there stay as they are. O(n) for n entries.
@@ -15,15 +19,7 @@ fn is_changed(entries: &[Entry], face: u8) -> bool
 pub fn changed_faces(change: &Change) -> [bool; 6]
     ensures { result ≡ map (has_entry_on change.now) faces }
 {
-    let entries = change.entries();
-    [
-        is_changed(entries, 0),
-        is_changed(entries, 1),
-        is_changed(entries, 2),
-        is_changed(entries, 3),
-        is_changed(entries, 4),
-        is_changed(entries, 5),
-    ]
+    faces_of(change.entries())
 }
 
 /// How many faces a change has an entry on. O(n) for n entries. This project's own.
