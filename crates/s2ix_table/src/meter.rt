@@ -11,6 +11,7 @@ use s2ix_walk::{Cost, Reader};
 pub struct Meter<'a, T> {
     table: &'a T,
     cost: Cost,
+    near: usize,
 }
 
 impl<'a, T: RangeTable> Meter<'a, T> {
@@ -23,6 +24,7 @@ impl<'a, T: RangeTable> Meter<'a, T> {
         Meter {
             table,
             cost: Cost::none(),
+            near: 0,
         }
     }
 }
@@ -41,7 +43,7 @@ impl<T: RangeTable> Reader for Meter<'_, T> {
     }
 
     fn first(&self, k: usize) -> Option<T::Place> {
-        self.table.first(k)
+        self.table.first_near(k, self.near)
     }
 
     fn outer(&self, place: T::Place) -> Option<T::Place> {
@@ -50,7 +52,7 @@ impl<T: RangeTable> Reader for Meter<'_, T> {
 
     fn row(&mut self, k: usize) -> RangeRow {
         self.cost.add_probe();
-        self.table.range(k)
+        self.table.range_near(k, &mut self.near)
     }
 
     fn node(&mut self, place: T::Place) -> Held {

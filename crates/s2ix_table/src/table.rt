@@ -47,10 +47,31 @@ pub trait RangeTable: Sized {
         ensures start { result.start ≡ (range_at (ranges self.now) k).start }
         ensures limit { result.limit ≡ (range_at (ranges self.now) k).limit };
 
+    /// The leaves of a range, as [`range`](RangeTable::range) gives them: sooner where `near` is what the call for a range nearby has left
+    /// there, a number of the table's own. Any number serves. O(1).
+    fn range_near(&self, k: usize, near: &mut usize) -> RangeRow
+        requires { k < length (ranges self.now) }
+        ensures start { result.start ≡ (range_at (ranges self.now) k).start }
+        ensures limit { result.limit ≡ (range_at (ranges self.now) k).limit }
+    {
+        let _ = near;
+        self.range(k)
+    }
+
     /// The place of a range's innermost pair, or `None` where nothing lies over it. O(1).
     fn first(&self, k: usize) -> Option<Self::Place>
         requires { k < length (ranges self.now) }
         ensures { LeadsTo (chain self.now) result (range_at (ranges self.now) k).contents };
+
+    /// The place of a range's innermost pair, as [`first`](RangeTable::first) gives it: sooner where `near` is what
+    /// [`range_near`](RangeTable::range_near) has left for the range. Any number serves. O(1).
+    fn first_near(&self, k: usize, near: usize) -> Option<Self::Place>
+        requires { k < length (ranges self.now) }
+        ensures { LeadsTo (chain self.now) result (range_at (ranges self.now) k).contents }
+    {
+        let _ = near;
+        self.first(k)
+    }
 
     /// The pair at a place, with its count. O(1).
     fn held_at(&self, place: Self::Place) -> Held
