@@ -7,5 +7,6 @@ pub mod Seats
 pub mod Faces
 pub mod SeatBy
 pub mod Reading
+pub mod Counts
 pub mod OnFaces
 pub mod Once

@@ -171,6 +171,15 @@ among tables seats count k f d e are within last lt =
     ] in
     record { from = omega arith; below = below; own = omega arith }
 
+-- the last seat that is not behind a range, of the tables that contracts see
+pub last_in : (tables now : List SpanRanges) (seats : List Seat) (count k f : ℕ) → AreJoined tables seats count → tables ≡ now → IsLastStart (places_of (seats_of now)) k f → IsLastStart (places_of seats) k f
+last_in tables now seats count k f are same last =
+    subst (λ ss. IsLastStart (places_of ss) k f) (sym are.seats_are) (subst (λ ts. IsLastStart (places_of (seats_of ts)) k f) (sym same) last)
+
+pub last_seen : (tables now : List SpanRanges) (seats : List Seat) (count k f : ℕ) → AreJoined tables seats count → tables ≡ now → IsLastStart (places_of seats) k f → IsLastStart (places_of (seats_of now)) k f
+last_seen tables now seats count k f are same last =
+    subst (λ ts. IsLastStart (places_of (seats_of ts)) k f) same (subst (λ ss. IsLastStart (places_of ss) k f) are.seats_are last)
+
 -- ---- a range of the whole, read in its table
 
 pub record IsRead (whole part : List Range) (seat : Seat) (k : ℕ) : Type 0 where

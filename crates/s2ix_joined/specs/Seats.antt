@@ -37,3 +37,8 @@ places_of seats = map (λ (s : Seat). s.place) seats
 pub record AreInOrder (seats : List Seat) : Type 0 where
   pub six : length seats ≡ 6
   pub rise : (i j : ℕ) → j ≡ suc i → j < 6 → slice_index_or (places_of seats) i 0 ≤ slice_index_or (places_of seats) j 0
+
+-- how many of `count` ranges are at each of six seats: from its place up to the next one's, and at the last one all that are left
+pub record AreCounts (seats : List Seat) (counts : List ℕ) (count : ℕ) : Type 0 where
+  pub six : length counts ≡ 6
+  pub apart : (i j : ℕ) → j ≡ suc i → i < 6 → slice_index_or (places_of seats) i 0 + slice_index_or counts i 0 ≡ slice_index_or (places_of seats) j count

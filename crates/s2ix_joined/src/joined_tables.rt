@@ -5,7 +5,9 @@ ghost use Rattle.s2ix_reading.specs.Faces.{held_on};
 ghost use Rattle.s2ix_ranges.specs.Table.{range_at, IsRangeTable, IsFound};
 ghost use Rattle.s2ix_walk.specs.Places.{IsPlace, LeadsTo};
 ghost use Rattle.s2ix_joined.specs.Faces.{IsOverFace, AreOverFaces};
+ghost use Rattle.s2ix_chain.specs.Starts.{IsLastStart};
 ghost use Rattle.s2ix_joined.specs.Joined.{held_in, joined_ranges};
+ghost use Rattle.s2ix_joined.specs.Seats.{seats_of, places_of};
 ghost use Rattle.s2ix_joined.specs.Once.{KeepsOnce};
 ghost use Rattle.s2ix_joined.specs.Places.{chain_at};
 
@@ -23,19 +25,20 @@ use std::marker::Model;
 pub struct JoinedTables {
     tables: [FaceTable; FACES],
     seats: [Seat; FACES],
+    counts: [usize; FACES],
     count: usize,
 }
 
 impl Model for JoinedTables {
     ghost use Rattle.std.specs.Prelude.{List};
     ghost use Rattle.s2ix_chain.specs.SpanTable.{SpanRanges};
-    ghost use Rattle.s2ix_joined.specs.Whole.{AreJoined};
+    ghost use Rattle.s2ix_joined.specs.Whole.{AreCounted};
 
     ghost Value = { List SpanRanges };
 
     ghost view = { λ t. t.tables };
 
-    ghost invariant = { λ t. AreJoined t.tables t.seats t.count };
+    ghost invariant = { λ t. AreCounted t.tables t.seats t.counts t.count };
 }
 
 impl JoinedTables {
@@ -56,6 +59,14 @@ impl JoinedTables {
         JoinedTables {
             tables,
             seats: [first, second, third, fourth, fifth, sixth],
+            counts: [
+                second.place - first.place,
+                third.place - second.place,
+                fourth.place - third.place,
+                fifth.place - fourth.place,
+                sixth.place - fifth.place,
+                count - sixth.place,
+            ],
             count,
         }
     }
@@ -85,7 +96,73 @@ impl JoinedTables {
         ensures start { result.start ≡ (range_at (joined_ranges self.now) k).start }
         ensures limit { result.limit ≡ (range_at (joined_ranges self.now) k).limit }
     {
-        let face = seat_by(&self.seats, k);
+        let face = self.face_with(k);
+        self.range_on(face, k)
+    }
+
+    /// The leaves of a range, sooner where `near` is the number of the face that has it. It leaves that number there. O(1).
+    #[inline]
+    pub fn range_near(&self, k: usize, near: &mut usize) -> RangeRow
+        requires { k < length (joined_ranges self.now) }
+        ensures start { result.start ≡ (range_at (joined_ranges self.now) k).start }
+        ensures limit { result.limit ≡ (range_at (joined_ranges self.now) k).limit }
+    {
+        let face = self.face_near(k, *near);
+        *near = face;
+        self.range_on(face, k)
+    }
+
+    /// The place of a range's innermost pair, or `None` where nothing lies over it. O(1).
+    #[inline]
+    pub fn first(&self, k: usize) -> Option<FacePlace>
+        requires { k < length (joined_ranges self.now) }
+        ensures { LeadsTo (chain_at self.now) result (range_at (joined_ranges self.now) k).contents }
+    {
+        let face = self.face_with(k);
+        self.first_on(face, k)
+    }
+
+    /// The same, sooner where `near` is the number of the face that has the range. O(1).
+    #[inline]
+    pub fn first_near(&self, k: usize, near: usize) -> Option<FacePlace>
+        requires { k < length (joined_ranges self.now) }
+        ensures { LeadsTo (chain_at self.now) result (range_at (joined_ranges self.now) k).contents }
+    {
+        let face = self.face_near(k, near);
+        self.first_on(face, k)
+    }
+
+    // The face whose seat has a range: the last one that is not behind it.
+    #[inline]
+    fn face_with(&self, k: usize) -> usize
+        ensures within { result < 6 }
+        ensures last { IsLastStart (places_of (seats_of self.now)) k result }
+    {
+        seat_by(&self.seats, k)
+    }
+
+    // The same, where it may be at hand: one test tells whether it is.
+    #[inline]
+    fn face_near(&self, k: usize, near: usize) -> usize
+        ensures within { result < 6 }
+        ensures last { IsLastStart (places_of (seats_of self.now)) k result }
+    {
+        if near < FACES && k.wrapping_sub(self.seats[near].place) < self.counts[near] {
+            near
+        } else {
+            self.face_with(k)
+        }
+    }
+
+    // The leaves of a range, by the face whose seat has it.
+    #[inline]
+    fn range_on(&self, face: usize, k: usize) -> RangeRow
+        requires within { face < 6 }
+        requires last { IsLastStart (places_of (seats_of self.now)) k face }
+        requires range { k < length (joined_ranges self.now) }
+        ensures start { result.start ≡ (range_at (joined_ranges self.now) k).start }
+        ensures limit { result.limit ≡ (range_at (joined_ranges self.now) k).limit }
+    {
         let seat = self.seats[face];
         let own = k - seat.place;
         let row = self.tables[face].span().range(own);
@@ -96,13 +173,14 @@ impl JoinedTables {
         }
     }
 
-    /// The place of a range's innermost pair, or `None` where nothing lies over it. O(1).
+    // The place of a range's innermost pair, by the face whose seat has it.
     #[inline]
-    pub fn first(&self, k: usize) -> Option<FacePlace>
-        requires { k < length (joined_ranges self.now) }
+    fn first_on(&self, face: usize, k: usize) -> Option<FacePlace>
+        requires within { face < 6 }
+        requires last { IsLastStart (places_of (seats_of self.now)) k face }
+        requires range { k < length (joined_ranges self.now) }
         ensures { LeadsTo (chain_at self.now) result (range_at (joined_ranges self.now) k).contents }
     {
-        let face = seat_by(&self.seats, k);
         let own = k - self.seats[face].place;
         match self.tables[face].span().first(own) {
             Some(node) => Some(FacePlace {

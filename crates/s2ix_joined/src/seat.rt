@@ -21,6 +21,7 @@ impl Seat {
     pub(crate) fn after(self, table: &FaceTable, next: &FaceTable) -> Seat
         requires few { self.place ≤ 100000000 }
         ensures seat { result ≡ seat_after self table.now.ranges next.now.ranges }
+        ensures rises { self.place ≤ result.place }
         ensures few { result.place ≤ self.place + 2000001 }
         ensures table { IsSpanTable table.now }
         ensures next { IsSpanTable next.now }

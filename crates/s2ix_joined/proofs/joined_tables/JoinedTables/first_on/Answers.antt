@@ -4,35 +4,27 @@ use Rattle.s2ix_ranges.specs.Table.{range_at}
 use Rattle.s2ix_chain.specs.SpanTable.{SpanRanges}
 use Rattle.s2ix_chain.specs.Chains.{chain_of}
 use Rattle.s2ix_joined.specs.Joined.{joined_ranges}
-use Rattle.s2ix_joined.proofs.Reading.{no_seat, in_order, first_place, among, is_read, lead_some, lead_none}
-use Rattle.s2ix_joined.proofs.joined_tables.JoinedTables.first.Goals as goal
-
-pub seat_by-face-requires-clause-order : goal.seat_by-face-requires-clause-order
-seat_by-face-requires-clause-order c =
-    let t = c.self.inside in
-    in_order t.tables t.seats t.count c.self.invariant
-
-pub seat_by-face-requires-clause-first : goal.seat_by-face-requires-clause-first
-seat_by-face-requires-clause-first c =
-    let t = c.self.inside in
-    first_place t.tables t.seats t.count c.self.invariant
+use Rattle.s2ix_joined.proofs.Reading.{no_seat, last_in, among, is_read, lead_some, lead_none}
+use Rattle.s2ix_joined.proofs.joined_tables.JoinedTables.first_on.Goals as goal
 
 pub first-requires : goal.first-requires
 first-requires c =
     let t = c.self.inside in
-    let f = c.seat_by-face.result in
-    let lt = subst (λ ts. c.args.k < length (joined_ranges ts)) (sym c.self.view_is) c.requires in
-    let own = (among t.tables t.seats t.count c.args.k f c.index-self-face.result no_seat c.self.invariant c.seat_by-face.ensures.within c.seat_by-face.ensures.last lt).own in
+    let last = last_in t.tables c.args.self.now t.seats t.count c.args.k c.args.face c.self.invariant.joined c.self.view_is c.requires.last in
+    let f = c.args.face in
+    let lt = subst (λ ts. c.args.k < length (joined_ranges ts)) (sym c.self.view_is) c.requires.range in
+    let own = (among t.tables t.seats t.count c.args.k f c.index-self-face.result no_seat c.self.invariant.joined c.requires.within last lt).own in
     subst (λ (s : SpanRanges). c.args.k - (get_or t.seats f no_seat).place < length s.ranges) (sym c.span.ensures) own
 
 pub returns-in-Some : goal.returns-in-Some
 returns-in-Some c =
     let t = c.self.inside in
-    let f = c.seat_by-face.result in
-    let within = c.seat_by-face.ensures.within in
-    let len = ap length (sym c.self.view_is) ∙ c.self.invariant.six in
+    let last = last_in t.tables c.args.self.now t.seats t.count c.args.k c.args.face c.self.invariant.joined c.self.view_is c.requires.last in
+    let f = c.args.face in
+    let within = c.requires.within in
+    let len = ap length (sym c.self.view_is) ∙ c.self.invariant.joined.six in
     let same : c.span.result.now ≡ get_or c.args.self.now f c.index-self-face.result = c.span.ensures ∙ ap (λ ts. get_or ts f c.index-self-face.result) c.self.view_is in
-    let read = is_read t.tables c.args.self.now t.seats t.count c.args.k f c.index-self-face.result c.span.result.now c.self.invariant c.self.view_is within c.seat_by-face.ensures.last c.requires c.span.ensures in
+    let read = is_read t.tables c.args.self.now t.seats t.count c.args.k f c.index-self-face.result c.span.result.now c.self.invariant.joined c.self.view_is within last c.requires.range c.span.ensures in
     let leads = subst (LeadsTo (chain_of c.span.result.now.held) (Some c.in-Some.node)) (sym read.contents) c.in-Some.ensures in
     lead_some c.args.self.now f c.in-Some.node c.index-self-face.result (range_at (joined_ranges c.args.self.now) c.args.k).contents (omega arith)
     (subst (λ (s : SpanRanges). LeadsTo (chain_of s.held) (Some c.in-Some.node) (range_at (joined_ranges c.args.self.now) c.args.k).contents) same leads)
@@ -40,7 +32,8 @@ returns-in-Some c =
 pub returns-in-None : goal.returns-in-None
 returns-in-None c =
     let t = c.self.inside in
-    let f = c.seat_by-face.result in
-    let read = is_read t.tables c.args.self.now t.seats t.count c.args.k f c.index-self-face.result c.span.result.now c.self.invariant c.self.view_is c.seat_by-face.ensures.within c.seat_by-face.ensures.last c.requires c.span.ensures in
+    let last = last_in t.tables c.args.self.now t.seats t.count c.args.k c.args.face c.self.invariant.joined c.self.view_is c.requires.last in
+    let f = c.args.face in
+    let read = is_read t.tables c.args.self.now t.seats t.count c.args.k f c.index-self-face.result c.span.result.now c.self.invariant.joined c.self.view_is c.requires.within last c.requires.range c.span.ensures in
     let leads = subst (LeadsTo (chain_of c.span.result.now.held) None) (sym read.contents) c.in-None.ensures in
     lead_none c.args.self.now c.span.result.now.held (range_at (joined_ranges c.args.self.now) c.args.k).contents leads
