@@ -63,8 +63,18 @@ impl RangeTable for FacedTable {
     }
 
     #[inline]
+    fn range_near(&self, k: usize, near: &mut usize) -> RangeRow {
+        self.tables.range_near(k, near)
+    }
+
+    #[inline]
     fn first(&self, k: usize) -> Option<FacePlace> {
         self.tables.first(k)
+    }
+
+    #[inline]
+    fn first_near(&self, k: usize, near: usize) -> Option<FacePlace> {
+        self.tables.first_near(k, near)
     }
 
     #[inline]

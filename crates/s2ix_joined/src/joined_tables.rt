@@ -96,8 +96,7 @@ impl JoinedTables {
         ensures start { result.start ≡ (range_at (joined_ranges self.now) k).start }
         ensures limit { result.limit ≡ (range_at (joined_ranges self.now) k).limit }
     {
-        let face = self.face_with(k);
-        self.range_on(face, k)
+        self.range_on(self.face_with(k), k)
     }
 
     /// The leaves of a range, sooner where `near` is the number of the face that has it. It leaves that number there. O(1).
@@ -118,8 +117,7 @@ impl JoinedTables {
         requires { k < length (joined_ranges self.now) }
         ensures { LeadsTo (chain_at self.now) result (range_at (joined_ranges self.now) k).contents }
     {
-        let face = self.face_with(k);
-        self.first_on(face, k)
+        self.first_on(self.face_with(k), k)
     }
 
     /// The same, sooner where `near` is the number of the face that has the range. O(1).
@@ -128,8 +126,7 @@ impl JoinedTables {
         requires { k < length (joined_ranges self.now) }
         ensures { LeadsTo (chain_at self.now) result (range_at (joined_ranges self.now) k).contents }
     {
-        let face = self.face_near(k, near);
-        self.first_on(face, k)
+        self.first_on(self.face_near(k, near), k)
     }
 
     // The face whose seat has a range: the last one that is not behind it.
