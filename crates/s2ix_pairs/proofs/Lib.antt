@@ -6,3 +6,4 @@ pub mod Differences
 pub mod Inverse
 pub mod Labels
 pub mod OfLabel
+pub mod TakenBack

@@ -1,11 +1,12 @@
 -- What the definitions say, in other words: each of these is proved, and told in a sentence, by the function of `laws` of its name.
-use Rattle.std.specs.Prelude.{◌≡◌, ◌==◌, ◌<◌, ◌↔◌, ◌⊎◌, if◌then◌else◌, List, Contains, AllPairs}
+use Rattle.std.specs.Prelude.{◌≡◌, ◌==◌, ◌<◌, ◌↔◌, ◌⊎◌, ◌-ℤ◌, pos, if◌then◌else◌, None, List, Contains, AllPairs}
 use Rattle.s2id_core.specs.CellId.{raw_of}
 use Rattle.s2ix_pairs.specs.Change.{IsChangeList, counts_at, count_after, difference_of, changed, change_between, inverse_of}
 use Rattle.s2ix_pairs.specs.Collection.{Collection, IsCollection, count_in}
 use Rattle.s2ix_pairs.specs.Label.{value_of}
 use Rattle.s2ix_pairs.specs.OfLabel.{held_of}
 use Rattle.s2ix_pairs.specs.Pair.{rank_of}
+use Rattle.s2ix_pairs.specs.TakenBack.{first_below_zero, change_back, taken_back, gain_of}
 use Rattle.s2ix_pairs.specs.declared.label.Label.{Label}
 use Rattle.s2ix_pairs.specs.declared.pair.Pair.{Pair}
 use Rattle.s2ix_pairs.specs.declared.pair.Held.{Held}
@@ -53,6 +54,16 @@ abbrev pub ChangeLeadsThereAndBack : Type 0
 ChangeLeadsThereAndBack =
     (old new : Collection) → IsCollection old → IsCollection new →
     (changed old (change_between old new) ≡ new) × (changed new (inverse_of (change_between old new)) ≡ old)
+
+abbrev pub TakingBackSubtracts : Type 0
+TakingBackSubtracts =
+    (hs : Collection) (es : List Entry) → IsCollection hs → IsChangeList es → first_below_zero hs es ≡ None →
+    IsCollection (taken_back hs es) × ((p : Pair) → pos (count_in (taken_back hs es) p) ≡ pos (count_in hs p) -ℤ gain_of (counts_at es (rank_of p)))
+
+abbrev pub ChangeBackListsDifferences : Type 0
+ChangeBackListsDifferences =
+    (hs : Collection) (es : List Entry) → IsCollection hs → IsChangeList es → first_below_zero hs es ≡ None →
+    change_between hs (taken_back hs es) ≡ change_back hs es
 
 abbrev pub LabelsAreCounted : Type 0
 LabelsAreCounted =

@@ -6,4 +6,5 @@ pub mod Limits
 pub mod OfLabel
 pub mod Pair
 pub mod Ranges
+pub mod TakenBack
 pub use Rattle.s2id_core.specs.CellId

@@ -3,7 +3,7 @@ ghost use Rattle.std.specs.Prelude.{◌≡◌, ◌==◌, Some};
 ghost use Rattle.std.specs.Ordering.{nat_cmp};
 ghost use Rattle.s2ix_pairs.specs.declared.pair.Pair.{Pair};
 ghost use Rattle.s2ix_pairs.specs.Pair.{rank_of};
-ghost use Rattle.s2ix_pairs.specs.Laws.{RanksOrderPairs, RanksTellPairsApart, HeldAreCounted, CountedAreHeld, CountsTellCollectionsApart, ChangeSetsCounts, ChangeListsDifferences, OnlyChangeListsDifferences, ChangeLeadsThereAndBack, LabelsAreCounted, LabelsRiseByCell};
+ghost use Rattle.s2ix_pairs.specs.Laws.{RanksOrderPairs, RanksTellPairsApart, HeldAreCounted, CountedAreHeld, CountsTellCollectionsApart, ChangeSetsCounts, ChangeListsDifferences, OnlyChangeListsDifferences, ChangeLeadsThereAndBack, TakingBackSubtracts, ChangeBackListsDifferences, LabelsAreCounted, LabelsRiseByCell};
 
 use crate::pair::Pair;
 
@@ -58,6 +58,17 @@ pub fn only_change_lists_differences()
 /// The change between two collections makes the second of the first, and its inverse the first of the second.
 pub fn change_leads_there_and_back()
     ensures { ChangeLeadsThereAndBack }
+{}
+
+/// Where no entry is below 0, a change that is taken back leaves a collection: the count of each pair of the change less its difference, and
+/// every other count as it was.
+pub fn taking_back_subtracts()
+    ensures { TakingBackSubtracts }
+{}
+
+/// The change that takes a change back is the one between the collection and what is left of it.
+pub fn change_back_lists_differences()
+    ensures { ChangeBackListsDifferences }
 {}
 
 /// What is held with a label is a collection, with the count of each pair of that label and of no other.
