@@ -5,3 +5,4 @@ pub mod Parts
 pub mod Walks
 pub mod Comparing
 pub mod Unsorted
+pub mod Reverts

@@ -1,6 +1,7 @@
 pub mod Apply
 pub mod Entries
 pub mod Laws
+pub mod Revert
 pub use Rattle.s2id_core.specs.CellId
 pub use Rattle.s2ix_pairs.specs.Change
 pub use Rattle.s2ix_pairs.specs.Collection
@@ -8,3 +9,4 @@ pub use Rattle.s2ix_pairs.specs.Label
 pub use Rattle.s2ix_pairs.specs.Limits
 pub use Rattle.s2ix_pairs.specs.Pair
 pub use Rattle.s2ix_pairs.specs.Ranges
+pub use Rattle.s2ix_pairs.specs.TakenBack

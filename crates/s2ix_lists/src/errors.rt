@@ -1,6 +1,7 @@
 ghost use Rattle.std.specs.Prelude.{◌≡◌};
 ghost use Rattle.s2ix_lists.specs.declared.errors.ApplyError.TheVariants as apply;
 ghost use Rattle.s2ix_lists.specs.declared.errors.ChangeError.TheVariants as change;
+ghost use Rattle.s2ix_lists.specs.declared.errors.RevertError.TheVariants as revert;
 
 use s2id_core::OutOfMemory;
 use std::alloc::AllocError;
@@ -36,6 +37,39 @@ impl From<OutOfMemory> for ApplyError {
 
     fn from(_: OutOfMemory) -> Self {
         ApplyError::OutOfMemory
+    }
+}
+
+/// Why `Bag::reverting` and `Bag::reverted` refused to take a change back, in the order of the tests. This project's own.
+#[derive(Clone, Copy, Debug, PartialEq, Eq, Error)]
+pub enum RevertError {
+    /// The entry at this place, counted from 0, is the first at which the count would be below 0.
+    #[error("entry {0} takes more copies back than the bag has")]
+    BelowZero(usize),
+    /// A count would be above the limit.
+    #[error("a count is above the limit")]
+    TooManyCopies,
+    /// The result has more distinct pairs than the limit.
+    #[error("more distinct pairs than the limit")]
+    TooManyPairs,
+    /// A growth was refused.
+    #[error("out of memory")]
+    OutOfMemory,
+}
+
+impl From<AllocError> for RevertError {
+    ghost from_gives = { λ _ error. error ≡ revert.OutOfMemory };
+
+    fn from(_: AllocError) -> Self {
+        RevertError::OutOfMemory
+    }
+}
+
+impl From<OutOfMemory> for RevertError {
+    ghost from_gives = { λ _ error. error ≡ revert.OutOfMemory };
+
+    fn from(_: OutOfMemory) -> Self {
+        RevertError::OutOfMemory
     }
 }
 

@@ -18,6 +18,6 @@ mod search;
 pub use apply::{first_mismatch, gains, has_count_above, losses, merge};
 pub use compare::{differences, exchanged_entries};
 pub use entries::fault;
-pub use errors::{ApplyError, ChangeError};
+pub use errors::{ApplyError, ChangeError, RevertError};
 pub use flat::FlatHeld;
 pub use search::count_of;

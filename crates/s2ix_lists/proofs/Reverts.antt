@@ -1,0 +1,70 @@
+-- When a bag takes a change back.
+use Rattle.std.proofs.Common.{◌≡◌, ℕ, nat_lt, cond, false, List, [], ◌∷◌, length, Option, Some, None, refl, sym, ap, ◌∙◌, ⊎_elim, ltb-false, lt-ltb}
+use Rattle.std.specs.List.{list_any}
+use Rattle.std.proofs.lemmas.Bool.{cases_lt, cases_Bool, or_parts, cond-true, cond-false}
+use Rattle.s2ix_lists.specs.Apply.{AreBefore}
+use Rattle.s2ix_lists.specs.Revert.{revert_refusal}
+use Rattle.s2ix_lists.specs.declared.errors.RevertError.{RevertError}
+use Rattle.s2ix_lists.specs.declared.errors.RevertError.TheVariants.{BelowZero, TooManyCopies, TooManyPairs}
+use Rattle.s2ix_pairs.specs.Collection.{Collection, LimitedCollection}
+use Rattle.s2ix_pairs.specs.Limits.{pairs_limit, count_limit}
+use Rattle.s2ix_pairs.specs.TakenBack.{count_back, first_below_zero, change_back, taken_back}
+use Rattle.s2ix_pairs.specs.declared.pair.Entry.{Entry}
+use Rattle.s2ix_pairs.proofs.TakenBack.{AreAboveZero, above_from_none}
+use Rattle.s2ix_lists.proofs.Lengths.{AreAfterWithin}
+use Rattle.s2ix_lists.proofs.Refusals.{IsTaken}
+
+-- the change that takes a change back has the right counts before
+pub back_before : (hs : Collection) (es : List Entry) → AreBefore hs (change_back hs es)
+back_before hs [] = tt
+back_before hs (e ∷ es) = (refl, back_before hs es)
+
+back_within : (c : ℕ) (hs : Collection) (es : List Entry) → list_any (λ e. nat_lt c (count_back hs e)) es ≡ false → AreAfterWithin c (change_back hs es)
+back_within c hs [] none = tt
+back_within c hs (e ∷ es) none =
+    let parts = or_parts (nat_lt c (count_back hs e)) (list_any (λ x. nat_lt c (count_back hs x)) es) none in
+    (ltb-false c (count_back hs e) parts.0, back_within c hs es parts.1)
+
+-- ---- a change that is taken back
+
+-- a bag takes a change back: no entry is below 0, and the bag takes the change that takes it back
+pub record IsTakenBack (bag : LimitedCollection) (es : List Entry) : Type 0 where
+  pub above : AreAboveZero bag.held es
+  pub taken : IsTaken bag (change_back bag.held es)
+
+-- the refusal, by the first entry below 0
+refusal_at : LimitedCollection → List Entry → Option ℕ → Option RevertError
+refusal_at bag es (Some place) = Some (BelowZero place)
+refusal_at bag es None =
+    cond (list_any (λ e. nat_lt (count_limit bag.limits) (count_back bag.held e)) es) (Some TooManyCopies)
+    (cond (nat_lt (pairs_limit bag.limits) (length (taken_back bag.held es))) (Some TooManyPairs) None)
+
+refusal_is : (bag : LimitedCollection) (es : List Entry) (below : Option ℕ) → first_below_zero bag.held es ≡ below → revert_refusal bag es ≡ refusal_at bag es below
+unfolding refusal_at
+refusal_is bag es below is = ap (λ m. refusal_at bag es m) is
+
+taken_back_at : (bag : LimitedCollection) (es : List Entry) (below : Option ℕ) → first_below_zero bag.held es ≡ below → refusal_at bag es below ≡ None → IsTakenBack bag es
+unfolding refusal_at
+taken_back_at bag es (Some place) is none = cc
+taken_back_at bag es None is none =
+    ⊎_elim
+    (λ any. let clash : Some TooManyCopies ≡ None = sym (cond-true _ _ _ any) ∙ none in cc)
+    (λ within.
+    let rest = sym (cond-false _ _ _ within) ∙ none in
+    ⊎_elim
+    (λ lt. let clash : Some TooManyPairs ≡ None = sym (cond-true _ _ _ (lt-ltb _ _ lt)) ∙ rest in cc)
+    (λ le. record {
+      above = above_from_none bag.held es is;
+      taken = record {
+        before = back_before bag.held es;
+        within = back_within (count_limit bag.limits) bag.held es within;
+        few = le;
+      };
+    })
+    (cases_lt (pairs_limit bag.limits) (length (taken_back bag.held es))))
+    (cases_Bool (list_any (λ e. nat_lt (count_limit bag.limits) (count_back bag.held e)) es))
+
+-- a bag takes a change back that it doesn't refuse to
+pub taken_back_from_none : (bag : LimitedCollection) (es : List Entry) → revert_refusal bag es ≡ None → IsTakenBack bag es
+taken_back_from_none bag es none =
+    taken_back_at bag es (first_below_zero bag.held es) refl (sym (refusal_is bag es (first_below_zero bag.held es) refl) ∙ none)
