@@ -1,6 +1,7 @@
 pub use Rattle.s2id_core.specs.CellId
 pub use Rattle.s2ix_lists.specs.Apply
 pub use Rattle.s2ix_lists.specs.Entries
+pub use Rattle.s2ix_lists.specs.Revert
 pub use Rattle.s2ix_pairs.specs.Change
 pub use Rattle.s2ix_pairs.specs.Collection
 pub use Rattle.s2ix_pairs.specs.Label
@@ -8,3 +9,4 @@ pub use Rattle.s2ix_pairs.specs.Limits
 pub use Rattle.s2ix_pairs.specs.OfLabel
 pub use Rattle.s2ix_pairs.specs.Pair
 pub use Rattle.s2ix_pairs.specs.Ranges
+pub use Rattle.s2ix_pairs.specs.TakenBack

@@ -1,15 +1,18 @@
 ghost use Rattle.std.specs.Prelude.{◌≡◌, ◌==◌, ℕ, ◌<◌, ◌≤◌, [], length, slice_get, Some, None, IfOk, IfErr, OnOk};
 ghost use Rattle.s2ix_faces.specs.Faces.{IsFaceAt};
 ghost use Rattle.s2ix_lists.specs.Apply.{apply_refusal, IsApplyRefusal};
+ghost use Rattle.s2ix_lists.specs.Revert.{revert_refusal, IsRevertRefusal};
 ghost use Rattle.s2ix_pairs.specs.Change.{changed};
 ghost use Rattle.s2ix_pairs.specs.Collection.{LimitedCollection, IsBag, copies_in, count_in};
 ghost use Rattle.s2ix_pairs.specs.OfLabel.{held_of};
+ghost use Rattle.s2ix_pairs.specs.TakenBack.{change_back, taken_back};
 
 use crate::change::Change;
 use crate::label_iter::LabelIter;
+use crate::revert::{entries_back, refusal};
 use s2id_core::OutOfMemory;
 use s2ix_faces::{FaceLists, HeldIter};
-use s2ix_lists::{ApplyError, FlatHeld};
+use s2ix_lists::{ApplyError, FlatHeld, RevertError};
 use s2ix_pairs::{Held, Label, Limits, Pair};
 use std::alloc::{AllocError, Global};
 use std::marker::Model;
@@ -166,6 +169,41 @@ impl Bag {
             return Err(error);
         }
         let lists = self.lists.after(alloc, entries)?;
+        Ok(Bag {
+            limits: self.limits,
+            lists,
+        })
+    }
+
+    /// The change that takes another one back from this bag, wherever in the bag's past that stands: it leads each of the change's pairs
+    /// from the count that the bag has now to that count less the change's difference, after less before. The three refusals are each
+    /// tested over all entries, in their order, before any growth; `OutOfMemory` where a growth is refused. O(m log n) for m entries and
+    /// n pairs. This project's own.
+    pub fn reverting(&self, alloc: Global, change: &Change) -> Result<Change, RevertError>
+        ensures entries { IfOk result (λ back. back ≡ change_back self.now.held change.now) }
+        ensures accepted { OnOk result (revert_refusal self.now change.now ≡ None) }
+        ensures refused { IfErr result (λ error. IsRevertRefusal error (revert_refusal self.now change.now)) }
+    {
+        let entries = change.entries();
+        if let Some(error) = refusal(self, entries) {
+            return Err(error);
+        }
+        Ok(Change::from_vec(entries_back(alloc, self, entries)?))
+    }
+
+    /// The bag with a change taken back: the count of each pair of the change is less by the change's difference, after less before, and no
+    /// other count differs. Refusals are those of [`Bag::reverting`], whose change leads there; `OutOfMemory` where a growth is refused. The
+    /// pairs of the faces without an entry are shared, the others copied: O(k + m log n) for m entries, n pairs and the k of them on the
+    /// entries' faces. This project's own.
+    pub fn reverted(&self, alloc: Global, change: &Change) -> Result<Bag, RevertError>
+        ensures limits { IfOk result (λ bag. bag.limits ≡ self.now.limits) }
+        ensures held { IfOk result (λ bag. bag.held ≡ taken_back self.now.held change.now) }
+        ensures within { IfOk result IsBag }
+        ensures accepted { OnOk result (revert_refusal self.now change.now ≡ None) }
+        ensures refused { IfErr result (λ error. IsRevertRefusal error (revert_refusal self.now change.now)) }
+    {
+        let back = self.reverting(alloc, change)?;
+        let lists = self.lists.after(alloc, back.entries())?;
         Ok(Bag {
             limits: self.limits,
             lists,

@@ -1,17 +1,19 @@
 -- When a bag takes a change back.
-use Rattle.std.proofs.Common.{◌≡◌, ℕ, nat_lt, cond, false, List, [], ◌∷◌, length, Option, Some, None, refl, sym, ap, ◌∙◌, ⊎_elim, ltb-false, lt-ltb}
+use Rattle.std.proofs.Common.{◌≡◌, ℕ, ◌+◌, ◌==◌, nat_lt, cond, false, List, [], ◌∷◌, length, count_by, arith, Option, Some, None, refl, sym, ap, ◌∙◌, ⊎_elim, ltb-false, lt-ltb}
 use Rattle.std.specs.List.{list_any}
 use Rattle.std.proofs.lemmas.Bool.{cases_lt, cases_Bool, or_parts, cond-true, cond-false}
+use Rattle.std.proofs.lemmas.List.Recursion.{is_count_by}
 use Rattle.s2ix_lists.specs.Apply.{AreBefore}
 use Rattle.s2ix_lists.specs.Revert.{revert_refusal}
 use Rattle.s2ix_lists.specs.declared.errors.RevertError.{RevertError}
 use Rattle.s2ix_lists.specs.declared.errors.RevertError.TheVariants.{BelowZero, TooManyCopies, TooManyPairs}
-use Rattle.s2ix_pairs.specs.Collection.{Collection, LimitedCollection}
+use Rattle.s2ix_pairs.specs.Collection.{Collection, LimitedCollection, IsCollection, count_in}
+use Rattle.s2ix_pairs.specs.Change.{IsChangeList}
 use Rattle.s2ix_pairs.specs.Limits.{pairs_limit, count_limit}
 use Rattle.s2ix_pairs.specs.TakenBack.{count_back, first_below_zero, change_back, taken_back}
 use Rattle.s2ix_pairs.specs.declared.pair.Entry.{Entry}
-use Rattle.s2ix_pairs.proofs.TakenBack.{AreAboveZero, above_from_none}
-use Rattle.s2ix_lists.proofs.Lengths.{AreAfterWithin}
+use Rattle.s2ix_pairs.proofs.TakenBack.{AreAboveZero, above_from_none, back_keeps}
+use Rattle.s2ix_lists.proofs.Lengths.{AreAfterWithin, gains, losses, length-changed}
 use Rattle.s2ix_lists.proofs.Refusals.{IsTaken}
 
 -- the change that takes a change back has the right counts before
@@ -24,6 +26,19 @@ back_within c hs [] none = tt
 back_within c hs (e ∷ es) none =
     let parts = or_parts (nat_lt c (count_back hs e)) (list_any (λ x. nat_lt c (count_back hs x)) es) none in
     (ltb-false c (count_back hs e) parts.0, back_within c hs es parts.1)
+
+-- ---- how many pairs are held then
+
+gains_back : (hs : Collection) (es : List Entry) → gains (change_back hs es) ≡ count_by (λ e. count_in hs e.pair == 0) es
+gains_back hs es = is_count_by (λ fs. gains (change_back hs fs)) (λ e. count_in hs e.pair == 0) refl (λ _ _. refl) es
+
+losses_back : (hs : Collection) (es : List Entry) → losses (change_back hs es) ≡ count_by (λ e. count_back hs e == 0) es
+losses_back hs es = is_count_by (λ fs. losses (change_back hs fs)) (λ e. count_back hs e == 0) refl (λ _ _. refl) es
+
+-- the pairs that aren't held now come to those that are, and those that would be held no more go
+pub length-taken_back : (hs : Collection) (es : List Entry) → IsCollection hs → IsChangeList es → first_below_zero hs es ≡ None → length (taken_back hs es) + count_by (λ e. count_back hs e == 0) es ≡ length hs + count_by (λ e. count_in hs e.pair == 0) es
+length-taken_back hs es hs_is es_is none =
+    omega (arith, length-changed hs (change_back hs es) hs_is (back_keeps hs es es_is (above_from_none hs es none)) (back_before hs es), gains_back hs es, losses_back hs es)
 
 -- ---- a change that is taken back
 

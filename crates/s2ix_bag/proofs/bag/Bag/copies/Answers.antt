@@ -1,5 +1,5 @@
 -- The sum of all counts fits, and so does each part of it.
-use Rattle.std.proofs.Common.{◌≡◌, ◌+◌, ◌∷◌, ap, ◌∙◌, arith, refl}
+use Rattle.std.proofs.Common.{◌≡◌, ap, ◌∙◌, arith}
 use Rattle.std.proofs.lemmas.List.Sums.{sum_by-cons}
 use Rattle.s2ix_pairs.specs.Collection.{copies_in}
 use Rattle.s2ix_pairs.specs.declared.pair.Held.{Held}
