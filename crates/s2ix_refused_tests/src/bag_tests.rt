@@ -1,11 +1,11 @@
 // Bags, the changes between them, and what is done with them.
-use crate::calls::{SET_UP, answer};
-use s2ix_bag::{Bag, Change};
-use s2ix_replay::{replay, rewind};
+use crate::calls::{SET_UP, answer, tell};
+use s2ix_bag::{Bag, Change, Limits};
+use s2ix_read_journal::read_journal;
+use s2ix_replay::{ReplayError, replay, rewind};
 use s2ix_samples::{WIDEST, bag_of, holds_pairs, lists_entries};
 use std::alloc::Global;
 use std::process::Abort;
-use std::slice;
 
 // The copies of a label go to another one of the same cell.
 const OLD: &str = "04:3:1 04:9:2";
@@ -54,16 +54,37 @@ fn refused_bags(rt: HostRuntime) {
     assert!(&rt; are_bags(&copy, &led) && holds_pairs(&old, OLD) && lists_entries(&change, THERE));
 }
 
-#[test]
-fn refused_replays(rt: HostRuntime) {
-    let (old, change) = (bag(&rt, rt.alloc(), OLD), change(&rt, rt.alloc()));
-    let after = answer!(&rt, replay(rt.alloc(), &old, slice::from_ref(&change)));
-    assert!(&rt; are_bags(&old, &after) && lists_entries(&change, THERE));
+// Two pairs added, and the second taken to the first's label.
+const JOURNAL: &[u8] =
+    b"s2ix-journal 1\nchange 1\n04 9 0 2\nchange 1\n04 3 0 1\nchange 2\n04 3 1 3\n04 9 2 0\nend 3\n";
+
+fn changes(rt: &impl Abort, alloc: Global) -> Vec<Change> {
+    read_journal(alloc, JOURNAL, Limits::default()).expect(rt, SET_UP)
 }
 
 #[test]
-fn refused_rewinds(rt: HostRuntime) {
-    let (new, change) = (bag(&rt, rt.alloc(), NEW), change(&rt, rt.alloc()));
-    let before = answer!(&rt, rewind(rt.alloc(), &new, slice::from_ref(&change)));
-    assert!(&rt; are_bags(&before, &new) && lists_entries(&change, THERE));
+fn refused_replays(rt: HostRuntime) {
+    let (empty, changes) = (bag(&rt, rt.alloc(), ""), changes(&rt, rt.alloc()));
+    let after = answer!(&rt, replay(rt.alloc(), &empty, changes.as_slice()));
+    assert!(&rt; holds_pairs(&after, NEW) && holds_pairs(&empty, "") && changes.len() == 3);
+    let before = answer!(&rt, rewind(rt.alloc(), &after, changes.as_slice()));
+    assert!(&rt; holds_pairs(&before, "") && holds_pairs(&after, NEW) && changes.len() == 3);
+}
+
+// The second change takes the pair not to be held yet.
+#[test]
+fn refused_replays_of_another_bag(rt: HostRuntime) {
+    let (other, changes) = (bag(&rt, rt.alloc(), NEW), changes(&rt, rt.alloc()));
+    let wanted = ReplayError::Mismatch {
+        change: 2,
+        entry: 1,
+    };
+    let mut answer = replay(rt.alloc(), &other, changes.as_slice());
+    if let Err(error) = &answer {
+        if *error != wanted {
+            tell(&rt, error);
+            answer = replay(rt.alloc(), &other, changes.as_slice());
+        }
+    }
+    assert!(&rt; matches!(answer, Err(error) if error == wanted) && holds_pairs(&other, NEW));
 }

@@ -42,6 +42,8 @@ fn refused_unions(rt: HostRuntime) {
         CellUnion::from_leaves(rt.alloc(), 1, 0x0800000000000003)
     );
     assert!(&rt; are_cells(leaves.cells(), "04 0800000000000001"));
+    let none = answer!(&rt, CellUnion::from_leaves(rt.alloc(), 1, 1));
+    assert!(&rt; none.cells().is_empty());
 }
 
 #[test]
@@ -50,11 +52,20 @@ fn refused_operations_on_unions(rt: HostRuntime) {
         union_of(&rt, rt.alloc(), "1"),
         union_of(&rt, rt.alloc(), "04 5"),
     );
-    let both = answer!(&rt, one.union(rt.alloc(), &other));
-    assert!(&rt; are_cells(both.cells(), "1 5"));
     let shared = answer!(&rt, one.intersection(rt.alloc(), &other));
     assert!(&rt; are_cells(shared.cells(), "04"));
-    let rest = answer!(&rt, one.difference(rt.alloc(), &other));
-    assert!(&rt; are_cells(rest.cells(), "0c 14 1c"));
+    let rest = answer!(&rt, one.difference(rt.alloc(), &shared));
+    assert!(&rt; are_cells(rest.cells(), "0c 14 1c") && are_cells(shared.cells(), "04"));
     assert!(&rt; are_cells(one.cells(), "1") && are_cells(other.cells(), "04 5"));
+}
+
+#[test]
+fn refused_unions_of_unions(rt: HostRuntime) {
+    let (one, other) = (
+        union_of(&rt, rt.alloc(), "04 0c"),
+        union_of(&rt, rt.alloc(), "14 1c"),
+    );
+    let both = answer!(&rt, one.union(rt.alloc(), &other));
+    assert!(&rt; are_cells(both.cells(), "1"));
+    assert!(&rt; are_cells(one.cells(), "04 0c") && are_cells(other.cells(), "14 1c"));
 }

@@ -8,12 +8,14 @@ use s2ix_store::Store;
 use std::alloc::Global;
 use std::process::Abort;
 
-// All that can be asked of a store: its pairs, the entries of the changes that can be undone and redone, and its ranges.
+// All that can be asked of a store: its pairs, the entries of the changes that can be undone and redone, how many faces its last step
+// built again, and its ranges.
 #[derive(Clone, Copy)]
 struct Seen {
     pairs: &'static str,
     done: &'static [&'static str],
     undone: &'static [&'static str],
+    faces: u8,
     ranges: &'static [Row],
 }
 
@@ -21,6 +23,7 @@ const EMPTY: Seen = Seen {
     pairs: "",
     done: &[],
     undone: &[],
+    faces: 0,
     ranges: &[(0xc000000000000001, "")],
 };
 
@@ -38,6 +41,7 @@ const GROWN: Seen = Seen {
     pairs: "1:4:1 3:4:1 5:4:1 7:4:1 9:4:1 b:4:1",
     done: &["1:4:0:1", "3:4:0:1 5:4:0:1 9:4:0:1 b:4:0:1", "7:4:0:1"],
     undone: &[],
+    faces: 1,
     ranges: &FACES,
 };
 
@@ -46,6 +50,7 @@ const BACK: Seen = Seen {
     pairs: "1:4:1 3:4:1 5:4:1 9:4:1 b:4:1",
     done: &["1:4:0:1", "3:4:0:1 5:4:0:1 9:4:0:1 b:4:0:1"],
     undone: &["7:4:0:1"],
+    faces: 1,
     ranges: &[
         (0x2000000000000001, "1:4:1"),
         (0x4000000000000001, "3:4:1"),
@@ -56,8 +61,24 @@ const BACK: Seen = Seen {
     ],
 };
 
+// The same before it grew.
+const FIRST: Seen = Seen {
+    pairs: "1:4:1",
+    done: &["1:4:0:1"],
+    undone: &["7:4:0:1", "3:4:0:1 5:4:0:1 9:4:0:1 b:4:0:1"],
+    faces: 4,
+    ranges: &[(0x2000000000000001, "1:4:1"), (0xc000000000000001, "")],
+};
+
+// Grown once more, by a step that is made again.
+const GROWN_ONCE: Seen = Seen { faces: 4, ..BACK };
+
 // A store that starts with all faces.
-const STARTED: Seen = Seen { done: &[], ..GROWN };
+const STARTED: Seen = Seen {
+    done: &[],
+    faces: 0,
+    ..GROWN
+};
 
 // Whether some changes have these entries.
 fn are_changes(changes: &[Change], wanted: &[&str]) -> bool {
@@ -76,9 +97,10 @@ fn check_seen(rt: &impl Abort, store: &Store, seen: &Seen) {
         holds_pairs(store.bag(), seen.pairs),
         are_changes(store.done(), seen.done),
         are_changes(store.undone(), seen.undone),
+        store.faces_rebuilt() == seen.faces,
         has_ranges(store.table(), seen.ranges),
     ];
-    assert!(rt; answers == [true; 4], "{answers:?}");
+    assert!(rt; answers == [true; 5], "{answers:?}");
 }
 
 fn label(rt: &impl Abort) -> Label {
@@ -104,35 +126,37 @@ fn grown(rt: &impl Abort, alloc: Global) -> Store {
     store
 }
 
-// Looks that a step changed one pair's count, and what it left.
+// Looks at what a step left: each entry of its change lies on a face of its own.
 fn check_step(rt: &impl Abort, store: &Store, number: usize, seen: &Seen) {
-    assert!(rt; number == 1);
+    assert!(rt; number == usize::from(seen.faces));
     check_seen(rt, store, seen);
 }
 
-fn check_undo(rt: &(impl Abort + Print), store: &mut Store) {
-    let number = answer!(rt, store.undo(), check_seen(rt, store, &GROWN));
-    check_step(rt, store, number, &BACK);
+fn check_undo(rt: &(impl Abort + Print), store: &mut Store, before: &Seen, after: &Seen) {
+    let number = answer!(rt, store.undo(), check_seen(rt, store, before));
+    check_step(rt, store, number, after);
 }
 
-fn check_redo(rt: &(impl Abort + Print), store: &mut Store) {
-    let number = answer!(rt, store.redo(), check_seen(rt, store, &BACK));
-    check_step(rt, store, number, &GROWN);
+fn check_redo(rt: &(impl Abort + Print), store: &mut Store, before: &Seen, after: &Seen) {
+    let number = answer!(rt, store.redo(), check_seen(rt, store, before));
+    check_step(rt, store, number, after);
 }
 
-fn check_growth(rt: &(impl Abort + Print), store: &mut Store) {
+fn check_growth(rt: &(impl Abort + Print), store: &mut Store, before: &Seen, after: &Seen) {
     let grow = growing(rt);
-    let number = answer!(rt, store.edit(&grow), check_seen(rt, store, &BACK));
-    check_step(rt, store, number, &GROWN);
+    let number = answer!(rt, store.edit(&grow), check_seen(rt, store, before));
+    check_step(rt, store, number, after);
 }
 
 #[test]
 fn refused_steps(rt: HostRuntime) {
     let mut store = grown(&rt, rt.alloc());
-    check_undo(&rt, &mut store);
-    check_redo(&rt, &mut store);
-    check_undo(&rt, &mut store);
-    check_growth(&rt, &mut store);
+    check_undo(&rt, &mut store, &GROWN, &BACK);
+    check_undo(&rt, &mut store, &BACK, &FIRST);
+    check_redo(&rt, &mut store, &FIRST, &GROWN_ONCE);
+    check_redo(&rt, &mut store, &GROWN_ONCE, &GROWN);
+    check_undo(&rt, &mut store, &GROWN, &BACK);
+    check_growth(&rt, &mut store, &BACK, &GROWN);
 }
 
 #[test]

@@ -3,10 +3,11 @@ use crate::calls::{SET_UP, answer};
 use crate::tables::{Row, has_ranges};
 use s2id_samples::cells_of;
 use s2id_union::CellUnion;
-use s2ix_bag::{Bag, Held, Label};
+use s2ix_bag::{Bag, Change, Held, Label};
 use s2ix_chain::ChainTable;
 use s2ix_copied::CopiedTable;
 use s2ix_faced::FacedTable;
+use s2ix_reading::BagReader;
 use s2ix_samples::{WIDEST, bag_of, held_of, holds_pairs, label_of};
 use s2ix_table::RangeTable;
 use std::alloc::Global;
@@ -68,4 +69,45 @@ fn refused_tables(rt: HostRuntime) {
     check_table::<ChainTable>(&rt, rt.alloc(), &bag, &target);
     check_table::<CopiedTable>(&rt, rt.alloc(), &bag, &target);
     check_table::<FacedTable>(&rt, rt.alloc(), &bag, &target);
+}
+
+// A change of two faces, on one of which it leaves no pair; what is held on two others stays.
+const OLD: &str = "04:9:1 44:6:1 5:3:1 7:2:4 b:8:1";
+
+const NEW: &str = "04:9:3 1:7:1 44:6:1 5:3:1 b:8:1";
+
+const OLD_RANGES: [Row; 7] = [
+    (0x0800000000000001, "04:9:1"),
+    (0x4000000000000001, ""),
+    (0x4800000000000001, "44:6:1 5:3:1"),
+    (0x6000000000000001, "5:3:1"),
+    (0x8000000000000001, "7:2:4"),
+    (0xa000000000000001, ""),
+    (0xc000000000000001, "b:8:1"),
+];
+
+const NEW_RANGES: [Row; 7] = [
+    (0x0800000000000001, "04:9:3 1:7:1"),
+    (0x2000000000000001, "1:7:1"),
+    (0x4000000000000001, ""),
+    (0x4800000000000001, "44:6:1 5:3:1"),
+    (0x6000000000000001, "5:3:1"),
+    (0xa000000000000001, ""),
+    (0xc000000000000001, "b:8:1"),
+];
+
+#[test]
+fn refused_rebuilding(rt: HostRuntime) {
+    let old = bag_of(rt.alloc(), WIDEST, OLD).expect(&rt, SET_UP);
+    let new = bag_of(rt.alloc(), WIDEST, NEW).expect(&rt, SET_UP);
+    let change = Change::between(rt.alloc(), &old, &new).expect(&rt, SET_UP);
+    let next = old.applied(rt.alloc(), &change).expect(&rt, SET_UP);
+    let table = FacedTable::build(rt.alloc(), &old).expect(&rt, SET_UP);
+    let rebuilt = answer!(
+        &rt,
+        table.rebuilt(rt.alloc(), &mut BagReader::new(&next), &change),
+        assert!(&rt; has_ranges(&table, &OLD_RANGES) && holds_pairs(&next, NEW))
+    );
+    assert!(&rt; has_ranges(&rebuilt, &NEW_RANGES) && has_ranges(&table, &OLD_RANGES));
+    assert!(&rt; holds_pairs(&next, NEW) && holds_pairs(&old, OLD));
 }

@@ -3,7 +3,7 @@ use crate::calls::{answer, tell};
 use s2ix_bag::Limits;
 use s2ix_files::{check_text, load_text, replay_texts, rewind_texts};
 use s2ix_io::{KeepingSink, RunFault, SliceSource, read_whole};
-use s2ix_read_dump::read_dump;
+use s2ix_read_dump::{DumpError, DumpFault, read_dump};
 use s2ix_read_journal::read_journal;
 use s2ix_samples::{holds_pairs, lists_entries};
 use std::alloc::Global;
@@ -39,32 +39,96 @@ fn refused_journals(rt: HostRuntime) {
     assert!(&rt; changes.len() == 3 && lists_entries(last, "04:3:1:3 04:9:2:0"));
 }
 
+// Texts that are no dump, with the line of the first fault, and what is told of them.
+const FAULTY: [(&[u8], DumpError, &[u8]); 5] = [
+    (
+        b"s2ix 1\n04 9 1\n",
+        DumpError::At {
+            line: 3,
+            fault: DumpFault::Truncated,
+        },
+        b"no Truncated 3\n",
+    ),
+    (
+        b"s2ix 1\n1 7 1\n04 9 1\nend 2 2\n",
+        DumpError::At {
+            line: 3,
+            fault: DumpFault::Unsorted,
+        },
+        b"no Unsorted 3\n",
+    ),
+    (
+        b"s2ix 1\nend 0 0\nx\n",
+        DumpError::At {
+            line: 3,
+            fault: DumpFault::TrailingBytes,
+        },
+        b"no TrailingBytes 3\n",
+    ),
+    (
+        b"s2ix 1\n040 9 1\nend 1 1\n",
+        DumpError::At {
+            line: 2,
+            fault: DumpFault::BadToken,
+        },
+        b"no BadToken 2\n",
+    ),
+    (
+        b"",
+        DumpError::At {
+            line: 1,
+            fault: DumpFault::Truncated,
+        },
+        b"no Truncated 1\n",
+    ),
+];
+
+#[test]
+fn refused_faulty_dumps(rt: HostRuntime) {
+    for &(text, wanted, _) in &FAULTY {
+        let mut answer = read_dump(rt.alloc(), text, Limits::default());
+        if let Err(error) = &answer {
+            if *error != wanted {
+                tell(&rt, error);
+                answer = read_dump(rt.alloc(), text, Limits::default());
+            }
+        }
+        assert!(&rt; matches!(answer, Err(error) if error == wanted));
+    }
+}
+
 // A call over whole texts.
 #[derive(Clone, Copy)]
 enum Call {
-    Load,
-    Check,
-    Replay,
-    Rewind,
+    Load(&'static [u8]),
+    Check(&'static [u8]),
+    Replay(&'static [u8], &'static [u8]),
+    Rewind(&'static [u8], &'static [u8]),
 }
 
 // What a call answers, and where it wrote to.
 fn called(alloc: Global, call: Call) -> (Result<bool, RunFault>, KeepingSink) {
     let mut sink = KeepingSink::new(alloc, 100, 0, false);
     let answer = match call {
-        Call::Load => match load_text(alloc, DUMP, Limits::default(), &mut sink) {
+        Call::Load(dump) => match load_text(alloc, dump, Limits::default(), &mut sink) {
             Ok(store) => Ok(store.is_some()),
             Err(fault) => Err(fault),
         },
-        Call::Check => check_text(alloc, DUMP, &mut sink),
-        Call::Replay => replay_texts(alloc, EMPTY, JOURNAL, &mut sink),
-        Call::Rewind => rewind_texts(alloc, DUMP, JOURNAL, &mut sink),
+        Call::Check(dump) => check_text(alloc, dump, &mut sink),
+        Call::Replay(dump, journal) => replay_texts(alloc, dump, journal, &mut sink),
+        Call::Rewind(dump, journal) => rewind_texts(alloc, dump, journal, &mut sink),
     };
     (answer, sink)
 }
 
 // Makes a call, twice where the first gave up: before it wrote, or because its sink had no room for all.
-fn check_call(rt: &(impl Abort + Print), alloc: Global, call: Call, wanted: &[u8]) {
+fn check_call(
+    rt: &(impl Abort + Print),
+    alloc: Global,
+    call: Call,
+    is_accepted: bool,
+    wanted: &[u8],
+) {
     let (mut answer, mut sink) = called(alloc, call);
     if let Err(fault) = answer {
         tell(rt, &fault);
@@ -73,14 +137,25 @@ fn check_call(rt: &(impl Abort + Print), alloc: Global, call: Call, wanted: &[u8
         assert!(rt; sink.flushed_len() == 0 && (has_no_room || sink.kept().is_empty()));
         (answer, sink) = called(alloc, call);
     }
-    assert!(rt; answer == Ok(true));
+    assert!(rt; answer == Ok(is_accepted));
     assert!(rt; sink.kept() == wanted && sink.flushed_len() == wanted.len());
 }
 
 #[test]
 fn refused_texts(rt: HostRuntime) {
-    check_call(&rt, rt.alloc(), Call::Load, b"");
-    check_call(&rt, rt.alloc(), Call::Check, b"ok 1 3\n");
-    check_call(&rt, rt.alloc(), Call::Replay, DUMP);
-    check_call(&rt, rt.alloc(), Call::Rewind, EMPTY);
+    check_call(&rt, rt.alloc(), Call::Load(DUMP), true, b"");
+    check_call(&rt, rt.alloc(), Call::Check(DUMP), true, b"ok 1 3\n");
+    check_call(&rt, rt.alloc(), Call::Replay(EMPTY, JOURNAL), true, DUMP);
+    check_call(&rt, rt.alloc(), Call::Rewind(DUMP, JOURNAL), true, EMPTY);
+}
+
+#[test]
+fn refused_faulty_texts(rt: HostRuntime) {
+    for &(text, _, told) in &FAULTY {
+        check_call(&rt, rt.alloc(), Call::Check(text), false, told);
+        check_call(&rt, rt.alloc(), Call::Load(text), false, told);
+    }
+    let (other, faulty) = (Call::Replay(DUMP, JOURNAL), Call::Rewind(DUMP, EMPTY));
+    check_call(&rt, rt.alloc(), other, false, b"no Mismatch 2 1\n");
+    check_call(&rt, rt.alloc(), faulty, false, b"no journal BadHeader 1\n");
 }
