@@ -1,6 +1,6 @@
 // Bags that are read pair by pair, and the faces that changes have entries on.
 use crate::face_tests::change_with;
-use s2ix_bag::{FlatHeld, Held};
+use s2ix_bag::{Bag, FlatHeld, Held};
 use s2ix_reading::{
     BagReader, PairReader, changed_face_count, changed_faces, read_changed, read_face,
 };
@@ -40,6 +40,30 @@ fn a_bag_is_read_and_counted(rt: HostRuntime) {
     }
 }
 
+// Places of a bag, to and fro between its faces, each with its pair.
+const MIXED: &str = "04:7:1 1:7:2 1:9:3 5:7:4 b:7:5";
+const PLACES: [(usize, &str); 8] = [
+    (4, "b:7:5"),
+    (0, "04:7:1"),
+    (2, "1:9:3"),
+    (3, "5:7:4"),
+    (2, "1:9:3"),
+    (4, "b:7:5"),
+    (1, "1:7:2"),
+    (3, "5:7:4"),
+];
+
+#[test]
+fn a_bag_is_read_to_and_fro(rt: HostRuntime) {
+    let bag = bag_of(rt.alloc(), LIMITS, MIXED).expect(&rt, MIXED);
+    let mut reader = BagReader::new(&bag);
+    for (place, pair) in PLACES {
+        let wanted = held_of(pair).expect(&rt, pair);
+        assert!(rt; reads_pair(&mut reader, place, wanted), "wrong at {pair}");
+    }
+    assert!(rt; reader.reads() == 8);
+}
+
 // Entries, whether each face has one, and how many faces have.
 const CHANGES: [(&str, [bool; 6], u8); 4] = [
     ("", [false, false, false, false, false, false], 0),
@@ -77,6 +101,25 @@ fn are_pairs(held: &[FlatHeld], pairs: &str) -> bool {
         }
     }
     left.next().is_none()
+}
+
+// Whether these pairs are those of the face at a place, and so many stand before them.
+fn stand_on_face(bag: &Bag, place: usize, before: usize, pairs: &str) -> bool {
+    if bag.len() <= place {
+        return false;
+    }
+    let (first, own) = bag.face_at(place);
+    first == before && are_pairs(own, pairs)
+}
+
+#[test]
+fn a_place_has_the_pairs_of_its_face(rt: HostRuntime) {
+    let bag = bag_of(rt.alloc(), LIMITS, MIXED).expect(&rt, MIXED);
+    for place in 0..3 {
+        assert!(rt; stand_on_face(&bag, place, 0, "04:7:1 1:7:2 1:9:3"));
+    }
+    assert!(rt; stand_on_face(&bag, 3, 3, "5:7:4"));
+    assert!(rt; stand_on_face(&bag, 4, 4, "b:7:5"));
 }
 
 // The pairs of a bag, a face, the pairs on it, and what reading it may cost at most: a read for each, and two searches.
