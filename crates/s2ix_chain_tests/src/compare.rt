@@ -74,6 +74,40 @@ pub(crate) fn check_ranges<A: RangeTable, B: RangeTable>(
     Ok(())
 }
 
+/// Compares what a table answers of each range for any note with what it answers without one.
+pub(crate) fn check_notes<T: RangeTable>(sample: usize, table: &T) -> Result<(), Fail>
+where
+    T::Place: PartialEq,
+{
+    for k in 0..table.range_count() {
+        for note in [0, 1, 2, 3, 4, 5, 6, 255, usize::MAX] {
+            if k >= table.range_count() {
+                return Err(Fail::new("no range"));
+            }
+            let mut near = note;
+            let row = table.range_near(k, &mut near);
+            expect(row == table.range(k), sample, "a range by a note")?;
+            let first = table.first(k);
+            expect(
+                table.first_near(k, note) == first,
+                sample,
+                "a place by a note",
+            )?;
+            expect(
+                table.first_near(k, near) == first,
+                sample,
+                "a place by the note left",
+            )?;
+            expect(
+                table.range_near(k, &mut near) == row,
+                sample,
+                "a range by the note left",
+            )?;
+        }
+    }
+    Ok(())
+}
+
 /// Compares what meets a target.
 pub(crate) fn check_target<A: RangeTable, B: RangeTable>(
     sample: usize,

@@ -2,7 +2,7 @@
 ghost use Rattle.std.specs.Prelude.{◌≡◌, IfOk};
 ghost use Rattle.s2ix_pairs.specs.Change.{changed};
 
-use crate::compare::{check_ranges, check_target};
+use crate::compare::{check_notes, check_ranges, check_target};
 use crate::random_tests::target_of;
 use crate::samples::{bag_of, held_of};
 use s2id_samples::Random;
@@ -26,6 +26,8 @@ fn check_table(
 ) -> Result<(), Fail> {
     let copies = CopiedTable::build(alloc, bag)?;
     check_ranges(sample, table, &copies)?;
+    check_notes(sample, table)?;
+    check_notes(sample, &copies)?;
     let sphere = target_of(alloc, all_faces(alloc))?;
     check_target(sample, alloc, table, &copies, &sphere)?;
     for _ in 0..4 {
