@@ -191,10 +191,10 @@ impl Bag {
         Ok(Change::from_vec(entries_back(alloc, self, entries)?))
     }
 
-    /// The bag with a change taken back: the count of each pair of the change is less by the change's difference, after less before, and no
-    /// other count differs. Refusals are those of [`Bag::reverting`], whose change leads there; `OutOfMemory` where a growth is refused. The
-    /// pairs of the faces without an entry are shared, the others copied: O(k + m log n) for m entries, n pairs and the k of them on the
-    /// entries' faces. This project's own.
+    /// The bag with a change taken back: the count of each pair of the change is less by the change's difference, after less before, and
+    /// no other count differs. Refusals are those of [`Bag::reverting`], whose change leads there; `OutOfMemory` where a growth is refused.
+    /// The pairs of the faces without an entry are shared, the others copied: O(k + m log n) for m entries, n pairs and the k of them on
+    /// the entries' faces. This project's own.
     pub fn reverted(&self, alloc: Global, change: &Change) -> Result<Bag, RevertError>
         ensures limits { IfOk result (λ bag. bag.limits ≡ self.now.limits) }
         ensures held { IfOk result (λ bag. bag.held ≡ taken_back self.now.held change.now) }

@@ -5,9 +5,9 @@
 //! applied to a bag whose counts are those before, and gives the bag whose counts are those after. It can be taken back from a bag that
 //! other changes led on to, wherever no count falls below 0: each count is then less by the change's difference.
 //!
-//! [`Bag::applied`] and [`Bag::reverted`] leave their bag as it is and give another one, which shares the pairs of each face that the change
-//! leaves alone. [`Change::between`], [`Change::from_entries`] and [`Change::inverse`] make changes, and [`Bag::reverting`] the one that takes
-//! another back. A bag has no history: `s2ix_store` keeps one.
+//! [`Bag::applied`] and [`Bag::reverted`] leave their bag as it is and give another one, which shares the pairs of each face that the
+//! change leaves alone. [`Change::between`], [`Change::from_entries`] and [`Change::inverse`] make changes, and [`Bag::reverting`] the one
+//! that takes another back. A bag has no history: `s2ix_store` keeps one.
 #![tactic(auto)]
 
 mod bag;

@@ -75,7 +75,7 @@ const FAULTY: [(&str, ChangeError); 5] = [
 ];
 
 // The entries that a text lists.
-fn entries_of(alloc: Global, entries: &str) -> Option<Vec<Entry>> {
+pub(crate) fn entries_of(alloc: Global, entries: &str) -> Option<Vec<Entry>> {
     let mut all = Vec::new(alloc);
     for text in entries.split_ascii_whitespace() {
         all.push(entry_of(text)?).ok()?;

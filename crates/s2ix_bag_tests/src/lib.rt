@@ -1,5 +1,5 @@
-//! Tests of bags: counts, limits, labels, reading pair by pair, the changes between two bags, and changes that are done again and taken
-//! back.
+//! Tests of bags: counts, limits, labels, reading pair by pair, the changes between two bags, changes that are done again and taken
+//! back, and those that are taken back after others.
 #![tactic(auto)]
 
 #[cfg(test)]
@@ -14,5 +14,7 @@ mod limit_tests;
 mod reading_tests;
 #[cfg(test)]
 mod replay_tests;
+#[cfg(test)]
+mod revert_tests;
 #[cfg(test)]
 mod same_tests;

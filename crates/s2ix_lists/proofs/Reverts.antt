@@ -1,5 +1,5 @@
 -- When a bag takes a change back.
-use Rattle.std.proofs.Common.{◌≡◌, ℕ, ◌+◌, ◌==◌, nat_lt, cond, false, List, [], ◌∷◌, length, count_by, arith, Option, Some, None, refl, sym, ap, ◌∙◌, ⊎_elim, ltb-false, lt-ltb}
+use Rattle.std.proofs.Common.{◌≡◌, ℕ, ◌+◌, ◌-◌, ◌==◌, nat_lt, cond, false, List, [], ◌∷◌, length, count_by, arith, Option, Some, None, refl, sym, ap, ap₂, ◌∙◌, ⊎_elim, ltb-false, lt-ltb}
 use Rattle.std.specs.List.{list_any}
 use Rattle.std.proofs.lemmas.Bool.{cases_lt, cases_Bool, or_parts, cond-true, cond-false}
 use Rattle.std.proofs.lemmas.List.Recursion.{is_count_by}
@@ -8,7 +8,7 @@ use Rattle.s2ix_lists.specs.Revert.{revert_refusal}
 use Rattle.s2ix_lists.specs.declared.errors.RevertError.{RevertError}
 use Rattle.s2ix_lists.specs.declared.errors.RevertError.TheVariants.{BelowZero, TooManyCopies, TooManyPairs}
 use Rattle.s2ix_pairs.specs.Collection.{Collection, LimitedCollection, IsCollection, count_in}
-use Rattle.s2ix_pairs.specs.Change.{IsChangeList}
+use Rattle.s2ix_pairs.specs.Change.{IsChangeList, inverse_of}
 use Rattle.s2ix_pairs.specs.Limits.{pairs_limit, count_limit}
 use Rattle.s2ix_pairs.specs.TakenBack.{count_back, first_below_zero, change_back, taken_back}
 use Rattle.s2ix_pairs.specs.declared.pair.Entry.{Entry}
@@ -20,6 +20,15 @@ use Rattle.s2ix_lists.proofs.Refusals.{IsTaken}
 pub back_before : (hs : Collection) (es : List Entry) → AreBefore hs (change_back hs es)
 back_before hs [] = tt
 back_before hs (e ∷ es) = (refl, back_before hs es)
+
+-- right after a change, whose inverse has the right counts before, what takes it back is that inverse
+pub back_at_once : (hs : Collection) (es : List Entry) → AreBefore hs (inverse_of es) → change_back hs es ≡ inverse_of es
+back_at_once hs [] befores = refl
+back_at_once hs (e ∷ es) befores =
+    let left : count_in hs e.pair + e.before - e.after ≡ e.before = omega (arith, befores.0) in
+    ap₂ (λ (x : Entry) (xs : List Entry). x ∷ xs)
+    (ap₂ (λ (b a : ℕ). let made : Entry = record { pair = e.pair; before = b; after = a } in made) (sym befores.0) left)
+    (back_at_once hs es befores.1)
 
 back_within : (c : ℕ) (hs : Collection) (es : List Entry) → list_any (λ e. nat_lt c (count_back hs e)) es ≡ false → AreAfterWithin c (change_back hs es)
 back_within c hs [] none = tt

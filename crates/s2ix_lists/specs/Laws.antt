@@ -4,6 +4,7 @@ use Rattle.s2ix_lists.specs.Apply.{apply_refusal}
 use Rattle.s2ix_lists.specs.Entries.{change_fault}
 use Rattle.s2ix_pairs.specs.Change.{IsChangeList, changed, inverse_of}
 use Rattle.s2ix_pairs.specs.Collection.{LimitedCollection, IsBag}
+use Rattle.s2ix_pairs.specs.TakenBack.{change_back}
 use Rattle.s2ix_pairs.specs.declared.pair.Entry.{Entry}
 
 abbrev pub ChangesHaveNoFault : Type 0
@@ -13,3 +14,8 @@ abbrev pub InverseTakesBack : Type 0
 InverseTakesBack =
     (bag : LimitedCollection) (es : List Entry) → IsBag bag → IsChangeList es → apply_refusal bag es ≡ None →
     (apply_refusal (record { limits = bag.limits; held = changed bag.held es }) (inverse_of es) ≡ None) × (changed (changed bag.held es) (inverse_of es) ≡ bag.held)
+
+abbrev pub InverseTakesBackAtOnce : Type 0
+InverseTakesBackAtOnce =
+    (bag : LimitedCollection) (es : List Entry) → IsBag bag → IsChangeList es → apply_refusal bag es ≡ None →
+    change_back (changed bag.held es) es ≡ inverse_of es

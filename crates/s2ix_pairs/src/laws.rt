@@ -60,8 +60,8 @@ pub fn change_leads_there_and_back()
     ensures { ChangeLeadsThereAndBack }
 {}
 
-/// Where no entry is below 0, a change that is taken back leaves a collection: the count of each pair of the change less its difference, and
-/// every other count as it was.
+/// Where no entry is below 0, a change that is taken back leaves a collection: the count of each pair of the change less its difference,
+/// and every other count as it was.
 pub fn taking_back_subtracts()
     ensures { TakingBackSubtracts }
 {}

@@ -1,0 +1,176 @@
+// Changes that are taken back from bags that other changes led on to.
+use crate::change_tests::entries_of;
+use s2ix_bag::{Bag, Change, RevertError};
+use s2ix_samples::{LimitRow, WIDEST, bag_of, holds_pairs, lists_entries};
+use std::alloc::Global;
+
+// The limits, what is held now, a change, and what is held with it taken back, or why it isn't.
+type Row = (
+    LimitRow,
+    &'static str,
+    &'static str,
+    Result<&'static str, RevertError>,
+);
+
+// Two copies were added, another label's were, and the first label's pairs were taken to the other's.
+const AFTER_RELABEL: [Row; 4] = [
+    (WIDEST, "04:3:3", "04:9:0:2", Err(RevertError::BelowZero(0))),
+    (WIDEST, "04:3:3", "04:3:1:3 04:9:2:0", Ok("04:3:1 04:9:2")),
+    (WIDEST, "04:3:1 04:9:2", "04:9:0:2", Ok("04:3:1")),
+    (
+        WIDEST,
+        "04:3:1",
+        "04:3:1:3 04:9:2:0",
+        Err(RevertError::BelowZero(0)),
+    ),
+];
+
+const REVERTED: [Row; 8] = [
+    (WIDEST, "04:9:2", "04:9:0:3", Err(RevertError::BelowZero(0))),
+    (WIDEST, "04:9:2", "04:9:0:2", Ok("")),
+    (WIDEST, "04:9:5", "04:9:0:2", Ok("04:9:3")),
+    (WIDEST, "04:9:2", "", Ok("04:9:2")),
+    (WIDEST, "04:9:2", "04:9:4294967295:4294967294", Ok("04:9:3")),
+    (
+        WIDEST,
+        "1:7:1 3:7:1 b:7:2",
+        "1:7:0:1 5:7:2:0 b:7:0:1",
+        Ok("3:7:1 5:7:2 b:7:1"),
+    ),
+    ((2, 3, 1), "04:9:2", "04:9:1:0 1:7:3:0", Ok("04:9:3 1:7:3")),
+    ((1, 3, 1), "04:9:2", "04:9:0:2 5:7:1:0", Ok("5:7:1")),
+];
+
+// Each test goes over all entries before the next one.
+const REFUSED: [Row; 9] = [
+    (
+        (9, 3, 1),
+        "04:9:1",
+        "04:9:3:0",
+        Err(RevertError::TooManyCopies),
+    ),
+    (
+        (1, 9, 1),
+        "1:7:1",
+        "04:9:1:0",
+        Err(RevertError::TooManyPairs),
+    ),
+    (
+        (1, 3, 1),
+        "04:9:2",
+        "04:9:2:0 1:7:0:1",
+        Err(RevertError::BelowZero(1)),
+    ),
+    (
+        (1, 3, 1),
+        "04:9:2",
+        "04:9:0:1 1:7:9:0",
+        Err(RevertError::TooManyCopies),
+    ),
+    (
+        (1, 3, 1),
+        "04:9:2",
+        "04:9:0:1 1:7:3:0",
+        Err(RevertError::TooManyPairs),
+    ),
+    (
+        WIDEST,
+        "04:9:2",
+        "04:9:0:1 1:7:0:1 1:8:0:1",
+        Err(RevertError::BelowZero(1)),
+    ),
+    (
+        WIDEST,
+        "b:7:2",
+        "1:7:1:0 b:7:0:3",
+        Err(RevertError::BelowZero(1)),
+    ),
+    (
+        WIDEST,
+        "04:9:2",
+        "04:9:0:4294967295",
+        Err(RevertError::BelowZero(0)),
+    ),
+    (
+        WIDEST,
+        "04:9:2",
+        "04:9:4294967295:0",
+        Err(RevertError::TooManyCopies),
+    ),
+];
+
+fn change(alloc: Global, entries: &str) -> Option<Change> {
+    Change::from_entries(alloc, &entries_of(alloc, entries)?).ok()
+}
+
+// Whether a row's change is taken back as it says, and the row's bag stays as it is.
+fn is_row(alloc: Global, (limits, held, entries, wanted): &Row) -> Option<bool> {
+    let bag = bag_of(alloc, *limits, held)?;
+    let reverted = bag.reverted(alloc, &change(alloc, entries)?);
+    let same = match (&reverted, wanted) {
+        (Ok(found), Ok(pairs)) => holds_pairs(found, pairs) && found.limits() == bag.limits(),
+        (Err(found), Err(error)) => found == error,
+        _ => false,
+    };
+    Some(same && holds_pairs(&bag, held))
+}
+
+#[test]
+fn a_change_is_taken_back_after_others(rt: HostRuntime) {
+    for (row, all) in AFTER_RELABEL.iter().chain(&REVERTED).enumerate() {
+        assert!(rt; is_row(rt.alloc(), all) == Some(true), "wrong at row {row}");
+    }
+}
+
+#[test]
+fn a_change_is_not_taken_back_for_the_first_reason(rt: HostRuntime) {
+    for (row, all) in REFUSED.iter().enumerate() {
+        assert!(rt; is_row(rt.alloc(), all) == Some(true), "wrong at row {row}");
+    }
+}
+
+// Whether the change that takes one back has these entries.
+fn goes_back_by(alloc: Global, bag: &Bag, taken: &str, back: &str) -> Option<bool> {
+    let found = bag.reverting(alloc, &change(alloc, taken)?).ok()?;
+    Some(lists_entries(&found, back))
+}
+
+#[test]
+fn the_change_that_takes_back_starts_from_what_is_held(rt: HostRuntime) {
+    for (held, taken, back) in [
+        ("04:3:3", "04:3:1:3 04:9:2:0", "04:3:3:1 04:9:0:2"),
+        ("04:9:5", "04:9:0:2", "04:9:5:3"),
+        ("04:9:2 1:7:1", "04:9:0:2", "04:9:2:0"),
+        ("04:9:2", "", ""),
+    ] {
+        let bag = bag_of(rt.alloc(), WIDEST, held).expect(&rt, held);
+        let found = goes_back_by(rt.alloc(), &bag, taken, back);
+        assert!(rt; found == Some(true), "wrong at {held}");
+    }
+}
+
+#[test]
+fn a_change_that_is_not_taken_back_has_no_change_back(rt: HostRuntime) {
+    let bag = bag_of(rt.alloc(), WIDEST, "04:9:2").expect(&rt, "a bag");
+    let taken = change(rt.alloc(), "04:9:0:3").expect(&rt, "a change");
+    assert!(rt; bag.reverting(rt.alloc(), &taken).err() == Some(RevertError::BelowZero(0)));
+}
+
+#[test]
+fn the_refusals_are_told_in_words(rt: HostRuntime) {
+    for (error, text) in [
+        (
+            RevertError::BelowZero(1),
+            "entry 1 takes more copies back than the bag has",
+        ),
+        (RevertError::TooManyCopies, "a count is above the limit"),
+        (
+            RevertError::TooManyPairs,
+            "more distinct pairs than the limit",
+        ),
+        (RevertError::OutOfMemory, "out of memory"),
+    ] {
+        let told = format!(in rt.alloc(); "{error}").expect(&rt, "memory");
+        assert!(rt; told.as_str() == text, "wrong at {text}");
+    }
+}
