@@ -42,6 +42,7 @@ fn a_bag_is_read_and_counted(rt: HostRuntime) {
 
 // Places of a bag, to and fro between its faces, each with its pair.
 const MIXED: &str = "04:7:1 1:7:2 1:9:3 5:7:4 b:7:5";
+
 const PLACES: [(usize, &str); 8] = [
     (4, "b:7:5"),
     (0, "04:7:1"),
