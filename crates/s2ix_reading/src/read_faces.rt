@@ -40,20 +40,6 @@ fn first_from<B: PairReader>(reader: &mut B, face: usize) -> usize
     from
 }
 
-// Reads the pairs behind the one at a place into a list that has that one in front.
-fn read_behind<B: PairReader>(reader: &mut B, from: usize, held: &mut [FlatHeld])
-    requires some { 0 < length held.old }
-    requires within { from + length held.old ≤ length (B.shown reader.old) }
-    requires first { take 1 held.old ≡ take 1 (drop from (B.shown reader.old)) }
-    ensures pairs { held.new ≡ take (length held.old) (drop from (B.shown reader.old)) }
-    ensures same { B.shown reader.new ≡ B.shown reader.old }
-    ensures reads { HasRead (length held.old - 1) (length held.old - 1) (B.spent reader.old) (B.spent reader.new) }
-{
-    for k in 1..held.len() {
-        held[k] = FlatHeld::new(reader.read(from + k));
-    }
-}
-
 // The pairs from one place to before another, in one growth and a read for each.
 fn read_between<B: PairReader>(
     alloc: Global,
@@ -68,12 +54,10 @@ fn read_between<B: PairReader>(
     ensures reads { OnOk result (HasRead (to - from) (to - from) (B.spent reader.old) (B.spent reader.new)) }
     ensures refused { HasRead 0 (to - from) (B.spent reader.old) (B.spent reader.new) }
 {
-    if from == to {
-        return Ok(Vec::new(alloc));
+    let mut held = Vec::with_capacity(alloc, to - from)?;
+    for place in from..to {
+        held.push(FlatHeld::new(reader.read(place)))?;
     }
-    let first = FlatHeld::new(reader.read(from));
-    let mut held = Vec::from_elem(alloc, first, to - from)?;
-    read_behind(reader, from, held.as_mut_slice());
     Ok(held)
 }
 
