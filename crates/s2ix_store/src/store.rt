@@ -88,8 +88,8 @@ impl Store {
 
     /// Carries an edit out, and answers how many pairs changed their counts. An accepted edit records the change
     /// at the end of `done` and empties `undone`; a refused one changes nothing. [`EditError`] says when each
-    /// refusal stands. It takes what [`plan`] takes, O(n + m) to apply its m entries to n pairs held, what it takes to let the
-    /// undone changes go, and O(p) to read the p pairs again that are held on the faces of the change.
+    /// refusal stands. It takes what [`plan`] takes, what it takes to let the undone changes go, and O(m + p) for m entries of the
+    /// change and the p pairs held on their faces, of which alone bag and table are built again.
     pub fn edit(&mut self, edit: &Edit) -> Result<usize, EditError>
         ensures state { OnOk result (self.new ≡ after_edit self.old edit.now) }
         ensures history { OnOk result (history_of self.new
@@ -133,8 +133,8 @@ impl Store {
     }
 
     /// Takes the last change back, and answers how many pairs it had. The change goes to the end of `undone`.
-    /// `NothingToUndo` is tested first; after it only memory can be wanting. O(n + m) for n pairs held and m in
-    /// the change, p of them on its faces, whose tables are built again: O(n + m) in all.
+    /// `NothingToUndo` is tested first; after it only memory can be wanting. O(m + p) for m entries of the change and the p pairs held
+    /// on their faces, of which alone bag and table are built again.
     pub fn undo(&mut self) -> Result<usize, UndoError>
         ensures state { OnOk result (self.new ≡ after_undo self.old) }
         ensures history { OnOk result (history_of self.new ≡ one_back (history_of self.old)) }
@@ -162,7 +162,7 @@ impl Store {
 
     /// Does the last undone change again, and answers how many pairs it has. The change goes back to the end of
     /// `done`. `NothingToRedo` is tested first; after it only memory can be wanting, and the journal is never
-    /// full: an undo keeps the room of its change. O(n + m) for n pairs held and m in the change, whose faces alone are read again.
+    /// full: an undo keeps the room of its change. O(m + p), as `undo`.
     pub fn redo(&mut self) -> Result<usize, RedoError>
         ensures state { OnOk result (self.new ≡ after_redo self.old) }
         ensures history { OnOk result (history_of self.new ≡ one_on (history_of self.old)) }
