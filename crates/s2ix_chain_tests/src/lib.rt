@@ -6,8 +6,6 @@ mod compare;
 #[cfg(test)]
 mod faced_tests;
 #[cfg(test)]
-mod history_tests;
-#[cfg(test)]
 mod random_tests;
 #[cfg(test)]
 mod samples;
