@@ -9,6 +9,8 @@ mod calls;
 #[cfg(test)]
 mod cell_tests;
 #[cfg(test)]
+mod run_tests;
+#[cfg(test)]
 mod store_tests;
 #[cfg(test)]
 mod table_tests;
