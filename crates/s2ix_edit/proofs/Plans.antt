@@ -1,7 +1,8 @@
 -- Entries that carry an edit out.
-use Rattle.std.proofs.Common.{◌≡◌, ◌≢◌, ℕ, ◌+◌, ◌-◌, ◌≤◌, Bool, false, cond, ltb, not, List, [], ◌∷◌, Some, None, refl, sym, ap, ◌∙◌, subst, ⊎_elim, arith, eq-eqb, ne_eqb, le-ltb}
+use Rattle.std.proofs.Common.{◌≡◌, ◌≢◌, ℕ, ◌+◌, ◌-◌, ◌≤◌, Bool, false, cond, ltb, not, List, [], ◌∷◌, length, Option, Some, None, Result, IfOk, IfErr, refl, sym, ap, ◌∙◌, subst, ⊎_elim, arith, eq-eqb, ne_eqb, le-ltb}
 use Rattle.std.proofs.Common.{◌==◌}
 use Rattle.std.proofs.lemmas.Bool.{cond-true, cond-false, cases_eq}
+use Rattle.std.proofs.lemmas.Result.{IfErr-weaker, IfOk-weaker}
 use Rattle.std.specs.List.{position}
 use Rattle.s2ix_pairs.specs.declared.pair.Pair.{Pair}
 use Rattle.s2ix_pairs.specs.declared.pair.Entry.{Entry}
@@ -9,10 +10,14 @@ use Rattle.s2ix_lists.specs.Apply.{first_mismatch}
 use Rattle.s2ix_pairs.specs.Change.{change_between, changed, IsChangeList}
 use Rattle.s2ix_pairs.specs.Collection.{Collection, LimitedCollection, IsBag, IsCollection, count_in, set_count}
 use Rattle.s2ix_edit.specs.declared.edit.Edit.{Edit}
-use Rattle.s2ix_edit.specs.declared.edit.Edit.TheVariants.{Add, Remove}
-use Rattle.s2ix_edit.specs.Edit.{edited_alone}
-use Rattle.s2ix_edit.specs.Plan.{Plans, one_entry}
-use Rattle.s2ix_edit.specs.Refusals.{asks_too_fine, lacks_label, takes_too_many}
+use Rattle.s2ix_edit.specs.declared.edit.Edit.TheVariants.{Add, AddUnion, Remove, DropLabel, Relabel, Grow, Normalise, Revert}
+use Rattle.s2ix_edit.specs.declared.errors.EditError.{EditError}
+use Rattle.s2ix_edit.specs.declared.errors.EditError.TheVariants.{NoSuchLabel, NotHeld, TooFine, NoSuchChange, BelowZero, NoChange, TooManyCopies, TooManyPairs}
+use Rattle.s2ix_edit.specs.declared.errors.PlanError.{PlanError}
+use Rattle.s2ix_edit.specs.Edit.{edited_alone, edited_by}
+use Rattle.s2ix_edit.specs.Plan.{IsPlanRefusal, Plans, one_entry}
+use Rattle.s2ix_edit.specs.Refusals.{asks_too_fine, edit_error, goes_below_zero, has_count_above, lacks_change, lacks_label, reverts, takes_too_many, plan_refusal, IsEditRefusal}
+use Rattle.s2ix_pairs.specs.Limits.{pairs_limit, count_limit}
 use Rattle.s2ix_lists.proofs.Applied.{before_from_counts, change_between-changed}
 use Rattle.s2ix_pairs.proofs.Collections.{set_count_in}
 use Rattle.s2ix_pairs.proofs.Differences.{between_is_change, changed_between, counts_between_at}
@@ -40,6 +45,53 @@ makes_between bag new es is new_is es_is =
 pub between_changed : (bag : LimitedCollection) (es : List Entry) → IsCollection bag.held → IsChangeList es → first_mismatch bag es ≡ None → change_between bag.held (changed bag.held es) ≡ es
 between_changed bag es c rises matches =
     change_between-changed bag.held es c rises (before_from_no_mismatch bag.held es matches)
+
+-- ---- edits that take no change back
+
+pub reads_none : (edit : Edit) (changes : List (List Entry)) (hs : Collection) → reverts edit ≡ false → edited_alone edit hs ≡ edited_by changes edit hs
+reads_none (Add pair copies) changes hs reads = refl
+reads_none (AddUnion cells label) changes hs reads = refl
+reads_none (Remove pair copies) changes hs reads = refl
+reads_none (DropLabel label) changes hs reads = refl
+reads_none (Relabel source target) changes hs reads = refl
+reads_none (Grow label level) changes hs reads = refl
+reads_none (Normalise label) changes hs reads = refl
+reads_none (Revert number) changes hs reads = cc
+
+lacks_none : (edit : Edit) (changes : List (List Entry)) → reverts edit ≡ false → lacks_change changes edit ≡ false
+lacks_none (Add pair copies) changes reads = refl
+lacks_none (AddUnion cells label) changes reads = refl
+lacks_none (Remove pair copies) changes reads = refl
+lacks_none (DropLabel label) changes reads = refl
+lacks_none (Relabel source target) changes reads = refl
+lacks_none (Grow label level) changes reads = refl
+lacks_none (Normalise label) changes reads = refl
+lacks_none (Revert number) changes reads = cc
+
+stays_above : (edit : Edit) (changes : List (List Entry)) (hs : Collection) → reverts edit ≡ false → goes_below_zero changes edit hs ≡ false
+stays_above (Add pair copies) changes hs reads = refl
+stays_above (AddUnion cells label) changes hs reads = refl
+stays_above (Remove pair copies) changes hs reads = refl
+stays_above (DropLabel label) changes hs reads = refl
+stays_above (Relabel source target) changes hs reads = refl
+stays_above (Grow label level) changes hs reads = refl
+stays_above (Normalise label) changes hs reads = refl
+stays_above (Revert number) changes hs reads = cc
+
+-- the refusals of an edit that makes this collection, by whether it lacks its change and goes below 0
+refusal_by : LimitedCollection → Edit → Bool → Bool → Collection → Option EditError
+refusal_by bag edit lacks below new =
+    cond (lacks_label edit bag.held) (Some NoSuchLabel) (cond (takes_too_many edit bag.held) (Some NotHeld)
+    (cond (asks_too_fine edit bag.held) (Some TooFine) (cond lacks (Some NoSuchChange) (cond below (Some BelowZero)
+    (cond (length (change_between bag.held new) == 0) (Some NoChange) (cond (has_count_above (count_limit bag.limits) new) (Some TooManyCopies)
+    (cond (ltb (pairs_limit bag.limits) (length new)) (Some TooManyPairs) None)))))))
+
+same_refusal : (bag : LimitedCollection) (changes : List (List Entry)) (edit : Edit) → reverts edit ≡ false → plan_refusal bag [] edit ≡ plan_refusal bag changes edit
+unfolding refusal_by
+same_refusal bag changes edit reads =
+    ap (λ lacks. refusal_by bag edit lacks (goes_below_zero [] edit bag.held) (edited_alone edit bag.held)) (lacks_none edit [] reads ∙ sym (lacks_none edit changes reads))
+    ∙ ap (λ below. refusal_by bag edit (lacks_change changes edit) below (edited_alone edit bag.held)) (stays_above edit [] bag.held reads ∙ sym (stays_above edit changes bag.held reads))
+    ∙ ap (λ new. refusal_by bag edit (lacks_change changes edit) (goes_below_zero changes edit bag.held) new) (reads_none edit changes bag.held reads)
 
 -- ---- the entries of one pair
 
@@ -79,37 +131,60 @@ one_changes hs p m n same =
     (cases_eq m n)
 
 -- an edit that sets one count is carried out by the entry of that pair
-pub one_plans : (bag : LimitedCollection) (edit : Edit) (p : Pair) (n : ℕ) → IsBag bag → lacks_label edit bag.held ≡ false → takes_too_many edit bag.held ≡ false → asks_too_fine edit bag.held ≡ false → edited_alone edit bag.held ≡ set_count p n bag.held → Plans bag edit (one_entry p (count_in bag.held p) n)
-one_plans bag edit p n b known allowed fits makes = record {
+pub one_plans : (bag : LimitedCollection) (edit : Edit) (p : Pair) (n : ℕ) → IsBag bag → lacks_label edit bag.held ≡ false → takes_too_many edit bag.held ≡ false → asks_too_fine edit bag.held ≡ false → reverts edit ≡ false → edited_alone edit bag.held ≡ set_count p n bag.held → Plans bag [] edit (one_entry p (count_in bag.held p) n)
+one_plans bag edit p n b known allowed fits reads makes = record {
   known = known;
   allowed = allowed;
   fits = fits;
+  stood = lacks_none edit [] reads;
+  above = stays_above edit [] bag.held reads;
   rises = one_rises p (count_in bag.held p) n;
   matches = one_matches bag p n;
   result = one_changes bag.held p (count_in bag.held p) n (set_count_in p bag.held b.rises) ∙ sym makes;
 }
 
 -- the entry of an addition carries it out
-pub add_plans : (bag : LimitedCollection) (p : Pair) (copies before after : ℕ) (es : List Entry) → IsBag bag → before ≡ count_in bag.held p → before + copies ≡ after → es ≡ one_entry p before after → Plans bag (Add p copies) es
+pub add_plans : (bag : LimitedCollection) (p : Pair) (copies before after : ℕ) (es : List Entry) → IsBag bag → before ≡ count_in bag.held p → before + copies ≡ after → es ≡ one_entry p before after → Plans bag [] (Add p copies) es
 add_plans bag p copies before after es b is_before is_after is =
-    let Carries : List Entry → Type 0 = λ xs. Plans bag (Add p copies) xs in
-    let own = one_plans bag (Add p copies) p (count_in bag.held p + copies) b refl refl refl refl in
+    let Carries : List Entry → Type 0 = λ xs. Plans bag [] (Add p copies) xs in
+    let own = one_plans bag (Add p copies) p (count_in bag.held p + copies) b refl refl refl refl refl in
     subst Carries (sym (is ∙ ap (λ m. one_entry p m after) is_before ∙ ap (λ n. one_entry p (count_in bag.held p) n) (omega arith))) own
 
 -- the entry of a removal carries it out
-pub remove_plans : (bag : LimitedCollection) (p : Pair) (copies before after : ℕ) (es : List Entry) → IsBag bag → before ≡ count_in bag.held p → copies ≤ before → before - copies ≡ after → es ≡ one_entry p before after → Plans bag (Remove p copies) es
+pub remove_plans : (bag : LimitedCollection) (p : Pair) (copies before after : ℕ) (es : List Entry) → IsBag bag → before ≡ count_in bag.held p → copies ≤ before → before - copies ≡ after → es ≡ one_entry p before after → Plans bag [] (Remove p copies) es
 remove_plans bag p copies before after es b is_before le is_after is =
-    let Carries : List Entry → Type 0 = λ xs. Plans bag (Remove p copies) xs in
-    let own = one_plans bag (Remove p copies) p (count_in bag.held p - copies) b refl (le-ltb _ _ (omega arith)) refl refl in
+    let Carries : List Entry → Type 0 = λ xs. Plans bag [] (Remove p copies) xs in
+    let own = one_plans bag (Remove p copies) p (count_in bag.held p - copies) b refl (le-ltb _ _ (omega arith)) refl refl refl in
     subst Carries (sym (is ∙ ap (λ m. one_entry p m after) is_before ∙ ap (λ n. one_entry p (count_in bag.held p) n) (omega arith))) own
 
 -- entries that make the edited collection carry the edit out
-pub plans_from_makes : (bag : LimitedCollection) (edit : Edit) (es : List Entry) → lacks_label edit bag.held ≡ false → takes_too_many edit bag.held ≡ false → asks_too_fine edit bag.held ≡ false → Makes bag (edited_alone edit bag.held) es → Plans bag edit es
-plans_from_makes bag edit es known allowed fits makes = record {
+pub plans_from_makes : (bag : LimitedCollection) (changes : List (List Entry)) (edit : Edit) (es : List Entry) → lacks_label edit bag.held ≡ false → takes_too_many edit bag.held ≡ false → asks_too_fine edit bag.held ≡ false → lacks_change changes edit ≡ false → goes_below_zero changes edit bag.held ≡ false → Makes bag (edited_by changes edit bag.held) es → Plans bag changes edit es
+plans_from_makes bag changes edit es known allowed fits stood above makes = record {
   known = known;
   allowed = allowed;
   fits = fits;
+  stood = stood;
+  above = above;
   rises = makes.rises;
   matches = makes.matches;
   result = makes.result;
 }
+
+-- ---- edits that read no change
+
+-- after any changes they are planned, and refused, as after none
+pub planned_after_any : (bag : LimitedCollection) (changes : List (List Entry)) (edit : Edit) (planned : Result (List Entry) PlanError) → reverts edit ≡ false → IfOk planned (Plans bag [] edit) → IfOk planned (Plans bag changes edit)
+planned_after_any bag changes edit planned reads plans =
+    IfOk-weaker planned _ _
+    (λ es plan.
+    plans_from_makes bag changes edit es plan.known plan.allowed plan.fits (lacks_none edit changes reads) (stays_above edit changes bag.held reads)
+    (record { rises = plan.rises; matches = plan.matches; result = plan.result ∙ reads_none edit changes bag.held reads }))
+    plans
+
+pub refused_after_any : (bag : LimitedCollection) (changes : List (List Entry)) (edit : Edit) (planned : Result (List Entry) PlanError) → reverts edit ≡ false → IfErr planned (IsPlanRefusal bag [] edit) → IfErr planned (IsPlanRefusal bag changes edit)
+refused_after_any bag changes edit planned reads refused =
+    IfErr-weaker planned _ _
+    (λ error is.
+    let Refused : Option EditError → Type 0 = λ refusal. IsEditRefusal (edit_error error) refusal in
+    subst Refused (same_refusal bag changes edit reads) is)
+    refused

@@ -1,5 +1,5 @@
 -- Which refusal of an edit stands first.
-use Rattle.std.proofs.Common.{◌≡◌, ℕ, ◌+◌, ◌<◌, ◌≤◌, ◌==◌, Bool, true, false, cond, ltb, List, [], ◌∷◌, length, Option, Some, None, refl, ⊎_elim, sym, ap, ◌∙◌, arith}
+use Rattle.std.proofs.Common.{◌≡◌, ℕ, ◌+◌, ◌<◌, ◌≤◌, ◌==◌, Bool, true, false, cond, ltb, List, [], ◌∷◌, length, find, Option, Some, None, refl, ⊎_elim, sym, ap, ◌∙◌, arith}
 use Rattle.std.proofs.lemmas.Bool.{cases_Bool, cond-false, eqb-true, lt-leb}
 use Rattle.std.specs.List.{list_any}
 use Rattle.s2ix_pairs.specs.declared.pair.Pair.{Pair}
@@ -10,11 +10,12 @@ use Rattle.s2ix_pairs.specs.Limits.{pairs_limit, count_limit, changes_limit}
 use Rattle.s2ix_edit.specs.declared.edit.Edit.{Edit}
 use Rattle.s2ix_edit.specs.declared.edit.Edit.TheVariants.{Add}
 use Rattle.s2ix_edit.specs.declared.errors.EditError.{EditError}
-use Rattle.s2ix_edit.specs.declared.errors.EditError.TheVariants.{NoSuchLabel, NotHeld, TooFine, NoChange, TooManyCopies, TooManyPairs}
-use Rattle.s2ix_edit.specs.Edit.{edited_alone}
-use Rattle.s2ix_edit.specs.State.{State, change_of, starting_at}
+use Rattle.s2ix_edit.specs.declared.errors.EditError.TheVariants.{NoChange, TooManyCopies, TooManyPairs}
+use Rattle.s2ix_edit.specs.Edit.{edited_by}
+use Rattle.s2ix_edit.specs.History.{standing}
+use Rattle.s2ix_edit.specs.State.{State, change_of, history_of}
 use Rattle.s2ix_edit.specs.Plan.{Plans, entries_refusal}
-use Rattle.s2ix_edit.specs.Refusals.{asks_too_fine, edit_refusal, has_count_above, lacks_label, takes_too_many}
+use Rattle.s2ix_edit.specs.Refusals.{asks_too_fine, edit_refusal, goes_below_zero, has_count_above, lacks_change, lacks_label, plan_refusal, refusals_with_room, stands, takes_too_many}
 use Rattle.s2ix_edit.proofs.Above.{above_from_count, any_above_changed, none_above}
 use Rattle.s2ix_edit.proofs.Plans.{between_changed}
 use Rattle.s2ix_edit.proofs.Edited.{edited_held, edited_is_collection}
@@ -22,23 +23,10 @@ use Rattle.s2ix_pairs.proofs.Collections.{count_in-set_count_same}
 use Rattle.s2ix_pairs.proofs.Differences.{changed_between}
 use Rattle.s2ix_pairs.specs.Pair.{rank_of}
 
--- the refusals after that of a full journal, of an edit that makes this collection
-refusal_with_room : LimitedCollection → Edit → Collection → Option EditError
-refusal_with_room bag edit new =
-    cond (lacks_label edit bag.held) (Some NoSuchLabel) (cond (takes_too_many edit bag.held) (Some NotHeld)
-    (cond (asks_too_fine edit bag.held) (Some TooFine) (cond (length (change_between bag.held new) == 0) (Some NoChange) (cond (has_count_above (count_limit bag.limits) new) (Some TooManyCopies)
-    (cond (ltb (pairs_limit bag.limits) (length new)) (Some TooManyPairs) None)))))
-
--- with room in the journal the refusal is that of a store with no history
-pub with_room : (s : State) (edit : Edit) → length s.done < changes_limit s.bag.limits → edit_refusal s edit ≡ edit_refusal (starting_at s.bag) edit
-unfolding refusal_with_room
-with_room s edit room =
-    let fresh : length (starting_at s.bag).done < changes_limit (starting_at s.bag).bag.limits = omega (arith, room) in
-    cond-false _ _ _ (lt-leb _ _ room) ∙ ap (refusal_with_room s.bag edit) (edited_held s edit) ∙ sym (cond-false _ _ _ (lt-leb _ _ fresh))
-
--- a store with no history has room in its journal
-starts_with_room : (bag : LimitedCollection) → length (starting_at bag).done < changes_limit bag.limits
-starts_with_room bag = let range = bag.limits.in_range in omega (arith, range)
+-- with room in the journal the refusal is that of the bag that the changes led to
+pub with_room : (s : State) (edit : Edit) → standing (history_of s) ≡ s.done → length s.done < changes_limit s.bag.limits → edit_refusal s edit ≡ plan_refusal s.bag s.done edit
+with_room s edit stand room =
+    cond-false _ _ _ (lt-leb _ _ room) ∙ ap (λ new. find (stands s.bag s.done edit new) refusals_with_room) (edited_held s edit stand)
 
 -- ---- the three refusals that are found while the change is made
 
@@ -49,22 +37,22 @@ first_of_three same high many =
 is_high : LimitedCollection → Collection → Bool
 is_high bag hs = has_count_above (count_limit bag.limits) hs
 
-later_refusal : (bag : LimitedCollection) (edit : Edit) → lacks_label edit bag.held ≡ false → takes_too_many edit bag.held ≡ false → asks_too_fine edit bag.held ≡ false → edit_refusal (starting_at bag) edit ≡ first_of_three (length (change_between bag.held (edited_alone edit bag.held)) == 0) (is_high bag (edited_alone edit bag.held)) (ltb (pairs_limit bag.limits) (length (edited_alone edit bag.held)))
+later_refusal : (bag : LimitedCollection) (changes : List (List Entry)) (edit : Edit) → lacks_label edit bag.held ≡ false → takes_too_many edit bag.held ≡ false → asks_too_fine edit bag.held ≡ false → lacks_change changes edit ≡ false → goes_below_zero changes edit bag.held ≡ false → plan_refusal bag changes edit ≡ first_of_three (length (change_between bag.held (edited_by changes edit bag.held)) == 0) (is_high bag (edited_by changes edit bag.held)) (ltb (pairs_limit bag.limits) (length (edited_by changes edit bag.held)))
 unfolding first_of_three is_high
-later_refusal bag edit known allowed fits =
-    cond-false _ _ _ (lt-leb _ _ (starts_with_room bag)) ∙ cond-false _ _ _ known ∙ cond-false _ _ _ allowed ∙ cond-false _ _ _ fits
+later_refusal bag changes edit known allowed fits stood above =
+    cond-false _ _ _ known ∙ cond-false _ _ _ allowed ∙ cond-false _ _ _ fits ∙ cond-false _ _ _ stood ∙ cond-false _ _ _ above
 
 -- ---- the refusals of planned entries
 
-any_high : (bag : LimitedCollection) (edit : Edit) (es : List Entry) → IsBag bag → Plans bag edit es → is_high bag (edited_alone edit bag.held) ≡ list_any (λ e. ltb (count_limit bag.limits) e.after) es
+any_high : (bag : LimitedCollection) (changes : List (List Entry)) (edit : Edit) (es : List Entry) → IsBag bag → Plans bag changes edit es → is_high bag (edited_by changes edit bag.held) ≡ list_any (λ e. ltb (count_limit bag.limits) e.after) es
 unfolding is_high
-any_high bag edit es b plans =
+any_high bag changes edit es b plans =
     ap (λ hs. has_count_above (count_limit bag.limits) hs) (sym plans.result)
     ∙ any_above_changed (count_limit bag.limits) bag.held es b.rises plans.rises b.small
 
--- the change that an edit of the collection alone records is its plan
-planned_change : (bag : LimitedCollection) (edit : Edit) (es : List Entry) → IsBag bag → Plans bag edit es → change_between bag.held (edited_alone edit bag.held) ≡ es
-planned_change bag edit es b plans =
+-- the change from a collection to the edited one is its plan
+pub planned_change : (bag : LimitedCollection) (changes : List (List Entry)) (edit : Edit) (es : List Entry) → IsBag bag → Plans bag changes edit es → change_between bag.held (edited_by changes edit bag.held) ≡ es
+planned_change bag changes edit es b plans =
     ap (λ hs. change_between bag.held hs) (sym plans.result)
     ∙ between_changed bag es b.rises plans.rises plans.matches
 
@@ -73,13 +61,14 @@ unfolding first_of_three
 entries_by_three bag es = refl
 
 -- an edit is refused as the entries that it plans are
-pub planned_refusal : (bag : LimitedCollection) (edit : Edit) (es : List Entry) → IsBag bag → Plans bag edit es → edit_refusal (starting_at bag) edit ≡ entries_refusal bag es
-planned_refusal bag edit es b plans =
+pub planned_refusal : (bag : LimitedCollection) (changes : List (List Entry)) (edit : Edit) (es : List Entry) → IsBag bag → Plans bag changes edit es → plan_refusal bag changes edit ≡ entries_refusal bag es
+planned_refusal bag changes edit es b plans =
+    let new = edited_by changes edit bag.held in
     let many : Collection → Bool = λ hs. ltb (pairs_limit bag.limits) (length hs) in
     let high : Bool = list_any (λ (e : Entry). ltb (count_limit bag.limits) e.after) es in
-    later_refusal bag edit plans.known plans.allowed plans.fits
-    ∙ ap (λ (ds : List Entry). first_of_three (length ds == 0) (is_high bag (edited_alone edit bag.held)) (many (edited_alone edit bag.held))) (planned_change bag edit es b plans)
-    ∙ ap (λ t. first_of_three (length es == 0) t (many (edited_alone edit bag.held))) (any_high bag edit es b plans)
+    later_refusal bag changes edit plans.known plans.allowed plans.fits plans.stood plans.above
+    ∙ ap (λ (ds : List Entry). first_of_three (length ds == 0) (is_high bag new) (many new)) (planned_change bag changes edit es b plans)
+    ∙ ap (λ t. first_of_three (length es == 0) t (many new)) (any_high bag changes edit es b plans)
     ∙ ap (λ hs. first_of_three (length es == 0) high (many hs)) (sym plans.result)
     ∙ entries_by_three bag es
 
@@ -106,23 +95,24 @@ changes_some bag new b is high =
     (cases_Bool (length (change_between bag.held new) == 0))
 
 -- an edit that makes a count above the limit is refused for its copies
-pub too_high : (bag : LimitedCollection) (edit : Edit) → IsBag bag → lacks_label edit bag.held ≡ false → takes_too_many edit bag.held ≡ false → asks_too_fine edit bag.held ≡ false → has_count_above (count_limit bag.limits) (edited_alone edit bag.held) ≡ true → edit_refusal (starting_at bag) edit ≡ Some TooManyCopies
+pub too_high : (bag : LimitedCollection) (changes : List (List Entry)) (edit : Edit) → IsBag bag → lacks_label edit bag.held ≡ false → takes_too_many edit bag.held ≡ false → asks_too_fine edit bag.held ≡ false → lacks_change changes edit ≡ false → goes_below_zero changes edit bag.held ≡ false → has_count_above (count_limit bag.limits) (edited_by changes edit bag.held) ≡ true → plan_refusal bag changes edit ≡ Some TooManyCopies
 unfolding first_of_three is_high
-too_high bag edit b known allowed fits high =
-    let many : Bool = ltb (pairs_limit bag.limits) (length (edited_alone edit bag.held)) in
-    later_refusal bag edit known allowed fits
-    ∙ ap (λ t. first_of_three t (is_high bag (edited_alone edit bag.held)) many) (changes_some bag (edited_alone edit bag.held) b (edited_is_collection edit bag.held b.rises) high)
+too_high bag changes edit b known allowed fits stood above high =
+    let new = edited_by changes edit bag.held in
+    let many : Bool = ltb (pairs_limit bag.limits) (length new) in
+    later_refusal bag changes edit known allowed fits stood above
+    ∙ ap (λ t. first_of_three t (is_high bag new) many) (changes_some bag new b (edited_is_collection changes edit bag.held b.rises) high)
     ∙ ap (λ t. first_of_three false t many) high
 
 -- a sum above every limit is refused for its copies
-pub sum_too_high : (bag : LimitedCollection) (p : Pair) (copies before : ℕ) → IsBag bag → before ≡ count_in bag.held p → 4294967296 ≤ before + copies → edit_refusal (starting_at bag) (Add p copies) ≡ Some TooManyCopies
+pub sum_too_high : (bag : LimitedCollection) (p : Pair) (copies before : ℕ) → IsBag bag → before ≡ count_in bag.held p → 4294967296 ≤ before + copies → plan_refusal bag [] (Add p copies) ≡ Some TooManyCopies
 sum_too_high bag p copies before b is_before high =
     let range = bag.limits.in_range in
     let sum = count_in-set_count_same p (count_in bag.held p + copies) bag.held b.rises in
-    too_high bag (Add p copies) b refl refl refl
-    (above_from_count (count_limit bag.limits) (edited_alone (Add p copies) bag.held) (rank_of p) (omega (arith, range, sum, is_before, high)))
+    too_high bag [] (Add p copies) b refl refl refl refl refl
+    (above_from_count (count_limit bag.limits) (edited_by [] (Add p copies) bag.held) (rank_of p) (omega (arith, range, sum, is_before, high)))
 
 -- the change that a store records of an edit is its plan
-pub change_planned : (s : State) (edit : Edit) (es : List Entry) → IsBag s.bag → Plans s.bag edit es → change_of s edit ≡ es
-change_planned s edit es b plans =
-    ap (λ hs. change_between s.bag.held hs) (edited_held s edit) ∙ planned_change s.bag edit es b plans
+pub change_planned : (s : State) (edit : Edit) (es : List Entry) → standing (history_of s) ≡ s.done → IsBag s.bag → Plans s.bag s.done edit es → change_of s edit ≡ es
+change_planned s edit es stand b plans =
+    ap (λ hs. change_between s.bag.held hs) (edited_held s edit stand) ∙ planned_change s.bag s.done edit es b plans

@@ -1,17 +1,19 @@
 -- What an edit makes of a collection with its history.
-use Rattle.std.specs.Prelude.{ℕ, ◌+◌, ◌-◌, ◌==◌, Bool, not, List, [], ◌∷◌}
+use Rattle.std.specs.Prelude.{ℕ, ◌+◌, ◌-◌, ◌==◌, Bool, not, Option, Some, None, List, [], ◌∷◌, slice_get}
 use Rattle.std.specs.List.{filter}
 use Rattle.s2id_core.specs.declared.cell_id.CellId.{CellId}
 use Rattle.s2ix_pairs.specs.declared.label.Label.{Label}
 use Rattle.s2ix_pairs.specs.declared.pair.Pair.{Pair}
+use Rattle.s2ix_pairs.specs.declared.pair.Entry.{Entry}
 use Rattle.s2ix_pairs.specs.declared.pair.Held.{Held}
 use Rattle.s2ix_pairs.specs.Label.{value_of}
 use Rattle.s2ix_pairs.specs.Collection.{Collection, count_in, set_count}
 use Rattle.s2ix_pairs.specs.OfLabel.{held_of}
+use Rattle.s2ix_pairs.specs.TakenBack.{taken_back}
 use Rattle.s2ix_edit.specs.declared.edit.Edit.{Edit}
-use Rattle.s2ix_edit.specs.declared.edit.Edit.TheVariants.{Add, AddUnion, Remove, DropLabel, Relabel, Grow, Normalise}
+use Rattle.s2ix_edit.specs.declared.edit.Edit.TheVariants.{Add, AddUnion, Remove, DropLabel, Relabel, Grow, Normalise, Revert}
 use Rattle.s2ix_edit.specs.Grow.{grown_cells}
-use Rattle.s2ix_edit.specs.History.{History, alone, at_cursor}
+use Rattle.s2ix_edit.specs.History.{History, at_cursor, standing}
 use Rattle.s2ix_edit.specs.Region.{region_of}
 
 -- the pair of a cell under a label
@@ -44,20 +46,36 @@ abbrev pub with_all_moved : Label → List Held → Collection → Collection
 with_all_moved target [] hs = hs
 with_all_moved target (h ∷ rest) hs = with_all_moved target rest (with_moved target h hs)
 
--- the collection after the edit of the one at the cursor: `Add` adds copies to the pair's count, `AddUnion` one copy
--- under the label for each cell, `Remove` takes copies from the pair's count, `DropLabel` takes the label's pairs away,
--- `Relabel` moves the copies of each pair of `source` to the same cell's pair of `target`, `Grow` adds one copy under
--- the label for each cell of the level that overlaps no cell of the label and shares an edge with a cell of the level
--- that overlaps one, and `Normalise` takes the label's pairs away and adds one copy for each cell of the label's region
-abbrev pub edited : History → Edit → Collection
-edited h (Add pair copies) = with_more pair copies (at_cursor h)
-edited h (AddUnion cells label) = with_each label cells (at_cursor h)
-edited h (Remove pair copies) = set_count pair (count_in (at_cursor h) pair - copies) (at_cursor h)
-edited h (DropLabel label) = without label (at_cursor h)
-edited h (Relabel source target) = with_all_moved target (held_of source (at_cursor h)) (at_cursor h)
-edited h (Grow label level) = with_each label (grown_cells label level (at_cursor h)) (at_cursor h)
-edited h (Normalise label) = with_each label (region_of label (at_cursor h)) (without label (at_cursor h))
+-- the change with this number, counted from 1; number 0 is that of none
+abbrev pub numbered : ℕ → List (List Entry) → Option (List Entry)
+numbered 0 changes = None
+numbered (1 + place) changes = slice_get changes place
 
--- the collection after the edit of one that stands alone
+-- the collection with a change taken back from it; it stays where there is no such change
+abbrev pub without_change : Option (List Entry) → Collection → Collection
+without_change (Some es) hs = taken_back hs es
+without_change None hs = hs
+
+-- the collection after the edit of one that these changes led to, the oldest first: `Add` adds copies to the pair's
+-- count, `AddUnion` one copy under the label for each cell, `Remove` takes copies from the pair's count, `DropLabel`
+-- takes the label's pairs away, `Relabel` moves the copies of each pair of `source` to the same cell's pair of
+-- `target`, `Grow` adds one copy under the label for each cell of the level that overlaps no cell of the label and
+-- shares an edge with a cell of the level that overlaps one, `Normalise` takes the label's pairs away and adds one copy
+-- for each cell of the label's region, and `Revert` subtracts the differences of the change with the number
+abbrev pub edited_by : List (List Entry) → Edit → Collection → Collection
+edited_by changes (Add pair copies) hs = with_more pair copies hs
+edited_by changes (AddUnion cells label) hs = with_each label cells hs
+edited_by changes (Remove pair copies) hs = set_count pair (count_in hs pair - copies) hs
+edited_by changes (DropLabel label) hs = without label hs
+edited_by changes (Relabel source target) hs = with_all_moved target (held_of source hs) hs
+edited_by changes (Grow label level) hs = with_each label (grown_cells label level hs) hs
+edited_by changes (Normalise label) hs = with_each label (region_of label hs) (without label hs)
+edited_by changes (Revert number) hs = without_change (numbered number changes) hs
+
+-- the collection after the edit of the one at the cursor, to which the standing changes led
+abbrev pub edited : History → Edit → Collection
+edited h edit = edited_by (standing h) edit (at_cursor h)
+
+-- the collection after the edit of one that no change led to
 abbrev pub edited_alone : Edit → Collection → Collection
-edited_alone edit hs = edited (alone hs) edit
+edited_alone = edited_by []

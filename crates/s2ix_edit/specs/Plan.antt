@@ -14,30 +14,32 @@ use Rattle.s2ix_pairs.specs.Limits.{pairs_limit, count_limit}
 use Rattle.s2ix_edit.specs.declared.edit.Edit.{Edit}
 use Rattle.s2ix_edit.specs.declared.errors.EditError.{EditError}
 use Rattle.s2ix_edit.specs.declared.errors.EditError.TheVariants.{NoChange, TooManyCopies, TooManyPairs}
-use Rattle.s2ix_edit.specs.Edit.{edited_alone, pair_of}
-use Rattle.s2ix_edit.specs.State.{starting_at}
+use Rattle.s2ix_edit.specs.Edit.{edited_by, pair_of}
 use Rattle.s2ix_edit.specs.declared.errors.PlanError.{PlanError}
-use Rattle.s2ix_edit.specs.Refusals.{lacks_label, takes_too_many, asks_too_fine, edit_error, edit_refusal, IsEditRefusal}
+use Rattle.s2ix_edit.specs.Refusals.{lacks_label, takes_too_many, asks_too_fine, lacks_change, goes_below_zero, edit_error, plan_refusal, IsEditRefusal}
 
 -- the entries that change the count of one pair: none where it stays
 abbrev pub one_entry : Pair → ℕ → ℕ → List Entry
 one_entry pair before after =
     if before == after then [] else record { pair = pair; before = before; after = after } ∷ []
 
--- the entries carry the edit out: its label is held, it takes no more than is held, its level isn't too fine, the counts
--- before are the bag's, and the counts after make the edited collection
-pub record Plans (bag : LimitedCollection) (edit : Edit) (es : List Entry) : Type 0 where
+-- the entries carry out the edit of a bag that these changes led to: its label is held, it takes no more than is held, its
+-- level isn't too fine, the change that it takes back is there and leaves no count below 0, the counts before are the
+-- bag's, and the counts after make the edited collection
+pub record Plans (bag : LimitedCollection) (changes : List (List Entry)) (edit : Edit) (es : List Entry) : Type 0 where
   pub known : lacks_label edit bag.held ≡ false
   pub allowed : takes_too_many edit bag.held ≡ false
   pub fits : asks_too_fine edit bag.held ≡ false
+  pub stood : lacks_change changes edit ≡ false
+  pub above : goes_below_zero changes edit bag.held ≡ false
   pub rises : IsChangeList es
   pub matches : first_mismatch bag es ≡ None
-  pub result : changed bag.held es ≡ edited_alone edit bag.held
+  pub result : changed bag.held es ≡ edited_by changes edit bag.held
 
--- the error says why the bag has no plan of the edit: it is the refusal of a store that starts at the bag, or memory was wanted
--- where it may be
-abbrev pub IsPlanRefusal : LimitedCollection → Edit → PlanError → Type 0
-IsPlanRefusal bag edit error = IsEditRefusal (edit_error error) (edit_refusal (starting_at bag) edit)
+-- the error says why there is no plan of the edit: it is the refusal where the journal has room, or memory was wanted where it
+-- may be
+abbrev pub IsPlanRefusal : LimitedCollection → List (List Entry) → Edit → PlanError → Type 0
+IsPlanRefusal bag changes edit error = IsEditRefusal (edit_error error) (plan_refusal bag changes edit)
 
 -- why a store refuses planned entries, memory aside: none of them, else a count after above the limit, else more
 -- distinct pairs than the limit; `None` where it takes them

@@ -1,20 +1,25 @@
 -- Where an edit is refused.
-use Rattle.std.specs.Prelude.{◌≡◌, ℕ, ◌==◌, nat_lt, nat_le, Bool, false, Option, Some, None, List, [], ◌∷◌, length, find}
+use Rattle.std.specs.Prelude.{◌≡◌, ℕ, ◌==◌, nat_lt, nat_le, Bool, true, false, Option, Some, None, List, [], ◌∷◌, length, find}
 use Rattle.std.specs.List.{list_any}
 use Rattle.s2ix_pairs.specs.declared.label.Label.{Label}
-use Rattle.s2ix_pairs.specs.Collection.{Collection, count_in}
+use Rattle.s2ix_pairs.specs.declared.pair.Entry.{Entry}
+use Rattle.s2ix_pairs.specs.Change.{change_between}
+use Rattle.s2ix_pairs.specs.Collection.{Collection, LimitedCollection, count_in}
 use Rattle.s2ix_pairs.specs.Limits.{pairs_limit, count_limit, changes_limit}
 use Rattle.s2ix_pairs.specs.OfLabel.{held_of}
+use Rattle.s2ix_pairs.specs.TakenBack.{is_below_zero}
 use Rattle.s2ix_edit.specs.declared.edit.Edit.{Edit}
-use Rattle.s2ix_edit.specs.declared.edit.Edit.TheVariants.{Add, AddUnion, Remove, DropLabel, Relabel, Grow, Normalise}
+use Rattle.s2ix_edit.specs.declared.edit.Edit.TheVariants.{Add, AddUnion, Remove, DropLabel, Relabel, Grow, Normalise, Revert}
 use Rattle.s2ix_edit.specs.declared.errors.EditError.{EditError}
-use Rattle.s2ix_edit.specs.declared.errors.EditError.TheVariants.{JournalFull, NoSuchLabel, NotHeld, TooFine, NoChange, TooManyCopies, TooManyPairs, OutOfMemory}
+use Rattle.s2ix_edit.specs.declared.errors.EditError.TheVariants.{JournalFull, NoSuchLabel, NotHeld, TooFine, NoSuchChange, BelowZero, NoChange, TooManyCopies, TooManyPairs, OutOfMemory}
 use Rattle.s2ix_edit.specs.declared.errors.PlanError.{PlanError}
-use Rattle.s2ix_edit.specs.declared.errors.PlanError.TheVariants.{NoSuchLabel as LacksLabel, NotHeld as LacksCopies, TooFine as AsksTooFine, TooManyCopies as PassesLimits, OutOfMemory as WantsMemory}
-use Rattle.s2ix_edit.specs.Edit.{edited}
+use Rattle.s2ix_edit.specs.declared.errors.PlanError.TheVariants as plan
+use Rattle.s2ix_lists.specs.declared.errors.RevertError.{RevertError}
+use Rattle.s2ix_lists.specs.declared.errors.RevertError.TheVariants as revert
+use Rattle.s2ix_edit.specs.Edit.{edited, edited_by, numbered}
 use Rattle.s2ix_edit.specs.Grow.{is_too_fine}
 use Rattle.s2ix_edit.specs.Region.{cells_of}
-use Rattle.s2ix_edit.specs.State.{State, change_of, history_of}
+use Rattle.s2ix_edit.specs.State.{State, history_of}
 
 -- whether no pair of the label is held
 abbrev pub holds_none : Label → Collection → Bool
@@ -29,6 +34,7 @@ lacks_label (DropLabel label) hs = holds_none label hs
 lacks_label (Relabel source target) hs = holds_none source hs
 lacks_label (Grow label level) hs = holds_none label hs
 lacks_label (Normalise label) hs = holds_none label hs
+lacks_label (Revert number) hs = false
 
 -- the edit takes more copies than are held
 abbrev pub takes_too_many : Edit → Collection → Bool
@@ -39,6 +45,7 @@ takes_too_many (DropLabel label) hs = false
 takes_too_many (Relabel source target) hs = false
 takes_too_many (Grow label level) hs = false
 takes_too_many (Normalise label) hs = false
+takes_too_many (Revert number) hs = false
 
 -- the edit asks for cells of a level that is too fine for the label's
 abbrev pub asks_too_fine : Edit → Collection → Bool
@@ -49,29 +56,51 @@ asks_too_fine (DropLabel label) hs = false
 asks_too_fine (Relabel source target) hs = false
 asks_too_fine (Grow label level) hs = is_too_fine level (cells_of label hs)
 asks_too_fine (Normalise label) hs = false
+asks_too_fine (Revert number) hs = false
+
+-- the edit takes a change back; the others read no change
+abbrev pub reverts : Edit → Bool
+reverts (Revert number) = true
+reverts edit = false
+
+-- the edit takes back a change that isn't there
+abbrev pub lacks_change : List (List Entry) → Edit → Bool
+lacks_change changes (Revert number) = elim (numbered number changes) [ Some es ↦ false | None ↦ true ]
+lacks_change changes edit = false
+
+-- the edit takes a change back that leaves a count below 0
+abbrev pub goes_below_zero : List (List Entry) → Edit → Collection → Bool
+goes_below_zero changes (Revert number) hs = elim (numbered number changes) [ Some es ↦ list_any (is_below_zero hs) es | None ↦ false ]
+goes_below_zero changes edit hs = false
 
 -- whether a count is above a limit
 abbrev pub has_count_above : ℕ → Collection → Bool
 has_count_above limit hs = list_any (λ h. nat_lt limit h.count) hs
 
--- where each refusal stands
-abbrev pub stands : State → Edit → EditError → Bool
-stands s edit JournalFull = nat_le (changes_limit s.bag.limits) (length s.done)
-stands s edit NoSuchLabel = lacks_label edit s.bag.held
-stands s edit NotHeld = takes_too_many edit s.bag.held
-stands s edit TooFine = asks_too_fine edit s.bag.held
-stands s edit NoChange = length (change_of s edit) == 0
-stands s edit TooManyCopies = has_count_above (count_limit s.bag.limits) (edited (history_of s) edit)
-stands s edit TooManyPairs = nat_lt (pairs_limit s.bag.limits) (length (edited (history_of s) edit))
-stands s edit OutOfMemory = false
+-- where each refusal stands, for an edit of a bag that these changes led to, and that makes this collection
+abbrev pub stands : LimitedCollection → List (List Entry) → Edit → Collection → EditError → Bool
+stands bag changes edit new JournalFull = nat_le (changes_limit bag.limits) (length changes)
+stands bag changes edit new NoSuchLabel = lacks_label edit bag.held
+stands bag changes edit new NotHeld = takes_too_many edit bag.held
+stands bag changes edit new TooFine = asks_too_fine edit bag.held
+stands bag changes edit new NoSuchChange = lacks_change changes edit
+stands bag changes edit new BelowZero = goes_below_zero changes edit bag.held
+stands bag changes edit new NoChange = length (change_between bag.held new) == 0
+stands bag changes edit new TooManyCopies = has_count_above (count_limit bag.limits) new
+stands bag changes edit new TooManyPairs = nat_lt (pairs_limit bag.limits) (length new)
+stands bag changes edit new OutOfMemory = false
 
--- the refusals, memory aside, in the order in which they decide
-abbrev pub refusals : List EditError
-refusals = JournalFull ∷ NoSuchLabel ∷ NotHeld ∷ TooFine ∷ NoChange ∷ TooManyCopies ∷ TooManyPairs ∷ []
+-- the refusals that stand where the journal has room, memory aside, in the order in which they decide
+abbrev pub refusals_with_room : List EditError
+refusals_with_room = NoSuchLabel ∷ NotHeld ∷ TooFine ∷ NoSuchChange ∷ BelowZero ∷ NoChange ∷ TooManyCopies ∷ TooManyPairs ∷ []
 
--- the refusal of an edit: the first that stands; `None` where the edit is accepted, memory aside
+-- the refusal of an edit: a full journal, else the first that stands; `None` where the edit is accepted, memory aside
 abbrev pub edit_refusal : State → Edit → Option EditError
-edit_refusal s edit = find (stands s edit) refusals
+edit_refusal s edit = find (stands s.bag s.done edit (edited (history_of s) edit)) (JournalFull ∷ refusals_with_room)
+
+-- why an edit of a bag that these changes led to is refused where the journal has room, memory aside
+abbrev pub plan_refusal : LimitedCollection → List (List Entry) → Edit → Option EditError
+plan_refusal bag changes edit = find (stands bag changes edit (edited_by changes edit bag.held)) refusals_with_room
 
 -- want of memory may come where the edit is accepted, and in place of what is found while the change is made
 abbrev pub MayWantMemory : Option EditError → Type 0
@@ -80,6 +109,8 @@ MayWantMemory (Some JournalFull) = ⊥
 MayWantMemory (Some NoSuchLabel) = ⊥
 MayWantMemory (Some NotHeld) = ⊥
 MayWantMemory (Some TooFine) = ⊥
+MayWantMemory (Some NoSuchChange) = ⊥
+MayWantMemory (Some BelowZero) = ⊥
 MayWantMemory (Some NoChange) = Unit {0}
 MayWantMemory (Some TooManyCopies) = Unit {0}
 MayWantMemory (Some TooManyPairs) = Unit {0}
@@ -91,6 +122,8 @@ IsEditRefusal JournalFull refusal = refusal ≡ Some JournalFull
 IsEditRefusal NoSuchLabel refusal = refusal ≡ Some NoSuchLabel
 IsEditRefusal NotHeld refusal = refusal ≡ Some NotHeld
 IsEditRefusal TooFine refusal = refusal ≡ Some TooFine
+IsEditRefusal NoSuchChange refusal = refusal ≡ Some NoSuchChange
+IsEditRefusal BelowZero refusal = refusal ≡ Some BelowZero
 IsEditRefusal NoChange refusal = refusal ≡ Some NoChange
 IsEditRefusal TooManyCopies refusal = refusal ≡ Some TooManyCopies
 IsEditRefusal TooManyPairs refusal = refusal ≡ Some TooManyPairs
@@ -98,8 +131,18 @@ IsEditRefusal OutOfMemory refusal = MayWantMemory refusal
 
 -- what an edit is refused for where it has no plan
 abbrev pub edit_error : PlanError → EditError
-edit_error LacksLabel = NoSuchLabel
-edit_error LacksCopies = NotHeld
-edit_error AsksTooFine = TooFine
-edit_error PassesLimits = TooManyCopies
-edit_error WantsMemory = OutOfMemory
+edit_error plan.NoSuchLabel = NoSuchLabel
+edit_error plan.NotHeld = NotHeld
+edit_error plan.TooFine = TooFine
+edit_error plan.NoSuchChange = NoSuchChange
+edit_error plan.BelowZero = BelowZero
+edit_error plan.TooManyCopies = TooManyCopies
+edit_error plan.TooManyPairs = TooManyPairs
+edit_error plan.OutOfMemory = OutOfMemory
+
+-- why an edit has no plan where a bag refuses to take the change back
+abbrev pub revert_error : RevertError → PlanError
+revert_error (revert.BelowZero place) = plan.BelowZero
+revert_error revert.TooManyCopies = plan.TooManyCopies
+revert_error revert.TooManyPairs = plan.TooManyPairs
+revert_error revert.OutOfMemory = plan.OutOfMemory

@@ -1,4 +1,5 @@
 use s2id_core::OutOfMemory;
+use s2ix_bag::RevertError;
 use std::alloc::{AllocError, AllocFailed};
 use thiserror::Error;
 
@@ -18,6 +19,12 @@ pub enum EditError {
     /// The level is above 30, or more than 8 above the level of a cell of the label.
     #[error("the level is too fine")]
     TooFine,
+    /// No change with the number stands.
+    #[error("no change with the number stands")]
+    NoSuchChange,
+    /// A count would be below 0.
+    #[error("a count would be below 0")]
+    BelowZero,
     /// The collection would stay as it is.
     #[error("nothing would change")]
     NoChange,
@@ -65,13 +72,16 @@ impl From<PlanError> for EditError {
             PlanError::NoSuchLabel => EditError::NoSuchLabel,
             PlanError::NotHeld => EditError::NotHeld,
             PlanError::TooFine => EditError::TooFine,
+            PlanError::NoSuchChange => EditError::NoSuchChange,
+            PlanError::BelowZero => EditError::BelowZero,
             PlanError::TooManyCopies => EditError::TooManyCopies,
+            PlanError::TooManyPairs => EditError::TooManyPairs,
             PlanError::OutOfMemory => EditError::OutOfMemory,
         }
     }
 }
 
-/// Why an edit has no plan: the cases of [`EditError`] that are found before any limit is looked at. This project's own.
+/// Why an edit has no plan: the cases of [`EditError`] that are found while it is planned. This project's own.
 #[derive(Clone, Copy, Debug, PartialEq, Eq, Error)]
 pub enum PlanError {
     /// No pair of the label is held.
@@ -83,12 +93,37 @@ pub enum PlanError {
     /// The level is above 30, or more than 8 above the level of a cell of the label.
     #[error("the level is too fine")]
     TooFine,
-    /// A count would pass every limit.
-    #[error("a count would pass every limit")]
+    /// No change with the number stands.
+    #[error("no change with the number stands")]
+    NoSuchChange,
+    /// A count would be below 0.
+    #[error("a count would be below 0")]
+    BelowZero,
+    /// A count would pass the limit.
+    #[error("a count would pass the limit")]
     TooManyCopies,
+    /// The number of distinct pairs would pass the limit.
+    #[error("the number of pairs would pass the limit")]
+    TooManyPairs,
     /// A growth was refused.
     #[error("out of memory")]
     OutOfMemory,
+}
+
+impl From<RevertError> for PlanError {
+    ghost use Rattle.std.specs.Prelude.{◌≡◌};
+    ghost use Rattle.s2ix_edit.specs.Refusals.{revert_error};
+
+    ghost from_gives = { λ reason error. error ≡ revert_error reason };
+
+    fn from(reason: RevertError) -> Self {
+        match reason {
+            RevertError::BelowZero(_) => PlanError::BelowZero,
+            RevertError::TooManyCopies => PlanError::TooManyCopies,
+            RevertError::TooManyPairs => PlanError::TooManyPairs,
+            RevertError::OutOfMemory => PlanError::OutOfMemory,
+        }
+    }
 }
 
 impl From<AllocError> for PlanError {

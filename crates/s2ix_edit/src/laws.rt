@@ -1,25 +1,44 @@
 //! Laws: functions that do nothing, and whose contracts are facts on the definitions.
 
-ghost use Rattle.std.specs.Prelude.{◌≡◌, ◌≢◌, ℕ, ◌+◌, ◌-◌, true, [], List, Contains};
+ghost use Rattle.std.specs.Prelude.{◌≡◌, ◌≢◌, ℕ, ◌+◌, ◌-◌, pos, ◌-ℤ◌, true, false, Some, [], List, Contains};
 ghost use Rattle.s2id_core.specs.declared.cell_id.CellId.{CellId};
 ghost use Rattle.s2id_union.specs.Region.{HaveSameRegion, IsNormal};
 ghost use Rattle.s2ix_pairs.specs.declared.label.Label.{Label};
+ghost use Rattle.s2ix_pairs.specs.declared.pair.Entry.{Entry};
 ghost use Rattle.s2ix_pairs.specs.declared.pair.Pair.{Pair};
+ghost use Rattle.s2ix_pairs.specs.Change.{IsChangeList, counts_at};
 ghost use Rattle.s2ix_pairs.specs.Collection.{Collection, IsCollection, count_in};
+ghost use Rattle.s2ix_pairs.specs.Pair.{rank_of};
+ghost use Rattle.s2ix_pairs.specs.TakenBack.{gain_of};
 ghost use Rattle.s2ix_edit.specs.declared.edit.Edit.{Edit};
-ghost use Rattle.s2ix_edit.specs.declared.edit.Edit.TheVariants.{Add, AddUnion, Remove, DropLabel, Relabel, Grow, Normalise};
-ghost use Rattle.s2ix_edit.specs.Edit.{edited, edited_alone, pair_of};
+ghost use Rattle.s2ix_edit.specs.declared.edit.Edit.TheVariants.{Add, AddUnion, Remove, DropLabel, Relabel, Grow, Normalise, Revert};
+ghost use Rattle.s2ix_edit.specs.Edit.{edited, edited_alone, edited_by, numbered, pair_of};
 ghost use Rattle.s2ix_edit.specs.Grow.{IsGrown};
 ghost use Rattle.s2ix_edit.specs.History.{History, at_cursor};
-ghost use Rattle.s2ix_edit.specs.Refusals.{holds_none};
+ghost use Rattle.s2ix_edit.specs.Refusals.{goes_below_zero, holds_none, reverts};
 ghost use Rattle.s2ix_edit.specs.Region.{cells_of, region_of};
 ghost use Rattle.s2ix_edit.specs.State.{State, history_of};
 
-/// What an edit makes of the collection at the cursor of a history is what it makes of that collection alone; of a
-/// store's history, what it makes of the collection that its bag holds.
+/// What an edit that takes no change back makes of the collection at the cursor of a history is what it makes of that
+/// collection alone; of a store's history, what it makes of the collection that its bag holds.
 pub fn edits_read_the_collection()
-    ensures cursor { (h : History) (edit : Edit) → edited h edit ≡ edited_alone edit (at_cursor h) }
-    ensures bag { (s : State) (edit : Edit) → edited (history_of s) edit ≡ edited_alone edit s.bag.held }
+    ensures cursor { (h : History) (edit : Edit)
+        → reverts edit ≡ false
+        → edited h edit ≡ edited_alone edit (at_cursor h) }
+    ensures bag { (s : State) (edit : Edit)
+        → reverts edit ≡ false
+        → edited (history_of s) edit ≡ edited_alone edit s.bag.held }
+{}
+
+/// `Revert` subtracts the difference, the count after less the count before, that the change with the number has for each
+/// pair, and leaves every other count. The changes of a history are counted from 1, the oldest first, up to the cursor.
+pub fn revert_subtracts_a_change()
+    ensures { (hs : Collection) (changes : List (List Entry)) (number : ℕ) (es : List Entry) (pair : Pair)
+        → IsCollection hs
+        → IsChangeList es
+        → numbered number changes ≡ Some es
+        → goes_below_zero changes (Revert number) hs ≡ false
+        → pos (count_in (edited_by changes (Revert number) hs) pair) ≡ pos (count_in hs pair) -ℤ gain_of (counts_at es (rank_of pair)) }
 {}
 
 /// `Add` adds the copies to the pair's count, and leaves every other count.

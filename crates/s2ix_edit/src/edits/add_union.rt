@@ -16,8 +16,8 @@ pub(crate) fn plan(
     union: &CellUnion,
     label: Label,
 ) -> Result<Change, PlanError>
-    ensures plan { IfOk result (Plans bag.now (Edit.AddUnion union.now label)) }
-    ensures refused { IfErr result (IsPlanRefusal bag.now (Edit.AddUnion union.now label)) }
+    ensures plan { IfOk result (Plans bag.now [] (Edit.AddUnion union.now label)) }
+    ensures refused { IfErr result (IsPlanRefusal bag.now [] (Edit.AddUnion union.now label)) }
 {
     let mut entries = Vec::new(alloc);
     for cell in union.cells() {

@@ -11,8 +11,8 @@ use std::alloc::{AllocError, Global};
 
 // The change that takes all pairs of a label away. O(n) for n pairs held.
 pub(crate) fn plan(alloc: Global, bag: &Bag, label: Label) -> Result<Change, PlanError>
-    ensures plan { IfOk result (Plans bag.now (Edit.DropLabel label)) }
-    ensures refused { IfErr result (IsPlanRefusal bag.now (Edit.DropLabel label)) }
+    ensures plan { IfOk result (Plans bag.now [] (Edit.DropLabel label)) }
+    ensures refused { IfErr result (IsPlanRefusal bag.now [] (Edit.DropLabel label)) }
 {
     if lacks_label(bag, label) {
         return Err(PlanError::NoSuchLabel);

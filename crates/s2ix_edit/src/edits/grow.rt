@@ -19,8 +19,8 @@ use std::alloc::{AllocError, Global};
 // O(n + b log b) for n pairs held and b cells beside those of the label: four for each cell of the level or finer,
 // and up to 1024 for a coarser one.
 pub(crate) fn plan(alloc: Global, bag: &Bag, label: Label, level: u8) -> Result<Change, PlanError>
-    ensures plan { IfOk result (Plans bag.now (Edit.Grow label level)) }
-    ensures refused { IfErr result (IsPlanRefusal bag.now (Edit.Grow label level)) }
+    ensures plan { IfOk result (Plans bag.now [] (Edit.Grow label level)) }
+    ensures refused { IfErr result (IsPlanRefusal bag.now [] (Edit.Grow label level)) }
 {
     if lacks_label(bag, label) {
         return Err(PlanError::NoSuchLabel);

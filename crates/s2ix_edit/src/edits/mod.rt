@@ -9,6 +9,7 @@ mod normalise;
 mod parts;
 mod relabel;
 mod remove;
+mod revert;
 
 ghost use Rattle.std.specs.Prelude.{IfOk, IfErr};
 ghost use Rattle.s2ix_edit.specs.Plan.{IsPlanRefusal, Plans};
@@ -19,18 +20,25 @@ use s2ix_bag::{Bag, Change};
 use std::alloc::Global;
 
 /// The change that carries an edit out on a bag: an entry for each pair whose count the edit changes, and none where nothing
-/// would change. The bag stays as it is; [`Bag::applied`] makes the next one of the change.
+/// would change. The bag stays as it is; [`Bag::applied`] makes the next one of the change. `changes` are those that led to
+/// the bag, the oldest first, of which `Revert` takes one back; no other edit reads them.
 ///
-/// A plan looks at no limit: whether the counts and the pairs fit the bag is found when the change is applied. Of the errors of
-/// [`PlanError`] the first that stands is answered; `TooManyCopies` is a sum that no `u32` holds, which is above every limit,
-/// and `OutOfMemory` may come in its place.
+/// Whether the counts and the pairs fit the bag is found when the change is applied, but for `Revert`, and for a sum that no
+/// `u32` holds, which is above every limit: these answer `TooManyCopies` and `TooManyPairs` here. Of the errors of
+/// [`PlanError`] the first that stands is answered, and `OutOfMemory` may come in place of these two.
 ///
 /// For n pairs held, `Add` and `Remove` take O(log n), `AddUnion` O(m log n) for m cells, `DropLabel` O(n), `Relabel`
 /// O(n + m log n) and `Normalise` O(n + m log m) for m pairs of the label, and `Grow` O(n + b log b) for b cells beside those of
-/// the label. This project's own.
-pub fn plan(alloc: Global, bag: &Bag, edit: &Edit) -> Result<Change, PlanError>
-    ensures plan { IfOk result (Plans bag.now edit.now) }
-    ensures refused { IfErr result (IsPlanRefusal bag.now edit.now) }
+/// the label. `Revert` takes O(m log n) for the m entries of the change that it takes back, however many stand. This project's
+/// own.
+pub fn plan(
+    alloc: Global,
+    bag: &Bag,
+    changes: &[Change],
+    edit: &Edit,
+) -> Result<Change, PlanError>
+    ensures plan { IfOk result (Plans bag.now changes.now edit.now) }
+    ensures refused { IfErr result (IsPlanRefusal bag.now changes.now edit.now) }
 {
     match edit {
         Edit::Add { pair, copies } => add::plan(alloc, bag, *pair, *copies),
@@ -40,5 +48,6 @@ pub fn plan(alloc: Global, bag: &Bag, edit: &Edit) -> Result<Change, PlanError>
         Edit::Relabel { source, target } => relabel::plan(alloc, bag, *source, *target),
         Edit::Grow { label, level } => grow::plan(alloc, bag, *label, *level),
         Edit::Normalise { label } => normalise::plan(alloc, bag, *label),
+        Edit::Revert { number } => revert::plan(alloc, bag, changes, *number),
     }
 }

@@ -13,8 +13,8 @@ use std::alloc::{AllocError, Global};
 // The change that replaces a label's pairs by one copy at each cell of its region. O(n + m log m) for n pairs held, m of
 // them with the label.
 pub(crate) fn plan(alloc: Global, bag: &Bag, label: Label) -> Result<Change, PlanError>
-    ensures plan { IfOk result (Plans bag.now (Edit.Normalise label)) }
-    ensures refused { IfErr result (IsPlanRefusal bag.now (Edit.Normalise label)) }
+    ensures plan { IfOk result (Plans bag.now [] (Edit.Normalise label)) }
+    ensures refused { IfErr result (IsPlanRefusal bag.now [] (Edit.Normalise label)) }
 {
     if lacks_label(bag, label) {
         return Err(PlanError::NoSuchLabel);

@@ -17,8 +17,8 @@ pub(crate) fn plan(
     source: Label,
     target: Label,
 ) -> Result<Change, PlanError>
-    ensures plan { IfOk result (Plans bag.now (Edit.Relabel source target)) }
-    ensures refused { IfErr result (IsPlanRefusal bag.now (Edit.Relabel source target)) }
+    ensures plan { IfOk result (Plans bag.now [] (Edit.Relabel source target)) }
+    ensures refused { IfErr result (IsPlanRefusal bag.now [] (Edit.Relabel source target)) }
 {
     if lacks_label(bag, source) {
         return Err(PlanError::NoSuchLabel);
@@ -34,8 +34,8 @@ pub(crate) fn plan(
 fn plan_moves(alloc: Global, bag: &Bag, source: Label, target: Label) -> Result<Change, PlanError>
     requires held { holds_none source bag.now.held ≡ false }
     requires apart { value_of source ≢ value_of target }
-    ensures plan { IfOk result (Plans bag.now (Edit.Relabel source target)) }
-    ensures refused { IfErr result (IsPlanRefusal bag.now (Edit.Relabel source target)) }
+    ensures plan { IfOk result (Plans bag.now [] (Edit.Relabel source target)) }
+    ensures refused { IfErr result (IsPlanRefusal bag.now [] (Edit.Relabel source target)) }
 {
     let mut entries = Vec::new(alloc);
     for held in bag.of_label(source) {

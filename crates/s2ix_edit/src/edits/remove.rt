@@ -9,8 +9,8 @@ use std::alloc::Global;
 
 // The change that takes copies from a pair's count. O(log n) for n pairs held.
 pub(crate) fn plan(alloc: Global, bag: &Bag, pair: Pair, copies: u32) -> Result<Change, PlanError>
-    ensures plan { IfOk result (Plans bag.now (Edit.Remove pair copies)) }
-    ensures refused { IfErr result (IsPlanRefusal bag.now (Edit.Remove pair copies)) }
+    ensures plan { IfOk result (Plans bag.now [] (Edit.Remove pair copies)) }
+    ensures refused { IfErr result (IsPlanRefusal bag.now [] (Edit.Remove pair copies)) }
 {
     let before = bag.count(pair);
     let Some(after) = before.checked_sub(copies) else {

@@ -1,44 +1,51 @@
-use Rattle.std.proofs.Common.{rules}
+use Rattle.std.proofs.Common.{rules, refl}
+use Rattle.s2ix_edit.proofs.Plans.{planned_after_any, refused_after_any}
 use Rattle.s2ix_edit.proofs.edits.plan.Goals as goal
 
 pub returns-in-Add-clause-plan : goal.returns-in-Add-clause-plan
-returns-in-Add-clause-plan c = search rules
+returns-in-Add-clause-plan c = planned_after_any _ _ _ _ refl c.plan.ensures.plan
 
 pub returns-in-Add-clause-refused : goal.returns-in-Add-clause-refused
-returns-in-Add-clause-refused c = search rules
+returns-in-Add-clause-refused c = refused_after_any _ _ _ _ refl c.plan.ensures.refused
 
 pub returns-in-AddUnion-clause-plan : goal.returns-in-AddUnion-clause-plan
-returns-in-AddUnion-clause-plan c = search rules
+returns-in-AddUnion-clause-plan c = planned_after_any _ _ _ _ refl c.plan.ensures.plan
 
 pub returns-in-AddUnion-clause-refused : goal.returns-in-AddUnion-clause-refused
-returns-in-AddUnion-clause-refused c = search rules
+returns-in-AddUnion-clause-refused c = refused_after_any _ _ _ _ refl c.plan.ensures.refused
 
 pub returns-in-Remove-clause-plan : goal.returns-in-Remove-clause-plan
-returns-in-Remove-clause-plan c = search rules
+returns-in-Remove-clause-plan c = planned_after_any _ _ _ _ refl c.plan.ensures.plan
 
 pub returns-in-Remove-clause-refused : goal.returns-in-Remove-clause-refused
-returns-in-Remove-clause-refused c = search rules
+returns-in-Remove-clause-refused c = refused_after_any _ _ _ _ refl c.plan.ensures.refused
 
 pub returns-in-DropLabel-clause-plan : goal.returns-in-DropLabel-clause-plan
-returns-in-DropLabel-clause-plan c = search rules
+returns-in-DropLabel-clause-plan c = planned_after_any _ _ _ _ refl c.plan.ensures.plan
 
 pub returns-in-DropLabel-clause-refused : goal.returns-in-DropLabel-clause-refused
-returns-in-DropLabel-clause-refused c = search rules
+returns-in-DropLabel-clause-refused c = refused_after_any _ _ _ _ refl c.plan.ensures.refused
 
 pub returns-in-Relabel-clause-plan : goal.returns-in-Relabel-clause-plan
-returns-in-Relabel-clause-plan c = search rules
+returns-in-Relabel-clause-plan c = planned_after_any _ _ _ _ refl c.plan.ensures.plan
 
 pub returns-in-Relabel-clause-refused : goal.returns-in-Relabel-clause-refused
-returns-in-Relabel-clause-refused c = search rules
+returns-in-Relabel-clause-refused c = refused_after_any _ _ _ _ refl c.plan.ensures.refused
 
 pub returns-in-Grow-clause-plan : goal.returns-in-Grow-clause-plan
-returns-in-Grow-clause-plan c = search rules
+returns-in-Grow-clause-plan c = planned_after_any _ _ _ _ refl c.plan.ensures.plan
 
 pub returns-in-Grow-clause-refused : goal.returns-in-Grow-clause-refused
-returns-in-Grow-clause-refused c = search rules
+returns-in-Grow-clause-refused c = refused_after_any _ _ _ _ refl c.plan.ensures.refused
 
 pub returns-in-Normalise-clause-plan : goal.returns-in-Normalise-clause-plan
-returns-in-Normalise-clause-plan c = search rules
+returns-in-Normalise-clause-plan c = planned_after_any _ _ _ _ refl c.plan.ensures.plan
 
 pub returns-in-Normalise-clause-refused : goal.returns-in-Normalise-clause-refused
-returns-in-Normalise-clause-refused c = search rules
+returns-in-Normalise-clause-refused c = refused_after_any _ _ _ _ refl c.plan.ensures.refused
+
+pub returns-in-Revert-clause-plan : goal.returns-in-Revert-clause-plan
+returns-in-Revert-clause-plan c = search rules
+
+pub returns-in-Revert-clause-refused : goal.returns-in-Revert-clause-refused
+returns-in-Revert-clause-refused c = search rules

@@ -1,8 +1,13 @@
-use Rattle.s2ix_edit.proofs.Edited.{edited_at_cursor, edited_held}
+use Rattle.std.proofs.Common.{◌∙◌, ap, sym}
+use Rattle.s2ix_edit.specs.Edit.{edited_alone}
+use Rattle.s2ix_edit.specs.History.{at_cursor, standing}
+use Rattle.s2ix_edit.specs.State.{history_of}
+use Rattle.s2ix_edit.proofs.Edited.{held_at_cursor}
+use Rattle.s2ix_edit.proofs.Plans.{reads_none}
 use Rattle.s2ix_edit.proofs.laws.edits_read_the_collection.Goals as goal
 
 pub returns : goal.returns
 returns c = record {
-  cursor = edited_at_cursor;
-  bag = edited_held;
+  cursor = λ h edit reads. sym (reads_none edit (standing h) (at_cursor h) reads);
+  bag = λ s edit reads. sym (reads_none edit (standing (history_of s)) (at_cursor (history_of s)) reads) ∙ ap (λ hs. edited_alone edit hs) (held_at_cursor s);
 }

@@ -14,7 +14,7 @@ from_vec-requires c =
 
 pub returns-clause-plan : goal.returns-clause-plan
 returns-clause-plan c =
-    let Planned : List Entry → Type 0 = λ es. Plans c.args.bag.now (DropLabel c.args.label) es in
+    let Planned : List Entry → Type 0 = λ es. Plans c.args.bag.now [] (DropLabel c.args.label) es in
     subst Planned (sym (c.from_vec.ensures ∙ c.in_ok-removals.ensures))
-    (plans_from_makes c.args.bag.now (DropLabel c.args.label) _ (sym c.lacks_label.ensures.lacks ∙ c.if-lacks_label.false) refl refl
+    (plans_from_makes c.args.bag.now [] (DropLabel c.args.label) _ (sym c.lacks_label.ensures.lacks ∙ c.if-lacks_label.false) refl refl refl refl
     (removals_make c.args.bag.now c.args.label c.lacks_label.ensures.within.rises))

@@ -27,7 +27,7 @@ pub returns-clause-plan : goal.returns-clause-plan
 returns-clause-plan c =
     let hs = c.args.bag.now.held in
     let label = c.args.label in
-    let Planned : List Entry → Type 0 = λ es. Plans c.args.bag.now (Normalise label) es in
+    let Planned : List Entry → Type 0 = λ es. Plans c.args.bag.now [] (Normalise label) es in
     let Rise : List CellId → Type 0 = λ cs. AllPairs (λ a b. raw_of a < raw_of b) cs in
     let cells = c.cells.ensures.list ∙ c.in_ok-region.ensures.form in
     let rises : Rise (region_of label hs) = subst Rise c.in_ok-region.ensures.form c.in_ok-region.ensures.normal.rises in
@@ -35,5 +35,5 @@ returns-clause-plan c =
     ∙ ap₂ (λ (old new : Collection). change_between old new) (c.as_slice.ensures.value ∙ c.in_ok-old.ensures)
     (c.as_slice-2.ensures.value ∙ c.in_ok-new.ensures ∙ ap (λ cs. ones label cs) cells) in
     subst Planned (sym change)
-    (plans_from_makes c.args.bag.now (Normalise label) _ (sym c.lacks_label.ensures.lacks ∙ c.if-lacks_label.false) refl refl
+    (plans_from_makes c.args.bag.now [] (Normalise label) _ (sym c.lacks_label.ensures.lacks ∙ c.if-lacks_label.false) refl refl refl refl
     (replacement_makes c.args.bag.now label (region_of label hs) c.lacks_label.ensures.within.rises rises))

@@ -1,4 +1,4 @@
-use Rattle.std.proofs.Common.{List, refl, sym, ◌∙◌, subst}
+use Rattle.std.proofs.Common.{List, [], refl, sym, ◌∙◌, subst}
 use Rattle.s2ix_pairs.specs.declared.pair.Entry.{Entry}
 use Rattle.s2ix_edit.specs.declared.edit.Edit.TheVariants.{Relabel}
 use Rattle.s2ix_edit.specs.Plan.{Plans}
@@ -7,13 +7,15 @@ use Rattle.s2ix_edit.proofs.edits.relabel.plan.Goals as goal
 
 pub returns-then-get-clause-plan : goal.returns-then-get-clause-plan
 returns-then-get-clause-plan c =
-    let Planned : List Entry → Type 0 = λ es. Plans c.args.bag.now (Relabel c.args.source c.args.target) es in
+    let Planned : List Entry → Type 0 = λ es. Plans c.args.bag.now [] (Relabel c.args.source c.args.target) es in
     let one = sym c.get.ensures ∙ c.if-get.true ∙ c.get-2.ensures in
     subst Planned (sym (c.from_vec.ensures ∙ c.new.ensures.items))
     (record {
       known = sym c.lacks_label.ensures.lacks ∙ c.if-lacks_label.false;
       allowed = refl;
       fits = refl;
+      stood = refl;
+      above = refl;
       rises = tt;
       matches = refl;
       result = sym (moved_to_itself c.args.source c.args.target c.args.bag.now.held c.lacks_label.ensures.within.rises one);

@@ -1,0 +1,32 @@
+ghost use Rattle.std.specs.Prelude.{◌≡◌, Some, None, IfOk, IfErr, MatchOption};
+ghost use Rattle.s2ix_edit.specs.Edit.{numbered as change_of_number};
+ghost use Rattle.s2ix_edit.specs.Plan.{IsPlanRefusal, Plans};
+
+use crate::edit::Edit;
+use crate::errors::PlanError;
+use s2ix_bag::{Bag, Change};
+use std::alloc::Global;
+
+// The change that takes back the one with the number. It is found at once, however many stand. O(m log n) for its m
+// entries and n pairs held.
+pub(crate) fn plan(
+    alloc: Global,
+    bag: &Bag,
+    changes: &[Change],
+    number: u32,
+) -> Result<Change, PlanError>
+    ensures plan { IfOk result (Plans bag.now changes.now (Edit.Revert number)) }
+    ensures refused { IfErr result (IsPlanRefusal bag.now changes.now (Edit.Revert number)) }
+{
+    let Some(change) = numbered(changes, number) else {
+        return Err(PlanError::NoSuchChange);
+    };
+    Ok(bag.reverting(alloc, change)?)
+}
+
+// The change with the number, counted from 1.
+fn numbered(changes: &[Change], number: u32) -> Option<&Change>
+    ensures { MatchOption result (λ change. change_of_number number changes.now ≡ Some change.now) (change_of_number number changes.now ≡ None) }
+{
+    changes.get((number as usize).checked_sub(1)?)
+}
