@@ -2,7 +2,7 @@ ghost use Rattle.std.specs.Prelude.{◌≡◌, ◌==◌, ℕ, ◌<◌, ◌≤◌
 ghost use Rattle.s2ix_faces.specs.Faces.{IsFaceAt};
 ghost use Rattle.s2ix_lists.specs.Apply.{apply_refusal, IsApplyRefusal};
 ghost use Rattle.s2ix_lists.specs.Revert.{revert_refusal, IsRevertRefusal};
-ghost use Rattle.s2ix_pairs.specs.Change.{changed};
+ghost use Rattle.s2ix_pairs.specs.Change.{changed, IsChangeList};
 ghost use Rattle.s2ix_pairs.specs.Collection.{LimitedCollection, IsBag, copies_in, count_in};
 ghost use Rattle.s2ix_pairs.specs.OfLabel.{held_of};
 ghost use Rattle.s2ix_pairs.specs.TakenBack.{change_back, taken_back};
@@ -183,9 +183,11 @@ impl Bag {
         ensures entries { IfOk result (λ back. back ≡ change_back self.now.held change.now) }
         ensures accepted { OnOk result (revert_refusal self.now change.now ≡ None) }
         ensures refused { IfErr result (λ error. IsRevertRefusal error (revert_refusal self.now change.now)) }
+        ensures within { IsBag self.now }
+        ensures rises { IsChangeList change.now }
     {
         let entries = change.entries();
-        if let Some(error) = refusal(self, entries) {
+        if let Some(error) = refusal(self, self.limits, entries) {
             return Err(error);
         }
         Ok(Change::from_vec(entries_back(alloc, self, entries)?))

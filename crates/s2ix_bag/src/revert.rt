@@ -9,7 +9,7 @@ ghost use Rattle.s2ix_pairs.specs.TakenBack.{count_back, first_below_zero, chang
 
 use crate::bag::Bag;
 use s2ix_lists::RevertError;
-use s2ix_pairs::Entry;
+use s2ix_pairs::{Entry, Limits};
 use std::alloc::{AllocError, Global};
 
 // A count with the copies that an entry's pair had before: what the copies after are taken from.
@@ -71,9 +71,10 @@ fn length_back(bag: &Bag, entries: &[Entry]) -> usize
     bag.len() + gains(bag, entries) - losses(bag, entries)
 }
 
-// Why a change is not taken back, memory aside: each test goes over all entries, in the order of the errors. O(m log n).
-pub(crate) fn refusal(bag: &Bag, entries: &[Entry]) -> Option<RevertError>
-    requires { IsChangeList entries.now }
+// Why a change is not taken back by a bag with these limits, memory aside: each test goes over all entries, in the order of the errors. O(m log n).
+pub(crate) fn refusal(bag: &Bag, limits: Limits, entries: &[Entry]) -> Option<RevertError>
+    requires own { limits ≡ bag.now.limits }
+    requires rises { IsChangeList entries.now }
     ensures { result ≡ revert_refusal bag.now entries.now }
 {
     if let Some(place) = below_zero(bag, entries) {
@@ -82,7 +83,7 @@ pub(crate) fn refusal(bag: &Bag, entries: &[Entry]) -> Option<RevertError>
     if has_count_above(bag, entries) {
         return Some(RevertError::TooManyCopies);
     }
-    if length_back(bag, entries) > bag.limits().pairs() as usize {
+    if length_back(bag, entries) > limits.pairs() as usize {
         return Some(RevertError::TooManyPairs);
     }
     None

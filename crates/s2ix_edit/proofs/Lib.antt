@@ -9,3 +9,4 @@ mod Normalise
 pub mod Plans
 pub mod Refused
 mod Relabel
+mod Revert

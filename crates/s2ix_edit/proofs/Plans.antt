@@ -173,18 +173,20 @@ plans_from_makes bag changes edit es known allowed fits stood above makes = reco
 -- ---- edits that read no change
 
 -- after any changes they are planned, and refused, as after none
-pub planned_after_any : (bag : LimitedCollection) (changes : List (List Entry)) (edit : Edit) (planned : Result (List Entry) PlanError) → reverts edit ≡ false → IfOk planned (Plans bag [] edit) → IfOk planned (Plans bag changes edit)
-planned_after_any bag changes edit planned reads plans =
+pub planned_after_any : (bag : LimitedCollection) (changes : List (List Entry)) (edit same : Edit) (planned : Result (List Entry) PlanError) → edit ≡ same → reverts same ≡ false → IfOk planned (Plans bag [] same) → IfOk planned (Plans bag changes edit)
+planned_after_any bag changes edit same planned is reads plans =
     IfOk-weaker planned _ _
     (λ es plan.
-    plans_from_makes bag changes edit es plan.known plan.allowed plan.fits (lacks_none edit changes reads) (stays_above edit changes bag.held reads)
-    (record { rises = plan.rises; matches = plan.matches; result = plan.result ∙ reads_none edit changes bag.held reads }))
+    let Planned : Edit → Type 0 = λ e. Plans bag changes e es in
+    subst Planned (sym is)
+    (plans_from_makes bag changes same es plan.known plan.allowed plan.fits (lacks_none same changes reads) (stays_above same changes bag.held reads)
+    (record { rises = plan.rises; matches = plan.matches; result = plan.result ∙ reads_none same changes bag.held reads })))
     plans
 
-pub refused_after_any : (bag : LimitedCollection) (changes : List (List Entry)) (edit : Edit) (planned : Result (List Entry) PlanError) → reverts edit ≡ false → IfErr planned (IsPlanRefusal bag [] edit) → IfErr planned (IsPlanRefusal bag changes edit)
-refused_after_any bag changes edit planned reads refused =
+pub refused_after_any : (bag : LimitedCollection) (changes : List (List Entry)) (edit same : Edit) (planned : Result (List Entry) PlanError) → edit ≡ same → reverts same ≡ false → IfErr planned (IsPlanRefusal bag [] same) → IfErr planned (IsPlanRefusal bag changes edit)
+refused_after_any bag changes edit same planned is reads refused =
     IfErr-weaker planned _ _
-    (λ error is.
+    (λ error why.
     let Refused : Option EditError → Type 0 = λ refusal. IsEditRefusal (edit_error error) refusal in
-    subst Refused (same_refusal bag changes edit reads) is)
+    subst Refused (same_refusal bag changes same reads ∙ ap (λ e. plan_refusal bag changes e) (sym is)) why)
     refused

@@ -1,5 +1,5 @@
 -- Which refusal of an edit stands first.
-use Rattle.std.proofs.Common.{◌≡◌, ℕ, ◌+◌, ◌<◌, ◌≤◌, ◌==◌, Bool, true, false, cond, ltb, List, [], ◌∷◌, length, find, Option, Some, None, refl, ⊎_elim, sym, ap, ◌∙◌, arith}
+use Rattle.std.proofs.Common.{◌≡◌, ℕ, ◌+◌, ◌<◌, ◌≤◌, ◌==◌, Bool, true, false, cond, ltb, ltb-true, List, [], ◌∷◌, length, find, Option, Some, None, refl, ⊎_elim, sym, ap, ◌∙◌, arith}
 use Rattle.std.proofs.lemmas.Bool.{cases_Bool, cond-false, eqb-true, lt-leb}
 use Rattle.std.specs.List.{list_any}
 use Rattle.s2ix_pairs.specs.declared.pair.Pair.{Pair}
@@ -83,14 +83,27 @@ no_entries : (es : List Entry) → (length es == 0) ≡ true → es ≡ []
 no_entries [] is = refl
 no_entries (e ∷ es) is = absurd (omega (arith, eqb-true (length (e ∷ es)) 0 is))
 
+-- a collection that the change leaves as it is
+same_where_none : (bag : LimitedCollection) (new : Collection) → IsBag bag → IsCollection new → (length (change_between bag.held new) == 0) ≡ true → bag.held ≡ new
+same_where_none bag new b is none =
+    sym (ap (λ es. changed bag.held es) (no_entries (change_between bag.held new) none)) ∙ changed_between bag.held new b.rises is
+
 -- where a count of the edited collection passes the limit, the edit changes the collection
 changes_some : (bag : LimitedCollection) (new : Collection) → IsBag bag → IsCollection new → has_count_above (count_limit bag.limits) new ≡ true → (length (change_between bag.held new) == 0) ≡ false
 changes_some bag new b is high =
     ⊎_elim
     (λ none.
-    let same : bag.held ≡ new = sym (ap (λ es. changed bag.held es) (no_entries (change_between bag.held new) none)) ∙ changed_between bag.held new b.rises is in
+    let same = same_where_none bag new b is none in
     let clash : true ≡ false = sym high ∙ ap (λ hs. has_count_above (count_limit bag.limits) hs) (sym same) ∙ none_above (count_limit bag.limits) bag.held b.small in
     cc)
+    (λ some. some)
+    (cases_Bool (length (change_between bag.held new) == 0))
+
+-- so it does where the collection has more pairs than the limit
+longer_differs : (bag : LimitedCollection) (new : Collection) → IsBag bag → IsCollection new → pairs_limit bag.limits < length new → (length (change_between bag.held new) == 0) ≡ false
+longer_differs bag new b is many =
+    ⊎_elim
+    (λ none. let few = b.few in absurd (omega (arith, many, few, ap length (same_where_none bag new b is none))))
     (λ some. some)
     (cases_Bool (length (change_between bag.held new) == 0))
 
@@ -103,6 +116,16 @@ too_high bag changes edit b known allowed fits stood above high =
     later_refusal bag changes edit known allowed fits stood above
     ∙ ap (λ t. first_of_three t (is_high bag new) many) (changes_some bag new b (edited_is_collection changes edit bag.held b.rises) high)
     ∙ ap (λ t. first_of_three false t many) high
+
+-- an edit that makes no such count, but more pairs than the limit, is refused for its pairs
+pub too_many : (bag : LimitedCollection) (changes : List (List Entry)) (edit : Edit) → IsBag bag → lacks_label edit bag.held ≡ false → takes_too_many edit bag.held ≡ false → asks_too_fine edit bag.held ≡ false → lacks_change changes edit ≡ false → goes_below_zero changes edit bag.held ≡ false → has_count_above (count_limit bag.limits) (edited_by changes edit bag.held) ≡ false → ltb (pairs_limit bag.limits) (length (edited_by changes edit bag.held)) ≡ true → plan_refusal bag changes edit ≡ Some TooManyPairs
+unfolding first_of_three is_high
+too_many bag changes edit b known allowed fits stood above low many =
+    let new = edited_by changes edit bag.held in
+    later_refusal bag changes edit known allowed fits stood above
+    ∙ ap (λ t. first_of_three t (is_high bag new) (ltb (pairs_limit bag.limits) (length new))) (longer_differs bag new b (edited_is_collection changes edit bag.held b.rises) (ltb-true _ _ many))
+    ∙ ap (λ t. first_of_three false t (ltb (pairs_limit bag.limits) (length new))) low
+    ∙ ap (λ t. first_of_three false false t) many
 
 -- a sum above every limit is refused for its copies
 pub sum_too_high : (bag : LimitedCollection) (p : Pair) (copies before : ℕ) → IsBag bag → before ≡ count_in bag.held p → 4294967296 ≤ before + copies → plan_refusal bag [] (Add p copies) ≡ Some TooManyCopies

@@ -1,5 +1,5 @@
 -- What an edit makes of a collection with its history.
-use Rattle.std.specs.Prelude.{ℕ, ◌+◌, ◌-◌, ◌==◌, Bool, not, Option, Some, None, List, [], ◌∷◌, slice_get}
+use Rattle.std.specs.Prelude.{ℕ, zero, suc, ◌+◌, ◌-◌, ◌==◌, Bool, not, Option, Some, None, List, [], ◌∷◌, slice_get}
 use Rattle.std.specs.List.{filter}
 use Rattle.s2id_core.specs.declared.cell_id.CellId.{CellId}
 use Rattle.s2ix_pairs.specs.declared.label.Label.{Label}
@@ -48,8 +48,8 @@ with_all_moved target (h ∷ rest) hs = with_all_moved target rest (with_moved t
 
 -- the change with this number, counted from 1; number 0 is that of none
 abbrev pub numbered : ℕ → List (List Entry) → Option (List Entry)
-numbered 0 changes = None
-numbered (1 + place) changes = slice_get changes place
+numbered zero changes = None
+numbered (suc place) changes = slice_get changes place
 
 -- the collection with a change taken back from it; it stays where there is no such change
 abbrev pub without_change : Option (List Entry) → Collection → Collection

@@ -1,5 +1,5 @@
 -- Where an edit is refused.
-use Rattle.std.specs.Prelude.{◌≡◌, ℕ, ◌==◌, nat_lt, nat_le, Bool, true, false, Option, Some, None, List, [], ◌∷◌, length, find}
+use Rattle.std.specs.Prelude.{◌≡◌, ℕ, ◌==◌, nat_lt, nat_le, Bool, true, false, Option, Some, None, List, [], ◌∷◌, length, find, is_some}
 use Rattle.std.specs.List.{list_any}
 use Rattle.s2ix_pairs.specs.declared.label.Label.{Label}
 use Rattle.s2ix_pairs.specs.declared.pair.Entry.{Entry}
@@ -7,7 +7,7 @@ use Rattle.s2ix_pairs.specs.Change.{change_between}
 use Rattle.s2ix_pairs.specs.Collection.{Collection, LimitedCollection, count_in}
 use Rattle.s2ix_pairs.specs.Limits.{pairs_limit, count_limit, changes_limit}
 use Rattle.s2ix_pairs.specs.OfLabel.{held_of}
-use Rattle.s2ix_pairs.specs.TakenBack.{is_below_zero}
+use Rattle.s2ix_pairs.specs.TakenBack.{first_below_zero}
 use Rattle.s2ix_edit.specs.declared.edit.Edit.{Edit}
 use Rattle.s2ix_edit.specs.declared.edit.Edit.TheVariants.{Add, AddUnion, Remove, DropLabel, Relabel, Grow, Normalise, Revert}
 use Rattle.s2ix_edit.specs.declared.errors.EditError.{EditError}
@@ -70,7 +70,7 @@ lacks_change changes edit = false
 
 -- the edit takes a change back that leaves a count below 0
 abbrev pub goes_below_zero : List (List Entry) → Edit → Collection → Bool
-goes_below_zero changes (Revert number) hs = elim (numbered number changes) [ Some es ↦ list_any (is_below_zero hs) es | None ↦ false ]
+goes_below_zero changes (Revert number) hs = elim (numbered number changes) [ Some es ↦ is_some (first_below_zero hs es) | None ↦ false ]
 goes_below_zero changes edit hs = false
 
 -- whether a count is above a limit

@@ -1,4 +1,4 @@
-ghost use Rattle.std.specs.Prelude.{◌≡◌, ◌↔◌, ◌⊎◌, ◌+◌, ◌≤◌, false, not, map, IfOk, IfErr, All, Any, Contains as HasElement};
+ghost use Rattle.std.specs.Prelude.{◌≡◌, ◌↔◌, ◌⊎◌, ◌+◌, ◌≤◌, [], false, not, map, IfOk, IfErr, All, Any, Contains as HasElement};
 ghost use Rattle.s2id_core.specs.declared.cell_id.CellId.{CellId};
 ghost use Rattle.s2id_core.specs.CellId.{level_of};
 ghost use Rattle.s2ix_edit.specs.Grow.{IsNextTo, grown_cells as cells_grown, is_too_fine as is_level_too_fine, overlaps_one};

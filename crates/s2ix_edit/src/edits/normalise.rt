@@ -1,4 +1,4 @@
-ghost use Rattle.std.specs.Prelude.{◌≡◌, ◌++◌, map, IfOk, IfErr, OnOk};
+ghost use Rattle.std.specs.Prelude.{◌≡◌, ◌++◌, [], map, IfOk, IfErr, OnOk};
 ghost use Rattle.s2ix_pairs.specs.OfLabel.{held_of};
 ghost use Rattle.s2ix_edit.specs.Plan.{IsPlanRefusal, Plans, one_copy};
 

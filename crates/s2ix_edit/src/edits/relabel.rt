@@ -1,4 +1,4 @@
-ghost use Rattle.std.specs.Prelude.{◌≡◌, ◌≢◌, ◌++◌, false, OnOk, IfOk, IfErr};
+ghost use Rattle.std.specs.Prelude.{◌≡◌, ◌≢◌, ◌++◌, [], false, OnOk, IfOk, IfErr};
 ghost use Rattle.s2ix_pairs.specs.Label.{value_of};
 ghost use Rattle.s2ix_edit.specs.Plan.{IsPlanRefusal, Plans, move_entries};
 ghost use Rattle.s2ix_edit.specs.Refusals.{holds_none};

@@ -1,4 +1,4 @@
-ghost use Rattle.std.specs.Prelude.{◌≡◌, Some, None, IfOk, IfErr, MatchOption};
+ghost use Rattle.std.specs.Prelude.{◌≡◌, Some, None, IfOk, IfErr, IfSome, IfNone};
 ghost use Rattle.s2ix_edit.specs.Edit.{numbered as change_of_number};
 ghost use Rattle.s2ix_edit.specs.Plan.{IsPlanRefusal, Plans};
 
@@ -26,7 +26,8 @@ pub(crate) fn plan(
 
 // The change with the number, counted from 1.
 fn numbered(changes: &[Change], number: u32) -> Option<&Change>
-    ensures { MatchOption result (λ change. change_of_number number changes.now ≡ Some change.now) (change_of_number number changes.now ≡ None) }
+    ensures some { IfSome result (λ change. change_of_number number changes.now ≡ Some change.now) }
+    ensures none { IfNone result (change_of_number number changes.now ≡ None) }
 {
     changes.get((number as usize).checked_sub(1)?)
 }

@@ -3,46 +3,46 @@ use Rattle.s2ix_edit.proofs.Plans.{planned_after_any, refused_after_any}
 use Rattle.s2ix_edit.proofs.edits.plan.Goals as goal
 
 pub returns-in-Add-clause-plan : goal.returns-in-Add-clause-plan
-returns-in-Add-clause-plan c = planned_after_any _ _ _ _ refl c.plan.ensures.plan
+returns-in-Add-clause-plan c = planned_after_any c.args.bag.now c.args.changes.now c.args.edit.now _ c.plan.result c.in-Add.is refl c.plan.ensures.plan
 
 pub returns-in-Add-clause-refused : goal.returns-in-Add-clause-refused
-returns-in-Add-clause-refused c = refused_after_any _ _ _ _ refl c.plan.ensures.refused
+returns-in-Add-clause-refused c = refused_after_any c.args.bag.now c.args.changes.now c.args.edit.now _ c.plan.result c.in-Add.is refl c.plan.ensures.refused
 
 pub returns-in-AddUnion-clause-plan : goal.returns-in-AddUnion-clause-plan
-returns-in-AddUnion-clause-plan c = planned_after_any _ _ _ _ refl c.plan.ensures.plan
+returns-in-AddUnion-clause-plan c = planned_after_any c.args.bag.now c.args.changes.now c.args.edit.now _ c.plan-in-AddUnion.result c.in-AddUnion.is refl c.plan-in-AddUnion.ensures.plan
 
 pub returns-in-AddUnion-clause-refused : goal.returns-in-AddUnion-clause-refused
-returns-in-AddUnion-clause-refused c = refused_after_any _ _ _ _ refl c.plan.ensures.refused
+returns-in-AddUnion-clause-refused c = refused_after_any c.args.bag.now c.args.changes.now c.args.edit.now _ c.plan-in-AddUnion.result c.in-AddUnion.is refl c.plan-in-AddUnion.ensures.refused
 
 pub returns-in-Remove-clause-plan : goal.returns-in-Remove-clause-plan
-returns-in-Remove-clause-plan c = planned_after_any _ _ _ _ refl c.plan.ensures.plan
+returns-in-Remove-clause-plan c = planned_after_any c.args.bag.now c.args.changes.now c.args.edit.now _ c.plan-in-Remove.result c.in-Remove.is refl c.plan-in-Remove.ensures.plan
 
 pub returns-in-Remove-clause-refused : goal.returns-in-Remove-clause-refused
-returns-in-Remove-clause-refused c = refused_after_any _ _ _ _ refl c.plan.ensures.refused
+returns-in-Remove-clause-refused c = refused_after_any c.args.bag.now c.args.changes.now c.args.edit.now _ c.plan-in-Remove.result c.in-Remove.is refl c.plan-in-Remove.ensures.refused
 
 pub returns-in-DropLabel-clause-plan : goal.returns-in-DropLabel-clause-plan
-returns-in-DropLabel-clause-plan c = planned_after_any _ _ _ _ refl c.plan.ensures.plan
+returns-in-DropLabel-clause-plan c = planned_after_any c.args.bag.now c.args.changes.now c.args.edit.now _ c.plan-in-DropLabel.result c.in-DropLabel.is refl c.plan-in-DropLabel.ensures.plan
 
 pub returns-in-DropLabel-clause-refused : goal.returns-in-DropLabel-clause-refused
-returns-in-DropLabel-clause-refused c = refused_after_any _ _ _ _ refl c.plan.ensures.refused
+returns-in-DropLabel-clause-refused c = refused_after_any c.args.bag.now c.args.changes.now c.args.edit.now _ c.plan-in-DropLabel.result c.in-DropLabel.is refl c.plan-in-DropLabel.ensures.refused
 
 pub returns-in-Relabel-clause-plan : goal.returns-in-Relabel-clause-plan
-returns-in-Relabel-clause-plan c = planned_after_any _ _ _ _ refl c.plan.ensures.plan
+returns-in-Relabel-clause-plan c = planned_after_any c.args.bag.now c.args.changes.now c.args.edit.now _ c.plan-in-Relabel.result c.in-Relabel.is refl c.plan-in-Relabel.ensures.plan
 
 pub returns-in-Relabel-clause-refused : goal.returns-in-Relabel-clause-refused
-returns-in-Relabel-clause-refused c = refused_after_any _ _ _ _ refl c.plan.ensures.refused
+returns-in-Relabel-clause-refused c = refused_after_any c.args.bag.now c.args.changes.now c.args.edit.now _ c.plan-in-Relabel.result c.in-Relabel.is refl c.plan-in-Relabel.ensures.refused
 
 pub returns-in-Grow-clause-plan : goal.returns-in-Grow-clause-plan
-returns-in-Grow-clause-plan c = planned_after_any _ _ _ _ refl c.plan.ensures.plan
+returns-in-Grow-clause-plan c = planned_after_any c.args.bag.now c.args.changes.now c.args.edit.now _ c.plan-in-Grow.result c.in-Grow.is refl c.plan-in-Grow.ensures.plan
 
 pub returns-in-Grow-clause-refused : goal.returns-in-Grow-clause-refused
-returns-in-Grow-clause-refused c = refused_after_any _ _ _ _ refl c.plan.ensures.refused
+returns-in-Grow-clause-refused c = refused_after_any c.args.bag.now c.args.changes.now c.args.edit.now _ c.plan-in-Grow.result c.in-Grow.is refl c.plan-in-Grow.ensures.refused
 
 pub returns-in-Normalise-clause-plan : goal.returns-in-Normalise-clause-plan
-returns-in-Normalise-clause-plan c = planned_after_any _ _ _ _ refl c.plan.ensures.plan
+returns-in-Normalise-clause-plan c = planned_after_any c.args.bag.now c.args.changes.now c.args.edit.now _ c.plan-in-Normalise.result c.in-Normalise.is refl c.plan-in-Normalise.ensures.plan
 
 pub returns-in-Normalise-clause-refused : goal.returns-in-Normalise-clause-refused
-returns-in-Normalise-clause-refused c = refused_after_any _ _ _ _ refl c.plan.ensures.refused
+returns-in-Normalise-clause-refused c = refused_after_any c.args.bag.now c.args.changes.now c.args.edit.now _ c.plan-in-Normalise.result c.in-Normalise.is refl c.plan-in-Normalise.ensures.refused
 
 pub returns-in-Revert-clause-plan : goal.returns-in-Revert-clause-plan
 returns-in-Revert-clause-plan c = search rules

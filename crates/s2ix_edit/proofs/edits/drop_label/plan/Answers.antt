@@ -1,4 +1,4 @@
-use Rattle.std.proofs.Common.{List, refl, sym, ◌∙◌, subst}
+use Rattle.std.proofs.Common.{[], List, refl, sym, ◌∙◌, subst}
 use Rattle.s2ix_pairs.specs.declared.pair.Entry.{Entry}
 use Rattle.s2ix_pairs.specs.Change.{IsChangeList}
 use Rattle.s2ix_edit.specs.declared.edit.Edit.TheVariants.{DropLabel}

@@ -1,5 +1,5 @@
 -- The entries are the change from the label's pairs to one copy at each cell of its region.
-use Rattle.std.proofs.Common.{◌<◌, List, AllPairs, refl, sym, ap, ap₂, ◌∙◌, subst}
+use Rattle.std.proofs.Common.{[], ◌<◌, List, AllPairs, refl, sym, ap, ap₂, ◌∙◌, subst}
 use Rattle.s2id_core.specs.declared.cell_id.CellId.{CellId}
 use Rattle.s2id_core.specs.CellId.{raw_of}
 use Rattle.s2ix_pairs.specs.declared.pair.Entry.{Entry}
