@@ -108,7 +108,7 @@ plans_above bag changes number es rises found none = record {
   stood = stood changes number es found;
   above = above bag.held changes number es found none;
   rises = back_keeps bag.held es rises (above_from_none bag.held es none);
-  matches = no_mismatch bag (change_back bag.held es) (back_before bag.held es);
+  matches = no_mismatch bag.held (change_back bag.held es) (back_before bag.held es);
   result = sym (makes_found bag changes number es found);
 }
 
