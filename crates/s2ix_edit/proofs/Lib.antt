@@ -9,4 +9,4 @@ mod Normalise
 pub mod Plans
 pub mod Refused
 mod Relabel
-mod Revert
+pub mod Revert

@@ -4,7 +4,7 @@ use Rattle.std.specs.Prelude.{IfOk, IfErr, OnOk, OnErr, slice_get}
 use Rattle.std.proofs.lemmas.Option.{slice_get-get_or}
 use Rattle.s2ix_edit.specs.declared.edit.Edit.{Edit}
 use Rattle.s2ix_edit.specs.declared.errors.EditError.{EditError}
-use Rattle.s2ix_edit.specs.declared.errors.EditError.TheVariants.{JournalFull, NoSuchLabel, NotHeld, TooFine, NoChange, TooManyCopies, TooManyPairs, OutOfMemory}
+use Rattle.s2ix_edit.specs.declared.errors.EditError.TheVariants.{JournalFull, NoSuchLabel, NotHeld, TooFine, NoSuchChange, BelowZero, NoChange, TooManyCopies, TooManyPairs, OutOfMemory}
 use Rattle.s2ix_edit.specs.declared.errors.RedoError.{RedoError}
 use Rattle.s2ix_edit.specs.declared.errors.RedoError.TheVariants as redo
 use Rattle.s2ix_edit.specs.declared.errors.UndoError.{UndoError}
@@ -31,6 +31,8 @@ refused_edit s edit JournalFull e other = ap (edit_step_at s edit) e
 refused_edit s edit NoSuchLabel e other = ap (edit_step_at s edit) e
 refused_edit s edit NotHeld e other = ap (edit_step_at s edit) e
 refused_edit s edit TooFine e other = ap (edit_step_at s edit) e
+refused_edit s edit NoSuchChange e other = ap (edit_step_at s edit) e
+refused_edit s edit BelowZero e other = ap (edit_step_at s edit) e
 refused_edit s edit NoChange e other = ap (edit_step_at s edit) e
 refused_edit s edit TooManyCopies e other = ap (edit_step_at s edit) e
 refused_edit s edit TooManyPairs e other = ap (edit_step_at s edit) e

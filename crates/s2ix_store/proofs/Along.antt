@@ -31,11 +31,11 @@ changes_on bag (es ∷ rest) b on =
     (between_changed bag es b.rises on.0 (not_mismatched bag es on.2))
     (changes_on (with_held bag (changed bag.held es)) rest next on.3)
 
-reverse_cons : (es : List Entry) (older : List (List Entry)) → reverse (es ∷ older) ≡ reverse older ++ es ∷ []
+pub reverse_cons : (es : List Entry) (older : List (List Entry)) → reverse (es ∷ older) ≡ reverse older ++ es ∷ []
 reverse_cons es older = reverse-append (es ∷ []) older
 
 -- the change from the collection before
-change_back : (bag : LimitedCollection) (es : List Entry) → IsBag bag → IsChangeList es → apply_refusal bag (inverse_of es) ≡ None → change_between (changed bag.held (inverse_of es)) bag.held ≡ es
+pub change_back : (bag : LimitedCollection) (es : List Entry) → IsBag bag → IsChangeList es → apply_refusal bag (inverse_of es) ≡ None → change_between (changed bag.held (inverse_of es)) bag.held ≡ es
 change_back bag es b rises taken =
     let prev = with_held bag (changed bag.held (inverse_of es)) in
     let prev_is = made_is_bag bag (inverse_of es) b (inverse_keeps es rises) (taken_from_none bag (inverse_of es) taken) in
@@ -99,22 +99,23 @@ some_back bag [] back = All-nil HasEntries
 some_back bag (es ∷ older) back =
     All-cons HasEntries es older back.1 (some_back (with_held bag (changed bag.held (inverse_of es))) older back.3)
 
-some_reversed : (ess : List (List Entry)) → All HasEntries ess → All HasEntries (reverse ess)
-some_reversed [] some = some
-some_reversed (es ∷ rest) some =
-    subst (λ (xs : List (List Entry)). All HasEntries xs) (sym (reverse_cons es rest))
-    (All-append HasEntries (reverse rest) (es ∷ []) (some_reversed rest (All-tail HasEntries es rest some))
-    (All-cons HasEntries es [] (All-head HasEntries es rest some) (All-nil HasEntries)))
+all_reversed : (P : List Entry → Type 0) (ess : List (List Entry)) → All P ess → All P (reverse ess)
+all_reversed P [] all = all
+all_reversed P (es ∷ rest) all =
+    subst (λ (xs : List (List Entry)). All P xs) (sym (reverse_cons es rest))
+    (All-append P (reverse rest) (es ∷ []) (all_reversed P rest (All-tail P es rest all))
+    (All-cons P es [] (All-head P es rest all) (All-nil P)))
 
-some_back_again : (ess : List (List Entry)) → All HasEntries (reverse ess) → All HasEntries ess
-some_back_again ess some =
-    subst (λ (xs : List (List Entry)). All HasEntries xs) (reverse-reverse ess) (some_reversed (reverse ess) some)
+-- what holds of all changes in the one order holds of them in the other
+pub all_back_again : (P : List Entry → Type 0) (ess : List (List Entry)) → All P (reverse ess) → All P ess
+all_back_again P ess all =
+    subst (λ (xs : List (List Entry)). All P xs) (reverse-reverse ess) (all_reversed P (reverse ess) all)
 
 pub changes_have_entries : (s : State) → IsStore s → All (λ es. 0 < length es) (s.done ++ s.undone)
 changes_have_entries s st =
     All-append HasEntries s.done s.undone
-    (some_back_again s.done (some_back s.bag (reverse s.done) st.back))
-    (some_back_again s.undone (some_on s.bag (reverse s.undone) st.on))
+    (all_back_again HasEntries s.done (some_back s.bag (reverse s.done) st.back))
+    (all_back_again HasEntries s.undone (some_on s.bag (reverse s.undone) st.on))
 
 -- ---- the cursor
 

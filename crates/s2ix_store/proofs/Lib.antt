@@ -4,5 +4,6 @@ pub mod Led
 pub mod Places
 mod Planned
 pub mod Redone
+mod Standing
 pub mod Taken
 pub mod Undone

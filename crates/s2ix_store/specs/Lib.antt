@@ -1,3 +1,4 @@
+pub mod Standing
 pub mod Steps
 pub mod Store
 pub use Rattle.s2ix_pairs.specs.Change

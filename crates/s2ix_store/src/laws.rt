@@ -1,14 +1,17 @@
 //! Laws: functions that do nothing, and whose contracts are facts on the definitions.
 
-ghost use Rattle.std.specs.Prelude.{◌≡◌, ◌≢◌, ◌+◌, Some, ◌<◌, [], ◌∷◌, ◌++◌, length, reverse, slice_get, take, All, List};
+ghost use Rattle.std.specs.Prelude.{◌≡◌, ◌≢◌, ℕ, ◌+◌, pos, ◌+ℤ◌, Some, None, ◌<◌, [], ◌∷◌, ◌++◌, length, reverse, slice_get, take, All, List};
 ghost use Rattle.s2ix_pairs.specs.declared.pair.Pair.{Pair};
 ghost use Rattle.s2ix_pairs.specs.Change.{IsChangeList, counts_at, difference_of};
-ghost use Rattle.s2ix_pairs.specs.Collection.{IsBag, count_in};
+ghost use Rattle.s2ix_pairs.specs.Collection.{LimitedCollection, IsBag, count_in};
 ghost use Rattle.s2ix_pairs.specs.Pair.{rank_of};
 ghost use Rattle.s2ix_edit.specs.declared.edit.Edit.{Edit};
-ghost use Rattle.s2ix_edit.specs.Edit.{edited};
+ghost use Rattle.s2ix_edit.specs.declared.edit.Edit.TheVariants.{Revert};
+ghost use Rattle.s2ix_edit.specs.Edit.{edited, edited_by};
 ghost use Rattle.s2ix_edit.specs.History.{changes_along, cursor_alone, one_back, one_on, with_next};
-ghost use Rattle.s2ix_edit.specs.State.{State, change_of, history_of};
+ghost use Rattle.s2ix_edit.specs.State.{State, change_of, history_of, starting_at};
+ghost use Rattle.s2ix_edit.specs.Refusals.{edit_refusal};
+ghost use Rattle.s2ix_store.specs.Standing.{first_collection, gain_along, without_numbered};
 ghost use Rattle.s2ix_store.specs.Steps.{after_edit, after_forget, after_redo, after_undo, with_held};
 ghost use Rattle.s2ix_store.specs.Store.{IsStore};
 ghost use Rattle.s2ix_ranges.specs.Table.{Range, IsRangeTable};
@@ -90,6 +93,49 @@ pub fn store_stands_in_history()
     ensures entries { (s : State)
         → IsStore s
         → All (λ es. 0 < length es) (s.done ++ s.undone) }
+{}
+
+/// What an edit makes of the collection at the cursor it makes of the one that the bag holds, by the changes that were done.
+pub fn edits_read_what_stands()
+    ensures { (s : State) (edit : Edit)
+        → IsStore s
+        → edited (history_of s) edit ≡ edited_by s.done edit s.bag.held }
+{}
+
+/// Each count is that of the history's first collection and the differences, the count after less the count before, of the
+/// changes that stand, as whole numbers with sign.
+pub fn counts_are_first_and_standing()
+    ensures { (s : State) (pair : Pair)
+        → IsStore s
+        → pos (count_in s.bag.held pair) ≡ pos (count_in (first_collection s) pair) +ℤ gain_along s.done pair }
+{}
+
+/// Edits, undos and redos keep the first collection. It is the one that the bag holds where a store starts, and after its
+/// changes are forgotten.
+pub fn steps_keep_the_first_collection()
+    ensures start { (bag : LimitedCollection) → first_collection (starting_at bag) ≡ bag.held }
+    ensures edit { (s : State) (edit : Edit)
+        → IsStore s
+        → first_collection (after_edit s edit) ≡ first_collection s }
+    ensures undo { (s : State)
+        → IsStore s
+        → s.done ≢ []
+        → first_collection (after_undo s) ≡ first_collection s }
+    ensures redo { (s : State)
+        → IsStore s
+        → s.undone ≢ []
+        → first_collection (after_redo s) ≡ first_collection s }
+    ensures forget { (s : State) → first_collection (after_forget s) ≡ s.bag.held }
+{}
+
+/// After an accepted `Revert` each count is that of the first collection and the differences of the changes that stood, the
+/// reverted one left out.
+pub fn revert_leaves_a_change_out()
+    ensures { (s : State) (number : ℕ) (pair : Pair)
+        → IsStore s
+        → edit_refusal s (Revert number) ≡ None
+        → pos (count_in (edited (history_of s) (Revert number)) pair)
+        ≡ pos (count_in (first_collection s) pair) +ℤ gain_along (without_numbered number s.done) pair }
 {}
 
 /// Each step of a store is the step of its history: an edit goes on to the edited collection, undo goes back by one,

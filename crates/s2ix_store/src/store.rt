@@ -106,7 +106,7 @@ impl Store {
         if self.done.len() >= self.bag.limits().changes() as usize {
             return Err(EditError::JournalFull);
         }
-        let change = plan(self.alloc, &self.bag, edit)?;
+        let change = plan(self.alloc, &self.bag, self.done.as_slice(), edit)?;
         self.record_change(change)
     }
 

@@ -2,14 +2,14 @@ use Rattle.std.proofs.Common.{◌<◌, length, Option, sym, ap, ◌∙◌, subst
 use Rattle.std.proofs.lemmas.Result.{IfErr-weaker, IfOk-weaker, on_ok_weaker, err_from_is_err_and}
 use Rattle.s2ix_pairs.specs.Limits.{changes_limit}
 use Rattle.s2ix_edit.specs.declared.errors.EditError.{EditError}
-use Rattle.s2ix_edit.specs.State.{State, history_of, starting_at}
+use Rattle.s2ix_edit.specs.State.{State, history_of}
 use Rattle.s2ix_edit.specs.Plan.{Plans}
-use Rattle.s2ix_edit.specs.Refusals.{edit_error, edit_refusal, IsEditRefusal}
+use Rattle.s2ix_edit.specs.Refusals.{edit_error, edit_refusal, plan_refusal, IsEditRefusal}
 use Rattle.s2ix_edit.proofs.Refused.{change_planned, with_room}
 use Rattle.s2ix_store.specs.Store.{IsStore}
 use Rattle.s2ix_store.proofs.Followed.{history_edited}
 use Rattle.s2ix_store.proofs.Led.{counts_recorded}
-use Rattle.s2ix_store.proofs.Planned.{planned_state, refusal_of_entries}
+use Rattle.s2ix_store.proofs.Planned.{planned_state, plans_of, refusal_of_entries, refused_of, stand}
 use Rattle.s2ix_store.proofs.store.Store.edit.Goals.{After-plan, In_ok-change}
 use Rattle.s2ix_store.proofs.store.Store.edit.Goals as goal
 
@@ -22,10 +22,10 @@ room c =
     let limit = c.changes.ensures ∙ ap changes_limit c.limits.ensures in
     subst HasRoom c.self.view_is (omega (arith, limit))
 
-plan : (c : In_ok-change) → Plans c.args.self.now.bag c.args.edit.now c.in_ok-change.change
+plan : (c : In_ok-change) → Plans c.args.self.now.bag c.args.self.now.done c.args.edit.now c.in_ok-change.change
 plan c =
-    let Carries : State → Type 0 = λ s. Plans s.bag c.args.edit.now c.in_ok-change.change in
-    subst Carries c.self.view_is c.in_ok-change.ensures.plan
+    let Carries : State → Type 0 = λ s. Plans s.bag s.done c.args.edit.now c.in_ok-change.change in
+    subst Carries c.self.view_is (plans_of _ _ _ _ _ c.as_slice.ensures.value c.in_ok-change.ensures.plan)
 
 pub returns-in_err-change-clause-refused : goal.returns-in_err-change-clause-refused
 returns-in_err-change-clause-refused c =
@@ -34,7 +34,10 @@ returns-in_err-change-clause-refused c =
     let edit = c.args.edit.now in
     let Same : EditError → Type 0 = λ error. IsEditRefusal error (edit_refusal s edit) in
     let Refused : Option EditError → Type 0 = λ refusal. IsEditRefusal (edit_error c.in_err-change.field-0.0) refusal in
-    let fresh = ap (λ (t : State). edit_refusal (starting_at t.bag) edit) c.self.view_is ∙ sym (with_room s edit (room a)) in
+    let fresh =
+        refused_of c.self.inside.bag _ _ edit c.as_slice.ensures.value
+        ∙ ap (λ (t : State). plan_refusal t.bag t.done edit) c.self.view_is
+        ∙ sym (with_room s edit (stand s (stood a)) (room a)) in
     let p = err_from_is_err_and c.from_residual.result c.from_residual.ensures.1 in
     rw (p.1) (subst Same (sym p.2) (subst Refused fresh c.in_err-change.ensures.refused))
 
@@ -42,7 +45,7 @@ pub returns-clause-state : goal.returns-clause-state
 returns-clause-state c =
     let d = (goal.at-returns-clause-state c).In_ok-change in
     let a = (goal.at-returns-clause-state c).After-plan in
-    on_ok_weaker c.record_change.result (λ is. is ∙ planned_state c.args.self.now c.args.edit.now c.in_ok-change.change (stood a).bag (plan d)) c.record_change.ensures.state
+    on_ok_weaker c.record_change.result (λ is. is ∙ planned_state c.args.self.now c.args.edit.now c.in_ok-change.change (stood a) (plan d)) c.record_change.ensures.state
 
 pub returns-clause-history : goal.returns-clause-history
 returns-clause-history c =
@@ -50,7 +53,7 @@ returns-clause-history c =
     let a = (goal.at-returns-clause-history c).After-plan in
     on_ok_weaker c.record_change.result
     (λ is.
-    ap history_of (is ∙ planned_state c.args.self.now c.args.edit.now c.in_ok-change.change (stood a).bag (plan d))
+    ap history_of (is ∙ planned_state c.args.self.now c.args.edit.now c.in_ok-change.change (stood a) (plan d))
     ∙ history_edited c.args.self.now c.args.edit.now (stood a))
     c.record_change.ensures.state
 
@@ -58,7 +61,7 @@ pub returns-clause-number : goal.returns-clause-number
 returns-clause-number c =
     let d = (goal.at-returns-clause-number c).In_ok-change in
     let a = (goal.at-returns-clause-number c).After-plan in
-    IfOk-weaker c.record_change.result _ _ (λ n is. is ∙ ap length (sym (change_planned c.args.self.now c.args.edit.now c.in_ok-change.change (stood a).bag (plan d)))) c.record_change.ensures.number
+    IfOk-weaker c.record_change.result _ _ (λ n is. is ∙ ap length (sym (change_planned c.args.self.now c.args.edit.now c.in_ok-change.change (stand c.args.self.now (stood a)) (stood a).bag (plan d)))) c.record_change.ensures.number
 
 pub returns-clause-accepted : goal.returns-clause-accepted
 returns-clause-accepted c =
@@ -81,5 +84,5 @@ returns-clause-records c =
     let d = (goal.at-returns-clause-records c).In_ok-change in
     let a = (goal.at-returns-clause-records c).After-plan in
     on_ok_weaker c.record_change.result
-    (λ is. counts_recorded c.args.self.now _ c.args.edit.now (stood a) (is ∙ planned_state c.args.self.now c.args.edit.now c.in_ok-change.change (stood a).bag (plan d)))
+    (λ is. counts_recorded c.args.self.now _ c.args.edit.now (stood a) (is ∙ planned_state c.args.self.now c.args.edit.now c.in_ok-change.change (stood a) (plan d)))
     c.record_change.ensures.state
