@@ -69,3 +69,11 @@ level_from n = if nat_le n 30 then Some n else None
 -- the level that a field names
 abbrev pub level_spelled : List ℕ → Option ℕ
 level_spelled text = option_and_then level_from (script_number text)
+
+-- a number of a change: from 1 to 100000
+abbrev pub change_number_from : ℕ → Option ℕ
+change_number_from n = if nat_le 1 n && nat_le n 100000 then Some n else None
+
+-- the number of a change that a field names
+abbrev pub change_number_spelled : List ℕ → Option ℕ
+change_number_spelled text = option_and_then change_number_from (script_number text)

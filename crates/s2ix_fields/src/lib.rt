@@ -6,4 +6,4 @@ pub mod laws;
 mod numbers;
 
 pub use fields::Fields;
-pub use numbers::{copies_spelled, label_spelled, level_spelled};
+pub use numbers::{change_number_spelled, copies_spelled, label_spelled, level_spelled};

@@ -1,6 +1,6 @@
 //! The numbers and labels that fields write.
 ghost use Rattle.std.specs.Prelude.{◌≡◌};
-ghost use Rattle.s2ix_fields.specs.Fields.{copies_spelled as copies_that, label_spelled as label_that, level_spelled as level_that, script_number as number_that};
+ghost use Rattle.s2ix_fields.specs.Fields.{change_number_spelled as change_number_that, copies_spelled as copies_that, label_spelled as label_that, level_spelled as level_that, script_number as number_that};
 
 use s2ix_bag::Label;
 
@@ -48,6 +48,16 @@ pub fn level_spelled(text: &[u8]) -> Option<u8>
 {
     match script_number(text)? {
         level @ 0..=30 => Some(level as u8),
+        _ => None,
+    }
+}
+
+/// The number of a change that a field names, from 1 to 100000, in 1 to 10 decimal digits. This project's own.
+pub fn change_number_spelled(text: &[u8]) -> Option<u32>
+    ensures { result ≡ change_number_that text.now }
+{
+    match script_number(text)? {
+        number @ 1..=100000 => Some(number as u32),
         _ => None,
     }
 }

@@ -1,5 +1,5 @@
 // Lines as fields, and the numbers that these write.
-use s2ix_fields::{Fields, copies_spelled, label_spelled, level_spelled};
+use s2ix_fields::{Fields, change_number_spelled, copies_spelled, label_spelled, level_spelled};
 use std::test::Fail;
 
 // Lines with their fields.
@@ -79,4 +79,16 @@ fn fields_write_labels_copies_and_levels(rt: HostRuntime) {
     assert!(&rt; copies_spelled(b"0").is_none());
     assert!(&rt; level_spelled(b"030") == Some(30));
     assert!(&rt; level_spelled(b"31").is_none());
+}
+
+#[test]
+fn fields_write_numbers_of_changes(rt: HostRuntime) {
+    assert!(&rt; change_number_spelled(b"1") == Some(1));
+    assert!(&rt; change_number_spelled(b"100000") == Some(100000));
+    assert!(&rt; change_number_spelled(b"0000100000") == Some(100000));
+    assert!(&rt; change_number_spelled(b"0").is_none());
+    assert!(&rt; change_number_spelled(b"100001").is_none());
+    assert!(&rt; change_number_spelled(b"00000000001").is_none());
+    assert!(&rt; change_number_spelled(b"+1").is_none());
+    assert!(&rt; change_number_spelled(b"").is_none());
 }
