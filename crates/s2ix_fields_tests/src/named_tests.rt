@@ -5,7 +5,7 @@ use s2ix_edit::Edit;
 use s2ix_fields::Fields;
 use s2ix_line::{
     add_union_named, cell_named, drop_named, grow_named, label_named, labels_named, normal_named,
-    pair_named, relabel_named, union_named,
+    pair_named, relabel_named, revert_named, union_named,
 };
 use std::alloc::Global;
 use std::test::Fail;
@@ -44,12 +44,14 @@ fn names_edits(alloc: Global) -> Result<bool, Fail> {
     let relabelled = relabel_named(&mut Fields::new(b"9 3"))?;
     let grown = grow_named(&mut Fields::new(b"9 30"))?;
     let normal = normal_named(&mut Fields::new(b"9"))?;
+    let reverted = revert_named(&mut Fields::new(b"100000"))?;
     let added = add_union_named(alloc, Fields::new(b"9 1c 04 14 0C"))?;
     Ok(
         matches!(dropped, Edit::DropLabel { label } if is_label(label, 9))
             && matches!(relabelled, Edit::Relabel { source, target } if is_label(source, 9) && is_label(target, 3))
             && matches!(grown, Edit::Grow { label, level } if is_label(label, 9) && level == 30)
             && matches!(normal, Edit::Normalise { label } if is_label(label, 9))
+            && matches!(reverted, Edit::Revert { number } if number == 100000)
             && matches!(&added, Edit::AddUnion { union, label } if is_one_cell(union.cells(), b"1") && is_label(*label, 9)),
     )
 }

@@ -6,12 +6,12 @@ use Rattle.s2id_union.specs.NormalForm.{normal_form}
 use Rattle.s2ix_pairs.specs.declared.label.Label.{Label}
 use Rattle.s2ix_pairs.specs.declared.pair.Pair.{Pair}
 use Rattle.s2ix_edit.specs.declared.edit.Edit.{Edit}
-use Rattle.s2ix_edit.specs.declared.edit.Edit.TheVariants.{AddUnion, DropLabel, Relabel, Grow, Normalise}
-use Rattle.s2ix_fields.specs.Fields.{label_spelled, copies_spelled, level_spelled}
+use Rattle.s2ix_edit.specs.declared.edit.Edit.TheVariants.{AddUnion, DropLabel, Relabel, Grow, Normalise, Revert}
+use Rattle.s2ix_fields.specs.Fields.{change_number_spelled, label_spelled, copies_spelled, level_spelled}
 use Rattle.s2ix_line.specs.declared.line_fault.LineError.{LineError}
 use Rattle.s2ix_line.specs.declared.line_fault.LineError.TheVariants.{Fault, OutOfMemory}
 use Rattle.s2ix_line.specs.declared.line_fault.LineFault.{LineFault}
-use Rattle.s2ix_line.specs.declared.line_fault.LineFault.TheVariants.{BadArguments, BadToken, BadLabel, BadCount, BadLevel}
+use Rattle.s2ix_line.specs.declared.line_fault.LineFault.TheVariants.{BadArguments, BadToken, BadLabel, BadCount, BadLevel, BadNumber}
 
 -- what is made of a meaning, where there is one
 abbrev pub map_ok : {A B : Type 0} → (A → B) → Result A LineFault → Result B LineFault
@@ -95,6 +95,15 @@ grow_with (Some label) (Some level) = Ok (Grow label level)
 -- the two fields LABEL LEVEL
 abbrev pub grow_named : List (List ℕ) → Result Edit LineFault
 grow_named fields = then_ok (λ both. grow_with (label_spelled both.0) (level_spelled both.1)) (two_fields fields)
+
+-- the edit of `revert`, where a field names the number of a change
+abbrev pub revert_with : Option ℕ → Result Edit LineFault
+revert_with None = Err BadNumber
+revert_with (Some number) = Ok (Revert number)
+
+-- the one field NUMBER
+abbrev pub revert_named : List (List ℕ) → Result Edit LineFault
+revert_named fields = then_ok (λ number. revert_with (change_number_spelled number)) (one_field fields)
 
 -- ---- the cells that fields name
 

@@ -1,11 +1,11 @@
 //! The edits that fields name, but for that of a union of cells.
 ghost use Rattle.std.specs.Prelude.{◌≡◌};
-ghost use Rattle.s2ix_line.specs.Named.{drop_named as drop_of, grow_named as grow_of, normal_named as normal_of, relabel_named as relabel_of};
+ghost use Rattle.s2ix_line.specs.Named.{drop_named as drop_of, grow_named as grow_of, normal_named as normal_of, relabel_named as relabel_of, revert_named as revert_of};
 
-use crate::fields::{label_from_field, label_named, labels_named, two_fields};
+use crate::fields::{label_from_field, label_named, labels_named, one_field, two_fields};
 use crate::line_fault::LineFault;
 use s2ix_edit::Edit;
-use s2ix_fields::{Fields, level_spelled};
+use s2ix_fields::{Fields, change_number_spelled, level_spelled};
 
 /// The edit of `drop`, whose label the one field LABEL names.
 ///
@@ -47,4 +47,14 @@ pub fn normal_named(fields: &mut Fields<'_>) -> Result<Edit, LineFault>
 {
     let label = label_named(fields)?;
     Ok(Edit::Normalise { label })
+}
+
+/// The edit of `revert`, whose change the one field NUMBER names.
+///
+/// Errors, the first that applies: `BadArguments` for another number of fields, `BadNumber`. This project's own.
+pub fn revert_named(fields: &mut Fields<'_>) -> Result<Edit, LineFault>
+    ensures { result ≡ revert_of fields.old }
+{
+    let number = change_number_spelled(one_field(fields)?).ok_or(LineFault::BadNumber)?;
+    Ok(Edit::Revert { number })
 }

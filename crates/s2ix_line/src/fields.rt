@@ -10,7 +10,7 @@ use s2ix_bag::{Label, Pair};
 use s2ix_fields::{Fields, copies_spelled, label_spelled};
 
 // The one field that there is.
-fn one_field<'a>(fields: &mut Fields<'a>) -> Result<&'a [u8], LineFault>
+pub(crate) fn one_field<'a>(fields: &mut Fields<'a>) -> Result<&'a [u8], LineFault>
     ensures { MatchResult result (λ field. one_of fields.old ≡ Ok field.now) (λ fault. one_of fields.old ≡ Err fault) }
 {
     match (fields.next(), fields.next()) {

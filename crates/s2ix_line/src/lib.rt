@@ -8,6 +8,6 @@ mod line_fault;
 mod names;
 
 pub use cells::{add_union_named, union_named};
-pub use edits::{drop_named, grow_named, normal_named, relabel_named};
+pub use edits::{drop_named, grow_named, normal_named, relabel_named, revert_named};
 pub use fields::{cell_named, label_named, labels_named, pair_named};
 pub use line_fault::{LineError, LineFault};

@@ -31,6 +31,9 @@ pub enum LineFault {
     /// A field that should be a level is no script number of at most 30.
     #[error("field is no level")]
     BadLevel,
+    /// A field that should be a change's number is no script number from 1 to 100000.
+    #[error("field is no number of a change")]
+    BadNumber,
 }
 
 impl From<TokenError> for LineFault {

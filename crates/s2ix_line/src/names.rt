@@ -17,6 +17,7 @@ impl LineFault {
             LineFault::BadLabel => "BadLabel",
             LineFault::BadCount => "BadCount",
             LineFault::BadLevel => "BadLevel",
+            LineFault::BadNumber => "BadNumber",
         }
     }
 }

@@ -5,7 +5,7 @@ use Rattle.s2ix_edit.specs.declared.edit.Edit.TheVariants.{Add, Remove}
 use Rattle.s2ix_fields.specs.Fields.{fields_of}
 use Rattle.s2ix_line.specs.declared.line_fault.LineFault.{LineFault}
 use Rattle.s2ix_line.specs.declared.line_fault.LineFault.TheVariants.{LineTooLong, BadCommand, BadArguments}
-use Rattle.s2ix_line.specs.Named.{add_union_named, cell_named, drop_named, grow_named, is_add_union, label_named, labels_named, map_ok, normal_named, pair_named, relabel_named, union_named}
+use Rattle.s2ix_line.specs.Named.{add_union_named, cell_named, drop_named, grow_named, is_add_union, label_named, labels_named, map_ok, normal_named, pair_named, relabel_named, revert_named, union_named}
 use Rattle.s2ix_script.specs.declared.instruction.Instruction.{Instruction}
 use Rattle.s2ix_script.specs.declared.instruction.Instruction.TheVariants as asks
 
@@ -50,6 +50,7 @@ edit_words =
     ∷ (codes "relabel", λ fields. map_ok asks.Edit (relabel_named fields))
     ∷ (codes "grow", λ fields. map_ok asks.Edit (grow_named fields))
     ∷ (codes "normal", λ fields. map_ok asks.Edit (normal_named fields))
+    ∷ (codes "revert", λ fields. map_ok asks.Edit (revert_named fields))
     ∷ []
 
 -- the words that go along the history

@@ -6,7 +6,7 @@ use s2ix_edit::Edit;
 /// What a line of a script asks for. This project's own.
 #[derive(Debug, Drop, PartialEq, Eq)]
 pub enum Instruction {
-    /// `add`, `addunion`, `remove`, `drop`, `relabel`, `grow` and `normal`.
+    /// `add`, `addunion`, `remove`, `drop`, `relabel`, `grow`, `normal` and `revert`.
     Edit(Edit),
     /// `undo`.
     Undo,

@@ -13,6 +13,8 @@ pub fn edit_error_name(error: EditError) -> &'static str
         EditError::NoSuchLabel => "NoSuchLabel",
         EditError::NotHeld => "NotHeld",
         EditError::TooFine => "TooFine",
+        EditError::NoSuchChange => "NoSuchChange",
+        EditError::BelowZero => "BelowZero",
         EditError::NoChange => "NoChange",
         EditError::TooManyCopies => "TooManyCopies",
         EditError::TooManyPairs => "TooManyPairs",

@@ -14,7 +14,7 @@ use s2ix_edit::Edit;
 use s2ix_fields::Fields;
 use s2ix_line::{
     LineError, LineFault, add_union_named, cell_named, drop_named, grow_named, label_named,
-    normal_named, pair_named, relabel_named, union_named,
+    normal_named, pair_named, relabel_named, revert_named, union_named,
 };
 use std::alloc::Global;
 
@@ -111,6 +111,8 @@ fn by_edit(word: &[u8], fields: &mut Fields<'_>) -> Result<Instruction, LineFaul
         Ok(Instruction::Edit(grow_named(fields)?))
     } else if is(word, "normal") {
         Ok(Instruction::Edit(normal_named(fields)?))
+    } else if is(word, "revert") {
+        Ok(Instruction::Edit(revert_named(fields)?))
     } else {
         Err(LineFault::BadCommand)
     }

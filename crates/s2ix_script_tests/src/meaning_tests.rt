@@ -21,6 +21,8 @@ enum Asked {
     // a label, and a level or another label
     Grow(u32, u8),
     Normal(u32),
+    // the number of a change
+    Revert(u32),
     Region(u32),
     Common(u32, u32),
     Only(u32, u32),
@@ -29,7 +31,7 @@ enum Asked {
 }
 
 // Lines without fields, comments, and lines whose fields stand between white space of Unicode.
-const REQUESTS: [(&[u8], Asked); 25] = [
+const REQUESTS: [(&[u8], Asked); 28] = [
     (b"", Asked::Nothing),
     (b" \t\r", Asked::Nothing),
     (b"# note", Asked::Nothing),
@@ -59,10 +61,14 @@ const REQUESTS: [(&[u8], Asked); 25] = [
     (b"region 9", Asked::Region(9)),
     (b"common 9 3", Asked::Common(9, 3)),
     (b"only 9 3", Asked::Only(9, 3)),
+    // numbers of changes
+    (b"revert 1", Asked::Revert(1)),
+    (b"revert 100000", Asked::Revert(100000)),
+    (b"revert 0000000002", Asked::Revert(2)),
 ];
 
 // Lines with the first of their faults.
-const FAULTS: [(&[u8], LineFault); 68] = [
+const FAULTS: [(&[u8], LineFault); 75] = [
     // no word of a script, or not as many fields as fit the word
     (b"ADD 04 9", LineFault::BadCommand),
     (b"addd 04 9", LineFault::BadCommand),
@@ -90,6 +96,9 @@ const FAULTS: [(&[u8], LineFault); 68] = [
     (b"grow 4", LineFault::BadArguments),
     (b"grow 4 1 1", LineFault::BadArguments),
     (b"normal", LineFault::BadArguments),
+    (b"revert", LineFault::BadArguments),
+    (b"revert 1 2", LineFault::BadArguments),
+    (b"revert x x", LineFault::BadArguments),
     (b"region 1 2", LineFault::BadArguments),
     (b"common 1", LineFault::BadArguments),
     (b"only 1 2 3", LineFault::BadArguments),
@@ -126,6 +135,10 @@ const FAULTS: [(&[u8], LineFault); 68] = [
     (b"grow 4 31", LineFault::BadLevel),
     (b"grow 4 x", LineFault::BadLevel),
     (b"grow x 31", LineFault::BadLabel),
+    (b"revert 0", LineFault::BadNumber),
+    (b"revert 100001", LineFault::BadNumber),
+    (b"revert x", LineFault::BadNumber),
+    (b"revert 00000000001", LineFault::BadNumber),
     (b"common 1 x", LineFault::BadLabel),
     (b"only x 1", LineFault::BadLabel),
     // U+00A0 separates
@@ -166,6 +179,7 @@ fn is_on_labels(instruction: &Instruction, asked: Asked) -> bool {
         (Instruction::Edit(Edit::Grow { label, level }), Asked::Grow(number, wanted)) => {
             label.get() == number && *level == wanted
         }
+        (Instruction::Edit(Edit::Revert { number }), Asked::Revert(wanted)) => *number == wanted,
         (Instruction::Edit(Edit::Normalise { label }), Asked::Normal(number))
         | (Instruction::Region(label), Asked::Region(number)) => label.get() == number,
         (Instruction::Common(first, second), Asked::Common(one, other))

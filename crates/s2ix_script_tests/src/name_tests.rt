@@ -20,7 +20,10 @@ fn names_are_those_of_the_variants() -> Result<(), Fail> {
     check_names(&[
         (LineFault::LineTooLong.name(), "LineTooLong"),
         (LineFault::BadArguments.name(), "BadArguments"),
+        (LineFault::BadNumber.name(), "BadNumber"),
         (edit_error_name(EditError::JournalFull), "JournalFull"),
+        (edit_error_name(EditError::NoSuchChange), "NoSuchChange"),
+        (edit_error_name(EditError::BelowZero), "BelowZero"),
         (edit_error_name(EditError::TooManyPairs), "TooManyPairs"),
         (undo_error_name(UndoError::NothingToUndo), "NothingToUndo"),
         (redo_error_name(RedoError::NothingToRedo), "NothingToRedo"),
@@ -43,6 +46,11 @@ fn faults_have_texts(rt: HostRuntime) -> Result<(), Fail> {
         rt.alloc(),
         LineError::Fault(LineFault::BadCommand),
         "no word of a script",
+    )?;
+    check_text(
+        rt.alloc(),
+        LineError::Fault(LineFault::BadNumber),
+        "field is no number of a change",
     )?;
     check_text(rt.alloc(), LineError::OutOfMemory, "out of memory")
 }

@@ -13,6 +13,12 @@ returns-in-NotHeld c = search rules
 pub returns-in-TooFine : goal.returns-in-TooFine
 returns-in-TooFine c = search rules
 
+pub returns-in-NoSuchChange : goal.returns-in-NoSuchChange
+returns-in-NoSuchChange c = search rules
+
+pub returns-in-BelowZero : goal.returns-in-BelowZero
+returns-in-BelowZero c = search rules
+
 pub returns-in-NoChange : goal.returns-in-NoChange
 returns-in-NoChange c = search rules
 

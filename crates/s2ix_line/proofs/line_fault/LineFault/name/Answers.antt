@@ -21,3 +21,6 @@ returns-in-BadCount c = search rules
 
 pub returns-in-BadLevel : goal.returns-in-BadLevel
 returns-in-BadLevel c = search rules
+
+pub returns-in-BadNumber : goal.returns-in-BadNumber
+returns-in-BadNumber c = search rules
