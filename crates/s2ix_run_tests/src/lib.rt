@@ -18,6 +18,8 @@ mod random_tests;
 #[cfg(test)]
 mod region_tests;
 #[cfg(test)]
+mod revert_tests;
+#[cfg(test)]
 mod runs;
 #[cfg(test)]
 mod script_tests;

@@ -13,7 +13,7 @@ use std::alloc::Global;
 use std::test::Fail;
 
 // Lines of which the scripts are made: words of all kinds over few cells and labels, refused lines, comments and blank ones.
-const LINES: [&[u8]; 40] = [
+const LINES: [&[u8]; 42] = [
     b"add 04 9",
     b"add 1c 2 3",
     b"add 1 7",
@@ -27,6 +27,8 @@ const LINES: [&[u8]; 40] = [
     b"relabel 3 9",
     b"grow 2 2",
     b"normal 3",
+    b"revert 1",
+    b"revert 3",
     b"addunion 3 04 0c 14 1c",
     b"addunion 9 000001 000003",
     b"undo",

@@ -72,7 +72,7 @@ const SCRIPTS: [Script; 29] = [
     },
     Script {
         name: "another word is none of a script's",
-        input: b"revert 1\n",
+        input: b"take back 1\n",
         output: b"no BadCommand\n",
         ..PLAIN
     },

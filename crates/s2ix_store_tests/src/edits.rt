@@ -1,5 +1,5 @@
-//! Edits from texts, much as a script writes them: `add 04:9:2`, `remove 04:9:2`, `addunion 9 04 3`, `drop 9`, `relabel 9 3`, `grow 9 1`
-//! and `normal 9`.
+//! Edits from texts, much as a script writes them: `add 04:9:2`, `remove 04:9:2`, `addunion 9 04 3`, `drop 9`, `relabel 9 3`, `grow 9 1`,
+//! `normal 9` and `revert 1`.
 
 use s2id_samples::cells_of;
 use s2id_union::CellUnion;
@@ -64,6 +64,12 @@ fn normalise(text: &str) -> Option<Edit> {
     Some(Edit::Normalise { label })
 }
 
+fn revert(text: &str) -> Option<Edit> {
+    Some(Edit::Revert {
+        number: text.parse().ok()?,
+    })
+}
+
 // The edit that a text is.
 pub(crate) fn edit_of(alloc: Global, text: &str) -> Option<Edit> {
     let (word, fields) = text.split_once(' ')?;
@@ -75,6 +81,7 @@ pub(crate) fn edit_of(alloc: Global, text: &str) -> Option<Edit> {
         "relabel" => relabel(fields),
         "grow" => grow(fields),
         "normal" => normalise(fields),
+        "revert" => revert(fields),
         _ => None,
     }
 }
