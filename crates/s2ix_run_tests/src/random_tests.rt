@@ -67,7 +67,7 @@ const LONG: [usize; 3] = [65_535, 65_536, 65_537];
 // Appends a line, now and then filled up with white space to a long one, and its line feed.
 fn push_line(text: &mut Vec<u8>, random: &mut Random) -> Result<(), Fail> {
     let start = text.len();
-    let line = LINES.get(random.below(40) as usize).copied().unwrap_or(b"");
+    let line = LINES.get(random.below(42) as usize).copied().unwrap_or(b"");
     text.extend_from_slice(line)?;
     if let Some(length) = LONG.get(random.below(24) as usize) {
         text.resize(start.saturating_add(*length), b' ')?;
