@@ -8,8 +8,14 @@ mod edit_tests;
 #[cfg(test)]
 mod edits;
 #[cfg(test)]
+mod revert_tests;
+#[cfg(test)]
 mod step_tests;
 #[cfg(test)]
 mod store_tests;
+#[cfg(test)]
+mod sum_tests;
+#[cfg(test)]
+mod sums;
 #[cfg(test)]
 mod table_tests;
