@@ -1,6 +1,6 @@
 // Bags, the changes between them, and what is done with them.
 use crate::calls::{SET_UP, answer, tell};
-use s2ix_bag::{Bag, Change, Limits};
+use s2ix_bag::{Bag, Change, Limits, RevertError};
 use s2ix_read_journal::read_journal;
 use s2ix_replay::{ReplayError, replay, rewind};
 use s2ix_samples::{WIDEST, bag_of, holds_pairs, lists_entries};
@@ -52,6 +52,33 @@ fn refused_bags(rt: HostRuntime) {
     let copy = answer!(&rt, old.copied(rt.alloc()));
     let led = answer!(&rt, old.applied(rt.alloc(), &change));
     assert!(&rt; are_bags(&copy, &led) && holds_pairs(&old, OLD) && lists_entries(&change, THERE));
+}
+
+// The copies of the label that they went to, with more of them and another pair, and what they are without the change.
+const LATER: &str = "04:3:5 1:7:1";
+
+const LATER_BACK: &str = "04:3:5:3 04:9:0:2";
+
+const LEFT: &str = "04:3:3 04:9:2 1:7:1";
+
+#[test]
+fn refused_changes_back(rt: HostRuntime) {
+    let (later, change) = (bag(&rt, rt.alloc(), LATER), change(&rt, rt.alloc()));
+    let back = answer!(&rt, later.reverting(rt.alloc(), &change));
+    let left = answer!(&rt, later.reverted(rt.alloc(), &change));
+    assert!(&rt; lists_entries(&back, LATER_BACK) && holds_pairs(&left, LEFT));
+    assert!(&rt; holds_pairs(&later, LATER) && lists_entries(&change, THERE));
+}
+
+// A refusal to take a change back asks for no memory.
+#[test]
+fn refused_changes_below_zero(rt: HostRuntime) {
+    let (old, change) = (bag(&rt, rt.alloc(), OLD), change(&rt, rt.alloc()));
+    let below = RevertError::BelowZero(0);
+    assert!(&rt; matches!(old.reverting(rt.alloc(), &change), Err(error) if error == below));
+    assert!(&rt; matches!(old.reverted(rt.alloc(), &change), Err(error) if error == below));
+    let copy = answer!(&rt, change.inverse(rt.alloc()));
+    assert!(&rt; lists_entries(&copy, BACK) && holds_pairs(&old, OLD));
 }
 
 // Two pairs added, and the second taken to the first's label.

@@ -14,7 +14,7 @@ struct Script {
     answers: &'static [&'static [u8]],
 }
 
-const SCRIPTS: [Script; 7] = [
+const SCRIPTS: [Script; 9] = [
     Script {
         text: b"add 04 9 2\nadd 04 3\nrelabel 9 3\ndump\nundo\ndump\n",
         answers: &[
@@ -92,6 +92,34 @@ const SCRIPTS: [Script; 7] = [
             b"{\"pairs\":[],\"version\":1}\n",
             b"ok 1\n",
             b"{\"pairs\":[[\"04\",9,1]],\"version\":1}\n",
+        ],
+    },
+    Script {
+        text: b"add 04 9 2\nadd 04 3\nrelabel 9 3\nrevert 1\nrevert 3\nrevert 1\nexport\nrevert 3\nundo\nrevert 5\nrevert 0\n",
+        answers: &[
+            b"ok 1\n",
+            b"ok 1\n",
+            b"ok 2\n",
+            b"no BelowZero\n",
+            b"ok 2\n",
+            b"ok 1\n",
+            b"{\"pairs\":[[\"04\",3,1]],\"version\":1}\n",
+            b"no BelowZero\n",
+            b"ok 1\n",
+            b"no NoSuchChange\n",
+            b"no BadNumber\n",
+        ],
+    },
+    Script {
+        text: b"add 04 9 2\nadd 04 9 3\nrevert 1\nexport\nundo\nexport\nredo\n",
+        answers: &[
+            b"ok 1\n",
+            b"ok 1\n",
+            b"ok 1\n",
+            b"{\"pairs\":[[\"04\",9,3]],\"version\":1}\n",
+            b"ok 1\n",
+            b"{\"pairs\":[[\"04\",9,5]],\"version\":1}\n",
+            b"ok 1\n",
         ],
     },
 ];

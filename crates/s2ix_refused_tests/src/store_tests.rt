@@ -2,7 +2,7 @@
 use crate::calls::{SET_UP, answer, tell};
 use crate::tables::{Row, has_ranges};
 use s2ix_bag::{Bag, Change, Label, Limits};
-use s2ix_edit::Edit;
+use s2ix_edit::{Edit, EditError};
 use s2ix_samples::{WIDEST, bag_of, holds_pairs, label_of, lists_entries, pair_of};
 use s2ix_store::Store;
 use std::alloc::Global;
@@ -73,6 +73,17 @@ const FIRST: Seen = Seen {
 // Grown once more, by a step that is made again.
 const GROWN_ONCE: Seen = Seen { faces: 4, ..BACK };
 
+// Not grown, by a change that takes the growth back.
+const REVERTED: Seen = Seen {
+    done: &[
+        "1:4:0:1",
+        "3:4:0:1 5:4:0:1 9:4:0:1 b:4:0:1",
+        "3:4:1:0 5:4:1:0 9:4:1:0 b:4:1:0",
+    ],
+    undone: &[],
+    ..FIRST
+};
+
 // A store that starts with all faces.
 const STARTED: Seen = Seen {
     done: &[],
@@ -142,10 +153,22 @@ fn check_redo(rt: &(impl Abort + Print), store: &mut Store, before: &Seen, after
     check_step(rt, store, number, after);
 }
 
-fn check_growth(rt: &(impl Abort + Print), store: &mut Store, before: &Seen, after: &Seen) {
-    let grow = growing(rt);
-    let number = answer!(rt, store.edit(&grow), check_seen(rt, store, before));
+fn check_edit(
+    rt: &(impl Abort + Print),
+    store: &mut Store,
+    edit: &Edit,
+    before: &Seen,
+    after: &Seen,
+) {
+    let number = answer!(rt, store.edit(edit), check_seen(rt, store, before));
     check_step(rt, store, number, after);
+}
+
+// Looks that a change is not taken back for this reason, and that all stays.
+fn check_no_revert(rt: &impl Abort, store: &mut Store, number: u32, error: EditError, seen: &Seen) {
+    let told = store.edit(&Edit::Revert { number }).err();
+    assert!(rt; told == Some(error));
+    check_seen(rt, store, seen);
 }
 
 #[test]
@@ -156,7 +179,18 @@ fn refused_steps(rt: HostRuntime) {
     check_redo(&rt, &mut store, &FIRST, &GROWN_ONCE);
     check_redo(&rt, &mut store, &GROWN_ONCE, &GROWN);
     check_undo(&rt, &mut store, &GROWN, &BACK);
-    check_growth(&rt, &mut store, &BACK, &GROWN);
+    check_edit(&rt, &mut store, &growing(&rt), &BACK, &GROWN);
+}
+
+// Want of memory never comes in place of a number that no change has, or of a count below zero.
+#[test]
+fn refused_reverts(rt: HostRuntime) {
+    let mut store = grown(&rt, rt.alloc());
+    let revert = Edit::Revert { number: 2 };
+    check_undo(&rt, &mut store, &GROWN, &BACK);
+    check_no_revert(&rt, &mut store, 3, EditError::NoSuchChange, &BACK);
+    check_edit(&rt, &mut store, &revert, &BACK, &REVERTED);
+    check_no_revert(&rt, &mut store, 2, EditError::BelowZero, &REVERTED);
 }
 
 #[test]
