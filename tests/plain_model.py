@@ -42,6 +42,10 @@ def level_named(field):
     return number_of(field, "BadLevel", LEAF_LEVEL)
 
 
+def change_named(field):
+    return number_of(field, "BadNumber", 100000, 1)
+
+
 def fields_of(line):
     """The fields of a line: bytes that are no UTF-8 separate nothing."""
     text = line.decode(errors="surrogateescape")
@@ -51,6 +55,19 @@ def fields_of(line):
 def differences(first, second):
     """The pairs whose counts differ, rising, each with both counts."""
     return [(pair, first.get(pair, 0), second.get(pair, 0)) for pair in sorted({*first, *second}) if first.get(pair, 0) != second.get(pair, 0)]
+
+
+def without_change(collections, number):
+    """The first of some collections, with what leads from each to the next added up again, but for one such change."""
+    changes = [differences(before, after) for before, after in zip(collections, collections[1:])]
+    if number > len(changes):
+        raise Refusal("NoSuchChange")
+    after = dict(collections[0])
+    for pair, old, new in sum(changes[: number - 1] + changes[number:], []):
+        after[pair] = after.get(pair, 0) + new - old
+    if any(count < 0 for count in after.values()):
+        raise Refusal("BelowZero")
+    return after
 
 
 def innermost_first(held):
@@ -187,6 +204,7 @@ class Model:
         self.words |= {name: (getattr(self, name), [cell_of], []) for name in ("at", "path", "neighbors", "face")}
         self.words |= {name: (getattr(self, name), [], cell_of) for name in ("meet", "labels")}
         self.words |= {name: (getattr(self, name), [label_of] * many, []) for name, many in (("region", 1), ("common", 2), ("only", 2))}
+        self.words["revert"] = self.revert, [change_named], []
 
     @property
     def counts(self):
@@ -232,6 +250,9 @@ class Model:
         self.history[self.cursor + 1 :] = [after]
         self.cursor += 1
         return [f"ok {len(changed)}"]
+
+    def revert(self, number):
+        return self.edit(lambda _: without_change(self.history[: self.cursor + 1], number))
 
     def step(self, by, name):
         if not 0 <= self.cursor + by < len(self.history):
