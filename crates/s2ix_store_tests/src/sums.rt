@@ -95,13 +95,21 @@ fn faces(row: Row) -> u8 {
     }
 }
 
+// Some counts, and what each of some changes adds.
+fn summed(first: Row, rows: &[Row]) -> Row {
+    let [mut a, mut b, mut c, mut d] = first;
+    for &[e, f, g, h] in rows {
+        a = a.wrapping_add(e);
+        b = b.wrapping_add(f);
+        c = c.wrapping_add(g);
+        d = d.wrapping_add(h);
+    }
+    [a, b, c, d]
+}
+
 /// The counts: the first ones, and what each change that stands adds.
 pub(crate) fn counts_of(sums: &Sums) -> Row {
-    let mut counts = sums.first;
-    for row in sums.done.iter() {
-        counts = plus(counts, *row);
-    }
-    counts
+    summed(sums.first, sums.done.as_slice())
 }
 
 // What a step adds to the counts, or why it is refused before any limit is looked at.
@@ -179,7 +187,8 @@ fn redo(sums: &mut Sums) -> Option<&'static str> {
 }
 
 fn forget(sums: &mut Sums) -> Option<&'static str> {
-    sums.first = counts_of(sums);
+    let counts = counts_of(sums);
+    sums.first = counts;
     sums.done.clear();
     sums.undone.clear();
     Some("0")
