@@ -58,7 +58,7 @@ reads_none (Grow label level) changes hs reads = refl
 reads_none (Normalise label) changes hs reads = refl
 reads_none (Revert number) changes hs reads = cc
 
-lacks_none : (edit : Edit) (changes : List (List Entry)) → reverts edit ≡ false → lacks_change changes edit ≡ false
+pub lacks_none : (edit : Edit) (changes : List (List Entry)) → reverts edit ≡ false → lacks_change changes edit ≡ false
 lacks_none (Add pair copies) changes reads = refl
 lacks_none (AddUnion cells label) changes reads = refl
 lacks_none (Remove pair copies) changes reads = refl
@@ -68,7 +68,7 @@ lacks_none (Grow label level) changes reads = refl
 lacks_none (Normalise label) changes reads = refl
 lacks_none (Revert number) changes reads = cc
 
-stays_above : (edit : Edit) (changes : List (List Entry)) (hs : Collection) → reverts edit ≡ false → goes_below_zero changes edit hs ≡ false
+pub stays_above : (edit : Edit) (changes : List (List Entry)) (hs : Collection) → reverts edit ≡ false → goes_below_zero changes edit hs ≡ false
 stays_above (Add pair copies) changes hs reads = refl
 stays_above (AddUnion cells label) changes hs reads = refl
 stays_above (Remove pair copies) changes hs reads = refl

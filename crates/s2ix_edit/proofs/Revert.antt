@@ -177,10 +177,14 @@ none_from_below : (found : Option ℕ) → is_some found ≡ false → found ≡
 none_from_below None is = refl
 none_from_below (Some place) is = cc
 
+pub first_above : (hs : Collection) (changes : List (List Entry)) (number : ℕ) (es : List Entry) → numbered number changes ≡ Some es → goes_below_zero changes (Revert number) hs ≡ false → first_below_zero hs es ≡ None
+unfolding below
+first_above hs changes number es found stays =
+    none_from_below (first_below_zero hs es) (sym (below_found hs changes number (Some es) found) ∙ stays)
+
 -- each count is less by the difference that the numbered change has for its pair
 pub subtracts : (hs : Collection) (changes : List (List Entry)) (number : ℕ) (es : List Entry) (pair : Pair) → IsCollection hs → IsChangeList es → numbered number changes ≡ Some es → goes_below_zero changes (Revert number) hs ≡ false → pos (count_in (edited_by changes (Revert number) hs) pair) ≡ pos (count_in hs pair) -ℤ gain_of (counts_at es (rank_of pair))
-unfolding below
 subtracts hs changes number es pair is rises found stays =
-    let none = none_from_below (first_below_zero hs es) (sym (below_found hs changes number (Some es) found) ∙ stays) in
+    let none = first_above hs changes number es found stays in
     ap (λ o. pos (count_in (without_change o hs) pair)) found
     ∙ gain_taken hs es pair is rises (above_from_none hs es none)

@@ -111,10 +111,13 @@ pub all_back_again : (P : List Entry → Type 0) (ess : List (List Entry)) → A
 all_back_again P ess all =
     subst (λ (xs : List (List Entry)). All P xs) (reverse-reverse ess) (all_reversed P (reverse ess) all)
 
+pub some_done : (s : State) → IsStore s → All (λ es. 0 < length es) s.done
+some_done s st = all_back_again HasEntries s.done (some_back s.bag (reverse s.done) st.back)
+
 pub changes_have_entries : (s : State) → IsStore s → All (λ es. 0 < length es) (s.done ++ s.undone)
 changes_have_entries s st =
     All-append HasEntries s.done s.undone
-    (all_back_again HasEntries s.done (some_back s.bag (reverse s.done) st.back))
+    (some_done s st)
     (all_back_again HasEntries s.undone (some_on s.bag (reverse s.undone) st.on))
 
 -- ---- the cursor

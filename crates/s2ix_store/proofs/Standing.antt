@@ -92,10 +92,10 @@ rises_back bag [] back = All-nil IsChangeList
 rises_back bag (es ∷ older) back =
     All-cons IsChangeList es older back.0 (rises_back (with_held bag (changed bag.held (inverse_of es))) older back.3)
 
-changes_rise : (s : State) → IsStore s → All IsChangeList s.done
+pub changes_rise : (s : State) → IsStore s → All IsChangeList s.done
 changes_rise s st = all_back_again IsChangeList s.done (rises_back s.bag (reverse s.done) st.back)
 
-numbered_holds : (P : List Entry → Type 0) (number : ℕ) (ess : List (List Entry)) (es : List Entry) → All P ess → numbered number ess ≡ Some es → P es
+pub numbered_holds : (P : List Entry → Type 0) (number : ℕ) (ess : List (List Entry)) (es : List Entry) → All P ess → numbered number ess ≡ Some es → P es
 numbered_holds P zero ess es all found = cc
 numbered_holds P (suc place) ess es all found =
     subst P (get_or_from_slice_get ess place es es found) (All-get_or P ess place es (slice_get_within ess place es found) all)
@@ -110,7 +110,7 @@ accepted_by false false false rest none = (refl, refl)
 accepted_revert : (s : State) (number : ℕ) → edit_refusal s (Revert number) ≡ None → (lacks_change s.done (Revert number) ≡ false) × (goes_below_zero s.done (Revert number) s.bag.held ≡ false)
 accepted_revert s number none = accepted_by _ _ _ _ none
 
-found_of : (found : Option (List Entry)) → (elim found [ Some es ↦ false | None ↦ true ]) ≡ false → (es : List Entry) × (found ≡ Some es)
+pub found_of : (found : Option (List Entry)) → (elim found [ Some es ↦ false | None ↦ true ]) ≡ false → (es : List Entry) × (found ≡ Some es)
 found_of (Some es) is = (es, refl)
 found_of None is = cc
 

@@ -1,6 +1,6 @@
 //! Laws: functions that do nothing, and whose contracts are facts on the definitions.
 
-ghost use Rattle.std.specs.Prelude.{◌≡◌, ◌≢◌, ℕ, ◌+◌, pos, ◌+ℤ◌, Some, None, ◌<◌, [], ◌∷◌, ◌++◌, length, reverse, slice_get, take, All, List};
+ghost use Rattle.std.specs.Prelude.{◌≡◌, ◌≢◌, ℕ, ◌+◌, pos, ◌+ℤ◌, Some, None, false, ◌<◌, [], ◌∷◌, ◌++◌, length, reverse, slice_get, take, All, List};
 ghost use Rattle.s2ix_pairs.specs.declared.pair.Pair.{Pair};
 ghost use Rattle.s2ix_pairs.specs.Change.{IsChangeList, counts_at, difference_of};
 ghost use Rattle.s2ix_pairs.specs.Collection.{LimitedCollection, IsBag, count_in};
@@ -10,7 +10,8 @@ ghost use Rattle.s2ix_edit.specs.declared.edit.Edit.TheVariants.{Revert};
 ghost use Rattle.s2ix_edit.specs.Edit.{edited, edited_by};
 ghost use Rattle.s2ix_edit.specs.History.{changes_along, cursor_alone, one_back, one_on, with_next};
 ghost use Rattle.s2ix_edit.specs.State.{State, change_of, history_of, starting_at};
-ghost use Rattle.s2ix_edit.specs.Refusals.{edit_refusal};
+ghost use Rattle.s2ix_edit.specs.Refusals.{edit_refusal, reverts};
+ghost use Rattle.s2ix_edit.specs.declared.errors.EditError.TheVariants.{NoSuchLabel, NotHeld, TooFine, NoSuchChange, BelowZero, NoChange};
 ghost use Rattle.s2ix_store.specs.Standing.{first_collection, gain_along, without_numbered};
 ghost use Rattle.s2ix_store.specs.Steps.{after_edit, after_forget, after_redo, after_undo, with_held};
 ghost use Rattle.s2ix_store.specs.Store.{IsStore};
@@ -136,6 +137,18 @@ pub fn revert_leaves_a_change_out()
         → edit_refusal s (Revert number) ≡ None
         → pos (count_in (edited (history_of s) (Revert number)) pair)
         ≡ pos (count_in (first_collection s) pair) +ℤ gain_along (without_numbered number s.done) pair }
+{}
+
+/// A store refuses a `Revert` for no label, for no copies that aren't held, for no level, and never because nothing would
+/// change; and no other edit for a change that doesn't stand or a count below 0.
+pub fn reverts_have_refusals_of_their_own()
+    ensures revert { (s : State) (number : ℕ)
+        → IsStore s
+        → let refusal = edit_refusal s (Revert number) in
+        (refusal ≢ Some NoSuchLabel) × (refusal ≢ Some NotHeld) × (refusal ≢ Some TooFine) × (refusal ≢ Some NoChange) }
+    ensures others { (s : State) (edit : Edit)
+        → reverts edit ≡ false
+        → (edit_refusal s edit ≢ Some NoSuchChange) × (edit_refusal s edit ≢ Some BelowZero) }
 {}
 
 /// Each step of a store is the step of its history: an edit goes on to the edited collection, undo goes back by one,
