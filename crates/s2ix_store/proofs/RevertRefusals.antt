@@ -1,10 +1,10 @@
 -- Which refusals a revert can meet, and which the other edits.
-use Rattle.std.proofs.Common.{◌≡◌, ◌≢◌, ℕ, ◌<◌, ◌==◌, nat_lt, nat_le, Bool, true, false, cond, List, [], ◌∷◌, length, map, Option, Some, None, refl, sym, ap, ◌∙◌, arith, ne_eqb}
+use Rattle.std.proofs.Common.{◌≡◌, ◌≢◌, ℕ, ◌<◌, ◌==◌, nat_lt, nat_le, Bool, true, false, cond, List, length, Option, Some, None, refl, sym, ap, ◌∙◌, arith, ne_eqb}
 use Rattle.std.proofs.lemmas.List.{length-map}
 use Rattle.s2ix_pairs.specs.declared.pair.Entry.{Entry}
 use Rattle.s2ix_pairs.specs.Change.{change_between, IsChangeList}
 use Rattle.s2ix_pairs.specs.Limits.{pairs_limit, count_limit, changes_limit}
-use Rattle.s2ix_pairs.specs.TakenBack.{change_back, entry_back, taken_back}
+use Rattle.s2ix_pairs.specs.TakenBack.{entry_back}
 use Rattle.s2ix_pairs.proofs.TakenBack.{above_from_none, between_taken_back}
 use Rattle.s2ix_edit.specs.declared.edit.Edit.{Edit}
 use Rattle.s2ix_edit.specs.declared.edit.Edit.TheVariants.{Revert}
