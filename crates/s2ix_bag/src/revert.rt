@@ -71,7 +71,8 @@ fn length_back(bag: &Bag, entries: &[Entry]) -> usize
     bag.len() + gains(bag, entries) - losses(bag, entries)
 }
 
-// Why a change is not taken back by a bag with these limits, memory aside: each test goes over all entries, in the order of the errors. O(m log n).
+// Why a change is not taken back by a bag with these limits, memory aside: each test goes over all entries, in the order of the errors.
+// O(m log n).
 pub(crate) fn refusal(bag: &Bag, limits: Limits, entries: &[Entry]) -> Option<RevertError>
     requires own { limits ≡ bag.now.limits }
     requires rises { IsChangeList entries.now }
