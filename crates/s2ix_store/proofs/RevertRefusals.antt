@@ -88,8 +88,8 @@ changes_some s number st there stays =
     let some = numbered_holds (λ (ds : List Entry). 0 < length ds) number s.done es (some_done s st) found.1 in
     let none = first_above s.bag.held s.done number es found.1 stays in
     let listed =
-        ap (λ hs. change_between s.bag.held hs) (edited_held s (Revert number) (stand s st) ∙ ap (λ o. without_change o s.bag.held) found.1)
-        ∙ between_taken_back s.bag.held es st.bag.rises rises (above_from_none s.bag.held es none) in
+    ap (λ hs. change_between s.bag.held hs) (edited_held s (Revert number) (stand s st) ∙ ap (λ o. without_change o s.bag.held) found.1)
+    ∙ between_taken_back s.bag.held es st.bag.rises rises (above_from_none s.bag.held es none) in
     ne_eqb _ _ (λ same. absurd (omega (arith, some, same, ap length listed, length-map es (entry_back s.bag.held))))
 
 -- a revert is refused for the journal, its change, counts or pairs alone

@@ -72,12 +72,7 @@ const REFUSED: [&str; 7] = [
 
 // The changes that stand there.
 const DONE: [&str; 6] = [
-    "04:9:0:3",
-    "04:9:3:0",
-    "04:9:0:1",
-    "1:5:0:1",
-    "1:5:1:0",
-    "3:9:0:2",
+    "04:9:0:3", "04:9:3:0", "04:9:0:1", "1:5:0:1", "1:5:1:0", "3:9:0:2",
 ];
 
 // An accepted one lets go what was undone, and an undo takes it back.

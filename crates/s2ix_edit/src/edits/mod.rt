@@ -31,12 +31,7 @@ use std::alloc::Global;
 /// O(n + m log n) and `Normalise` O(n + m log m) for m pairs of the label, and `Grow` O(n + b log b) for b cells beside those of
 /// the label. `Revert` takes O(m log n) for the m entries of the change that it takes back, however many stand. This project's
 /// own.
-pub fn plan(
-    alloc: Global,
-    bag: &Bag,
-    changes: &[Change],
-    edit: &Edit,
-) -> Result<Change, PlanError>
+pub fn plan(alloc: Global, bag: &Bag, changes: &[Change], edit: &Edit) -> Result<Change, PlanError>
     ensures plan { IfOk result (Plans bag.now changes.now edit.now) }
     ensures refused { IfErr result (IsPlanRefusal bag.now changes.now edit.now) }
 {

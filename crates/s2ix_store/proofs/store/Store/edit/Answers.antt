@@ -35,9 +35,9 @@ returns-in_err-change-clause-refused c =
     let Same : EditError → Type 0 = λ error. IsEditRefusal error (edit_refusal s edit) in
     let Refused : Option EditError → Type 0 = λ refusal. IsEditRefusal (edit_error c.in_err-change.field-0.0) refusal in
     let fresh =
-        refused_of c.self.inside.bag _ _ edit c.as_slice.ensures.value
-        ∙ ap (λ (t : State). plan_refusal t.bag t.done edit) c.self.view_is
-        ∙ sym (with_room s edit (stand s (stood a)) (room a)) in
+    refused_of c.self.inside.bag _ _ edit c.as_slice.ensures.value
+    ∙ ap (λ (t : State). plan_refusal t.bag t.done edit) c.self.view_is
+    ∙ sym (with_room s edit (stand s (stood a)) (room a)) in
     let p = err_from_is_err_and c.from_residual.result c.from_residual.ensures.1 in
     rw (p.1) (subst Same (sym p.2) (subst Refused fresh c.in_err-change.ensures.refused))
 
