@@ -177,8 +177,9 @@ impl Bag {
 
     /// The change that takes another one back from this bag, wherever in the bag's past that stands: it leads each of the change's pairs
     /// from the count that the bag has now to that count less the change's difference, after less before. The three refusals are each
-    /// tested over all entries, in their order, before any growth; `OutOfMemory` where a growth is refused. O(m log n) for m entries and
-    /// n pairs. This project's own.
+    /// tested over all entries, in their order, before any growth; `OutOfMemory` where a growth is refused. The clauses
+    /// `within` and `rises` speak of this bag and of the change that is taken back. O(m log n) for m entries and n pairs. This project's
+    /// own.
     pub fn reverting(&self, alloc: Global, change: &Change) -> Result<Change, RevertError>
         ensures entries { IfOk result (λ back. back ≡ change_back self.now.held change.now) }
         ensures accepted { OnOk result (revert_refusal self.now change.now ≡ None) }

@@ -31,7 +31,7 @@ pub fn edits_read_the_collection()
 {}
 
 /// `Revert` subtracts the difference, the count after less the count before, that the change with the number has for each
-/// pair, and leaves every other count. The changes of a history are counted from 1, the oldest first, up to the cursor.
+/// pair, and leaves every other count. The changes are counted from 1, the oldest first.
 pub fn revert_subtracts_a_change()
     ensures { (hs : Collection) (changes : List (List Entry)) (number : ℕ) (es : List Entry) (pair : Pair)
         → IsCollection hs

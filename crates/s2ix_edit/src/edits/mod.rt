@@ -1,5 +1,5 @@
-//! What each edit changes: the entries that carry it out, before any limit is looked at. Each edit has a file of its
-//! own with its `plan`; what several of them are made of stands in `parts`.
+//! What each edit changes: the entries that carry it out. Each edit has a file of its own with its `plan`; what several of
+//! them are made of stands in `parts`.
 
 mod add;
 mod add_union;
@@ -23,9 +23,10 @@ use std::alloc::Global;
 /// would change. The bag stays as it is; [`Bag::applied`] makes the next one of the change. `changes` are those that led to
 /// the bag, the oldest first, of which `Revert` takes one back; no other edit reads them.
 ///
-/// Whether the counts and the pairs fit the bag is found when the change is applied, but for `Revert`, and for a sum that no
-/// `u32` holds, which is above every limit: these answer `TooManyCopies` and `TooManyPairs` here. Of the errors of
-/// [`PlanError`] the first that stands is answered, and `OutOfMemory` may come in place of these two.
+/// Of the errors of [`PlanError`] the first that stands is answered. Whether the counts and the pairs fit the bag is found when
+/// the change is applied; but the plan of `Revert` has tested it, and answers `TooManyCopies` and `TooManyPairs` itself, and a
+/// sum that no `u32` holds is above every limit and `TooManyCopies` here. `OutOfMemory` comes in place of no other error of
+/// `Revert`, and of no error but `TooManyCopies` of the others.
 ///
 /// For n pairs held, `Add` and `Remove` take O(log n), `AddUnion` O(m log n) for m cells, `DropLabel` O(n), `Relabel`
 /// O(n + m log n) and `Normalise` O(n + m log m) for m pairs of the label, and `Grow` O(n + b log b) for b cells beside those of
