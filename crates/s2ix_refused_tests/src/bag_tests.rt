@@ -61,24 +61,18 @@ const LATER_BACK: &str = "04:3:5:3 04:9:0:2";
 
 const LEFT: &str = "04:3:3 04:9:2 1:7:1";
 
+// Memory is wanted in no place of a count below zero.
 #[test]
 fn refused_changes_back(rt: HostRuntime) {
     let (later, change) = (bag(&rt, rt.alloc(), LATER), change(&rt, rt.alloc()));
+    let old = bag(&rt, rt.alloc(), OLD);
+    let below = RevertError::BelowZero(0);
+    assert!(&rt; matches!(old.reverting(rt.alloc(), &change), Err(error) if error == below));
+    assert!(&rt; matches!(old.reverted(rt.alloc(), &change), Err(error) if error == below));
     let back = answer!(&rt, later.reverting(rt.alloc(), &change));
     let left = answer!(&rt, later.reverted(rt.alloc(), &change));
     assert!(&rt; lists_entries(&back, LATER_BACK) && holds_pairs(&left, LEFT));
     assert!(&rt; holds_pairs(&later, LATER) && lists_entries(&change, THERE));
-}
-
-// A refusal to take a change back asks for no memory.
-#[test]
-fn refused_changes_below_zero(rt: HostRuntime) {
-    let (old, change) = (bag(&rt, rt.alloc(), OLD), change(&rt, rt.alloc()));
-    let below = RevertError::BelowZero(0);
-    assert!(&rt; matches!(old.reverting(rt.alloc(), &change), Err(error) if error == below));
-    assert!(&rt; matches!(old.reverted(rt.alloc(), &change), Err(error) if error == below));
-    let copy = answer!(&rt, change.inverse(rt.alloc()));
-    assert!(&rt; lists_entries(&copy, BACK) && holds_pairs(&old, OLD));
 }
 
 // Two pairs added, and the second taken to the first's label.
