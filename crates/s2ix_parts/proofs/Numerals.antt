@@ -113,52 +113,54 @@ label_of_digits label =
 
 -- ---- counts
 
-count_at : (number : Option ℕ) → ((n : ℕ) → n < 2 ^ 32 → number ≢ Some n) → option_and_then count_from number ≡ None
-count_at None large = refl
-count_at (Some n) large =
+count_at : (most : ℕ) → most < 2 ^ 32 → (number : Option ℕ) → ((n : ℕ) → n < 2 ^ 32 → number ≢ Some n) → option_and_then (count_from most) number ≡ None
+count_at most bounded None large = refl
+count_at most bounded (Some n) large =
     ⊎_elim
     (λ small. absurd (large n small refl))
-    (λ above. cond-false _ _ _ (and_right _ _ (lt-leb n 65535 (omega arith))))
+    (λ above. cond-false _ _ _ (and_right _ _ (lt-leb n most (omega arith))))
     (cases_lt n (2 ^ 32))
 
-pub no_count : (text : List ℕ) → ((n : ℕ) → n < 2 ^ 32 → number_written text ≢ Some n) → count_written text ≡ None
+pub no_count : (most : ℕ) → most < 2 ^ 32 → (text : List ℕ) → ((n : ℕ) → n < 2 ^ 32 → number_written text ≢ Some n) → count_written most text ≡ None
 unfolding count_written
-no_count text large = count_at (number_written text) large
+no_count most bounded text large = count_at most bounded (number_written text) large
 
-pub count_from_number : (text : List ℕ) (n : ℕ) → number_written text ≡ Some n → count_written text ≡ count_from n
+pub count_from_number : (most : ℕ) (text : List ℕ) (n : ℕ) → number_written text ≡ Some n → count_written most text ≡ count_from most n
 unfolding count_written
-count_from_number text n is = ap (option_and_then count_from) is
+count_from_number most text n is = ap (option_and_then (count_from most)) is
 
-pub count_within : (n : ℕ) → 1 ≤ n → n ≤ 65535 → count_from n ≡ Some n
-count_within n low high = cond-true _ _ _ (and_from _ _ (le-leb 1 n low) (le-leb n 65535 high))
+pub count_within : (most n : ℕ) → 1 ≤ n → n ≤ most → count_from most n ≡ Some n
+count_within most n low high = cond-true _ _ _ (and_from _ _ (le-leb 1 n low) (le-leb n most high))
 
-count_zero : (n : ℕ) → n < 1 → count_from n ≡ None
-count_zero n low = cond-false _ _ _ (and_left _ _ (lt-leb 1 n low))
+count_zero : (most n : ℕ) → n < 1 → count_from most n ≡ None
+count_zero most n low = cond-false _ _ _ (and_left _ _ (lt-leb 1 n low))
 
-count_above : (n : ℕ) → 65535 < n → count_from n ≡ None
-count_above n high = cond-false _ _ _ (and_right _ _ (lt-leb n 65535 high))
+count_above : (most n : ℕ) → most < n → count_from most n ≡ None
+count_above most n high = cond-false _ _ _ (and_right _ _ (lt-leb n most high))
 
-pub count_outside : (n : ℕ) → (0 < n → 65535 < n) → count_from n ≡ None
-count_outside n outside = ⊎_elim (λ none. count_zero n none) (λ some. count_above n (outside (omega arith))) (cases_lt n 1)
+pub count_outside : (most n : ℕ) → (0 < n → most < n) → count_from most n ≡ None
+count_outside most n outside =
+    ⊎_elim (λ none. count_zero most n none) (λ some. count_above most n (outside (omega arith))) (cases_lt n 1)
 
-count_in_range : (number : Option ℕ) (n : ℕ) → option_and_then count_from number ≡ Some n → (number ≡ Some n) × (1 ≤ n) × (n ≤ 65535)
-count_in_range None n is = cc
-count_in_range (Some m) n is =
+count_in_range : (most : ℕ) (number : Option ℕ) (n : ℕ) → option_and_then (count_from most) number ≡ Some n → (number ≡ Some n) × (1 ≤ n) × (n ≤ most)
+count_in_range most None n is = cc
+count_in_range most (Some m) n is =
     ⊎_elim
-    (λ low. let clash : None ≡ Some n = sym (count_zero m low) ∙ is in cc)
+    (λ low. let clash : None ≡ Some n = sym (count_zero most m low) ∙ is in cc)
     (λ some. ⊎_elim
-    (λ high. let clash : None ≡ Some n = sym (count_above m high) ∙ is in cc)
-    (λ few. let same : Some m ≡ Some n = sym (count_within m some few) ∙ is in let equal : m ≡ n = cc in (ap Some equal, omega arith, omega arith))
-    (cases_lt 65535 m))
+    (λ high. let clash : None ≡ Some n = sym (count_above most m high) ∙ is in cc)
+    (λ few. let same : Some m ≡ Some n = sym (count_within most m some few) ∙ is in let equal : m ≡ n = cc in (ap Some equal, omega arith, omega arith))
+    (cases_lt most m))
     (cases_lt m 1)
 
-pub written_count : (text : List ℕ) (n : ℕ) → count_written text ≡ Some n → (text ≡ decimal n) × (1 ≤ n) × (n ≤ 65535)
+pub written_count : (most : ℕ) (text : List ℕ) (n : ℕ) → count_written most text ≡ Some n → (text ≡ decimal n) × (1 ≤ n) × (n ≤ most)
 unfolding count_written
-written_count text n is =
-    let range = count_in_range (number_written text) n is in (written_number text n range.0, range.1, range.2)
+written_count most text n is =
+    let range = count_in_range most (number_written text) n is in (written_number text n range.0, range.1, range.2)
 
-pub count_of_digits : (n : ℕ) → 1 ≤ n → n ≤ 65535 → count_written (decimal n) ≡ Some n
-count_of_digits n low high = count_from_number (decimal n) n (number_of_digits n (omega arith)) ∙ count_within n low high
+pub count_of_digits : (most n : ℕ) → most < 2 ^ 32 → 1 ≤ n → n ≤ most → count_written most (decimal n) ≡ Some n
+count_of_digits most n bounded low high =
+    count_from_number most (decimal n) n (number_of_digits n (omega arith)) ∙ count_within most n low high
 
 -- ---- what the code of `written` tests
 

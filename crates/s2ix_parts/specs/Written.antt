@@ -29,13 +29,13 @@ number_written text = if bytes_eq text (decimal (digits_value 10 text)) then Som
 unfoldable pub label_written : List ℕ → Option Label
 label_written text = option_and_then label_numbered (number_written text)
 
--- a count of a pair that is held: from 1 to 65535
-abbrev pub count_from : ℕ → Option ℕ
-count_from n = if nat_le 1 n && nat_le n 65535 then Some n else None
+-- a count of a pair that is held: from 1 to the greatest that may be written
+abbrev pub count_from : ℕ → ℕ → Option ℕ
+count_from most n = if nat_le 1 n && nat_le n most then Some n else None
 
 -- the count of a held pair that a text writes
-unfoldable pub count_written : List ℕ → Option ℕ
-count_written text = option_and_then count_from (number_written text)
+unfoldable pub count_written : ℕ → List ℕ → Option ℕ
+count_written most text = option_and_then (count_from most) (number_written text)
 
 -- the pair of a cell and a label, where there are both
 abbrev pub pair_with : Option CellId → Option Label → Option Pair
@@ -48,8 +48,8 @@ unfoldable pub pair_written : List ℕ → Option Pair
 pair_written line = pair_with (cell_written (part 0 line)) (label_written (part 1 line))
 
 -- the count that the third part of a line writes; 0 where it writes none
-unfoldable pub count_of_line : List ℕ → ℕ
-count_of_line line = unwrap_or (count_written (part 2 line)) 0
+unfoldable pub count_of_line : ℕ → List ℕ → ℕ
+count_of_line most line = unwrap_or (count_written most (part 2 line)) 0
 
 -- a pair comes before another, where there are both
 abbrev pub comes_before : Option Pair → Option Pair → Bool

@@ -41,12 +41,12 @@ pub fn label_written(text: &[u8]) -> Option<Label>
     Label::new(number_written(text)?)
 }
 
-/// The count of a pair that is held, from 1 to 65535, which a text writes in canonical digits. O(n) for n bytes. This project's own.
-pub fn count_written(text: &[u8]) -> Option<u32>
-    ensures { result ≡ count_that text.now }
+/// The count of a pair that is held, from 1 to `most`, which a text writes in canonical digits. O(n) for n bytes. This project's own.
+pub fn count_written(most: u32, text: &[u8]) -> Option<u32>
+    ensures { result ≡ count_that most text.now }
 {
     let count = number_written(text)?;
-    if count == 0 || count > 65535 {
+    if count == 0 || count > most {
         return None;
     }
     Some(count)

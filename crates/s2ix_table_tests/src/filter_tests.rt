@@ -13,8 +13,8 @@ use s2ix_table::{RangeRow, RangeTable};
 use std::alloc::Global;
 use std::test::Fail;
 
-// How many labels the random pairs have.
-const LABELS: u32 = 9;
+/// How many labels the random pairs have.
+pub(crate) const LABELS: u32 = 9;
 
 // A table with the bag that it was built of, and its number.
 #[derive(Drop)]
@@ -80,8 +80,8 @@ fn check_targets<T: RangeTable>(
     Ok(())
 }
 
-// Compares what a table answers that is a bag's.
-fn check_built<T: RangeTable>(
+/// Compares what a table answers that is a bag's.
+pub(crate) fn check_built<T: RangeTable>(
     alloc: Global,
     number: usize,
     table: &T,
@@ -93,8 +93,8 @@ fn check_built<T: RangeTable>(
     check_targets(alloc, &sample, random)
 }
 
-// Builds the table of a bag, and compares what it answers.
-fn check_table<T: RangeTable + Drop>(
+/// Builds the table of a bag, and compares what it answers.
+pub(crate) fn check_table<T: RangeTable + Drop>(
     alloc: Global,
     number: usize,
     bag: &Bag,
