@@ -1,5 +1,6 @@
 -- A collection with one held pair more at its end.
-use Rattle.std.proofs.Common.{◌≡◌, ℕ, ◌+◌, ◌<◌, ◌≤◌, true, Some, [], ◌∷◌, ◌++◌, All, length, refl, subst, arith}
+use Rattle.std.proofs.Common.{◌≡◌, ℕ, ◌+◌, ◌<◌, ◌≤◌, true, Some, List, [], ◌∷◌, ◌++◌, All, length, refl, subst, arith}
+use Rattle.std.specs.Prelude.{codes}
 use Rattle.std.proofs.lemmas.Bool.{lt-ltb, ltb-true}
 use Rattle.std.proofs.lemmas.List.{length-append, length_push, take_at}
 use Rattle.std.proofs.lemmas.List.Elements.{All-cons, All-head, All-nil, All-push, All-tail, All-take}
@@ -9,7 +10,8 @@ use Rattle.s2ix_pairs.specs.Pair.{rank_of}
 use Rattle.s2ix_pairs.specs.declared.limits.Limits.{Limits}
 use Rattle.s2ix_pairs.specs.declared.pair.Held.{Held}
 use Rattle.s2ix_lists.proofs.Parts.{collection_take}
-use Rattle.s2ix_read_dump.specs.PairLines.{last_pair}
+use Rattle.s2ix_read_dump.specs.DumpFaults.{greatest_count}
+use Rattle.s2ix_read_dump.specs.PairLines.{IsDumped, last_pair}
 use Rattle.s2ix_parts.specs.Written.{comes_before}
 use Rattle.s2ix_read_dump.proofs.PairTexts.{HasCount}
 
@@ -40,13 +42,12 @@ positive : (n : ℕ) (hs : Collection) → IsCollectionFrom n hs → All (λ (h 
 positive n [] is = All-nil (λ (h : Held). 0 < h.count)
 positive n (h ∷ hs) is = All-cons (λ (h : Held). 0 < h.count) h hs is.1 (positive (rank_of h.pair + 1) hs is.2)
 
-pub counts_are : (limits : Limits) (hs : Collection) → IsBag (record { limits = limits; held = hs }) → All HasCount hs
-counts_are limits hs is =
+pub counts_are : (limits : Limits) (header : List ℕ) (hs : Collection) → IsDumped limits header hs → All (HasCount header) hs
+counts_are limits header hs is =
     λ k d within.
-    let some = positive 0 hs is.rises k d within in
-    let small = is.small k d within in
-    let most : count_limit limits ≤ 65535 = limits.in_range.3 in
-    (omega (arith, some), omega (arith, small, most))
+    let some = positive 0 hs is.bag.rises k d within in
+    let small = is.written k d within in
+    (omega (arith, some), omega (arith, small))
 
 pub front_has : (P : Held → Type 0) (hs ks : Collection) → All P (hs ++ ks) → All P hs
 front_has P hs ks all = subst (All P) (take_at hs ks (length hs) refl) (All-take P (length hs) (hs ++ ks) all)
@@ -55,19 +56,37 @@ pub here_has : (P : Held → Type 0) (hs : Collection) (k : Held) (ks : Collecti
 here_has P [] k ks all = All-head P k ks all
 here_has P (h ∷ hs) k ks all = here_has P hs k ks (All-tail P h (hs ++ k ∷ ks) all)
 
--- ---- the bag
+-- ---- the pairs of a dump
 
-pub bag_more : (limits : Limits) (hs : Collection) (h : Held) → IsBag (record { limits = limits; held = hs }) → HasCount h → comes_before (last_pair hs) (Some h.pair) ≡ true → h.count ≤ count_limit limits → length hs < pairs_limit limits
-    → IsBag (record { limits = limits; held = hs ++ h ∷ [] })
-bag_more limits hs h is counted before small few = record {
-  rises = rises_more hs h is.rises before (omega (arith, counted.0));
-  few = omega (arith, length_push hs h, few);
-  small = All-push (λ (x : Held). x.count ≤ count_limit limits) hs h is.small small;
+-- the limits allow no count that a dump doesn't write
+pub dumped_from_limits : (limits : Limits) (hs : Collection) → IsBag (record { limits = limits; held = hs }) → IsDumped limits (codes "s2ix 1") hs
+unfolding greatest_count
+dumped_from_limits limits hs is = record {
+  bag = is;
+  written =
+      λ k d within.
+      let small = is.small k d within in
+      let most : count_limit limits ≤ 65535 = limits.in_range.3 in
+      omega (arith, small, most);
 }
 
-pub front_is_bag : (limits : Limits) (hs ks : Collection) → IsBag (record { limits = limits; held = hs ++ ks }) → IsBag (record { limits = limits; held = hs })
-front_is_bag limits hs ks is = record {
-  rises = subst IsCollection (take_at hs ks (length hs) refl) (collection_take (length hs) 0 (hs ++ ks) is.rises);
-  few = omega (arith, length-append hs ks, is.few);
-  small = front_has (λ (h : Held). h.count ≤ count_limit limits) hs ks is.small;
+pub dumped_more : (limits : Limits) (header : List ℕ) (hs : Collection) (h : Held) → IsDumped limits header hs → HasCount header h → comes_before (last_pair hs) (Some h.pair) ≡ true → h.count ≤ count_limit limits → length hs < pairs_limit limits
+    → IsDumped limits header (hs ++ h ∷ [])
+dumped_more limits header hs h is counted before small few = record {
+  bag = record {
+    rises = rises_more hs h is.bag.rises before (omega (arith, counted.0));
+    few = omega (arith, length_push hs h, few);
+    small = All-push (λ (x : Held). x.count ≤ count_limit limits) hs h is.bag.small small;
+  };
+  written = All-push (λ (x : Held). x.count ≤ greatest_count header) hs h is.written counted.1;
+}
+
+pub front_is_dumped : (limits : Limits) (header : List ℕ) (hs ks : Collection) → IsDumped limits header (hs ++ ks) → IsDumped limits header hs
+front_is_dumped limits header hs ks is = record {
+  bag = record {
+    rises = subst IsCollection (take_at hs ks (length hs) refl) (collection_take (length hs) 0 (hs ++ ks) is.bag.rises);
+    few = omega (arith, length-append hs ks, is.bag.few);
+    small = front_has (λ (h : Held). h.count ≤ count_limit limits) hs ks is.bag.small;
+  };
+  written = front_has (λ (h : Held). h.count ≤ greatest_count header) hs ks is.written;
 }

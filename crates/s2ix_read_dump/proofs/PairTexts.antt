@@ -17,7 +17,7 @@ use Rattle.s2ix_pairs.specs.declared.label.Label.{Label}
 use Rattle.s2ix_pairs.specs.declared.pair.Held.{Held}
 use Rattle.s2ix_text.specs.Dump.{end_line, pair_line}
 use Rattle.s2ix_text.proofs.Journals.{IsGraphic, decimal_graphic, token_graphic}
-use Rattle.s2ix_read_dump.specs.DumpFaults.{end_text, is_end}
+use Rattle.s2ix_read_dump.specs.DumpFaults.{end_text, greatest_count, is_end}
 use Rattle.s2ix_parts.specs.Lines.{has_parts, is_nil, lines_of, parts_of}
 use Rattle.s2ix_read_dump.specs.PairLines.{IsCut, held_of_parts, held_written, line_text}
 use Rattle.s2ix_parts.specs.Written.{cell_written, count_of_line, count_written, label_written, pair_with, pair_written}
@@ -26,9 +26,13 @@ use Rattle.s2ix_parts.proofs.PartCounts.{graphic_lacks}
 use Rattle.s2ix_parts.proofs.Pieces.{Lacks, is_some_text, lines_apart, parts_apart, parts_joined, three_from_parts}
 use Rattle.s2ix_parts.proofs.Numerals.{cell_of_token, count_of_digits, label_of_digits, written_cell, written_count, written_label}
 
--- a count that digits below 2^64 write
-abbrev pub HasCount : Held → Type 0
-HasCount h = (1 ≤ h.count) × (h.count ≤ 65535)
+-- a count that a dump with this header writes
+abbrev pub HasCount : List ℕ → Held → Type 0
+HasCount header h = (1 ≤ h.count) × (h.count ≤ greatest_count header)
+
+pub greatest_small : (header : List ℕ) → greatest_count header < 2 ^ 32
+unfolding greatest_count
+greatest_small header = omega arith
 
 small_label : (label : Label) → value_of label < 2 ^ 64
 small_label label = let within : value_of label ≤ 2147483647 = label.in_range in omega arith
@@ -47,15 +51,15 @@ no_feed a b c ga gb gc =
 
 -- ---- the line of a held pair
 
-pub line_parts : (h : Held) → HasCount h → parts_of (line_text h) ≡ canonical_token (raw_of h.pair.cell) ∷ decimal (value_of h.pair.label) ∷ decimal h.count ∷ []
+pub line_parts : (header : List ℕ) (h : Held) → HasCount header h → parts_of (line_text h) ≡ canonical_token (raw_of h.pair.cell) ∷ decimal (value_of h.pair.label) ∷ decimal h.count ∷ []
 unfolding line_text
-line_parts h counted =
-    parts_of_three _ _ _ (token_graphic (raw_of h.pair.cell)) (decimal_graphic _ (small_label h.pair.label)) (decimal_graphic h.count (omega (arith, counted.1)))
+line_parts header h counted =
+    parts_of_three _ _ _ (token_graphic (raw_of h.pair.cell)) (decimal_graphic _ (small_label h.pair.label)) (decimal_graphic h.count (omega (arith, counted.1, greatest_small header)))
 
-pub line_lacks_feed : (h : Held) → HasCount h → Lacks 10 (line_text h)
+pub line_lacks_feed : (header : List ℕ) (h : Held) → HasCount header h → Lacks 10 (line_text h)
 unfolding line_text
-line_lacks_feed h counted =
-    no_feed _ _ _ (token_graphic (raw_of h.pair.cell)) (decimal_graphic _ (small_label h.pair.label)) (decimal_graphic h.count (omega (arith, counted.1)))
+line_lacks_feed header h counted =
+    no_feed _ _ _ (token_graphic (raw_of h.pair.cell)) (decimal_graphic _ (small_label h.pair.label)) (decimal_graphic h.count (omega (arith, counted.1, greatest_small header)))
 
 pub line_with_feed : (h : Held) → pair_line h ≡ line_text h ++ 10 ∷ []
 unfolding pair_line line_text
@@ -64,58 +68,58 @@ line_with_feed h = simp append_assoc
 token_some : (cell : CellId) → is_nil (canonical_token (raw_of cell)) ≡ false
 token_some cell = is_some_text _ (canonical_spells (raw_of cell) cell.valid).some
 
-pub line_has_parts : (h : Held) → HasCount h → has_parts 3 (line_text h) ≡ true
-line_has_parts h counted =
-    three_from_parts (line_text h) _ _ _ (line_parts h counted) (token_some h.pair.cell) (is_some_text _ (decimal_nonempty _ (small_label h.pair.label))) (is_some_text _ (decimal_nonempty h.count (omega (arith, counted.1))))
+pub line_has_parts : (header : List ℕ) (h : Held) → HasCount header h → has_parts 3 (line_text h) ≡ true
+line_has_parts header h counted =
+    three_from_parts (line_text h) _ _ _ (line_parts header h counted) (token_some h.pair.cell) (is_some_text _ (decimal_nonempty _ (small_label h.pair.label))) (is_some_text _ (decimal_nonempty h.count (omega (arith, counted.1, greatest_small header))))
 
 -- that line, its line feed and more, cut
-pub line_cut : (h : Held) (text below : List ℕ) → HasCount h → text ≡ line_text h ++ 10 ∷ below → IsCut text (line_text h) below
-line_cut h text below counted is = record { whole = is; lines = ap lines_of is ∙ lines_apart (line_text h) below (line_lacks_feed h counted) }
+pub line_cut : (header : List ℕ) (h : Held) (text below : List ℕ) → HasCount header h → text ≡ line_text h ++ 10 ∷ below → IsCut text (line_text h) below
+line_cut header h text below counted is = record { whole = is; lines = ap lines_of is ∙ lines_apart (line_text h) below (line_lacks_feed header h counted) }
 
 -- what a line writes, from its parts
-pub held_from : (line a b c : List ℕ) → has_parts 3 line ≡ true → parts_of line ≡ a ∷ b ∷ c ∷ [] → held_written line ≡ held_of_parts (cell_written a) (label_written b) (count_written c)
+pub held_from : (most : ℕ) (line a b c : List ℕ) → has_parts 3 line ≡ true → parts_of line ≡ a ∷ b ∷ c ∷ [] → held_written most line ≡ held_of_parts (cell_written a) (label_written b) (count_written most c)
 unfolding held_written
-held_from line a b c three are =
+held_from most line a b c three are =
     cond-true (has_parts 3 line) _ _ three
-    ∙ ap (λ (ps : List (List ℕ)). held_of_parts (cell_written (slice_index_or ps 0 [])) (label_written (slice_index_or ps 1 [])) (count_written (slice_index_or ps 2 []))) are
+    ∙ ap (λ (ps : List (List ℕ)). held_of_parts (cell_written (slice_index_or ps 0 [])) (label_written (slice_index_or ps 1 [])) (count_written most (slice_index_or ps 2 []))) are
 
-pub held_by : (line a b c : List ℕ) (cell : Option CellId) (label : Option Label) (count : Option ℕ) → has_parts 3 line ≡ true → parts_of line ≡ a ∷ b ∷ c ∷ [] → cell_written a ≡ cell → label_written b ≡ label → count_written c ≡ count
-    → held_written line ≡ held_of_parts cell label count
-held_by line a b c cell label count three are x y z = held_from line a b c three are ∙ rw (x, y, z) refl
+pub held_by : (most : ℕ) (line a b c : List ℕ) (cell : Option CellId) (label : Option Label) (count : Option ℕ) → has_parts 3 line ≡ true → parts_of line ≡ a ∷ b ∷ c ∷ [] → cell_written a ≡ cell → label_written b ≡ label → count_written most c ≡ count
+    → held_written most line ≡ held_of_parts cell label count
+held_by most line a b c cell label count three are x y z = held_from most line a b c three are ∙ rw (x, y, z) refl
 
-pub held_unless : (line : List ℕ) → has_parts 3 line ≡ false → held_written line ≡ Err BadLine
+pub held_unless : (most : ℕ) (line : List ℕ) → has_parts 3 line ≡ false → held_written most line ≡ Err BadLine
 unfolding held_written
-held_unless line three = cond-false (has_parts 3 line) _ _ three
+held_unless most line three = cond-false (has_parts 3 line) _ _ three
 
-pub held_of_line : (h : Held) → HasCount h → held_written (line_text h) ≡ Ok h
-held_of_line h counted =
-    held_from (line_text h) _ _ _ (line_has_parts h counted) (line_parts h counted)
-    ∙ rw (cell_of_token h.pair.cell, label_of_digits h.pair.label, count_of_digits h.count counted.0 counted.1) refl
+pub held_of_line : (header : List ℕ) (h : Held) → HasCount header h → held_written (greatest_count header) (line_text h) ≡ Ok h
+held_of_line header h counted =
+    held_from (greatest_count header) (line_text h) _ _ _ (line_has_parts header h counted) (line_parts header h counted)
+    ∙ rw (cell_of_token h.pair.cell, label_of_digits h.pair.label, count_of_digits (greatest_count header) h.count (greatest_small header) counted.0 counted.1) refl
 
 -- the pair and the count of that line
-pub pair_of_line : (h : Held) → HasCount h → pair_written (line_text h) ≡ Some h.pair
+pub pair_of_line : (header : List ℕ) (h : Held) → HasCount header h → pair_written (line_text h) ≡ Some h.pair
 unfolding pair_written
-pair_of_line h counted =
-    ap (λ (ps : List (List ℕ)). pair_with (cell_written (slice_index_or ps 0 [])) (label_written (slice_index_or ps 1 []))) (line_parts h counted)
+pair_of_line header h counted =
+    ap (λ (ps : List (List ℕ)). pair_with (cell_written (slice_index_or ps 0 [])) (label_written (slice_index_or ps 1 []))) (line_parts header h counted)
     ∙ rw (cell_of_token h.pair.cell, label_of_digits h.pair.label) refl
 
-pub count_of_text : (h : Held) → HasCount h → count_of_line (line_text h) ≡ h.count
+pub count_of_text : (header : List ℕ) (h : Held) → HasCount header h → count_of_line (greatest_count header) (line_text h) ≡ h.count
 unfolding count_of_line
-count_of_text h counted =
-    rw (line_parts h counted, count_of_digits h.count counted.0 counted.1) refl
+count_of_text header h counted =
+    rw (line_parts header h counted, count_of_digits (greatest_count header) h.count (greatest_small header) counted.0 counted.1) refl
 
 -- and no other line writes it
-pub written_held : (line a b c : List ℕ) (h : Held) → parts_of line ≡ a ∷ b ∷ c ∷ [] → cell_written a ≡ Some h.pair.cell → label_written b ≡ Some h.pair.label → count_written c ≡ Some h.count → line ≡ line_text h
+pub written_held : (most : ℕ) (line a b c : List ℕ) (h : Held) → parts_of line ≡ a ∷ b ∷ c ∷ [] → cell_written a ≡ Some h.pair.cell → label_written b ≡ Some h.pair.label → count_written most c ≡ Some h.count → line ≡ line_text h
 unfolding line_text
-written_held line a b c h are cell label count =
+written_held most line a b c h are cell label count =
     parts_joined line a b c are
-    ∙ rw (written_cell a h.pair.cell cell, written_label b h.pair.label label, (written_count c h.count count).0) refl
+    ∙ rw (written_cell a h.pair.cell cell, written_label b h.pair.label label, (written_count most c h.count count).0) refl
 
 -- no line of a held pair is an end line: a token has no letter n
-pub line_is_no_end : (h : Held) → HasCount h → is_end (line_text h) ≡ false
-line_is_no_end h counted =
+pub line_is_no_end : (header : List ℕ) (h : Held) → HasCount header h → is_end (line_text h) ≡ false
+line_is_no_end header h counted =
     let token = canonical_token (raw_of h.pair.cell) in
-    ap (λ (ps : List (List ℕ)). bytes_eq (slice_index_or ps 0 []) (codes "end")) (line_parts h counted)
+    ap (λ (ps : List (List ℕ)). bytes_eq (slice_index_or ps 0 []) (codes "end")) (line_parts header h counted)
     ∙ false_from_ne_true (bytes_eq token (codes "end"))
     (λ same.
     let is : token ≡ 101 ∷ 110 ∷ 100 ∷ [] = (bytes_eq-Decides token (codes "end")).0 same in

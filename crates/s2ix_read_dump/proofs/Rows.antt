@@ -10,19 +10,19 @@ use Rattle.std.proofs.lemmas.List.Elements.{All-head, All-tail}
 use Rattle.std.proofs.lemmas.List.Folds.{list_any-append}
 use Rattle.std.proofs.lemmas.List.Sums.{sum_by-cons}
 use Rattle.s2id_core.specs.declared.cell_id.CellId.{CellId}
-use Rattle.s2ix_pairs.specs.Collection.{Collection, IsBag, copies_in}
+use Rattle.s2ix_pairs.specs.Collection.{Collection, copies_in}
 use Rattle.s2ix_pairs.specs.Limits.{count_limit, pairs_limit}
 use Rattle.s2ix_pairs.specs.declared.label.Label.{Label}
 use Rattle.s2ix_pairs.specs.declared.limits.Limits.{Limits}
 use Rattle.s2ix_pairs.specs.declared.pair.Held.{Held}
 use Rattle.s2ix_read_dump.specs.declared.errors.DumpFault.{DumpFault}
 use Rattle.s2ix_read_dump.specs.declared.errors.DumpFault.TheVariants.{Truncated, BadHeader, BadEnd, BadLine, BadToken, BadLabel, BadCount, Unsorted, TooManyCopies, TooManyPairs, TrailingBytes}
-use Rattle.s2ix_read_dump.specs.DumpFaults.{copies_above, dump_faults, end_text, is_end, is_first, is_inner, is_of_pair, is_over, line_fault, stands}
+use Rattle.s2ix_read_dump.specs.DumpFaults.{copies_above, dump_faults, end_text, greatest_count, is_end, is_first, is_inner, is_of_pair, is_over, line_fault, stands}
 use Rattle.s2ix_parts.specs.Faults.{Place}
 use Rattle.s2ix_parts.specs.Lines.{has_parts, is_nil, last_of, part, parts_of}
-use Rattle.s2ix_read_dump.specs.PairLines.{IsNext, held_of_parts, held_written, last_pair, line_text, place_below}
+use Rattle.s2ix_read_dump.specs.PairLines.{IsDumped, IsNext, held_of_parts, held_written, last_pair, line_text, place_below}
 use Rattle.s2ix_parts.specs.Written.{cell_written, comes_before, count_of_line, count_written, label_written, pair_written}
-use Rattle.s2ix_read_dump.proofs.Appended.{bag_more, counts_are}
+use Rattle.s2ix_read_dump.proofs.Appended.{counts_are, dumped_more}
 use Rattle.s2ix_parts.proofs.Numerals.{written_count}
 use Rattle.s2ix_read_dump.proofs.PairTexts.{HasCount, count_of_text, line_is_no_end, pair_of_line, written_held}
 
@@ -43,21 +43,21 @@ no_pair_fault t a b c d e f g = rw (a, b, c, d, e, f, g) refl
 
 -- ---- below the lines of held pairs
 
-pub not_over : (hs : Collection) → All HasCount hs → list_any is_end (map line_text hs) ≡ false
-not_over [] counted = refl
-not_over (h ∷ hs) counted = or_from _ _ (line_is_no_end h (All-head HasCount h hs counted)) (not_over hs (All-tail HasCount h hs counted))
+pub not_over : (header : List ℕ) (hs : Collection) → All (HasCount header) hs → list_any is_end (map line_text hs) ≡ false
+not_over header [] counted = refl
+not_over header (h ∷ hs) counted = or_from _ _ (line_is_no_end header h (All-head (HasCount header) h hs counted)) (not_over header hs (All-tail (HasCount header) h hs counted))
 
-pub copies_are : (hs : Collection) → All HasCount hs → sum_by count_of_line (map line_text hs) ≡ copies_in hs
-copies_are [] counted = refl
-copies_are (h ∷ hs) counted =
-    sum_by-cons count_of_line (line_text h) (map line_text hs)
-    ∙ ap₂ (λ m n. m + n) (count_of_text h (All-head HasCount h hs counted)) (copies_are hs (All-tail HasCount h hs counted))
+pub copies_are : (header : List ℕ) (hs : Collection) → All (HasCount header) hs → sum_by (count_of_line (greatest_count header)) (map line_text hs) ≡ copies_in hs
+copies_are header [] counted = refl
+copies_are header (h ∷ hs) counted =
+    sum_by-cons (count_of_line (greatest_count header)) (line_text h) (map line_text hs)
+    ∙ ap₂ (λ m n. m + n) (count_of_text header h (All-head (HasCount header) h hs counted)) (copies_are header hs (All-tail (HasCount header) h hs counted))
     ∙ sym (sum_by-cons (λ (k : Held). k.count) h hs)
 
-pub last_is : (hs : Collection) → All HasCount hs → option_and_then pair_written (last_of (map line_text hs)) ≡ last_pair hs
-last_is [] counted = refl
-last_is (h ∷ []) counted = pair_of_line h (All-head HasCount h [] counted)
-last_is (h ∷ (g ∷ hs)) counted = last_is (g ∷ hs) (All-tail HasCount h (g ∷ hs) counted)
+pub last_is : (header : List ℕ) (hs : Collection) → All (HasCount header) hs → option_and_then pair_written (last_of (map line_text hs)) ≡ last_pair hs
+last_is header [] counted = refl
+last_is header (h ∷ []) counted = pair_of_line header h (All-head (HasCount header) h [] counted)
+last_is header (h ∷ (g ∷ hs)) counted = last_is header (g ∷ hs) (All-tail (HasCount header) h (g ∷ hs) counted)
 
 -- ---- a line that is to write a pair
 
@@ -69,8 +69,8 @@ next_fault limits hs (Ok h) =
     (cond (nat_lt (count_limit limits) h.count) (Some TooManyCopies)
     (cond (nat_le (pairs_limit limits) (length hs)) (Some TooManyPairs) None))
 
-of_pair : (limits : Limits) (hs : Collection) (line : List ℕ) → All HasCount hs → is_end line ≡ false → is_of_pair (place_below limits hs line) ≡ true
-of_pair limits hs line counted no_end = and_from _ _ (and_from _ _ refl (not_from_false _ (not_over hs counted))) (not_from_false _ no_end)
+of_pair : (limits : Limits) (header : List ℕ) (hs : Collection) (line : List ℕ) → All (HasCount header) hs → is_end line ≡ false → is_of_pair (place_below limits header hs line) ≡ true
+of_pair limits header hs line counted no_end = and_from _ _ (and_from _ _ refl (not_from_false _ (not_over header hs counted))) (not_from_false _ no_end)
 
 same_row : (b x y : Bool) → b ≡ true → x ≡ y → (b && x) ≡ y
 same_row b x y is same = ap (λ t. t && x) is ∙ same
@@ -83,57 +83,57 @@ pair_from : (text : List ℕ) (c : CellId) (l : Label) → cell_written (part 0 
 unfolding pair_written
 pair_from text c l x y = rw (x, y) refl
 
-count_from_part : (text : List ℕ) (m : ℕ) → count_written (part 2 text) ≡ Some m → count_of_line text ≡ m
+count_from_part : (most : ℕ) (text : List ℕ) (m : ℕ) → count_written most (part 2 text) ≡ Some m → count_of_line most text ≡ m
 unfolding count_of_line
-count_from_part text m x = ap (λ o. unwrap_or o 0) x
+count_from_part most text m x = ap (λ o. unwrap_or o 0) x
 
-at_parts : (limits : Limits) (hs : Collection) (line : List ℕ) (three : Bool) (cell : Option CellId) (label : Option Label) (count : Option ℕ) → All HasCount hs → is_end line ≡ false
-    → has_parts 3 line ≡ three → cell_written (part 0 line) ≡ cell → label_written (part 1 line) ≡ label → count_written (part 2 line) ≡ count
-    → pair_faults (stands (place_below limits hs line)) ≡ next_fault limits hs (cond three (held_of_parts cell label count) (Err BadLine))
+at_parts : (limits : Limits) (header : List ℕ) (hs : Collection) (line : List ℕ) (three : Bool) (cell : Option CellId) (label : Option Label) (count : Option ℕ) → All (HasCount header) hs → is_end line ≡ false
+    → has_parts 3 line ≡ three → cell_written (part 0 line) ≡ cell → label_written (part 1 line) ≡ label → count_written (greatest_count header) (part 2 line) ≡ count
+    → pair_faults (stands (place_below limits header hs line)) ≡ next_fault limits hs (cond three (held_of_parts cell label count) (Err BadLine))
 unfolding stands next_fault
-at_parts limits hs line false cell label count counted no_end a b c d =
-    let of = of_pair limits hs line counted no_end in
-    cond-true (stands (place_below limits hs line) BadLine) _ _ (same_row _ _ _ of (ap not a))
-at_parts limits hs line true None label count counted no_end a b c d =
-    let of = of_pair limits hs line counted no_end in
-    cond-false (stands (place_below limits hs line) BadLine) _ _ (same_row _ _ _ of (ap not a))
-    ∙ cond-true (stands (place_below limits hs line) BadToken) _ _ (same_row _ _ _ of (ap is_none b))
-at_parts limits hs line true (Some cell) None count counted no_end a b c d =
-    let of = of_pair limits hs line counted no_end in
-    cond-false (stands (place_below limits hs line) BadLine) _ _ (same_row _ _ _ of (ap not a))
-    ∙ cond-false (stands (place_below limits hs line) BadToken) _ _ (same_row _ _ _ of (ap is_none b))
-    ∙ cond-true (stands (place_below limits hs line) BadLabel) _ _ (same_row _ _ _ of (ap is_none c))
-at_parts limits hs line true (Some cell) (Some label) None counted no_end a b c d =
-    let of = of_pair limits hs line counted no_end in
-    cond-false (stands (place_below limits hs line) BadLine) _ _ (same_row _ _ _ of (ap not a))
-    ∙ cond-false (stands (place_below limits hs line) BadToken) _ _ (same_row _ _ _ of (ap is_none b))
-    ∙ cond-false (stands (place_below limits hs line) BadLabel) _ _ (same_row _ _ _ of (ap is_none c))
-    ∙ cond-true (stands (place_below limits hs line) BadCount) _ _ (same_row _ _ _ of (ap is_none d))
-at_parts limits hs line true (Some cell) (Some label) (Some n) counted no_end a b c d =
-    let of = of_pair limits hs line counted no_end in
+at_parts limits header hs line false cell label count counted no_end a b c d =
+    let of = of_pair limits header hs line counted no_end in
+    cond-true (stands (place_below limits header hs line) BadLine) _ _ (same_row _ _ _ of (ap not a))
+at_parts limits header hs line true None label count counted no_end a b c d =
+    let of = of_pair limits header hs line counted no_end in
+    cond-false (stands (place_below limits header hs line) BadLine) _ _ (same_row _ _ _ of (ap not a))
+    ∙ cond-true (stands (place_below limits header hs line) BadToken) _ _ (same_row _ _ _ of (ap is_none b))
+at_parts limits header hs line true (Some cell) None count counted no_end a b c d =
+    let of = of_pair limits header hs line counted no_end in
+    cond-false (stands (place_below limits header hs line) BadLine) _ _ (same_row _ _ _ of (ap not a))
+    ∙ cond-false (stands (place_below limits header hs line) BadToken) _ _ (same_row _ _ _ of (ap is_none b))
+    ∙ cond-true (stands (place_below limits header hs line) BadLabel) _ _ (same_row _ _ _ of (ap is_none c))
+at_parts limits header hs line true (Some cell) (Some label) None counted no_end a b c d =
+    let of = of_pair limits header hs line counted no_end in
+    cond-false (stands (place_below limits header hs line) BadLine) _ _ (same_row _ _ _ of (ap not a))
+    ∙ cond-false (stands (place_below limits header hs line) BadToken) _ _ (same_row _ _ _ of (ap is_none b))
+    ∙ cond-false (stands (place_below limits header hs line) BadLabel) _ _ (same_row _ _ _ of (ap is_none c))
+    ∙ cond-true (stands (place_below limits header hs line) BadCount) _ _ (same_row _ _ _ of (ap is_none d))
+at_parts limits header hs line true (Some cell) (Some label) (Some n) counted no_end a b c d =
+    let of = of_pair limits header hs line counted no_end in
     let pair = pair_from line cell label b c in
-    let count = count_from_part line n d in
-    cond-false (stands (place_below limits hs line) BadLine) _ _ (same_row _ _ _ of (ap not a))
-    ∙ cond-false (stands (place_below limits hs line) BadToken) _ _ (same_row _ _ _ of (ap is_none b))
-    ∙ cond-false (stands (place_below limits hs line) BadLabel) _ _ (same_row _ _ _ of (ap is_none c))
-    ∙ cond-false (stands (place_below limits hs line) BadCount) _ _ (same_row _ _ _ of (ap is_none d))
+    let count = count_from_part (greatest_count header) line n d in
+    cond-false (stands (place_below limits header hs line) BadLine) _ _ (same_row _ _ _ of (ap not a))
+    ∙ cond-false (stands (place_below limits header hs line) BadToken) _ _ (same_row _ _ _ of (ap is_none b))
+    ∙ cond-false (stands (place_below limits header hs line) BadLabel) _ _ (same_row _ _ _ of (ap is_none c))
+    ∙ cond-false (stands (place_below limits header hs line) BadCount) _ _ (same_row _ _ _ of (ap is_none d))
     ∙ last_rows _ _ _ _ _ _
-    (same_row _ _ _ of (ap (λ p. not (comes_before p (pair_written line))) (last_is hs counted) ∙ ap (λ p. not (comes_before (last_pair hs) p)) pair))
+    (same_row _ _ _ of (ap (λ p. not (comes_before p (pair_written line))) (last_is header hs counted) ∙ ap (λ p. not (comes_before (last_pair hs) p)) pair))
     (same_row _ _ _ of (ap (λ m. nat_lt (count_limit limits) m) count))
     (same_row _ _ _ of (ap (λ m. nat_le (pairs_limit limits) m) (length-map hs line_text)))
 
 -- the fault of a line that is to write a pair
-pub pair_row : (limits : Limits) (hs : Collection) (line : List ℕ) → IsBag (record { limits = limits; held = hs }) → is_end line ≡ false
-    → line_fault (place_below limits hs line) ≡ next_fault limits hs (held_written line)
+pub pair_row : (limits : Limits) (header : List ℕ) (hs : Collection) (line : List ℕ) → IsDumped limits header hs → is_end line ≡ false
+    → line_fault (place_below limits header hs line) ≡ next_fault limits hs (held_written (greatest_count header) line)
 unfolding line_fault stands held_written
-pair_row limits hs line is no_end =
-    let counted = counts_are limits hs is in
-    find_pair (stands (place_below limits hs line))
+pair_row limits header hs line is no_end =
+    let counted = counts_are limits header hs is in
+    find_pair (stands (place_below limits header hs line))
     (and_right _ _ refl)
     refl
     (and_left _ _ (and_right _ _ no_end))
-    (and_left _ _ (not_over hs counted))
-    ∙ at_parts limits hs line (has_parts 3 line) (cell_written (part 0 line)) (label_written (part 1 line)) (count_written (part 2 line)) counted no_end refl refl refl refl
+    (and_left _ _ (not_over header hs counted))
+    ∙ at_parts limits header hs line (has_parts 3 line) (cell_written (part 0 line)) (label_written (part 1 line)) (count_written (greatest_count header) (part 2 line)) counted no_end refl refl refl refl
 
 -- ---- the next held pair
 
@@ -144,36 +144,36 @@ three_list (a ∷ (b ∷ [])) long = absurd (omega arith)
 three_list (a ∷ (b ∷ (c ∷ []))) long = refl
 three_list (a ∷ (b ∷ (c ∷ (d ∷ ps)))) long = absurd (omega arith)
 
-written_at : (line : List ℕ) (h : Held) (three : Bool) (cell : Option CellId) (label : Option Label) (count : Option ℕ)
-    → has_parts 3 line ≡ three → cell_written (part 0 line) ≡ cell → label_written (part 1 line) ≡ label → count_written (part 2 line) ≡ count
-    → cond three (held_of_parts cell label count) (Err BadLine) ≡ Ok h → (line ≡ line_text h) × HasCount h
-written_at line h false cell label count a b c d is = cc
-written_at line h true None label count a b c d is = cc
-written_at line h true (Some cell) None count a b c d is = cc
-written_at line h true (Some cell) (Some label) None a b c d is = cc
-written_at line h true (Some cell) (Some label) (Some n) a b c d is =
+written_at : (header : List ℕ) (line : List ℕ) (h : Held) (three : Bool) (cell : Option CellId) (label : Option Label) (count : Option ℕ)
+    → has_parts 3 line ≡ three → cell_written (part 0 line) ≡ cell → label_written (part 1 line) ≡ label → count_written (greatest_count header) (part 2 line) ≡ count
+    → cond three (held_of_parts cell label count) (Err BadLine) ≡ Ok h → (line ≡ line_text h) × HasCount header h
+written_at header line h false cell label count a b c d is = cc
+written_at header line h true None label count a b c d is = cc
+written_at header line h true (Some cell) None count a b c d is = cc
+written_at header line h true (Some cell) (Some label) None a b c d is = cc
+written_at header line h true (Some cell) (Some label) (Some n) a b c d is =
     let same : record { pair = record { cell = cell; label = label }; count = n } ≡ h = cc in
     let long : length (parts_of line) ≡ 3 = eqb-true _ _ (and_parts (length (parts_of line) == 3) _ a).0 in
-    let counts = written_count (part 2 line) n d in
+    let counts = written_count (greatest_count header) (part 2 line) n d in
     let made : Held = record { pair = record { cell = cell; label = label }; count = n } in
-    subst (λ (k : Held). (line ≡ line_text k) × HasCount k) same
-    (written_held line (part 0 line) (part 1 line) (part 2 line) made (three_list (parts_of line) long) b c d, (counts.1, counts.2))
+    subst (λ (k : Held). (line ≡ line_text k) × HasCount header k) same
+    (written_held (greatest_count header) line (part 0 line) (part 1 line) (part 2 line) made (three_list (parts_of line) long) b c d, (counts.1, counts.2))
 
-pub line_from_held : (line : List ℕ) (h : Held) → held_written line ≡ Ok h → (line ≡ line_text h) × HasCount h
+pub line_from_held : (header : List ℕ) (line : List ℕ) (h : Held) → held_written (greatest_count header) line ≡ Ok h → (line ≡ line_text h) × HasCount header h
 unfolding held_written
-line_from_held line h is =
-    written_at line h (has_parts 3 line) (cell_written (part 0 line)) (label_written (part 1 line)) (count_written (part 2 line)) refl refl refl refl is
+line_from_held header line h is =
+    written_at header line h (has_parts 3 line) (cell_written (part 0 line)) (label_written (part 1 line)) (count_written (greatest_count header) (part 2 line)) refl refl refl refl is
 
-pub next_is : (limits : Limits) (hs : Collection) (line : List ℕ) (h : Held) → IsBag (record { limits = limits; held = hs }) → is_end line ≡ false → held_written line ≡ Ok h
-    → comes_before (last_pair hs) (Some h.pair) ≡ true → h.count ≤ count_limit limits → length hs < pairs_limit limits → IsNext limits hs line h
+pub next_is : (limits : Limits) (header : List ℕ) (hs : Collection) (line : List ℕ) (h : Held) → IsDumped limits header hs → is_end line ≡ false → held_written (greatest_count header) line ≡ Ok h
+    → comes_before (last_pair hs) (Some h.pair) ≡ true → h.count ≤ count_limit limits → length hs < pairs_limit limits → IsNext limits header hs line h
 unfolding next_fault
-next_is limits hs line h is no_end writes before small few =
-    let own = line_from_held line h writes in
+next_is limits header hs line h is no_end writes before small few =
+    let own = line_from_held header line h writes in
     record {
       text = own.0;
-      bag = bag_more limits hs h is own.1 before small few;
+      dumped = dumped_more limits header hs h is own.1 before small few;
       sound =
-          pair_row limits hs line is no_end ∙ ap (next_fault limits hs) writes
+          pair_row limits header hs line is no_end ∙ ap (next_fault limits hs) writes
           ∙ cond-false _ _ _ (ap not before)
           ∙ cond-false _ _ _ (le-ltb (count_limit limits) h.count small)
           ∙ cond-false _ _ _ (lt-leb (pairs_limit limits) (length hs) few);
@@ -181,15 +181,15 @@ next_is limits hs line h is no_end writes before small few =
 
 -- ---- the end line
 
-pub end_row : (limits : Limits) (hs : Collection) (line : List ℕ) → IsBag (record { limits = limits; held = hs }) → is_end line ≡ true
-    → line_fault (place_below limits hs line) ≡ cond (not (bytes_eq line (end_text (length hs) (copies_in hs)))) (Some BadEnd) None
+pub end_row : (limits : Limits) (header : List ℕ) (hs : Collection) (line : List ℕ) → IsDumped limits header hs → is_end line ≡ true
+    → line_fault (place_below limits header hs line) ≡ cond (not (bytes_eq line (end_text (length hs) (copies_in hs)))) (Some BadEnd) None
 unfolding line_fault stands
-end_row limits hs line is end =
-    let counted = counts_are limits hs is in
-    let p = place_below limits hs line in
+end_row limits header hs line is end =
+    let counted = counts_are limits header hs is in
+    let p = place_below limits header hs line in
     let t = stands p in
     let other : is_of_pair p ≡ false = and_right _ _ (ap not end) in
-    let over = not_over hs counted in
+    let over = not_over header hs counted in
     let inner : is_inner p ≡ true = and_from _ _ refl (not_from_false _ over) in
     no_pair_fault t (and_left _ _ other) (and_left _ _ other) (and_left _ _ other) (and_left _ _ other) (and_left _ _ other) (and_left _ _ other) (and_left _ _ other)
     ∙ cond-false (t Truncated) _ _ (and_right (not (is_over p)) false refl)
@@ -197,7 +197,7 @@ end_row limits hs line is end =
     ∙ end_rows (t BadEnd) (not (bytes_eq line (end_text (length hs) (copies_in hs)))) (t TrailingBytes)
     (same_row _ _ _ (and_from _ _ inner end)
     (ap (λ m. not (bytes_eq line (end_text m (copies_above p)))) (length-map hs line_text)
-    ∙ ap (λ m. not (bytes_eq line (end_text (length hs) m))) (copies_are hs counted)))
+    ∙ ap (λ m. not (bytes_eq line (end_text (length hs) m))) (copies_are header hs counted)))
     (and_left _ _ over)
   where
     end_rows : (a b c : Bool) → a ≡ b → c ≡ false → ◌≡◌ {A = Option DumpFault} (cond a (Some BadEnd) (cond c (Some TrailingBytes) None)) (cond b (Some BadEnd) None)
@@ -234,25 +234,25 @@ header_row limits line = refl
 
 -- ---- the faults of a line of a pair that the code finds one after the other
 
-pub held_fault : (limits : Limits) (hs : Collection) (line : List ℕ) (fault : DumpFault) → IsBag (record { limits = limits; held = hs }) → is_end line ≡ false → held_written line ≡ Err fault → line_fault (place_below limits hs line) ≡ Some fault
+pub held_fault : (limits : Limits) (header : List ℕ) (hs : Collection) (line : List ℕ) (fault : DumpFault) → IsDumped limits header hs → is_end line ≡ false → held_written (greatest_count header) line ≡ Err fault → line_fault (place_below limits header hs line) ≡ Some fault
 unfolding next_fault
-held_fault limits hs line fault is no_end writes = pair_row limits hs line is no_end ∙ ap (next_fault limits hs) writes
+held_fault limits header hs line fault is no_end writes = pair_row limits header hs line is no_end ∙ ap (next_fault limits hs) writes
 
-pub unsorted_fault : (limits : Limits) (hs : Collection) (line : List ℕ) (h : Held) → IsBag (record { limits = limits; held = hs }) → is_end line ≡ false → held_written line ≡ Ok h → comes_before (last_pair hs) (Some h.pair) ≡ false
-    → line_fault (place_below limits hs line) ≡ Some Unsorted
+pub unsorted_fault : (limits : Limits) (header : List ℕ) (hs : Collection) (line : List ℕ) (h : Held) → IsDumped limits header hs → is_end line ≡ false → held_written (greatest_count header) line ≡ Ok h → comes_before (last_pair hs) (Some h.pair) ≡ false
+    → line_fault (place_below limits header hs line) ≡ Some Unsorted
 unfolding next_fault
-unsorted_fault limits hs line h is no_end writes behind =
-    pair_row limits hs line is no_end ∙ ap (next_fault limits hs) writes ∙ cond-true _ _ _ (ap not behind)
+unsorted_fault limits header hs line h is no_end writes behind =
+    pair_row limits header hs line is no_end ∙ ap (next_fault limits hs) writes ∙ cond-true _ _ _ (ap not behind)
 
-pub copies_fault : (limits : Limits) (hs : Collection) (line : List ℕ) (h : Held) → IsBag (record { limits = limits; held = hs }) → is_end line ≡ false → held_written line ≡ Ok h → comes_before (last_pair hs) (Some h.pair) ≡ true
-    → count_limit limits < h.count → line_fault (place_below limits hs line) ≡ Some TooManyCopies
+pub copies_fault : (limits : Limits) (header : List ℕ) (hs : Collection) (line : List ℕ) (h : Held) → IsDumped limits header hs → is_end line ≡ false → held_written (greatest_count header) line ≡ Ok h → comes_before (last_pair hs) (Some h.pair) ≡ true
+    → count_limit limits < h.count → line_fault (place_below limits header hs line) ≡ Some TooManyCopies
 unfolding next_fault
-copies_fault limits hs line h is no_end writes before many =
-    pair_row limits hs line is no_end ∙ ap (next_fault limits hs) writes ∙ cond-false _ _ _ (ap not before) ∙ cond-true _ _ _ (lt-ltb (count_limit limits) h.count many)
+copies_fault limits header hs line h is no_end writes before many =
+    pair_row limits header hs line is no_end ∙ ap (next_fault limits hs) writes ∙ cond-false _ _ _ (ap not before) ∙ cond-true _ _ _ (lt-ltb (count_limit limits) h.count many)
 
-pub pairs_fault : (limits : Limits) (hs : Collection) (line : List ℕ) (h : Held) → IsBag (record { limits = limits; held = hs }) → is_end line ≡ false → held_written line ≡ Ok h → comes_before (last_pair hs) (Some h.pair) ≡ true
-    → h.count ≤ count_limit limits → pairs_limit limits ≤ length hs → line_fault (place_below limits hs line) ≡ Some TooManyPairs
+pub pairs_fault : (limits : Limits) (header : List ℕ) (hs : Collection) (line : List ℕ) (h : Held) → IsDumped limits header hs → is_end line ≡ false → held_written (greatest_count header) line ≡ Ok h → comes_before (last_pair hs) (Some h.pair) ≡ true
+    → h.count ≤ count_limit limits → pairs_limit limits ≤ length hs → line_fault (place_below limits header hs line) ≡ Some TooManyPairs
 unfolding next_fault
-pairs_fault limits hs line h is no_end writes before small full =
-    pair_row limits hs line is no_end ∙ ap (next_fault limits hs) writes ∙ cond-false _ _ _ (ap not before) ∙ cond-false _ _ _ (le-ltb (count_limit limits) h.count small)
+pairs_fault limits header hs line h is no_end writes before small full =
+    pair_row limits header hs line is no_end ∙ ap (next_fault limits hs) writes ∙ cond-false _ _ _ (ap not before) ∙ cond-false _ _ _ (le-ltb (count_limit limits) h.count small)
     ∙ cond-true _ _ _ (le-leb (pairs_limit limits) (length hs) full)

@@ -16,7 +16,7 @@ use Rattle.s2ix_read_dump.specs.declared.errors.DumpFault.TheVariants.{Truncated
 use Rattle.s2ix_read_dump.specs.DumpFaults.{dump_fault, end_text, is_end, line_fault}
 use Rattle.s2ix_parts.specs.Faults.{IsFromLine, fault_below}
 use Rattle.s2ix_parts.specs.Lines.{is_nil, lines_of, part}
-use Rattle.s2ix_read_dump.specs.PairLines.{IsCut, IsNext, line_text, lines_down_to, place_below}
+use Rattle.s2ix_read_dump.specs.PairLines.{IsCut, IsDumped, IsNext, line_text, lines_down_to, place_below}
 use Rattle.s2ix_read_dump.proofs.Appended.{counts_are}
 use Rattle.s2ix_parts.proofs.FirstFault.{ended, found_from, found_here, found_later, found_nowhere, place}
 use Rattle.s2ix_parts.proofs.Pieces.{lines_some}
@@ -27,127 +27,127 @@ use Rattle.s2ix_read_dump.proofs.Rows.{behind_row, end_row, header_row, not_over
 -- ---- a dump, so far
 
 -- the first fault of what is left below the lines of some held pairs
-abbrev pub fault_left : Limits → Collection → List (List ℕ) → Option (ℕ × DumpFault)
-fault_left limits hs lines = fault_below line_fault limits (lines_down_to hs) lines
+abbrev pub fault_left : Limits → List ℕ → Collection → List (List ℕ) → Option (ℕ × DumpFault)
+fault_left limits header hs lines = fault_below line_fault limits (lines_down_to header hs) lines
 
 -- the text below the header up to here is the lines of these held pairs, and they are sound
-pub record IsReadSoFar (limits : Limits) (whole : List ℕ) (hs : Collection) (sum : ℕ) (rest : List ℕ) : Type 0 where
-  pub bag : IsBag (record { limits = limits; held = hs })
+pub record IsReadSoFar (limits : Limits) (header : List ℕ) (whole : List ℕ) (hs : Collection) (sum : ℕ) (rest : List ℕ) : Type 0 where
+  pub dumped : IsDumped limits header hs
   pub text : whole ≡ flat_map pair_line hs ++ rest
-  pub fault : fault_left limits [] (lines_of whole) ≡ fault_left limits hs (lines_of rest)
+  pub fault : fault_left limits header [] (lines_of whole) ≡ fault_left limits header hs (lines_of rest)
   pub copies : sum ≡ copies_in hs
 
 -- the number of a line below the lines of these pairs
-line_number : (limits : Limits) (hs : Collection) (line : List ℕ) (lines : List (List ℕ)) (fault : DumpFault) → line_fault (place limits (lines_down_to hs) line lines) ≡ Some fault → fault_left limits hs (line ∷ lines) ≡ Some (length hs + 2, fault)
-line_number limits hs line lines fault is =
-    found_here line_fault limits (lines_down_to hs) line lines fault is
-    ∙ ap (λ n. Some (n, fault)) (let same : length (lines_down_to hs) + 1 ≡ length hs + 2 = omega (arith, length-map hs line_text) in same)
+line_number : (limits : Limits) (header : List ℕ) (hs : Collection) (line : List ℕ) (lines : List (List ℕ)) (fault : DumpFault) → line_fault (place limits (lines_down_to header hs) line lines) ≡ Some fault → fault_left limits header hs (line ∷ lines) ≡ Some (length hs + 2, fault)
+line_number limits header hs line lines fault is =
+    found_here line_fault limits (lines_down_to header hs) line lines fault is
+    ∙ ap (λ n. Some (n, fault)) (let same : length (lines_down_to header hs) + 1 ≡ length hs + 2 = omega (arith, length-map hs line_text) in same)
 
-next_lines : (hs : Collection) (line : List ℕ) (h : Held) → line ≡ line_text h → lines_down_to hs ++ line ∷ [] ≡ lines_down_to (hs ++ h ∷ [])
-next_lines hs line h is = ap (λ (ls : List (List ℕ)). codes "s2ix 1" ∷ ls) (ap (λ x. map line_text hs ++ x ∷ []) is ∙ sym (map_push line_text hs h))
+next_lines : (header : List ℕ) (hs : Collection) (line : List ℕ) (h : Held) → line ≡ line_text h → lines_down_to header hs ++ line ∷ [] ≡ lines_down_to header (hs ++ h ∷ [])
+next_lines header hs line h is = ap (λ (ls : List (List ℕ)). header ∷ ls) (ap (λ x. map line_text hs ++ x ∷ []) is ∙ sym (map_push line_text hs h))
 
-pub fault_after_next : (limits : Limits) (hs : Collection) (line : List ℕ) (lines : List (List ℕ)) (h : Held) → is_nil lines ≡ false → IsNext limits hs line h → fault_left limits hs (line ∷ lines) ≡ fault_left limits (hs ++ h ∷ []) lines
-fault_after_next limits hs line lines h some next =
-    found_later line_fault limits (lines_down_to hs) line lines (ap line_fault (ended limits (lines_down_to hs) line lines some) ∙ next.sound)
-    ∙ ap (λ (above : List (List ℕ)). fault_below line_fault limits above lines) (next_lines hs line h next.text)
+pub fault_after_next : (limits : Limits) (header : List ℕ) (hs : Collection) (line : List ℕ) (lines : List (List ℕ)) (h : Held) → is_nil lines ≡ false → IsNext limits header hs line h → fault_left limits header hs (line ∷ lines) ≡ fault_left limits header (hs ++ h ∷ []) lines
+fault_after_next limits header hs line lines h some next =
+    found_later line_fault limits (lines_down_to header hs) line lines (ap line_fault (ended limits (lines_down_to header hs) line lines some) ∙ next.sound)
+    ∙ ap (λ (above : List (List ℕ)). fault_below line_fault limits above lines) (next_lines header hs line h next.text)
 
 copies_more : (hs : Collection) (h : Held) → copies_in (hs ++ h ∷ []) ≡ copies_in hs + h.count
 copies_more hs h = omega (arith, sum_by-append (λ (x : Held). x.count) hs (h ∷ []))
 
 -- one held pair more
-pub read_more : (limits : Limits) (text : List ℕ) (hs : Collection) (copies : ℕ) (rest below : List ℕ) (h : Held) → IsReadSoFar limits text hs copies rest → IsCut rest (line_text h) below → IsNext limits hs (line_text h) h
-    → IsReadSoFar limits text (hs ++ h ∷ []) (copies + h.count) below
-read_more limits text hs copies rest below h was cut next = record {
-  bag = next.bag;
+pub read_more : (limits : Limits) (header : List ℕ) (text : List ℕ) (hs : Collection) (copies : ℕ) (rest below : List ℕ) (h : Held) → IsReadSoFar limits header text hs copies rest → IsCut rest (line_text h) below → IsNext limits header hs (line_text h) h
+    → IsReadSoFar limits header text (hs ++ h ∷ []) (copies + h.count) below
+read_more limits header text hs copies rest below h was cut next = record {
+  dumped = next.dumped;
   text =
       was.text ∙ ap (λ x. flat_map pair_line hs ++ x) (cut.whole ∙ sym (append_assoc (line_text h) (10 ∷ []) below) ∙ ap (λ x. x ++ below) (sym (line_with_feed h)))
       ∙ sym (append_assoc (flat_map pair_line hs) (pair_line h) below)
       ∙ ap (λ x. x ++ below) (flat_map_more pair_line [] hs h);
-  fault = was.fault ∙ ap (fault_left limits hs) cut.lines ∙ fault_after_next limits hs (line_text h) (lines_of below) h (lines_some below) next;
+  fault = was.fault ∙ ap (fault_left limits header hs) cut.lines ∙ fault_after_next limits header hs (line_text h) (lines_of below) h (lines_some below) next;
   copies = omega (arith, copies_more hs h, was.copies);
 }
 
 -- a fault of the next line
-pub row_fault : (limits : Limits) (hs : Collection) (rest line below : List ℕ) (fault : DumpFault) → lines_of rest ≡ line ∷ lines_of below → line_fault (place_below limits hs line) ≡ Some fault
-    → fault_left limits hs (lines_of rest) ≡ Some (length hs + 2, fault)
-row_fault limits hs rest line below fault lines is =
-    ap (fault_left limits hs) lines
-    ∙ line_number limits hs line (lines_of below) fault (ap line_fault (ended limits (lines_down_to hs) line (lines_of below) (lines_some below)) ∙ is)
+pub row_fault : (limits : Limits) (header : List ℕ) (hs : Collection) (rest line below : List ℕ) (fault : DumpFault) → lines_of rest ≡ line ∷ lines_of below → line_fault (place_below limits header hs line) ≡ Some fault
+    → fault_left limits header hs (lines_of rest) ≡ Some (length hs + 2, fault)
+row_fault limits header hs rest line below fault lines is =
+    ap (fault_left limits header hs) lines
+    ∙ line_number limits header hs line (lines_of below) fault (ap line_fault (ended limits (lines_down_to header hs) line (lines_of below) (lines_some below)) ∙ is)
 
 -- no line feed where a line is wanted
-pub truncated : (limits : Limits) (hs : Collection) (rest : List ℕ) → IsBag (record { limits = limits; held = hs }) → lines_of rest ≡ rest ∷ [] → fault_left limits hs (lines_of rest) ≡ Some (length hs + 2, Truncated)
-truncated limits hs rest bag lines =
-    ap (fault_left limits hs) lines
-    ∙ line_number limits hs rest [] Truncated (truncated_row (place limits (lines_down_to hs) rest []) (not_over hs (counts_are limits hs bag)) refl)
+pub truncated : (limits : Limits) (header : List ℕ) (hs : Collection) (rest : List ℕ) → IsDumped limits header hs → lines_of rest ≡ rest ∷ [] → fault_left limits header hs (lines_of rest) ≡ Some (length hs + 2, Truncated)
+truncated limits header hs rest bag lines =
+    ap (fault_left limits header hs) lines
+    ∙ line_number limits header hs rest [] Truncated (truncated_row (place limits (lines_down_to header hs) rest []) (not_over header hs (counts_are limits header hs bag)) refl)
 
 -- ---- the end line
 
-end_sound : (limits : Limits) (hs : Collection) (line : List ℕ) → IsBag (record { limits = limits; held = hs }) → is_end line ≡ true → line ≡ end_text (length hs) (copies_in hs) → line_fault (place_below limits hs line) ≡ None
-end_sound limits hs line bag end is =
-    end_row limits hs line bag end ∙ cond-false _ _ _ (ap not ((bytes_eq-Decides line (end_text (length hs) (copies_in hs))).1 is))
+end_sound : (limits : Limits) (header : List ℕ) (hs : Collection) (line : List ℕ) → IsDumped limits header hs → is_end line ≡ true → line ≡ end_text (length hs) (copies_in hs) → line_fault (place_below limits header hs line) ≡ None
+end_sound limits header hs line bag end is =
+    end_row limits header hs line bag end ∙ cond-false _ _ _ (ap not ((bytes_eq-Decides line (end_text (length hs) (copies_in hs))).1 is))
 
-pub end_fault : (limits : Limits) (hs : Collection) (line : List ℕ) → IsBag (record { limits = limits; held = hs }) → is_end line ≡ true → (line ≡ end_text (length hs) (copies_in hs) → ⊥) → line_fault (place_below limits hs line) ≡ Some BadEnd
-end_fault limits hs line bag end other =
-    end_row limits hs line bag end
+pub end_fault : (limits : Limits) (header : List ℕ) (hs : Collection) (line : List ℕ) → IsDumped limits header hs → is_end line ≡ true → (line ≡ end_text (length hs) (copies_in hs) → ⊥) → line_fault (place_below limits header hs line) ≡ Some BadEnd
+end_fault limits header hs line bag end other =
+    end_row limits header hs line bag end
     ∙ cond-true _ _ _ (ap not (false_from_ne_true (bytes_eq line (end_text (length hs) (copies_in hs))) (λ same. other ((bytes_eq-Decides line (end_text (length hs) (copies_in hs))).0 same))))
 
 -- what is left behind the end line
-pub fault_behind : (limits : Limits) (hs : Collection) (line : List ℕ) (last : List ℕ) (lines : List (List ℕ)) → IsBag (record { limits = limits; held = hs }) → is_end line ≡ true → line ≡ end_text (length hs) (copies_in hs)
-    → fault_left limits hs (line ∷ last ∷ lines) ≡ fault_below line_fault limits (lines_down_to hs ++ line ∷ []) (last ∷ lines)
-fault_behind limits hs line last lines bag end is =
-    found_later line_fault limits (lines_down_to hs) line (last ∷ lines) (end_sound limits hs line bag end is)
+pub fault_behind : (limits : Limits) (header : List ℕ) (hs : Collection) (line : List ℕ) (last : List ℕ) (lines : List (List ℕ)) → IsDumped limits header hs → is_end line ≡ true → line ≡ end_text (length hs) (copies_in hs)
+    → fault_left limits header hs (line ∷ last ∷ lines) ≡ fault_below line_fault limits (lines_down_to header hs ++ line ∷ []) (last ∷ lines)
+fault_behind limits header hs line last lines bag end is =
+    found_later line_fault limits (lines_down_to header hs) line (last ∷ lines) (end_sound limits header hs line bag end is)
 
-last_fault : (limits : Limits) (hs : Collection) (line last : List ℕ) (lines : List (List ℕ)) → is_end line ≡ true
-    → line_fault (place limits (lines_down_to hs ++ line ∷ []) last lines) ≡ cond (not (is_nil lines) || not (is_nil last)) (Some TrailingBytes) None
-last_fault limits hs line last lines end =
-    behind_row (place limits (lines_down_to hs ++ line ∷ []) last lines) refl (over_behind hs line end)
+last_fault : (limits : Limits) (header : List ℕ) (hs : Collection) (line last : List ℕ) (lines : List (List ℕ)) → is_end line ≡ true
+    → line_fault (place limits (lines_down_to header hs ++ line ∷ []) last lines) ≡ cond (not (is_nil lines) || not (is_nil last)) (Some TrailingBytes) None
+last_fault limits header hs line last lines end =
+    behind_row (place limits (lines_down_to header hs ++ line ∷ []) last lines) refl (over_behind hs line end)
 
-pub nothing_behind : (limits : Limits) (hs : Collection) (line : List ℕ) → IsBag (record { limits = limits; held = hs }) → is_end line ≡ true → line ≡ end_text (length hs) (copies_in hs) → fault_left limits hs (line ∷ [] ∷ []) ≡ None
-nothing_behind limits hs line bag end is =
-    fault_behind limits hs line [] [] bag end is
-    ∙ found_later line_fault limits (lines_down_to hs ++ line ∷ []) [] [] (last_fault limits hs line [] [] end)
-    ∙ found_nowhere line_fault limits ((lines_down_to hs ++ line ∷ []) ++ [] ∷ [])
+pub nothing_behind : (limits : Limits) (header : List ℕ) (hs : Collection) (line : List ℕ) → IsDumped limits header hs → is_end line ≡ true → line ≡ end_text (length hs) (copies_in hs) → fault_left limits header hs (line ∷ [] ∷ []) ≡ None
+nothing_behind limits header hs line bag end is =
+    fault_behind limits header hs line [] [] bag end is
+    ∙ found_later line_fault limits (lines_down_to header hs ++ line ∷ []) [] [] (last_fault limits header hs line [] [] end)
+    ∙ found_nowhere line_fault limits ((lines_down_to header hs ++ line ∷ []) ++ [] ∷ [])
 
-pub bytes_behind : (limits : Limits) (hs : Collection) (line last : List ℕ) (lines : List (List ℕ)) → IsBag (record { limits = limits; held = hs }) → is_end line ≡ true → line ≡ end_text (length hs) (copies_in hs)
-    → (not (is_nil lines) || not (is_nil last)) ≡ true → fault_left limits hs (line ∷ last ∷ lines) ≡ Some (length hs + 3, TrailingBytes)
-bytes_behind limits hs line last lines bag end is some =
-    fault_behind limits hs line last lines bag end is
-    ∙ found_here line_fault limits (lines_down_to hs ++ line ∷ []) last lines TrailingBytes (last_fault limits hs line last lines end ∙ cond-true _ _ _ some)
-    ∙ ap (λ n. Some (n, TrailingBytes)) (let same : length (lines_down_to hs ++ line ∷ []) + 1 ≡ length hs + 3 = omega (arith, length_push (lines_down_to hs) line, length-map hs line_text) in same)
+pub bytes_behind : (limits : Limits) (header : List ℕ) (hs : Collection) (line last : List ℕ) (lines : List (List ℕ)) → IsDumped limits header hs → is_end line ≡ true → line ≡ end_text (length hs) (copies_in hs)
+    → (not (is_nil lines) || not (is_nil last)) ≡ true → fault_left limits header hs (line ∷ last ∷ lines) ≡ Some (length hs + 3, TrailingBytes)
+bytes_behind limits header hs line last lines bag end is some =
+    fault_behind limits header hs line last lines bag end is
+    ∙ found_here line_fault limits (lines_down_to header hs ++ line ∷ []) last lines TrailingBytes (last_fault limits header hs line last lines end ∙ cond-true _ _ _ some)
+    ∙ ap (λ n. Some (n, TrailingBytes)) (let same : length (lines_down_to header hs ++ line ∷ []) + 1 ≡ length hs + 3 = omega (arith, length_push (lines_down_to header hs) line, length-map hs line_text) in same)
 
-pub trailing : (limits : Limits) (hs : Collection) (copies : ℕ) (rest line below : List ℕ) → IsBag (record { limits = limits; held = hs }) → copies ≡ copies_in hs → lines_of rest ≡ line ∷ lines_of below → is_end line ≡ true → line ≡ end_text (length hs) copies → is_nil below ≡ false
-    → fault_left limits hs (lines_of rest) ≡ Some (length hs + 3, TrailingBytes)
-trailing limits hs copies rest line below bag sum lines end is some =
+pub trailing : (limits : Limits) (header : List ℕ) (hs : Collection) (copies : ℕ) (rest line below : List ℕ) → IsDumped limits header hs → copies ≡ copies_in hs → lines_of rest ≡ line ∷ lines_of below → is_end line ≡ true → line ≡ end_text (length hs) copies → is_nil below ≡ false
+    → fault_left limits header hs (lines_of rest) ≡ Some (length hs + 3, TrailingBytes)
+trailing limits header hs copies rest line below bag sum lines end is some =
     let same : line ≡ end_text (length hs) (copies_in hs) = is ∙ ap (λ n. end_text (length hs) n) sum in
     let parts = lines_split (lines_of below) (lines_some below) in
-    ap (fault_left limits hs) (lines ∙ ap (λ ls. line ∷ ls) parts.2)
-    ∙ bytes_behind limits hs line parts.0 parts.1 bag end same (some_behind below parts.0 parts.1 some parts.2)
+    ap (fault_left limits header hs) (lines ∙ ap (λ ls. line ∷ ls) parts.2)
+    ∙ bytes_behind limits header hs line parts.0 parts.1 bag end same (some_behind below parts.0 parts.1 some parts.2)
 
 -- the whole text, where nothing is behind the end line
-pub read_to_end : (limits : Limits) (hs : Collection) (copies : ℕ) (rest line below : List ℕ) → IsBag (record { limits = limits; held = hs }) → copies ≡ copies_in hs → rest ≡ line ++ 10 ∷ below → lines_of rest ≡ line ∷ lines_of below → is_end line ≡ true → line ≡ end_text (length hs) copies → below ≡ []
-    → (rest ≡ end_line hs) × (fault_left limits hs (lines_of rest) ≡ None)
+pub read_to_end : (limits : Limits) (header : List ℕ) (hs : Collection) (copies : ℕ) (rest line below : List ℕ) → IsDumped limits header hs → copies ≡ copies_in hs → rest ≡ line ++ 10 ∷ below → lines_of rest ≡ line ∷ lines_of below → is_end line ≡ true → line ≡ end_text (length hs) copies → below ≡ []
+    → (rest ≡ end_line hs) × (fault_left limits header hs (lines_of rest) ≡ None)
 unfolding lines_of
-read_to_end limits hs copies rest line below bag sum cut lines end is none =
+read_to_end limits header hs copies rest line below bag sum cut lines end is none =
     let same : line ≡ end_text (length hs) (copies_in hs) = is ∙ ap (λ n. end_text (length hs) n) sum in (
       cut ∙ ap (λ x. line ++ 10 ∷ x) none ∙ ap (λ x. x ++ 10 ∷ []) same ∙ sym (end_with_feed hs),
-      ap (fault_left limits hs) (lines ∙ ap (λ x. line ∷ lines_of x) none) ∙ nothing_behind limits hs line bag end same,
+      ap (fault_left limits header hs) (lines ∙ ap (λ x. line ∷ lines_of x) none) ∙ nothing_behind limits header hs line bag end same,
     )
 
-pub bad_end : (limits : Limits) (hs : Collection) (copies : ℕ) (rest line below : List ℕ) → IsBag (record { limits = limits; held = hs }) → copies ≡ copies_in hs → lines_of rest ≡ line ∷ lines_of below → is_end line ≡ true → (line ≡ end_text (length hs) copies → ⊥)
-    → fault_left limits hs (lines_of rest) ≡ Some (length hs + 2, BadEnd)
-bad_end limits hs copies rest line below bag sum lines end other =
-    row_fault limits hs rest line below BadEnd lines
-    (end_fault limits hs line bag end (λ is. other (is ∙ ap (λ n. end_text (length hs) n) (sym sum))))
+pub bad_end : (limits : Limits) (header : List ℕ) (hs : Collection) (copies : ℕ) (rest line below : List ℕ) → IsDumped limits header hs → copies ≡ copies_in hs → lines_of rest ≡ line ∷ lines_of below → is_end line ≡ true → (line ≡ end_text (length hs) copies → ⊥)
+    → fault_left limits header hs (lines_of rest) ≡ Some (length hs + 2, BadEnd)
+bad_end limits header hs copies rest line below bag sum lines end other =
+    row_fault limits header hs rest line below BadEnd lines
+    (end_fault limits header hs line bag end (λ is. other (is ∙ ap (λ n. end_text (length hs) n) (sym sum))))
 
 -- ---- from the top
 
 -- below the header the first fault is that of what is left
-pub below_header : (limits : Limits) (text header below : List ℕ) → lines_of text ≡ header ∷ lines_of below → header ≡ codes "s2ix 1" → dump_fault limits text ≡ fault_left limits [] (lines_of below)
+pub below_header : (limits : Limits) (text header below : List ℕ) → lines_of text ≡ header ∷ lines_of below → header ≡ codes "s2ix 1" → dump_fault limits text ≡ fault_left limits (codes "s2ix 1") [] (lines_of below)
 unfolding dump_fault
 below_header limits text header below lines is =
     ap (fault_below line_fault limits []) lines
     ∙ found_later line_fault limits [] header (lines_of below) (ap line_fault (ended limits [] header (lines_of below) (lines_some below)) ∙ header_row limits header ∙ cond-false _ _ _ (ap not ((bytes_eq-Decides header (codes "s2ix 1")).1 is)))
-    ∙ ap (λ h. fault_below line_fault limits (h ∷ []) (lines_of below)) is
+    ∙ ap (λ (h : List ℕ). fault_left limits h [] (lines_of below)) is
 
 pub bad_header : (limits : Limits) (text header below : List ℕ) → lines_of text ≡ header ∷ lines_of below → (header ≡ codes "s2ix 1" → ⊥) → dump_fault limits text ≡ Some (1, BadHeader)
 unfolding dump_fault
@@ -173,12 +173,12 @@ pub end_agrees : (line first word : List ℕ) (r : Bool) → r ≡ not (bytes_eq
 end_agrees line first word r is first_is word_is fails = ap₂ (λ (x y : List ℕ). bytes_eq x y) (sym first_is) (sym word_is) ∙ not-false (bytes_eq first word) (sym is ∙ fails)
 
 -- the sum of the counts with the next one fits
-pub next_sum : (limits : Limits) (hs : Collection) (line : List ℕ) (h : Held) → IsNext limits hs line h → copies_in hs + h.count ≤ 65535000000
-next_sum limits hs line h next = omega (arith, copies_more hs h, (copies_small limits (hs ++ h ∷ []) next.bag).1)
+pub next_sum : (limits : Limits) (header : List ℕ) (hs : Collection) (line : List ℕ) (h : Held) → IsNext limits header hs line h → copies_in hs + h.count ≤ 65535000000
+next_sum limits header hs line h next = omega (arith, copies_more hs h, (copies_small limits (hs ++ h ∷ []) next.dumped.bag).1)
 
 -- want of memory below the header
-pub wants_below : (limits : Limits) (text : List ℕ) → IsFromLine 2 (fault_left limits [] (lines_of text))
-wants_below limits text = found_from line_fault limits 2 (lines_down_to []) (lines_of text) (omega arith)
+pub wants_below : (limits : Limits) (header text : List ℕ) → IsFromLine 2 (fault_left limits header [] (lines_of text))
+wants_below limits header text = found_from line_fault limits 2 (lines_down_to header []) (lines_of text) (omega arith)
 
 -- what a clause says of a value
 pub at_some : {A : Type 0} (o : Option A) (P : A → Type 0) (x : A) → o ≡ Some x → IfSome o P → P x

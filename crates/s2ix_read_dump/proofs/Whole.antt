@@ -17,12 +17,12 @@ use Rattle.s2ix_read_dump.specs.declared.errors.DumpError.{DumpError}
 use Rattle.s2ix_read_dump.specs.declared.errors.DumpError.TheVariants.{At, OutOfMemory}
 use Rattle.s2ix_read_dump.specs.declared.errors.DumpFault.{DumpFault}
 use Rattle.s2ix_read_dump.specs.declared.errors.DumpFault.TheVariants.{Truncated, BadHeader, BadEnd, Unsorted, TooManyCopies, TooManyPairs, TrailingBytes}
-use Rattle.s2ix_read_dump.specs.DumpFaults.{IsDumpError, dump_fault, end_text, is_end, line_fault}
+use Rattle.s2ix_read_dump.specs.DumpFaults.{IsDumpError, dump_fault, end_text, greatest_count, is_end, line_fault}
 use Rattle.s2ix_parts.specs.Faults.{fault_below}
 use Rattle.s2ix_parts.specs.Lines.{is_nil, lines_of}
-use Rattle.s2ix_read_dump.specs.PairLines.{IsNext, held_written, last_pair, line_text, lines_down_to, place_below}
+use Rattle.s2ix_read_dump.specs.PairLines.{IsDumped, IsNext, held_written, last_pair, line_text, lines_down_to, place_below}
 use Rattle.s2ix_parts.specs.Written.{comes_before}
-use Rattle.s2ix_read_dump.proofs.Appended.{counts_are, front_is_bag, here_has, next_before}
+use Rattle.s2ix_read_dump.proofs.Appended.{counts_are, dumped_from_limits, front_is_dumped, here_has, next_before}
 use Rattle.s2ix_read_dump.proofs.PairTexts.{HasCount, end_is_end, end_lacks_feed, end_with_feed, held_of_line, line_is_no_end, line_lacks_feed, line_with_feed}
 use Rattle.s2ix_parts.proofs.FirstFault.{found_later, place}
 use Rattle.s2ix_parts.proofs.NoFault.{none_among, none_here}
@@ -37,35 +37,35 @@ lines_left hs ks = map line_text ks ++ end_text (length (hs ++ ks)) (copies_in (
 
 -- ---- a dump has no fault
 
-sound_left : (limits : Limits) (hs ks : Collection) → IsBag (record { limits = limits; held = hs ++ ks }) → fault_left limits hs (lines_left hs ks) ≡ None
-sound_left limits hs [] is =
-    let bag = front_is_bag limits hs [] is in
-    let sizes = copies_small limits hs bag in
-    ap (λ (x : Collection). fault_left limits hs (end_text (length x) (copies_in x) ∷ [] ∷ [])) (append-nil hs)
-    ∙ nothing_behind limits hs (end_text (length hs) (copies_in hs)) bag (end_is_end (length hs) (copies_in hs) (omega (arith, sizes.0)) (omega (arith, sizes.1))) refl
-sound_left limits hs (k ∷ ks) is =
-    let bag = front_is_bag limits hs (k ∷ ks) is in
-    let counted : HasCount k = here_has HasCount hs k ks (counts_are limits (hs ++ k ∷ ks) is) in
-    let small = here_has (λ (h : Held). h.count ≤ count_limit limits) hs k ks is.small in
-    let few : length hs < pairs_limit limits = omega (arith, length-append hs (k ∷ ks), is.few) in
-    let next = next_is limits hs (line_text k) k bag (line_is_no_end k counted) (held_of_line k counted) (next_before hs k ks is.rises) small few in
-    let With : Collection → Type 0 = λ x. IsBag (record { limits = limits; held = x }) in
+sound_left : (limits : Limits) (header : List ℕ) (hs ks : Collection) → IsDumped limits header (hs ++ ks) → fault_left limits header hs (lines_left hs ks) ≡ None
+sound_left limits header hs [] is =
+    let bag = front_is_dumped limits header hs [] is in
+    let sizes = copies_small limits hs bag.bag in
+    ap (λ (x : Collection). fault_left limits header hs (end_text (length x) (copies_in x) ∷ [] ∷ [])) (append-nil hs)
+    ∙ nothing_behind limits header hs (end_text (length hs) (copies_in hs)) bag (end_is_end (length hs) (copies_in hs) (omega (arith, sizes.0)) (omega (arith, sizes.1))) refl
+sound_left limits header hs (k ∷ ks) is =
+    let bag = front_is_dumped limits header hs (k ∷ ks) is in
+    let counted : HasCount header k = here_has (HasCount header) hs k ks (counts_are limits header (hs ++ k ∷ ks) is) in
+    let small = here_has (λ (h : Held). h.count ≤ count_limit limits) hs k ks is.bag.small in
+    let few : length hs < pairs_limit limits = omega (arith, length-append hs (k ∷ ks), is.bag.few) in
+    let next = next_is limits header hs (line_text k) k bag (line_is_no_end header k counted) (held_of_line header k counted) (next_before hs k ks is.bag.rises) small few in
+    let With : Collection → Type 0 = λ x. IsDumped limits header x in
     let assoc : hs ++ k ∷ ks ≡ (hs ++ k ∷ []) ++ ks = sym (append_assoc hs (k ∷ []) ks) in
-    fault_after_next limits hs (line_text k) (map line_text ks ++ end_text (length (hs ++ k ∷ ks)) (copies_in (hs ++ k ∷ ks)) ∷ [] ∷ []) k (some_left (map line_text ks) _ _) next
-    ∙ ap (λ (x : Collection). fault_left limits (hs ++ k ∷ []) (map line_text ks ++ end_text (length x) (copies_in x) ∷ [] ∷ [])) assoc
-    ∙ sound_left limits (hs ++ k ∷ []) ks (subst With assoc is)
+    fault_after_next limits header hs (line_text k) (map line_text ks ++ end_text (length (hs ++ k ∷ ks)) (copies_in (hs ++ k ∷ ks)) ∷ [] ∷ []) k (some_left (map line_text ks) _ _) next
+    ∙ ap (λ (x : Collection). fault_left limits header (hs ++ k ∷ []) (map line_text ks ++ end_text (length x) (copies_in x) ∷ [] ∷ [])) assoc
+    ∙ sound_left limits header (hs ++ k ∷ []) ks (subst With assoc is)
 
 -- the lines of a dump
-lines_written : (ks all : Collection) → All HasCount ks → length all < 2 ^ 64 → copies_in all < 2 ^ 64 → lines_of (flat_map pair_line ks ++ end_line all) ≡ map line_text ks ++ end_text (length all) (copies_in all) ∷ [] ∷ []
-lines_written [] all counted few small =
+lines_written : (header : List ℕ) (ks all : Collection) → All (HasCount header) ks → length all < 2 ^ 64 → copies_in all < 2 ^ 64 → lines_of (flat_map pair_line ks ++ end_line all) ≡ map line_text ks ++ end_text (length all) (copies_in all) ∷ [] ∷ []
+lines_written header [] all counted few small =
     ap lines_of (end_with_feed all) ∙ lines_apart (end_text (length all) (copies_in all)) [] (end_lacks_feed (length all) (copies_in all) few small)
     ∙ ap (λ ls. end_text (length all) (copies_in all) ∷ ls) no_lines
-lines_written (k ∷ ks) all counted few small =
+lines_written header (k ∷ ks) all counted few small =
     ap lines_of
     (append_assoc (pair_line k) (flat_map pair_line ks) (end_line all) ∙ ap (λ x. x ++ (flat_map pair_line ks ++ end_line all)) (line_with_feed k)
     ∙ append_assoc (line_text k) (10 ∷ []) (flat_map pair_line ks ++ end_line all))
-    ∙ lines_apart (line_text k) (flat_map pair_line ks ++ end_line all) (line_lacks_feed k (All-head HasCount k ks counted))
-    ∙ ap (λ ls. line_text k ∷ ls) (lines_written ks all (All-tail HasCount k ks counted) few small)
+    ∙ lines_apart (line_text k) (flat_map pair_line ks ++ end_line all) (line_lacks_feed header k (All-head (HasCount header) k ks counted))
+    ∙ ap (λ ls. line_text k ∷ ls) (lines_written header ks all (All-tail (HasCount header) k ks counted) few small)
 
 header_lacks_feed : Lacks 10 (codes "s2ix 1")
 header_lacks_feed =
@@ -81,91 +81,92 @@ header_lacks_feed =
 pub dump_is_sound : (limits : Limits) (hs : Collection) → IsBag (record { limits = limits; held = hs }) → dump_fault limits (dump_text hs) ≡ None
 unfolding dump_text
 dump_is_sound limits hs is =
+    let dumped = dumped_from_limits limits hs is in
     let sizes = copies_small limits hs is in
     let below = flat_map pair_line hs ++ end_line hs in
     below_header limits (codes "s2ix 1" ++ 10 ∷ below) (codes "s2ix 1") below (lines_apart (codes "s2ix 1") below header_lacks_feed) refl
-    ∙ ap (fault_left limits []) (lines_written hs hs (counts_are limits hs is) (omega (arith, sizes.0)) (omega (arith, sizes.1)))
-    ∙ sound_left limits [] hs is
+    ∙ ap (fault_left limits (codes "s2ix 1") []) (lines_written (codes "s2ix 1") hs hs (counts_are limits (codes "s2ix 1") hs dumped) (omega (arith, sizes.0)) (omega (arith, sizes.1)))
+    ∙ sound_left limits (codes "s2ix 1") [] hs dumped
 
 -- ---- a text without a fault is a dump
 
-next_at : (limits : Limits) (hs : Collection) (line : List ℕ) (written : Result Held DumpFault) → IsBag (record { limits = limits; held = hs }) → is_end line ≡ false → held_written line ≡ written → next_fault limits hs written ≡ None → (h : Held) × IsNext limits hs line h
+next_at : (limits : Limits) (header : List ℕ) (hs : Collection) (line : List ℕ) (written : Result Held DumpFault) → IsDumped limits header hs → is_end line ≡ false → held_written (greatest_count header) line ≡ written → next_fault limits hs written ≡ None → (h : Held) × IsNext limits header hs line h
 unfolding next_fault
-next_at limits hs line (Err fault) is no_end writes none = cc
-next_at limits hs line (Ok h) is no_end writes none =
+next_at limits header hs line (Err fault) is no_end writes none = cc
+next_at limits header hs line (Ok h) is no_end writes none =
     ⊎_elim
     (λ before. let rest = sym (cond-false _ _ _ (ap not before)) ∙ none in
     ⊎_elim
     (λ many. let clash : Some TooManyCopies ≡ None = sym (cond-true _ _ _ (lt-ltb (count_limit limits) h.count many)) ∙ rest in cc)
     (λ small. let last = sym (cond-false _ _ _ (le-ltb (count_limit limits) h.count small)) ∙ rest in
     ⊎_elim
-    (λ few. (h, next_is limits hs line h is no_end writes before small few))
+    (λ few. (h, next_is limits header hs line h is no_end writes before small few))
     (λ full. let clash : Some TooManyPairs ≡ None = sym (cond-true _ _ _ (le-leb (pairs_limit limits) (length hs) full)) ∙ last in cc)
     (cases_lt (length hs) (pairs_limit limits)))
     (cases_lt (count_limit limits) h.count))
     (λ not_before. let clash : Some Unsorted ≡ None = sym (cond-true _ _ _ (ap not not_before)) ∙ none in cc)
     (cases_Bool (comes_before (last_pair hs) (Some h.pair)))
 
-next_from : (limits : Limits) (hs : Collection) (line : List ℕ) → IsBag (record { limits = limits; held = hs }) → is_end line ≡ false → line_fault (place_below limits hs line) ≡ None → (h : Held) × IsNext limits hs line h
-next_from limits hs line is no_end none =
-    next_at limits hs line (held_written line) is no_end refl (sym (pair_row limits hs line is no_end) ∙ none)
+next_from : (limits : Limits) (header : List ℕ) (hs : Collection) (line : List ℕ) → IsDumped limits header hs → is_end line ≡ false → line_fault (place_below limits header hs line) ≡ None → (h : Held) × IsNext limits header hs line h
+next_from limits header hs line is no_end none =
+    next_at limits header hs line (held_written (greatest_count header) line) is no_end refl (sym (pair_row limits header hs line is no_end) ∙ none)
 
-end_from : (limits : Limits) (hs : Collection) (line : List ℕ) → IsBag (record { limits = limits; held = hs }) → is_end line ≡ true → line_fault (place_below limits hs line) ≡ None → line ≡ end_text (length hs) (copies_in hs)
-end_from limits hs line is end none =
+end_from : (limits : Limits) (header : List ℕ) (hs : Collection) (line : List ℕ) → IsDumped limits header hs → is_end line ≡ true → line_fault (place_below limits header hs line) ≡ None → line ≡ end_text (length hs) (copies_in hs)
+end_from limits header hs line is end none =
     ⊎_elim
     (λ same. (bytes_eq-Decides line (end_text (length hs) (copies_in hs))).0 same)
     (λ other.
-    let fault = end_fault limits hs line is end (λ e. both_ways (bytes_eq line (end_text (length hs) (copies_in hs))) other ((bytes_eq-Decides line (end_text (length hs) (copies_in hs))).1 e)) in
+    let fault = end_fault limits header hs line is end (λ e. both_ways (bytes_eq line (end_text (length hs) (copies_in hs))) other ((bytes_eq-Decides line (end_text (length hs) (copies_in hs))).1 e)) in
     let clash : Some BadEnd ≡ None = sym fault ∙ none in cc)
     (cases_Bool (bytes_eq line (end_text (length hs) (copies_in hs))))
 
 -- nothing is left behind the end line
-end_left : (limits : Limits) (hs : Collection) (line last : List ℕ) (lines : List (List ℕ)) → IsBag (record { limits = limits; held = hs }) → is_end line ≡ true → line ≡ end_text (length hs) (copies_in hs) → fault_left limits hs (line ∷ last ∷ lines) ≡ None
+end_left : (limits : Limits) (header : List ℕ) (hs : Collection) (line last : List ℕ) (lines : List (List ℕ)) → IsDumped limits header hs → is_end line ≡ true → line ≡ end_text (length hs) (copies_in hs) → fault_left limits header hs (line ∷ last ∷ lines) ≡ None
     → line ∷ last ∷ lines ≡ end_text (length hs) (copies_in hs) ∷ [] ∷ []
-end_left limits hs line [] [] is end same none = ap (λ x. x ∷ [] ∷ []) same
-end_left limits hs line (byte ∷ last) [] is end same none =
-    let clash : ◌≡◌ {A = Option (ℕ × DumpFault)} (Some (length hs + 3, TrailingBytes)) None = sym (bytes_behind limits hs line (byte ∷ last) [] is end same refl) ∙ none in cc
-end_left limits hs line last (more ∷ lines) is end same none =
-    let clash : ◌≡◌ {A = Option (ℕ × DumpFault)} (Some (length hs + 3, TrailingBytes)) None = sym (bytes_behind limits hs line last (more ∷ lines) is end same refl) ∙ none in cc
+end_left limits header hs line [] [] is end same none = ap (λ x. x ∷ [] ∷ []) same
+end_left limits header hs line (byte ∷ last) [] is end same none =
+    let clash : ◌≡◌ {A = Option (ℕ × DumpFault)} (Some (length hs + 3, TrailingBytes)) None = sym (bytes_behind limits header hs line (byte ∷ last) [] is end same refl) ∙ none in cc
+end_left limits header hs line last (more ∷ lines) is end same none =
+    let clash : ◌≡◌ {A = Option (ℕ × DumpFault)} (Some (length hs + 3, TrailingBytes)) None = sym (bytes_behind limits header hs line last (more ∷ lines) is end same refl) ∙ none in cc
 
 -- what is left of a dump: more held pairs, and the end line
-record IsLeft (limits : Limits) (hs : Collection) (lines : List (List ℕ)) (ks : Collection) : Type 0 where
-  bag : IsBag (record { limits = limits; held = hs ++ ks })
+record IsLeft (limits : Limits) (header : List ℕ) (hs : Collection) (lines : List (List ℕ)) (ks : Collection) : Type 0 where
+  dumped : IsDumped limits header (hs ++ ks)
   is : lines ≡ lines_left hs ks
 
-left_end : (limits : Limits) (hs : Collection) (lines : List (List ℕ)) → IsBag (record { limits = limits; held = hs }) → lines ≡ end_text (length hs) (copies_in hs) ∷ [] ∷ [] → IsLeft limits hs lines []
-left_end limits hs lines is same =
-    let With : Collection → Type 0 = λ x. IsBag (record { limits = limits; held = x }) in
+left_end : (limits : Limits) (header : List ℕ) (hs : Collection) (lines : List (List ℕ)) → IsDumped limits header hs → lines ≡ end_text (length hs) (copies_in hs) ∷ [] ∷ [] → IsLeft limits header hs lines []
+left_end limits header hs lines is same =
+    let With : Collection → Type 0 = λ x. IsDumped limits header x in
     let whole : hs ≡ hs ++ [] = sym (append-nil hs) in
     record {
-      bag = subst With whole is;
+      dumped = subst With whole is;
       is = same ∙ ap (λ (x : Collection). end_text (length x) (copies_in x) ∷ [] ∷ []) whole;
     }
 
-left_more : (limits : Limits) (hs : Collection) (line : List ℕ) (lines : List (List ℕ)) (h : Held) (ks : Collection) → line ≡ line_text h → IsLeft limits (hs ++ h ∷ []) lines ks → IsLeft limits hs (line ∷ lines) (h ∷ ks)
-left_more limits hs line lines h ks same left =
-    let With : Collection → Type 0 = λ x. IsBag (record { limits = limits; held = x }) in
+left_more : (limits : Limits) (header : List ℕ) (hs : Collection) (line : List ℕ) (lines : List (List ℕ)) (h : Held) (ks : Collection) → line ≡ line_text h → IsLeft limits header (hs ++ h ∷ []) lines ks → IsLeft limits header hs (line ∷ lines) (h ∷ ks)
+left_more limits header hs line lines h ks same left =
+    let With : Collection → Type 0 = λ x. IsDumped limits header x in
     let assoc : (hs ++ h ∷ []) ++ ks ≡ hs ++ h ∷ ks = append_assoc hs (h ∷ []) ks in
     record {
-      bag = subst With assoc left.bag;
+      dumped = subst With assoc left.dumped;
       is = ap₂ (λ (x : List ℕ) (xs : List (List ℕ)). x ∷ xs) same (left.is ∙ ap (λ (x : Collection). map line_text ks ++ end_text (length x) (copies_in x) ∷ [] ∷ []) assoc);
     }
 
-left_from : (limits : Limits) (hs : Collection) (lines : List (List ℕ)) → IsBag (record { limits = limits; held = hs }) → is_nil lines ≡ false → fault_left limits hs lines ≡ None → (ks : Collection) × IsLeft limits hs lines ks
-left_from limits hs [] is some none = cc
-left_from limits hs (line ∷ []) is some none =
-    let fault = truncated_row (place limits (lines_down_to hs) line []) (not_over hs (counts_are limits hs is)) refl in
-    let clash : Some Truncated ≡ None = sym fault ∙ none_here line_fault limits (lines_down_to hs) line [] none in cc
-left_from limits hs (line ∷ (last ∷ lines)) is some none =
-    let sound = none_here line_fault limits (lines_down_to hs) line (last ∷ lines) none in
+left_from : (limits : Limits) (header : List ℕ) (hs : Collection) (lines : List (List ℕ)) → IsDumped limits header hs → is_nil lines ≡ false → fault_left limits header hs lines ≡ None → (ks : Collection) × IsLeft limits header hs lines ks
+left_from limits header hs [] is some none = cc
+left_from limits header hs (line ∷ []) is some none =
+    let fault = truncated_row (place limits (lines_down_to header hs) line []) (not_over header hs (counts_are limits header hs is)) refl in
+    let clash : Some Truncated ≡ None = sym fault ∙ none_here line_fault limits (lines_down_to header hs) line [] none in cc
+left_from limits header hs (line ∷ (last ∷ lines)) is some none =
+    let sound = none_here line_fault limits (lines_down_to header hs) line (last ∷ lines) none in
     ⊎_elim
     (λ end.
-    let same = end_from limits hs line is end sound in
-    ([], left_end limits hs (line ∷ last ∷ lines) is (end_left limits hs line last lines is end same none)))
+    let same = end_from limits header hs line is end sound in
+    ([], left_end limits header hs (line ∷ last ∷ lines) is (end_left limits header hs line last lines is end same none)))
     (λ no_end.
-    let next = next_from limits hs line is no_end sound in
-    let later = left_from limits (hs ++ next.0 ∷ []) (last ∷ lines) next.1.bag refl (sym (fault_after_next limits hs line (last ∷ lines) next.0 refl next.1) ∙ none) in
-    (next.0 ∷ later.0, left_more limits hs line (last ∷ lines) next.0 later.0 next.1.text later.1))
+    let next = next_from limits header hs line is no_end sound in
+    let later = left_from limits header (hs ++ next.0 ∷ []) (last ∷ lines) next.1.dumped refl (sym (fault_after_next limits header hs line (last ∷ lines) next.0 refl next.1) ∙ none) in
+    (next.0 ∷ later.0, left_more limits header hs line (last ∷ lines) next.0 later.0 next.1.text later.1))
     (cases_Bool (is_end line))
 
 -- lines put together
@@ -178,8 +179,11 @@ join_left (k ∷ ks) end =
     ∙ ap (λ x. x ++ (flat_map pair_line ks ++ (end ++ 10 ∷ []))) (sym (line_with_feed k))
     ∙ sym (append_assoc (pair_line k) (flat_map pair_line ks) (end ++ 10 ∷ []))
 
-empty_bag : (limits : Limits) → IsBag (record { limits = limits; held = [] })
-empty_bag limits = record { rises = tt; few = omega arith; small = λ k d within. absurd (omega arith) }
+nothing_dumped : (limits : Limits) (header : List ℕ) → IsDumped limits header []
+nothing_dumped limits header = record {
+  bag = record { rises = tt; few = omega arith; small = λ k d within. absurd (omega arith) };
+  written = λ k d within. absurd (omega arith);
+}
 
 header_from : (limits : Limits) (header next : List ℕ) (lines : List (List ℕ)) → fault_below line_fault limits [] (header ∷ next ∷ lines) ≡ None → header ≡ codes "s2ix 1"
 header_from limits header next lines none =
@@ -199,9 +203,9 @@ lines_are_dump limits (header ∷ []) some none =
 lines_are_dump limits (header ∷ (next ∷ lines)) some none =
     let is = header_from limits header next lines none in
     let later = sym (found_later line_fault limits [] header (next ∷ lines) (none_here line_fault limits [] header (next ∷ lines) none)) ∙ none in
-    let left = left_from limits [] (next ∷ lines) (empty_bag limits) refl (ap (λ (h : List ℕ). fault_below line_fault limits (h ∷ []) (next ∷ lines)) (sym is) ∙ later) in (
+    let left = left_from limits header [] (next ∷ lines) (nothing_dumped limits header) refl later in (
       left.0,
-      left.1.bag,
+      left.1.dumped.bag,
       ap (λ h. h ++ 10 ∷ join_with_byte 10 (next ∷ lines)) is
           ∙ ap (λ (ls : List (List ℕ)). codes "s2ix 1" ++ 10 ∷ join_with_byte 10 ls) left.1.is
           ∙ ap (λ x. codes "s2ix 1" ++ 10 ∷ x) (join_left left.0 (end_text (length left.0) (copies_in left.0)) ∙ ap (λ x. flat_map pair_line left.0 ++ x) (sym (end_with_feed left.0))),

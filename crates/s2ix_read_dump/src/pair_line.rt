@@ -1,9 +1,8 @@
 //! The line of a held pair.
 ghost use Rattle.std.specs.Prelude.{◌≡◌, ◌≤◌, ◌++◌, ◌∷◌, ℕ, false, IfErr, IfNone, IfOk, IfSome, List, Some};
 ghost use Rattle.s2ix_pairs.specs.declared.pair.Held.{Held as HeldRecord};
-ghost use Rattle.s2ix_pairs.specs.Collection.{IsBag};
-ghost use Rattle.s2ix_read_dump.specs.DumpFaults.{is_end, line_fault};
-ghost use Rattle.s2ix_read_dump.specs.PairLines.{IsCommonFront, IsCut, IsNext, held_written as held_that, last_pair, line_text, place_below};
+ghost use Rattle.s2ix_read_dump.specs.DumpFaults.{greatest_count, is_end, line_fault};
+ghost use Rattle.s2ix_read_dump.specs.PairLines.{IsCommonFront, IsCut, IsDumped, IsNext, held_written as held_that, last_pair, line_text, place_below};
 ghost use Rattle.s2ix_parts.specs.Written.{comes_before};
 
 use crate::errors::DumpFault;
@@ -12,9 +11,9 @@ use s2ix_parts::{
     cell_written, count_written, label_written, number_in_front, three_parts, token_in_front,
 };
 
-// The held pair that a line writes, or the first fault of its parts.
-fn held_written(line: &[u8]) -> Result<Held, DumpFault>
-    ensures { result ≡ held_that line.now }
+// The held pair that a line writes, with a count of at most `most`, or the first fault of its parts.
+fn held_written(most: u32, line: &[u8]) -> Result<Held, DumpFault>
+    ensures { result ≡ held_that most line.now }
 {
     let Some((token, label, count)) = three_parts(line) else {
         return Err(DumpFault::BadLine);
@@ -25,7 +24,7 @@ fn held_written(line: &[u8]) -> Result<Held, DumpFault>
     let Some(label) = label_written(label) else {
         return Err(DumpFault::BadLabel);
     };
-    let Some(count) = count_written(count) else {
+    let Some(count) = count_written(most, count) else {
         return Err(DumpFault::BadCount);
     };
     Ok(Held {
@@ -44,14 +43,22 @@ fn comes_behind(before: &[FlatHeld], pair: Pair) -> bool
     }
 }
 
-/// The held pair of the line that follows those of the pairs before, or the fault of that line.
-pub(crate) fn next_held(limits: Limits, before: &[FlatHeld], line: &[u8]) -> Result<Held, DumpFault>
-    requires bag { IsBag (record { limits = limits; held = before.now }) }
+/// The held pair of the line that follows those of the pairs before, below a header under which counts are at most `most`, or the fault of
+/// that line.
+pub(crate) fn next_held(
+    limits: Limits,
+    most: u32,
+    before: &[FlatHeld],
+    line: &[u8],
+) -> Result<Held, DumpFault>
+    ghost header: { List ℕ }
+    requires most { greatest_count header ≡ most }
+    requires dumped { IsDumped limits header before.now }
     requires pair { is_end line.now ≡ false }
-    ensures next { IfOk result (IsNext limits before.now line.now) }
-    ensures fault { IfErr result (λ fault. line_fault (place_below limits before.now line.now) ≡ Some fault) }
+    ensures next { IfOk result (IsNext limits header before.now line.now) }
+    ensures fault { IfErr result (λ fault. line_fault (place_below limits header before.now line.now) ≡ Some fault) }
 {
-    let next = held_written(line)?;
+    let next = held_written(most, line)?;
     if !comes_behind(before, next.pair) {
         return Err(DumpFault::Unsorted);
     }
@@ -66,17 +73,17 @@ pub(crate) fn next_held(limits: Limits, before: &[FlatHeld], line: &[u8]) -> Res
 
 // The held pair whose line stands at the front of a text, and what is behind that line, where it has the common shape.
 #[inline]
-fn held_in_front(text: &[u8]) -> Option<(Held, &[u8])>
+fn held_in_front(most: u32, text: &[u8]) -> Option<(Held, &[u8])>
     ensures line { IfSome result (λ read. text.now ≡ line_text read.0 ++ 10 ∷ read.1.now) }
     ensures some { IfSome result (λ read. 1 ≤ read.0.count) }
-    ensures few { IfSome result (λ read. read.0.count ≤ 65535) }
-    ensures none { IfNone result ((held : HeldRecord) (rest : List ℕ) → ¬ IsCommonFront text.now held rest) }
+    ensures few { IfSome result (λ read. read.0.count ≤ most) }
+    ensures none { IfNone result ((held : HeldRecord) (rest : List ℕ) → ¬ IsCommonFront most text.now held rest) }
 {
     let (cell, behind) = token_in_front(text)?;
     let (label, behind) = number_in_front(behind, b' ')?;
     let (count, behind) = number_in_front(behind, b'\n')?;
     let label = Label::new(label)?;
-    if count == 0 || count > 65535 {
+    if count == 0 || count > most {
         return None;
     }
     let held = Held {
@@ -86,21 +93,24 @@ fn held_in_front(text: &[u8]) -> Option<(Held, &[u8])>
     Some((held, behind))
 }
 
-/// The held pair that follows those of the pairs before, and what is behind its line, where that line stands at the front of a text and has
-/// the common shape. Where it answers nothing, no line of the common shape stands there that is the next.
+/// The held pair that follows those of the pairs before, below a header under which counts are at most `most`, and what is behind its line,
+/// where that line stands at the front of a text and has the common shape. Where it answers nothing, no line of the common shape stands there that is the next.
 #[inline]
 pub(crate) fn next_in_front<'a>(
     limits: Limits,
+    most: u32,
     before: &[FlatHeld],
     text: &'a [u8],
 ) -> Option<(Held, &'a [u8])>
-    requires { IsBag (record { limits = limits; held = before.now }) }
+    ghost header: { List ℕ }
+    requires most { greatest_count header ≡ most }
+    requires dumped { IsDumped limits header before.now }
     ensures line { IfSome result (λ read. IsCut text.now (line_text read.0) read.1.now) }
-    ensures next { IfSome result (λ read. IsNext limits before.now (line_text read.0) read.0) }
-    ensures none { IfNone result ((held : HeldRecord) (rest : List ℕ) → IsCommonFront text.now held rest
-        → ¬ IsNext limits before.now (line_text held) held) }
+    ensures next { IfSome result (λ read. IsNext limits header before.now (line_text read.0) read.0) }
+    ensures none { IfNone result ((held : HeldRecord) (rest : List ℕ) → IsCommonFront most text.now held rest
+        → ¬ IsNext limits header before.now (line_text held) held) }
 {
-    let (next, behind) = held_in_front(text)?;
+    let (next, behind) = held_in_front(most, text)?;
     if !comes_behind(before, next.pair) || next.count > limits.count() {
         return None;
     }

@@ -1,15 +1,20 @@
 -- The header is compared, and what is below it is read.
-use Rattle.std.proofs.Common.{ℕ, Option, sym, ap, ◌∙◌, subst}
+use Rattle.std.proofs.Common.{ℕ, Option, refl, sym, ap, ◌∙◌, subst}
+use Rattle.std.specs.Prelude.{codes}
 use Rattle.std.proofs.lemmas.Result.{err_from_is_err_and}
 use Rattle.s2ix_pairs.specs.Collection.{Collection, LimitedCollection}
 use Rattle.s2ix_text.specs.Dump.{dump_text}
 use Rattle.s2ix_read_dump.specs.declared.errors.DumpFault.{DumpFault}
-use Rattle.s2ix_read_dump.specs.DumpFaults.{IsDumpError}
+use Rattle.s2ix_read_dump.specs.DumpFaults.{IsDumpError, greatest_count}
 use Rattle.s2ix_parts.specs.Faults.{IsFromLine}
 use Rattle.s2ix_parts.proofs.Rests.{agrees, differs}
 use Rattle.s2ix_read_dump.proofs.Steps.{bad_header, below_header, no_header, wants_below}
 use Rattle.s2ix_read_dump.proofs.Whole.{dump_put_together, never_refused, one_held, only_memory}
 use Rattle.s2ix_read_dump.proofs.dump.read_dump.Goals as goal
+
+pub read_below-requires : goal.read_below-requires
+unfolding greatest_count
+read_below-requires c = (refl, c.in_ok-room.ensures)
 
 pub returns-in_default-clause-refused : goal.returns-in_default-clause-refused
 returns-in_default-clause-refused c = no_header c.args.limits c.args.text.now c.in_default.ensures.none
@@ -31,7 +36,7 @@ returns-in_err-room-clause-refused c =
     let p = err_from_is_err_and c.from_residual.result c.from_residual.ensures.1 in
     let header = agrees c.in-Some.header.now c.as_slice.result.now c.ne.result c.ne.ensures c.if-ne.false ∙ c.as_slice.ensures in
     let below = sym (below_header c.args.limits c.args.text.now c.in-Some.header.now c.in-Some.below.now c.in-Some.ensures.line header) in
-    rw (p.1, p.2) (subst (λ (d : Option (ℕ × DumpFault)). IsFromLine 2 d) below (wants_below c.args.limits c.in-Some.below.now))
+    rw (p.1, p.2) (subst (λ (d : Option (ℕ × DumpFault)). IsFromLine 2 d) below (wants_below c.args.limits (codes "s2ix 1") c.in-Some.below.now))
 
 pub returns-in_err-held-clause-refused : goal.returns-in_err-held-clause-refused
 returns-in_err-held-clause-refused c =
@@ -56,7 +61,7 @@ pub returns-clause-every : goal.returns-clause-every
 returns-clause-every c =
     let header = agrees c.in-Some.header.now c.as_slice.result.now c.ne.result c.ne.ensures c.if-ne.false ∙ c.as_slice.ensures in
     let own = dump_put_together c.args.text.now c.in-Some.header.now c.in-Some.below.now c.in_ok-held.held.items c.in-Some.ensures.cut header c.in_ok-held.ensures.text in
-    λ hs is same. ap (λ (bag : LimitedCollection). bag.held) c.in_ok-from_held.ensures ∙ c.as_slice-2.ensures.value ∙ one_held c.args.limits c.args.text.now c.in_ok-held.held.items hs c.in_ok-held.ensures.bag is own same
+    λ hs is same. ap (λ (bag : LimitedCollection). bag.held) c.in_ok-from_held.ensures ∙ c.as_slice-2.ensures.value ∙ one_held c.args.limits c.args.text.now c.in_ok-held.held.items hs c.in_ok-held.ensures.dumped.bag is own same
 
 pub returns-clause-accepted : goal.returns-clause-accepted
 returns-clause-accepted c =
