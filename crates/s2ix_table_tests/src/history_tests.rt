@@ -99,7 +99,7 @@ impl Changes {
     }
 }
 
-// Adds the pairs of a bag that lie on the faces of a set, or those that don't, to another one. Face k is in the set 2^k.
+// Adds the pairs of a bag that lie on the faces of a set, or those that don't, to another one.
 fn with_faces(alloc: Global, bag: &Bag, more: &Bag, faces: u64, within: bool) -> Result<Bag, Fail> {
     let mut bag = bag.copied(alloc)?;
     for k in 0..more.len() {
@@ -111,15 +111,20 @@ fn with_faces(alloc: Global, bag: &Bag, more: &Bag, faces: u64, within: bool) ->
     Ok(bag)
 }
 
+// The set of one face: face k is the bit 2^k.
+fn only(face: u8) -> u64 {
+    1u64.checked_shl(u32::from(face)).unwrap_or(0)
+}
+
 // Whether a pair lies on a face of a set.
 fn is_on(held: Held, faces: u64) -> bool {
-    faces >> held.pair.cell.face() & 1 == 1
+    faces & only(held.pair.cell.face()) != 0
 }
 
 // A bag with other pairs on some faces, or with none: on one, on several, or on all.
 fn other_bag(alloc: Global, random: &mut Random, bag: &Bag) -> Result<Bag, Fail> {
     let faces = if random.below(2) == 0 {
-        1 << random.below(6)
+        only(u8::try_from(random.below(6)).unwrap_or(0))
     } else {
         random.below(64)
     };
@@ -138,7 +143,7 @@ fn other_bag(alloc: Global, random: &mut Random, bag: &Bag) -> Result<Bag, Fail>
 fn pairs_changed(bag: &Bag, change: &Change) -> u64 {
     let mut faces = 0u64;
     for entry in change.entries() {
-        faces |= 1 << entry.pair.cell.face();
+        faces |= only(entry.pair.cell.face());
     }
     let mut count = 0u64;
     for k in 0..bag.len() {
