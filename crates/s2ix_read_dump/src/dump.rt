@@ -30,6 +30,9 @@ fn is_end_of(pairs: usize, copies: u64, line: &[u8]) -> bool
     same_pairs && same_copies
 }
 
+// The greatest count that a dump writes.
+const GREATEST_COUNT: u32 = 65535;
+
 // How many bytes are counted at once: no more than a `u8` can count.
 const BLOCK: usize = 128;
 
@@ -139,9 +142,6 @@ fn read_below(
     }
     Ok(held)
 }
-
-// The greatest count that a dump writes.
-const GREATEST_COUNT: u32 = 65535;
 
 /// Reads a dump under limits: the bag whose dump the text is, or the first line that has a fault and the first fault of that line.
 ///

@@ -94,7 +94,8 @@ fn held_in_front(most: u32, text: &[u8]) -> Option<(Held, &[u8])>
 }
 
 /// The held pair that follows those of the pairs before, below a header under which counts are at most `most`, and what is behind its line,
-/// where that line stands at the front of a text and has the common shape. Where it answers nothing, no line of the common shape stands there that is the next.
+/// where that line stands at the front of a text and has the common shape. Where it answers nothing, no line of the common shape stands there
+/// that is the next.
 #[inline]
 pub(crate) fn next_in_front<'a>(
     limits: Limits,
