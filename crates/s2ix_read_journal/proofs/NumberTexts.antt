@@ -9,39 +9,39 @@ use Rattle.s2ix_read_journal.specs.Numbers.{side_from, side_written, size_from, 
 
 -- ---- counts before and after
 
-pub side_within : (n : ℕ) → n ≤ 65535 → side_from n ≡ Some n
-side_within n high = cond-true _ _ _ (le-leb n 65535 high)
+pub side_within : (most n : ℕ) → n ≤ most → side_from most n ≡ Some n
+side_within most n high = cond-true _ _ _ (le-leb n most high)
 
-pub side_above : (n : ℕ) → 65535 < n → side_from n ≡ None
-side_above n high = cond-false _ _ _ (lt-leb n 65535 high)
+pub side_above : (most n : ℕ) → most < n → side_from most n ≡ None
+side_above most n high = cond-false _ _ _ (lt-leb n most high)
 
-side_at : (number : Option ℕ) → ((n : ℕ) → n < 2 ^ 32 → number ≢ Some n) → option_and_then side_from number ≡ None
-side_at None large = refl
-side_at (Some n) large =
-    ⊎_elim (λ small. absurd (large n small refl)) (λ above. side_above n (omega arith)) (cases_lt n (2 ^ 32))
+side_at : (most : ℕ) → most < 2 ^ 32 → (number : Option ℕ) → ((n : ℕ) → n < 2 ^ 32 → number ≢ Some n) → option_and_then (side_from most) number ≡ None
+side_at most bounded None large = refl
+side_at most bounded (Some n) large =
+    ⊎_elim (λ small. absurd (large n small refl)) (λ above. side_above most n (omega arith)) (cases_lt n (2 ^ 32))
 
-pub no_side : (text : List ℕ) → ((n : ℕ) → n < 2 ^ 32 → number_written text ≢ Some n) → side_written text ≡ None
+pub no_side : (most : ℕ) → most < 2 ^ 32 → (text : List ℕ) → ((n : ℕ) → n < 2 ^ 32 → number_written text ≢ Some n) → side_written most text ≡ None
 unfolding side_written
-no_side text large = side_at (number_written text) large
+no_side most bounded text large = side_at most bounded (number_written text) large
 
-pub side_from_number : (text : List ℕ) (n : ℕ) → number_written text ≡ Some n → side_written text ≡ side_from n
+pub side_from_number : (most : ℕ) (text : List ℕ) (n : ℕ) → number_written text ≡ Some n → side_written most text ≡ side_from most n
 unfolding side_written
-side_from_number text n is = ap (option_and_then side_from) is
+side_from_number most text n is = ap (option_and_then (side_from most)) is
 
-side_in_range : (number : Option ℕ) (n : ℕ) → option_and_then side_from number ≡ Some n → (number ≡ Some n) × (n ≤ 65535)
-side_in_range None n is = cc
-side_in_range (Some m) n is =
+side_in_range : (most : ℕ) (number : Option ℕ) (n : ℕ) → option_and_then (side_from most) number ≡ Some n → (number ≡ Some n) × (n ≤ most)
+side_in_range most None n is = cc
+side_in_range most (Some m) n is =
     ⊎_elim
-    (λ high. let clash : None ≡ Some n = sym (side_above m high) ∙ is in cc)
-    (λ few. let same : Some m ≡ Some n = sym (side_within m few) ∙ is in let equal : m ≡ n = cc in (ap Some equal, omega arith))
-    (cases_lt 65535 m)
+    (λ high. let clash : None ≡ Some n = sym (side_above most m high) ∙ is in cc)
+    (λ few. let same : Some m ≡ Some n = sym (side_within most m few) ∙ is in let equal : m ≡ n = cc in (ap Some equal, omega arith))
+    (cases_lt most m)
 
-pub written_side : (text : List ℕ) (n : ℕ) → side_written text ≡ Some n → (text ≡ decimal n) × (n ≤ 65535)
+pub written_side : (most : ℕ) (text : List ℕ) (n : ℕ) → side_written most text ≡ Some n → (text ≡ decimal n) × (n ≤ most)
 unfolding side_written
-written_side text n is = let range = side_in_range (number_written text) n is in (written_number text n range.0, range.1)
+written_side most text n is = let range = side_in_range most (number_written text) n is in (written_number text n range.0, range.1)
 
-pub side_of_digits : (n : ℕ) → n ≤ 65535 → side_written (decimal n) ≡ Some n
-side_of_digits n high = side_from_number (decimal n) n (number_of_digits n (omega arith)) ∙ side_within n high
+pub side_of_digits : (most : ℕ) → most < 2 ^ 32 → (n : ℕ) → n ≤ most → side_written most (decimal n) ≡ Some n
+side_of_digits most bounded n high = side_from_number most (decimal n) n (number_of_digits n (omega arith)) ∙ side_within most n high
 
 -- ---- numbers of entries
 

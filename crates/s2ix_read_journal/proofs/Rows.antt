@@ -1,6 +1,6 @@
 -- The fault of a line, by the table: inside a group, outside, and behind the end line.
 use Rattle.std.proofs.Common.{◌≡◌, ◌==◌, ℕ, suc, Bool, true, false, not, ◌&&◌, ◌||◌, cond, Option, Some, None, Ok, Err, List, [], refl, ap, ◌∙◌, arith}
-use Rattle.std.specs.Prelude.{codes, is_none, nat_le, nat_lt}
+use Rattle.std.specs.Prelude.{codes, is_none, nat_le, nat_lt, slice_index_or}
 use Rattle.std.specs.Option.{unwrap_or}
 use Rattle.std.specs.Result.{result_err}
 use Rattle.std.specs.Str.{bytes_eq}
@@ -16,22 +16,24 @@ use Rattle.s2ix_parts.specs.Lines.{has_parts, is_nil, part}
 use Rattle.s2ix_parts.specs.Written.{cell_written, comes_before, label_written, pair_with, pair_written}
 use Rattle.s2ix_read_journal.specs.declared.errors.JournalFault.{JournalFault}
 use Rattle.s2ix_read_journal.specs.declared.errors.JournalFault.TheVariants.{Truncated, BadHeader, BadEnd, BadLine, BadToken, BadLabel, BadCount, NoDifference, Unsorted, TooManyCopies, TooManyChanges, TrailingBytes}
-use Rattle.s2ix_read_journal.specs.JournalFaults.{behind, end_text, is_change, is_end, is_first, is_inner, is_of_entry, is_of_group, is_outside, is_over, line_fault, stands}
+use Rattle.s2ix_read_journal.specs.JournalFaults.{behind, end_text, greatest_count, is_change, is_end, is_first, is_inner, is_of_entry, is_of_group, is_outside, is_over, line_fault, stands}
 use Rattle.s2ix_read_journal.specs.JournalLines.{entry_behind, entry_of_parts, entry_written, next_entry, next_size, size_behind, size_of_part}
 use Rattle.s2ix_read_journal.specs.Numbers.{side_written, size_written}
 
 -- ---- what stands above
 
--- lines that end with a whole group, the header among them
-pub record IsBetween (above : List (List ℕ)) (groups : ℕ) : Type 0 where
+-- lines that end with a whole group, the header among them, which allows counts up to `most`
+pub record IsBetween (most : ℕ) (above : List (List ℕ)) (groups : ℕ) : Type 0 where
   pub some : is_nil above ≡ false
+  pub greatest : greatest_count (slice_index_or above 0 []) ≡ most
   pub wanted : (behind above).wanted ≡ 0
   pub number : (behind above).groups ≡ groups
   pub over : (behind above).over ≡ false
 
 -- lines that end inside a group, or with its last line
-pub record IsInside (above : List (List ℕ)) (left : ℕ) (last : Option Pair) (groups : ℕ) : Type 0 where
+pub record IsInside (most : ℕ) (above : List (List ℕ)) (left : ℕ) (last : Option Pair) (groups : ℕ) : Type 0 where
   pub some : is_nil above ≡ false
+  pub greatest : greatest_count (slice_index_or above 0 []) ≡ most
   pub wanted : (behind above).wanted ≡ left
   pub pair : (behind above).last ≡ last
   pub number : (behind above).groups ≡ groups
@@ -94,10 +96,11 @@ at_entry limits last true (Some cell) (Some label) (Some m) (Some n) =
     three_tests (m == n) (comes_before last (Some (record { cell = cell; label = label }))) (nat_lt (count_limit limits) m || nat_lt (count_limit limits) n)
     (record { pair = record { cell = cell; label = label }; before = m; after = n })
 
-pub entry_row : (limits : Limits) (above : List (List ℕ)) (line : List ℕ) (left : ℕ) (last : Option Pair) (groups : ℕ) → IsInside above (suc left) last groups
-    → line_fault (place_below limits above line) ≡ result_err (next_entry limits last line)
+pub entry_row : (most : ℕ) (limits : Limits) (above : List (List ℕ)) (line : List ℕ) (left : ℕ) (last : Option Pair) (groups : ℕ) → IsInside most above (suc left) last groups
+    → line_fault (place_below limits above line) ≡ result_err (next_entry most limits last line)
 unfolding stands next_entry entry_written pair_written
-entry_row limits above line left last groups is =
+entry_row most limits above line left last groups is =
+    let own = greatest_count (slice_index_or above 0 []) in
     let p = place_below limits above line in
     let inner : is_inner p ≡ true = and_from _ _ (not_from_false _ is.some) (not_from_false _ is.over) in
     let wanted : ((behind above).wanted == 0) ≡ false = ap (λ n. n == 0) is.wanted ∙ ne_eqb (suc left) 0 (λ same. omega (arith, same)) in
@@ -118,7 +121,8 @@ entry_row limits above line left last groups is =
     (applies _ _ _ entry refl)
     (and_left _ _ group)
     (and_left _ _ is.over)
-    ∙ at_entry limits last (has_parts 4 line) (cell_written (part 0 line)) (label_written (part 1 line)) (side_written (part 2 line)) (side_written (part 3 line))
+    ∙ at_entry limits last (has_parts 4 line) (cell_written (part 0 line)) (label_written (part 1 line)) (side_written own (part 2 line)) (side_written own (part 3 line))
+    ∙ ap (λ (n : ℕ). result_err (next_entry n limits last line)) is.greatest
 
 -- ---- outside groups
 
@@ -133,10 +137,10 @@ at_change limits groups false size = refl
 at_change limits groups true None = refl
 at_change limits groups true (Some n) = one_test (nat_le (changes_limit limits) groups) n
 
-pub group_row : (limits : Limits) (above : List (List ℕ)) (line : List ℕ) (groups : ℕ) → IsBetween above groups → is_end line ≡ false
+pub group_row : (most : ℕ) (limits : Limits) (above : List (List ℕ)) (line : List ℕ) (groups : ℕ) → IsBetween most above groups → is_end line ≡ false
     → line_fault (place_below limits above line) ≡ result_err (next_size limits groups line)
 unfolding stands next_size
-group_row limits above line groups is no_end =
+group_row most limits above line groups is no_end =
     let p = place_below limits above line in
     let inner : is_inner p ≡ true = and_from _ _ (not_from_false _ is.some) (not_from_false _ is.over) in
     let wanted : ((behind above).wanted == 0) ≡ true = ap (λ n. n == 0) is.wanted in
@@ -158,10 +162,10 @@ group_row limits above line groups is no_end =
     (and_left _ _ is.over)
     ∙ at_change limits groups (is_change line) (size_written (part 1 line))
 
-pub end_row : (limits : Limits) (above : List (List ℕ)) (line : List ℕ) (groups : ℕ) → IsBetween above groups → is_end line ≡ true
+pub end_row : (most : ℕ) (limits : Limits) (above : List (List ℕ)) (line : List ℕ) (groups : ℕ) → IsBetween most above groups → is_end line ≡ true
     → line_fault (place_below limits above line) ≡ cond (not (bytes_eq line (end_text groups))) (Some BadEnd) None
 unfolding stands
-end_row limits above line groups is end =
+end_row most limits above line groups is end =
     let p = place_below limits above line in
     let inner : is_inner p ≡ true = and_from _ _ (not_from_false _ is.some) (not_from_false _ is.over) in
     let wanted : ((behind above).wanted == 0) ≡ true = ap (λ n. n == 0) is.wanted in

@@ -19,28 +19,28 @@ use Rattle.s2ix_parts.proofs.Pieces.{Lacks, lines_apart, lines_joined, lines_som
 use Rattle.s2ix_parts.proofs.Rests.{join_more, no_lines, some_joined}
 use Rattle.s2ix_read_journal.specs.declared.errors.JournalFault.{JournalFault}
 use Rattle.s2ix_read_journal.specs.declared.errors.JournalFault.TheVariants.{BadEnd, BadHeader, TrailingBytes, Truncated}
-use Rattle.s2ix_read_journal.specs.JournalFaults.{behind, end_text, is_end, journal_fault, line_fault}
+use Rattle.s2ix_read_journal.specs.JournalFaults.{behind, end_text, greatest_count, is_end, journal_fault, line_fault}
 use Rattle.s2ix_read_journal.specs.JournalLines.{change_text, entry_text, group_lines, last_pair, lines_down_to, next_entry, next_size}
-use Rattle.s2ix_read_journal.specs.Journals.{AreEntries, IsJournal}
+use Rattle.s2ix_read_journal.specs.Journals.{AreEntries, IsGroup, IsJournal}
 use Rattle.s2ix_read_journal.proofs.ChangeTexts.{IsSize, change_with_feed, end_is_end, end_lacks_feed, end_with_feed, line_from_size}
 use Rattle.s2ix_read_journal.proofs.EntryTexts.{line_with_feed}
-use Rattle.s2ix_read_journal.proofs.NextEntries.{IsNext, entries_more, last_pair_pushed, next_from, no_entries, sides_within}
+use Rattle.s2ix_read_journal.proofs.NextEntries.{IsNext, entries_more, last_pair_pushed, next_from, no_entries}
 use Rattle.s2ix_read_journal.proofs.Reading.{bytes_behind, end_fault, lines_of_groups, nothing_behind}
 use Rattle.s2ix_read_journal.proofs.Rows.{IsBetween, IsInside, entry_row, group_row, header_row, place_below, truncated_row}
-use Rattle.s2ix_read_journal.proofs.Standings.{between_start, group_begun, group_ended, inside_group, inside_more, some_behind_line}
-use Rattle.s2ix_read_journal.proofs.Steps.{IsGroup, fault_left, groups_passed}
+use Rattle.s2ix_read_journal.proofs.Standings.{between_start, greatest_more, group_begun, group_ended, inside_group, inside_more, some_behind_line}
+use Rattle.s2ix_read_journal.proofs.Steps.{fault_left, groups_passed}
 
 -- ---- groups, and what a journal holds
 
-writable_group : (limits : Limits) (es : List Entry) → IsGroup limits es → IsWritable es
+writable_group : (limits : Limits) (es : List Entry) → IsGroup 65535 limits es → IsWritable es
 writable_group limits es group = record {
   some = group.some;
   few = group.few;
-  small_before = λ k d within. (sides_within limits (get_or es k d) (group.entries.small k d within)).0;
-  small_after = λ k d within. (sides_within limits (get_or es k d) (group.entries.small k d within)).1;
+  small_before = λ k d within. (group.entries.sides k d within).0;
+  small_after = λ k d within. (group.entries.sides k d within).1;
 }
 
-pub journal_of_groups : (limits : Limits) (cs : List (List Entry)) → All (IsGroup limits) cs → length cs ≤ changes_limit limits → IsJournal limits cs
+pub journal_of_groups : (limits : Limits) (cs : List (List Entry)) → All (IsGroup 65535 limits) cs → length cs ≤ changes_limit limits → IsJournal limits cs
 journal_of_groups limits cs groups few = record {
   lists = λ k d within. (groups k d within).entries.list;
   within = record {
@@ -50,19 +50,31 @@ journal_of_groups limits cs groups few = record {
   };
 }
 
-pub groups_of_journal : (limits : Limits) (cs : List (List Entry)) → IsJournal limits cs → All (IsGroup limits) cs
+pub groups_of_journal : (limits : Limits) (cs : List (List Entry)) → IsJournal limits cs → All (IsGroup 65535 limits) cs
 groups_of_journal limits cs is = λ k d within.
     let writable = is.within.writable k d within in
-    record { entries = record { list = is.lists k d within; small = is.within.small k d within }; some = writable.some; few = writable.few }
+    record {
+      entries = record {
+        list = is.lists k d within;
+        sides = λ i e inside. (writable.small_before i e inside, writable.small_after i e inside);
+        small = is.within.small k d within;
+      };
+      some = writable.some;
+      few = writable.few;
+    }
 
 -- ---- the header
 
-pub below_header : (limits : Limits) (text header below : List ℕ) → lines_of text ≡ header ∷ lines_of below → header ≡ codes "s2ix-journal 1" → journal_fault limits text ≡ fault_left limits (lines_down_to []) (lines_of below)
+-- the greatest count that the lines below the first header write
+pub first_greatest : (header : List ℕ) → header ≡ codes "s2ix-journal 1" → greatest_count header ≡ 65535
+unfolding greatest_count
+first_greatest header is = refl
+
+pub below_header : (limits : Limits) (text header below : List ℕ) → lines_of text ≡ header ∷ lines_of below → header ≡ codes "s2ix-journal 1" → journal_fault limits text ≡ fault_left limits (lines_down_to header []) (lines_of below)
 unfolding journal_fault
 below_header limits text header below lines is =
     ap (fault_left limits []) lines
     ∙ found_later line_fault limits [] header (lines_of below) (ap line_fault (ended limits [] header (lines_of below) (lines_some below)) ∙ header_row limits header ∙ cond-false _ _ _ (ap not ((bytes_eq-Decides header (codes "s2ix-journal 1")).1 is)))
-    ∙ ap (λ h. fault_left limits (h ∷ []) (lines_of below)) is
 
 pub bad_header : (limits : Limits) (text header below : List ℕ) → lines_of text ≡ header ∷ lines_of below → (header ≡ codes "s2ix-journal 1" → ⊥) → journal_fault limits text ≡ Some (1, BadHeader)
 unfolding journal_fault
@@ -107,42 +119,45 @@ unfolding journal_text
 journal_is_sound limits cs is =
     let groups = groups_of_journal limits cs is in
     let few : length cs ≤ changes_limit limits = is.within.few in
-    let most : changes_limit limits ≤ 100000 = limits.in_range.5 in
+    let all : changes_limit limits ≤ 100000 = limits.in_range.5 in
+    let first = codes "s2ix-journal 1" in
+    let own = first_greatest first refl in
+    let bounded : 65535 < 2 ^ 32 = omega arith in
     let below = flat_map group_text cs ++ last_line cs in
-    let passed = groups_passed limits (lines_down_to []) 0 cs (lines_of (last_line cs)) between_start groups (omega (arith, few)) (lines_some (last_line cs)) in
-    let between = subst (λ n. IsBetween (lines_down_to cs) n) (let whole : 0 + length cs ≡ length cs = omega arith in whole) passed.between in
-    below_header limits (codes "s2ix-journal 1" ++ 10 ∷ below) (codes "s2ix-journal 1") below (lines_apart (codes "s2ix-journal 1") below header_lacks_feed) refl
-    ∙ ap (fault_left limits (lines_down_to [])) (lines_of_groups limits cs (last_line cs) groups)
+    let passed = groups_passed 65535 bounded limits (lines_down_to first []) 0 cs (lines_of (last_line cs)) (between_start 65535 first own) groups (omega (arith, few)) (lines_some (last_line cs)) in
+    let between = subst (λ n. IsBetween 65535 (lines_down_to first cs) n) (let whole : 0 + length cs ≡ length cs = omega arith in whole) passed.between in
+    below_header limits (first ++ 10 ∷ below) first below (lines_apart first below header_lacks_feed) refl
+    ∙ ap (fault_left limits (lines_down_to first [])) (lines_of_groups 65535 bounded limits cs (last_line cs) groups)
     ∙ passed.fault
-    ∙ ap (fault_left limits (lines_down_to cs)) (lines_of_end cs (omega (arith, few, most)))
-    ∙ nothing_behind limits (lines_down_to cs) (length cs) (end_text (length cs)) between (end_is_end (length cs) (omega (arith, few, most))) refl
+    ∙ ap (fault_left limits (lines_down_to first cs)) (lines_of_end cs (omega (arith, few, all)))
+    ∙ nothing_behind 65535 limits (lines_down_to first cs) (length cs) (end_text (length cs)) between (end_is_end (length cs) (omega (arith, few, all))) refl
 
 -- ---- a text without a fault is a journal
 
 -- lines that are a whole journal's
-record IsWhole (limits : Limits) (lines : List (List ℕ)) (cs : List (List Entry)) : Type 0 where
-  groups : All (IsGroup limits) cs
+record IsWhole (most : ℕ) (limits : Limits) (header : List ℕ) (lines : List (List ℕ)) (cs : List (List Entry)) : Type 0 where
+  groups : All (IsGroup most limits) cs
   few : length cs ≤ changes_limit limits
-  are : lines ≡ lines_down_to cs ++ end_text (length cs) ∷ [] ∷ []
+  are : lines ≡ lines_down_to header cs ++ end_text (length cs) ∷ [] ∷ []
 
 -- lines down to the last of these groups
-record IsOutside (limits : Limits) (above : List (List ℕ)) (cs : List (List Entry)) : Type 0 where
-  groups : All (IsGroup limits) cs
+record IsOutside (most : ℕ) (limits : Limits) (header : List ℕ) (above : List (List ℕ)) (cs : List (List Entry)) : Type 0 where
+  groups : All (IsGroup most limits) cs
   few : length cs ≤ changes_limit limits
-  are : above ≡ lines_down_to cs
-  between : IsBetween above (length cs)
+  are : above ≡ lines_down_to header cs
+  between : IsBetween most above (length cs)
 
 -- the same, and the first lines of one group more
-record IsAmong (limits : Limits) (above : List (List ℕ)) (cs : List (List Entry)) (es : List Entry) (more : ℕ) : Type 0 where
-  groups : All (IsGroup limits) cs
+record IsAmong (most : ℕ) (limits : Limits) (header : List ℕ) (above : List (List ℕ)) (cs : List (List Entry)) (es : List Entry) (more : ℕ) : Type 0 where
+  groups : All (IsGroup most limits) cs
   room : length cs < changes_limit limits
-  entries : AreEntries limits es
+  entries : AreEntries most limits es
   size : length es + suc more ≤ 2000000
-  are : above ≡ lines_down_to cs ++ change_text (length es + suc more) ∷ map entry_text es
-  inside : IsInside above (suc more) (last_pair es) (length cs + 1)
+  are : above ≡ lines_down_to header cs ++ change_text (length es + suc more) ∷ map entry_text es
+  inside : IsInside most above (suc more) (last_pair es) (length cs + 1)
 
-abbrev IsFront : Limits → List (List ℕ) → Type 0
-IsFront limits above = ((cs : List (List Entry)) × IsOutside limits above cs) ⊎ ((cs : List (List Entry)) × (es : List Entry) × (more : ℕ) × IsAmong limits above cs es more)
+abbrev IsFront : ℕ → Limits → List ℕ → List (List ℕ) → Type 0
+IsFront most limits header above = ((cs : List (List Entry)) × IsOutside most limits header above cs) ⊎ ((cs : List (List Entry)) × (es : List Entry) × (more : ℕ) × IsAmong most limits header above cs es more)
 
 ok_from : {A : Type 0} (r : Result A JournalFault) → result_err r ≡ None → (x : A) × (r ≡ Ok x)
 ok_from (Ok x) none = (x, refl)
@@ -150,35 +165,35 @@ ok_from (Err fault) none = cc
 
 -- one entry more
 
-group_lines_more : (cs : List (List Entry)) (es : List Entry) (size : ℕ) → length es ≡ size → lines_down_to cs ++ change_text size ∷ map entry_text es ≡ lines_down_to (cs ++ es ∷ [])
-group_lines_more cs es size long =
-    ap (λ n. lines_down_to cs ++ change_text n ∷ map entry_text es) (sym long) ∙ ap (λ (ls : List (List ℕ)). codes "s2ix-journal 1" ∷ ls) (flat_map_more group_lines [] cs es)
+group_lines_more : (header : List ℕ) (cs : List (List Entry)) (es : List Entry) (size : ℕ) → length es ≡ size → lines_down_to header cs ++ change_text size ∷ map entry_text es ≡ lines_down_to header (cs ++ es ∷ [])
+group_lines_more header cs es size long =
+    ap (λ n. lines_down_to header cs ++ change_text n ∷ map entry_text es) (sym long) ∙ ap (λ (ls : List (List ℕ)). header ∷ ls) (flat_map_more group_lines [] cs es)
 
-entry_lines_more : (cs : List (List Entry)) (es : List Entry) (e : Entry) (above : List (List ℕ)) (line : List ℕ) (size : ℕ) → above ≡ lines_down_to cs ++ change_text size ∷ map entry_text es → line ≡ entry_text e
-    → above ++ line ∷ [] ≡ lines_down_to cs ++ change_text size ∷ map entry_text (es ++ e ∷ [])
-entry_lines_more cs es e above line size are text =
+entry_lines_more : (header : List ℕ) (cs : List (List Entry)) (es : List Entry) (e : Entry) (above : List (List ℕ)) (line : List ℕ) (size : ℕ) → above ≡ lines_down_to header cs ++ change_text size ∷ map entry_text es → line ≡ entry_text e
+    → above ++ line ∷ [] ≡ lines_down_to header cs ++ change_text size ∷ map entry_text (es ++ e ∷ [])
+entry_lines_more header cs es e above line size are text =
     ap₂ (λ (a : List (List ℕ)) (l : List ℕ). a ++ l ∷ []) are text
-    ∙ append_assoc (lines_down_to cs) (change_text size ∷ map entry_text es) (entry_text e ∷ [])
-    ∙ ap (λ (ls : List (List ℕ)). lines_down_to cs ++ change_text size ∷ ls) (sym (map_push entry_text es e))
+    ∙ append_assoc (lines_down_to header cs) (change_text size ∷ map entry_text es) (entry_text e ∷ [])
+    ∙ ap (λ (ls : List (List ℕ)). lines_down_to header cs ++ change_text size ∷ ls) (sym (map_push entry_text es e))
 
-front_after_entry : (limits : Limits) (above : List (List ℕ)) (cs : List (List Entry)) (es : List Entry) (more : ℕ) (line : List ℕ) (e : Entry) → IsAmong limits above cs es more → IsNext limits (last_pair es) line e → IsFront limits (above ++ line ∷ [])
-front_after_entry limits above cs es zero line e is next =
-    let inside = inside_more above line 0 (last_pair es) (Some e.pair) (length cs + 1) is.inside next.writes in
+front_after_entry : (most : ℕ) (limits : Limits) (header : List ℕ) (above : List (List ℕ)) (cs : List (List Entry)) (es : List Entry) (more : ℕ) (line : List ℕ) (e : Entry) → IsAmong most limits header above cs es more → IsNext most limits (last_pair es) line e → IsFront most limits header (above ++ line ∷ [])
+front_after_entry most limits header above cs es zero line e is next =
+    let inside = inside_more most above line 0 (last_pair es) (Some e.pair) (length cs + 1) is.inside next.writes in
     let all = es ++ e ∷ [] in
     let long : length all ≡ length es + suc 0 = omega (arith, length_push es e) in
     let size = is.size in
-    let group : IsGroup limits all = record { entries = entries_more limits es line e is.entries next; some = omega (arith, long); few = omega (arith, long, size) } in
+    let group : IsGroup most limits all = record { entries = entries_more most limits es line e is.entries next; some = omega (arith, long); few = omega (arith, long, size) } in
     let number : length cs + 1 ≡ length (cs ++ all ∷ []) = omega (arith, length_push cs all) in
     inl (
       cs ++ all ∷ [],
       record {
-        groups = All-push (IsGroup limits) cs all is.groups group;
+        groups = All-push (IsGroup most limits) cs all is.groups group;
         few = omega (arith, length_push cs all, is.room);
-        are = entry_lines_more cs es e above line (length es + suc 0) is.are next.text ∙ group_lines_more cs all (length es + suc 0) long;
-        between = subst (λ n. IsBetween (above ++ line ∷ []) n) number (group_ended (above ++ line ∷ []) (Some e.pair) (length cs + 1) inside);
+        are = entry_lines_more header cs es e above line (length es + suc 0) is.are next.text ∙ group_lines_more header cs all (length es + suc 0) long;
+        between = subst (λ n. IsBetween most (above ++ line ∷ []) n) number (group_ended most (above ++ line ∷ []) (Some e.pair) (length cs + 1) inside);
       },
     )
-front_after_entry limits above cs es (suc more) line e is next =
+front_after_entry most limits header above cs es (suc more) line e is next =
     let all = es ++ e ∷ [] in
     let long : length es + suc (suc more) ≡ length all + suc more = omega (arith, length_push es e) in
     let size = is.size in
@@ -189,18 +204,18 @@ front_after_entry limits above cs es (suc more) line e is next =
       record {
         groups = is.groups;
         room = is.room;
-        entries = entries_more limits es line e is.entries next;
+        entries = entries_more most limits es line e is.entries next;
         size = omega (arith, long, size);
-        are = entry_lines_more cs es e above line (length es + suc (suc more)) is.are next.text ∙ ap (λ n. lines_down_to cs ++ change_text n ∷ map entry_text all) long;
-        inside = inside_more above line (suc more) (last_pair es) (last_pair all) (length cs + 1) is.inside (next.writes ∙ sym (last_pair_pushed es e));
+        are = entry_lines_more header cs es e above line (length es + suc (suc more)) is.are next.text ∙ ap (λ n. lines_down_to header cs ++ change_text n ∷ map entry_text all) long;
+        inside = inside_more most above line (suc more) (last_pair es) (last_pair all) (length cs + 1) is.inside (next.writes ∙ sym (last_pair_pushed es e));
       },
     )
 
 -- a group begins
 
-front_after_size : (limits : Limits) (above : List (List ℕ)) (cs : List (List Entry)) (size : ℕ) (line : List ℕ) → IsOutside limits above cs → is_end line ≡ false → IsSize limits (length cs) line size → IsFront limits (above ++ line ∷ [])
-front_after_size limits above cs zero line is no_end writes = absurd (let none = writes.some in omega (arith, none))
-front_after_size limits above cs (suc more) line is no_end writes =
+front_after_size : (most : ℕ) (limits : Limits) (header : List ℕ) (above : List (List ℕ)) (cs : List (List Entry)) (size : ℕ) (line : List ℕ) → IsOutside most limits header above cs → is_end line ≡ false → IsSize limits (length cs) line size → IsFront most limits header (above ++ line ∷ [])
+front_after_size most limits header above cs zero line is no_end writes = absurd (let none = writes.some in omega (arith, none))
+front_after_size most limits header above cs (suc more) line is no_end writes =
     let number : suc more ≡ 0 + suc more = omega arith in
     let few = writes.few in
     inr (
@@ -210,80 +225,80 @@ front_after_size limits above cs (suc more) line is no_end writes =
       record {
         groups = is.groups;
         room = writes.room;
-        entries = no_entries limits;
+        entries = no_entries most limits;
         size = omega (arith, few);
         are = ap₂ (λ (a : List (List ℕ)) (l : List ℕ). a ++ l ∷ []) is.are (writes.text ∙ ap change_text number);
-        inside = inside_group (above ++ line ∷ []) (length cs + 1) (suc more) (some_behind_line above line) (group_begun above line (length cs) (suc more) is.between no_end writes.written);
+        inside = inside_group most (above ++ line ∷ []) (length cs + 1) (suc more) (some_behind_line above line) (greatest_more most above line is.between.some is.between.greatest) (group_begun most above line (length cs) (suc more) is.between no_end writes.written);
       },
     )
 
 -- the end
 
-end_left : (limits : Limits) (above : List (List ℕ)) (groups : ℕ) (line last : List ℕ) (lines : List (List ℕ)) → IsBetween above groups → is_end line ≡ true → line ≡ end_text groups → fault_left limits above (line ∷ last ∷ lines) ≡ None
+end_left : (most : ℕ) (limits : Limits) (above : List (List ℕ)) (groups : ℕ) (line last : List ℕ) (lines : List (List ℕ)) → IsBetween most above groups → is_end line ≡ true → line ≡ end_text groups → fault_left limits above (line ∷ last ∷ lines) ≡ None
     → line ∷ last ∷ lines ≡ end_text groups ∷ [] ∷ []
-end_left limits above groups line [] [] is end same none = ap (λ x. x ∷ [] ∷ []) same
-end_left limits above groups line (byte ∷ last) [] is end same none =
-    let clash : ◌≡◌ {A = Option (ℕ × JournalFault)} (Some (length above + 2, TrailingBytes)) None = sym (bytes_behind limits above groups line (byte ∷ last) [] is end same refl) ∙ none in cc
-end_left limits above groups line last (more ∷ lines) is end same none =
-    let clash : ◌≡◌ {A = Option (ℕ × JournalFault)} (Some (length above + 2, TrailingBytes)) None = sym (bytes_behind limits above groups line last (more ∷ lines) is end same refl) ∙ none in cc
+end_left most limits above groups line [] [] is end same none = ap (λ x. x ∷ [] ∷ []) same
+end_left most limits above groups line (byte ∷ last) [] is end same none =
+    let clash : ◌≡◌ {A = Option (ℕ × JournalFault)} (Some (length above + 2, TrailingBytes)) None = sym (bytes_behind most limits above groups line (byte ∷ last) [] is end same refl) ∙ none in cc
+end_left most limits above groups line last (more ∷ lines) is end same none =
+    let clash : ◌≡◌ {A = Option (ℕ × JournalFault)} (Some (length above + 2, TrailingBytes)) None = sym (bytes_behind most limits above groups line last (more ∷ lines) is end same refl) ∙ none in cc
 
-end_from : (limits : Limits) (above : List (List ℕ)) (groups : ℕ) (line : List ℕ) → IsBetween above groups → is_end line ≡ true → line_fault (place_below limits above line) ≡ None → line ≡ end_text groups
-end_from limits above groups line is end none =
+end_from : (most : ℕ) (limits : Limits) (above : List (List ℕ)) (groups : ℕ) (line : List ℕ) → IsBetween most above groups → is_end line ≡ true → line_fault (place_below limits above line) ≡ None → line ≡ end_text groups
+end_from most limits above groups line is end none =
     ⊎_elim
     (λ same. (bytes_eq-Decides line (end_text groups)).0 same)
     (λ other.
-    let fault = end_fault limits above groups line is end (λ e. both_ways (bytes_eq line (end_text groups)) other ((bytes_eq-Decides line (end_text groups)).1 e)) in
+    let fault = end_fault most limits above groups line is end (λ e. both_ways (bytes_eq line (end_text groups)) other ((bytes_eq-Decides line (end_text groups)).1 e)) in
     let clash : Some BadEnd ≡ None = sym fault ∙ none in cc)
     (cases_Bool (bytes_eq line (end_text groups)))
 
 -- one line more: the text ends, or a longer front
 
-front_over : (limits : Limits) (above : List (List ℕ)) → IsFront limits above → (behind above).over ≡ false
-front_over limits above (inl outside) = outside.1.between.over
-front_over limits above (inr among) = among.3.inside.over
+front_over : (most : ℕ) (limits : Limits) (header : List ℕ) (above : List (List ℕ)) → IsFront most limits header above → (behind above).over ≡ false
+front_over most limits header above (inl outside) = outside.1.between.over
+front_over most limits header above (inr among) = among.3.inside.over
 
-one_line_more : (limits : Limits) (above : List (List ℕ)) (line last : List ℕ) (lines : List (List ℕ)) → IsFront limits above → fault_left limits above (line ∷ last ∷ lines) ≡ None
-    → ((cs : List (List Entry)) × IsWhole limits (above ++ line ∷ last ∷ lines) cs) ⊎ IsFront limits (above ++ line ∷ [])
-one_line_more limits above line last lines (inl outside) none =
+one_line_more : (most : ℕ) → most < 2 ^ 32 → (limits : Limits) (header : List ℕ) (above : List (List ℕ)) (line last : List ℕ) (lines : List (List ℕ)) → IsFront most limits header above → fault_left limits above (line ∷ last ∷ lines) ≡ None
+    → ((cs : List (List Entry)) × IsWhole most limits header (above ++ line ∷ last ∷ lines) cs) ⊎ IsFront most limits header (above ++ line ∷ [])
+one_line_more most bounded limits header above line last lines (inl outside) none =
     let cs = outside.0 in
     let is = outside.1 in
     let sound = none_here line_fault limits above line (last ∷ lines) none in
     ⊎_elim
     (λ end.
-    let same = end_from limits above (length cs) line is.between end sound in
+    let same = end_from most limits above (length cs) line is.between end sound in
     inl (
       cs,
       record {
         groups = is.groups;
         few = is.few;
-        are = ap₂ (λ (a ls : List (List ℕ)). a ++ ls) is.are (end_left limits above (length cs) line last lines is.between end same none);
+        are = ap₂ (λ (a ls : List (List ℕ)). a ++ ls) is.are (end_left most limits above (length cs) line last lines is.between end same none);
       },
     ))
     (λ no_end.
-    let size = ok_from (next_size limits (length cs) line) (sym (group_row limits above line (length cs) is.between no_end) ∙ sound) in
-    inr (front_after_size limits above cs size.0 line is no_end (line_from_size limits (length cs) line size.0 size.1)))
+    let size = ok_from (next_size limits (length cs) line) (sym (group_row most limits above line (length cs) is.between no_end) ∙ sound) in
+    inr (front_after_size most limits header above cs size.0 line is no_end (line_from_size limits (length cs) line size.0 size.1)))
     (cases_Bool (is_end line))
-one_line_more limits above line last lines (inr among) none =
+one_line_more most bounded limits header above line last lines (inr among) none =
     let cs = among.0 in
     let es = among.1 in
     let more = among.2 in
     let is = among.3 in
     let sound = none_here line_fault limits above line (last ∷ lines) none in
-    let entry = ok_from (next_entry limits (last_pair es) line) (sym (entry_row limits above line more (last_pair es) (length cs + 1) is.inside) ∙ sound) in
-    inr (front_after_entry limits above cs es more line entry.0 is (next_from limits (last_pair es) line entry.0 entry.1))
+    let entry = ok_from (next_entry most limits (last_pair es) line) (sym (entry_row most limits above line more (last_pair es) (length cs + 1) is.inside) ∙ sound) in
+    inr (front_after_entry most limits header above cs es more line entry.0 is (next_from most bounded limits (last_pair es) line entry.0 entry.1))
 
-whole_from : (limits : Limits) (above lines : List (List ℕ)) → IsFront limits above → is_nil lines ≡ false → fault_left limits above lines ≡ None → (cs : List (List Entry)) × IsWhole limits (above ++ lines) cs
-whole_from limits above [] front some none = cc
-whole_from limits above (line ∷ []) front some none =
-    let fault = truncated_row (place limits above line []) (front_over limits above front) refl in
+whole_from : (most : ℕ) → most < 2 ^ 32 → (limits : Limits) (header : List ℕ) (above lines : List (List ℕ)) → IsFront most limits header above → is_nil lines ≡ false → fault_left limits above lines ≡ None → (cs : List (List Entry)) × IsWhole most limits header (above ++ lines) cs
+whole_from most bounded limits header above [] front some none = cc
+whole_from most bounded limits header above (line ∷ []) front some none =
+    let fault = truncated_row (place limits above line []) (front_over most limits header above front) refl in
     let clash : Some Truncated ≡ None = sym fault ∙ none_here line_fault limits above line [] none in cc
-whole_from limits above (line ∷ (last ∷ lines)) front some none =
+whole_from most bounded limits header above (line ∷ (last ∷ lines)) front some none =
     ⊎_elim
     (λ whole. whole)
     (λ further.
-    let later = whole_from limits (above ++ line ∷ []) (last ∷ lines) further refl (none_later line_fault limits above line (last ∷ lines) none) in
-    (later.0, subst (λ (ls : List (List ℕ)). IsWhole limits ls later.0) (append_assoc above (line ∷ []) (last ∷ lines)) later.1))
-    (one_line_more limits above line last lines front none)
+    let later = whole_from most bounded limits header (above ++ line ∷ []) (last ∷ lines) further refl (none_later line_fault limits above line (last ∷ lines) none) in
+    (later.0, subst (λ (ls : List (List ℕ)). IsWhole most limits header ls later.0) (append_assoc above (line ∷ []) (last ∷ lines)) later.1))
+    (one_line_more most bounded limits header above line last lines front none)
 
 -- ---- lines put together
 
@@ -313,7 +328,7 @@ join_groups (c ∷ cs) lines some =
     ∙ ap (λ x. group_text c ++ x) (join_groups cs lines some)
     ∙ sym (append_assoc (group_text c) (flat_map group_text cs) (join_with_byte 10 lines))
 
-join_whole : (cs : List (List Entry)) → join_with_byte 10 (lines_down_to cs ++ end_text (length cs) ∷ [] ∷ []) ≡ journal_text cs
+join_whole : (cs : List (List Entry)) → join_with_byte 10 (lines_down_to (codes "s2ix-journal 1") cs ++ end_text (length cs) ∷ [] ∷ []) ≡ journal_text cs
 unfolding journal_text
 join_whole cs =
     join_more (codes "s2ix-journal 1") (flat_map group_lines cs ++ end_text (length cs) ∷ [] ∷ []) (some_joined (flat_map group_lines cs) (end_text (length cs) ∷ [] ∷ []) refl)
@@ -330,10 +345,10 @@ header_from limits header next lines none =
     let clash : Some BadHeader ≡ None = sym fault ∙ none_here line_fault limits [] header (next ∷ lines) none in cc)
     (cases_Bool (bytes_eq header (codes "s2ix-journal 1")))
 
-front_start : (limits : Limits) → IsFront limits (codes "s2ix-journal 1" ∷ [])
-front_start limits = inl ([], record { groups = λ k d within. absurd (omega arith); few = omega arith; are = refl; between = between_start })
+front_start : (most : ℕ) (limits : Limits) (header : List ℕ) → greatest_count header ≡ most → IsFront most limits header (header ∷ [])
+front_start most limits header own = inl ([], record { groups = λ k d within. absurd (omega arith); few = omega arith; are = refl; between = between_start most header own })
 
-lines_are_journal : (limits : Limits) (lines : List (List ℕ)) → is_nil lines ≡ false → fault_left limits [] lines ≡ None → (cs : List (List Entry)) × IsWhole limits lines cs
+lines_are_journal : (limits : Limits) (lines : List (List ℕ)) → is_nil lines ≡ false → fault_left limits [] lines ≡ None → (cs : List (List Entry)) × IsWhole 65535 limits (codes "s2ix-journal 1") lines cs
 unfolding behind
 lines_are_journal limits [] some none = cc
 lines_are_journal limits (header ∷ []) some none =
@@ -342,8 +357,8 @@ lines_are_journal limits (header ∷ []) some none =
 lines_are_journal limits (header ∷ (next ∷ lines)) some none =
     let is = header_from limits header next lines none in
     let later = none_later line_fault limits [] header (next ∷ lines) none in
-    let whole = whole_from limits (codes "s2ix-journal 1" ∷ []) (next ∷ lines) (front_start limits) refl (ap (λ (h : List ℕ). fault_left limits (h ∷ []) (next ∷ lines)) (sym is) ∙ later) in
-    (whole.0, subst (λ (h : List ℕ). IsWhole limits (h ∷ next ∷ lines) whole.0) (sym is) whole.1)
+    let whole = whole_from 65535 (omega arith) limits header (header ∷ []) (next ∷ lines) (front_start 65535 limits header (first_greatest header is)) refl later in
+    (whole.0, subst (λ (h : List ℕ). IsWhole 65535 limits h (header ∷ next ∷ lines) whole.0) is whole.1)
 
 pub sound_is_journal : (limits : Limits) (text : List ℕ) → journal_fault limits text ≡ None → (cs : List (List Entry)) × IsJournal limits cs × (text ≡ journal_text cs)
 unfolding journal_fault

@@ -1,5 +1,5 @@
 -- The faults of a journal, line by line.
-use Rattle.std.specs.Prelude.{◌≡◌, ℕ, zero, suc, ◌+◌, ◌==◌, Bool, true, false, not, ◌&&◌, ◌||◌, nat_lt, nat_le, is_none, if◌then◌else◌, codes, decimal, Option, Some, None, List, [], ◌∷◌, ◌++◌, drop, find}
+use Rattle.std.specs.Prelude.{◌≡◌, ℕ, zero, suc, ◌+◌, ◌==◌, Bool, true, false, not, ◌&&◌, ◌||◌, nat_lt, nat_le, is_none, if◌then◌else◌, codes, decimal, Option, Some, None, List, [], ◌∷◌, ◌++◌, drop, find, slice_index_or}
 use Rattle.std.specs.List.{fold}
 use Rattle.std.specs.Option.{unwrap_or}
 use Rattle.std.specs.Str.{bytes_eq}
@@ -14,6 +14,12 @@ use Rattle.s2ix_read_journal.specs.Numbers.{side_written, size_written}
 use Rattle.s2ix_parts.specs.Faults.{Place, IsFromLine, fault_below}
 use Rattle.s2ix_parts.specs.Lines.{has_parts, is_nil, lines_of, part}
 use Rattle.s2ix_parts.specs.Written.{cell_written, comes_before, label_written, pair_written}
+
+-- ---- the header
+
+-- the greatest count that the lines of a journal with this header write
+unfoldable pub greatest_count : List ℕ → ℕ
+greatest_count header = 65535
 
 -- ---- where a line stands
 
@@ -75,12 +81,23 @@ is_of_group p = is_outside p && not (is_end p.line)
 abbrev pub is_of_entry : Place → Bool
 is_of_entry p = is_inner p && not ((behind p.above).wanted == 0)
 
--- the counts before and after that a line writes; 0 where it writes none
-abbrev pub before_of_line : List ℕ → ℕ
-before_of_line line = unwrap_or (side_written (part 2 line)) 0
+-- the header above a line: the first line of its text; nothing where no line stands above
+abbrev pub header_of : Place → List ℕ
+header_of p = slice_index_or p.above 0 []
 
-abbrev pub after_of_line : List ℕ → ℕ
-after_of_line line = unwrap_or (side_written (part 3 line)) 0
+-- the counts before and after that a line writes, each up to the greatest of its header
+abbrev pub before_written : Place → Option ℕ
+before_written p = side_written (greatest_count (header_of p)) (part 2 p.line)
+
+abbrev pub after_written : Place → Option ℕ
+after_written p = side_written (greatest_count (header_of p)) (part 3 p.line)
+
+-- the same; 0 where it writes none
+abbrev pub before_of_line : Place → ℕ
+before_of_line p = unwrap_or (before_written p) 0
+
+abbrev pub after_of_line : Place → ℕ
+after_of_line p = unwrap_or (after_written p) 0
 
 -- the end line of so many groups: `end CHANGES`
 abbrev pub end_text : ℕ → List ℕ
@@ -98,11 +115,11 @@ stands p BadToken = is_of_entry p && is_none (cell_written (part 0 p.line))
 stands p BadLabel = is_of_entry p && is_none (label_written (part 1 p.line))
 stands p BadCount =
     (is_of_group p && is_none (size_written (part 1 p.line)))
-    || (is_of_entry p && (is_none (side_written (part 2 p.line)) || is_none (side_written (part 3 p.line))))
-stands p NoDifference = is_of_entry p && (before_of_line p.line == after_of_line p.line)
+    || (is_of_entry p && (is_none (before_written p) || is_none (after_written p)))
+stands p NoDifference = is_of_entry p && (before_of_line p == after_of_line p)
 stands p Unsorted = is_of_entry p && not (comes_before (behind p.above).last (pair_written p.line))
 stands p TooManyCopies =
-    is_of_entry p && (nat_lt (count_limit p.limits) (before_of_line p.line) || nat_lt (count_limit p.limits) (after_of_line p.line))
+    is_of_entry p && (nat_lt (count_limit p.limits) (before_of_line p) || nat_lt (count_limit p.limits) (after_of_line p))
 stands p TooManyChanges = is_of_group p && nat_le (changes_limit p.limits) (behind p.above).groups
 stands p TrailingBytes = is_over p && (p.ended || not (is_nil p.line))
 

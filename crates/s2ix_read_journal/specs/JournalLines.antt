@@ -27,10 +27,10 @@ entry_of_parts (Some cell) (Some label) None after = Err BadCount
 entry_of_parts (Some cell) (Some label) (Some m) None = Err BadCount
 entry_of_parts (Some cell) (Some label) (Some m) (Some n) = Ok (record { pair = record { cell = cell; label = label }; before = m; after = n })
 
--- the entry that a line writes, or the first fault of its parts
-unfoldable pub entry_written : List ℕ → Result Entry JournalFault
-entry_written line =
-    if has_parts 4 line then entry_of_parts (cell_written (part 0 line)) (label_written (part 1 line)) (side_written (part 2 line)) (side_written (part 3 line))
+-- the entry that a line writes with counts up to the greatest, or the first fault of its parts
+unfoldable pub entry_written : ℕ → List ℕ → Result Entry JournalFault
+entry_written most line =
+    if has_parts 4 line then entry_of_parts (cell_written (part 0 line)) (label_written (part 1 line)) (side_written most (part 2 line)) (side_written most (part 3 line))
     else Err BadLine
 
 -- an entry behind the last of those above it in its group, or its first fault
@@ -42,8 +42,8 @@ entry_behind limits last (Ok e) =
     else (if nat_lt (count_limit limits) e.before || nat_lt (count_limit limits) e.after then Err TooManyCopies else Ok e))
 
 -- the next entry of a group, by its line, or the first fault of the line
-unfoldable pub next_entry : Limits → Option Pair → List ℕ → Result Entry JournalFault
-next_entry limits last line = entry_behind limits last (entry_written line)
+unfoldable pub next_entry : ℕ → Limits → Option Pair → List ℕ → Result Entry JournalFault
+next_entry most limits last line = entry_behind limits last (entry_written most line)
 
 -- the last pair of a group so far
 abbrev pub last_pair : List Entry → Option Pair
@@ -82,6 +82,6 @@ change_text size = codes "change " ++ decimal size
 abbrev pub group_lines : List Entry → List (List ℕ)
 group_lines es = change_text (length es) ∷ map entry_text es
 
--- the lines of a journal down to the last of these groups
-abbrev pub lines_down_to : List (List Entry) → List (List ℕ)
-lines_down_to changes = codes "s2ix-journal 1" ∷ flat_map group_lines changes
+-- the lines of a journal with this header down to the last of these groups
+abbrev pub lines_down_to : List ℕ → List (List Entry) → List (List ℕ)
+lines_down_to header changes = header ∷ flat_map group_lines changes

@@ -1,5 +1,5 @@
 -- The lists of changes that a journal read under limits may have.
-use Rattle.std.specs.Prelude.{◌≤◌, List, length, All}
+use Rattle.std.specs.Prelude.{◌≤◌, ℕ, List, length, All}
 use Rattle.s2ix_pairs.specs.Change.{IsChangeList}
 use Rattle.s2ix_pairs.specs.Limits.{changes_limit, count_limit}
 use Rattle.s2ix_pairs.specs.declared.limits.Limits.{Limits}
@@ -21,7 +21,23 @@ pub record IsJournal (limits : Limits) (changes : List (List Entry)) : Type 0 wh
   pub lists : All IsChangeList changes
   pub within : AreWithin limits changes
 
+-- an entry with counts up to the greatest that may be written
+abbrev pub HasSides : ℕ → Entry → Type 0
+HasSides most e = (e.before ≤ most) × (e.after ≤ most)
+
 -- entries of a group, so far
-pub record AreEntries (limits : Limits) (es : List Entry) : Type 0 where
+pub record AreEntries (most : ℕ) (limits : Limits) (es : List Entry) : Type 0 where
   pub list : IsChangeList es
+  pub sides : All (HasSides most) es
   pub small : All (HasCountsWithin limits) es
+
+-- the entries of a whole group
+pub record IsGroup (most : ℕ) (limits : Limits) (es : List Entry) : Type 0 where
+  pub entries : AreEntries most limits es
+  pub some : 1 ≤ length es
+  pub few : length es ≤ 2000000
+
+-- the groups of a journal, as many as the limits allow
+pub record AreGroups (most : ℕ) (limits : Limits) (changes : List (List Entry)) : Type 0 where
+  pub groups : All (IsGroup most limits) changes
+  pub few : length changes ≤ changes_limit limits

@@ -3,13 +3,13 @@ use Rattle.std.specs.Prelude.{ℕ, ◌&&◌, nat_le, if◌then◌else◌, Option
 use Rattle.std.specs.Option.{option_and_then}
 use Rattle.s2ix_parts.specs.Written.{number_written}
 
--- a count before or after a change: from 0 to 65535
-abbrev pub side_from : ℕ → Option ℕ
-side_from n = if nat_le n 65535 then Some n else None
+-- a count before or after a change: from 0 to the greatest that may be written
+abbrev pub side_from : ℕ → ℕ → Option ℕ
+side_from most n = if nat_le n most then Some n else None
 
 -- the count before or after a change that a text writes
-unfoldable pub side_written : List ℕ → Option ℕ
-side_written text = option_and_then side_from (number_written text)
+unfoldable pub side_written : ℕ → List ℕ → Option ℕ
+side_written most text = option_and_then (side_from most) (number_written text)
 
 -- how many entries a change has: from 1 to 2000000
 abbrev pub size_from : ℕ → Option ℕ

@@ -9,9 +9,9 @@ use crate::parts::four_parts;
 use s2ix_bag::{Entry, Limits, Pair};
 use s2ix_parts::{cell_written, label_written};
 
-// The entry that a line writes, or the first fault of its parts.
-fn entry_written(line: &[u8]) -> Result<Entry, JournalFault>
-    ensures { result ≡ entry_that line.now }
+// The entry that a line writes with counts up to `most`, or the first fault of its parts.
+fn entry_written(most: u32, line: &[u8]) -> Result<Entry, JournalFault>
+    ensures { result ≡ entry_that most line.now }
 {
     let Some((token, label, before, after)) = four_parts(line) else {
         return Err(JournalFault::BadLine);
@@ -22,10 +22,10 @@ fn entry_written(line: &[u8]) -> Result<Entry, JournalFault>
     let Some(label) = label_written(label) else {
         return Err(JournalFault::BadLabel);
     };
-    let Some(before) = side_written(before) else {
+    let Some(before) = side_written(most, before) else {
         return Err(JournalFault::BadCount);
     };
-    let Some(after) = side_written(after) else {
+    let Some(after) = side_written(most, after) else {
         return Err(JournalFault::BadCount);
     };
     Ok(Entry {
@@ -45,15 +45,16 @@ fn comes_behind(before: &[Entry], pair: Pair) -> bool
     }
 }
 
-/// The entry of the line that follows those of the entries before in its group, or the fault of that line.
+/// The entry of the line that follows those of the entries before in its group, with counts up to `most`; or the fault of that line.
 pub(crate) fn next_entry(
+    most: u32,
     limits: Limits,
     before: &[Entry],
     line: &[u8],
 ) -> Result<Entry, JournalFault>
-    ensures { result ≡ next_entry_that limits (last_pair before.now) line.now }
+    ensures { result ≡ next_entry_that most limits (last_pair before.now) line.now }
 {
-    let next = entry_written(line)?;
+    let next = entry_written(most, line)?;
     if next.before == next.after {
         return Err(JournalFault::NoDifference);
     }

@@ -1,7 +1,7 @@
 //! The entries of a group.
-ghost use Rattle.std.specs.Prelude.{◌≡◌, ◌<◌, ◌+◌, ◌^◌, ◌∷◌, ◌++◌, [], ℕ, false, flat_map, length, List, IfErr, IfOk, OnOk};
+ghost use Rattle.std.specs.Prelude.{◌≡◌, ◌<◌, ◌+◌, ◌^◌, ◌∷◌, ◌++◌, [], ℕ, false, flat_map, length, slice_index_or, List, IfErr, IfOk, OnOk};
 ghost use Rattle.s2ix_text.specs.Journal.{entry_line};
-ghost use Rattle.s2ix_read_journal.specs.JournalFaults.{IsJournalError, behind, line_fault};
+ghost use Rattle.s2ix_read_journal.specs.JournalFaults.{IsJournalError, behind, greatest_count, line_fault};
 ghost use Rattle.s2ix_read_journal.specs.JournalLines.{at_group};
 ghost use Rattle.s2ix_read_journal.specs.Journals.{AreEntries};
 ghost use Rattle.s2ix_parts.specs.Faults.{fault_below};
@@ -31,22 +31,23 @@ fn push(entries: &mut Vec<Entry>, next: Entry) -> Result<(), AllocError>
     Ok(())
 }
 
-/// The entries of a group of this size, whose first line has this number, and the text below them; or the first line of the group with a
-/// fault, and the first fault of that line. O(n) for n bytes of the group, and one growth, of at most three bytes for each byte of the
-/// text. This project's own.
+/// The entries of a group of this size, with counts up to `most`, whose first line has this number, and the text below them; or the first
+/// line of the group with a fault, and the first fault of that line. O(n) for n bytes of the group, and one growth, of at most three bytes
+/// for each byte of the text. This project's own.
 pub(crate) fn read_group(
     alloc: Global,
+    most: u32,
     limits: Limits,
     size: u32,
     number: usize,
     text: &[u8],
 ) -> Result<(Vec<Entry>, &[u8]), JournalError>
     requires number { number + size < 2 ^ 64 }
-    ensures entries { IfOk result (λ read. AreEntries limits read.0.items) }
+    ensures entries { IfOk result (λ read. AreEntries most limits read.0.items) }
     ensures size { IfOk result (λ read. length read.0.items ≡ size) }
     ensures text { IfOk result (λ read. text.now ≡ flat_map entry_line read.0.items ++ read.1.now) }
     ensures refused { (above : List (List ℕ)) (groups : ℕ) → is_nil above ≡ false → length above + 1 ≡ number → behind above ≡ at_group size groups
-        → IfErr result (λ error. IsJournalError error (fault_below line_fault limits above (lines_of text.now))) }
+        → greatest_count (slice_index_or above 0 []) ≡ most → IfErr result (λ error. IsJournalError error (fault_below line_fault limits above (lines_of text.now))) }
 {
     let wanted = size as usize;
     let mut entries = room_for(alloc, wanted, text)?;
@@ -59,7 +60,7 @@ pub(crate) fn read_group(
                 fault: JournalFault::Truncated,
             });
         };
-        match next_entry(limits, entries.as_slice(), line) {
+        match next_entry(most, limits, entries.as_slice(), line) {
             Ok(next) => push(&mut entries, next)?,
             Err(fault) => return Err(JournalError::At {
                 line: line_number,

@@ -4,9 +4,9 @@ ghost use Rattle.s2ix_pairs.specs.Change.{IsChangeList};
 ghost use Rattle.s2ix_pairs.specs.declared.pair.Entry.{Entry};
 ghost use Rattle.s2ix_text.specs.Journal.{group_text, journal_text, last_line};
 ghost use Rattle.s2ix_read_journal.specs.declared.errors.JournalError.TheVariants.{OutOfMemory};
-ghost use Rattle.s2ix_read_journal.specs.JournalFaults.{IsJournalError, journal_fault, line_fault};
+ghost use Rattle.s2ix_read_journal.specs.JournalFaults.{IsJournalError, greatest_count, journal_fault, line_fault};
 ghost use Rattle.s2ix_read_journal.specs.JournalLines.{lines_down_to};
-ghost use Rattle.s2ix_read_journal.specs.Journals.{AreWithin, IsJournal};
+ghost use Rattle.s2ix_read_journal.specs.Journals.{AreGroups, AreWithin, IsJournal};
 ghost use Rattle.s2ix_parts.specs.Faults.{fault_below};
 ghost use Rattle.s2ix_parts.specs.Lines.{lines_of};
 
@@ -17,6 +17,9 @@ use s2ix_bag::{Change, Limits};
 use s2ix_parts::{cut_line, first_part};
 use std::alloc::{AllocError, Global};
 
+// The greatest count that a journal with the header `s2ix-journal 1` writes.
+const GREATEST_COUNT: u32 = 65_535;
+
 // Appends a change.
 fn push(changes: &mut Vec<Change>, next: Change) -> Result<(), AllocError>
     ensures { OnOk result (changes.new.items ≡ changes.old.items ++ next ∷ []) }
@@ -25,11 +28,17 @@ fn push(changes: &mut Vec<Change>, next: Change) -> Result<(), AllocError>
     Ok(())
 }
 
-// What is read of a journal below its header.
-fn read_groups(alloc: Global, limits: Limits, text: &[u8]) -> Result<Vec<Change>, JournalError>
-    ensures journal { IfOk result (λ changes. IsJournal limits changes.items) }
+// What is read below the header of a journal whose counts go up to `most`.
+fn read_groups(
+    alloc: Global,
+    most: u32,
+    limits: Limits,
+    text: &[u8],
+) -> Result<Vec<Change>, JournalError>
+    ensures groups { IfOk result (λ changes. AreGroups most limits changes.items) }
     ensures text { IfOk result (λ changes. text.now ≡ flat_map group_text changes.items ++ last_line changes.items) }
-    ensures refused { IfErr result (λ error. IsJournalError error (fault_below line_fault limits (lines_down_to []) (lines_of text.now))) }
+    ensures refused { (header : List ℕ) → greatest_count header ≡ most
+        → IfErr result (λ error. IsJournalError error (fault_below line_fault limits (lines_down_to header []) (lines_of text.now))) }
 {
     let mut changes = Vec::new(alloc);
     let mut number = 2;
@@ -52,7 +61,7 @@ fn read_groups(alloc: Global, limits: Limits, text: &[u8]) -> Result<Vec<Change>
         }
         match next_size(limits, changes.len(), line) {
             Ok(size) => {
-                let (entries, behind) = read_group(alloc, limits, size, number + 1, below)?;
+                let (entries, behind) = read_group(alloc, most, limits, size, number + 1, below)?;
                 push(&mut changes, Change::from_vec(entries))?;
                 number += 1 + size as usize;
                 rest = behind;
@@ -95,5 +104,5 @@ pub fn read_journal(alloc: Global, text: &[u8], limits: Limits) -> Result<Vec<Ch
             fault: JournalFault::BadHeader,
         });
     }
-    read_groups(alloc, limits, below)
+    read_groups(alloc, GREATEST_COUNT, limits, below)
 }

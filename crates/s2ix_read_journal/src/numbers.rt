@@ -4,22 +4,16 @@ ghost use Rattle.s2ix_read_journal.specs.Numbers.{side_written as side_that, siz
 
 use s2ix_parts::number_written;
 
-const GREATEST_COUNT: u32 = 65_535;
-
 const FEWEST_ENTRIES: u32 = 1;
 
 const MOST_ENTRIES: u32 = 2_000_000;
 
-/// The count before or after a change, from 0 to 65535, which a text writes.
-pub(crate) fn side_written(text: &[u8]) -> Option<u32>
-    ensures { result ≡ side_that text.now }
+/// The count before or after a change, from 0 to `most`, which a text writes.
+pub(crate) fn side_written(most: u32, text: &[u8]) -> Option<u32>
+    ensures { result ≡ side_that most text.now }
 {
     let count = number_written(text)?;
-    if count <= GREATEST_COUNT {
-        Some(count)
-    } else {
-        None
-    }
+    if count <= most { Some(count) } else { None }
 }
 
 /// The number of entries of a change, from 1 to 2000000, which a text writes.
