@@ -1,5 +1,5 @@
 -- The first fault of a text, from the faults that each line may have.
-use Rattle.std.specs.Prelude.{ℕ, ◌+◌, ◌≤◌, Bool, not, Option, Some, None, List, [], ◌∷◌, ◌++◌, length}
+use Rattle.std.specs.Prelude.{ℕ, ◌+◌, ◌≤◌, Bool, not, Option, Some, None, List, [], ◌∷◌, ◌++◌, length, slice_index_or}
 use Rattle.std.specs.Option.{option_map, option_or}
 use Rattle.s2ix_pairs.specs.declared.limits.Limits.{Limits}
 use Rattle.s2ix_parts.specs.Lines.{is_nil}
@@ -10,6 +10,10 @@ pub record Place : Type 0 where
   pub above : List (List ℕ)
   pub line : List ℕ
   pub ended : Bool
+
+-- the header above a line: the first line of its text; nothing where no line stands above
+abbrev pub header_of : Place → List ℕ
+header_of p = slice_index_or p.above 0 []
 
 -- the first fault of some lines, with the number of its line, counted from 1; `fault` is that of one line, and `above` stands above them
 unfoldable pub fault_below : {F : Type 0} → (Place → Option F) → Limits → List (List ℕ) → List (List ℕ) → Option (ℕ × F)

@@ -10,9 +10,8 @@ use Rattle.s2ix_pairs.specs.Pair.{rank_of}
 use Rattle.s2ix_pairs.specs.declared.limits.Limits.{Limits}
 use Rattle.s2ix_pairs.specs.declared.pair.Held.{Held}
 use Rattle.s2ix_lists.proofs.Parts.{collection_take}
-use Rattle.s2ix_read_dump.specs.DumpFaults.{greatest_count}
 use Rattle.s2ix_read_dump.specs.PairLines.{IsDumped, last_pair}
-use Rattle.s2ix_parts.specs.Written.{comes_before}
+use Rattle.s2ix_parts.specs.Written.{comes_before, greatest_count}
 use Rattle.s2ix_read_dump.proofs.PairTexts.{HasCount}
 
 -- ---- the order

@@ -17,10 +17,10 @@ use Rattle.s2ix_pairs.specs.declared.label.Label.{Label}
 use Rattle.s2ix_pairs.specs.declared.pair.Held.{Held}
 use Rattle.s2ix_text.specs.Dump.{end_line, pair_line}
 use Rattle.s2ix_text.proofs.Journals.{IsGraphic, decimal_graphic, token_graphic}
-use Rattle.s2ix_read_dump.specs.DumpFaults.{end_text, greatest_count, is_end}
+use Rattle.s2ix_read_dump.specs.DumpFaults.{end_text, is_end}
 use Rattle.s2ix_parts.specs.Lines.{has_parts, is_nil, lines_of, parts_of}
 use Rattle.s2ix_read_dump.specs.PairLines.{IsCut, held_of_parts, held_written, line_text}
-use Rattle.s2ix_parts.specs.Written.{cell_written, count_of_line, count_written, label_written, pair_with, pair_written}
+use Rattle.s2ix_parts.specs.Written.{cell_written, count_of_line, count_written, label_written, pair_with, pair_written, greatest_count}
 use Rattle.s2ix_read_dump.specs.declared.errors.DumpFault.TheVariants.{BadLine}
 use Rattle.s2ix_parts.proofs.PartCounts.{graphic_lacks}
 use Rattle.s2ix_parts.proofs.Pieces.{Lacks, is_some_text, lines_apart, parts_apart, parts_joined, three_from_parts}

@@ -17,11 +17,11 @@ use Rattle.s2ix_pairs.specs.declared.limits.Limits.{Limits}
 use Rattle.s2ix_pairs.specs.declared.pair.Held.{Held}
 use Rattle.s2ix_read_dump.specs.declared.errors.DumpFault.{DumpFault}
 use Rattle.s2ix_read_dump.specs.declared.errors.DumpFault.TheVariants.{Truncated, BadHeader, BadEnd, BadLine, BadToken, BadLabel, BadCount, Unsorted, TooManyCopies, TooManyPairs, TrailingBytes}
-use Rattle.s2ix_read_dump.specs.DumpFaults.{copies_above, dump_faults, end_text, greatest_count, is_end, is_first, is_inner, is_of_pair, is_over, line_fault, stands}
+use Rattle.s2ix_read_dump.specs.DumpFaults.{copies_above, dump_faults, end_text, is_end, is_first, is_inner, is_of_pair, is_over, line_fault, stands}
 use Rattle.s2ix_parts.specs.Faults.{Place}
 use Rattle.s2ix_parts.specs.Lines.{has_parts, is_nil, last_of, part, parts_of}
 use Rattle.s2ix_read_dump.specs.PairLines.{IsDumped, IsNext, held_of_parts, held_written, last_pair, line_text, place_below}
-use Rattle.s2ix_parts.specs.Written.{cell_written, comes_before, count_of_line, count_written, label_written, pair_written}
+use Rattle.s2ix_parts.specs.Written.{cell_written, comes_before, count_of_line, count_written, label_written, pair_written, greatest_count}
 use Rattle.s2ix_read_dump.proofs.Appended.{counts_are, dumped_more}
 use Rattle.s2ix_parts.proofs.Numerals.{written_count}
 use Rattle.s2ix_read_dump.proofs.PairTexts.{HasCount, count_of_text, line_is_no_end, pair_of_line, written_held}

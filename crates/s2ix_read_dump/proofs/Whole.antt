@@ -17,11 +17,11 @@ use Rattle.s2ix_read_dump.specs.declared.errors.DumpError.{DumpError}
 use Rattle.s2ix_read_dump.specs.declared.errors.DumpError.TheVariants.{At, OutOfMemory}
 use Rattle.s2ix_read_dump.specs.declared.errors.DumpFault.{DumpFault}
 use Rattle.s2ix_read_dump.specs.declared.errors.DumpFault.TheVariants.{Truncated, BadHeader, BadEnd, Unsorted, TooManyCopies, TooManyPairs, TrailingBytes}
-use Rattle.s2ix_read_dump.specs.DumpFaults.{IsDumpError, dump_fault, end_text, greatest_count, is_end, line_fault}
+use Rattle.s2ix_read_dump.specs.DumpFaults.{IsDumpError, dump_fault, end_text, is_end, line_fault}
 use Rattle.s2ix_parts.specs.Faults.{fault_below}
 use Rattle.s2ix_parts.specs.Lines.{is_nil, lines_of}
 use Rattle.s2ix_read_dump.specs.PairLines.{IsDumped, IsNext, held_written, last_pair, line_text, lines_down_to, place_below}
-use Rattle.s2ix_parts.specs.Written.{comes_before}
+use Rattle.s2ix_parts.specs.Written.{comes_before, greatest_count}
 use Rattle.s2ix_read_dump.proofs.Appended.{counts_are, dumped_from_limits, front_is_dumped, here_has, next_before}
 use Rattle.s2ix_read_dump.proofs.PairTexts.{HasCount, end_is_end, end_lacks_feed, end_with_feed, held_of_line, line_is_no_end, line_lacks_feed, line_with_feed}
 use Rattle.s2ix_parts.proofs.FirstFault.{found_later, place}

@@ -1,5 +1,5 @@
 -- The faults of a dump, line by line.
-use Rattle.std.specs.Prelude.{◌≡◌, ℕ, Bool, not, ◌&&◌, ◌||◌, nat_lt, nat_le, is_none, codes, decimal, Option, Some, List, [], ◌∷◌, ◌++◌, length, drop, find, slice_index_or, sum_by}
+use Rattle.std.specs.Prelude.{◌≡◌, ℕ, Bool, not, ◌&&◌, ◌||◌, nat_lt, nat_le, is_none, codes, decimal, Option, Some, List, [], ◌∷◌, ◌++◌, length, drop, find, sum_by}
 use Rattle.std.specs.List.{list_any}
 use Rattle.std.specs.Option.{option_and_then}
 use Rattle.std.specs.Str.{bytes_eq}
@@ -10,19 +10,9 @@ use Rattle.s2ix_read_dump.specs.declared.errors.DumpError.{DumpError}
 use Rattle.s2ix_read_dump.specs.declared.errors.DumpError.TheVariants.{At, OutOfMemory}
 use Rattle.s2ix_read_dump.specs.declared.errors.DumpFault.{DumpFault}
 use Rattle.s2ix_read_dump.specs.declared.errors.DumpFault.TheVariants.{Truncated, BadHeader, BadEnd, BadLine, BadToken, BadLabel, BadCount, Unsorted, TooManyCopies, TooManyPairs, TrailingBytes}
-use Rattle.s2ix_parts.specs.Faults.{Place, IsFromLine, fault_below}
+use Rattle.s2ix_parts.specs.Faults.{Place, IsFromLine, fault_below, header_of}
 use Rattle.s2ix_parts.specs.Lines.{has_parts, is_nil, last_of, lines_of, part}
-use Rattle.s2ix_parts.specs.Written.{cell_written, comes_before, count_of_line, count_written, label_written, pair_written}
-
--- ---- the header
-
--- the greatest count that the lines of a dump with this header write
-unfoldable pub greatest_count : List ℕ → ℕ
-greatest_count header = 65535
-
--- the header above a line
-abbrev pub header_above : Place → List ℕ
-header_above p = slice_index_or p.above 0 []
+use Rattle.s2ix_parts.specs.Written.{cell_written, comes_before, count_of_line, count_written, greatest_count, label_written, pair_written}
 
 -- ---- where a line stands
 
@@ -52,7 +42,7 @@ is_of_pair p = is_inner p && not (is_end p.line)
 
 -- the sum of their counts
 abbrev pub copies_above : Place → ℕ
-copies_above p = sum_by (count_of_line (greatest_count (header_above p))) (pairs_above p)
+copies_above p = sum_by (count_of_line (greatest_count (header_of p))) (pairs_above p)
 
 -- the last pair above, where there is one
 abbrev pub pair_before : Place → Option Pair
@@ -72,9 +62,9 @@ stands p BadEnd = is_inner p && is_end p.line && not (bytes_eq p.line (end_text 
 stands p BadLine = is_of_pair p && not (has_parts 3 p.line)
 stands p BadToken = is_of_pair p && is_none (cell_written (part 0 p.line))
 stands p BadLabel = is_of_pair p && is_none (label_written (part 1 p.line))
-stands p BadCount = is_of_pair p && is_none (count_written (greatest_count (header_above p)) (part 2 p.line))
+stands p BadCount = is_of_pair p && is_none (count_written (greatest_count (header_of p)) (part 2 p.line))
 stands p Unsorted = is_of_pair p && not (comes_before (pair_before p) (pair_written p.line))
-stands p TooManyCopies = is_of_pair p && nat_lt (count_limit p.limits) (count_of_line (greatest_count (header_above p)) p.line)
+stands p TooManyCopies = is_of_pair p && nat_lt (count_limit p.limits) (count_of_line (greatest_count (header_of p)) p.line)
 stands p TooManyPairs = is_of_pair p && nat_le (pairs_limit p.limits) (length (pairs_above p))
 stands p TrailingBytes = is_over p && (p.ended || not (is_nil p.line))
 

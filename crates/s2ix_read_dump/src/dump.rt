@@ -3,7 +3,8 @@ ghost use Rattle.std.specs.Prelude.{◌≡◌, ◌∷◌, ◌++◌, [], ℕ, Lis
 ghost use Rattle.s2ix_pairs.specs.Collection.{Collection, IsBag, copies_in};
 ghost use Rattle.s2ix_text.specs.Dump.{dump_text, end_line, pair_line};
 ghost use Rattle.s2ix_read_dump.specs.declared.errors.DumpError.TheVariants.{OutOfMemory};
-ghost use Rattle.s2ix_read_dump.specs.DumpFaults.{IsDumpError, dump_fault, end_text, greatest_count, is_end, line_fault};
+ghost use Rattle.s2ix_parts.specs.Written.{greatest_count};
+ghost use Rattle.s2ix_read_dump.specs.DumpFaults.{IsDumpError, dump_fault, end_text, is_end, line_fault};
 ghost use Rattle.s2ix_parts.specs.Faults.{fault_below};
 ghost use Rattle.s2ix_parts.specs.Lines.{lines_of};
 ghost use Rattle.s2ix_read_dump.specs.PairLines.{IsCut, IsDumped, IsNext, line_text, lines_down_to};
@@ -12,7 +13,7 @@ use crate::errors::{DumpError, DumpFault};
 use crate::pair_line::{next_held, next_in_front};
 use itoa::Buffer;
 use s2ix_bag::{Bag, FlatHeld, Held, Limits};
-use s2ix_parts::{cut_line, first_part, three_parts};
+use s2ix_parts::{GREATEST_COUNT, cut_line, first_part, three_parts};
 use std::alloc::{AllocError, Global};
 
 // Whether a line with the first part `end` is the end line of so many pairs and copies.
@@ -29,9 +30,6 @@ fn is_end_of(pairs: usize, copies: u64, line: &[u8]) -> bool
     let same_copies = copies_text == copies_digits.format(copies).as_bytes();
     same_pairs && same_copies
 }
-
-// The greatest count that a dump writes.
-const GREATEST_COUNT: u32 = 65535;
 
 // How many bytes are counted at once: no more than a `u8` can count.
 const BLOCK: usize = 128;

@@ -13,10 +13,10 @@ use Rattle.s2ix_pairs.specs.declared.pair.Entry.{Entry}
 use Rattle.s2ix_pairs.specs.declared.pair.Pair.{Pair}
 use Rattle.s2ix_parts.specs.Faults.{Place}
 use Rattle.s2ix_parts.specs.Lines.{has_parts, is_nil, part}
-use Rattle.s2ix_parts.specs.Written.{cell_written, comes_before, label_written, pair_with, pair_written}
+use Rattle.s2ix_parts.specs.Written.{cell_written, comes_before, label_written, pair_with, pair_written, greatest_count}
 use Rattle.s2ix_read_journal.specs.declared.errors.JournalFault.{JournalFault}
 use Rattle.s2ix_read_journal.specs.declared.errors.JournalFault.TheVariants.{Truncated, BadHeader, BadEnd, BadLine, BadToken, BadLabel, BadCount, NoDifference, Unsorted, TooManyCopies, TooManyChanges, TrailingBytes}
-use Rattle.s2ix_read_journal.specs.JournalFaults.{behind, end_text, greatest_count, is_change, is_end, is_first, is_inner, is_of_entry, is_of_group, is_outside, is_over, line_fault, stands}
+use Rattle.s2ix_read_journal.specs.JournalFaults.{behind, end_text, is_change, is_end, is_first, is_inner, is_of_entry, is_of_group, is_outside, is_over, line_fault, stands}
 use Rattle.s2ix_read_journal.specs.JournalLines.{entry_behind, entry_of_parts, entry_written, next_entry, next_size, size_behind, size_of_part}
 use Rattle.s2ix_read_journal.specs.Numbers.{side_written, size_written}
 

@@ -19,7 +19,8 @@ use Rattle.s2ix_parts.proofs.Pieces.{Lacks, lines_apart, lines_joined, lines_som
 use Rattle.s2ix_parts.proofs.Rests.{join_more, no_lines, some_joined}
 use Rattle.s2ix_read_journal.specs.declared.errors.JournalFault.{JournalFault}
 use Rattle.s2ix_read_journal.specs.declared.errors.JournalFault.TheVariants.{BadEnd, BadHeader, TrailingBytes, Truncated}
-use Rattle.s2ix_read_journal.specs.JournalFaults.{behind, end_text, greatest_count, is_end, journal_fault, line_fault}
+use Rattle.s2ix_parts.specs.Written.{greatest_count}
+use Rattle.s2ix_read_journal.specs.JournalFaults.{behind, end_text, is_end, journal_fault, line_fault}
 use Rattle.s2ix_read_journal.specs.JournalLines.{change_text, entry_text, group_lines, last_pair, lines_down_to, next_entry, next_size}
 use Rattle.s2ix_read_journal.specs.Journals.{AreEntries, IsGroup, IsJournal}
 use Rattle.s2ix_read_journal.proofs.ChangeTexts.{IsSize, change_with_feed, end_is_end, end_lacks_feed, end_with_feed, line_from_size}

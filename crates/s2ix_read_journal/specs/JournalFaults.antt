@@ -1,5 +1,5 @@
 -- The faults of a journal, line by line.
-use Rattle.std.specs.Prelude.{◌≡◌, ℕ, zero, suc, ◌+◌, ◌==◌, Bool, true, false, not, ◌&&◌, ◌||◌, nat_lt, nat_le, is_none, if◌then◌else◌, codes, decimal, Option, Some, None, List, [], ◌∷◌, ◌++◌, drop, find, slice_index_or}
+use Rattle.std.specs.Prelude.{◌≡◌, ℕ, zero, suc, ◌+◌, ◌==◌, Bool, true, false, not, ◌&&◌, ◌||◌, nat_lt, nat_le, is_none, if◌then◌else◌, codes, decimal, Option, Some, None, List, [], ◌∷◌, ◌++◌, drop, find}
 use Rattle.std.specs.List.{fold}
 use Rattle.std.specs.Option.{unwrap_or}
 use Rattle.std.specs.Str.{bytes_eq}
@@ -11,15 +11,9 @@ use Rattle.s2ix_read_journal.specs.declared.errors.JournalError.TheVariants.{At,
 use Rattle.s2ix_read_journal.specs.declared.errors.JournalFault.{JournalFault}
 use Rattle.s2ix_read_journal.specs.declared.errors.JournalFault.TheVariants.{Truncated, BadHeader, BadEnd, BadLine, BadToken, BadLabel, BadCount, NoDifference, Unsorted, TooManyCopies, TooManyChanges, TrailingBytes}
 use Rattle.s2ix_read_journal.specs.Numbers.{side_written, size_written}
-use Rattle.s2ix_parts.specs.Faults.{Place, IsFromLine, fault_below}
+use Rattle.s2ix_parts.specs.Faults.{Place, IsFromLine, fault_below, header_of}
 use Rattle.s2ix_parts.specs.Lines.{has_parts, is_nil, lines_of, part}
-use Rattle.s2ix_parts.specs.Written.{cell_written, comes_before, label_written, pair_written}
-
--- ---- the header
-
--- the greatest count that the lines of a journal with this header write
-unfoldable pub greatest_count : List ℕ → ℕ
-greatest_count header = 65535
+use Rattle.s2ix_parts.specs.Written.{cell_written, comes_before, label_written, pair_written, greatest_count}
 
 -- ---- where a line stands
 
@@ -80,10 +74,6 @@ is_of_group p = is_outside p && not (is_end p.line)
 -- a line that is to write an entry
 abbrev pub is_of_entry : Place → Bool
 is_of_entry p = is_inner p && not ((behind p.above).wanted == 0)
-
--- the header above a line: the first line of its text; nothing where no line stands above
-abbrev pub header_of : Place → List ℕ
-header_of p = slice_index_or p.above 0 []
 
 -- the counts before and after that a line writes, each up to the greatest of its header
 abbrev pub before_written : Place → Option ℕ

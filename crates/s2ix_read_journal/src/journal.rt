@@ -4,7 +4,8 @@ ghost use Rattle.s2ix_pairs.specs.Change.{IsChangeList};
 ghost use Rattle.s2ix_pairs.specs.declared.pair.Entry.{Entry};
 ghost use Rattle.s2ix_text.specs.Journal.{group_text, journal_text, last_line};
 ghost use Rattle.s2ix_read_journal.specs.declared.errors.JournalError.TheVariants.{OutOfMemory};
-ghost use Rattle.s2ix_read_journal.specs.JournalFaults.{IsJournalError, greatest_count, journal_fault, line_fault};
+ghost use Rattle.s2ix_parts.specs.Written.{greatest_count};
+ghost use Rattle.s2ix_read_journal.specs.JournalFaults.{IsJournalError, journal_fault, line_fault};
 ghost use Rattle.s2ix_read_journal.specs.JournalLines.{lines_down_to};
 ghost use Rattle.s2ix_read_journal.specs.Journals.{AreGroups, AreWithin, IsJournal};
 ghost use Rattle.s2ix_parts.specs.Faults.{fault_below};
@@ -14,11 +15,8 @@ use crate::change_line::{is_end_of, next_size};
 use crate::errors::{JournalError, JournalFault};
 use crate::group::read_group;
 use s2ix_bag::{Change, Limits};
-use s2ix_parts::{cut_line, first_part};
+use s2ix_parts::{GREATEST_COUNT, cut_line, first_part};
 use std::alloc::{AllocError, Global};
-
-// The greatest count that a journal with the header `s2ix-journal 1` writes.
-const GREATEST_COUNT: u32 = 65_535;
 
 // Appends a change.
 fn push(changes: &mut Vec<Change>, next: Change) -> Result<(), AllocError>

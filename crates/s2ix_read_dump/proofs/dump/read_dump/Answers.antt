@@ -5,7 +5,8 @@ use Rattle.std.proofs.lemmas.Result.{err_from_is_err_and}
 use Rattle.s2ix_pairs.specs.Collection.{Collection, LimitedCollection}
 use Rattle.s2ix_text.specs.Dump.{dump_text}
 use Rattle.s2ix_read_dump.specs.declared.errors.DumpFault.{DumpFault}
-use Rattle.s2ix_read_dump.specs.DumpFaults.{IsDumpError, greatest_count}
+use Rattle.s2ix_parts.specs.Written.{greatest_count}
+use Rattle.s2ix_read_dump.specs.DumpFaults.{IsDumpError}
 use Rattle.s2ix_parts.specs.Faults.{IsFromLine}
 use Rattle.s2ix_parts.proofs.Rests.{agrees, differs}
 use Rattle.s2ix_read_dump.proofs.Steps.{bad_header, below_header, no_header, wants_below}
