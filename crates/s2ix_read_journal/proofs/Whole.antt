@@ -69,7 +69,7 @@ groups_of_journal limits cs is = λ k d within.
 -- the greatest count that the lines below the first header write
 pub first_greatest : (header : List ℕ) → header ≡ codes "s2ix-journal 1" → greatest_count header ≡ 65535
 unfolding greatest_count
-first_greatest header is = refl
+first_greatest header is = ap greatest_count is
 
 pub below_header : (limits : Limits) (text header below : List ℕ) → lines_of text ≡ header ∷ lines_of below → header ≡ codes "s2ix-journal 1" → journal_fault limits text ≡ fault_left limits (lines_down_to header []) (lines_of below)
 unfolding journal_fault
