@@ -1,157 +1,151 @@
 // Tables of faces: beside copied lists, and built again along histories.
-ghost use Rattle.std.specs.Prelude.{◌≡◌, IfOk};
+ghost use Rattle.std.specs.Prelude.{◌≡◌, IfSome};
 ghost use Rattle.s2ix_pairs.specs.Change.{changed};
 
-use crate::compare::{check_notes, check_ranges, check_target};
-use crate::random_tests::target_of;
-use crate::samples::{bag_of, held_of};
+use crate::compare::{answers_for_notes, have_same_ranges};
+use crate::targets::{answer_all_the_same, target_of};
 use s2id_samples::Random;
 use s2ix_bag::{Bag, Change};
 use s2ix_copied::CopiedTable;
 use s2ix_faced::FacedTable;
 use s2ix_faced::laws::{has_few_ranges, keeps_a_pair_once};
 use s2ix_reading::{BagReader, PairReader};
-use s2ix_samples::{all_faces, deep_bag, nested_bag, random_cells};
+use s2ix_samples::{WIDEST, all_faces, bag_of, deep_bag, held_of, nested_bag};
 use s2ix_table::RangeTable;
 use std::alloc::Global;
-use std::test::Fail;
 
-// Compares a table of a bag with one of copied lists.
-fn check_table(
-    alloc: Global,
-    sample: usize,
-    random: &mut Random,
-    table: &FacedTable,
-    bag: &Bag,
-) -> Result<(), Fail> {
-    let copies = CopiedTable::build(alloc, bag)?;
-    check_ranges(sample, table, &copies)?;
-    check_notes(sample, table)?;
-    check_notes(sample, &copies)?;
-    let sphere = target_of(alloc, all_faces(alloc))?;
-    check_target(sample, alloc, table, &copies, &sphere)?;
-    for _ in 0..4 {
-        let size = random.below(12);
-        let target = target_of(alloc, random_cells(alloc, random, size, 12))?;
-        check_target(sample, alloc, table, &copies, &target)?;
-    }
+// Whether a table of a bag is the one of copied lists.
+fn is_copied(alloc: Global, random: &mut Random, table: &FacedTable, bag: &Bag) -> Option<bool> {
     keeps_a_pair_once(table);
     has_few_ranges(table);
-    Ok(())
+    let copies = CopiedTable::build(alloc, bag).ok()?;
+    let are_noted = answers_for_notes(table) && answers_for_notes(&copies);
+    let are_same = have_same_ranges(table, &copies);
+    Some(are_noted && are_same && answer_all_the_same(alloc, random, table, &copies))
+}
+
+// Whether the table that is built of a bag is the one of copied lists.
+fn is_built_so(alloc: Global, random: &mut Random, bag: Option<Bag>) -> Option<bool> {
+    let bag = bag?;
+    let table = FacedTable::build(alloc, &bag).ok()?;
+    is_copied(alloc, random, &table, &bag)
 }
 
 #[test]
-fn tables_of_faces_are_the_copied_lists(rt: HostRuntime) -> Result<(), Fail> {
-    let alloc = rt.alloc();
+fn tables_of_faces_are_the_copied_lists(rt: HostRuntime) {
     let mut random = Random::new(21);
     for sample in 0..60 {
-        let bag = nested_bag(alloc, &mut random, 40, 9).ok_or("no bag")?;
-        let table = FacedTable::build(alloc, &bag)?;
-        check_table(alloc, sample, &mut random, &table, &bag)?;
+        let bag = nested_bag(rt.alloc(), &mut random, 40, 9);
+        let same = is_built_so(rt.alloc(), &mut random, bag);
+        assert!(rt; same == Some(true), "wrong at sample {sample}");
     }
-    Ok(())
 }
 
 // Pairs of one label: none, whole faces, and cells at the ends of faces.
-const ROWS: [&[&[u8]]; 8] = [
-    &[],
-    &[b"1"],
-    &[b"b"],
-    &[b"1", b"5", b"9"],
-    &[b"3", b"7", b"b"],
-    &[b"1", b"3", b"5", b"7", b"9", b"b"],
-    &[b"1c", b"24", b"bfffffffffffffff", b"0000000000000001"],
-    &[b"1fffffffffffffff", b"2000000000000001", b"3c", b"84"],
+const ROWS: [&str; 8] = [
+    "",
+    "1:7:1",
+    "b:7:1",
+    "1:7:1 5:7:1 9:7:1",
+    "3:7:1 7:7:1 b:7:1",
+    "1:7:1 3:7:1 5:7:1 7:7:1 9:7:1 b:7:1",
+    "1c:7:1 24:7:1 bfffffffffffffff:7:1 0000000000000001:7:1",
+    "1fffffffffffffff:7:1 2000000000000001:7:1 3c:7:1 84:7:1",
 ];
 
 #[test]
-fn ranges_go_on_over_the_ends_of_faces(rt: HostRuntime) -> Result<(), Fail> {
-    let alloc = rt.alloc();
+fn ranges_go_on_over_the_ends_of_faces(rt: HostRuntime) {
     let mut random = Random::new(4);
-    for (sample, tokens) in ROWS.iter().enumerate() {
-        let mut rows = Vec::new(alloc);
-        for &token in *tokens {
-            rows.push((token, 7))?;
-        }
-        let bag = bag_of(alloc, rows.as_slice())?;
-        let table = FacedTable::build(alloc, &bag)?;
-        check_table(alloc, sample, &mut random, &table, &bag)?;
+    for pairs in ROWS {
+        let same = is_built_so(rt.alloc(), &mut random, bag_of(rt.alloc(), WIDEST, pairs));
+        assert!(rt; same == Some(true), "wrong at {pairs}");
     }
     for leaf in [1, 0x1fffffffffffffff, 0x8000000000000001] {
-        let bag = deep_bag(alloc, leaf).ok_or("no bag")?;
-        let table = FacedTable::build(alloc, &bag)?;
-        check_table(alloc, 31, &mut random, &table, &bag)?;
+        let same = is_built_so(rt.alloc(), &mut random, deep_bag(rt.alloc(), leaf));
+        assert!(rt; same == Some(true), "wrong at {leaf}");
     }
-    Ok(())
 }
 
-// The table of what a change makes of a bag, built again from the table of the bag, with how many pairs were read.
-fn rebuilt(
-    alloc: Global,
-    table: &FacedTable,
-    next: &Bag,
-    change: &Change,
-) -> Result<(FacedTable, u64), Fail>
+// The table of what a change makes of a bag, built again from the table of the bag.
+fn rebuilt(alloc: Global, table: &FacedTable, next: &Bag, change: &Change) -> Option<FacedTable>
     requires { changed (⟦<FacedTable as RangeTable>⟧.pairs table.now) change.now ≡ next.now.held }
-    ensures { IfOk result (λ both. ⟦<FacedTable as RangeTable>⟧.pairs both.0 ≡ next.now.held) }
+    ensures { IfSome result (λ next_table. ⟦<FacedTable as RangeTable>⟧.pairs next_table ≡ next.now.held) }
 {
     let mut reader = BagReader::new(next);
-    let table = table.rebuilt(alloc, &mut reader, change)?;
-    Ok((table, reader.reads()))
+    table.rebuilt(alloc, &mut reader, change).ok()
 }
 
-// One step of a history: the bag with other pairs, and the table that its change leads to.
-fn check_step(
+// Whether the table that a change of a bag led to leads back to the table of the bag.
+fn leads_back(
     alloc: Global,
-    sample: usize,
     random: &mut Random,
     bag: &Bag,
+    change: &Change,
+    next: &Bag,
+    table: &FacedTable,
+) -> Option<bool>
+    requires { ⟦<FacedTable as RangeTable>⟧.pairs table.now ≡ next.now.held }
+{
+    let back = change.inverse(alloc).ok()?;
+    let first = next.applied(alloc, &back).ok()?;
+    let table = rebuilt(alloc, table, &first, &back)?;
+    is_copied(alloc, random, &table, bag)
+}
+
+// Whether the table of a bag leads by a change to the table of another bag, and back.
+fn leads_there(
+    alloc: Global,
+    random: &mut Random,
+    bag: &Bag,
+    change: &Change,
     other: &Bag,
-) -> Result<(), Fail> {
-    let change = Change::between(alloc, bag, other)?;
-    let Ok(next) = bag.applied(alloc, &change) else {
-        return Err(Fail::new("the change is not applied"));
-    };
-    let table = FacedTable::build(alloc, bag)?;
-    let (table, _reads) = rebuilt(alloc, &table, &next, &change)?;
-    check_table(alloc, sample, random, &table, other)?;
-    let back = change.inverse(alloc)?;
-    let Ok(first) = next.applied(alloc, &back) else {
-        return Err(Fail::new("the change is not taken back"));
-    };
-    let (table, _reads) = rebuilt(alloc, &table, &first, &back)?;
-    check_table(alloc, sample, random, &table, bag)
+) -> Option<bool> {
+    let next = bag.applied(alloc, change).ok()?;
+    let table = FacedTable::build(alloc, bag).ok()?;
+    let table = rebuilt(alloc, &table, &next, change)?;
+    let is_there = is_copied(alloc, random, &table, other)?;
+    Some(is_there && leads_back(alloc, random, bag, change, &next, &table)?)
+}
+
+// Whether the tables along one step of a history are the copied ones: to another bag, and back.
+fn is_step(alloc: Global, random: &mut Random, bag: &Bag, other: &Bag) -> Option<bool> {
+    let change = Change::between(alloc, bag, other).ok()?;
+    leads_there(alloc, random, bag, &change, other)
 }
 
 #[test]
-fn rebuilt_tables_are_built_ones(rt: HostRuntime) -> Result<(), Fail> {
-    let alloc = rt.alloc();
+fn rebuilt_tables_are_built_ones(rt: HostRuntime) {
     let mut random = Random::new(77);
-    let mut bag = nested_bag(alloc, &mut random, 20, 9).ok_or("no bag")?;
+    let mut bag = nested_bag(rt.alloc(), &mut random, 20, 9).expect(&rt, "a bag");
     for sample in 0..40 {
-        let other = nested_bag(alloc, &mut random, 20, 9).ok_or("no bag")?;
-        check_step(alloc, sample, &mut random, &bag, &other)?;
+        let other = nested_bag(rt.alloc(), &mut random, 20, 9).expect(&rt, "a bag");
+        let same = is_step(rt.alloc(), &mut random, &bag, &other);
+        assert!(rt; same == Some(true), "wrong at sample {sample}");
         bag = other;
     }
-    Ok(())
+}
+
+// Whether a pair is the last one of a table.
+fn ends_with(alloc: Global, table: &FacedTable, pair: &str) -> Option<bool> {
+    let sphere = target_of(alloc, all_faces(alloc))?;
+    let met = table.meeting(alloc, &sphere).ok()?;
+    Some(met.last().copied() == held_of(pair))
+}
+
+// Whether a change of one face leads to a table of four ranges with a new last pair, by few reads.
+fn reads_one_face(alloc: Global, bag: &Bag, change: &Change) -> Option<bool> {
+    let next = bag.applied(alloc, change).ok()?;
+    let table = FacedTable::build(alloc, bag).ok()?;
+    let mut reader = BagReader::new(&next);
+    let table = table.rebuilt(alloc, &mut reader, change).ok()?;
+    let is_read = (1..=25).contains(&reader.reads());
+    Some(is_read && table.range_count() == 4 && ends_with(alloc, &table, "5:2:1")?)
 }
 
 #[test]
-fn one_changed_face_is_read(rt: HostRuntime) -> Result<(), Fail> {
-    let alloc = rt.alloc();
-    let bag = bag_of(alloc, &[(b"1", 1)])?;
-    let other = bag_of(alloc, &[(b"1", 1), (b"5", 2)])?;
-    let change = Change::between(alloc, &bag, &other)?;
-    let Ok(next) = bag.applied(alloc, &change) else {
-        return Err(Fail::new("the change is not applied"));
-    };
-    let table = FacedTable::build(alloc, &bag)?;
-    let (table, reads) = rebuilt(alloc, &table, &next, &change)?;
-    let held = held_of(b"5", 2)?;
-    let met = table.meeting(alloc, &target_of(alloc, all_faces(alloc))?)?;
-    if table.range_count() == 4 && (1..=25).contains(&reads) && met.last() == Some(&held) {
-        Ok(())
-    } else {
-        Err(Fail::new("four ranges, read by few reads"))
-    }
+fn one_changed_face_is_read(rt: HostRuntime) {
+    let bag = bag_of(rt.alloc(), WIDEST, "1:1:1").expect(&rt, "a bag");
+    let other = bag_of(rt.alloc(), WIDEST, "1:1:1 5:2:1").expect(&rt, "a bag");
+    let change = Change::between(rt.alloc(), &bag, &other).expect(&rt, "a change");
+    assert!(rt; reads_one_face(rt.alloc(), &bag, &change) == Some(true));
 }

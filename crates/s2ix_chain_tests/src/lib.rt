@@ -8,8 +8,8 @@ mod faced_tests;
 #[cfg(test)]
 mod random_tests;
 #[cfg(test)]
-mod samples;
-#[cfg(test)]
 mod span_tests;
+#[cfg(test)]
+mod targets;
 #[cfg(test)]
 mod worked_tests;

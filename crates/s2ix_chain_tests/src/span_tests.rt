@@ -1,27 +1,28 @@
 // A table over the leaves of one face.
-ghost use Rattle.std.specs.Prelude.{◌≡◌, ◌<◌, nat_lt, length, IfOk};
+ghost use Rattle.std.specs.Prelude.{◌≡◌, ◌<◌, nat_lt, length, IfSome};
 ghost use Rattle.std.specs.List.{list_any};
 ghost use Rattle.s2id_core.specs.CellId.{first_of, end_of};
 
-use crate::samples::{bag_of, held_of};
 use s2id_core::CellId;
-use s2ix_bag::{Bag, FlatHeld, Held};
+use s2ix_bag::{FlatHeld, Held};
 use s2ix_chain::SpanTable;
 use s2ix_chain::laws::{ranges_are_those_of_the_span, span_keeps_a_pair_once};
+use s2ix_samples::{WIDEST, bag_of, held_of};
 use s2ix_table::RangeRow;
 use std::alloc::Global;
-use std::test::Fail;
 
 // The leaf numbers at which face 2 begins and ends.
 const FROM: u64 = 0x4000000000000001;
 
 const TO: u64 = 0x6000000000000001;
 
-// The ranges over the face: the first leaf number and the one after the last, and the innermost pair.
-const RANGES: [(u64, u64, &[u8], u32); 3] = [
-    (FROM, 0x4800000000000001, b"44", 6),
-    (0x4800000000000001, 0x5000000000000001, b"4c", 1),
-    (0x5000000000000001, TO, b"5", 3),
+// A range over the face: its first leaf number and the one after its last, the innermost pair, and the next one outwards, if any.
+type RangeText = (u64, u64, &'static str, &'static str);
+
+const RANGES: [RangeText; 3] = [
+    (FROM, 0x4800000000000001, "44:6:1", "5:3:1"),
+    (0x4800000000000001, 0x5000000000000001, "4c:1:1", "5:3:1"),
+    (0x5000000000000001, TO, "5:3:1", ""),
 ];
 
 // Whether a held cell begins before a leaf number.
@@ -38,28 +39,16 @@ fn ends_behind(held: &[FlatHeld], to: u64) -> bool
     held.iter().any(|h| to < h.cell().span_end())
 }
 
-// The table of a bag whose pairs lie on face 2.
-fn face_table(alloc: Global, bag: &Bag) -> Result<SpanTable, Fail>
-    ensures begins { IfOk result (λ table. table.from ≡ 4611686018427387905) }
-    ensures ends { IfOk result (λ table. table.to ≡ 6917529027641081857) }
+// The table of pairs that lie on face 2.
+fn face_table(alloc: Global, pairs: &str) -> Option<SpanTable>
+    ensures begins { IfSome result (λ table. table.from ≡ 4611686018427387905) }
+    ensures ends { IfSome result (λ table. table.to ≡ 6917529027641081857) }
 {
-    let held = bag.flat(alloc)?;
-    if begins_before(held.as_slice(), FROM) {
-        return Err(Fail::new("a cell before the face"));
+    let held = bag_of(alloc, WIDEST, pairs)?.flat(alloc).ok()?;
+    if begins_before(held.as_slice(), FROM) || ends_behind(held.as_slice(), TO) {
+        return None;
     }
-    if ends_behind(held.as_slice(), TO) {
-        return Err(Fail::new("a cell behind the face"));
-    }
-    Ok(SpanTable::over(alloc, held, FROM, TO)?)
-}
-
-// Fails where a comparison does not hold.
-fn expect(holds: bool, subject: &'static str) -> Result<(), Fail> {
-    if holds {
-        Ok(())
-    } else {
-        Err(Fail::new(subject))
-    }
+    SpanTable::over(alloc, held, FROM, TO).ok()
 }
 
 // A range's innermost pair, and the next one outwards.
@@ -76,55 +65,44 @@ fn first_two(table: &SpanTable, k: usize) -> (Option<Held>, Option<Held>)
     (Some(inner), Some(table.held_at(next)))
 }
 
-fn check_range(
-    table: &SpanTable,
-    k: usize,
-    row: RangeRow,
-    inner: Held,
-    face: Held,
-) -> Result<(), Fail> {
-    if k >= table.range_count() {
-        return Err(Fail::new("no range"));
-    }
-    expect(table.range(k) == row, "a range")?;
-    expect(table.start(k) == row.start, "where a range begins")?;
-    let over = if inner == face {
-        (Some(face), None)
-    } else {
-        (Some(inner), Some(face))
-    };
-    expect(first_two(table, k) == over, "what lies over a range")
+// Whether the range at a place is this one.
+fn has_range(table: &SpanTable, k: usize, &(start, limit, inner, outer): &RangeText) -> bool {
+    k < table.range_count()
+        && table.range(k) == RangeRow { start, limit }
+        && table.start(k) == start
+        && first_two(table, k) == (held_of(inner), held_of(outer))
 }
 
-#[test]
-fn table_of_a_face(rt: HostRuntime) -> Result<(), Fail> {
-    let alloc = rt.alloc();
-    let bag = bag_of(alloc, &[(b"44", 6), (b"4c", 1), (b"5", 3)])?;
-    let face = held_of(b"5", 3)?;
-    let table = face_table(alloc, &bag)?;
-    expect(table.pair_count() == 3, "how many pairs")?;
-    expect(table.range_count() == RANGES.len(), "how many ranges")?;
-    for (k, &(start, limit, token, label)) in RANGES.iter().enumerate() {
-        let inner = held_of(token, label)?;
-        check_range(&table, k, RangeRow { start, limit }, inner, face)?;
-    }
-    for (k, &(start, limit, _, _)) in RANGES.iter().enumerate() {
-        check_leaf(&table, start, k)?;
-        check_leaf(&table, limit.wrapping_sub(2), k)?;
-    }
-    ranges_are_those_of_the_span(&table);
-    span_keeps_a_pair_once(&table);
-    Ok(())
-}
-
-// Fails where a leaf of the face is not found in its range.
-fn check_leaf(table: &SpanTable, number: u64, k: usize) -> Result<(), Fail>
+// Whether a leaf of the face is found in its range.
+fn finds(table: &SpanTable, number: u64, k: usize) -> bool
     requires begins { table.now.from ≡ 4611686018427387905 }
     requires ends { table.now.to ≡ 6917529027641081857 }
 {
-    let leaf = CellId::from_raw(number).ok_or("no cell has the number")?;
-    if leaf.raw() < FROM || leaf.raw() >= TO {
-        return Err(Fail::new("a leaf of another face"));
+    match CellId::from_raw(number) {
+        Some(leaf) if leaf.raw() >= FROM && leaf.raw() < TO => table.find(leaf) == k,
+        _ => false,
     }
-    expect(table.find(leaf) == k, "the range of a leaf")
+}
+
+// Whether a table has the ranges over the face, and the first and the last leaf of each lead to it.
+fn has_ranges(table: &SpanTable) -> bool
+    requires begins { table.now.from ≡ 4611686018427387905 }
+    requires ends { table.now.to ≡ 6917529027641081857 }
+{
+    for (k, range) in RANGES.iter().enumerate() {
+        let is_found = finds(table, range.0, k) && finds(table, range.1.wrapping_sub(2), k);
+        if !is_found || !has_range(table, k, range) {
+            return false;
+        }
+    }
+    table.range_count() == RANGES.len()
+}
+
+#[test]
+fn table_of_a_face(rt: HostRuntime) {
+    let table = face_table(rt.alloc(), "44:6:1 4c:1:1 5:3:1").expect(&rt, "a table");
+    assert!(rt; table.pair_count() == 3);
+    assert!(rt; has_ranges(&table));
+    ranges_are_those_of_the_span(&table);
+    span_keeps_a_pair_once(&table);
 }

@@ -1,178 +1,163 @@
 // Worked tables, and what they answer.
-use crate::samples::{bag_of, held_of};
-use s2id_core::CellId;
+use crate::targets::target_of;
+use s2id_samples::cells_of;
 use s2id_union::CellUnion;
-use s2ix_bag::Held;
+use s2ix_bag::{Held, Label};
 use s2ix_chain::ChainTable;
+use s2ix_samples::{WIDEST, bag_of, held_of, label_of};
 use s2ix_table::{ChainIter, RangeRow, RangeTable, contents};
 use std::alloc::Global;
-use std::test::Fail;
-
-// A pair that is held once: the token of its cell, and its label.
-type PairRow = (&'static [u8], u32);
 
 // A range: its first leaf number, the one after its last, and what lies over it.
-type RangeText = (u64, u64, &'static [PairRow]);
+type RangeText = (u64, u64, &'static str);
 
 // Pairs, the ranges of their table, the cells of a target, the pairs that meet it, and the labels of these.
 struct Worked {
     name: &'static str,
-    pairs: &'static [PairRow],
+    pairs: &'static str,
     ranges: &'static [RangeText],
-    cells: &'static [&'static [u8]],
-    met: &'static [PairRow],
-    labels: &'static [u32],
+    cells: &'static str,
+    met: &'static str,
+    labels: &'static str,
 }
 
 const TABLES: [Worked; 4] = [
     Worked {
         name: "a cell in a face",
-        pairs: &[(b"1", 7), (b"04", 9)],
+        pairs: "1:7:1 04:9:1",
         ranges: &[
-            (1, 0x0800000000000001, &[(b"04", 9), (b"1", 7)]),
-            (0x0800000000000001, 0x2000000000000001, &[(b"1", 7)]),
-            (0x2000000000000001, 0xc000000000000001, &[]),
+            (1, 0x0800000000000001, "04:9:1 1:7:1"),
+            (0x0800000000000001, 0x2000000000000001, "1:7:1"),
+            (0x2000000000000001, 0xc000000000000001, ""),
         ],
-        cells: &[b"1c", b"04"],
-        met: &[(b"04", 9), (b"1", 7)],
-        labels: &[7, 9],
+        cells: "1c 04",
+        met: "04:9:1 1:7:1",
+        labels: "7 9",
     },
     Worked {
         name: "a cell after a gap",
-        pairs: &[(b"1", 7), (b"04", 9), (b"1c", 2)],
+        pairs: "1:7:1 04:9:1 1c:2:1",
         ranges: &[
-            (1, 0x0800000000000001, &[(b"04", 9), (b"1", 7)]),
-            (0x0800000000000001, 0x1800000000000001, &[(b"1", 7)]),
-            (
-                0x1800000000000001,
-                0x2000000000000001,
-                &[(b"1c", 2), (b"1", 7)],
-            ),
-            (0x2000000000000001, 0xc000000000000001, &[]),
+            (1, 0x0800000000000001, "04:9:1 1:7:1"),
+            (0x0800000000000001, 0x1800000000000001, "1:7:1"),
+            (0x1800000000000001, 0x2000000000000001, "1c:2:1 1:7:1"),
+            (0x2000000000000001, 0xc000000000000001, ""),
         ],
-        cells: &[b"1c", b"04", b"04"],
-        met: &[(b"04", 9), (b"1", 7), (b"1c", 2)],
-        labels: &[2, 7, 9],
+        cells: "1c 04 04",
+        met: "04:9:1 1:7:1 1c:2:1",
+        labels: "2 7 9",
     },
     Worked {
         name: "a face between empty ranges",
-        pairs: &[(b"1", 1), (b"5", 2)],
+        pairs: "1:1:1 5:2:1",
         ranges: &[
-            (1, 0x2000000000000001, &[(b"1", 1)]),
-            (0x2000000000000001, 0x4000000000000001, &[]),
-            (0x4000000000000001, 0x6000000000000001, &[(b"5", 2)]),
-            (0x6000000000000001, 0xc000000000000001, &[]),
+            (1, 0x2000000000000001, "1:1:1"),
+            (0x2000000000000001, 0x4000000000000001, ""),
+            (0x4000000000000001, 0x6000000000000001, "5:2:1"),
+            (0x6000000000000001, 0xc000000000000001, ""),
         ],
-        cells: &[],
-        met: &[],
-        labels: &[],
+        cells: "",
+        met: "",
+        labels: "",
     },
     Worked {
         name: "cells of two faces",
-        pairs: &[(b"04", 9), (b"5", 3), (b"44", 6), (b"4c", 1)],
+        pairs: "04:9:1 5:3:1 44:6:1 4c:1:1",
         ranges: &[
-            (1, 0x0800000000000001, &[(b"04", 9)]),
-            (0x0800000000000001, 0x4000000000000001, &[]),
-            (
-                0x4000000000000001,
-                0x4800000000000001,
-                &[(b"44", 6), (b"5", 3)],
-            ),
-            (
-                0x4800000000000001,
-                0x5000000000000001,
-                &[(b"4c", 1), (b"5", 3)],
-            ),
-            (0x5000000000000001, 0x6000000000000001, &[(b"5", 3)]),
-            (0x6000000000000001, 0xc000000000000001, &[]),
+            (1, 0x0800000000000001, "04:9:1"),
+            (0x0800000000000001, 0x4000000000000001, ""),
+            (0x4000000000000001, 0x4800000000000001, "44:6:1 5:3:1"),
+            (0x4800000000000001, 0x5000000000000001, "4c:1:1 5:3:1"),
+            (0x5000000000000001, 0x6000000000000001, "5:3:1"),
+            (0x6000000000000001, 0xc000000000000001, ""),
         ],
-        cells: &[b"04", b"4c"],
-        met: &[(b"04", 9), (b"4c", 1), (b"5", 3)],
-        labels: &[1, 3, 9],
+        cells: "04 4c",
+        met: "04:9:1 4c:1:1 5:3:1",
+        labels: "1 3 9",
     },
 ];
 
-// Fails where a comparison does not hold.
-fn expect(holds: bool, worked: &Worked, subject: &'static str) -> Result<(), Fail> {
-    if holds {
-        Ok(())
-    } else {
-        Err(Fail::new(format_args!("{}: {subject}", worked.name)))
-    }
-}
-
 // Whether a chain gives these pairs.
-fn gives(mut chain: ChainIter<'_, ChainTable>, pairs: &[PairRow]) -> Result<bool, Fail> {
-    for &(token, label) in pairs {
-        if chain.next() != Some(held_of(token, label)?) {
-            return Ok(false);
+fn gives(mut chain: ChainIter<'_, ChainTable>, pairs: &str) -> bool {
+    for text in pairs.split_ascii_whitespace() {
+        if chain.next() != held_of(text) {
+            return false;
         }
     }
-    Ok(chain.next().is_none())
+    chain.next().is_none()
 }
 
-// Whether these pairs are those of a list.
-fn are(list: &[Held], pairs: &[PairRow]) -> Result<bool, Fail> {
-    for (k, &(token, label)) in pairs.iter().enumerate() {
-        if list.get(k) != Some(&held_of(token, label)?) {
-            return Ok(false);
+// Whether some pairs are these, in their order.
+fn are_pairs(pairs: &[Held], wanted: &str) -> bool {
+    let mut left = pairs.iter();
+    for text in wanted.split_ascii_whitespace() {
+        if left.next().copied() != held_of(text) {
+            return false;
         }
     }
-    Ok(list.len() == pairs.len())
+    left.next().is_none()
 }
 
-fn check_ranges(table: &ChainTable, worked: &Worked) -> Result<(), Fail> {
-    expect(
-        table.range_count() == worked.ranges.len(),
-        worked,
-        "how many ranges",
-    )?;
-    for (k, &(start, limit, over)) in worked.ranges.iter().enumerate() {
-        if k >= table.range_count() {
-            return Err(Fail::new("no range"));
+// Whether some labels are these, in their order.
+fn are_labels(labels: &[Label], wanted: &str) -> bool {
+    let mut left = labels.iter();
+    for text in wanted.split_ascii_whitespace() {
+        if left.next().copied() != label_of(text) {
+            return false;
         }
-        expect(
-            table.range(k) == RangeRow { start, limit },
-            worked,
-            "a range",
-        )?;
-        expect(
-            gives(contents(table, k), over)?,
-            worked,
-            "what lies over a range",
-        )?;
     }
-    Ok(())
+    left.next().is_none()
 }
 
-fn check_target(alloc: Global, table: &ChainTable, worked: &Worked) -> Result<(), Fail> {
-    let mut cells = Vec::new(alloc);
-    for token in worked.cells {
-        cells.push(CellId::from_token(token)?)?;
+// Whether the range at a place is this one.
+fn has_range(table: &ChainTable, k: usize, &(start, limit, over): &RangeText) -> bool {
+    k < table.range_count()
+        && table.range(k) == RangeRow { start, limit }
+        && gives(contents(table, k), over)
+}
+
+// Whether a table has these ranges and no others.
+fn has_ranges(table: &ChainTable, ranges: &[RangeText]) -> bool {
+    for (k, range) in ranges.iter().enumerate() {
+        if !has_range(table, k, range) {
+            return false;
+        }
     }
-    let target = CellUnion::normalise(alloc, &cells)?;
-    let met = table.meeting(alloc, &target)?;
-    expect(are(&met, worked.met)?, worked, "what meets a target")?;
-    let labels = table.labels(alloc, &target)?;
-    expect(
-        labels.len() == worked.labels.len(),
-        worked,
-        "how many labels",
-    )?;
-    for (label, &wanted) in labels.iter().zip(worked.labels) {
-        expect(label.get() == wanted, worked, "a label")?;
-    }
-    Ok(())
+    table.range_count() == ranges.len()
+}
+
+// Whether these pairs meet a target.
+fn meets(alloc: Global, table: &ChainTable, target: &CellUnion, met: &str) -> Option<bool> {
+    let pairs = table.meeting(alloc, target).ok()?;
+    Some(are_pairs(&pairs, met))
+}
+
+// Whether the pairs that meet a target have these labels.
+fn has_labels(alloc: Global, table: &ChainTable, target: &CellUnion, wanted: &str) -> Option<bool> {
+    let labels = table.labels(alloc, target).ok()?;
+    Some(are_labels(&labels, wanted))
+}
+
+// Whether a table answers as it should of the target.
+fn answers(alloc: Global, table: &ChainTable, worked: &Worked) -> Option<bool> {
+    let target = target_of(alloc, cells_of(alloc, worked.cells))?;
+    Some(
+        meets(alloc, table, &target, worked.met)?
+            && has_labels(alloc, table, &target, worked.labels)?,
+    )
+}
+
+// Whether the table of the pairs is the worked one.
+fn is_worked(alloc: Global, worked: &Worked) -> Option<bool> {
+    let bag = bag_of(alloc, WIDEST, worked.pairs)?;
+    let table = ChainTable::build(alloc, &bag).ok()?;
+    Some(has_ranges(&table, worked.ranges) && answers(alloc, &table, worked)?)
 }
 
 #[test]
-fn worked_tables(rt: HostRuntime) -> Result<(), Fail> {
-    let alloc = rt.alloc();
+fn worked_tables(rt: HostRuntime) {
     for worked in &TABLES {
-        let bag = bag_of(alloc, worked.pairs)?;
-        let table = ChainTable::build(alloc, &bag)?;
-        check_ranges(&table, worked)?;
-        check_target(alloc, &table, worked)?;
+        let same = is_worked(rt.alloc(), worked);
+        assert!(rt; same == Some(true), "wrong at {}", worked.name);
     }
-    Ok(())
 }
