@@ -1,9 +1,11 @@
 // Runs over an empty store that a device ends.
+ghost use Rattle.s2ix_io.specs.Faults.{CanCount};
+
 use crate::runs::{ALL, WIDEST, run_over_empty};
 use s2ix_cli::{RunFault, RunOptions};
-use s2ix_io::{KeepingSink, SliceSource, TakesNone, ToWrite};
+use s2ix_io::{KeepingSink, Sink, SliceSource, TakesNone, ToWrite};
 use std::alloc::Global;
-use std::test::Fail;
+use std::process::Abort;
 
 // What a run of `dump` over an empty store writes.
 const DUMP: &[u8] = b"s2ix 1\nend 0 0\n";
@@ -131,49 +133,54 @@ const RUNS: [Devices; 9] = [
     },
 ];
 
-// Runs a script over its devices, and compares how it ends. A failure names the devices and says what came out.
-fn check_run(alloc: Global, devices: &Devices) -> Result<(), Fail> {
-    let name = devices.name;
+// Runs the script of some devices over an empty store, and says how it ends.
+fn ended(alloc: Global, devices: &Devices, sink: &mut KeepingSink) -> Option<Option<RunFault>>
+    requires { CanCount (⟦<KeepingSink as Sink>⟧.fault_count sink.old) }
+{
     let mut source = SliceSource::new(devices.input, devices.piece_len, devices.piece_fault);
+    let options = RunOptions {
+        stop: false,
+        turns: devices.turns,
+    };
+    let end = run_over_empty(alloc, &mut source, sink, WIDEST, options)?;
+    Some(end.err())
+}
+
+// Whether as much of the output has come out, and is flushed, as should.
+fn is_out(devices: &Devices, kept: &[u8], flushed: usize) -> bool {
+    devices.output.starts_with(kept)
+        && devices.least <= kept.len()
+        && kept.len() <= devices.most
+        && flushed == devices.flushed
+}
+
+// Runs a script over its devices, and compares how it ends. A failure names the devices and says what came out.
+fn check_run(rt: &impl Abort, alloc: Global, devices: &Devices) {
     let mut sink = KeepingSink::new(
         alloc,
         devices.put_len,
         devices.put_fault,
         devices.flush_fails,
     );
-    let options = RunOptions {
-        stop: false,
-        turns: devices.turns,
-    };
-    let end = run_over_empty(alloc, &mut source, &mut sink, WIDEST, options)?.err();
-    let kept = sink.kept();
-    let flushed = sink.flushed_len();
-    if end == devices.ends_by
-        && devices.output.starts_with(kept)
-        && devices.least <= kept.len()
-        && kept.len() <= devices.most
-        && flushed == devices.flushed
-    {
-        Ok(())
-    } else {
-        Err(Fail::new(format_args!("{name}: {end:?}, {kept:?}, {flushed} flushed")))
-    }
-}
-
-fn check_runs(alloc: Global, runs: &[Devices]) -> Result<(), Fail> {
-    for devices in runs {
-        check_run(alloc, devices)?;
-    }
-    Ok(())
+    let end = ended(alloc, devices, &mut sink);
+    let is_same = end == Some(devices.ends_by);
+    let (kept, flushed) = (sink.kept(), sink.flushed_len());
+    assert!(rt;
+        is_same && is_out(devices, kept, flushed),
+        "{}: {end:?}, {kept:?}, {flushed} flushed",
+        devices.name
+    );
 }
 
 #[test]
-fn a_run_ends_as_its_devices_do(rt: HostRuntime) -> Result<(), Fail> {
-    check_runs(rt.alloc(), &RUNS)
+fn a_run_ends_as_its_devices_do(rt: HostRuntime) {
+    for devices in &RUNS {
+        check_run(&rt, rt.alloc(), devices);
+    }
 }
 
 // Runs a script over sinks of which each fails at another byte: what came out is all before that byte.
-fn check_puts(alloc: Global, input: &'static [u8], output: &'static [u8]) -> Result<(), Fail> {
+fn check_puts(rt: &impl Abort, alloc: Global, input: &'static [u8], output: &'static [u8]) {
     for count in 0..output.len() {
         let devices = Devices {
             name: "a put that fails",
@@ -187,32 +194,28 @@ fn check_puts(alloc: Global, input: &'static [u8], output: &'static [u8]) -> Res
             flushed: 0,
             ..WHOLE
         };
-        check_run(alloc, &devices)?;
+        check_run(rt, alloc, &devices);
     }
-    Ok(())
 }
 
 #[test]
-fn a_fault_of_any_put_ends_a_run(rt: HostRuntime) -> Result<(), Fail> {
-    check_puts(rt.alloc(), b"dump\n", DUMP)
+fn a_fault_of_any_put_ends_a_run(rt: HostRuntime) {
+    check_puts(&rt, rt.alloc(), b"dump\n", DUMP);
 }
 
 #[test]
-fn a_meeting_list_goes_out_up_to_a_fault(rt: HostRuntime) -> Result<(), Fail> {
-    check_puts(rt.alloc(), MEETING, MET)
+fn a_meeting_list_goes_out_up_to_a_fault(rt: HostRuntime) {
+    check_puts(&rt, rt.alloc(), MEETING, MET);
 }
 
 #[test]
-fn a_writer_that_takes_none_ends_a_run(rt: HostRuntime) -> Result<(), Fail> {
+fn a_writer_that_takes_none_ends_a_run(rt: HostRuntime) {
     let mut source = SliceSource::new(b"dump\n", ALL, 0);
     let mut sink = ToWrite::new(TakesNone);
     let options = RunOptions {
         stop: false,
         turns: 100,
     };
-    let end = run_over_empty(rt.alloc(), &mut source, &mut sink, WIDEST, options)?;
-    match end {
-        Err(RunFault::Write) => Ok(()),
-        _ => Err(Fail::new("the run did not end by a write fault")),
-    }
+    let end = run_over_empty(rt.alloc(), &mut source, &mut sink, WIDEST, options);
+    assert!(rt; matches!(end, Some(Err(RunFault::Write))));
 }

@@ -1,6 +1,5 @@
 // Worked scripts of labels that grow. Their outputs are worked out by hand from the formats.
 use crate::scripts::{PLAIN, Script, check_all};
-use std::test::Fail;
 
 const SCRIPTS: [Script; 7] = [
     Script {
@@ -53,6 +52,6 @@ const SCRIPTS: [Script; 7] = [
 ];
 
 #[test]
-fn scripts_of_growing_labels_print_these_outputs(rt: HostRuntime) -> Result<(), Fail> {
-    check_all(rt.alloc(), &SCRIPTS)
+fn scripts_of_growing_labels_print_these_outputs(rt: HostRuntime) {
+    check_all(&rt, rt.alloc(), &SCRIPTS);
 }

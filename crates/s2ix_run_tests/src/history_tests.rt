@@ -1,6 +1,5 @@
 // Worked scripts of edits on whole labels and unions, of undo, redo and forget, and of journals.
 use crate::scripts::{PLAIN, Script, check_all};
-use std::test::Fail;
 
 const SCRIPTS: [Script; 10] = [
     Script {
@@ -68,6 +67,6 @@ const SCRIPTS: [Script; 10] = [
 ];
 
 #[test]
-fn histories_are_followed(rt: HostRuntime) -> Result<(), Fail> {
-    check_all(rt.alloc(), &SCRIPTS)
+fn histories_are_followed(rt: HostRuntime) {
+    check_all(&rt, rt.alloc(), &SCRIPTS);
 }

@@ -1,11 +1,9 @@
 // Lines that come in pieces: each is carried out once its end has come, and its answer is flushed before more is asked for.
-use crate::runs::{ALL, WIDEST};
-use s2ix_bag::Limits;
+use crate::runs::{ALL, WIDEST, empty_store};
 use s2ix_cli::{RunFault, RunOptions, run};
 use s2ix_io::{KeepingSink, SliceSource};
 use s2ix_store::Store;
 use std::alloc::Global;
-use std::test::Fail;
 
 // A run over an empty store, and what it comes to.
 #[derive(Clone, Copy)]
@@ -94,42 +92,29 @@ const RUNS: [Run; 8] = [
     },
 ];
 
-fn check_run(alloc: Global, expected: &Run) -> Result<(), Fail> {
-    let [pairs, count, changes] = WIDEST;
-    let limits = Limits::new(pairs, count, changes).ok_or("a limit is out of its range")?;
-    let mut store = Store::new(alloc, limits)?;
+// Whether a run over an empty store ends, writes and changes what it should.
+fn comes_to(alloc: Global, store: &mut Store, expected: &Run) -> bool {
     let mut source = SliceSource::new(expected.input, expected.piece_len, expected.piece_fault);
     let mut sink = KeepingSink::new(alloc, ALL, 0, false);
     let options = RunOptions {
         stop: expected.stop,
         turns: expected.turns,
     };
-    let end = run(alloc, &mut source, &mut sink, &mut store, options).err();
-    let name = expected.name;
-    let kept = sink.kept();
-    let flushed = sink.flushed_len();
-    let changes = store.done().len();
-    if end == expected.ends_by
-        && kept == expected.output
-        && flushed == kept.len()
-        && changes == expected.changes
-    {
-        Ok(())
-    } else {
-        Err(Fail::new(format_args!(
-            "{name}: {end:?}, {kept:?}, {flushed} flushed, {changes} changes"
-        )))
-    }
-}
-
-fn check_runs(alloc: Global, runs: &[Run]) -> Result<(), Fail> {
-    for expected in runs {
-        check_run(alloc, expected)?;
-    }
-    Ok(())
+    let end = run(alloc, &mut source, &mut sink, store, options).err();
+    end == expected.ends_by
+        && sink.kept() == expected.output
+        && sink.flushed_len() == expected.output.len()
+        && store.done().len() == expected.changes
 }
 
 #[test]
-fn each_line_is_carried_out_as_it_comes(rt: HostRuntime) -> Result<(), Fail> {
-    check_runs(rt.alloc(), &RUNS)
+fn each_line_is_carried_out_as_it_comes(rt: HostRuntime) {
+    for expected in &RUNS {
+        let mut store = empty_store(rt.alloc(), WIDEST).expect(&rt, "a store");
+        assert!(rt;
+            comes_to(rt.alloc(), &mut store, expected),
+            "wrong at {}",
+            expected.name
+        );
+    }
 }

@@ -1,6 +1,5 @@
 // Worked scripts of queries. Their outputs are worked out by hand from the formats.
 use crate::scripts::{PLAIN, Script, check_all};
-use std::test::Fail;
 
 const SCRIPTS: [Script; 17] = [
     Script {
@@ -140,6 +139,6 @@ const SCRIPTS: [Script; 17] = [
 ];
 
 #[test]
-fn queries_are_answered(rt: HostRuntime) -> Result<(), Fail> {
-    check_all(rt.alloc(), &SCRIPTS)
+fn queries_are_answered(rt: HostRuntime) {
+    check_all(&rt, rt.alloc(), &SCRIPTS);
 }

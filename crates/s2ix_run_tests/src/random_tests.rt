@@ -2,15 +2,13 @@
 ghost use Rattle.s2ix_io.specs.Faults.{CanCount};
 
 use crate::random_pieces::RandomPieces;
-use crate::runs::{ALL, WIDEST};
+use crate::runs::{ALL, WIDEST, empty_store};
 use s2id_samples::Random;
-use s2ix_bag::Limits;
 use s2ix_cli::{RunEnd, RunOptions, run};
-use s2ix_io::{KeepingSink, SliceSource, Source};
+use s2ix_io::{KeepingSink, Sink, SliceSource, Source};
 use s2ix_store::Store;
 use s2ix_text::{write_dump, write_journal};
 use std::alloc::Global;
-use std::test::Fail;
 
 // Lines of which the scripts are made: words of all kinds over few cells and labels, refused lines, comments and blank ones.
 const LINES: [&[u8]; 42] = [
@@ -64,72 +62,91 @@ const LINE_COUNT: u64 = 60;
 // How long a long line is: just below the longest that a script may have, that long, and too long.
 const LONG: [usize; 3] = [65_535, 65_536, 65_537];
 
-// Appends a line, now and then filled up with white space to a long one, and its line feed.
-fn push_line(text: &mut Vec<u8>, random: &mut Random) -> Result<(), Fail> {
+// Appends a line, now and then filled up with white space to a long one, and its line feed. `None` where memory was wanted.
+fn push_line(text: &mut Vec<u8>, line: &[u8], length: Option<usize>) -> Option<()> {
     let start = text.len();
-    let line = LINES.get(random.below(42) as usize).copied().unwrap_or(b"");
-    text.extend_from_slice(line)?;
-    if let Some(length) = LONG.get(random.below(24) as usize) {
-        text.resize(start.saturating_add(*length), b' ')?;
+    text.extend_from_slice(line).ok()?;
+    if let Some(length) = length {
+        text.resize(start.saturating_add(length), b' ').ok()?;
     }
-    text.push(b'\n')?;
-    Ok(())
+    text.push(b'\n').ok()
+}
+
+// Appends a random line.
+fn push_random_line(text: &mut Vec<u8>, random: &mut Random) -> Option<()> {
+    let line = LINES.get(random.below(42) as usize).copied().unwrap_or(b"");
+    let length = LONG.get(random.below(24) as usize).copied();
+    push_line(text, line, length)
 }
 
 // A script of lines of all kinds, whose last line has no line feed now and then.
-fn random_script(alloc: Global, random: &mut Random) -> Result<Vec<u8>, Fail> {
+fn random_script(alloc: Global, random: &mut Random) -> Option<Vec<u8>> {
     let mut text = Vec::new(alloc);
     for _ in 0..LINE_COUNT {
-        push_line(&mut text, random)?;
+        push_random_line(&mut text, random)?;
     }
     if random.below(3) == 0 {
         let _feed = text.pop();
     }
-    Ok(text)
+    Some(text)
 }
 
-// Runs a source over an empty store: its counts, and its output with the dump and both lists of changes behind it.
+// Writes the dump of a store and both its lists of changes.
+fn write_all(store: &Store, sink: &mut KeepingSink) -> Option<()>
+    requires { CanCount (⟦<KeepingSink as Sink>⟧.fault_count sink.old) }
+{
+    write_dump(store.bag(), sink).ok()?;
+    write_journal(store.done(), sink).ok()?;
+    write_journal(store.undone(), sink).ok()
+}
+
+// Runs a source over an empty store, and writes what the store has then behind the run's output.
 fn outcome<S: Source>(
     alloc: Global,
     source: &mut S,
+    sink: &mut KeepingSink,
     stop: bool,
-) -> Result<(RunEnd, KeepingSink), Fail>
-    requires { CanCount (S.fault_count source.old) }
+) -> Option<RunEnd>
+    requires source_counts { CanCount (S.fault_count source.old) }
+    requires sink_counts { CanCount (⟦<KeepingSink as Sink>⟧.fault_count sink.old) }
 {
-    let [pairs, count, changes] = WIDEST;
-    let limits = Limits::new(pairs, count, changes).ok_or("a limit is out of its range")?;
-    let mut store = Store::new(alloc, limits)?;
-    let mut sink = KeepingSink::new(alloc, ALL, 0, false);
     let options = RunOptions {
         stop,
         turns: u64::MAX,
     };
-    let told = run(alloc, source, &mut sink, &mut store, options)?;
-    write_dump(store.bag(), &mut sink)?;
-    write_journal(store.done(), &mut sink)?;
-    write_journal(store.undone(), &mut sink)?;
-    Ok((told, sink))
+    let mut store = empty_store(alloc, WIDEST)?;
+    let end = run(alloc, source, sink, &mut store, options).ok()?;
+    write_all(&store, sink)?;
+    Some(end)
 }
 
-// Runs the script of a seed whole and in pieces, and compares. With `stop` a refused line ends both.
-fn check_seed(alloc: Global, seed: u64, stop: bool) -> Result<(), Fail> {
+// Whether the script of a seed comes to the same whole and in pieces. With `stop` a refused line ends both.
+fn comes_to_the_same(alloc: Global, seed: u64, stop: bool) -> Option<bool> {
     let mut random = Random::new(seed);
     let text = random_script(alloc, &mut random)?;
-    let (whole, output) = outcome(alloc, &mut SliceSource::new(&text, ALL, 0), stop)?;
+    let mut output = KeepingSink::new(alloc, ALL, 0, false);
+    let whole = outcome(
+        alloc,
+        &mut SliceSource::new(&text, ALL, 0),
+        &mut output,
+        stop,
+    )?;
     let mut pieces = RandomPieces::new(&text, random.bits());
-    let (told, in_pieces) = outcome(alloc, &mut pieces, stop)?;
-    if told == whole && in_pieces.kept() == output.kept() {
-        Ok(())
-    } else {
-        Err(Fail::new(format_args!("seed {seed}: {told:?} in pieces, {whole:?} whole")))
-    }
+    let mut in_pieces = KeepingSink::new(alloc, ALL, 0, false);
+    let told = outcome(alloc, &mut pieces, &mut in_pieces, stop)?;
+    Some(told == whole && in_pieces.kept() == output.kept())
 }
 
 #[test]
-fn pieces_come_to_what_the_whole_comes_to(rt: HostRuntime) -> Result<(), Fail> {
+fn pieces_come_to_what_the_whole_comes_to(rt: HostRuntime) {
     for seed in 0..24 {
-        check_seed(rt.alloc(), seed, false)?;
-        check_seed(rt.alloc(), seed, true)?;
+        assert!(rt;
+            comes_to_the_same(rt.alloc(), seed, false) == Some(true),
+            "seed {seed}"
+        );
+        assert!(rt;
+            comes_to_the_same(rt.alloc(), seed, true) == Some(true),
+            "seed {seed}, stop"
+        );
     }
-    Ok(())
 }

@@ -1,6 +1,5 @@
 // Worked scripts of changes that are taken back by their numbers. Their outputs are worked out by hand from the formats.
 use crate::scripts::{PLAIN, Script, check_all};
-use std::test::Fail;
 
 const SCRIPTS: [Script; 12] = [
     Script {
@@ -90,6 +89,6 @@ const SCRIPTS: [Script; 12] = [
 ];
 
 #[test]
-fn scripts_of_changes_taken_back_print_these_outputs(rt: HostRuntime) -> Result<(), Fail> {
-    check_all(rt.alloc(), &SCRIPTS)
+fn scripts_of_changes_taken_back_print_these_outputs(rt: HostRuntime) {
+    check_all(&rt, rt.alloc(), &SCRIPTS);
 }

@@ -1,7 +1,7 @@
 // Worked scripts of fields, spellings, limits, paths, neighbours and squares. Their outputs are worked out by hand from the formats.
-use crate::scripts::{PLAIN, Script, check_all};
+use crate::scripts::{PLAIN, Script, check_all, check_script};
 use std::alloc::Global;
-use std::test::Fail;
+use std::process::Abort;
 
 const SCRIPTS: [Script; 29] = [
     Script {
@@ -184,26 +184,31 @@ const SCRIPTS: [Script; 29] = [
 ];
 
 #[test]
-fn lines_are_answered(rt: HostRuntime) -> Result<(), Fail> {
-    check_all(rt.alloc(), &SCRIPTS)
+fn lines_are_answered(rt: HostRuntime) {
+    check_all(&rt, rt.alloc(), &SCRIPTS);
 }
 
 // Runs a comment of so many bytes, and then a dump.
-fn check_comment(alloc: Global, length: usize, output: &[u8]) -> Result<(), Fail> {
-    let mut input = Vec::from_elem(alloc, b'#', length)?;
-    input.extend_from_slice(b"\ndump\n")?;
+fn check_comment(rt: &impl Abort, alloc: Global, length: usize, output: &[u8]) {
+    let mut input = Vec::from_elem(alloc, b'#', length).expect(rt, "memory");
+    input.extend_from_slice(b"\ndump\n").expect(rt, "memory");
     let script = Script {
         name: "a comment may have 65,536 bytes, and a line with one byte more is too long",
         input: &input,
         output,
         ..PLAIN
     };
-    check_all(alloc, &[script])
+    check_script(rt, alloc, &script);
 }
 
 #[test]
-fn long_lines(rt: HostRuntime) -> Result<(), Fail> {
-    check_comment(rt.alloc(), 65_535, b"s2ix 1\nend 0 0\n")?;
-    check_comment(rt.alloc(), 65_536, b"s2ix 1\nend 0 0\n")?;
-    check_comment(rt.alloc(), 65_537, b"no LineTooLong\ns2ix 1\nend 0 0\n")
+fn long_lines(rt: HostRuntime) {
+    check_comment(&rt, rt.alloc(), 65_535, b"s2ix 1\nend 0 0\n");
+    check_comment(&rt, rt.alloc(), 65_536, b"s2ix 1\nend 0 0\n");
+    check_comment(
+        &rt,
+        rt.alloc(),
+        65_537,
+        b"no LineTooLong\ns2ix 1\nend 0 0\n",
+    );
 }
