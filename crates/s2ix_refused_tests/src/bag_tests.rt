@@ -26,32 +26,59 @@ fn are_bags(old: &Bag, new: &Bag) -> bool {
 
 // The change that leads there.
 fn change(rt: &impl Abort, alloc: Global) -> Change {
-    let (old, new) = (bag(rt, alloc, OLD), bag(rt, alloc, NEW));
+    let old = bag(rt, alloc, OLD);
+    let new = bag(rt, alloc, NEW);
     Change::between(alloc, &old, &new).expect(rt, SET_UP)
+}
+
+fn check_between(rt: &(impl Abort + Print), alloc: Global, old: &Bag, new: &Bag) {
+    let change = answer!(rt, Change::between(alloc, old, new));
+    assert!(rt; lists_entries(&change, THERE));
 }
 
 #[test]
 fn refused_changes(rt: HostRuntime) {
-    let (old, new) = (bag(&rt, rt.alloc(), OLD), bag(&rt, rt.alloc(), NEW));
-    let change = answer!(&rt, Change::between(rt.alloc(), &old, &new));
-    assert!(&rt; lists_entries(&change, THERE) && are_bags(&old, &new));
+    let old = bag(&rt, rt.alloc(), OLD);
+    let new = bag(&rt, rt.alloc(), NEW);
+    check_between(&rt, rt.alloc(), &old, &new);
+    assert!(&rt; are_bags(&old, &new));
+}
+
+fn check_inverse(rt: &(impl Abort + Print), alloc: Global, change: &Change) {
+    let inverse = answer!(rt, change.inverse(alloc));
+    assert!(rt; lists_entries(&inverse, BACK));
+}
+
+fn check_listed(rt: &(impl Abort + Print), alloc: Global, change: &Change) {
+    let listed = answer!(rt, Change::from_entries(alloc, change.entries()));
+    assert!(rt; lists_entries(&listed, THERE));
 }
 
 #[test]
 fn refused_lists(rt: HostRuntime) {
     let change = change(&rt, rt.alloc());
-    let inverse = answer!(&rt, change.inverse(rt.alloc()));
-    let listed = answer!(&rt, Change::from_entries(rt.alloc(), change.entries()));
-    let are_listed = lists_entries(&inverse, BACK) && lists_entries(&listed, THERE);
-    assert!(&rt; are_listed && lists_entries(&change, THERE));
+    check_inverse(&rt, rt.alloc(), &change);
+    check_listed(&rt, rt.alloc(), &change);
+    assert!(&rt; lists_entries(&change, THERE));
+}
+
+fn check_copied(rt: &(impl Abort + Print), alloc: Global, old: &Bag) {
+    let copy = answer!(rt, old.copied(alloc));
+    assert!(rt; holds_pairs(&copy, OLD));
+}
+
+fn check_applied(rt: &(impl Abort + Print), alloc: Global, old: &Bag, change: &Change) {
+    let led = answer!(rt, old.applied(alloc, change));
+    assert!(rt; holds_pairs(&led, NEW));
 }
 
 #[test]
 fn refused_bags(rt: HostRuntime) {
-    let (old, change) = (bag(&rt, rt.alloc(), OLD), change(&rt, rt.alloc()));
-    let copy = answer!(&rt, old.copied(rt.alloc()));
-    let led = answer!(&rt, old.applied(rt.alloc(), &change));
-    assert!(&rt; are_bags(&copy, &led) && holds_pairs(&old, OLD) && lists_entries(&change, THERE));
+    let old = bag(&rt, rt.alloc(), OLD);
+    let change = change(&rt, rt.alloc());
+    check_copied(&rt, rt.alloc(), &old);
+    check_applied(&rt, rt.alloc(), &old, &change);
+    assert!(&rt; holds_pairs(&old, OLD) && lists_entries(&change, THERE));
 }
 
 // The copies of the label that they went to, with more of them and another pair, and what they are without the change.
@@ -61,17 +88,30 @@ const LATER_BACK: &str = "04:3:5:3 04:9:0:2";
 
 const LEFT: &str = "04:3:3 04:9:2 1:7:1";
 
-// Memory is wanted in no place of a count below zero.
+// Whether a change is not taken back from a bag, since a count would fall below zero. Memory is wanted in no place of that.
+fn falls_below_zero(alloc: Global, bag: &Bag, change: &Change) -> bool {
+    let below = Some(RevertError::BelowZero(0));
+    bag.reverting(alloc, change).err() == below && bag.reverted(alloc, change).err() == below
+}
+
+fn check_reverting(rt: &(impl Abort + Print), alloc: Global, later: &Bag, change: &Change) {
+    let back = answer!(rt, later.reverting(alloc, change));
+    assert!(rt; lists_entries(&back, LATER_BACK));
+}
+
+fn check_reverted(rt: &(impl Abort + Print), alloc: Global, later: &Bag, change: &Change) {
+    let left = answer!(rt, later.reverted(alloc, change));
+    assert!(rt; holds_pairs(&left, LEFT));
+}
+
 #[test]
 fn refused_changes_back(rt: HostRuntime) {
-    let (later, change) = (bag(&rt, rt.alloc(), LATER), change(&rt, rt.alloc()));
+    let later = bag(&rt, rt.alloc(), LATER);
+    let change = change(&rt, rt.alloc());
     let old = bag(&rt, rt.alloc(), OLD);
-    let below = RevertError::BelowZero(0);
-    assert!(&rt; matches!(old.reverting(rt.alloc(), &change), Err(error) if error == below));
-    assert!(&rt; matches!(old.reverted(rt.alloc(), &change), Err(error) if error == below));
-    let back = answer!(&rt, later.reverting(rt.alloc(), &change));
-    let left = answer!(&rt, later.reverted(rt.alloc(), &change));
-    assert!(&rt; lists_entries(&back, LATER_BACK) && holds_pairs(&left, LEFT));
+    assert!(&rt; falls_below_zero(rt.alloc(), &old, &change));
+    check_reverting(&rt, rt.alloc(), &later, &change);
+    check_reverted(&rt, rt.alloc(), &later, &change);
     assert!(&rt; holds_pairs(&later, LATER) && lists_entries(&change, THERE));
 }
 
@@ -83,29 +123,47 @@ fn changes(rt: &impl Abort, alloc: Global) -> Vec<Change> {
     read_journal(alloc, JOURNAL, Limits::default()).expect(rt, SET_UP)
 }
 
+// What the changes make of an empty bag.
+fn replayed(rt: &(impl Abort + Print), alloc: Global, empty: &Bag, changes: &[Change]) -> Bag {
+    let after = answer!(rt, replay(alloc, empty, changes));
+    assert!(rt; holds_pairs(&after, NEW) && holds_pairs(empty, "") && changes.len() == 3);
+    after
+}
+
+fn check_rewound(rt: &(impl Abort + Print), alloc: Global, after: &Bag, changes: &[Change]) {
+    let before = answer!(rt, rewind(alloc, after, changes));
+    assert!(rt; holds_pairs(&before, "") && holds_pairs(after, NEW) && changes.len() == 3);
+}
+
 #[test]
 fn refused_replays(rt: HostRuntime) {
-    let (empty, changes) = (bag(&rt, rt.alloc(), ""), changes(&rt, rt.alloc()));
-    let after = answer!(&rt, replay(rt.alloc(), &empty, changes.as_slice()));
-    assert!(&rt; holds_pairs(&after, NEW) && holds_pairs(&empty, "") && changes.len() == 3);
-    let before = answer!(&rt, rewind(rt.alloc(), &after, changes.as_slice()));
-    assert!(&rt; holds_pairs(&before, "") && holds_pairs(&after, NEW) && changes.len() == 3);
+    let empty = bag(&rt, rt.alloc(), "");
+    let changes = changes(&rt, rt.alloc());
+    let after = replayed(&rt, rt.alloc(), &empty, changes.as_slice());
+    check_rewound(&rt, rt.alloc(), &after, changes.as_slice());
 }
 
 // The second change takes the pair not to be held yet.
-#[test]
-fn refused_replays_of_another_bag(rt: HostRuntime) {
-    let (other, changes) = (bag(&rt, rt.alloc(), NEW), changes(&rt, rt.alloc()));
-    let wanted = ReplayError::Mismatch {
-        change: 2,
-        entry: 1,
-    };
-    let mut answer = replay(rt.alloc(), &other, changes.as_slice());
-    if let Err(error) = &answer {
-        if *error != wanted {
-            tell(&rt, error);
-            answer = replay(rt.alloc(), &other, changes.as_slice());
+const MISMATCH: ReplayError = ReplayError::Mismatch {
+    change: 2,
+    entry: 1,
+};
+
+fn check_mismatch(rt: &(impl Abort + Print), alloc: Global, other: &Bag, changes: &[Change]) {
+    let mut told = replay(alloc, other, changes).err();
+    if let Some(error) = &told {
+        if *error != MISMATCH {
+            tell(rt, error);
+            told = replay(alloc, other, changes).err();
         }
     }
-    assert!(&rt; matches!(answer, Err(error) if error == wanted) && holds_pairs(&other, NEW));
+    assert!(rt; told == Some(MISMATCH));
+}
+
+#[test]
+fn refused_replays_of_another_bag(rt: HostRuntime) {
+    let other = bag(&rt, rt.alloc(), NEW);
+    let changes = changes(&rt, rt.alloc());
+    check_mismatch(&rt, rt.alloc(), &other, changes.as_slice());
+    assert!(&rt; holds_pairs(&other, NEW));
 }

@@ -19,6 +19,26 @@ struct Seen {
     ranges: &'static [Row],
 }
 
+// The states of the stores here.
+#[derive(Clone, Copy)]
+enum State {
+    Empty,
+    // a face that grew over all faces
+    Grown,
+    // the same before it reached the last face
+    Back,
+    // the same before it grew
+    First,
+    // grown once more, by a step that is made again
+    GrownOnce,
+    // not grown, by a change that takes the growth back
+    Reverted,
+    // a store that starts with all faces
+    Started,
+}
+
+const ALL_FACES: &str = "1:4:1 3:4:1 5:4:1 7:4:1 9:4:1 b:4:1";
+
 const EMPTY: Seen = Seen {
     pairs: "",
     done: &[],
@@ -27,25 +47,21 @@ const EMPTY: Seen = Seen {
     ranges: &[(0xc000000000000001, "")],
 };
 
-const FACES: [Row; 6] = [
-    (0x2000000000000001, "1:4:1"),
-    (0x4000000000000001, "3:4:1"),
-    (0x6000000000000001, "5:4:1"),
-    (0x8000000000000001, "7:4:1"),
-    (0xa000000000000001, "9:4:1"),
-    (0xc000000000000001, "b:4:1"),
-];
-
-// A face that grew over all faces.
 const GROWN: Seen = Seen {
-    pairs: "1:4:1 3:4:1 5:4:1 7:4:1 9:4:1 b:4:1",
+    pairs: ALL_FACES,
     done: &["1:4:0:1", "3:4:0:1 5:4:0:1 9:4:0:1 b:4:0:1", "7:4:0:1"],
     undone: &[],
     faces: 1,
-    ranges: &FACES,
+    ranges: &[
+        (0x2000000000000001, "1:4:1"),
+        (0x4000000000000001, "3:4:1"),
+        (0x6000000000000001, "5:4:1"),
+        (0x8000000000000001, "7:4:1"),
+        (0xa000000000000001, "9:4:1"),
+        (0xc000000000000001, "b:4:1"),
+    ],
 };
 
-// The same before it reached the last face.
 const BACK: Seen = Seen {
     pairs: "1:4:1 3:4:1 5:4:1 9:4:1 b:4:1",
     done: &["1:4:0:1", "3:4:0:1 5:4:0:1 9:4:0:1 b:4:0:1"],
@@ -61,7 +77,6 @@ const BACK: Seen = Seen {
     ],
 };
 
-// The same before it grew.
 const FIRST: Seen = Seen {
     pairs: "1:4:1",
     done: &["1:4:0:1"],
@@ -70,10 +85,6 @@ const FIRST: Seen = Seen {
     ranges: &[(0x2000000000000001, "1:4:1"), (0xc000000000000001, "")],
 };
 
-// Grown once more, by a step that is made again.
-const GROWN_ONCE: Seen = Seen { faces: 4, ..BACK };
-
-// Not grown, by a change that takes the growth back.
 const REVERTED: Seen = Seen {
     done: &[
         "1:4:0:1",
@@ -84,12 +95,22 @@ const REVERTED: Seen = Seen {
     ..FIRST
 };
 
-// A store that starts with all faces.
-const STARTED: Seen = Seen {
-    done: &[],
-    faces: 0,
-    ..GROWN
-};
+// What is seen of a store in a state.
+fn seen_at(state: State) -> Seen {
+    match state {
+        State::Empty => EMPTY,
+        State::Grown => GROWN,
+        State::Back => BACK,
+        State::First => FIRST,
+        State::GrownOnce => Seen { faces: 4, ..BACK },
+        State::Reverted => REVERTED,
+        State::Started => Seen {
+            done: &[],
+            faces: 0,
+            ..GROWN
+        },
+    }
+}
 
 // Whether some changes have these entries.
 fn are_changes(changes: &[Change], wanted: &[&str]) -> bool {
@@ -103,15 +124,18 @@ fn are_changes(changes: &[Change], wanted: &[&str]) -> bool {
     left.next().is_none()
 }
 
-fn check_seen(rt: &impl Abort, store: &Store, seen: &Seen) {
-    let answers = [
-        holds_pairs(store.bag(), seen.pairs),
-        are_changes(store.done(), seen.done),
-        are_changes(store.undone(), seen.undone),
-        store.faces_rebuilt() == seen.faces,
-        has_ranges(store.table(), seen.ranges),
-    ];
-    assert!(rt; answers == [true; 5], "{answers:?}");
+// Whether a store has its changes done and undone, and its last step built so many faces again.
+fn has_history(store: &Store, seen: &Seen) -> bool {
+    are_changes(store.done(), seen.done)
+        && are_changes(store.undone(), seen.undone)
+        && store.faces_rebuilt() == seen.faces
+}
+
+fn check_seen(rt: &impl Abort, store: &Store, state: State) {
+    let seen = seen_at(state);
+    assert!(rt; holds_pairs(store.bag(), seen.pairs));
+    assert!(rt; has_history(store, &seen));
+    assert!(rt; has_ranges(store.table(), seen.ranges));
 }
 
 fn label(rt: &impl Abort) -> Label {
@@ -138,85 +162,109 @@ fn grown(rt: &impl Abort, alloc: Global) -> Store {
 }
 
 // Looks at what a step left: each entry of its change lies on a face of its own.
-fn check_step(rt: &impl Abort, store: &Store, number: usize, seen: &Seen) {
-    assert!(rt; number == usize::from(seen.faces));
-    check_seen(rt, store, seen);
+fn check_after(rt: &impl Abort, store: &Store, number: usize, after: State) {
+    assert!(rt; number == usize::from(store.faces_rebuilt()));
+    check_seen(rt, store, after);
 }
 
-fn check_undo(rt: &(impl Abort + Print), store: &mut Store, before: &Seen, after: &Seen) {
+fn check_undo(rt: &(impl Abort + Print), store: &mut Store, before: State, after: State) {
     let number = answer!(rt, store.undo(), check_seen(rt, store, before));
-    check_step(rt, store, number, after);
+    check_after(rt, store, number, after);
 }
 
-fn check_redo(rt: &(impl Abort + Print), store: &mut Store, before: &Seen, after: &Seen) {
+fn check_redo(rt: &(impl Abort + Print), store: &mut Store, before: State, after: State) {
     let number = answer!(rt, store.redo(), check_seen(rt, store, before));
-    check_step(rt, store, number, after);
+    check_after(rt, store, number, after);
 }
 
 fn check_edit(
     rt: &(impl Abort + Print),
     store: &mut Store,
     edit: &Edit,
-    before: &Seen,
-    after: &Seen,
+    before: State,
+    after: State,
 ) {
     let number = answer!(rt, store.edit(edit), check_seen(rt, store, before));
-    check_step(rt, store, number, after);
-}
-
-// Looks that a change is not taken back for this reason, and that all stays.
-fn check_no_revert(rt: &impl Abort, store: &mut Store, number: u32, error: EditError, seen: &Seen) {
-    let told = store.edit(&Edit::Revert { number }).err();
-    assert!(rt; told == Some(error));
-    check_seen(rt, store, seen);
+    check_after(rt, store, number, after);
 }
 
 #[test]
 fn refused_steps(rt: HostRuntime) {
     let mut store = grown(&rt, rt.alloc());
-    check_undo(&rt, &mut store, &GROWN, &BACK);
-    check_undo(&rt, &mut store, &BACK, &FIRST);
-    check_redo(&rt, &mut store, &FIRST, &GROWN_ONCE);
-    check_redo(&rt, &mut store, &GROWN_ONCE, &GROWN);
-    check_undo(&rt, &mut store, &GROWN, &BACK);
-    check_edit(&rt, &mut store, &growing(&rt), &BACK, &GROWN);
+    check_undo(&rt, &mut store, State::Grown, State::Back);
+    check_undo(&rt, &mut store, State::Back, State::First);
+    check_redo(&rt, &mut store, State::First, State::GrownOnce);
+    check_redo(&rt, &mut store, State::GrownOnce, State::Grown);
+    check_undo(&rt, &mut store, State::Grown, State::Back);
+    check_edit(&rt, &mut store, &growing(&rt), State::Back, State::Grown);
+}
+
+// Takes the growth back that is left of an undone one.
+fn check_revert(rt: &(impl Abort + Print), store: &mut Store) {
+    let revert = Edit::Revert { number: 2 };
+    check_edit(rt, store, &revert, State::Back, State::Reverted);
+}
+
+// Looks that a change is not taken back for this reason, and that all stays.
+fn check_no_revert(
+    rt: &impl Abort,
+    store: &mut Store,
+    number: u32,
+    error: EditError,
+    state: State,
+) {
+    let told = store.edit(&Edit::Revert { number }).err();
+    assert!(rt; told == Some(error));
+    check_seen(rt, store, state);
 }
 
 // Want of memory never comes in place of a number that no change has, or of a count below zero.
 #[test]
 fn refused_reverts(rt: HostRuntime) {
     let mut store = grown(&rt, rt.alloc());
-    let revert = Edit::Revert { number: 2 };
-    check_undo(&rt, &mut store, &GROWN, &BACK);
-    check_no_revert(&rt, &mut store, 3, EditError::NoSuchChange, &BACK);
-    check_edit(&rt, &mut store, &revert, &BACK, &REVERTED);
-    check_no_revert(&rt, &mut store, 2, EditError::BelowZero, &REVERTED);
+    check_undo(&rt, &mut store, State::Grown, State::Back);
+    check_no_revert(&rt, &mut store, 3, EditError::NoSuchChange, State::Back);
+    check_revert(&rt, &mut store);
+    check_no_revert(&rt, &mut store, 2, EditError::BelowZero, State::Reverted);
+}
+
+fn check_region(rt: &(impl Abort + Print), store: &Store, label: Label) {
+    let region = answer!(rt, store.region(label));
+    assert!(rt; region.cells().len() == 6);
 }
 
 #[test]
 fn refused_regions(rt: HostRuntime) {
     let store = grown(&rt, rt.alloc());
-    let label = label(&rt);
-    let region = answer!(&rt, store.region(label));
-    assert!(&rt; region.cells().len() == 6);
-    check_seen(&rt, &store, &GROWN);
+    check_region(&rt, &store, label(&rt));
+    check_seen(&rt, &store, State::Grown);
+}
+
+fn check_new(rt: &(impl Abort + Print), alloc: Global) {
+    let store = answer!(rt, Store::new(alloc, Limits::default()));
+    check_seen(rt, &store, State::Empty);
 }
 
 fn all_faces(rt: &impl Abort, alloc: Global) -> Bag {
-    bag_of(alloc, WIDEST, GROWN.pairs).expect(rt, SET_UP)
+    bag_of(alloc, WIDEST, ALL_FACES).expect(rt, SET_UP)
+}
+
+// The store that starts from a bag; where it gave up and let the bag go, from an equal one.
+fn started(rt: &(impl Abort + Print), alloc: Global, bag: Bag, equal: Bag) -> Store {
+    match Store::from_bag(alloc, bag) {
+        Ok(store) => store,
+        Err(error) => {
+            tell(rt, &error);
+            Store::from_bag(alloc, equal).expect(rt, "the call made again")
+        }
+    }
 }
 
 #[test]
 fn refused_stores(rt: HostRuntime) {
-    let store = answer!(&rt, Store::new(rt.alloc(), Limits::default()));
-    check_seen(&rt, &store, &EMPTY);
-    let (bag, equal) = (all_faces(&rt, rt.alloc()), all_faces(&rt, rt.alloc()));
-    let store = match Store::from_bag(rt.alloc(), bag) {
-        Ok(store) => store,
-        Err(error) => {
-            tell(&rt, &error);
-            Store::from_bag(rt.alloc(), equal).expect(&rt, "the call made again")
-        }
-    };
-    check_seen(&rt, &store, &STARTED);
+    check_new(&rt, rt.alloc());
+    let bag = all_faces(&rt, rt.alloc());
+    let equal = all_faces(&rt, rt.alloc());
+    let store = started(&rt, rt.alloc(), bag, equal);
+    check_seen(&rt, &store, State::Started);
 }

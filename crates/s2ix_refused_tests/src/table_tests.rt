@@ -1,6 +1,10 @@
 // Tables, and what meets a target.
+ghost use Rattle.std.specs.Prelude.{◌≡◌};
+ghost use Rattle.s2ix_pairs.specs.Change.{changed};
+
 use crate::calls::{SET_UP, answer};
 use crate::tables::{Row, has_ranges};
+use s2id_core::OutOfMemory;
 use s2id_samples::cells_of;
 use s2id_union::CellUnion;
 use s2ix_bag::{Bag, Change, Held, Label};
@@ -24,6 +28,10 @@ const RANGES: [Row; 6] = [
     (0xc000000000000001, ""),
 ];
 
+fn bag(rt: &impl Abort, alloc: Global, pairs: &str) -> Bag {
+    bag_of(alloc, WIDEST, pairs).expect(rt, SET_UP)
+}
+
 // Whether some pairs are these, in their order.
 fn are_pairs(pairs: &[Held], wanted: &str) -> bool {
     let mut left = pairs.iter();
@@ -46,6 +54,26 @@ fn are_labels(labels: &[Label], wanted: &str) -> bool {
     left.next().is_none()
 }
 
+fn check_meeting<T: RangeTable>(
+    rt: &(impl Abort + Print),
+    alloc: Global,
+    table: &T,
+    target: &CellUnion,
+) {
+    let pairs = answer!(rt, table.meeting(alloc, target));
+    assert!(rt; are_pairs(&pairs, "04:9:1 4c:1:1 5:3:1"));
+}
+
+fn check_labels<T: RangeTable>(
+    rt: &(impl Abort + Print),
+    alloc: Global,
+    table: &T,
+    target: &CellUnion,
+) {
+    let labels = answer!(rt, table.labels(alloc, target));
+    assert!(rt; are_labels(&labels, "1 3 9"));
+}
+
 // Builds a table, and asks it what meets a target.
 fn check_table<T: RangeTable + Drop>(
     rt: &(impl Abort + Print),
@@ -54,18 +82,21 @@ fn check_table<T: RangeTable + Drop>(
     target: &CellUnion,
 ) {
     let table = answer!(rt, T::build(alloc, bag));
-    let pairs = answer!(rt, table.meeting(alloc, target));
-    let labels = answer!(rt, table.labels(alloc, target));
-    assert!(rt; are_pairs(&pairs, "04:9:1 4c:1:1 5:3:1"));
-    assert!(rt; are_labels(&labels, "1 3 9"));
+    check_meeting(rt, alloc, &table, target);
+    check_labels(rt, alloc, &table, target);
     assert!(rt; has_ranges(&table, &RANGES) && holds_pairs(bag, PAIRS));
+}
+
+// The cells that the tables are asked for.
+fn target(rt: &impl Abort, alloc: Global) -> CellUnion {
+    let cells = cells_of(alloc, "04 4c").expect(rt, SET_UP);
+    CellUnion::normalise(alloc, &cells).expect(rt, SET_UP)
 }
 
 #[test]
 fn refused_tables(rt: HostRuntime) {
-    let bag = bag_of(rt.alloc(), WIDEST, PAIRS).expect(&rt, SET_UP);
-    let cells = cells_of(rt.alloc(), "04 4c").expect(&rt, SET_UP);
-    let target = CellUnion::normalise(rt.alloc(), &cells).expect(&rt, SET_UP);
+    let bag = bag(&rt, rt.alloc(), PAIRS);
+    let target = target(&rt, rt.alloc());
     check_table::<ChainTable>(&rt, rt.alloc(), &bag, &target);
     check_table::<CopiedTable>(&rt, rt.alloc(), &bag, &target);
     check_table::<FacedTable>(&rt, rt.alloc(), &bag, &target);
@@ -96,18 +127,53 @@ const NEW_RANGES: [Row; 7] = [
     (0xc000000000000001, "b:8:1"),
 ];
 
+fn is_old(table: &FacedTable) -> bool {
+    has_ranges(table, &OLD_RANGES)
+}
+
+// The table of what a change made of a table's pairs.
+fn rebuilt(
+    alloc: Global,
+    table: &FacedTable,
+    next: &Bag,
+    change: &Change,
+) -> Result<FacedTable, OutOfMemory>
+    requires { changed (⟦<FacedTable as RangeTable>⟧.pairs table.now) change.now ≡ next.now.held }
+{
+    let mut reader = BagReader::new(next);
+    table.rebuilt(alloc, &mut reader, change)
+}
+
+fn check_rebuilt(
+    rt: &(impl Abort + Print),
+    alloc: Global,
+    table: &FacedTable,
+    next: &Bag,
+    change: &Change,
+)
+    requires { changed (⟦<FacedTable as RangeTable>⟧.pairs table.now) change.now ≡ next.now.held }
+{
+    let rebuilt = answer!(
+        rt,
+        rebuilt(alloc, table, next, change),
+        assert!(rt; is_old(table) && holds_pairs(next, NEW))
+    );
+    assert!(rt; has_ranges(&rebuilt, &NEW_RANGES));
+}
+
+// Builds the table of a bag, and builds it again for what a change makes of the bag.
+fn check_change(rt: &(impl Abort + Print), alloc: Global, old: &Bag, change: &Change) {
+    let next = old.applied(alloc, change).expect(rt, SET_UP);
+    let table = FacedTable::build(alloc, old).expect(rt, SET_UP);
+    check_rebuilt(rt, alloc, &table, &next, change);
+    assert!(rt; is_old(&table) && holds_pairs(&next, NEW));
+}
+
 #[test]
 fn refused_rebuilding(rt: HostRuntime) {
-    let old = bag_of(rt.alloc(), WIDEST, OLD).expect(&rt, SET_UP);
-    let new = bag_of(rt.alloc(), WIDEST, NEW).expect(&rt, SET_UP);
+    let old = bag(&rt, rt.alloc(), OLD);
+    let new = bag(&rt, rt.alloc(), NEW);
     let change = Change::between(rt.alloc(), &old, &new).expect(&rt, SET_UP);
-    let next = old.applied(rt.alloc(), &change).expect(&rt, SET_UP);
-    let table = FacedTable::build(rt.alloc(), &old).expect(&rt, SET_UP);
-    let rebuilt = answer!(
-        &rt,
-        table.rebuilt(rt.alloc(), &mut BagReader::new(&next), &change),
-        assert!(&rt; has_ranges(&table, &OLD_RANGES) && holds_pairs(&next, NEW))
-    );
-    assert!(&rt; has_ranges(&rebuilt, &NEW_RANGES) && has_ranges(&table, &OLD_RANGES));
-    assert!(&rt; holds_pairs(&next, NEW) && holds_pairs(&old, OLD));
+    check_change(&rt, rt.alloc(), &old, &change);
+    assert!(&rt; holds_pairs(&old, OLD));
 }
