@@ -48,14 +48,17 @@ fn comes_before(one: &str, other: &str) -> Option<bool> {
     Some(pair_of(one)?.is_before(pair_of(other)?))
 }
 
+// Two pairs, and whether the first comes before the second.
+const ORDER: [(&str, &str, bool); 4] = [
+    ("04:9", "1:7", true),
+    ("04:7", "04:9", true),
+    ("04:9", "04:9", false),
+    ("1:7", "04:9", false),
+];
+
 #[test]
 fn pairs_come_by_cell_and_then_by_label(rt: HostRuntime) {
-    for (one, other, before) in [
-        ("04:9", "1:7", true),
-        ("04:7", "04:9", true),
-        ("04:9", "04:9", false),
-        ("1:7", "04:9", false),
-    ] {
+    for &(one, other, before) in &ORDER {
         assert!(rt; comes_before(one, other) == Some(before), "wrong at {one}");
     }
 }
@@ -67,13 +70,16 @@ fn refusal(alloc: Global, entry: &str) -> Option<ApplyError> {
     bag.applied(alloc, &change).err()
 }
 
+// Entries, each with its reason.
+const REFUSED: [(&str, ApplyError); 3] = [
+    ("04:9:1:4", ApplyError::Mismatch(0)),
+    ("1:7:0:4", ApplyError::TooManyCopies),
+    ("1:7:0:3", ApplyError::TooManyPairs),
+];
+
 #[test]
 fn a_change_is_refused_with_its_reason(rt: HostRuntime) {
-    for (entry, reason) in [
-        ("04:9:1:4", ApplyError::Mismatch(0)),
-        ("1:7:0:4", ApplyError::TooManyCopies),
-        ("1:7:0:3", ApplyError::TooManyPairs),
-    ] {
+    for &(entry, reason) in &REFUSED {
         assert!(rt;
             refusal(rt.alloc(), entry) == Some(reason),
             "wrong at {entry}"

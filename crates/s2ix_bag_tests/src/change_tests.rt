@@ -1,8 +1,8 @@
 // Changes between bags.
-use s2ix_bag::{Bag, Change, ChangeError, Entry, FlatHeld};
-use s2ix_samples::{LimitRow, bag_of, entry_of, held_of, holds_pairs, lists_entries};
+use crate::changes::{change_of, entries_of};
+use s2ix_bag::{Change, ChangeError, FlatHeld};
+use s2ix_samples::{LimitRow, bag_of, held_of, holds_pairs, lists_entries};
 use std::alloc::Global;
-use std::process::Abort;
 
 const LIMITS: LimitRow = (3, 3, 1);
 
@@ -50,16 +50,37 @@ fn change_of_pair(alloc: Global, old: &str, new: &str) -> Option<Change> {
     Change::between_lists(alloc, &[FlatHeld::new(old)], &[FlatHeld::new(new)]).ok()
 }
 
+// Whether the change that leads from one held pair alone to another alone has these entries.
+fn leads_by(alloc: Global, old: &str, new: &str, entries: &str) -> Option<bool> {
+    let change = change_of_pair(alloc, old, new)?;
+    Some(lists_entries(&change, entries))
+}
+
+// A held pair, another one, and the entries of what leads there.
+const LISTS: [(&str, &str, &str); 3] = [
+    ("04:9:2", "1:7:3", ENTRIES),
+    ("04:9:2", "04:9:3", "04:9:2:3"),
+    ("04:9:2", "04:9:2", ""),
+];
+
 #[test]
 fn a_change_leads_from_list_to_list(rt: HostRuntime) {
-    for (old, new, entries) in [
-        ("04:9:2", "1:7:3", ENTRIES),
-        ("04:9:2", "04:9:3", "04:9:2:3"),
-        ("04:9:2", "04:9:2", ""),
-    ] {
-        let change = change_of_pair(rt.alloc(), old, new).expect(&rt, new);
-        assert!(rt; lists_entries(&change, entries), "wrong at {new}");
+    for &(old, new, entries) in &LISTS {
+        let leads = leads_by(rt.alloc(), old, new, entries);
+        assert!(rt; leads == Some(true), "wrong at {new}");
     }
+}
+
+// Whether the entries of a text make a change that has them.
+fn makes_change(alloc: Global, entries: &str) -> Option<bool> {
+    let change = change_of(alloc, entries)?;
+    Some(lists_entries(&change, entries))
+}
+
+#[test]
+fn entries_make_a_change(rt: HostRuntime) {
+    assert!(rt; makes_change(rt.alloc(), "") == Some(true));
+    assert!(rt; makes_change(rt.alloc(), ENTRIES) == Some(true));
 }
 
 // Lists of entries that are no change: each with its fault.
@@ -74,32 +95,18 @@ const FAULTY: [(&str, ChangeError); 5] = [
     ("04:9:1:2 1:7:3:3 1:8:2:2", ChangeError::NoDifference(1)),
 ];
 
-// The entries that a text lists.
-pub(crate) fn entries_of(alloc: Global, entries: &str) -> Option<Vec<Entry>> {
-    let mut all = Vec::new(alloc);
-    for text in entries.split_ascii_whitespace() {
-        all.push(entry_of(text)?).ok()?;
-    }
-    Some(all)
-}
-
-fn from_entries(rt: &impl Abort, alloc: Global, entries: &str) -> Result<Change, ChangeError> {
-    let entries = entries_of(alloc, entries).expect(rt, entries);
-    Change::from_entries(alloc, &entries)
-}
-
-#[test]
-fn entries_make_a_change(rt: HostRuntime) {
-    for list in ["", ENTRIES] {
-        let change = from_entries(&rt, rt.alloc(), list).expect(&rt, list);
-        assert!(rt; lists_entries(&change, list), "wrong at {list}");
-    }
+// Why some entries are no change.
+fn fault_of(alloc: Global, entries: &str) -> Option<ChangeError> {
+    let all = entries_of(alloc, entries)?;
+    Change::from_entries(alloc, &all).err()
 }
 
 #[test]
 fn entries_tell_why_they_are_no_change(rt: HostRuntime) {
-    for (list, fault) in FAULTY {
-        let error = from_entries(&rt, rt.alloc(), list).err();
-        assert!(rt; error == Some(fault), "wrong at {list}");
+    for &(list, fault) in &FAULTY {
+        assert!(rt;
+            fault_of(rt.alloc(), list) == Some(fault),
+            "wrong at {list}"
+        );
     }
 }

@@ -1,26 +1,17 @@
 // Bags with pairs on several faces.
-use s2ix_bag::{Bag, Change};
-use s2ix_samples::{LimitRow, bag_of, entry_of, held_of, holds_pairs};
+use crate::changes::change_of;
+use s2ix_bag::{Bag, FlatHeld};
+use s2ix_samples::{LimitRow, bag_of, held_of, holds_pairs};
 use std::alloc::Global;
-use std::process::Abort;
 
 const LIMITS: LimitRow = (12, 9, 1);
 
 // A cell of each face.
 const ALL_FACES: &str = "1:7:1 3:7:2 5:7:3 7:7:4 9:7:5 b:7:6";
 
-// The change with these entries.
-pub(crate) fn change_with(alloc: Global, entries: &str) -> Option<Change> {
-    let mut all = Vec::new(alloc);
-    for text in entries.split_ascii_whitespace() {
-        all.push(entry_of(text)?).ok()?;
-    }
-    Change::from_entries(alloc, &all).ok()
-}
-
 // What a bag becomes by these entries.
 fn changed(alloc: Global, bag: &Bag, entries: &str) -> Option<Bag> {
-    let change = change_with(alloc, entries)?;
+    let change = change_of(alloc, entries)?;
     bag.applied(alloc, &change).ok()
 }
 
@@ -39,50 +30,73 @@ const CHANGES: [(&str, &str); 5] = [
     ),
 ];
 
+// Whether entries make these pairs of one pair on each face, and leave the first bag as it is.
+fn makes(alloc: Global, bag: &Bag, entries: &str, after: &str) -> Option<bool> {
+    let made = changed(alloc, bag, entries)?;
+    Some(holds_pairs(&made, after) && holds_pairs(bag, ALL_FACES))
+}
+
 #[test]
 fn a_change_is_applied_on_its_faces(rt: HostRuntime) {
     let bag = bag_of(rt.alloc(), LIMITS, ALL_FACES).expect(&rt, "a bag");
-    for (entries, after) in CHANGES {
-        let made = changed(rt.alloc(), &bag, entries).expect(&rt, entries);
-        assert!(rt; holds_pairs(&made, after), "wrong at {entries}");
-        assert!(rt;
-            holds_pairs(&bag, ALL_FACES),
-            "the first bag changed at {entries}"
-        );
+    for &(entries, after) in &CHANGES {
+        let same = makes(rt.alloc(), &bag, entries, after);
+        assert!(rt; same == Some(true), "wrong at {entries}");
     }
+}
+
+// Whether a face that is emptied and filled again makes the same bag, and another one between.
+fn fills_again(alloc: Global, bag: &Bag) -> Option<bool> {
+    let less = changed(alloc, bag, "5:7:3:0")?;
+    let again = changed(alloc, &less, "5:7:0:3")?;
+    Some(again == *bag && less != *bag)
 }
 
 #[test]
 fn a_face_fills_again(rt: HostRuntime) {
     let bag = bag_of(rt.alloc(), LIMITS, ALL_FACES).expect(&rt, "a bag");
-    let less = changed(rt.alloc(), &bag, "5:7:3:0").expect(&rt, "less");
-    let again = changed(rt.alloc(), &less, "5:7:0:3").expect(&rt, "again");
-    assert!(rt; again == bag);
-    assert!(rt; less != bag);
+    assert!(rt; fills_again(rt.alloc(), &bag) == Some(true));
 }
 
-// Whether the pairs of a bag come as these, one by one and in one list.
-fn gives_pairs(alloc: Global, bag: &Bag, pairs: &str) -> Option<bool> {
-    let flat = bag.flat(alloc).ok()?;
+// Whether the pairs of a bag come one by one as these.
+fn gives_pairs(bag: &Bag, pairs: &str) -> bool {
     let mut left = bag.iter();
-    let mut place = 0usize;
     for text in pairs.split_ascii_whitespace() {
-        let wanted = held_of(text)?;
-        if left.next() != Some(wanted) || flat.get(place)?.held() != wanted {
-            return Some(false);
+        if left.next() != held_of(text) {
+            return false;
         }
-        place = place.wrapping_add(1);
     }
-    Some(left.next().is_none() && flat.len() == place)
+    left.next().is_none()
 }
+
+// Whether some pairs are these, in their order.
+pub(crate) fn are_pairs(held: &[FlatHeld], pairs: &str) -> bool {
+    let mut left = held.iter();
+    for text in pairs.split_ascii_whitespace() {
+        let Some(wanted) = held_of(text) else {
+            return false;
+        };
+        match left.next() {
+            Some(flat) if flat.held() == wanted => {}
+            _ => return false,
+        }
+    }
+    left.next().is_none()
+}
+
+// Whether the bag of some pairs has them in order, one by one and in one list.
+fn has_order(alloc: Global, pairs: &str) -> Option<bool> {
+    let bag = bag_of(alloc, LIMITS, pairs)?;
+    let flat = bag.flat(alloc).ok()?;
+    Some(gives_pairs(&bag, pairs) && are_pairs(flat.as_slice(), pairs))
+}
+
+const IN_ORDER: [&str; 4] = ["", "7:7:4", "04:9:2 1:7:3 b:7:6", ALL_FACES];
 
 #[test]
 fn the_pairs_of_all_faces_come_in_order(rt: HostRuntime) {
-    for pairs in ["", "7:7:4", "04:9:2 1:7:3 b:7:6", ALL_FACES] {
-        let bag = bag_of(rt.alloc(), LIMITS, pairs).expect(&rt, pairs);
-        assert!(rt;
-            gives_pairs(rt.alloc(), &bag, pairs) == Some(true),
-            "wrong at {pairs}"
-        );
+    for &pairs in &IN_ORDER {
+        let same = has_order(rt.alloc(), pairs);
+        assert!(rt; same == Some(true), "wrong at {pairs}");
     }
 }

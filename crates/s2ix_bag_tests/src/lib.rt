@@ -7,6 +7,8 @@ mod bag_tests;
 #[cfg(test)]
 mod change_tests;
 #[cfg(test)]
+mod changes;
+#[cfg(test)]
 mod face_tests;
 #[cfg(test)]
 mod limit_tests;

@@ -18,16 +18,19 @@ fn limits_are_within_their_ranges(rt: HostRuntime) {
     assert!(rt; Limits::new(1, 1, 1).is_some());
 }
 
+// Numbers of pairs, copies and changes, one of which is out of its range.
+const OUT_OF_RANGE: [(u32, u32, u32); 6] = [
+    (0, 1, 1),
+    (1, 0, 1),
+    (1, 1, 0),
+    (1_000_001, 1, 1),
+    (1, 65_536, 1),
+    (1, 1, 100_001),
+];
+
 #[test]
 fn no_limits_out_of_range(rt: HostRuntime) {
-    for (pairs, count, changes) in [
-        (0, 1, 1),
-        (1, 0, 1),
-        (1, 1, 0),
-        (1_000_001, 1, 1),
-        (1, 65_536, 1),
-        (1, 1, 100_001),
-    ] {
+    for &(pairs, count, changes) in &OUT_OF_RANGE {
         assert!(rt;
             Limits::new(pairs, count, changes).is_none(),
             "{pairs} {count} {changes}"

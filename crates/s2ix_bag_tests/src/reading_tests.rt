@@ -1,11 +1,12 @@
 // Bags that are read pair by pair, and the faces that changes have entries on.
-use crate::face_tests::change_with;
-use s2ix_bag::{Bag, FlatHeld, Held};
+use crate::changes::change_of;
+use crate::face_tests::are_pairs;
+use s2ix_bag::{Bag, Change, FlatHeld, Held};
 use s2ix_reading::{
     BagReader, PairReader, changed_face_count, changed_faces, read_changed, read_face,
 };
 use s2ix_samples::{LimitRow, bag_of, held_of};
-use std::process::Abort;
+use std::alloc::Global;
 
 const LIMITS: LimitRow = (12, 9, 1);
 
@@ -31,12 +32,19 @@ fn reads_pairs<R: PairReader>(reader: &mut R, pairs: &str) -> bool {
     place == reader.len() && reader.reads() == reads
 }
 
+// Whether a reader of the bag of some pairs reads them so.
+fn is_read(alloc: Global, pairs: &str) -> Option<bool> {
+    let bag = bag_of(alloc, LIMITS, pairs)?;
+    Some(reads_pairs(&mut BagReader::new(&bag), pairs))
+}
+
 #[test]
 fn a_bag_is_read_and_counted(rt: HostRuntime) {
-    for pairs in ["", "04:7:1", "04:7:1 1:7:2 1:9:3 5:7:4 b:7:5"] {
-        let bag = bag_of(rt.alloc(), LIMITS, pairs).expect(&rt, pairs);
-        let mut reader = BagReader::new(&bag);
-        assert!(rt; reads_pairs(&mut reader, pairs), "wrong at {pairs}");
+    for &pairs in &["", "04:7:1", "04:7:1 1:7:2 1:9:3 5:7:4 b:7:5"] {
+        assert!(rt;
+            is_read(rt.alloc(), pairs) == Some(true),
+            "wrong at {pairs}"
+        );
     }
 }
 
@@ -54,15 +62,22 @@ const PLACES: [(usize, &str); 8] = [
     (3, "5:7:4"),
 ];
 
+// Whether a reader of a bag gives the pairs at the places, and counts each.
+fn is_read_at_places(bag: &Bag) -> bool {
+    let mut reader = BagReader::new(bag);
+    for &(place, pair) in &PLACES {
+        match held_of(pair) {
+            Some(wanted) if reads_pair(&mut reader, place, wanted) => {}
+            _ => return false,
+        }
+    }
+    reader.reads() == 8
+}
+
 #[test]
 fn a_bag_is_read_to_and_fro(rt: HostRuntime) {
     let bag = bag_of(rt.alloc(), LIMITS, MIXED).expect(&rt, MIXED);
-    let mut reader = BagReader::new(&bag);
-    for (place, pair) in PLACES {
-        let wanted = held_of(pair).expect(&rt, pair);
-        assert!(rt; reads_pair(&mut reader, place, wanted), "wrong at {pair}");
-    }
-    assert!(rt; reader.reads() == 8);
+    assert!(rt; is_read_at_places(&bag));
 }
 
 // Entries, whether each face has one, and how many faces have.
@@ -81,27 +96,18 @@ const CHANGES: [(&str, [bool; 6], u8); 4] = [
     ),
 ];
 
-#[test]
-fn a_change_tells_its_faces(rt: HostRuntime) {
-    for (entries, faces, count) in CHANGES {
-        let change = change_with(rt.alloc(), entries).expect(&rt, entries);
-        assert!(rt; changed_faces(&change) == faces, "wrong at {entries}");
-        assert!(rt;
-            changed_face_count(&change) == count,
-            "another number at {entries}"
-        );
-    }
+// Whether the change with these entries tells these faces, and so many.
+fn tells_faces(alloc: Global, entries: &str, faces: [bool; 6], count: u8) -> Option<bool> {
+    let change = change_of(alloc, entries)?;
+    Some(changed_faces(&change) == faces && changed_face_count(&change) == count)
 }
 
-// Whether these are the pairs of a text, in their order.
-fn are_pairs(held: &[FlatHeld], pairs: &str) -> bool {
-    let mut left = held.iter();
-    for text in pairs.split_ascii_whitespace() {
-        if left.next().map(|flat| flat.held()) != held_of(text) {
-            return false;
-        }
+#[test]
+fn a_change_tells_its_faces(rt: HostRuntime) {
+    for &(entries, faces, count) in &CHANGES {
+        let same = tells_faces(rt.alloc(), entries, faces, count);
+        assert!(rt; same == Some(true), "wrong at {entries}");
     }
-    left.next().is_none()
 }
 
 // Whether these pairs are those of the face at a place, and so many stand before them.
@@ -135,34 +141,44 @@ const FACES: [(&str, u8, &str, u64); 8] = [
     ("b:7:1 b:8:2 b:9:3", 5, "b:7:1 b:8:2 b:9:3", 9),
 ];
 
+// Whether a face of a bag is read as these pairs, by at least as many reads and at most so many.
+fn reads_face(alloc: Global, bag: &Bag, face: u8, wanted: &str, most: u64) -> Option<bool> {
+    let mut reader = BagReader::new(bag);
+    let held = read_face(alloc, &mut reader, face).ok()?;
+    let is_within = (held.len() as u64) <= reader.reads() && reader.reads() <= most;
+    Some(is_within && are_pairs(held.as_slice(), wanted))
+}
+
 #[test]
 fn a_face_is_read_by_few_reads(rt: HostRuntime) {
-    for (pairs, face, wanted, most) in FACES {
+    for &(pairs, face, wanted, most) in &FACES {
         let bag = bag_of(rt.alloc(), LIMITS, pairs).expect(&rt, pairs);
-        let mut reader = BagReader::new(&bag);
-        let held = read_face(rt.alloc(), &mut reader, face).expect(&rt, pairs);
-        assert!(rt; are_pairs(held.as_slice(), wanted), "wrong at {pairs}");
-        assert!(rt; (held.len() as u64) <= reader.reads(), "too few at {pairs}");
-        assert!(rt; reader.reads() <= most, "too many at {pairs}");
+        let same = reads_face(rt.alloc(), &bag, face, wanted, most);
+        assert!(rt; same == Some(true), "wrong at {pairs}, face {face}");
     }
 }
 
-// Whether a face was read, and gave these pairs.
-fn gives(read: &Option<Vec<FlatHeld>>, pairs: &str) -> bool {
+// Whether two faces were read, the one without pairs and the other one with these, and no other face.
+fn are_two_faces(read: &[Option<Vec<FlatHeld>>; 6], pairs: &str) -> bool {
     match read {
-        Some(held) => are_pairs(held.as_slice(), pairs),
-        None => false,
+        [None, Some(second), Some(third), None, None, None] => {
+            second.is_empty() && are_pairs(third.as_slice(), pairs)
+        }
+        _ => false,
     }
+}
+
+// Whether the faces of a change alone are read, by few reads.
+fn reads_changed(alloc: Global, bag: &Bag, change: &Change) -> Option<bool> {
+    let mut reader = BagReader::new(bag);
+    let read = read_changed(alloc, &mut reader, change).ok()?;
+    let is_few = 1 <= reader.reads() && reader.reads() <= 13;
+    Some(is_few && are_two_faces(&read, "5:7:4"))
 }
 
 #[test]
 fn changed_faces_alone_are_read(rt: HostRuntime) {
-    let pairs = "04:7:1 1:7:2 1:9:3 5:7:4 b:7:5";
-    let bag = bag_of(rt.alloc(), LIMITS, pairs).expect(&rt, pairs);
-    let change = change_with(rt.alloc(), "3:7:2:0 5:7:3:4").expect(&rt, pairs);
-    let mut reader = BagReader::new(&bag);
-    let read = read_changed(rt.alloc(), &mut reader, &change).expect(&rt, pairs);
-    assert!(rt; gives(&read[1], "") && gives(&read[2], "5:7:4"));
-    assert!(rt; read[0].is_none() && read[3].is_none() && read[4].is_none() && read[5].is_none());
-    assert!(rt; 1 <= reader.reads() && reader.reads() <= 13);
+    let bag = bag_of(rt.alloc(), LIMITS, MIXED).expect(&rt, MIXED);
+    let change = change_of(rt.alloc(), "3:7:2:0 5:7:3:4").expect(&rt, "a change");
+    assert!(rt; reads_changed(rt.alloc(), &bag, &change) == Some(true));
 }

@@ -1,8 +1,9 @@
 // Changes that are taken back from bags that other changes led on to.
-use crate::change_tests::entries_of;
+use crate::changes::change_of;
 use s2ix_bag::{Bag, Change, RevertError};
 use s2ix_samples::{LimitRow, WIDEST, bag_of, holds_pairs, lists_entries};
 use std::alloc::Global;
+use std::process::Abort;
 
 // The limits, what is held now, a change, and what is held with it taken back, or why it isn't.
 type Row = (
@@ -99,78 +100,97 @@ const REFUSED: [Row; 9] = [
     ),
 ];
 
-fn change(alloc: Global, entries: &str) -> Option<Change> {
-    Change::from_entries(alloc, &entries_of(alloc, entries)?).ok()
+// Whether these pairs are left of a bag where a change is taken back, under the same limits.
+fn leaves(alloc: Global, bag: &Bag, change: &Change, pairs: &str) -> Option<bool> {
+    let left = bag.reverted(alloc, change).ok()?;
+    Some(holds_pairs(&left, pairs) && left.limits() == bag.limits())
 }
 
 // Whether a row's change is taken back as it says, and the row's bag stays as it is.
 fn is_row(alloc: Global, (limits, held, entries, wanted): &Row) -> Option<bool> {
     let bag = bag_of(alloc, *limits, held)?;
-    let reverted = bag.reverted(alloc, &change(alloc, entries)?);
-    let same = match (&reverted, wanted) {
-        (Ok(found), Ok(pairs)) => holds_pairs(found, pairs) && found.limits() == bag.limits(),
-        (Err(found), Err(error)) => found == error,
-        _ => false,
+    let change = change_of(alloc, entries)?;
+    let is_same = match wanted {
+        Ok(pairs) => leaves(alloc, &bag, &change, pairs)?,
+        Err(error) => bag.reverted(alloc, &change).err() == Some(*error),
     };
-    Some(same && holds_pairs(&bag, held))
+    Some(is_same && holds_pairs(&bag, held))
+}
+
+fn check_rows(rt: &impl Abort, alloc: Global, rows: &[Row]) {
+    for row in rows {
+        assert!(rt;
+            is_row(alloc, row) == Some(true),
+            "wrong at {} less {}",
+            row.1,
+            row.2
+        );
+    }
 }
 
 #[test]
 fn a_change_is_taken_back_after_others(rt: HostRuntime) {
-    for (row, all) in AFTER_RELABEL.iter().chain(&REVERTED).enumerate() {
-        assert!(rt; is_row(rt.alloc(), all) == Some(true), "wrong at row {row}");
-    }
+    check_rows(&rt, rt.alloc(), &AFTER_RELABEL);
+    check_rows(&rt, rt.alloc(), &REVERTED);
 }
 
 #[test]
 fn a_change_is_not_taken_back_for_the_first_reason(rt: HostRuntime) {
-    for (row, all) in REFUSED.iter().enumerate() {
-        assert!(rt; is_row(rt.alloc(), all) == Some(true), "wrong at row {row}");
-    }
+    check_rows(&rt, rt.alloc(), &REFUSED);
+}
+
+// Pairs, a change, and the entries of the change that takes it back.
+const BACK: [(&str, &str, &str); 4] = [
+    ("04:3:3", "04:3:1:3 04:9:2:0", "04:3:3:1 04:9:0:2"),
+    ("04:9:5", "04:9:0:2", "04:9:5:3"),
+    ("04:9:2 1:7:1", "04:9:0:2", "04:9:2:0"),
+    ("04:9:2", "", ""),
+];
+
+// The change that takes one back from a bag of some pairs, or why it isn't taken back.
+fn reverting(alloc: Global, held: &str, taken: &str) -> Option<Result<Change, RevertError>> {
+    let bag = bag_of(alloc, WIDEST, held)?;
+    let change = change_of(alloc, taken)?;
+    Some(bag.reverting(alloc, &change))
 }
 
 // Whether the change that takes one back has these entries.
-fn goes_back_by(alloc: Global, bag: &Bag, taken: &str, back: &str) -> Option<bool> {
-    let found = bag.reverting(alloc, &change(alloc, taken)?).ok()?;
+fn goes_back_by(alloc: Global, held: &str, taken: &str, back: &str) -> Option<bool> {
+    let found = reverting(alloc, held, taken)?.ok()?;
     Some(lists_entries(&found, back))
 }
 
 #[test]
 fn the_change_that_takes_back_starts_from_what_is_held(rt: HostRuntime) {
-    for (held, taken, back) in [
-        ("04:3:3", "04:3:1:3 04:9:2:0", "04:3:3:1 04:9:0:2"),
-        ("04:9:5", "04:9:0:2", "04:9:5:3"),
-        ("04:9:2 1:7:1", "04:9:0:2", "04:9:2:0"),
-        ("04:9:2", "", ""),
-    ] {
-        let bag = bag_of(rt.alloc(), WIDEST, held).expect(&rt, held);
-        let found = goes_back_by(rt.alloc(), &bag, taken, back);
+    for &(held, taken, back) in &BACK {
+        let found = goes_back_by(rt.alloc(), held, taken, back);
         assert!(rt; found == Some(true), "wrong at {held}");
     }
 }
 
 #[test]
 fn a_change_that_is_not_taken_back_has_no_change_back(rt: HostRuntime) {
-    let bag = bag_of(rt.alloc(), WIDEST, "04:9:2").expect(&rt, "a bag");
-    let taken = change(rt.alloc(), "04:9:0:3").expect(&rt, "a change");
-    assert!(rt; bag.reverting(rt.alloc(), &taken).err() == Some(RevertError::BelowZero(0)));
+    let found = reverting(rt.alloc(), "04:9:2", "04:9:0:3").expect(&rt, "memory");
+    assert!(rt; found.err() == Some(RevertError::BelowZero(0)));
 }
+
+const WORDS: [(RevertError, &str); 4] = [
+    (
+        RevertError::BelowZero(1),
+        "entry 1 takes more copies back than the bag has",
+    ),
+    (RevertError::TooManyCopies, "a count is above the limit"),
+    (
+        RevertError::TooManyPairs,
+        "more distinct pairs than the limit",
+    ),
+    (RevertError::OutOfMemory, "out of memory"),
+];
 
 #[test]
 fn the_refusals_are_told_in_words(rt: HostRuntime) {
-    for (error, text) in [
-        (
-            RevertError::BelowZero(1),
-            "entry 1 takes more copies back than the bag has",
-        ),
-        (RevertError::TooManyCopies, "a count is above the limit"),
-        (
-            RevertError::TooManyPairs,
-            "more distinct pairs than the limit",
-        ),
-        (RevertError::OutOfMemory, "out of memory"),
-    ] {
+    for (error, text) in &WORDS {
         let told = format!(in rt.alloc(); "{error}").expect(&rt, "memory");
-        assert!(rt; told.as_str() == text, "wrong at {text}");
+        assert!(rt; told.as_str() == *text, "wrong at {text}");
     }
 }

@@ -9,15 +9,18 @@ const TWO: &str = "04:9:2";
 
 const THREE: &str = "04:9:3";
 
+// Limits and pairs, and whether their bag is that of the two copies.
+const BAGS: [(LimitRow, &str, bool); 4] = [
+    (LIMITS, TWO, true),
+    (LIMITS, THREE, false),
+    (LIMITS, "", false),
+    ((2, 3, 2), TWO, false),
+];
+
 #[test]
 fn bags_are_the_same_where_limits_and_pairs_are(rt: HostRuntime) {
     let bag = bag_of(rt.alloc(), LIMITS, TWO).expect(&rt, "a bag");
-    for (limits, pairs, same) in [
-        (LIMITS, TWO, true),
-        (LIMITS, THREE, false),
-        (LIMITS, "", false),
-        ((2, 3, 2), TWO, false),
-    ] {
+    for &(limits, pairs, same) in &BAGS {
         let other = bag_of(rt.alloc(), limits, pairs).expect(&rt, pairs);
         assert!(rt; (bag == other) == same, "wrong at {pairs}");
     }
@@ -37,13 +40,16 @@ fn change_to(alloc: Global, pairs: &str) -> Option<Change> {
     Change::between(alloc, &empty, &bag).ok()
 }
 
+// Whether the change that makes these pairs of nothing is this one.
+fn is_change_to(alloc: Global, change: &Change, pairs: &str) -> Option<bool> {
+    Some(*change == change_to(alloc, pairs)?)
+}
+
 #[test]
 fn changes_are_the_same_where_their_entries_are(rt: HostRuntime) {
     let change = change_to(rt.alloc(), TWO).expect(&rt, TWO);
-    for (pairs, same) in [(TWO, true), (THREE, false)] {
-        let other = change_to(rt.alloc(), pairs).expect(&rt, pairs);
-        assert!(rt; (change == other) == same, "wrong at {pairs}");
-    }
+    assert!(rt; is_change_to(rt.alloc(), &change, TWO) == Some(true));
+    assert!(rt; is_change_to(rt.alloc(), &change, THREE) == Some(false));
 }
 
 #[test]
