@@ -8,17 +8,6 @@ use s2ix_bag::Held;
 use s2ix_table::{
     Cost, Meeting, Meter, RangeRow, RangeTable, Reader, Visit, ranges, visit_counted,
 };
-use std::fmt::Display;
-use std::test::Fail;
-
-// Fails where a comparison does not hold, and tells the row.
-pub(crate) fn expect<R: Display>(holds: bool, row: &R, subject: &'static str) -> Result<(), Fail> {
-    if holds {
-        Ok(())
-    } else {
-        Err(Fail::new(format_args!("{row}: {subject}")))
-    }
-}
 
 // A visit by a closure that may always be called.
 fn visit_all<T: RangeTable, F: FnMut(Held) -> bool>(
@@ -122,29 +111,27 @@ fn costs_the_same<T: RangeTable>(table: &T, target: &CellUnion, pairs: &[Held]) 
         && meter.cost() == seen_by(table, target, pairs, usize::MAX).cost
 }
 
-// Compares what visits of a target call, with the first call that answers false, the second, the last or none, and bounds what they read.
-pub(crate) fn check_target<R: Display, T: RangeTable>(
-    row: &R,
+// Whether a visit whose call number `stop` answers false calls these pairs up to it, and keeps to the bounds of what it reads.
+fn is_bounded_visit<T: RangeTable>(
     table: &T,
     target: &CellUnion,
     pairs: &[Held],
-) -> Result<(), Fail> {
-    for stop in [1, 2, pairs.len().max(1), usize::MAX] {
-        let visit = seen_by(table, target, pairs, stop);
-        expect(
-            is_visit(&visit, pairs, stop),
-            row,
-            "the calls of a counted visit",
-        )?;
-        expect(
-            is_bounded(table, target, visit.calls, visit.cost),
-            row,
-            "the cost of a counted visit",
-        )?;
-    }
-    expect(
-        costs_the_same(table, target, pairs),
-        row,
-        "the pairs one by one, and what reading them costs",
-    )
+    stop: usize,
+) -> bool {
+    let visit = seen_by(table, target, pairs, stop);
+    is_visit(&visit, pairs, stop) && is_bounded(table, target, visit.calls, visit.cost)
+}
+
+// Whether visits of a target call these pairs and keep to their bounds, where the first call answers false, the second, the last or none,
+// and reading the pairs one by one costs as much.
+pub(crate) fn keeps_to_bounds<T: RangeTable>(
+    table: &T,
+    target: &CellUnion,
+    pairs: &[Held],
+) -> bool {
+    is_bounded_visit(table, target, pairs, 1)
+        && is_bounded_visit(table, target, pairs, 2)
+        && is_bounded_visit(table, target, pairs, pairs.len().max(1))
+        && is_bounded_visit(table, target, pairs, usize::MAX)
+        && costs_the_same(table, target, pairs)
 }

@@ -1,65 +1,82 @@
 // Counted visits over tables of random nested cells.
-use crate::counting::check_target;
+use crate::counting::keeps_to_bounds;
+use crate::samples::target_of;
 use s2id_core::CellId;
 use s2id_samples::Random;
-use s2id_union::CellUnion;
 use s2ix_bag::Bag;
 use s2ix_chain::ChainTable;
 use s2ix_copied::CopiedTable;
 use s2ix_samples::{all_faces, deep_bag, nested_bag, random_cells};
 use s2ix_table::RangeTable;
 use std::alloc::Global;
-use std::test::Fail;
 
-// Compares what visits of the union of some cells call, and bounds what they read.
-fn check_cells<T: RangeTable>(
+// Whether visits of the union of some cells call what they should, and keep to the bounds of what they read.
+fn are_bounded<T: RangeTable>(
     alloc: Global,
-    number: usize,
     table: &T,
-    cells: &[CellId],
-) -> Result<(), Fail> {
-    let target = CellUnion::normalise(alloc, cells)?;
-    let pairs = table.meeting(alloc, &target)?;
-    check_target(&number, table, &target, &pairs)
+    cells: Option<Vec<CellId>>,
+) -> Option<bool> {
+    let target = target_of(alloc, cells)?;
+    let pairs = table.meeting(alloc, &target).ok()?;
+    Some(keeps_to_bounds(table, &target, &pairs))
 }
 
-// No cell at all, all faces, and random targets, most of them with gaps.
-fn check_targets<T: RangeTable>(
+// Whether visits of a random target keep to their bounds.
+fn is_bounded<T: RangeTable>(
     alloc: Global,
-    number: usize,
     table: &T,
     random: &mut Random,
-) -> Result<(), Fail> {
-    check_cells(alloc, number, table, &all_faces(alloc).ok_or("no faces")?)?;
+    size: u64,
+    levels: u64,
+) -> bool {
+    let cells = random_cells(alloc, random, size, levels);
+    are_bounded(alloc, table, cells) == Some(true)
+}
+
+// Whether visits of no cell at all, of all faces, and of random targets, most of them with gaps, keep to their bounds.
+fn are_all_bounded<T: RangeTable>(alloc: Global, table: &T, random: &mut Random) -> bool {
     for size in 0..9 {
-        for levels in [7, 9, 31] {
-            let cells = random_cells(alloc, random, size, levels).ok_or("no cells")?;
-            check_cells(alloc, number, table, &cells)?;
+        let same = is_bounded(alloc, table, random, size, 7)
+            && is_bounded(alloc, table, random, size, 9)
+            && is_bounded(alloc, table, random, size, 31);
+        if !same {
+            return false;
         }
     }
-    Ok(())
+    are_bounded(alloc, table, all_faces(alloc)) == Some(true)
 }
 
-// Bounds what visits of both tables of a bag read.
-fn check_bag(alloc: Global, number: usize, random: &mut Random, bag: &Bag) -> Result<(), Fail> {
-    let copies = CopiedTable::build(alloc, bag)?;
-    check_targets(alloc, number, &copies, random)?;
-    let chains = ChainTable::build(alloc, bag)?;
-    check_targets(alloc, number, &chains, random)
+// Whether visits of a kind of table of a bag keep to their bounds.
+fn is_bounded_table<T: RangeTable + Drop>(alloc: Global, bag: &Bag, random: &mut Random) -> bool {
+    match T::build(alloc, bag) {
+        Ok(table) => are_all_bounded(alloc, &table, random),
+        Err(_) => false,
+    }
+}
+
+// Whether visits of both tables of a bag keep to their bounds.
+fn are_bounded_tables(alloc: Global, bag: Option<Bag>, random: &mut Random) -> bool {
+    match &bag {
+        Some(bag) => {
+            is_bounded_table::<CopiedTable>(alloc, bag, random)
+                && is_bounded_table::<ChainTable>(alloc, bag, random)
+        }
+        None => false,
+    }
 }
 
 #[test]
-fn random_visits_keep_to_their_bounds(rt: HostRuntime) -> Result<(), Fail> {
+fn random_visits_keep_to_their_bounds(rt: HostRuntime) {
     let mut random = Random::new(1);
     for number in 0..120 {
-        let bag = nested_bag(rt.alloc(), &mut random, 40, 9).ok_or("no bag")?;
-        check_bag(rt.alloc(), number, &mut random, &bag)?;
+        let bag = nested_bag(rt.alloc(), &mut random, 40, 9);
+        let same = are_bounded_tables(rt.alloc(), bag, &mut random);
+        assert!(rt; same, "wrong at sample {number}");
     }
-    Ok(())
 }
 
 #[test]
-fn visits_of_deep_chains_keep_to_their_bounds(rt: HostRuntime) -> Result<(), Fail> {
+fn visits_of_deep_chains_keep_to_their_bounds(rt: HostRuntime) {
     let mut random = Random::new(8);
     for leaf in [
         1,
@@ -67,8 +84,7 @@ fn visits_of_deep_chains_keep_to_their_bounds(rt: HostRuntime) -> Result<(), Fai
         0x8000000000000001,
         0xbfffffffffffffff,
     ] {
-        let bag = deep_bag(rt.alloc(), leaf).ok_or("no bag")?;
-        check_bag(rt.alloc(), 31, &mut random, &bag)?;
+        let same = are_bounded_tables(rt.alloc(), deep_bag(rt.alloc(), leaf), &mut random);
+        assert!(rt; same, "wrong at {leaf}");
     }
-    Ok(())
 }

@@ -1,39 +1,23 @@
-// Unions and tables from plain data.
+// Unions and tables from plain texts, as `s2ix_samples` reads them. What is no such text, and what memory was wanted for, is `None`.
 use s2id_core::CellId;
+use s2id_samples::cells_of;
 use s2id_union::CellUnion;
-use s2ix_bag::{Bag, Held, Label, Limits, Pair};
-use s2ix_samples::with_more;
+use s2ix_samples::{WIDEST, bag_of};
 use s2ix_table::RangeTable;
 use std::alloc::Global;
-use std::test::Fail;
 
-// A pair that is held once: the token of its cell, and its label.
-pub(crate) type PairRow = (&'static [u8], u32);
+// The union of some cells.
+pub(crate) fn target_of(alloc: Global, cells: Option<Vec<CellId>>) -> Option<CellUnion> {
+    CellUnion::normalise(alloc, &cells?).ok()
+}
 
 // The union of the cells that some tokens name.
-pub(crate) fn union_of(alloc: Global, tokens: &[&[u8]]) -> Result<CellUnion, Fail> {
-    let mut cells = Vec::new(alloc);
-    for token in tokens {
-        cells.push(CellId::from_token(token)?)?;
-    }
-    Ok(CellUnion::normalise(alloc, &cells)?)
+pub(crate) fn union_of(alloc: Global, tokens: &str) -> Option<CellUnion> {
+    target_of(alloc, cells_of(alloc, tokens))
 }
 
-// A pair that is held once.
-fn held_of((token, label): PairRow) -> Result<Held, Fail> {
-    let cell = CellId::from_token(token)?;
-    let label = Label::new(label).ok_or("a label is out of its range")?;
-    Ok(Held {
-        pair: Pair { cell, label },
-        count: 1,
-    })
-}
-
-// The table of pairs that are held once.
-pub(crate) fn table_of<T: RangeTable + Drop>(alloc: Global, rows: &[PairRow]) -> Result<T, Fail> {
-    let mut bag = Bag::empty(alloc, Limits::default());
-    for &row in rows {
-        bag = with_more(alloc, &bag, held_of(row)?).ok_or("no bag")?;
-    }
-    Ok(T::build(alloc, &bag)?)
+// The table of pairs that differ.
+pub(crate) fn table_of<T: RangeTable + Drop>(alloc: Global, pairs: &str) -> Option<T> {
+    let bag = bag_of(alloc, WIDEST, pairs)?;
+    T::build(alloc, &bag).ok()
 }

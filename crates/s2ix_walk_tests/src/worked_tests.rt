@@ -1,19 +1,19 @@
 //! Worked targets, and what a counted visit of them may read.
-use crate::counting::{check_target, expect, seen_by};
-use crate::samples::{PairRow, table_of, union_of};
+use crate::counting::{keeps_to_bounds, seen_by};
+use crate::samples::{table_of, union_of};
 use s2id_union::CellUnion;
+use s2ix_bag::Held;
 use s2ix_chain::ChainTable;
 use s2ix_copied::CopiedTable;
 use s2ix_faced::FacedTable;
 use s2ix_table::{Cost, RangeTable};
 use std::alloc::Global;
-use std::test::Fail;
 
 // Pairs, the cells of a target, the call that answers false, and how many calls a visit makes, with the most that it may read.
 struct Worked {
     name: &'static str,
-    pairs: &'static [PairRow],
-    cells: &'static [&'static [u8]],
+    pairs: &'static str,
+    cells: &'static str,
     stop: usize,
     calls: usize,
     most: Cost,
@@ -22,8 +22,8 @@ struct Worked {
 const VISITS: [Worked; 4] = [
     Worked {
         name: "cells on both sides of a gap",
-        pairs: &[(b"1", 7), (b"04", 9), (b"1c", 2)],
-        cells: &[b"04", b"1c"],
+        pairs: "1:7:1 04:9:1 1c:2:1",
+        cells: "04 1c",
         stop: usize::MAX,
         calls: 3,
         most: Cost {
@@ -33,8 +33,8 @@ const VISITS: [Worked; 4] = [
     },
     Worked {
         name: "the second call answers false",
-        pairs: &[(b"1", 7), (b"04", 9), (b"1c", 2)],
-        cells: &[b"04", b"1c"],
+        pairs: "1:7:1 04:9:1 1c:2:1",
+        cells: "04 1c",
         stop: 2,
         calls: 2,
         most: Cost {
@@ -44,8 +44,8 @@ const VISITS: [Worked; 4] = [
     },
     Worked {
         name: "cells on two faces",
-        pairs: &[(b"04", 9), (b"5", 3), (b"44", 6), (b"4c", 1)],
-        cells: &[b"04", b"4c"],
+        pairs: "04:9:1 5:3:1 44:6:1 4c:1:1",
+        cells: "04 4c",
         stop: usize::MAX,
         calls: 3,
         most: Cost {
@@ -55,8 +55,8 @@ const VISITS: [Worked; 4] = [
     },
     Worked {
         name: "no pair",
-        pairs: &[],
-        cells: &[b"5"],
+        pairs: "",
+        cells: "5",
         stop: usize::MAX,
         calls: 0,
         most: Cost {
@@ -66,43 +66,44 @@ const VISITS: [Worked; 4] = [
     },
 ];
 
-fn check_cells<T: RangeTable>(
-    alloc: Global,
-    worked: &Worked,
+// Whether a visit of a target makes as many calls as it should, and reads no more than it may.
+fn reads_little<T: RangeTable>(
     table: &T,
     target: &CellUnion,
-) -> Result<(), Fail> {
-    let pairs = table.meeting(alloc, target)?;
-    check_target(&worked.name, table, target, &pairs)?;
-    let visit = seen_by(table, target, &pairs, worked.stop);
-    expect(
-        visit.calls == worked.calls,
-        &worked.name,
-        "how many calls there are",
-    )?;
-    expect(
-        visit.cost.looks <= worked.most.looks && visit.cost.probes <= worked.most.probes,
-        &worked.name,
-        "how much is read",
-    )
+    pairs: &[Held],
+    worked: &Worked,
+) -> bool {
+    let visit = seen_by(table, target, pairs, worked.stop);
+    visit.calls == worked.calls
+        && visit.cost.looks <= worked.most.looks
+        && visit.cost.probes <= worked.most.probes
 }
 
-fn check_visit<T: RangeTable + Drop>(alloc: Global, worked: &Worked) -> Result<(), Fail> {
+// Whether visits of a target of a table are the worked ones.
+fn are_worked<T: RangeTable>(
+    alloc: Global,
+    table: &T,
+    target: &CellUnion,
+    worked: &Worked,
+) -> Option<bool> {
+    let pairs = table.meeting(alloc, target).ok()?;
+    Some(keeps_to_bounds(table, target, &pairs) && reads_little(table, target, &pairs, worked))
+}
+
+// Whether visits of a kind of table of the pairs are the worked ones.
+fn is_worked<T: RangeTable + Drop>(alloc: Global, worked: &Worked) -> Option<bool> {
     let table: T = table_of(alloc, worked.pairs)?;
     let target = union_of(alloc, worked.cells)?;
-    check_cells(alloc, worked, &table, &target)
-}
-
-fn check_visits(alloc: Global, visits: &[Worked]) -> Result<(), Fail> {
-    for worked in visits {
-        check_visit::<CopiedTable>(alloc, worked)?;
-        check_visit::<ChainTable>(alloc, worked)?;
-        check_visit::<FacedTable>(alloc, worked)?;
-    }
-    Ok(())
+    are_worked(alloc, &table, &target, worked)
 }
 
 #[test]
-fn counted_visits_read_little(rt: HostRuntime) -> Result<(), Fail> {
-    check_visits(rt.alloc(), &VISITS)
+fn counted_visits_read_little(rt: HostRuntime) {
+    let alloc = rt.alloc();
+    for worked in &VISITS {
+        let same = is_worked::<CopiedTable>(alloc, worked) == Some(true)
+            && is_worked::<ChainTable>(alloc, worked) == Some(true)
+            && is_worked::<FacedTable>(alloc, worked) == Some(true);
+        assert!(rt; same, "wrong at {}", worked.name);
+    }
 }
