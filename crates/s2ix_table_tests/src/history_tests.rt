@@ -1,7 +1,7 @@
 // Tables of faces along random histories: built again after each change, and compared with tables of copied lists and with a filter.
 ghost use Rattle.std.specs.Prelude.{◌≡◌};
 
-use crate::filter_tests::{LABELS, check_built, check_table};
+use crate::filter_tests::{LABELS, answers_as_filter, is_built_so};
 use s2id_samples::Random;
 use s2ix_bag::{Bag, Change, Held, Limits};
 use s2ix_copied::CopiedTable;
@@ -11,7 +11,6 @@ use s2ix_samples::{nested_bag, with_more};
 use s2ix_table::RangeTable;
 use std::alloc::Global;
 use std::marker::Model;
-use std::test::Fail;
 
 // A bag, and the table to which the changes of its history have led.
 #[derive(Drop)]
@@ -33,20 +32,18 @@ impl Model for Led {
 
 impl Led {
     // The start of a history: a bag with the table that is built of it.
-    fn from_bag(alloc: Global, bag: Bag) -> Result<Led, Fail> {
-        let table = FacedTable::build(alloc, &bag)?;
-        Ok(Led { bag, table })
+    fn from_bag(alloc: Global, bag: Bag) -> Option<Led> {
+        let table = FacedTable::build(alloc, &bag).ok()?;
+        Some(Led { bag, table })
     }
 
     // One change on: the bag that it makes, the table built again, and how many pairs were read for it.
-    fn after(&self, alloc: Global, change: &Change) -> Result<(Led, u64), Fail> {
-        let Ok(bag) = self.bag.applied(alloc, change) else {
-            return Err(Fail::new("the change is not applied"));
-        };
+    fn after(&self, alloc: Global, change: &Change) -> Option<(Led, u64)> {
+        let bag = self.bag.applied(alloc, change).ok()?;
         let mut reader = BagReader::new(&bag);
-        let table = self.table.rebuilt(alloc, &mut reader, change)?;
+        let table = self.table.rebuilt(alloc, &mut reader, change).ok()?;
         let reads = reader.reads();
-        Ok((Led { bag, table }, reads))
+        Some((Led { bag, table }, reads))
     }
 }
 
@@ -58,62 +55,68 @@ struct Changes {
 }
 
 impl Changes {
-    // A step back, if there is one.
-    fn back(&mut self, alloc: Global) -> Result<Option<Change>, Fail> {
-        let Some(change) = self.done.pop() else {
-            return Ok(None);
-        };
-        let back = change.inverse(alloc)?;
-        self.undone.push(change)?;
-        Ok(Some(back))
+    // No change yet.
+    fn new(alloc: Global) -> Changes {
+        Changes {
+            done: Vec::new(alloc),
+            undone: Vec::new(alloc),
+        }
     }
 
-    // A step forth, if there is one.
-    fn forth(&mut self) -> Result<Option<Change>, Fail> {
-        let Some(change) = self.undone.pop() else {
-            return Ok(None);
-        };
-        self.done.push(change.clone()?)?;
-        Ok(Some(change))
+    // A step back, which there is.
+    fn back(&mut self, alloc: Global) -> Option<Change> {
+        let change = self.done.pop()?;
+        let back = change.inverse(alloc).ok()?;
+        self.undone.push(change).ok()?;
+        Some(back)
+    }
+
+    // A step forth, which there is.
+    fn forth(&mut self) -> Option<Change> {
+        let change = self.undone.pop()?;
+        let forth = change.clone().ok()?;
+        self.done.push(change).ok()?;
+        Some(forth)
     }
 
     // A change to other pairs.
-    fn onto(&mut self, alloc: Global, bag: &Bag, other: &Bag) -> Result<Change, Fail> {
-        let change = Change::between(alloc, bag, other)?;
+    fn onto(&mut self, alloc: Global, bag: &Bag, other: &Bag) -> Option<Change> {
+        let change = Change::between(alloc, bag, other).ok()?;
         self.undone.clear();
-        self.done.push(change.clone()?)?;
-        Ok(change)
+        let onto = change.clone().ok()?;
+        self.done.push(change).ok()?;
+        Some(onto)
     }
 
     // A random step: back, forth, or to other pairs on some faces.
-    fn next(&mut self, alloc: Global, random: &mut Random, bag: &Bag) -> Result<Change, Fail> {
-        let step = match random.below(4) {
-            0 => self.back(alloc)?,
-            1 => self.forth()?,
-            _ => None,
-        };
-        match step {
-            Some(change) => Ok(change),
-            None => self.onto(alloc, bag, &other_bag(alloc, random, bag)?),
+    fn next(&mut self, alloc: Global, random: &mut Random, bag: &Bag) -> Option<Change> {
+        let step = random.below(4);
+        if step == 0 && !self.done.is_empty() {
+            self.back(alloc)
+        } else if step == 1 && !self.undone.is_empty() {
+            self.forth()
+        } else {
+            let other = other_bag(alloc, random, bag)?;
+            self.onto(alloc, bag, &other)
         }
     }
 }
 
 // Adds the pairs of a bag that lie on the faces of a set, or those that don't, to another one.
-fn with_faces(alloc: Global, bag: &Bag, more: &Bag, faces: u64, within: bool) -> Result<Bag, Fail> {
-    let mut bag = bag.copied(alloc)?;
+fn with_faces(alloc: Global, bag: Bag, more: &Bag, faces: u64, within: bool) -> Option<Bag> {
+    let mut bag = bag;
     for k in 0..more.len() {
         let held = more.held(k);
         if is_on(held, faces) == within {
-            bag = with_more(alloc, &bag, held).ok_or("no bag")?;
+            bag = with_more(alloc, &bag, held)?;
         }
     }
-    Ok(bag)
+    Some(bag)
 }
 
 // The set of one face: face k is the bit 2^k.
 fn only(face: u8) -> u64 {
-    1u64.checked_shl(u32::from(face)).unwrap_or(0)
+    1u64.wrapping_shl(u32::from(face))
 }
 
 // Whether a pair lies on a face of a set.
@@ -121,30 +124,35 @@ fn is_on(held: Held, faces: u64) -> bool {
     faces & only(held.pair.cell.face()) != 0
 }
 
-// A bag with other pairs on some faces, or with none: on one, on several, or on all.
-fn other_bag(alloc: Global, random: &mut Random, bag: &Bag) -> Result<Bag, Fail> {
-    let faces = if random.below(2) == 0 {
+// Some faces: one, several, all or none.
+fn some_faces(random: &mut Random) -> u64 {
+    if random.below(2) == 0 {
         only(u8::try_from(random.below(6)).unwrap_or(0))
     } else {
         random.below(64)
-    };
-    let fresh = nested_bag(alloc, random, 30, u64::from(LABELS)).ok_or("no bag")?;
-    let other = with_faces(
-        alloc,
-        &Bag::empty(alloc, Limits::default()),
-        bag,
-        faces,
-        false,
-    )?;
-    with_faces(alloc, &other, &fresh, faces, true)
+    }
 }
 
-// How many pairs of a bag lie on faces on which a change has entries.
-fn pairs_changed(bag: &Bag, change: &Change) -> u64 {
+// A bag with other pairs on some faces, or with none.
+fn other_bag(alloc: Global, random: &mut Random, bag: &Bag) -> Option<Bag> {
+    let faces = some_faces(random);
+    let fresh = nested_bag(alloc, random, 30, u64::from(LABELS))?;
+    let empty = Bag::empty(alloc, Limits::default());
+    let other = with_faces(alloc, empty, bag, faces, false)?;
+    with_faces(alloc, other, &fresh, faces, true)
+}
+
+// The faces on which a change has entries.
+fn faces_of(change: &Change) -> u64 {
     let mut faces = 0u64;
     for entry in change.entries() {
         faces |= only(entry.pair.cell.face());
     }
+    faces
+}
+
+// How many pairs of a bag lie on the faces of a set.
+fn pairs_on(bag: &Bag, faces: u64) -> u64 {
     let mut count = 0u64;
     for k in 0..bag.len() {
         if is_on(bag.held(k), faces) {
@@ -159,41 +167,46 @@ fn digits(number: usize) -> u64 {
     u64::from(usize::BITS.saturating_sub(number.leading_zeros()))
 }
 
-// Fails where a change read fewer pairs than lie on its faces, or more than those and a search for the ends of each face.
-fn check_reads(bag: &Bag, change: &Change, reads: u64) -> Result<(), Fail> {
-    let least = pairs_changed(bag, change);
+// Whether a change read no fewer pairs than lie on its faces, and no more than those and a search for the ends of each face.
+fn reads_well(bag: &Bag, change: &Change, reads: u64) -> bool {
+    let least = pairs_on(bag, faces_of(change));
     let most = least.saturating_add(digits(bag.len().wrapping_add(1)).saturating_mul(12));
-    if least <= reads && reads <= most {
-        Ok(())
+    least <= reads && reads <= most
+}
+
+// Whether the tables of a bag answer as a filter of its pairs: the one to which its history led, and one of copied lists.
+fn both_answer(alloc: Global, led: &Led, random: &mut Random) -> bool {
+    answers_as_filter(alloc, &led.table, &led.bag, random)
+        && is_built_so::<CopiedTable>(alloc, &led.bag, random)
+}
+
+// One random step on, if it reads few pairs and leads to tables that answer as they should.
+fn stepped(alloc: Global, random: &mut Random, changes: &mut Changes, led: &Led) -> Option<Led> {
+    let change = changes.next(alloc, random, &led.bag)?;
+    let (next, reads) = led.after(alloc, &change)?;
+    if reads_well(&next.bag, &change, reads) && both_answer(alloc, &next, random) {
+        Some(next)
     } else {
-        Err(Fail::new(format_args!("{reads} reads, and not {least} to {most}")))
+        None
     }
 }
 
-// Compares the tables of a bag with a filter of its pairs: the one to which its history led, and one of copied lists.
-fn check_led(alloc: Global, number: usize, led: &Led, random: &mut Random) -> Result<(), Fail> {
-    check_built(alloc, number, &led.table, &led.bag, random)?;
-    check_table::<CopiedTable>(alloc, number, &led.bag, random)
+// Whether a random history of forty steps leads to tables that answer as they should.
+fn leads_well(alloc: Global, random: &mut Random) -> Option<bool> {
+    let bag = nested_bag(alloc, random, 30, u64::from(LABELS))?;
+    let mut led = Led::from_bag(alloc, bag)?;
+    let mut changes = Changes::new(alloc);
+    for _ in 0..40 {
+        led = stepped(alloc, random, &mut changes, &led)?;
+    }
+    Some(true)
 }
 
 #[test]
-fn tables_follow_random_histories(rt: HostRuntime) -> Result<(), Fail> {
-    let alloc = rt.alloc();
+fn tables_follow_random_histories(rt: HostRuntime) {
     let mut random = Random::new(16);
-    for _ in 0..6 {
-        let bag = nested_bag(alloc, &mut random, 30, u64::from(LABELS)).ok_or("no bag")?;
-        let mut led = Led::from_bag(alloc, bag)?;
-        let mut changes = Changes {
-            done: Vec::new(alloc),
-            undone: Vec::new(alloc),
-        };
-        for number in 0..40 {
-            let change = changes.next(alloc, &mut random, &led.bag)?;
-            let (next, reads) = led.after(alloc, &change)?;
-            check_reads(&next.bag, &change, reads)?;
-            check_led(alloc, number, &next, &mut random)?;
-            led = next;
-        }
+    for number in 0..6 {
+        let same = leads_well(rt.alloc(), &mut random);
+        assert!(rt; same == Some(true), "wrong in history {number}");
     }
-    Ok(())
 }
