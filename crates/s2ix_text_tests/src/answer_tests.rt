@@ -1,7 +1,6 @@
 // Answers of one line, by their calls with no script.
-use crate::texts::{Row, Text, check_all};
+use crate::texts::{Row, Text, first_wrong};
 use s2id_cube::FaceIj;
-use std::test::Fail;
 
 // The square of the cell 1d.
 const SQUARE: FaceIj = FaceIj {
@@ -53,6 +52,7 @@ const ANSWERS: [Row; 6] = [
 ];
 
 #[test]
-fn an_answer_is_one_line(rt: HostRuntime) -> Result<(), Fail> {
-    check_all(rt.alloc(), &ANSWERS)
+fn an_answer_is_one_line(rt: HostRuntime) {
+    let wrong = first_wrong(rt.alloc(), &ANSWERS);
+    assert!(rt; wrong.is_none(), "wrong at row {wrong:?}");
 }

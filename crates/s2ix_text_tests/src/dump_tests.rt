@@ -1,6 +1,5 @@
 // Dumps by their call, with no script.
-use crate::texts::{Row, Text, check_all};
-use std::test::Fail;
+use crate::texts::{Row, Text, first_wrong};
 
 const DUMPS: [Row; 2] = [
     // the pairs rise
@@ -20,6 +19,7 @@ const DUMPS: [Row; 2] = [
 ];
 
 #[test]
-fn a_dump_lists_the_pairs_in_rising_order(rt: HostRuntime) -> Result<(), Fail> {
-    check_all(rt.alloc(), &DUMPS)
+fn a_dump_lists_the_pairs_in_rising_order(rt: HostRuntime) {
+    let wrong = first_wrong(rt.alloc(), &DUMPS);
+    assert!(rt; wrong.is_none(), "wrong at row {wrong:?}");
 }

@@ -1,6 +1,5 @@
 // Journals by their call, with no script.
-use crate::texts::{Row, Text, check_all};
-use std::test::Fail;
+use crate::texts::{Row, Text, first_wrong};
 
 // Three collections.
 const ONE: &str = "04:9:2";
@@ -38,6 +37,7 @@ const JOURNALS: [Row; 3] = [
 ];
 
 #[test]
-fn a_journal_lists_the_changes_from_the_oldest(rt: HostRuntime) -> Result<(), Fail> {
-    check_all(rt.alloc(), &JOURNALS)
+fn a_journal_lists_the_changes_from_the_oldest(rt: HostRuntime) {
+    let wrong = first_wrong(rt.alloc(), &JOURNALS);
+    assert!(rt; wrong.is_none(), "wrong at row {wrong:?}");
 }

@@ -1,6 +1,5 @@
 // Lists of pairs, labels, cells and entries, contents of leaves, what meets targets, and ranges of tables, by their calls with no script.
-use crate::texts::{Row, Text, check_all};
-use std::test::Fail;
+use crate::texts::{Row, Text, first_wrong};
 
 // A face under label 7, and a cell in it under label 9, twice.
 const NESTED: &str = "1:7:1 04:9:2";
@@ -92,6 +91,7 @@ const LISTS: [Row; 9] = [
 ];
 
 #[test]
-fn a_list_has_its_items_and_its_end(rt: HostRuntime) -> Result<(), Fail> {
-    check_all(rt.alloc(), &LISTS)
+fn a_list_has_its_items_and_its_end(rt: HostRuntime) {
+    let wrong = first_wrong(rt.alloc(), &LISTS);
+    assert!(rt; wrong.is_none(), "wrong at row {wrong:?}");
 }

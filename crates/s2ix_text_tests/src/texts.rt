@@ -12,10 +12,8 @@ use s2ix_text::{
     write_neighbors, write_no, write_ok, write_path, write_ranges, write_square,
 };
 use std::alloc::Global;
-use std::test::Fail;
 
 // A text that goes out.
-#[derive(Clone, Copy)]
 pub(crate) enum Text {
     // The dump of a bag.
     Dump(&'static str),
@@ -134,32 +132,51 @@ fn write_ranges_of(alloc: Global, pairs: &str, sink: &mut KeepingSink) -> Option
     Some(write_ranges(&table, sink).is_ok())
 }
 
-// Writes a text, and tells whether its writer reports that all of it went out.
-fn write(alloc: Global, text: Text, sink: &mut KeepingSink) -> Option<bool>
+// Writes the line of an answer, and tells whether its writer reports that all of it went out.
+fn write_answer(text: &Text, sink: &mut KeepingSink) -> Option<bool>
     requires { CanCount (⟦<KeepingSink as Sink>⟧.fault_count sink.old) }
 {
-    match text {
+    match *text {
+        Text::Label(number) => Some(label_of(number)?.write_line(sink).is_ok()),
+        Text::Ok(pairs) => Some(write_ok(pairs, sink).is_ok()),
+        Text::No(name) => Some(write_no(name, sink).is_ok()),
+        Text::Path(token) => Some(write_path(cell_of(token)?, sink).is_ok()),
+        Text::Neighbors(token) => Some(write_neighbors(cell_of(token)?, sink).is_ok()),
+        Text::Square(square) => Some(write_square(square, sink).is_ok()),
+        _ => None,
+    }
+}
+
+// Writes what a table answers, or else an answer, and tells whether its writer reports that all of it went out.
+fn write_answers(alloc: Global, text: &Text, sink: &mut KeepingSink) -> Option<bool>
+    requires { CanCount (⟦<KeepingSink as Sink>⟧.fault_count sink.old) }
+{
+    match *text {
+        Text::Contents(pairs, token) => write_contents_over(alloc, pairs, token, sink),
+        Text::Meeting(pairs, tokens) => write_meeting_of(alloc, pairs, tokens, sink),
+        Text::Ranges(pairs) => write_ranges_of(alloc, pairs, sink),
+        _ => write_answer(text, sink),
+    }
+}
+
+// Writes a text, and tells whether its writer reports that all of it went out.
+fn write(alloc: Global, text: &Text, sink: &mut KeepingSink) -> Option<bool>
+    requires { CanCount (⟦<KeepingSink as Sink>⟧.fault_count sink.old) }
+{
+    match *text {
         Text::Dump(pairs) => write_dump_of(alloc, pairs, sink),
         Text::Journal(steps) => write_journal_of(alloc, steps, sink),
         Text::Pairs(pairs) => write_pairs(alloc, pairs, sink),
         Text::Labels(numbers) => write_labels(alloc, numbers, sink),
         Text::Cells(tokens) => write_cells(alloc, tokens, sink),
         Text::Entries(step) => write_entries(alloc, step, sink),
-        Text::Label(number) => Some(label_of(number)?.write_line(sink).is_ok()),
-        Text::Contents(pairs, token) => write_contents_over(alloc, pairs, token, sink),
-        Text::Meeting(pairs, tokens) => write_meeting_of(alloc, pairs, tokens, sink),
-        Text::Ranges(pairs) => write_ranges_of(alloc, pairs, sink),
-        Text::Ok(pairs) => Some(write_ok(pairs, sink).is_ok()),
-        Text::No(name) => Some(write_no(name, sink).is_ok()),
-        Text::Path(token) => Some(write_path(cell_of(token)?, sink).is_ok()),
-        Text::Neighbors(token) => Some(write_neighbors(cell_of(token)?, sink).is_ok()),
-        Text::Square(square) => Some(write_square(square, sink).is_ok()),
+        _ => write_answers(alloc, text, sink),
     }
 }
 
 // Writes texts up to the first whose writer reports a fault, and tells whether none does.
 fn write_all(alloc: Global, texts: &[Text], sink: &mut KeepingSink) -> Option<bool> {
-    for &text in texts {
+    for text in texts {
         if sink.faults() > 0 || !write(alloc, text, sink)? {
             return Some(false);
         }
@@ -167,21 +184,20 @@ fn write_all(alloc: Global, texts: &[Text], sink: &mut KeepingSink) -> Option<bo
     Some(true)
 }
 
-fn check_row(alloc: Global, place: usize, row: &Row) -> Result<(), Fail> {
+// Whether a sink keeps what it should of a row, and its writers and the sink report a fault where a call fails, and only there.
+fn is_kept(alloc: Global, row: &Row) -> bool {
     let mut sink = KeepingSink::new(alloc, row.put_len, row.fault_at, true);
-    let is_whole = write_all(alloc, row.texts, &mut sink).ok_or("a row is no text")?;
+    let is_whole = write_all(alloc, row.texts, &mut sink);
     let faults = u64::from(row.fault_at > 0);
-    if sink.kept() == row.kept && sink.faults() == faults && is_whole == (faults == 0) {
-        Ok(())
-    } else {
-        Err(Fail::new(format_args!("row {place}")))
-    }
+    is_whole == Some(faults == 0) && sink.faults() == faults && sink.kept() == row.kept
 }
 
-// Writes the texts of each row. Their writers and the sink report a fault where a call fails, and only there.
-pub(crate) fn check_all(alloc: Global, rows: &[Row]) -> Result<(), Fail> {
+// The place of the first row of which a sink keeps something else.
+pub(crate) fn first_wrong(alloc: Global, rows: &[Row]) -> Option<usize> {
     for (place, row) in rows.iter().enumerate() {
-        check_row(alloc, place, row)?;
+        if !is_kept(alloc, row) {
+            return Some(place);
+        }
     }
-    Ok(())
+    None
 }
