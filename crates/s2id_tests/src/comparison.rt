@@ -3,7 +3,6 @@ use s2id_core::CellId;
 use s2id_cube::{edge_neighbors, from_face_ij, to_face_ij};
 use s2id_samples::{Point, point_of};
 use std::alloc::Global;
-use std::process::Abort;
 
 // The two ends of a side.
 #[derive(Clone, Copy)]
@@ -23,18 +22,16 @@ fn side_between(start: Point, end: Point) -> Side {
     Side { start, end }
 }
 
-// The cell in column `i` and row `j` of a face's grid. Its square is the one that it was made from.
-fn cell_in(rt: &impl Abort, face: u8, i: u8, j: u8, level: u8) -> CellId {
-    let cell = from_face_ij(face, i as u32, j as u32, level).expect(rt, "a cell");
+// The cell in column `i` and row `j` of a face's grid, if its square is the one that it was made from.
+fn cell_in(face: u8, i: u8, j: u8, level: u8) -> Option<CellId> {
+    let (i, j) = (u32::from(i), u32::from(j));
+    let cell = from_face_ij(face, i, j, level)?;
     let square = to_face_ij(cell);
-    assert!(rt;
-        square.face == face
-            && square.i == i as u32
-            && square.j == j as u32
-            && square.level == level,
-        "another square of {cell}"
-    );
-    cell
+    if square.face == face && square.i == i && square.j == j && square.level == level {
+        Some(cell)
+    } else {
+        None
+    }
 }
 
 // The sides of the square in column `i` and row `j` of a face's grid.
@@ -54,32 +51,36 @@ fn sides_of(face: u8, level: u8, i: u8, j: u8) -> [Side; 4] {
 }
 
 // Appends each cell of a face's grid of `n` squares a side.
-fn push_cells(rt: &impl Abort, all: &mut Vec<Sided>, face: u8, level: u8, n: u8) {
+fn push_cells(all: &mut Vec<Sided>, face: u8, level: u8, n: u8) -> Option<()> {
     for i in 0..n {
         for j in 0..n {
-            let cell = cell_in(rt, face, i, j, level);
+            let cell = cell_in(face, i, j, level)?;
             let sides = sides_of(face, level, i, j);
-            all.push(Sided { cell, sides }).expect(rt, "memory");
+            all.push(Sided { cell, sides }).ok()?;
         }
     }
+    Some(())
 }
 
 // Each cell of a level of at most 7.
-fn cells_of_level(rt: &impl Abort, alloc: Global, level: u8) -> Vec<Sided> {
-    assert!(rt; level < 8);
+fn cells_of_level(alloc: Global, level: u8) -> Option<Vec<Sided>> {
+    let n = 1u8.checked_shl(u32::from(level))?;
     let mut all = Vec::new(alloc);
     for face in 0..6 {
-        push_cells(rt, &mut all, face, level, 1 << level);
+        push_cells(&mut all, face, level, n)?;
     }
-    all
+    Some(all)
+}
+
+// Whether a side has these ends, in either order.
+fn is_between(side: &Side, a: Point, b: Point) -> bool {
+    side.start == a && side.end == b || side.start == b && side.end == a
 }
 
 // Whether one of the cell's sides has these ends.
 fn has_side(cell: &Sided, a: Point, b: Point) -> bool {
-    for k in 0..4 {
-        let start = cell.sides[k].start;
-        let end = cell.sides[k].end;
-        if start == a && end == b || start == b && end == a {
+    for side in &cell.sides {
+        if is_between(side, a, b) {
             return true;
         }
     }
@@ -99,26 +100,22 @@ fn others_at(all: &[Sided], own: CellId, a: Point, b: Point) -> (usize, CellId) 
     (count, found)
 }
 
-// Compares the neighbours of a cell with the one other cell that has each of its sides.
-fn check_neighbors(rt: &impl Abort, all: &[Sided], own: &Sided) {
-    let neighbors = edge_neighbors(own.cell);
-    for k in 0..4 {
-        let Side { start, end } = own.sides[k];
-        let (count, other) = others_at(all, own.cell, start, end);
-        assert!(rt;
-            count == 1 && other == neighbors[k],
-            "over side {k} of {}",
-            own.cell
-        );
+// Whether the neighbours of a cell are the one other cell each that has one of its sides.
+fn has_neighbors(all: &[Sided], own: &Sided) -> bool {
+    for (side, &neighbor) in own.sides.iter().zip(&edge_neighbors(own.cell)) {
+        if others_at(all, own.cell, side.start, side.end) != (1, neighbor) {
+            return false;
+        }
     }
+    true
 }
 
 #[test]
 fn neighbors_have_the_ends_of_a_side(rt: HostRuntime) {
     for level in 0..5 {
-        let all = cells_of_level(&rt, rt.alloc(), level);
+        let all = cells_of_level(rt.alloc(), level).expect(&rt, "cells");
         for own in &all {
-            check_neighbors(&rt, &all, own);
+            assert!(rt; has_neighbors(&all, own), "wrong at {}", own.cell);
         }
     }
 }

@@ -1,7 +1,7 @@
 // Cells over the sides of cells.
-use crate::samples::{cell_of, check_cells};
+use crate::samples::are_cells;
 use s2id_cube::edge_neighbors;
-use std::process::Abort;
+use s2id_samples::cell_of;
 
 // Cells with those that lie down, right, up and left of them, by their tokens: whole faces, corners and edges of the cube, the middle of a
 // face, leaves and coarser cells.
@@ -56,13 +56,17 @@ const NEIGHBORS: [(&str, &str); 21] = [
     ),
 ];
 
-fn check_neighbors(rt: &impl Abort, rows: &[(&str, &str)]) {
-    for (token, sides) in rows {
-        check_cells(rt, &edge_neighbors(cell_of(rt, token)), sides);
+// Whether the cell that a token names has these cells over its sides.
+fn has_neighbors(token: &str, sides: &str) -> bool {
+    match cell_of(token) {
+        Some(cell) => are_cells(&edge_neighbors(cell), sides),
+        None => false,
     }
 }
 
 #[test]
 fn neighbors_lie_down_right_up_left(rt: HostRuntime) {
-    check_neighbors(&rt, &NEIGHBORS);
+    for &(token, sides) in &NEIGHBORS {
+        assert!(rt; has_neighbors(token, sides), "wrong at {token}");
+    }
 }

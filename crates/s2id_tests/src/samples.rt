@@ -1,38 +1,29 @@
-//! Cells by their tokens, and the comparison of a row. Each call ends the test where it can't answer, and names the row.
+//! Cells by their tokens, which `None` stands for where a row has no token.
 use s2id_core::CellId;
-use std::alloc::Global;
-use std::fmt::Debug;
-use std::process::Abort;
+use s2id_samples::cell_of;
 
-// Ends the test where what came out is not what is wanted, with the row's name and what came out.
-pub(crate) fn check_same<T: PartialEq + Debug>(rt: &impl Abort, found: &T, wanted: &T, row: &str) {
-    assert!(rt; found == wanted, "wrong at {row}: {found:?}");
-}
-
-// The cell that a token names.
-pub(crate) fn cell_of(rt: &impl Abort, token: &str) -> CellId {
-    s2id_samples::cell_of(token).expect(rt, token)
-}
-
-// The cell that a token names; none for no token.
-pub(crate) fn cell_or_none(rt: &impl Abort, token: &str) -> Option<CellId> {
+// Whether a cell is the one that a token names; no token, none.
+pub(crate) fn is_cell_or_none(cell: Option<CellId>, token: &str) -> bool {
     if token.is_empty() {
-        None
+        cell.is_none()
     } else {
-        Some(cell_of(rt, token))
+        cell.is_some() && cell == cell_of(token)
     }
 }
 
-// The cells that some tokens name, which have spaces between them.
-pub(crate) fn cells_of(rt: &impl Abort, alloc: Global, tokens: &str) -> Vec<CellId> {
-    s2id_samples::cells_of(alloc, tokens).expect(rt, tokens)
+// Whether a cell is the one that a token names.
+pub(crate) fn is_cell(cell: CellId, token: &str) -> bool {
+    cell_of(token) == Some(cell)
 }
 
-// Compares some cells with those that the tokens name, in their order.
-pub(crate) fn check_cells(rt: &impl Abort, cells: &[CellId], tokens: &str) {
+// Whether some cells are those that the tokens name, in their order.
+pub(crate) fn are_cells(cells: &[CellId], tokens: &str) -> bool {
     let mut left = cells.iter();
     for token in tokens.split_ascii_whitespace() {
-        check_same(rt, &left.next(), &Some(&cell_of(rt, token)), tokens);
+        match left.next() {
+            Some(&cell) if is_cell(cell, token) => {}
+            _ => return false,
+        }
     }
-    check_same(rt, &left.next(), &None, tokens);
+    left.next().is_none()
 }

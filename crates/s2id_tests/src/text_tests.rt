@@ -1,7 +1,7 @@
 // Tokens, digits and paths of cells, as they are written and read.
-use crate::samples::{cell_of, cell_or_none, check_same};
+use crate::samples::is_cell_or_none;
 use s2id_core::{CellId, TokenError, sixteen_digits};
-use std::process::Abort;
+use s2id_samples::cell_of;
 
 // Numbers of cells, with their tokens.
 const TOKENS: [(u64, &str); 6] = [
@@ -13,24 +13,27 @@ const TOKENS: [(u64, &str); 6] = [
     (0xbfffffffffffffff, "bfffffffffffffff"),
 ];
 
-fn check_tokens(rt: &impl Abort, rows: &[(u64, &str)]) {
-    for &(raw, token) in rows {
-        let cell = cell_of(rt, token);
-        check_same(rt, &CellId::from_raw(raw), &Some(cell), token);
-        check_same(rt, &cell.token().as_bytes(), &token.as_bytes(), token);
+// Whether the cell that a token names has a number and writes that token.
+fn has_token(raw: u64, token: &str) -> bool {
+    match cell_of(token) {
+        Some(cell) => cell.raw() == raw && cell.token().as_bytes() == token.as_bytes(),
+        None => false,
     }
 }
 
 #[test]
 fn token_is_canonical(rt: HostRuntime) {
-    check_tokens(&rt, &TOKENS);
+    for &(raw, token) in &TOKENS {
+        assert!(rt; has_token(raw, token), "wrong at {token}");
+        assert!(rt; CellId::from_raw(raw) == cell_of(token), "wrong at {token}");
+    }
 }
 
 #[test]
 fn from_token_reads_either_case(rt: HostRuntime) {
-    for token in ["bc", "BC", "Bc000"] {
-        check_same(&rt, &cell_of(&rt, token).raw(), &0xbc00000000000000, token);
-    }
+    let cell = CellId::from_raw(0xbc00000000000000);
+    assert!(rt; cell.is_some() && cell_of("bc") == cell);
+    assert!(rt; cell_of("BC") == cell && cell_of("Bc000") == cell);
 }
 
 // Texts that name no cell, each with its fault.
@@ -43,58 +46,33 @@ const FAULTS: [(&str, TokenError); 6] = [
     ("c1", TokenError::NotACell),
 ];
 
-fn check_faults(rt: &impl Abort, rows: &[(&str, TokenError)]) {
-    for &(text, fault) in rows {
-        check_same(rt, &CellId::from_token(text.as_bytes()), &Err(fault), text);
-    }
-}
-
 #[test]
 fn from_token_names_each_fault(rt: HostRuntime) {
-    check_faults(&rt, &FAULTS);
+    for &(text, fault) in &FAULTS {
+        let found = CellId::from_token(text.as_bytes()).err();
+        assert!(rt; found == Some(fault), "wrong at {text}");
+    }
 }
 
 #[test]
 fn faults_have_texts(rt: HostRuntime) {
     let text = format!(in rt.alloc(); "{}", TokenError::NotHex(1)).expect(&rt, "memory");
-    check_same(
-        &rt,
-        &text.as_str(),
-        &"byte 1 of the token is no hexadecimal digit",
-        "NotHex(1)",
-    );
+    assert!(rt; text.as_str() == "byte 1 of the token is no hexadecimal digit");
 }
 
 #[test]
 fn digits_of_bounds(rt: HostRuntime) {
-    for (number, digits) in [
-        (1, "0000000000000001"),
-        (0xc000000000000001, "c000000000000001"),
-        (0x0123456789abcdef, "0123456789abcdef"),
-    ] {
-        check_same(
-            &rt,
-            &sixteen_digits(number).as_slice(),
-            &digits.as_bytes(),
-            digits,
-        );
-    }
+    assert!(rt; &sixteen_digits(1) == b"0000000000000001");
+    assert!(rt; &sixteen_digits(0xc000000000000001) == b"c000000000000001");
+    assert!(rt; &sixteen_digits(0x0123456789abcdef) == b"0123456789abcdef");
 }
 
 #[test]
 fn from_path_reads_digits(rt: HostRuntime) {
-    for (face, digits, token) in [
-        (0, [3, 2].as_slice(), "1d"),
-        (6, &[], ""),
-        (0, &[4], ""),
-        (0, &[0; 31], ""),
-    ] {
-        let cell = CellId::from_path(face, digits);
-        assert!(rt;
-            cell == cell_or_none(&rt, token),
-            "wrong at {face}/{digits:?}"
-        );
-    }
+    assert!(rt; is_cell_or_none(CellId::from_path(0, &[3, 2]), "1d"));
+    assert!(rt; CellId::from_path(6, &[]).is_none());
+    assert!(rt; CellId::from_path(0, &[4]).is_none());
+    assert!(rt; CellId::from_path(0, &[0; 31]).is_none());
 }
 
 // Tokens of cells, with the texts of their paths.
@@ -112,18 +90,17 @@ const PATHS: [(&str, &str); 11] = [
     ("bfffffffffffffff", "5/333333333333333333333333333333"),
 ];
 
-fn check_paths(rt: &impl Abort, rows: &[(&str, &str)]) {
-    for (token, path) in rows {
-        check_same(
-            rt,
-            &cell_of(rt, token).path().as_bytes(),
-            &path.as_bytes(),
-            token,
-        );
+// Whether the cell that a token names has a path.
+fn has_path(token: &str, path: &str) -> bool {
+    match cell_of(token) {
+        Some(cell) => cell.path().as_bytes() == path.as_bytes(),
+        None => false,
     }
 }
 
 #[test]
 fn paths_of_tokens(rt: HostRuntime) {
-    check_paths(&rt, &PATHS);
+    for &(token, path) in &PATHS {
+        assert!(rt; has_path(token, path), "wrong at {token}");
+    }
 }

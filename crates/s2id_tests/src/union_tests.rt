@@ -1,30 +1,26 @@
 // Unions of cells, with answers worked out by hand.
-use crate::samples::{cell_of, cells_of, check_cells, check_same};
+use crate::samples::are_cells;
 use s2id_core::{CellId, LEAF_END};
+use s2id_samples::{cell_of, cells_of};
 use s2id_union::{CellUnion, RangeError};
 use std::alloc::Global;
-use std::process::Abort;
-
-// The union of some cells.
-fn union_of_cells(rt: &impl Abort, alloc: Global, cells: &[CellId]) -> CellUnion {
-    CellUnion::normalise(alloc, cells).expect(rt, "memory")
-}
 
 // The union of the cells that some tokens name.
-fn union_of(rt: &impl Abort, alloc: Global, tokens: &str) -> CellUnion {
-    union_of_cells(rt, alloc, &cells_of(rt, alloc, tokens))
+fn union_of(alloc: Global, tokens: &str) -> Option<CellUnion> {
+    let cells = cells_of(alloc, tokens)?;
+    CellUnion::normalise(alloc, &cells).ok()
 }
 
 // The union of a span of leaves.
-fn span_of(rt: &impl Abort, alloc: Global, start: u64, limit: u64) -> CellUnion {
-    CellUnion::from_leaves(alloc, start, limit).expect(rt, "a span of leaves")
+fn span_of(alloc: Global, start: u64, limit: u64) -> Option<CellUnion> {
+    CellUnion::from_leaves(alloc, start, limit).ok()
 }
 
 #[test]
 fn spans_are_the_fewest_cells(rt: HostRuntime) {
-    let union = span_of(&rt, rt.alloc(), 1, 0x0800000000000003);
+    let union = span_of(rt.alloc(), 1, 0x0800000000000003).expect(&rt, "a union");
     assert!(rt; union.leaf_count() == 288230376151711745);
-    check_cells(&rt, union.cells(), "04 0800000000000001");
+    assert!(rt; are_cells(union.cells(), "04 0800000000000001"));
 }
 
 #[test]
@@ -33,25 +29,31 @@ fn spans_are_of_leaf_numbers_alone(rt: HostRuntime) {
     assert!(rt; matches!(refused, Err(RangeError::BadRange)));
 }
 
-#[test]
-fn shortest_and_longest_spans(rt: HostRuntime) {
-    for (start, limit, count) in [(1, 1, 0), (3, LEAF_END - 2, 184)] {
-        let union = span_of(&rt, rt.alloc(), start, limit);
-        assert!(rt; union.cells().len() == count, "wrong at {start} to {limit}");
+// Whether a union has so many cells.
+fn has_count(union: Option<CellUnion>, count: usize) -> bool {
+    match &union {
+        Some(union) => union.cells().len() == count,
+        None => false,
     }
 }
 
+#[test]
+fn shortest_and_longest_spans(rt: HostRuntime) {
+    assert!(rt; has_count(span_of(rt.alloc(), 1, 1), 0));
+    assert!(rt; has_count(span_of(rt.alloc(), 3, LEAF_END - 2), 184));
+}
+
 // The union, the intersection and the difference of two unions.
-fn both_of(rt: &impl Abort, alloc: Global, left: &CellUnion, right: &CellUnion) -> CellUnion {
-    left.union(alloc, right).expect(rt, "memory")
+fn both_of(alloc: Global, left: &CellUnion, right: &CellUnion) -> Option<CellUnion> {
+    left.union(alloc, right).ok()
 }
 
-fn shared_of(rt: &impl Abort, alloc: Global, left: &CellUnion, right: &CellUnion) -> CellUnion {
-    left.intersection(alloc, right).expect(rt, "memory")
+fn shared_of(alloc: Global, left: &CellUnion, right: &CellUnion) -> Option<CellUnion> {
+    left.intersection(alloc, right).ok()
 }
 
-fn rest_of(rt: &impl Abort, alloc: Global, left: &CellUnion, right: &CellUnion) -> CellUnion {
-    left.difference(alloc, right).expect(rt, "memory")
+fn rest_of(alloc: Global, left: &CellUnion, right: &CellUnion) -> Option<CellUnion> {
+    left.difference(alloc, right).ok()
 }
 
 // Tokens of the cells of two unions, and of those of their union, of their intersection, and of the first without the second.
@@ -60,83 +62,96 @@ const OPERATIONS: [[&str; 5]; 2] = [
     ["1", "04 5", "1 5", "04", "0c 14 1c"],
 ];
 
-// Compares what two unions make.
-fn check_operations(rt: &impl Abort, alloc: Global, row: &[&str; 5]) {
-    let [left, right, both, shared, rest] = *row;
-    let left = union_of(rt, alloc, left);
-    let right = union_of(rt, alloc, right);
-    check_cells(rt, both_of(rt, alloc, &left, &right).cells(), both);
-    check_cells(rt, shared_of(rt, alloc, &left, &right).cells(), shared);
-    check_cells(rt, rest_of(rt, alloc, &left, &right).cells(), rest);
+// Whether a union has the cells that some tokens name.
+fn has_cells(union: Option<CellUnion>, tokens: &str) -> bool {
+    match &union {
+        Some(union) => are_cells(union.cells(), tokens),
+        None => false,
+    }
+}
+
+// Whether two unions make what they should.
+fn is_operation(alloc: Global, &[left, right, both, shared, rest]: &[&str; 5]) -> Option<bool> {
+    let left = union_of(alloc, left)?;
+    let right = union_of(alloc, right)?;
+    Some(
+        has_cells(both_of(alloc, &left, &right), both)
+            && has_cells(shared_of(alloc, &left, &right), shared)
+            && has_cells(rest_of(alloc, &left, &right), rest),
+    )
 }
 
 #[test]
 fn set_operations_are_those_on_leaves(rt: HostRuntime) {
     for row in &OPERATIONS {
-        check_operations(&rt, rt.alloc(), row);
+        assert!(rt;
+            is_operation(rt.alloc(), row) == Some(true),
+            "wrong at {}",
+            row[0]
+        );
     }
+}
+
+// Tokens of a union's cells and of a cell, whether the union contains the cell, and whether it intersects it.
+const RELATIONS: [(&str, &str, bool, bool); 3] = [
+    ("04 0c 14 1c", "04", true, true),
+    ("04", "1", false, true),
+    ("04", "1d", false, false),
+];
+
+// Whether a union contains a cell, and whether it intersects it.
+fn relation_of(alloc: Global, tokens: &str, token: &str) -> Option<(bool, bool)> {
+    let cell = cell_of(token)?;
+    let union = union_of(alloc, tokens)?;
+    Some((union.contains(cell), union.intersects(cell)))
 }
 
 #[test]
 fn unions_contain_their_cells(rt: HostRuntime) {
-    for (tokens, token, contains, intersects) in [
-        ("04 0c 14 1c", "04", true, true),
-        ("04", "1", false, true),
-        ("04", "1d", false, false),
-    ] {
-        let union = union_of(&rt, rt.alloc(), tokens);
-        let cell = cell_of(&rt, token);
-        check_same(&rt, &union.contains(cell), &contains, token);
-        check_same(&rt, &union.intersects(cell), &intersects, token);
+    for &(tokens, token, contains, intersects) in &RELATIONS {
+        let relation = relation_of(rt.alloc(), tokens, token);
+        assert!(rt;
+            relation == Some((contains, intersects)),
+            "wrong at {token}"
+        );
     }
 }
 
 // `count` leaves from the first on, each `step` leaf numbers behind the one before.
-fn leaves_at_steps(rt: &impl Abort, alloc: Global, count: u64, step: u64) -> CellUnion {
+fn leaves_at_steps(alloc: Global, count: u64, step: u64) -> Option<Vec<CellId>> {
     let mut cells = Vec::new(alloc);
     let mut raw = 1u64;
     for _ in 0..count {
-        let leaf = CellId::from_raw(raw).expect(rt, "a leaf's number");
-        cells.push(leaf).expect(rt, "memory");
+        cells.push(CellId::from_raw(raw)?).ok()?;
         raw = raw.wrapping_add(step);
     }
-    union_of_cells(rt, alloc, &cells)
+    Some(cells)
+}
+
+// The union of leaves at steps.
+fn union_at_steps(alloc: Global, count: u64, step: u64) -> Option<CellUnion> {
+    let cells = leaves_at_steps(alloc, count, step)?;
+    CellUnion::normalise(alloc, &cells).ok()
 }
 
 #[test]
 fn many_leaves_make_a_union(rt: HostRuntime) {
     // 200,000 = 3 * 4 ^ 8 + 3 * 4 ^ 5 + 4 ^ 4 + 4 ^ 3
-    let union = leaves_at_steps(&rt, rt.alloc(), 200000, 2);
-    assert!(rt; union.leaf_count() == 200000);
-    assert!(rt; union.cells().len() == 8);
+    let union = union_at_steps(rt.alloc(), 200000, 2).expect(&rt, "a union");
+    assert!(rt; union.leaf_count() == 200000 && union.cells().len() == 8);
 }
 
-// Compares how many cells a union has.
-fn check_count(rt: &impl Abort, union: &CellUnion, count: usize, name: &str) {
-    check_same(rt, &union.cells().len(), &count, name);
+// Whether the union, the intersection and the difference of two unions have 4500, 1500 and 1500 cells.
+fn has_counts(alloc: Global, left: &CellUnion, right: &CellUnion) -> bool {
+    has_count(both_of(alloc, left, right), 4500)
+        && has_count(shared_of(alloc, left, right), 1500)
+        && has_count(rest_of(alloc, left, right), 1500)
 }
 
 #[test]
 fn set_operations_on_thousands_of_cells(rt: HostRuntime) {
-    let first = leaves_at_steps(&rt, rt.alloc(), 3000, 8);
-    let second = leaves_at_steps(&rt, rt.alloc(), 3000, 16);
-    check_count(&rt, &first, 3000, "the first");
-    check_count(
-        &rt,
-        &both_of(&rt, rt.alloc(), &first, &second),
-        4500,
-        "the union",
-    );
-    check_count(
-        &rt,
-        &shared_of(&rt, rt.alloc(), &first, &second),
-        1500,
-        "the intersection",
-    );
-    check_count(
-        &rt,
-        &rest_of(&rt, rt.alloc(), &first, &second),
-        1500,
-        "the difference",
-    );
+    let first = union_at_steps(rt.alloc(), 3000, 8).expect(&rt, "a union");
+    let second = union_at_steps(rt.alloc(), 3000, 16).expect(&rt, "a union");
+    assert!(rt; first.cells().len() == 3000);
+    assert!(rt; has_counts(rt.alloc(), &first, &second));
 }
