@@ -1,23 +1,24 @@
 -- What clap was told of a command, as words are added to it.
-use Rattle.std.proofs.Common.{◌≡◌, ◌∙◌, ◌||◌, Bool, false, ap, ap₂}
-use Rattle.clap.specs.Words.{AddsArg, AddsSubcommand, App, Rule, Shape, app_of, rule_of, with_rule, with_subcommand}
+use Rattle.std.specs.Prelude.{IfOk}
+use Rattle.std.proofs.Common.{Ok, Result, subst, ◌≡◌, ◌∙◌, ◌||◌, Bool, false, ap, ap₂}
+use Rattle.clap.specs.Words.{AddsArg, AddsSubcommand, App, Rule, Shape, rule_of, with_rule, with_subcommand}
 use Rattle.clap.specs.declared.builder.Arg.{Arg}
 use Rattle.clap.specs.declared.builder.Command.{Command}
-use Rattle.clap.specs.declared.builder.Command.TheViews.{out-Command}
-use Rattle.s2ix_clap.specs.Tree.{IsSubcommand}
-
-abbrev pub Knows : App → Command → Type 0
-Knows words command = (app_of command ≡ words) × ((out-Command command).has_globals ≡ false)
+use Rattle.s2ix_clap.specs.Tree.{IsSubcommand, IsTold}
 
 pub with_argument : (words : App) (rule : Rule) (old : Command) (arg : Arg) (new : Command)
-    → Knows words old → rule_of arg ≡ rule → arg.global ≡ false → AddsArg old arg new → Knows (with_rule words rule) new
+    → IsTold words old → rule_of arg ≡ rule → arg.global ≡ false → AddsArg old arg new → IsTold (with_rule words rule) new
 with_argument words rule old arg new knows is local adds =
     (adds.shape local ∙ ap₂ with_rule knows.0 is, adds.globals ∙ ap₂ (λ (x y : Bool). x || y) knows.1 local)
 
 pub with_command : (words : App) (shape : Shape) (old sub new : Command)
-    → Knows words old → IsSubcommand shape sub → AddsSubcommand old sub new → Knows (with_subcommand words shape) new
+    → IsTold words old → IsSubcommand shape sub → AddsSubcommand old sub new → IsTold (with_subcommand words shape) new
 with_command words shape old sub new knows is adds =
     (adds.shape is.1 ∙ ap₂ with_subcommand knows.0 is.0, adds.globals ∙ ap₂ (λ (x y : Bool). x || y) knows.1 is.1)
 
-pub is_subcommand : (words : App) (command : Command) → Knows words command → IsSubcommand words.top command
+pub is_subcommand : (words : App) (command : Command) → IsTold words command → IsSubcommand words.top command
 is_subcommand words command knows = (ap (λ (a : App). a.top) knows.0, knows.1)
+
+-- what a clause says of a value
+pub told_of : {A E : Type 0} (result : Result A E) (value : A) (P : A → Type 0) → result ≡ Ok value → IfOk result P → P value
+told_of result value P is clause = subst (λ r. IfOk r P) is clause

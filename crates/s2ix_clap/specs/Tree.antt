@@ -1,6 +1,6 @@
 -- The words that the program knows, as clap counts them.
 use Rattle.std.specs.Prelude.{◌≡◌, List, [], ◌∷◌, Some, codes, true, false}
-use Rattle.clap.specs.Words.{App, Rule, Shape, Text, new_app, new_rule, shape_of}
+use Rattle.clap.specs.Words.{App, Rule, Shape, Text, app_of, new_app, new_rule, shape_of}
 use Rattle.clap.specs.declared.builder.ArgAction.TheVariants.{SetTrue}
 use Rattle.clap.specs.declared.builder.Command.{Command}
 use Rattle.clap.specs.declared.builder.Command.TheViews.{out-Command}
@@ -40,6 +40,14 @@ program = record {
   top = record (new_app (codes "s2ix")).top { no_binary_name = true; subcommand_required = true; is_leaf = false };
   subs = run_words ∷ check_words ∷ texts_words (codes "replay") ∷ texts_words (codes "rewind") ∷ [];
 }
+
+-- the program's own words, without its subcommands
+abbrev pub own_words : App
+own_words = record { top = record (new_app (codes "s2ix")).top { no_binary_name = true; subcommand_required = true }; subs = [] }
+
+-- clap was told of a command with these words
+abbrev pub IsTold : App → Command → Type 0
+IsTold words command = (app_of command ≡ words) × ((out-Command command).has_globals ≡ false)
 
 -- clap was told of a subcommand with these words
 abbrev pub IsSubcommand : Shape → Command → Type 0

@@ -1,12 +1,14 @@
 //! The words that the program knows, as clap is told of them.
 ghost use Rattle.std.specs.Prelude.{◌≡◌, IfOk, codes, false};
-ghost use Rattle.clap.specs.Words.{app_of, rule_of, shape_of};
+ghost use Rattle.clap.specs.Words.{App, Shape, app_of, rule_of, shape_of, with_subcommand};
 ghost use Rattle.s2ix_clap.specs.Tree.{
   IsSubcommand,
+  IsTold,
   check_words,
   file_rule,
   flag_rule,
   option_rule,
+  own_words,
   program,
   run_words,
   texts_words,
@@ -20,25 +22,34 @@ use std::alloc::{AllocError, Global};
 pub fn program<'a>(alloc: Global) -> Result<Command<'a>, AllocError>
     ensures { IfOk result (λ command. app_of command ≡ program) }
 {
-    let replay = texts(
-        alloc,
-        "replay",
-        "Prints the dump after the changes of the journal",
-    )?;
-    let rewind = texts(
-        alloc,
-        "rewind",
-        "Prints the dump before the changes of the journal",
-    )?;
+    let command = name(alloc)?;
+    let command = with(command, run(alloc))?;
+    let command = with(command, check(alloc))?;
+    let replay = "Prints the dump after the changes of the journal";
+    let command = with(command, texts(alloc, "replay", replay))?;
+    let rewind = "Prints the dump before the changes of the journal";
+    with(command, texts(alloc, "rewind", rewind))
+}
+
+// The program without its subcommands.
+fn name<'a>(alloc: Global) -> Result<Command<'a>, AllocError>
+    ensures { IfOk result (IsTold own_words) }
+{
     Command::new(alloc, "s2ix")
         .about("An editable index of labelled cells of the S2 curve")
         .no_binary_name(true)
         .subcommand_required(true)
-        .bin_name("s2ix")?
-        .subcommand(run(alloc)?)?
-        .subcommand(check(alloc)?)?
-        .subcommand(replay)?
-        .subcommand(rewind)
+        .bin_name("s2ix")
+}
+
+// A command with one subcommand more, where that could be made.
+fn with<'a>(
+    command: Command<'a>,
+    added: Result<Command<'a>, AllocError>,
+) -> Result<Command<'a>, AllocError>
+    ensures { (words : App) (shape : Shape) → IsTold words command.entry → IfOk added.entry (IsSubcommand shape) → IfOk result (IsTold (with_subcommand words shape)) }
+{
+    command.subcommand(added?)
 }
 
 // `run` with its options.
