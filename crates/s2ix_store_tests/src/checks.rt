@@ -5,10 +5,10 @@
 //! their counts, rising, and how many changes can be undone and redone.
 
 use crate::edits::edit_of;
-use s2ix_edit::Edit;
-use s2ix_samples::{LimitRow, holds_pairs, limits_of, lists_entries};
+use s2ix_samples::{LimitRow, bag_of, holds_pairs, limits_of, lists_entries};
 use s2ix_store::Store;
 use std::alloc::Global;
+use std::fmt::Debug;
 use std::process::Abort;
 
 // The empty store within these limits.
@@ -16,22 +16,14 @@ pub(crate) fn store_of(alloc: Global, limits: LimitRow) -> Option<Store> {
     Store::new(alloc, limits_of(limits)?).ok()
 }
 
-fn edit_answer(alloc: Global, store: &mut Store, edit: &Edit) -> Option<String> {
-    match store.edit(edit) {
-        Ok(number) => format!(in alloc; "{number}").ok(),
-        Err(error) => format!(in alloc; "{error:?}").ok(),
-    }
+// The store that starts from these pairs within these limits.
+pub(crate) fn store_from(alloc: Global, limits: LimitRow, pairs: &str) -> Option<Store> {
+    Store::from_bag(alloc, bag_of(alloc, limits, pairs)?).ok()
 }
 
-fn undo_answer(alloc: Global, store: &mut Store) -> Option<String> {
-    match store.undo() {
-        Ok(number) => format!(in alloc; "{number}").ok(),
-        Err(error) => format!(in alloc; "{error:?}").ok(),
-    }
-}
-
-fn redo_answer(alloc: Global, store: &mut Store) -> Option<String> {
-    match store.redo() {
+// How a step's answer is written.
+fn told<E: Debug + Drop>(alloc: Global, answer: Result<usize, E>) -> Option<String> {
+    match answer {
         Ok(number) => format!(in alloc; "{number}").ok(),
         Err(error) => format!(in alloc; "{error:?}").ok(),
     }
@@ -40,13 +32,13 @@ fn redo_answer(alloc: Global, store: &mut Store) -> Option<String> {
 // Carries a step out, and gives its answer.
 pub(crate) fn answer_of(alloc: Global, store: &mut Store, step: &str) -> Option<String> {
     match step {
-        "undo" => undo_answer(alloc, store),
-        "redo" => redo_answer(alloc, store),
+        "undo" => told(alloc, store.undo()),
+        "redo" => told(alloc, store.redo()),
         "forget" => {
             store.forget();
             String::from_str(alloc, "0").ok()
         }
-        _ => edit_answer(alloc, store, &edit_of(alloc, step)?),
+        _ => told(alloc, store.edit(&edit_of(alloc, step)?)),
     }
 }
 
@@ -58,11 +50,15 @@ pub(crate) fn answers(alloc: Global, store: &mut Store, step: &str, wanted: &str
     }
 }
 
+// Whether a text is this number.
+fn is_length(text: &str, length: usize) -> bool {
+    text.parse().ok() == Some(length)
+}
+
 // Whether so many changes can be undone and redone, as a text DONE UNDONE says.
 fn keeps(store: &Store, numbers: &str) -> Option<bool> {
     let (done, undone) = numbers.split_once(' ')?;
-    let (done, undone): (usize, usize) = (done.parse().ok()?, undone.parse().ok()?);
-    Some(store.done().len() == done && store.undone().len() == undone)
+    Some(is_length(done, store.done().len()) && is_length(undone, store.undone().len()))
 }
 
 // Whether a store has what a text PAIRS | DONE UNDONE says.

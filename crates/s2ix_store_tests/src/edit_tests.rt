@@ -3,6 +3,7 @@
 use crate::checks::{check_history, check_steps, ends_with, store_of};
 use crate::edits::edit_of;
 use s2ix_bag::{ApplyError, Bag, Change};
+use s2ix_edit::Edit;
 use s2ix_samples::{WIDEST, holds_pairs, lists_entries};
 use s2ix_store::Store;
 use std::alloc::Global;
@@ -22,19 +23,25 @@ fn a_union_adds_a_copy_of_each_cell(rt: HostRuntime) {
     check_history(&rt, rt.alloc(), (2, 2, 100_000), &UNIONS);
 }
 
+// Texts, and whether their edit is that of `addunion 9 3 04`.
+const EQUALS: [(&str, bool); 3] = [
+    ("addunion 9 04 3", true),
+    ("addunion 7 04 3", false),
+    ("addunion 9 ", false),
+];
+
+// Whether an edit is equal to that of a text, or not, as it should.
+fn is_equal_so(alloc: Global, edit: &Edit, text: &str, same: bool) -> Option<bool> {
+    let other = edit_of(alloc, text)?;
+    Some((*edit == other) == same && (*edit != other) != same)
+}
+
 #[test]
 fn edits_are_equal_where_their_parts_are(rt: HostRuntime) {
     let edit = edit_of(rt.alloc(), "addunion 9 3 04").expect(&rt, "an edit");
-    for (text, same) in [
-        ("addunion 9 04 3", true),
-        ("addunion 7 04 3", false),
-        ("addunion 9 ", false),
-    ] {
-        let other = edit_of(rt.alloc(), text).expect(&rt, text);
-        assert!(rt;
-            (edit == other) == same && (edit != other) != same,
-            "wrong at {text}"
-        );
+    for &(text, same) in &EQUALS {
+        let is_so = is_equal_so(rt.alloc(), &edit, text, same);
+        assert!(rt; is_so == Some(true), "wrong at {text}");
     }
 }
 

@@ -1,6 +1,6 @@
 //! Undo, redo and forget, call by call.
-use crate::checks::{answer_of, check_history, check_steps, ends_with, store_of};
-use s2ix_samples::{LimitRow, WIDEST, bag_of};
+use crate::checks::{answer_of, check_history, check_steps, ends_with, store_from, store_of};
+use s2ix_samples::{LimitRow, WIDEST};
 use s2ix_store::Store;
 use std::alloc::Global;
 
@@ -43,6 +43,9 @@ fn redo_leads_back_over_two_undos(rt: HostRuntime) {
     assert!(rt; ends_with(&store, "04:3:0:1"));
 }
 
+// The limits under which seven changes can be undone.
+const SEVEN_CHANGES: LimitRow = (1_000_000, 65_535, 7);
+
 // What a store starts from.
 const FIRST_PAIRS: &str = "1:1:2 3:1:5";
 
@@ -52,15 +55,9 @@ const NO_HISTORY: [&str; 2] = [
     "redo = NothingToRedo | 1:1:2 3:1:5 | 0 0",
 ];
 
-// The store that starts from these pairs, where seven changes can be undone.
-fn first_store(alloc: Global) -> Option<Store> {
-    let bag = bag_of(alloc, (1_000_000, 65_535, 7), FIRST_PAIRS)?;
-    Store::from_bag(alloc, bag).ok()
-}
-
 #[test]
 fn a_store_starts_from_its_bag(rt: HostRuntime) {
-    let mut store = first_store(rt.alloc()).expect(&rt, "a store");
+    let mut store = store_from(rt.alloc(), SEVEN_CHANGES, FIRST_PAIRS).expect(&rt, "a store");
     assert!(rt; store.bag().limits().changes() == 7);
     check_steps(&rt, rt.alloc(), &mut store, &NO_HISTORY);
 }
@@ -96,12 +93,20 @@ const FACES: [(&str, u8); 9] = [
     ("add 5:2:1", 1),
 ];
 
+// Carries the steps out, and tells behind which another number of faces is counted first.
+fn first_other_faces(alloc: Global, store: &mut Store) -> Option<&'static str> {
+    for &(step, faces) in &FACES {
+        if answer_of(alloc, store, step).is_none() || store.faces_rebuilt() != faces {
+            return Some(step);
+        }
+    }
+    None
+}
+
 #[test]
 fn the_faces_of_the_last_step_are_counted(rt: HostRuntime) {
     let mut store = store_of(rt.alloc(), WIDEST).expect(&rt, "a store");
     assert!(rt; store.faces_rebuilt() == 0);
-    for (step, faces) in FACES {
-        let told = answer_of(rt.alloc(), &mut store, step).is_some();
-        assert!(rt; told && store.faces_rebuilt() == faces, "wrong at {step}");
-    }
+    let wrong = first_other_faces(rt.alloc(), &mut store);
+    assert!(rt; wrong.is_none(), "wrong at {wrong:?}");
 }

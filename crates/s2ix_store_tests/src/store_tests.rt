@@ -1,7 +1,9 @@
 // Stores step by step: what they refuse, and what a refusal leaves.
-use crate::checks::{check_history, check_steps, store_of};
-use s2id_samples::cells_of;
-use s2ix_samples::{WIDEST, bag_of, holds_pairs, label_of};
+use crate::checks::{check_history, check_steps, store_from, store_of};
+use s2id_core::CellId;
+use s2id_samples::cell_of;
+use s2ix_bag::Bag;
+use s2ix_samples::{WIDEST, holds_pairs, label_of};
 use s2ix_store::Store;
 use std::alloc::Global;
 
@@ -45,34 +47,46 @@ const REFUSED: [&str; 2] = [
     "remove 04:9:2 = NotHeld | 04:9:1 | 1 0",
 ];
 
+// Whether the copy of a bag holds these pairs.
+fn is_copied_as(alloc: Global, bag: &Bag, pairs: &str) -> Option<bool> {
+    let copy = bag.copied(alloc).ok()?;
+    Some(holds_pairs(&copy, pairs))
+}
+
 #[test]
 fn a_refused_removal_leaves_the_bag(rt: HostRuntime) {
     let mut store = store_of(rt.alloc(), (10, 10, 10)).expect(&rt, "a store");
     check_steps(&rt, rt.alloc(), &mut store, &REFUSED);
-    let copy = store.bag().copied(rt.alloc()).expect(&rt, "memory");
-    assert!(rt; holds_pairs(&copy, "04:9:1"));
+    assert!(rt; is_copied_as(rt.alloc(), store.bag(), "04:9:1") == Some(true));
+}
+
+// Whether some cells are those that the tokens name, in their order.
+fn are_cells(cells: &[CellId], tokens: &str) -> bool {
+    let mut left = cells.iter();
+    for token in tokens.split_ascii_whitespace() {
+        if left.next().copied() != cell_of(token) {
+            return false;
+        }
+    }
+    left.next().is_none()
 }
 
 // Whether a label's region has these cells, rising.
-fn has_region(alloc: Global, store: &Store, label: &str, tokens: &str) -> Option<bool> {
+fn has_region(store: &Store, label: &str, tokens: &str) -> Option<bool> {
     let region = store.region(label_of(label)?).ok()?;
-    let cells = cells_of(alloc, tokens)?;
-    Some(region.cells() == cells.as_slice())
+    Some(are_cells(region.cells(), tokens))
 }
 
 // Two sets of four siblings under one label, at two levels, and a cell of another.
 const TWO_SETS: &str = "01:9:1 03:9:2 05:9:1 07:9:1 0c:7:1 24:9:1 2c:9:1 34:9:3 3c:9:1";
 
-// The store that starts from them.
-fn two_sets(alloc: Global) -> Option<Store> {
-    let bag = bag_of(alloc, WIDEST, TWO_SETS)?;
-    Store::from_bag(alloc, bag).ok()
-}
+// Their labels and another one, with their regions.
+const REGIONS: [(&str, &str); 3] = [("9", "04 3"), ("7", "0c"), ("8", "")];
 
 // The first label whose region is another one.
-fn first_other_region(alloc: Global, store: &Store) -> Option<&'static str> {
-    for (label, tokens) in [("9", "04 3"), ("7", "0c"), ("8", "")] {
-        if has_region(alloc, store, label, tokens) != Some(true) {
+fn first_other_region(store: &Store) -> Option<&'static str> {
+    for &(label, tokens) in &REGIONS {
+        if has_region(store, label, tokens) != Some(true) {
             return Some(label);
         }
     }
@@ -81,7 +95,7 @@ fn first_other_region(alloc: Global, store: &Store) -> Option<&'static str> {
 
 #[test]
 fn a_region_has_the_fewest_cells(rt: HostRuntime) {
-    let store = two_sets(rt.alloc()).expect(&rt, "a store");
-    let wrong = first_other_region(rt.alloc(), &store);
+    let store = store_from(rt.alloc(), WIDEST, TWO_SETS).expect(&rt, "a store");
+    let wrong = first_other_region(&store);
     assert!(rt; wrong.is_none(), "wrong at {wrong:?}");
 }

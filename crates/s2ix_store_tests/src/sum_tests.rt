@@ -1,9 +1,9 @@
 //! Stores led on by random steps: each count is the first one and the differences of the changes that stand.
-use crate::checks::answers;
+use crate::checks::{answers, store_from};
 use crate::sums::{MOST, PAIRS, Row, Step, Sums, counts_of, model_answer, sums_from};
 use s2id_samples::Random;
 use s2ix_bag::{Bag, Change, Pair};
-use s2ix_samples::{bag_of, pair_of};
+use s2ix_samples::pair_of;
 use s2ix_store::Store;
 use std::alloc::Global;
 
@@ -34,12 +34,9 @@ const STEPS: [(&str, Step); 22] = [
 ];
 
 // What a store starts from.
-const FIRST: (&str, Row) = ("04:3:1 b:9:2", [1, 0, 0, 2]);
+const FIRST_PAIRS: &str = "04:3:1 b:9:2";
 
-fn first_store(alloc: Global) -> Option<Store> {
-    let bag = bag_of(alloc, (3, 4, 6), FIRST.0)?;
-    Store::from_bag(alloc, bag).ok()
-}
+const FIRST_COUNTS: Row = [1, 0, 0, 2];
 
 fn four_pairs() -> Option<[Pair; 4]> {
     let [a, b, c, d] = PAIRS;
@@ -116,8 +113,8 @@ fn drawn(random: &mut Random) -> (&'static str, Step) {
 // Leads a store and the model on by random steps. Tells how many were taken where the two are first not the same.
 fn first_other_step(alloc: Global, seed: u64, steps: usize) -> Option<Option<usize>> {
     let mut random = Random::new(seed);
-    let mut store = first_store(alloc)?;
-    let mut sums = sums_from(alloc, FIRST.1);
+    let mut store = store_from(alloc, (3, 4, 6), FIRST_PAIRS)?;
+    let mut sums = sums_from(alloc, FIRST_COUNTS);
     for taken in 0..steps {
         if !follows_model(alloc, &mut store, &mut sums, drawn(&mut random))? {
             return Some(Some(taken));

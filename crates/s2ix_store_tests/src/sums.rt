@@ -87,12 +87,10 @@ fn size(row: Row) -> &'static str {
     }
 }
 
+// On how many of the two faces a change changes something.
 fn faces(row: Row) -> u8 {
-    match row {
-        [0, 0, 0, 0] => 0,
-        [0, 0, _, _] | [_, _, 0, 0] => 1,
-        _ => 2,
-    }
+    let [a, b, c, d] = row;
+    u8::from(a != 0 || b != 0).wrapping_add(u8::from(c != 0 || d != 0))
 }
 
 // Some counts, and what each of some changes adds.
@@ -112,13 +110,22 @@ pub(crate) fn counts_of(sums: &Sums) -> Row {
     summed(sums.first, sums.done.as_slice())
 }
 
+// What it adds to some counts that the copies of 9 go to 3, if there are any.
+fn relabelled(counts: Row) -> Option<Row> {
+    let [_, b, _, d] = counts;
+    if b == 0 && d == 0 {
+        return None;
+    }
+    Some([b, b.wrapping_neg(), d, d.wrapping_neg()])
+}
+
 // What a step adds to the counts, or why it is refused before any limit is looked at.
 fn asked(sums: &Sums, step: Step) -> Result<(Row, &'static str), &'static str> {
     match step {
         Step::Add(row) => Ok((row, "NotHeld")),
-        Step::Relabel => match counts_of(sums) {
-            [_, 0, _, 0] => Err("NoSuchLabel"),
-            [_, b, _, d] => Ok(([b, b.wrapping_neg(), d, d.wrapping_neg()], "")),
+        Step::Relabel => match relabelled(counts_of(sums)) {
+            Some(row) => Ok((row, "")),
+            None => Err("NoSuchLabel"),
         },
         Step::Revert(number) => match sums.done.get(number.wrapping_sub(1)) {
             Some(row) => Ok((negated(*row), "BelowZero")),
