@@ -1,13 +1,11 @@
 // What lines ask for, and the faults of lines.
 use s2id_core::CellId;
-use s2ix_bag::{Label, Pair};
+use s2ix_bag::Label;
 use s2ix_edit::Edit;
 use s2ix_script::{Instruction, LineError, LineFault, meaning};
 use std::alloc::Global;
-use std::test::Fail;
 
 // What a line asks for, with the tokens of cells.
-#[derive(Clone, Copy)]
 enum Asked {
     Nothing,
     Undo,
@@ -26,8 +24,6 @@ enum Asked {
     Region(u32),
     Common(u32, u32),
     Only(u32, u32),
-    // nothing, because of a fault
-    Fault(LineFault),
 }
 
 // Lines without fields, comments, and lines whose fields stand between white space of Unicode.
@@ -67,190 +63,228 @@ const REQUESTS: [(&[u8], Asked); 28] = [
     (b"revert 0000000002", Asked::Revert(2)),
 ];
 
-// Lines with the first of their faults.
-const FAULTS: [(&[u8], LineFault); 75] = [
-    // no word of a script, or not as many fields as fit the word
-    (b"ADD 04 9", LineFault::BadCommand),
-    (b"addd 04 9", LineFault::BadCommand),
-    (b"04", LineFault::BadCommand),
-    (b"add X", LineFault::BadArguments),
-    (b"add", LineFault::BadArguments),
-    (b"remove 04 9 1 1", LineFault::BadArguments),
-    (b"undo 1", LineFault::BadArguments),
-    (b"dump #", LineFault::BadArguments),
-    (b"drop", LineFault::BadArguments),
-    (b"drop 9 9", LineFault::BadArguments),
-    (b"relabel x", LineFault::BadArguments),
-    (b"relabel 9 9 9", LineFault::BadArguments),
-    (b"addunion", LineFault::BadArguments),
-    (b"addunion x", LineFault::BadArguments),
-    (b"redo 1", LineFault::BadArguments),
-    (b"forget 1", LineFault::BadArguments),
-    (b"journal 1", LineFault::BadArguments),
-    (b"export 1", LineFault::BadArguments),
-    (b"at", LineFault::BadArguments),
-    (b"at x x", LineFault::BadArguments),
-    (b"meet", LineFault::BadArguments),
-    (b"labels", LineFault::BadArguments),
-    (b"ranges 1", LineFault::BadArguments),
-    (b"grow 4", LineFault::BadArguments),
-    (b"grow 4 1 1", LineFault::BadArguments),
-    (b"normal", LineFault::BadArguments),
-    (b"revert", LineFault::BadArguments),
-    (b"revert 1 2", LineFault::BadArguments),
-    (b"revert x x", LineFault::BadArguments),
-    (b"region 1 2", LineFault::BadArguments),
-    (b"common 1", LineFault::BadArguments),
-    (b"only 1 2 3", LineFault::BadArguments),
-    // the first unfit field of a list
-    (b"meet 04 X", LineFault::BadToken),
-    (b"meet X 04", LineFault::BadToken),
-    (b"labels X", LineFault::BadToken),
-    (b"labels 04 04 04 x", LineFault::BadToken),
-    (b"addunion 5 04 X", LineFault::BadToken),
-    (b"addunion 5 X 04", LineFault::BadToken),
-    (b"addunion x 04", LineFault::BadLabel),
-    (b"addunion x y", LineFault::BadLabel),
-    // the first unfit field from the left
-    (b"add 00 x x", LineFault::BadToken),
-    (b"add X 9", LineFault::BadToken),
-    (b"add 04 x x", LineFault::BadLabel),
-    (b"add 04 9\xff", LineFault::BadLabel),
-    (b"add 04 00000000009", LineFault::BadLabel),
-    (b"add 04 2147483648", LineFault::BadLabel),
-    (b"add 04 9999999999", LineFault::BadLabel),
-    (b"add 04 -1", LineFault::BadLabel),
-    (b"add 04 +1", LineFault::BadLabel),
-    (b"add 04 9 0", LineFault::BadCount),
-    (b"add 04 9 65536", LineFault::BadCount),
-    (b"remove 04 9 x", LineFault::BadCount),
-    (b"drop x", LineFault::BadLabel),
-    (b"relabel x 9", LineFault::BadLabel),
-    (b"relabel 9 x", LineFault::BadLabel),
-    (b"addunion 9 y 04", LineFault::BadToken),
-    (b"addunion 9 04 2", LineFault::BadToken),
-    (b"at x", LineFault::BadToken),
-    (b"meet 04 2", LineFault::BadToken),
-    (b"labels x 04", LineFault::BadToken),
-    (b"grow 4 31", LineFault::BadLevel),
-    (b"grow 4 x", LineFault::BadLevel),
-    (b"grow x 31", LineFault::BadLabel),
-    (b"revert 0", LineFault::BadNumber),
-    (b"revert 100001", LineFault::BadNumber),
-    (b"revert x", LineFault::BadNumber),
-    (b"revert 00000000001", LineFault::BadNumber),
-    (b"common 1 x", LineFault::BadLabel),
-    (b"only x 1", LineFault::BadLabel),
-    // U+00A0 separates
-    (b"undo\xc2\xa0x", LineFault::BadArguments),
-    // a byte before U+00A0 is a field
-    (b"undo \xf0\xc2\xa0", LineFault::BadArguments),
-    // and belongs to the field before it
-    (b"undo\xf0\xc2\xa0", LineFault::BadCommand),
-    // U+200B does not separate
-    (b"undo\xe2\x80\x8b", LineFault::BadCommand),
-    // U+001C does not separate
-    (b"undo\x1c", LineFault::BadCommand),
-    // a byte that is no UTF-8 does not separate
-    (b"undo\xa0", LineFault::BadCommand),
-];
-
-// The pair of the cell 04 and a label.
-fn pair_04(label: u32) -> Result<Pair, Fail> {
-    Ok(Pair {
-        cell: CellId::from_token(b"04")?,
-        label: Label::new(label).ok_or("no label")?,
-    })
-}
-
 // Whether the one cell of a target has this token.
-fn is_cell(cells: &[CellId], token: &[u8]) -> Result<bool, Fail> {
-    Ok(cells == [CellId::from_token(token)?].as_slice())
+fn is_cell(cells: &[CellId], token: &[u8]) -> bool {
+    match CellId::from_token(token) {
+        Ok(cell) => cells == [cell].as_slice(),
+        Err(_) => false,
+    }
 }
 
 // Whether two labels have these numbers.
-fn are_labels(first: Label, second: Label, numbers: (u32, u32)) -> bool {
-    (first.get(), second.get()) == numbers
+fn are_labels(first: Label, second: Label, one: u32, other: u32) -> bool {
+    first.get() == one && second.get() == other
 }
 
-// Whether an instruction is on labels as it is asked for.
-fn is_on_labels(instruction: &Instruction, asked: Asked) -> bool {
-    match (instruction, asked) {
-        (Instruction::Edit(Edit::Grow { label, level }), Asked::Grow(number, wanted)) => {
-            label.get() == number && *level == wanted
+// Whether an edit is what is asked for.
+fn is_edit(edit: &Edit, asked: &Asked) -> bool {
+    match (edit, asked) {
+        (Edit::Add { pair, copies }, Asked::Add(label, wanted)) => {
+            is_cell(&[pair.cell], b"04") && pair.label.get() == *label && copies == wanted
         }
-        (Instruction::Edit(Edit::Revert { number }), Asked::Revert(wanted)) => *number == wanted,
-        (Instruction::Edit(Edit::Normalise { label }), Asked::Normal(number))
-        | (Instruction::Region(label), Asked::Region(number)) => label.get() == number,
-        (Instruction::Common(first, second), Asked::Common(one, other))
-        | (Instruction::Only(first, second), Asked::Only(one, other)) => {
-            are_labels(*first, *second, (one, other))
+        (Edit::Grow { label, level }, Asked::Grow(number, wanted)) => {
+            label.get() == *number && level == wanted
+        }
+        (Edit::Normalise { label }, Asked::Normal(number)) => label.get() == *number,
+        (Edit::Revert { number }, Asked::Revert(wanted)) => number == wanted,
+        _ => false,
+    }
+}
+
+// Whether an instruction is on the regions of labels that are asked for.
+fn is_on_regions(instruction: &Instruction, asked: &Asked) -> bool {
+    match (instruction, asked) {
+        (Instruction::Region(label), Asked::Region(number)) => label.get() == *number,
+        (Instruction::Common(first, second), Asked::Common(one, other)) => {
+            are_labels(*first, *second, *one, *other)
+        }
+        (Instruction::Only(first, second), Asked::Only(one, other)) => {
+            are_labels(*first, *second, *one, *other)
         }
         _ => false,
     }
 }
 
 // Whether an instruction is what is asked for.
-fn is_asked(instruction: &Instruction, asked: Asked) -> Result<bool, Fail> {
+fn is_asked(instruction: &Instruction, asked: &Asked) -> bool {
     match (instruction, asked) {
-        (Instruction::Undo, Asked::Undo) | (Instruction::Ranges, Asked::Ranges) => Ok(true),
-        (Instruction::Edit(Edit::Add { pair, copies }), Asked::Add(label, wanted)) => {
-            Ok(*pair == pair_04(label)? && *copies == wanted)
-        }
+        (Instruction::Undo, Asked::Undo) | (Instruction::Ranges, Asked::Ranges) => true,
         (Instruction::At(cell), Asked::At(token)) => is_cell(&[*cell], token),
-        (Instruction::Meet(target), Asked::Meet(token))
-        | (Instruction::Labels(target), Asked::Labels(token)) => is_cell(target.cells(), token),
-        _ => Ok(is_on_labels(instruction, asked)),
+        (Instruction::Meet(target), Asked::Meet(token)) => is_cell(target.cells(), token),
+        (Instruction::Labels(target), Asked::Labels(token)) => is_cell(target.cells(), token),
+        (Instruction::Edit(edit), _) => is_edit(edit, asked),
+        _ => is_on_regions(instruction, asked),
     }
 }
 
 // Whether a line asks for this.
-fn asks_for(alloc: Global, line: &[u8], asked: Asked) -> Result<bool, Fail> {
+fn asks_for(alloc: Global, line: &[u8], asked: &Asked) -> bool {
     match meaning(alloc, line) {
         Ok(Some(instruction)) => is_asked(&instruction, asked),
-        Ok(None) => Ok(matches!(asked, Asked::Nothing)),
-        Err(LineError::Fault(fault)) => Ok(
-            matches!(asked, Asked::Fault(wanted) if wanted == fault),
-        ),
-        Err(LineError::OutOfMemory) => Ok(false),
+        Ok(None) => matches!(asked, Asked::Nothing),
+        Err(_) => false,
     }
-}
-
-fn check_line(alloc: Global, line: &[u8], asked: Asked) -> Result<(), Fail> {
-    if asks_for(alloc, line, asked)? {
-        Ok(())
-    } else {
-        Err(Fail::new(format_args!("{line:?}")))
-    }
-}
-
-fn check_lines(alloc: Global, lines: &[(&[u8], Asked)]) -> Result<(), Fail> {
-    for &(line, asked) in lines {
-        check_line(alloc, line, asked)?;
-    }
-    Ok(())
 }
 
 #[test]
-fn fields_say_what_a_line_asks_for(rt: HostRuntime) -> Result<(), Fail> {
-    check_lines(rt.alloc(), &REQUESTS)
-}
-
-fn check_faults(alloc: Global, lines: &[(&[u8], LineFault)]) -> Result<(), Fail> {
-    for &(line, fault) in lines {
-        check_line(alloc, line, Asked::Fault(fault))?;
+fn fields_say_what_a_line_asks_for(rt: HostRuntime) {
+    for (line, asked) in &REQUESTS {
+        assert!(rt; asks_for(rt.alloc(), line, asked), "wrong at {line:?}");
     }
-    Ok(())
+}
+
+// Lines with the first of their faults.
+const FAULTS: [(LineFault, &str); 12] = [
+    // no word of a script
+    (
+        LineFault::BadCommand,
+        "ADD 04 9\n\
+        addd 04 9\n\
+        04",
+    ),
+    // not as many fields as fit the word
+    (
+        LineFault::BadArguments,
+        "add X\n\
+        add\n\
+        remove 04 9 1 1\n\
+        undo 1\n\
+        dump #\n\
+        drop\n\
+        drop 9 9\n\
+        relabel x\n\
+        relabel 9 9 9\n\
+        addunion\n\
+        addunion x\n\
+        redo 1\n\
+        forget 1\n\
+        journal 1\n\
+        export 1\n\
+        at\n\
+        at x x\n\
+        meet\n\
+        labels\n\
+        ranges 1\n\
+        grow 4\n\
+        grow 4 1 1\n\
+        normal\n\
+        revert\n\
+        revert 1 2\n\
+        revert x x\n\
+        region 1 2\n\
+        common 1\n\
+        only 1 2 3",
+    ),
+    // the first unfit field of a list
+    (
+        LineFault::BadToken,
+        "meet 04 X\n\
+        meet X 04\n\
+        labels X\n\
+        labels 04 04 04 x\n\
+        addunion 5 04 X\n\
+        addunion 5 X 04",
+    ),
+    (
+        LineFault::BadLabel,
+        "addunion x 04\n\
+        addunion x y",
+    ),
+    // the first unfit field from the left
+    (
+        LineFault::BadToken,
+        "add 00 x x\n\
+        add X 9\n\
+        addunion 9 y 04\n\
+        addunion 9 04 2\n\
+        at x\n\
+        meet 04 2\n\
+        labels x 04",
+    ),
+    (
+        LineFault::BadLabel,
+        "add 04 x x\n\
+        add 04 00000000009\n\
+        add 04 2147483648\n\
+        add 04 9999999999\n\
+        add 04 -1\n\
+        add 04 +1\n\
+        drop x\n\
+        relabel x 9\n\
+        relabel 9 x\n\
+        grow x 31\n\
+        common 1 x\n\
+        only x 1",
+    ),
+    (
+        LineFault::BadCount,
+        "add 04 9 0\n\
+        add 04 9 65536\n\
+        remove 04 9 x",
+    ),
+    (
+        LineFault::BadLevel,
+        "grow 4 31\n\
+        grow 4 x",
+    ),
+    (
+        LineFault::BadNumber,
+        "revert 0\n\
+        revert 100001\n\
+        revert x\n\
+        revert 00000000001",
+    ),
+    // U+00A0 separates
+    (LineFault::BadArguments, "undo\u{a0}x"),
+    // U+200B does not separate
+    (LineFault::BadCommand, "undo\u{200b}"),
+    // U+001C does not separate
+    (LineFault::BadCommand, "undo\x1c"),
+];
+
+// Lines that are no UTF-8, with the first of their faults.
+const FAULTS_OF_BYTES: [(LineFault, &[u8]); 4] = [
+    (LineFault::BadLabel, b"add 04 9\xff"),
+    // a byte before U+00A0 is a field
+    (LineFault::BadArguments, b"undo \xf0\xc2\xa0"),
+    // and belongs to the field before it
+    (LineFault::BadCommand, b"undo\xf0\xc2\xa0"),
+    // a byte that is no UTF-8 does not separate
+    (LineFault::BadCommand, b"undo\xa0"),
+];
+
+// Whether this is the first fault of a line.
+fn has_fault(alloc: Global, line: &[u8], fault: LineFault) -> bool {
+    match meaning(alloc, line) {
+        Err(LineError::Fault(found)) => found == fault,
+        _ => false,
+    }
+}
+
+// The first of some lines that has another fault.
+fn first_other<'a>(alloc: Global, lines: &'a str, fault: LineFault) -> Option<&'a str> {
+    for line in lines.split('\n') {
+        if !has_fault(alloc, line.as_bytes(), fault) {
+            return Some(line);
+        }
+    }
+    None
 }
 
 #[test]
-fn the_first_fault_is_answered(rt: HostRuntime) -> Result<(), Fail> {
-    check_faults(rt.alloc(), &FAULTS)
+fn the_first_fault_is_answered(rt: HostRuntime) {
+    for &(fault, lines) in &FAULTS {
+        let other = first_other(rt.alloc(), lines, fault);
+        assert!(rt; other.is_none(), "wrong at {other:?}");
+    }
+    for &(fault, line) in &FAULTS_OF_BYTES {
+        assert!(rt; has_fault(rt.alloc(), line, fault), "wrong at {line:?}");
+    }
 }
 
 #[test]
-fn a_line_may_have_65536_bytes(rt: HostRuntime) -> Result<(), Fail> {
+fn a_line_may_have_65536_bytes(rt: HostRuntime) {
     let blank = [b' '; 65537];
-    check_line(rt.alloc(), &blank[..65536], Asked::Nothing)?;
-    check_line(rt.alloc(), &blank, Asked::Fault(LineFault::LineTooLong))
+    assert!(rt; asks_for(rt.alloc(), &blank[..65536], &Asked::Nothing));
+    assert!(rt; has_fault(rt.alloc(), &blank, LineFault::LineTooLong));
 }

@@ -4,20 +4,20 @@ use s2ix_script::{
     LineError, LineFault, edit_error_name, not_leaf_name, redo_error_name, undo_error_name,
 };
 use std::alloc::Global;
-use std::test::Fail;
 
-fn check_names(names: &[(&str, &str)]) -> Result<(), Fail> {
+// The first name that is not the one that is wanted.
+fn first_other<'a>(names: &[(&'a str, &'a str)]) -> Option<&'a str> {
     for &(name, wanted) in names {
         if name != wanted {
-            return Err(Fail::new(format_args!("{wanted} is called {name}")));
+            return Some(name);
         }
     }
-    Ok(())
+    None
 }
 
 #[test]
-fn names_are_those_of_the_variants() -> Result<(), Fail> {
-    check_names(&[
+fn names_are_those_of_the_variants(rt: HostRuntime) {
+    let other = first_other(&[
         (LineFault::LineTooLong.name(), "LineTooLong"),
         (LineFault::BadArguments.name(), "BadArguments"),
         (LineFault::BadNumber.name(), "BadNumber"),
@@ -28,29 +28,34 @@ fn names_are_those_of_the_variants() -> Result<(), Fail> {
         (undo_error_name(UndoError::NothingToUndo), "NothingToUndo"),
         (redo_error_name(RedoError::NothingToRedo), "NothingToRedo"),
         (not_leaf_name(), "NotLeaf"),
-    ])
+    ]);
+    assert!(rt; other.is_none(), "wrong at {other:?}");
 }
 
-fn check_text(alloc: Global, error: LineError, wanted: &str) -> Result<(), Fail> {
-    let text = format!(in alloc; "{error}")?;
-    if text.as_str() == wanted {
-        Ok(())
-    } else {
-        Err(Fail::new(format_args!("{wanted} is said as {error}")))
+// Errors of lines, with their texts.
+const TEXTS: [(LineError, &str); 3] = [
+    (
+        LineError::Fault(LineFault::BadCommand),
+        "no word of a script",
+    ),
+    (
+        LineError::Fault(LineFault::BadNumber),
+        "field is no number of a change",
+    ),
+    (LineError::OutOfMemory, "out of memory"),
+];
+
+// Whether an error has a text.
+fn has_text(alloc: Global, error: &LineError, wanted: &str) -> bool {
+    match format!(in alloc; "{error}") {
+        Ok(text) => text.as_str() == wanted,
+        Err(_) => false,
     }
 }
 
 #[test]
-fn faults_have_texts(rt: HostRuntime) -> Result<(), Fail> {
-    check_text(
-        rt.alloc(),
-        LineError::Fault(LineFault::BadCommand),
-        "no word of a script",
-    )?;
-    check_text(
-        rt.alloc(),
-        LineError::Fault(LineFault::BadNumber),
-        "field is no number of a change",
-    )?;
-    check_text(rt.alloc(), LineError::OutOfMemory, "out of memory")
+fn faults_have_texts(rt: HostRuntime) {
+    for (error, wanted) in &TEXTS {
+        assert!(rt; has_text(rt.alloc(), error, wanted), "wrong at {wanted}");
+    }
 }
