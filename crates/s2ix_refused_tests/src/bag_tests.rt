@@ -33,7 +33,7 @@ fn change(rt: &impl Abort, alloc: Global) -> Change {
 
 fn check_between(rt: &(impl Abort + Print), alloc: Global, old: &Bag, new: &Bag) {
     let change = answer!(rt, Change::between(alloc, old, new));
-    assert!(rt; lists_entries(&change, THERE));
+    assert!(rt; lists_entries(&change, THERE) && are_bags(old, new));
 }
 
 #[test]
@@ -41,7 +41,6 @@ fn refused_changes(rt: HostRuntime) {
     let old = bag(&rt, rt.alloc(), OLD);
     let new = bag(&rt, rt.alloc(), NEW);
     check_between(&rt, rt.alloc(), &old, &new);
-    assert!(&rt; are_bags(&old, &new));
 }
 
 fn check_inverse(rt: &(impl Abort + Print), alloc: Global, change: &Change) {
@@ -94,6 +93,11 @@ fn falls_below_zero(alloc: Global, bag: &Bag, change: &Change) -> bool {
     bag.reverting(alloc, change).err() == below && bag.reverted(alloc, change).err() == below
 }
 
+fn check_below_zero(rt: &impl Abort, alloc: Global, change: &Change) {
+    let old = bag(rt, alloc, OLD);
+    assert!(rt; falls_below_zero(alloc, &old, change));
+}
+
 fn check_reverting(rt: &(impl Abort + Print), alloc: Global, later: &Bag, change: &Change) {
     let back = answer!(rt, later.reverting(alloc, change));
     assert!(rt; lists_entries(&back, LATER_BACK));
@@ -108,8 +112,7 @@ fn check_reverted(rt: &(impl Abort + Print), alloc: Global, later: &Bag, change:
 fn refused_changes_back(rt: HostRuntime) {
     let later = bag(&rt, rt.alloc(), LATER);
     let change = change(&rt, rt.alloc());
-    let old = bag(&rt, rt.alloc(), OLD);
-    assert!(&rt; falls_below_zero(rt.alloc(), &old, &change));
+    check_below_zero(&rt, rt.alloc(), &change);
     check_reverting(&rt, rt.alloc(), &later, &change);
     check_reverted(&rt, rt.alloc(), &later, &change);
     assert!(&rt; holds_pairs(&later, LATER) && lists_entries(&change, THERE));

@@ -158,14 +158,12 @@ fn told(text: &[u8], answers: &[&[u8]]) -> (usize, usize) {
 // How long the first lines of a text are.
 fn lines_len(text: &[u8], lines: usize) -> usize {
     let (mut left, mut len) = (lines, 0usize);
-    for &byte in text {
+    for line in text.split(|byte| *byte == b'\n') {
         if left == 0 {
             return len;
         }
-        len = len.wrapping_add(1);
-        if byte == b'\n' {
-            left = left.wrapping_sub(1);
-        }
+        left = left.wrapping_sub(1);
+        len = len.wrapping_add(line.len()).wrapping_add(1);
     }
     len
 }

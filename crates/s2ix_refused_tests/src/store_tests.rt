@@ -228,16 +228,17 @@ fn refused_reverts(rt: HostRuntime) {
     check_no_revert(&rt, &mut store, 2, EditError::BelowZero, State::Reverted);
 }
 
-fn check_region(rt: &(impl Abort + Print), store: &Store, label: Label) {
+fn check_region(rt: &(impl Abort + Print), store: &Store) {
+    let label = label(rt);
     let region = answer!(rt, store.region(label));
     assert!(rt; region.cells().len() == 6);
+    check_seen(rt, store, State::Grown);
 }
 
 #[test]
 fn refused_regions(rt: HostRuntime) {
     let store = grown(&rt, rt.alloc());
-    check_region(&rt, &store, label(&rt));
-    check_seen(&rt, &store, State::Grown);
+    check_region(&rt, &store);
 }
 
 fn check_new(rt: &(impl Abort + Print), alloc: Global) {

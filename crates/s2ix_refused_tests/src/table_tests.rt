@@ -169,11 +169,16 @@ fn check_change(rt: &(impl Abort + Print), alloc: Global, old: &Bag, change: &Ch
     assert!(rt; is_old(&table) && holds_pairs(&next, NEW));
 }
 
+// The change that leads from a bag to the new one.
+fn change(rt: &impl Abort, alloc: Global, old: &Bag) -> Change {
+    let new = bag(rt, alloc, NEW);
+    Change::between(alloc, old, &new).expect(rt, SET_UP)
+}
+
 #[test]
 fn refused_rebuilding(rt: HostRuntime) {
     let old = bag(&rt, rt.alloc(), OLD);
-    let new = bag(&rt, rt.alloc(), NEW);
-    let change = Change::between(rt.alloc(), &old, &new).expect(&rt, SET_UP);
+    let change = change(&rt, rt.alloc(), &old);
     check_change(&rt, rt.alloc(), &old, &change);
     assert!(&rt; holds_pairs(&old, OLD));
 }
