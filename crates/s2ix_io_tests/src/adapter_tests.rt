@@ -1,9 +1,8 @@
 // What the adapters ask of std's readers and writers: no contract speaks of it, since std's traits have no relation for a call.
-use crate::calls::{Call, check_calls, check_pieces};
+use crate::calls::{Call, answers, gives_all};
 use s2ix_io::{FromRead, ToWrite, WriteFault};
 use std::io;
 use std::io::{ErrorKind, Read, Write};
-use std::test::Fail;
 
 // Faults of std's that a caller might want to try again, and one that it might not.
 const KINDS: [(&str, ErrorKind); 3] = [
@@ -88,26 +87,20 @@ fn writer_of(put_len: usize, fault_at: u64, kind: ErrorKind) -> CountingWriter {
 // The pieces of `hello` where the second call fails.
 const PIECES: [Option<&[u8]>; 4] = [Some(b"hel"), None, Some(b"lo"), Some(b"")];
 
-// Reads from a reader whose second call fails with an error of this kind: each piece is one call.
-fn check_reads(name: &'static str, kind: ErrorKind) -> Result<(), Fail> {
+// Whether each piece of a reader, whose second call fails with an error of this kind, is one call.
+fn reads_once(kind: ErrorKind) -> bool {
     let mut source = FromRead::new(CountingReader {
         left: b"hello",
         reads: Calls::new(2, kind),
     });
-    check_pieces(name, &mut source, &PIECES, 1)?;
-    if source.into_inner().reads.count == 4 {
-        Ok(())
-    } else {
-        Err(Fail::new(name))
-    }
+    gives_all(&mut source, &PIECES, 1) && source.into_inner().reads.count == 4
 }
 
 #[test]
-fn each_piece_is_one_read() -> Result<(), Fail> {
-    for (name, kind) in KINDS {
-        check_reads(name, kind)?;
+fn each_piece_is_one_read(rt: HostRuntime) {
+    for &(name, kind) in &KINDS {
+        assert!(rt; reads_once(kind), "wrong at {name}");
     }
-    Ok(())
 }
 
 // Calls of a sink over a writer, how often the writer was called to write and to flush, and how many bytes it took.
@@ -144,28 +137,26 @@ const NONE_TAKEN: Session = Session {
     taken: 0,
 };
 
-fn check_writes(name: &'static str, writer: CountingWriter, session: &Session) -> Result<(), Fail> {
-    let mut sink = ToWrite::new(writer);
-    check_calls(name, &mut sink, session.calls)?;
-    let writer = sink.into_inner();
-    if writer.writes.count == session.writes
+// Whether a writer was called as a session says.
+fn is_called(writer: &CountingWriter, session: &Session) -> bool {
+    writer.writes.count == session.writes
         && writer.flushes.count == session.flushes
         && writer.taken == session.taken
-    {
-        Ok(())
-    } else {
-        Err(Fail::new(name))
-    }
+}
+
+// Whether each call of a sink over a writer is one call of the writer.
+fn writes_once(writer: CountingWriter, session: &Session) -> bool {
+    let mut sink = ToWrite::new(writer);
+    answers(&mut sink, session.calls) && is_called(&sink.into_inner(), session)
 }
 
 #[test]
-fn each_put_is_one_write_and_each_flush_one_flush() -> Result<(), Fail> {
-    for (name, kind) in KINDS {
-        check_writes(name, writer_of(9, 2, kind), &FAULTY)?;
+fn each_put_is_one_write_and_each_flush_one_flush(rt: HostRuntime) {
+    for &(name, kind) in &KINDS {
+        assert!(rt;
+            writes_once(writer_of(9, 2, kind), &FAULTY),
+            "wrong at {name}"
+        );
     }
-    check_writes(
-        "takes none",
-        writer_of(0, 0, ErrorKind::WriteZero),
-        &NONE_TAKEN,
-    )
+    assert!(rt; writes_once(writer_of(0, 0, ErrorKind::WriteZero), &NONE_TAKEN));
 }

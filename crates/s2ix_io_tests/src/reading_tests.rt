@@ -1,7 +1,6 @@
 // Sources that are read whole.
 use s2ix_io::{RunFault, SliceSource, Source, read_whole};
 use std::alloc::Global;
-use std::test::Fail;
 
 // A text that comes in pieces of 3 bytes, and how it is read.
 struct Reading {
@@ -54,31 +53,24 @@ const READINGS: [Reading; 5] = [
     },
 ];
 
-// Reads a source, and compares what comes of it. A failure names the reading and says what came out.
-fn check_reading(alloc: Global, reading: &Reading) -> Result<(), Fail> {
-    let name = reading.name;
-    let mut source = SliceSource::new(reading.text, 3, reading.fault_at);
-    let read = read_whole(alloc, &mut source, reading.turns);
-    let faults = source.faults();
-    let is_told = match &read {
+// Whether a text or the fault that ended it is what a reading says.
+fn is_told(read: &Result<Vec<u8>, RunFault>, reading: &Reading) -> bool {
+    match read {
         Ok(text) => reading.ended_by.is_none() && text.as_slice() == reading.text,
         Err(fault) => reading.ended_by == Some(*fault),
-    };
-    if is_told && faults == reading.faults {
-        Ok(())
-    } else {
-        Err(Fail::new(format_args!("{name}: {read:?}, {faults} faults")))
     }
 }
 
-fn check_readings(alloc: Global, readings: &[Reading]) -> Result<(), Fail> {
-    for reading in readings {
-        check_reading(alloc, reading)?;
-    }
-    Ok(())
+// Whether a source is read as a reading says.
+fn is_read(alloc: Global, reading: &Reading) -> bool {
+    let mut source = SliceSource::new(reading.text, 3, reading.fault_at);
+    let read = read_whole(alloc, &mut source, reading.turns);
+    is_told(&read, reading) && source.faults() == reading.faults
 }
 
 #[test]
-fn a_source_is_read_to_its_end(rt: HostRuntime) -> Result<(), Fail> {
-    check_readings(rt.alloc(), &READINGS)
+fn a_source_is_read_to_its_end(rt: HostRuntime) {
+    for reading in &READINGS {
+        assert!(rt; is_read(rt.alloc(), reading), "wrong at {}", reading.name);
+    }
 }

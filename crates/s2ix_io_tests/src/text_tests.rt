@@ -1,9 +1,8 @@
 // Texts that are put to a sink in memory, and the texts of faults.
-use crate::calls::{Call, check_calls};
+use crate::calls::{Call, answers};
 use s2ix_io::{KeepingSink, ReadFault, RunFault, Sink, WriteFault, put_all, put_parts};
 use std::alloc::Global;
 use std::fmt::Display;
-use std::test::Fail;
 
 // A sink in memory, a text that is put to it whole and then in parts, and what comes of it.
 #[derive(Clone, Copy)]
@@ -17,7 +16,7 @@ struct Text {
     put: Result<(), WriteFault>,
     kept: &'static [u8],
     put_faults: u64,
-    flush: Call,
+    flush: &'static [Call],
     flushed_len: usize,
 }
 
@@ -33,7 +32,7 @@ const TEXTS: [Text; 2] = [
         put: Ok(()),
         kept: b"hello world\n",
         put_faults: 0,
-        flush: Call::Flush(Ok(()), 0),
+        flush: &[Call::Flush(Ok(()), 0)],
         flushed_len: 12,
     },
     Text {
@@ -46,7 +45,7 @@ const TEXTS: [Text; 2] = [
         put: Err(WriteFault),
         kept: b"one",
         put_faults: 1,
-        flush: Call::Flush(Err(WriteFault), 2),
+        flush: &[Call::Flush(Err(WriteFault), 2)],
         flushed_len: 0,
     },
 ];
@@ -63,49 +62,42 @@ fn keeps(text: Text, sink: &mut KeepingSink) -> bool {
         && sink.flushed_len() == 0
 }
 
-// Puts a text to its sink, and looks at the sink before and behind the flush.
-fn check_text(alloc: Global, text: Text) -> Result<(), Fail> {
+// Whether a sink is as it should be before the flush of a text and behind it.
+fn goes_out(alloc: Global, text: Text) -> bool {
     let mut sink = KeepingSink::new(alloc, text.put_len, text.fault_at, text.is_flush_failing);
-    let is_kept = keeps(text, &mut sink);
-    check_calls(text.name, &mut sink, &[text.flush])?;
-    if is_kept && sink.flushed_len() == text.flushed_len {
-        Ok(())
-    } else {
-        Err(Fail::new(text.name))
-    }
-}
-
-fn check_texts(alloc: Global, texts: &[Text]) -> Result<(), Fail> {
-    for &text in texts {
-        check_text(alloc, text)?;
-    }
-    Ok(())
+    keeps(text, &mut sink)
+        && answers(&mut sink, text.flush)
+        && sink.flushed_len() == text.flushed_len
 }
 
 #[test]
-fn texts_go_out_until_a_fault(rt: HostRuntime) -> Result<(), Fail> {
-    check_texts(rt.alloc(), &TEXTS)
-}
-
-fn check_fault<D: Display + Drop>(
-    alloc: Global,
-    fault: D,
-    wanted: &'static str,
-) -> Result<(), Fail> {
-    let text = format!(in alloc; "{fault}")?;
-    if text.as_str() == wanted {
-        Ok(())
-    } else {
-        Err(Fail::new(wanted))
+fn texts_go_out_until_a_fault(rt: HostRuntime) {
+    for &text in &TEXTS {
+        assert!(rt; goes_out(rt.alloc(), text), "wrong at {}", text.name);
     }
 }
 
+// Whether a fault has a text.
+fn has_text<D: Display>(alloc: Global, fault: &D, wanted: &str) -> bool {
+    match format!(in alloc; "{fault}") {
+        Ok(text) => text.as_str() == wanted,
+        Err(_) => false,
+    }
+}
+
+// The faults of a run, with their texts.
+const RUN_FAULTS: [(RunFault, &str); 4] = [
+    (RunFault::Read, "read fault"),
+    (RunFault::Write, "write fault"),
+    (RunFault::OutOfMemory, "out of memory"),
+    (RunFault::ReaderTooLong, "reader too long"),
+];
+
 #[test]
-fn faults_have_texts(rt: HostRuntime) -> Result<(), Fail> {
-    check_fault(rt.alloc(), ReadFault, "read fault")?;
-    check_fault(rt.alloc(), WriteFault, "write fault")?;
-    check_fault(rt.alloc(), RunFault::Read, "read fault")?;
-    check_fault(rt.alloc(), RunFault::Write, "write fault")?;
-    check_fault(rt.alloc(), RunFault::OutOfMemory, "out of memory")?;
-    check_fault(rt.alloc(), RunFault::ReaderTooLong, "reader too long")
+fn faults_have_texts(rt: HostRuntime) {
+    assert!(rt; has_text(rt.alloc(), &ReadFault, "read fault"));
+    assert!(rt; has_text(rt.alloc(), &WriteFault, "write fault"));
+    for (fault, wanted) in &RUN_FAULTS {
+        assert!(rt; has_text(rt.alloc(), fault, wanted), "wrong at {wanted}");
+    }
 }
