@@ -1,8 +1,8 @@
-//! Cells by their tokens, which `None` stands for where a row has no token.
+//! Cells, compared with those that tokens name.
 use s2id_core::CellId;
 use s2id_samples::cell_of;
 
-// Whether a cell is the one that a token names; no token, none.
+// Whether a cell is the one that a token names; where there is no token, whether there is no cell.
 pub(crate) fn is_cell_or_none(cell: Option<CellId>, token: &str) -> bool {
     if token.is_empty() {
         cell.is_none()
