@@ -1,55 +1,52 @@
 // Dumps of random bags, read back.
+use crate::samples::{next_number, random_pairs};
 use s2id_samples::Random;
-use s2ix_bag::{Bag, Change, Entry, Label, Limits, Pair};
+use s2ix_bag::{Bag, Change, Entry, Limits};
 use s2ix_io::KeepingSink;
 use s2ix_read_dump::read_dump;
 use s2ix_text::write_dump;
 use std::alloc::Global;
-use std::process::Abort;
 
-// The next number below a bound.
-fn next_number(rt: &impl Abort, random: &mut Random, bound: u64) -> u32 {
-    u32::try_from(random.below(bound)).expect(rt, "a number")
-}
-
-// Pairs in rising order, each once.
-fn random_pairs(rt: &impl Abort, alloc: Global, random: &mut Random) -> Vec<Pair> {
-    let mut pairs = Vec::new(alloc);
-    for _ in 0..random.below(40) {
-        let cell = random.any_cell().expect(rt, "a cell");
-        let label = Label::new(next_number(rt, random, 1 << 31)).expect(rt, "a label");
-        pairs.push(Pair { cell, label }).expect(rt, "memory");
-    }
-    pairs.sort().expect(rt, "memory");
-    pairs.dedup();
-    pairs
-}
-
-// A bag of random pairs with random counts.
-fn random_bag(rt: &impl Abort, alloc: Global, random: &mut Random) -> Bag {
+// Entries of random pairs that were not held, with random counts.
+fn random_entries(alloc: Global, random: &mut Random) -> Option<Vec<Entry>> {
+    let count = random.below(40);
+    let pairs = random_pairs(alloc, random, count)?;
     let mut entries = Vec::new(alloc);
-    for pair in random_pairs(rt, alloc, random) {
-        let after = next_number(rt, random, 65_535).wrapping_add(1);
+    for &pair in pairs.as_slice() {
+        let after = next_number(random, 65_535)?.wrapping_add(1);
         let entry = Entry {
             pair,
             before: 0,
             after,
         };
-        entries.push(entry).expect(rt, "memory");
+        entries.push(entry).ok()?;
     }
-    let change = Change::from_entries(alloc, &entries).expect(rt, "a change");
-    let empty = Bag::empty(alloc, Limits::default());
-    empty.applied(alloc, &change).expect(rt, "a bag")
+    Some(entries)
+}
+
+// A bag of random pairs with random counts.
+fn random_bag(alloc: Global, random: &mut Random) -> Option<Bag> {
+    let entries = random_entries(alloc, random)?;
+    let change = Change::from_entries(alloc, &entries).ok()?;
+    Bag::empty(alloc, Limits::default())
+        .applied(alloc, &change)
+        .ok()
+}
+
+// Whether a bag is read back of its dump.
+fn is_read_back(alloc: Global, bag: &Bag) -> Option<bool> {
+    let mut sink = KeepingSink::new(alloc, 1_000_000, 0, false);
+    write_dump(bag, &mut sink).ok()?;
+    let read = read_dump(alloc, sink.kept(), bag.limits()).ok()?;
+    Some(read == *bag)
 }
 
 #[test]
 fn what_was_written_is_read_back(rt: HostRuntime) {
     let mut random = Random::new(7);
-    for _ in 0..200 {
-        let bag = random_bag(&rt, rt.alloc(), &mut random);
-        let mut sink = KeepingSink::new(rt.alloc(), 1_000_000, 0, false);
-        write_dump(&bag, &mut sink).expect(&rt, "a sink");
-        let read = read_dump(rt.alloc(), sink.kept(), bag.limits()).expect(&rt, "a dump");
-        assert!(&rt; read == bag);
+    for number in 0..200 {
+        let bag = random_bag(rt.alloc(), &mut random).expect(&rt, "a bag");
+        let same = is_read_back(rt.alloc(), &bag);
+        assert!(rt; same == Some(true), "wrong at sample {number}");
     }
 }

@@ -1,5 +1,6 @@
 // What stands at the front of a text.
 use s2ix_parts::{number_in_front, token_in_front};
+use std::alloc::Global;
 
 const MORE: &[u8] = b" 12 345\n9555555555555555 12 345\n";
 
@@ -14,24 +15,35 @@ fn parts_of_a_line_are_read_from_its_front(rt: HostRuntime) {
     assert!(&rt; count == 23 && behind == b"end 1 23\n".as_slice());
 }
 
+// A text with more behind it.
+fn with_more(alloc: Global, front: &[u8]) -> Option<Vec<u8>> {
+    let mut text = Vec::from_slice(alloc, front).ok()?;
+    text.extend_from_slice(MORE).ok()?;
+    Some(text)
+}
+
+// Tokens of another shape.
+const TOKENS: [&[u8]; 7] = [
+    b"",
+    b"040",
+    b"0A",
+    b"x",
+    b"2",
+    b"04\t",
+    b"95555555555555551",
+];
+
+// Numbers of another shape.
+const NUMBERS: [&[u8]; 6] = [b"", b"00", b"01", b"+1", b"1x", b"1234567890"];
+
 #[test]
 fn another_shape_is_not_read_from_the_front(rt: HostRuntime) {
-    for token in [
-        b"".as_slice(),
-        b"040",
-        b"0A",
-        b"x",
-        b"2",
-        b"04\t",
-        b"95555555555555551",
-    ] {
-        let mut text = Vec::from_slice(rt.alloc(), token).expect(&rt, "memory");
-        text.extend_from_slice(MORE).expect(&rt, "memory");
+    for token in &TOKENS {
+        let text = with_more(rt.alloc(), token).expect(&rt, "memory");
         assert!(&rt; token_in_front(&text).is_none());
     }
-    for number in [b"".as_slice(), b"00", b"01", b"+1", b"1x", b"1234567890"] {
-        let mut text = Vec::from_slice(rt.alloc(), number).expect(&rt, "memory");
-        text.extend_from_slice(MORE).expect(&rt, "memory");
+    for number in &NUMBERS {
+        let text = with_more(rt.alloc(), number).expect(&rt, "memory");
         assert!(&rt; number_in_front(&text, b' ').is_none());
     }
 }

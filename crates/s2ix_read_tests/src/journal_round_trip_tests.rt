@@ -1,74 +1,69 @@
 // Journals of random changes, read back.
+use crate::samples::{next_number, random_pairs};
 use s2id_samples::Random;
-use s2ix_bag::{Change, Entry, Label, Limits, Pair};
+use s2ix_bag::{Change, Entry, Limits};
 use s2ix_io::KeepingSink;
 use s2ix_read_journal::read_journal;
 use s2ix_text::write_journal;
 use std::alloc::Global;
-use std::process::Abort;
 
-// The next number below a bound.
-fn next_number(rt: &impl Abort, random: &mut Random, bound: u64) -> u32 {
-    u32::try_from(random.below(bound)).expect(rt, "a number")
-}
-
-// Pairs in rising order, each once, and one at least.
-fn random_pairs(rt: &impl Abort, alloc: Global, random: &mut Random) -> Vec<Pair> {
-    let mut pairs = Vec::new(alloc);
-    for _ in 0..=random.below(19) {
-        let cell = random.any_cell().expect(rt, "a cell");
-        let label = Label::new(next_number(rt, random, 1 << 31)).expect(rt, "a label");
-        pairs.push(Pair { cell, label }).expect(rt, "memory");
-    }
-    pairs.sort().expect(rt, "memory");
-    pairs.dedup();
-    pairs
-}
-
-// A change of random pairs with random counts.
-fn random_change(rt: &impl Abort, alloc: Global, random: &mut Random) -> Change {
+// Entries of random pairs with random counts, one at least.
+fn random_entries(alloc: Global, random: &mut Random) -> Option<Vec<Entry>> {
+    let count = random.below(19).wrapping_add(1);
+    let pairs = random_pairs(alloc, random, count)?;
     let mut entries = Vec::new(alloc);
-    for pair in random_pairs(rt, alloc, random) {
-        let before = next_number(rt, random, 65_536);
+    for &pair in pairs.as_slice() {
+        let before = next_number(random, 65_536)?;
         let after = 65_535u32.wrapping_sub(before);
         let entry = Entry {
             pair,
             before,
             after,
         };
-        entries.push(entry).expect(rt, "memory");
+        entries.push(entry).ok()?;
     }
-    Change::from_entries(alloc, &entries).expect(rt, "a change")
+    Some(entries)
 }
 
-fn random_changes(rt: &impl Abort, alloc: Global, random: &mut Random) -> Vec<Change> {
+// A change of random pairs with random counts.
+fn random_change(alloc: Global, random: &mut Random) -> Option<Change> {
+    let entries = random_entries(alloc, random)?;
+    Change::from_entries(alloc, &entries).ok()
+}
+
+// Some random changes, or none.
+fn random_changes(alloc: Global, random: &mut Random) -> Option<Vec<Change>> {
     let mut changes = Vec::new(alloc);
     for _ in 0..random.below(6) {
-        let change = random_change(rt, alloc, random);
-        changes.push(change).expect(rt, "memory");
+        changes.push(random_change(alloc, random)?).ok()?;
     }
-    changes
+    Some(changes)
 }
 
+// Whether some changes have the same entries as others.
 fn are_same(changes: &[Change], others: &[Change]) -> bool {
+    for (one, other) in changes.iter().zip(others) {
+        if one.entries() != other.entries() {
+            return false;
+        }
+    }
     changes.len() == others.len()
-        && changes
-            .iter()
-            .zip(others)
-            .all(|(one, other)| one.entries() == other.entries())
+}
+
+// Whether changes are read back of their journal.
+fn are_read_back(alloc: Global, changes: &[Change]) -> Option<bool> {
+    let mut sink = KeepingSink::new(alloc, 1_000_000, 0, false);
+    write_journal(changes, &mut sink).ok()?;
+    let read = read_journal(alloc, sink.kept(), Limits::default()).ok()?;
+    Some(are_same(read.as_slice(), changes))
 }
 
 #[test]
 fn what_was_written_is_read_back(rt: HostRuntime) {
     let mut random = Random::new(11);
-    for _ in 0..200 {
-        let changes = random_changes(&rt, rt.alloc(), &mut random);
-        let mut sink = KeepingSink::new(rt.alloc(), 1_000_000, 0, false);
-        write_journal(changes.as_slice(), &mut sink).expect(&rt, "a sink");
-        let read = read_journal(rt.alloc(), sink.kept(), Limits::default()).expect(
-            &rt,
-            "a journal",
-        );
-        assert!(&rt; are_same(read.as_slice(), changes.as_slice()));
+    for number in 0..200 {
+        let changes = random_changes(rt.alloc(), &mut random).expect(&rt, "changes");
+        let same = are_read_back(rt.alloc(), changes.as_slice());
+        assert!(rt; same == Some(true), "wrong at sample {number}");
     }
 }

@@ -11,3 +11,5 @@ mod front_tests;
 mod journal_round_trip_tests;
 #[cfg(test)]
 mod journal_tests;
+#[cfg(test)]
+mod samples;
