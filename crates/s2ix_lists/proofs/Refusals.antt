@@ -168,9 +168,9 @@ inverse_taken bag es is_bag es_is taken =
 -- ---- the sum of the counts
 
 -- it is at most as many times the greatest limit on a count as there may be pairs
-pub copies_bound : (bag : LimitedCollection) → IsBag bag → copies_in bag.held ≤ 65535000000
+pub copies_bound : (bag : LimitedCollection) → IsBag bag → copies_in bag.held ≤ 4294967295000000
 copies_bound bag is_bag =
     let pairs : length bag.held ≤ 1000000 = omega (arith, is_bag.few, bag.limits.in_range.1) in
-    let count : count_limit bag.limits ≤ 65535 = bag.limits.in_range.3 in
-    let most : length bag.held * count_limit bag.limits ≤ 1000000 * 65535 = mul-le-mul pairs count in
+    let count : count_limit bag.limits ≤ 4294967295 = bag.limits.in_range.3 in
+    let most : length bag.held * count_limit bag.limits ≤ 1000000 * 4294967295 = mul-le-mul pairs count in
     omega (arith, sum_by-le (λ (h : Held). h.count) (count_limit bag.limits) bag.held is_bag.small, most)

@@ -16,4 +16,4 @@ changes_limit limits = limits.changes
 
 -- each limit is the greatest of its range
 abbrev pub IsWidest : Limits → Type 0
-IsWidest limits = (pairs_limit limits ≡ 1000000) × (count_limit limits ≡ 65535) × (changes_limit limits ≡ 100000)
+IsWidest limits = (pairs_limit limits ≡ 1000000) × (count_limit limits ≡ 4294967295) × (changes_limit limits ≡ 100000)

@@ -13,7 +13,7 @@ pub struct Limits {
 impl Limits {
     ghost use Rattle.s2ix_pairs.specs.Limits.{pairs_limit, count_limit, changes_limit};
 
-    /// Limits of at most `pairs` distinct pairs (1 to 1,000,000), `count` copies of a pair (1 to 65,535) and
+    /// Limits of at most `pairs` distinct pairs (1 to 1,000,000), `count` copies of a pair (1 to 4,294,967,295) and
     /// `changes` that can be undone (1 to 100,000), or `None` where one of them is out of its range.
     pub fn new(pairs: u32, count: u32, changes: u32) -> Option<Limits>
         ensures valid { IsSome result ↔ AreLimits pairs count changes }
@@ -22,7 +22,7 @@ impl Limits {
         ensures changes { IfSome result (λ limits. changes_limit limits ≡ changes) }
     {
         let valid = (1..=1_000_000).contains(&pairs)
-            && (1..=65_535).contains(&count)
+            && count >= 1
             && (1..=100_000).contains(&changes);
         if valid {
             Some(Limits {
@@ -57,7 +57,7 @@ impl Limits {
     }
 }
 
-/// The widest limits: 1,000,000 pairs, 65,535 copies of a pair and 100,000 changes.
+/// The widest limits: 1,000,000 pairs, 4,294,967,295 copies of a pair and 100,000 changes.
 impl Default for Limits {
     ghost use Rattle.s2ix_pairs.specs.Limits.{IsWidest};
 
@@ -66,7 +66,7 @@ impl Default for Limits {
     fn default() -> Self {
         Limits {
             pairs: 1_000_000,
-            count: 65_535,
+            count: u32::MAX,
             changes: 100_000,
         }
     }

@@ -28,7 +28,7 @@ impl Pair {
 pub struct Held {
     /// The pair.
     pub pair: Pair,
-    /// How many copies of it are held: at least 1, and in a bag at most the limit, which is 65,535 or less.
+    /// How many copies of it are held: at least 1, and in a bag at most the limit.
     pub count: u32,
 }
 
