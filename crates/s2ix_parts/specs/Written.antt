@@ -29,10 +29,6 @@ number_written text = if bytes_eq text (decimal (digits_value 10 text)) then Som
 unfoldable pub label_written : List ℕ → Option Label
 label_written text = option_and_then label_numbered (number_written text)
 
--- the greatest count that the lines of a text with this header write
-unfoldable pub greatest_count : List ℕ → ℕ
-greatest_count header = 65535
-
 -- a count of a pair that is held: from 1 to the greatest that may be written
 abbrev pub count_from : ℕ → ℕ → Option ℕ
 count_from most n = if nat_le 1 n && nat_le n most then Some n else None

@@ -11,4 +11,4 @@ mod written;
 
 pub use cuts::{cut_line, cut_part, first_part, three_parts};
 pub use front::{number_in_front, token_in_front};
-pub use written::{GREATEST_COUNT, cell_written, count_written, label_written, number_written};
+pub use written::{cell_written, count_written, label_written, number_written};

@@ -41,9 +41,6 @@ pub fn label_written(text: &[u8]) -> Option<Label>
     Label::new(number_written(text)?)
 }
 
-/// The greatest count that a dump or a journal writes.
-pub const GREATEST_COUNT: u32 = 65535;
-
 /// The count of a pair that is held, from 1 to `most`, which a text writes in canonical digits. O(n) for n bytes. This project's own.
 pub fn count_written(most: u32, text: &[u8]) -> Option<u32>
     ensures { result ≡ count_that most text.now }

@@ -2,7 +2,6 @@
 use Rattle.std.proofs.Common.{◌≡◌, ℕ, List, [], ◌∷◌, ◌++◌, refl, sym, ap₂, ◌∙◌, subst, append_assoc, arith, All}
 use Rattle.std.specs.Prelude.{codes, decimal, flat_map}
 use Rattle.std.proofs.lemmas.Fmt.{decimal_injective}
-use Rattle.std.proofs.lemmas.List.{append_cancel_left}
 use Rattle.std.proofs.lemmas.List.Elements.{All-nil, All-cons, All-head, All-tail}
 use Rattle.s2id_core.specs.CellId.{raw_of}
 use Rattle.s2id_core.specs.Token.{canonical_token, IsLowerHex}
@@ -10,8 +9,11 @@ use Rattle.s2id_core.proofs.Canonical.{lower-canonical_token}
 use Rattle.s2ix_pairs.specs.declared.pair.Held.{Held}
 use Rattle.s2ix_pairs.specs.declared.pair.Pair.{Pair}
 use Rattle.s2ix_pairs.specs.Collection.{Collection, LimitedCollection, IsBag}
-use Rattle.s2ix_text.specs.Dump.{HasSmallCount, dump_text, end_line, pair_line}
+use Rattle.s2ix_text.specs.declared.version.Version.{Version}
+use Rattle.s2ix_text.specs.declared.version.Version.TheVariants.{Second}
+use Rattle.s2ix_text.specs.Dump.{CanHold, HasSmallCount, IsDump, dump_in, dump_text, end_line, pair_line}
 use Rattle.s2ix_text.proofs.Journals.{IsGraphic, cut_field, cut_pair, decimal_graphic, token_graphic}
+use Rattle.s2ix_text.proofs.Versions.{greatest_fits, same_dump_header}
 
 -- ---- lines of held pairs
 
@@ -49,16 +51,30 @@ one_list (h ∷ hs) (k ∷ ks) r s hs_are ks_are same =
 
 -- ---- dumps
 
-pub one_dump : (hs ks : Collection) → All HasSmallCount hs → All HasSmallCount ks → dump_text hs ≡ dump_text ks → hs ≡ ks
-unfolding dump_text end_line
-one_dump hs ks hs_are ks_are same =
-    one_list hs ks _ _ hs_are ks_are
-    (append_cancel_left (codes "s2ix 1\n") (flat_map pair_line hs ++ end_line hs) (flat_map pair_line ks ++ end_line ks) same)
+-- what a dump tells below its header
+same_below : (v w : Version) (hs ks : Collection) → dump_in v hs ≡ dump_in w ks → (v ≡ w) × (flat_map pair_line hs ++ end_line hs ≡ flat_map pair_line ks ++ end_line ks)
+unfolding dump_in
+same_below v w hs ks same = same_dump_header v w (flat_map pair_line hs ++ end_line hs) (flat_map pair_line ks ++ end_line ks) same
 
--- the counts of a bag are small
-small_counts : (bag : LimitedCollection) → IsBag bag → All HasSmallCount bag.held
-small_counts bag is = λ k d within. let range = bag.limits.in_range in let small = is.small k d within in omega (arith, range, small)
+pub one_version : (v w : Version) (hs ks : Collection) → dump_in v hs ≡ dump_in w ks → v ≡ w
+one_version v w hs ks same = (same_below v w hs ks same).0
+
+-- what a version can hold has counts of 32 bits
+small_counts : (version : Version) (hs : Collection) → CanHold version hs → All HasSmallCount hs
+small_counts version hs held = λ k d within. let small = held k d within in let fits = greatest_fits version in omega (arith, small, fits)
+
+pub one_dump : (text : List ℕ) (hs ks : Collection) → IsDump text hs → IsDump text ks → hs ≡ ks
+unfolding end_line
+one_dump text hs ks of_hs of_ks =
+    one_list hs ks _ _ (small_counts of_hs.0 hs of_hs.1.0) (small_counts of_ks.0 ks of_ks.1.0)
+    (same_below of_hs.0 of_ks.0 hs ks (sym of_hs.1.1 ∙ of_ks.1.1)).1
+
+-- what is written of a bag is a dump of it
+pub bag_dump : (bag : LimitedCollection) → IsBag bag → IsDump (dump_text bag.held) bag.held
+bag_dump bag is =
+    let held : CanHold Second bag.held = λ k d within. let range = bag.limits.in_range in let small = is.small k d within in omega (arith, range, small) in
+    (Second, held, refl)
 
 pub one_dump_of_bags : (bag other : LimitedCollection) → IsBag bag → IsBag other → dump_text bag.held ≡ dump_text other.held → bag.held ≡ other.held
 one_dump_of_bags bag other is other_is same =
-    one_dump bag.held other.held (small_counts bag is) (small_counts other other_is) same
+    one_dump (dump_text other.held) bag.held other.held (subst (λ text. IsDump text bag.held) same (bag_dump bag is)) (bag_dump other other_is)

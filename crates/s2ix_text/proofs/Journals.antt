@@ -11,13 +11,13 @@ use Rattle.s2ix_pairs.specs.Label.{value_of}
 use Rattle.s2ix_pairs.specs.declared.pair.Entry.{Entry}
 use Rattle.s2ix_pairs.specs.declared.pair.Pair.{Pair}
 use Rattle.s2ix_pairs.proofs.Pairs.{same_pair}
-use Rattle.s2ix_text.specs.Journal.{IsWritable, change_line, entry_line, group_text, journal_text, last_line}
+use Rattle.s2ix_text.specs.declared.version.Version.{Version}
+use Rattle.s2ix_text.specs.declared.version.Version.TheVariants.{Second}
+use Rattle.s2ix_text.specs.Version.{greatest_in}
+use Rattle.s2ix_text.specs.Journal.{IsJournalText, IsWritable, IsWritableIn, change_line, entry_line, group_text, journal_in, journal_text, last_line}
+use Rattle.s2ix_text.proofs.Versions.{greatest_fits, head_of, same_journal_header}
 
 -- ---- texts that are cut at a space or a line feed
-
-head_of : List ℕ → ℕ
-head_of [] = 0
-head_of (x ∷ xs) = x
 
 tail_of : List ℕ → List ℕ
 tail_of [] = []
@@ -83,7 +83,7 @@ same_entry e f pairs befores afters =
     ap (λ (p : Pair). let made : Entry = record { pair = p; before = e.before; after = e.after } in made) pairs
     ∙ ap₂ (λ (b a : ℕ). let made : Entry = record { pair = f.pair; before = b; after = a } in made) befores afters
 
-one_line : (e f : Entry) (r s : List ℕ) → e.before ≤ 65535 → e.after ≤ 65535 → f.before ≤ 65535 → f.after ≤ 65535 → entry_line e ++ r ≡ entry_line f ++ s → (e ≡ f) × (r ≡ s)
+one_line : (e f : Entry) (r s : List ℕ) → e.before ≤ 4294967295 → e.after ≤ 4294967295 → f.before ≤ 4294967295 → f.after ≤ 4294967295 → entry_line e ++ r ≡ entry_line f ++ s → (e ≡ f) × (r ≡ s)
 unfolding entry_line
 one_line e f r s eb ea fb fa same =
     let pair = cut_pair e.pair f.pair _ _ r s same in
@@ -96,10 +96,10 @@ one_line e f r s eb ea fb fa same =
     )
 
 abbrev pub BeforeIsSmall : Entry → Type 0
-BeforeIsSmall e = e.before ≤ 65535
+BeforeIsSmall e = e.before ≤ 4294967295
 
 abbrev pub AfterIsSmall : Entry → Type 0
-AfterIsSmall e = e.after ≤ 65535
+AfterIsSmall e = e.after ≤ 4294967295
 
 one_entries : (es fs : List Entry) (r s : List ℕ) → length es ≡ length fs → All BeforeIsSmall es → All AfterIsSmall es → All BeforeIsSmall fs → All AfterIsSmall fs
     → flat_map entry_line es ++ r ≡ flat_map entry_line fs ++ s → (es ≡ fs) × (r ≡ s)
@@ -140,8 +140,34 @@ one_groups (c ∷ cs) (d ∷ ds) r s cs_are ds_are same =
 
 -- ---- journals
 
-pub one_journal : (cs ds : List (List Entry)) → All IsWritable cs → All IsWritable ds → journal_text cs ≡ journal_text ds → cs ≡ ds
-unfolding journal_text last_line
-one_journal cs ds cs_are ds_are same =
-    one_groups cs ds _ _ cs_are ds_are
-    (append_cancel_left (codes "s2ix-journal 1\n") (flat_map group_text cs ++ last_line cs) (flat_map group_text ds ++ last_line ds) same)
+-- what a journal tells below its header
+same_below : (v w : Version) (cs ds : List (List Entry)) → journal_in v cs ≡ journal_in w ds → (v ≡ w) × (flat_map group_text cs ++ last_line cs ≡ flat_map group_text ds ++ last_line ds)
+unfolding journal_in
+same_below v w cs ds same = same_journal_header v w (flat_map group_text cs ++ last_line cs) (flat_map group_text ds ++ last_line ds) same
+
+pub one_version : (v w : Version) (cs ds : List (List Entry)) → journal_in v cs ≡ journal_in w ds → v ≡ w
+one_version v w cs ds same = (same_below v w cs ds same).0
+
+-- what a version can hold can be written
+pub writable : (version : Version) (es : List Entry) → IsWritableIn version es → IsWritable es
+writable version es is =
+    let fits = greatest_fits version in
+    record {
+      some = is.some;
+      few = is.few;
+      small_before = λ k d within. let small = is.small_before k d within in omega (arith, small, fits);
+      small_after = λ k d within. let small = is.small_after k d within in omega (arith, small, fits);
+    }
+
+all_writable : (version : Version) (cs : List (List Entry)) → All (IsWritableIn version) cs → All IsWritable cs
+all_writable version cs are = λ k d within. writable version _ (are k d within)
+
+pub one_journal : (text : List ℕ) (cs ds : List (List Entry)) → IsJournalText text cs → IsJournalText text ds → cs ≡ ds
+unfolding last_line
+one_journal text cs ds of_cs of_ds =
+    one_groups cs ds _ _ (all_writable of_cs.0 cs of_cs.1.0) (all_writable of_ds.0 ds of_ds.1.0)
+    (same_below of_cs.0 of_ds.0 cs ds (sym of_cs.1.1 ∙ of_ds.1.1)).1
+
+-- what is written of writable changes is a journal of them
+pub written_journal : (cs : List (List Entry)) → All IsWritable cs → IsJournalText (journal_text cs) cs
+written_journal cs are = (Second, are, refl)

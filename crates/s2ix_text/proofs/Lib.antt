@@ -1,3 +1,4 @@
+pub mod Versions
 pub mod Dumps
 pub mod Journals
 pub mod Gathered

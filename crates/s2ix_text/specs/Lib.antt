@@ -1,4 +1,5 @@
 pub mod Answers
+pub mod Version
 pub mod Dump
 pub mod Journal
 pub mod Laws

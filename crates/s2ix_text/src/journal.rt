@@ -72,14 +72,14 @@ fn write_groups<K: Sink>(changes: &[Change], sink: &mut K) -> Result<(), WriteFa
     Ok(())
 }
 
-/// Writes the journal of a list of changes: for each change, the oldest first, a line that counts its entries and
+/// Writes the journal of a list of changes in the second version: for each change, the oldest first, a line that counts its entries and
 /// one line for each entry, between a header and a line that counts the changes. O(n) for n entries in all.
 /// This project's own.
 pub fn write_journal<K: Sink>(changes: &[Change], sink: &mut K) -> Result<(), WriteFault>
     requires { CanCount (K.fault_count sink.old) }
     ensures { Writes K.taken K.flush_mark K.fault_count sink.old sink.new result (journal_text changes.now) }
 {
-    put_all(sink, b"s2ix-journal 1\n")?;
+    put_all(sink, b"s2ix-journal 2\n")?;
     write_groups(changes, sink)?;
     write_end_of_list(changes.len(), sink)
 }

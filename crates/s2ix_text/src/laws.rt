@@ -1,13 +1,33 @@
 //! Laws: functions that do nothing, and whose contracts are facts on the definitions.
-ghost use Rattle.s2ix_text.specs.Laws.{DumpsTellBagsApart, DumpsTellCollectionsApart, JournalsTellListsApart};
+ghost use Rattle.s2ix_text.specs.Laws.{BagsHaveDumps, DumpsTellBagsApart, DumpsTellCollectionsApart, DumpsTellVersionsApart, JournalsTellListsApart, JournalsTellVersionsApart, WritableChangesHaveJournals};
 
-/// Two collections whose counts have 32 bits, with one dump, are one; so two bags with one dump hold the same.
+/// A text is a dump of one collection alone, in whichever version; so two bags with one dump hold the same.
 pub fn dumps_tell_collections_apart()
     ensures collections { DumpsTellCollectionsApart }
     ensures bags { DumpsTellBagsApart }
 {}
 
-/// Two lists of writable changes with one journal are one.
+/// A dump is one of one version alone.
+pub fn dumps_tell_versions_apart()
+    ensures { DumpsTellVersionsApart }
+{}
+
+/// The second version can hold each bag, so what is written of a bag is a dump of it.
+pub fn bags_have_dumps()
+    ensures { BagsHaveDumps }
+{}
+
+/// A text is a journal of one list of changes alone, in whichever version.
 pub fn journals_tell_lists_apart()
     ensures { JournalsTellListsApart }
+{}
+
+/// A journal is one of one version alone.
+pub fn journals_tell_versions_apart()
+    ensures { JournalsTellVersionsApart }
+{}
+
+/// What is written of writable changes is a journal of them.
+pub fn writable_changes_have_journals()
+    ensures { WritableChangesHaveJournals }
 {}
