@@ -7,7 +7,7 @@ use Rattle.s2ix_text.specs.declared.version.Version.TheVariants.{First, Second}
 use Rattle.s2ix_text.specs.Version.{dump_header, greatest_in, journal_header}
 
 -- the first byte of a text
-pub head_of : List ℕ → ℕ
+unfoldable pub head_of : List ℕ → ℕ
 head_of [] = 0
 head_of (x ∷ xs) = x
 
