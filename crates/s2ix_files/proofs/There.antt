@@ -95,7 +95,7 @@ replay_rewound limits dump journal answer answers accepted =
 -- a dump of the version that is written is the one that is written of what it reads as
 written_again : (hs ks : Collection) → IsDump (dump_text hs) ks → dump_text ks ≡ dump_text hs
 written_again hs ks of_ks =
-    subst (λ (v : Version). dump_in v ks ≡ dump_text hs) (one_version of_ks.0 Second ks hs (sym of_ks.1.1)) (sym of_ks.1.1)
+    subst (λ (v : Version). dump_in v ks ≡ dump_text hs) (one_version of_ks.0 Second ks hs (sym of_ks.2)) (sym of_ks.2)
 
 -- so what comes back is that dump
 pub bytes_back : (There Back : Limits → List ℕ → List ℕ → Answer → Type 0) → ComesBack There Back → BytesComeBack There Back
