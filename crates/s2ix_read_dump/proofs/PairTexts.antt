@@ -16,11 +16,13 @@ use Rattle.s2ix_pairs.specs.Label.{value_of}
 use Rattle.s2ix_pairs.specs.declared.label.Label.{Label}
 use Rattle.s2ix_pairs.specs.declared.pair.Held.{Held}
 use Rattle.s2ix_text.specs.Dump.{end_line, pair_line}
+use Rattle.s2ix_text.specs.Version.{dump_version}
 use Rattle.s2ix_text.proofs.Journals.{IsGraphic, decimal_graphic, token_graphic}
-use Rattle.s2ix_read_dump.specs.DumpFaults.{end_text, is_end}
+use Rattle.s2ix_text.proofs.Versions.{greatest_below_fits}
+use Rattle.s2ix_read_dump.specs.DumpFaults.{end_text, greatest_count, is_end}
 use Rattle.s2ix_parts.specs.Lines.{has_parts, is_nil, lines_of, parts_of}
 use Rattle.s2ix_read_dump.specs.PairLines.{IsCut, held_of_parts, held_written, line_text}
-use Rattle.s2ix_parts.specs.Written.{cell_written, count_of_line, count_written, label_written, pair_with, pair_written, greatest_count}
+use Rattle.s2ix_parts.specs.Written.{cell_written, count_of_line, count_written, label_written, pair_with, pair_written}
 use Rattle.s2ix_read_dump.specs.declared.errors.DumpFault.TheVariants.{BadLine}
 use Rattle.s2ix_parts.proofs.PartCounts.{graphic_lacks}
 use Rattle.s2ix_parts.proofs.Pieces.{Lacks, is_some_text, lines_apart, parts_apart, parts_joined, three_from_parts}
@@ -31,8 +33,7 @@ abbrev pub HasCount : List ℕ → Held → Type 0
 HasCount header h = (1 ≤ h.count) × (h.count ≤ greatest_count header)
 
 pub greatest_small : (header : List ℕ) → greatest_count header < 2 ^ 32
-unfolding greatest_count
-greatest_small header = omega arith
+greatest_small header = greatest_below_fits (dump_version header)
 
 small_label : (label : Label) → value_of label < 2 ^ 64
 small_label label = let within : value_of label ≤ 2147483647 = label.in_range in omega arith

@@ -1,10 +1,9 @@
 //! Dumps, read back.
 ghost use Rattle.std.specs.Prelude.{◌≡◌, ◌∷◌, ◌++◌, [], ℕ, List, codes, flat_map, IfErr, IfNone, IfOk, IfSome, MatchResult, None, OnOk, IsTrue, ◌↔◌, true};
 ghost use Rattle.s2ix_pairs.specs.Collection.{Collection, IsBag, copies_in};
-ghost use Rattle.s2ix_text.specs.Dump.{dump_text, end_line, pair_line};
+ghost use Rattle.s2ix_text.specs.Dump.{IsDump, end_line, pair_line};
 ghost use Rattle.s2ix_read_dump.specs.declared.errors.DumpError.TheVariants.{OutOfMemory};
-ghost use Rattle.s2ix_parts.specs.Written.{greatest_count};
-ghost use Rattle.s2ix_read_dump.specs.DumpFaults.{IsDumpError, dump_fault, end_text, is_end, line_fault};
+ghost use Rattle.s2ix_read_dump.specs.DumpFaults.{IsDumpError, dump_fault, end_text, greatest_count, is_end, line_fault};
 ghost use Rattle.s2ix_parts.specs.Faults.{fault_below};
 ghost use Rattle.s2ix_parts.specs.Lines.{lines_of};
 ghost use Rattle.s2ix_read_dump.specs.PairLines.{IsCut, IsDumped, IsNext, line_text, lines_down_to};
@@ -13,7 +12,8 @@ use crate::errors::{DumpError, DumpFault};
 use crate::pair_line::{next_held, next_in_front};
 use itoa::Buffer;
 use s2ix_bag::{Bag, FlatHeld, Held, Limits};
-use s2ix_parts::{GREATEST_COUNT, cut_line, first_part, three_parts};
+use s2ix_parts::{cut_line, first_part, three_parts};
+use s2ix_text::Version;
 use std::alloc::{AllocError, Global};
 
 // Whether a line with the first part `end` is the end line of so many pairs and copies.
@@ -141,15 +141,16 @@ fn read_below(
     Ok(held)
 }
 
-/// Reads a dump under limits: the bag whose dump the text is, or the first line that has a fault and the first fault of that line.
+/// Reads a dump of either version under limits: the bag whose dump the text is, or the first line that has a fault and the first fault of
+/// that line.
 ///
 /// Lines count from 1. Want of memory may be told in place of a fault of line 2 or a later one. O(n) for n bytes.
 /// This project's own.
 pub fn read_dump(alloc: Global, text: &[u8], limits: Limits) -> Result<Bag, DumpError>
     ensures limits { IfOk result (λ bag. bag.limits ≡ limits) }
     ensures within { IfOk result IsBag }
-    ensures text { IfOk result (λ bag. text.now ≡ dump_text bag.held) }
-    ensures every { (hs : Collection) → IsBag (record { limits = limits; held = hs }) → text.now ≡ dump_text hs
+    ensures text { IfOk result (λ bag. IsDump text.now bag.held) }
+    ensures every { (hs : Collection) → IsBag (record { limits = limits; held = hs }) → IsDump text.now hs
         → MatchResult result (λ bag. bag.held ≡ hs) (λ error. error ≡ OutOfMemory) }
     ensures accepted { OnOk result (dump_fault limits text.now ≡ None) }
     ensures refused { IfErr result (λ error. IsDumpError error (dump_fault limits text.now)) }
@@ -160,13 +161,13 @@ pub fn read_dump(alloc: Global, text: &[u8], limits: Limits) -> Result<Bag, Dump
             fault: DumpFault::Truncated,
         });
     };
-    if header != b"s2ix 1".as_slice() {
+    let Some(version) = Version::of_dump(header) else {
         return Err(DumpError::At {
             line: 1,
             fault: DumpFault::BadHeader,
         });
-    }
+    };
     let room = room_for(alloc, limits, below)?;
-    let held = read_below(limits, GREATEST_COUNT, room, below)?;
+    let held = read_below(limits, version.greatest_count(), room, below)?;
     Ok(Bag::from_held(alloc, limits, held.as_slice())?)
 }

@@ -1,9 +1,9 @@
 //! The line of a held pair.
 ghost use Rattle.std.specs.Prelude.{◌≡◌, ◌≤◌, ◌++◌, ◌∷◌, ℕ, false, IfErr, IfNone, IfOk, IfSome, List, Some};
 ghost use Rattle.s2ix_pairs.specs.declared.pair.Held.{Held as HeldRecord};
-ghost use Rattle.s2ix_read_dump.specs.DumpFaults.{is_end, line_fault};
+ghost use Rattle.s2ix_read_dump.specs.DumpFaults.{greatest_count, is_end, line_fault};
 ghost use Rattle.s2ix_read_dump.specs.PairLines.{IsCommonFront, IsCut, IsDumped, IsNext, held_written as held_that, last_pair, line_text, place_below};
-ghost use Rattle.s2ix_parts.specs.Written.{comes_before, greatest_count};
+ghost use Rattle.s2ix_parts.specs.Written.{comes_before};
 
 use crate::errors::DumpFault;
 use s2ix_bag::{FlatHeld, Held, Label, Limits, Pair};

@@ -10,7 +10,7 @@ pub overflow_add-copies : goal.overflow_add-copies
 overflow_add-copies g c =
     let fits = at_some c.in_ok-next.field-0 _ _ c.in-Some.is c.in_ok-next.ensures.fits in
     let next = subst (λ (hs : Collection). IsNext c.args.limits g.header hs (line_text c.in-Some.next) c.in-Some.next) c.as_slice.ensures.value fits in
-    let sum : copies_in c.loop-held.held.items + c.in-Some.next.count ≤ 65535000000 = next_sum c.args.limits g.header c.loop-held.held.items (line_text c.in-Some.next) c.in-Some.next next in
+    let sum : copies_in c.loop-held.held.items + c.in-Some.next.count ≤ 4294967295000000 = next_sum c.args.limits g.header c.loop-held.held.items (line_text c.in-Some.next) c.in-Some.next next in
     let copies : c.loop-held.copies ≡ copies_in c.loop-held.held.items = c.loop-held.invariant.copies in
     omega (arith, sum, copies, c.from-copies.ensures)
 
