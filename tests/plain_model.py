@@ -9,7 +9,7 @@ from plain_cells import (
 
 # What Unicode calls white space.
 WHITE_SPACE = re.compile("[\t-\r \x85\xa0\u1680\u2000-\u200a\u2028\u2029\u202f\u205f\u3000]+")
-MOST_LABEL, LONGEST_LINE, LEAF_END = 2147483647, 65536, 0xC000000000000001
+MOST_LABEL, MOST_COPIES, LONGEST_LINE, LEAF_END = 2147483647, 4294967295, 65536, 0xC000000000000001
 
 
 class Refusal(Exception):
@@ -35,7 +35,7 @@ def label_of(field):
 
 
 def copies_of(field):
-    return number_of(field, "BadCount", 65535, 1)
+    return number_of(field, "BadCount", MOST_COPIES, 1)
 
 
 def level_named(field):
@@ -196,7 +196,7 @@ EDITS = {
 class Model:
     """A history of collections, and the answers to lines over the one at the cursor."""
 
-    def __init__(self, counts=None, pairs=1_000_000, copies=65535, changes=100_000):
+    def __init__(self, counts=None, pairs=1_000_000, copies=MOST_COPIES, changes=100_000):
         self.history, self.cursor = [counts or {}], 0
         self.pairs, self.copies, self.changes = pairs, copies, changes
         self.words = {name: (lambda *given, edit=edit: self.edit(edit, *given), first, more) for name, (edit, first, more) in EDITS.items()}
@@ -306,10 +306,10 @@ class Model:
 
     def dump(self):
         lines = [f"{token_of(cell)} {label} {count}" for (cell, label), count in sorted(self.counts.items())]
-        return ["s2ix 1", *lines, f"end {len(lines)} {sum(self.counts.values())}"]
+        return ["s2ix 2", *lines, f"end {len(lines)} {sum(self.counts.values())}"]
 
     def journal(self):
-        lines = ["s2ix-journal 1"]
+        lines = ["s2ix-journal 2"]
         for before, after in zip(self.history[: self.cursor], self.history[1:]):
             changed = differences(before, after)
             lines.append(f"change {len(changed)}")

@@ -4,7 +4,10 @@ import re
 from plain_cells import cell_spelled, token_of
 
 NUMBER = re.compile(rb"0|[1-9][0-9]*")
-MOST_LABEL, MOST_COUNT, MOST_PAIRS, MOST_CHANGES, MOST_ENTRIES = 2147483647, 65535, 1000000, 100000, 2000000
+MOST_LABEL, MOST_COUNT, MOST_PAIRS, MOST_CHANGES, MOST_ENTRIES = 2147483647, 4294967295, 1000000, 100000, 2000000
+# the greatest count below each header
+DUMPS = {b"s2ix 1": 65535, b"s2ix 2": MOST_COUNT}
+JOURNALS = {b"s2ix-journal 1": 65535, b"s2ix-journal 2": MOST_COUNT}
 
 
 def cell_of(part):
@@ -52,8 +55,9 @@ def read_dump(text, most_pairs=MOST_PAIRS, most_copies=MOST_COUNT):
     line = lines.next()
     if line is None:
         return None, ("Truncated", 1)
-    if line != b"s2ix 1":
+    if line not in DUMPS:
         return None, ("BadHeader", 1)
+    most_written = DUMPS[line]
     while True:
         line = lines.next()
         if line is None:
@@ -62,20 +66,20 @@ def read_dump(text, most_pairs=MOST_PAIRS, most_copies=MOST_COUNT):
             if line != b"end %d %d" % (len(pairs), sum(count for _, count in pairs)):
                 return None, ("BadEnd", lines.number)
             return (None, ("TrailingBytes", lines.number + 1)) if lines.trailing() else (pairs, None)
-        fault, pair = dump_line(line.split(b" "), pairs, most_pairs, most_copies)
+        fault, pair = dump_line(line.split(b" "), pairs, most_written, most_pairs, most_copies)
         if fault:
             return None, (fault, lines.number)
         pairs.append(pair)
 
 
-def dump_line(parts, pairs, most_pairs, most_copies):
+def dump_line(parts, pairs, most_written, most_pairs, most_copies):
     """The fault of a line of a dump under the pairs above it, or its pair with its count."""
     if len(parts) != 3 or b"" in parts:
         return "BadLine", None
     fault, pair = pair_fault(parts)
     if fault:
         return fault, None
-    count = number_of(parts[2], 1, MOST_COUNT)
+    count = number_of(parts[2], 1, most_written)
     if count is None:
         return "BadCount", None
     if pairs and pair <= pairs[-1][0]:
@@ -91,8 +95,9 @@ def read_journal(text):
     line = lines.next()
     if line is None:
         return None, ("Truncated", 1)
-    if line != b"s2ix-journal 1":
+    if line not in JOURNALS:
         return None, ("BadHeader", 1)
+    most_written = JOURNALS[line]
     while True:
         line = lines.next()
         if line is None:
@@ -107,7 +112,7 @@ def read_journal(text):
             if not fault:
                 changes.append([])
         else:
-            fault, entry = entry_line(parts, changes[-1])
+            fault, entry = entry_line(parts, changes[-1], most_written)
             if not fault:
                 changes[-1].append(entry)
                 wanted -= 1
@@ -125,14 +130,14 @@ def group_line(parts, changes):
     return ("TooManyChanges", 0) if len(changes) == MOST_CHANGES else (None, wanted)
 
 
-def entry_line(parts, above):
+def entry_line(parts, above, most_written):
     """The fault of an entry's line under the entries above it, or its pair with its two counts."""
     if len(parts) != 4 or b"" in parts:
         return "BadLine", None
     fault, pair = pair_fault(parts)
     if fault:
         return fault, None
-    before, after = (number_of(part, 0, MOST_COUNT) for part in parts[2:])
+    before, after = (number_of(part, 0, most_written) for part in parts[2:])
     if before is None or after is None:
         return "BadCount", None
     if before == after:
@@ -172,4 +177,4 @@ def moved(dump, journal, is_back):
             counts[pair] = new
     held = sorted((pair, count) for pair, count in counts.items() if count > 0)
     lines = [b"%s %d %d\n" % (token_of(cell).encode(), label, count) for (cell, label), count in held]
-    return b"s2ix 1\n%send %d %d\n" % (b"".join(lines), len(held), sum(count for _, count in held))
+    return b"s2ix 2\n%send %d %d\n" % (b"".join(lines), len(held), sum(count for _, count in held))

@@ -10,25 +10,25 @@ type Row = (&'static [u8], &'static str);
 
 const ROWS: [Row; 5] = [
     // no pair
-    (b"s2ix 1\nend 0 0\n", "{\"pairs\":[],\"version\":1}"),
+    (b"s2ix 2\nend 0 0\n", "{\"pairs\":[],\"version\":1}"),
     // one pair
     (
-        b"s2ix 1\n04 9 1\nend 1 1\n",
+        b"s2ix 2\n04 9 1\nend 1 1\n",
         "{\"pairs\":[[\"04\",9,1]],\"version\":1}",
     ),
     // the pairs rise by cell, and not as texts
     (
-        b"s2ix 1\n04 9 1\n1 7 2\nend 2 3\n",
+        b"s2ix 2\n04 9 1\n1 7 2\nend 2 3\n",
         "{\"pairs\":[[\"04\",9,1],[\"1\",7,2]],\"version\":1}",
     ),
     // one cell under several labels, and the greatest label and count
     (
-        b"s2ix 1\n1 0 1\n1 9 10\n1 2147483647 65535\nend 3 65546\n",
-        "{\"pairs\":[[\"1\",0,1],[\"1\",9,10],[\"1\",2147483647,65535]],\"version\":1}",
+        b"s2ix 2\n1 0 1\n1 9 10\n1 2147483647 4294967295\nend 3 4294967306\n",
+        "{\"pairs\":[[\"1\",0,1],[\"1\",9,10],[\"1\",2147483647,4294967295]],\"version\":1}",
     ),
     // the first leaf and the last one
     (
-        b"s2ix 1\n0000000000000001 5 1\nbfffffffffffffff 5 1\nend 2 2\n",
+        b"s2ix 2\n0000000000000001 5 1\nbfffffffffffffff 5 1\nend 2 2\n",
         "{\"pairs\":[[\"0000000000000001\",5,1],[\"bfffffffffffffff\",5,1]],\"version\":1}",
     ),
 ];

@@ -5,13 +5,15 @@ use Rattle.s2ix_pairs.specs.declared.limits.Limits.{Limits}
 use Rattle.s2ix_pairs.specs.declared.pair.Entry.{Entry}
 use Rattle.s2ix_pairs.specs.Collection.{Collection, LimitedCollection, IsBag}
 use Rattle.s2ix_read_dump.specs.DumpFaults.{dump_fault}
-use Rattle.s2ix_read_dump.proofs.Whole.{dumps_have_no_fault, written_dumps_are_read_back}
+use Rattle.s2ix_read_dump.proofs.Whole.{dumps_have_no_fault}
 use Rattle.s2ix_read_journal.specs.JournalFaults.{journal_fault}
-use Rattle.s2ix_read_journal.proofs.Answered.{journals_have_no_fault, written_journals_are_read_back}
+use Rattle.s2ix_read_journal.proofs.Answered.{journals_have_no_fault}
 use Rattle.s2ix_replay.specs.declared.errors.ReplayError.{ReplayError}
 use Rattle.s2ix_replay.specs.declared.errors.ReplayError.TheVariants as told
 use Rattle.s2ix_replay.specs.Replay.{numbered, replay_refusal, replayed, rewind_refusal, rewound, way_back}
 use Rattle.s2ix_replay.proofs.Forth.{never_memory}
+use Rattle.s2ix_text.proofs.Dumps.{one_dump as one_collection}
+use Rattle.s2ix_text.proofs.Journals.{one_journal as one_list}
 use Rattle.s2ix_files.specs.declared.refusal.Refusal.{Refusal}
 use Rattle.s2ix_files.specs.declared.refusal.Refusal.TheVariants.{Mismatch, TooManyCopies, TooManyPairs}
 use Rattle.s2ix_files.specs.declared.refusal.TextsError.TheVariants.{Refused}
@@ -57,7 +59,7 @@ one_dump_of limits text none =
     let bag : LimitedCollection = record { limits = limits; held = found.0 } in (
       bag,
       (found.1, refl, found.2),
-      λ other is. same_bag bag other is.1 (sym ((written_dumps_are_read_back bag found.1).1 other is.0 (sym found.2 ∙ is.2))),
+      λ other is. same_bag bag other is.1 (one_collection text other.held bag.held is.2 found.2),
     )
 
 dump_is_sound : (limits : Limits) (text : List ℕ) (bag : LimitedCollection) → IsDumpOf limits text bag → dump_fault limits text ≡ None
@@ -78,7 +80,7 @@ one_journal_of limits text none =
     let found = (journals_have_no_fault limits text).0 none in (
       found.0,
       (found.1, found.2),
-      λ other is. sym ((written_journals_are_read_back limits found.0 found.1).1 other is.0 (sym found.2 ∙ is.1)),
+      λ other is. one_list text other found.0 is.1 found.2,
     )
 
 one_journal : (limits : Limits) (text : List ℕ) → HasOne (JournalReads limits text)

@@ -2,7 +2,7 @@
 use Rattle.std.proofs.Common.{◌≡◌, ℕ, ◌<◌, Bool, false, List, length, Option, Result, Ok, Err, refl, ap, sym, subst, arith}
 use Rattle.std.specs.Prelude.{IfErr, IfOk}
 use Rattle.s2ix_pairs.specs.Collection.{LimitedCollection}
-use Rattle.s2ix_text.specs.Dump.{dump_text}
+use Rattle.s2ix_text.specs.Dump.{dump_in}
 use Rattle.s2ix_io.specs.declared.run_fault.RunFault.{RunFault}
 use Rattle.s2ix_io.specs.Faults.{IsWantOnlyIf}
 use Rattle.s2ix_files.specs.declared.refusal.Refusal.{Refusal}
@@ -43,7 +43,7 @@ dumped_so outcome bag is = let Told : Result LimitedCollection TextsError → Ty
 
 -- a dump is not empty
 pub some_dump : (bag : LimitedCollection) → 0 < length (dump_of bag)
-unfolding dump_text
+unfolding dump_in
 some_dump bag = omega arith
 
 -- the answer that the outcome of the texts tells is the one to them

@@ -1,14 +1,18 @@
 -- Texts replayed and then rewound, and the other way round.
-use Rattle.std.proofs.Common.{◌≡◌, ℕ, true, false, List, Result, Ok, Err, ap, sym, ⊎_elim, inl, ◌∙◌}
+use Rattle.std.proofs.Common.{◌≡◌, ℕ, true, false, List, Result, Ok, Err, ap, refl, subst, sym, ⊎_elim, inl, ◌∙◌}
 use Rattle.s2ix_pairs.specs.declared.limits.Limits.{Limits}
 use Rattle.s2ix_pairs.specs.declared.pair.Entry.{Entry}
-use Rattle.s2ix_pairs.specs.Collection.{LimitedCollection}
+use Rattle.s2ix_pairs.specs.Collection.{Collection, IsBag, LimitedCollection}
 use Rattle.s2ix_replay.specs.Replay.{numbered, replayed, rewound, way_back}
 use Rattle.s2ix_replay.proofs.Back.{replay_of_rewind, replayed_is_bag, rewind_of_replay, rewound_is_bag}
 use Rattle.s2ix_replay.proofs.Forth.{limits_stay}
-use Rattle.s2ix_text.specs.Dump.{dump_text}
+use Rattle.s2ix_text.specs.declared.version.Version.{Version}
+use Rattle.s2ix_text.specs.declared.version.Version.TheVariants.{Second}
+use Rattle.s2ix_text.specs.Dump.{IsDump, dump_in, dump_text}
+use Rattle.s2ix_text.proofs.Dumps.{bag_dump, one_version}
 use Rattle.s2ix_files.specs.declared.refusal.Refusal.{Refusal}
 use Rattle.s2ix_files.specs.Answers.{Answer, IsAnswerTo, ReplayAnswers, RewindAnswers, answer_of, dump_of}
+use Rattle.s2ix_files.specs.Laws.{BytesComeBack, ComesBack}
 use Rattle.s2ix_files.specs.Reads.{DumpReads, JournalReads, ReplayLeads, RewindLeads, Then}
 
 -- ---- what is accepted
@@ -53,16 +57,18 @@ accepts Leads limits dump journal answer answers accepted = accepted_at Leads li
 
 -- ---- there and back
 
--- the answer of texts that lead to the bag of a dump is that dump
-leads_home : (Leads : LimitedCollection → List (List Entry) → Result LimitedCollection Refusal → Type 0) (limits : Limits) (dump text journal : List ℕ) (home there : LimitedCollection) (changes : List (List Entry))
-    → DumpReads limits dump (Ok home) → DumpReads limits text (Ok there) → JournalReads limits journal (Ok changes) → Leads there changes (Ok home)
-    → IsAnswerTo dump_of (Then (DumpReads limits text) (λ bag. Then (JournalReads limits journal) (Leads bag))) (record { text = dump; accepted = true })
-leads_home Leads limits dump text journal home there changes home_read there_read journal_read leads =
-    let answer_with : List ℕ → Answer = λ t. record { text = t; accepted = true } in
-    (Ok home, inl (there, there_read, inl (changes, journal_read, leads)), ap answer_with home_read.2)
+-- what a text that is written reads as
+read_again : (limits : Limits) (text : List ℕ) (bag : LimitedCollection) → IsBag bag → bag.limits ≡ limits → text ≡ dump_text bag.held → DumpReads limits text (Ok bag)
+read_again limits text bag is_bag limits_are is = (is_bag, limits_are, subst (λ t. IsDump t bag.held) (sym is) (bag_dump bag is_bag))
 
-pub rewind_replayed : (limits : Limits) (dump journal : List ℕ) (answer : Answer) → ReplayAnswers limits dump journal answer → answer.accepted ≡ true
-    → RewindAnswers limits answer.text journal (record { text = dump; accepted = true })
+-- texts that lead to a bag are answered by the dump that is written of it
+leads_home : (Leads : LimitedCollection → List (List Entry) → Result LimitedCollection Refusal → Type 0) (limits : Limits) (text journal : List ℕ) (home there : LimitedCollection) (changes : List (List Entry))
+    → DumpReads limits text (Ok there) → JournalReads limits journal (Ok changes) → Leads there changes (Ok home)
+    → IsAnswerTo dump_of (Then (DumpReads limits text) (λ bag. Then (JournalReads limits journal) (Leads bag))) (record { text = dump_text home.held; accepted = true })
+leads_home Leads limits text journal home there changes there_read journal_read leads =
+    (Ok home, inl (there, there_read, inl (changes, journal_read, leads)), refl)
+
+pub rewind_replayed : ComesBack ReplayAnswers RewindAnswers
 rewind_replayed limits dump journal answer answers accepted =
     let a = accepts ReplayLeads limits dump journal answer answers accepted in
     let lists = a.journal_read.0.lists in
@@ -70,10 +76,10 @@ rewind_replayed limits dump journal answer answers accepted =
     let there = replayed a.bag a.changes in
     let is_bag = replayed_is_bag a.bag a.changes a.dump_read.0 lists a.leads.0 in
     let text = a.text ∙ ap dump_of a.leads.1 in
-    leads_home RewindLeads limits dump answer.text journal a.bag there a.changes a.dump_read (is_bag, limits_stay a.bag (numbered a.changes) ∙ a.dump_read.1, text) a.journal_read (back.taken, sym back.back)
+    let again = read_again limits answer.text there is_bag (limits_stay a.bag (numbered a.changes) ∙ a.dump_read.1) text in
+    (a.bag, a.dump_read, leads_home RewindLeads limits answer.text journal a.bag there a.changes again a.journal_read (back.taken, sym back.back))
 
-pub replay_rewound : (limits : Limits) (dump journal : List ℕ) (answer : Answer) → RewindAnswers limits dump journal answer → answer.accepted ≡ true
-    → ReplayAnswers limits answer.text journal (record { text = dump; accepted = true })
+pub replay_rewound : ComesBack RewindAnswers ReplayAnswers
 replay_rewound limits dump journal answer answers accepted =
     let a = accepts RewindLeads limits dump journal answer answers accepted in
     let lists = a.journal_read.0.lists in
@@ -81,4 +87,19 @@ replay_rewound limits dump journal answer answers accepted =
     let there = rewound a.bag a.changes in
     let is_bag = rewound_is_bag a.bag a.changes a.dump_read.0 lists a.leads.0 in
     let text = a.text ∙ ap dump_of a.leads.1 in
-    leads_home ReplayLeads limits dump answer.text journal a.bag there a.changes a.dump_read (is_bag, limits_stay a.bag (way_back (numbered a.changes)) ∙ a.dump_read.1, text) a.journal_read (forth.0, sym forth.1)
+    let again = read_again limits answer.text there is_bag (limits_stay a.bag (way_back (numbered a.changes)) ∙ a.dump_read.1) text in
+    (a.bag, a.dump_read, leads_home ReplayLeads limits answer.text journal a.bag there a.changes again a.journal_read (forth.0, sym forth.1))
+
+-- ---- byte for byte
+
+-- a dump of the version that is written is the one that is written of what it reads as
+written_again : (hs ks : Collection) → IsDump (dump_text hs) ks → dump_text ks ≡ dump_text hs
+written_again hs ks of_ks =
+    subst (λ (v : Version). dump_in v ks ≡ dump_text hs) (one_version of_ks.0 Second ks hs (sym of_ks.2)) (sym of_ks.2)
+
+-- so what comes back is that dump
+pub bytes_back : (There Back : Limits → List ℕ → List ℕ → Answer → Type 0) → ComesBack There Back → BytesComeBack There Back
+bytes_back There Back comes limits hs journal answer answers accepted =
+    let found = comes limits (dump_text hs) journal answer answers accepted in
+    let AnswersWith : List ℕ → Type 0 = λ t. Back limits answer.text journal (record { text = t; accepted = true }) in
+    subst AnswersWith (written_again hs found.0.held found.1.2) found.2

@@ -1,22 +1,26 @@
 -- What the definitions say of one another: each of these is proved, and told in a sentence, by the function of `laws` of its name.
-use Rattle.std.specs.Prelude.{◌≡◌, ℕ, true, None, Some, List, slice_get}
-use Rattle.s2ix_pairs.specs.Collection.{Collection}
+use Rattle.std.specs.Prelude.{◌≡◌, ℕ, true, None, Some, Ok, List, slice_get}
+use Rattle.s2ix_pairs.specs.Collection.{Collection, LimitedCollection}
 use Rattle.s2ix_pairs.specs.declared.limits.Limits.{Limits}
 use Rattle.s2ix_edit.specs.State.{State, history_of}
 use Rattle.s2ix_replay.specs.Replay.{replay_refusal, replayed, rewind_refusal, rewound}
 use Rattle.s2ix_store.specs.Steps.{with_held}
 use Rattle.s2ix_store.specs.Store.{IsStore}
-use Rattle.s2ix_files.specs.Answers.{Answer, ReplayAnswers, RewindAnswers}
+use Rattle.s2ix_text.specs.Dump.{dump_text}
+use Rattle.s2ix_files.specs.Answers.{Answer}
+use Rattle.s2ix_files.specs.Reads.{DumpReads}
 
-abbrev pub RewindTakesReplayedTextBack : Type 0
-RewindTakesReplayedTextBack =
-    (limits : Limits) (dump journal : List ℕ) (answer : Answer) → ReplayAnswers limits dump journal answer → answer.accepted ≡ true
-    → RewindAnswers limits answer.text journal (record { text = dump; accepted = true })
+-- what is answered to a dump, and then to what that answer writes, is the dump that is written of the collection read first
+abbrev pub ComesBack : (Limits → List ℕ → List ℕ → Answer → Type 0) → (Limits → List ℕ → List ℕ → Answer → Type 0) → Type 0
+ComesBack There Back =
+    (limits : Limits) (dump journal : List ℕ) (answer : Answer) → There limits dump journal answer → answer.accepted ≡ true
+    → (bag : LimitedCollection) × DumpReads limits dump (Ok bag) × Back limits answer.text journal (record { text = dump_text bag.held; accepted = true })
 
-abbrev pub ReplayTakesRewoundTextBack : Type 0
-ReplayTakesRewoundTextBack =
-    (limits : Limits) (dump journal : List ℕ) (answer : Answer) → RewindAnswers limits dump journal answer → answer.accepted ≡ true
-    → ReplayAnswers limits answer.text journal (record { text = dump; accepted = true })
+-- and where the first dump is one that is written, it comes back byte for byte
+abbrev pub BytesComeBack : (Limits → List ℕ → List ℕ → Answer → Type 0) → (Limits → List ℕ → List ℕ → Answer → Type 0) → Type 0
+BytesComeBack There Back =
+    (limits : Limits) (hs : Collection) (journal : List ℕ) (answer : Answer) → There limits (dump_text hs) journal answer → answer.accepted ≡ true
+    → Back limits answer.text journal (record { text = dump_text hs; accepted = true })
 
 abbrev pub DoneLeadsFromFirst : Type 0
 DoneLeadsFromFirst =

@@ -11,8 +11,8 @@ use Rattle.s2ix_read_journal.specs.JournalFaults.{journal_fault}
 use Rattle.s2ix_read_journal.specs.Journals.{IsJournal}
 use Rattle.s2ix_replay.specs.declared.errors.ReplayError.{ReplayError}
 use Rattle.s2ix_replay.specs.Replay.{replay_refusal, replayed, rewind_refusal, rewound}
-use Rattle.s2ix_text.specs.Dump.{dump_text}
-use Rattle.s2ix_text.specs.Journal.{journal_text}
+use Rattle.s2ix_text.specs.Dump.{IsDump}
+use Rattle.s2ix_text.specs.Journal.{IsJournalText}
 use Rattle.s2ix_files.specs.declared.refusal.Refusal.{Refusal}
 use Rattle.s2ix_files.specs.declared.refusal.Refusal.TheVariants.{Dump, Journal}
 use Rattle.s2ix_files.specs.declared.refusal.TextsError.TheVariants.{Refused}
@@ -29,9 +29,9 @@ ReadsAs IsTextOf refusal (Err found) = refusal ≡ Some found
 abbrev pub dump_refusal : ℕ × DumpFault → Refusal
 dump_refusal found = Dump found.0 found.1
 
--- a text is the dump of a bag with these limits
+-- a text is a dump of a bag with these limits
 abbrev pub IsDumpOf : Limits → List ℕ → LimitedCollection → Type 0
-IsDumpOf limits text bag = IsBag bag × (bag.limits ≡ limits) × (text ≡ dump_text bag.held)
+IsDumpOf limits text bag = IsBag bag × (bag.limits ≡ limits) × IsDump text bag.held
 
 -- a text that is read as a dump under limits
 abbrev pub DumpReads : Limits → List ℕ → Result LimitedCollection Refusal → Type 0
@@ -41,9 +41,9 @@ DumpReads limits text = ReadsAs (IsDumpOf limits text) (option_map dump_refusal 
 abbrev pub journal_refusal : ℕ × JournalFault → Refusal
 journal_refusal found = Journal found.0 found.1
 
--- a text is the journal of changes within these limits
+-- a text is a journal of changes within these limits
 abbrev pub IsJournalOf : Limits → List ℕ → List (List Entry) → Type 0
-IsJournalOf limits text changes = IsJournal limits changes × (text ≡ journal_text changes)
+IsJournalOf limits text changes = IsJournal limits changes × IsJournalText text changes
 
 -- a text that is read as a journal under limits
 abbrev pub JournalReads : Limits → List ℕ → Result (List (List Entry)) Refusal → Type 0

@@ -2,7 +2,7 @@
 ghost use Rattle.std.specs.Prelude.{ℕ, List};
 ghost use Rattle.s2ix_pairs.specs.declared.limits.Limits.{Limits};
 ghost use Rattle.s2ix_files.specs.Answers.{CheckAnswers, LoadAnswers, ReplayAnswers, RewindAnswers};
-ghost use Rattle.s2ix_files.specs.Laws.{HasOne, DoneLeadsBackToFirst, DoneLeadsFromFirst, ReplayTakesRewoundTextBack, RewindTakesReplayedTextBack};
+ghost use Rattle.s2ix_files.specs.Laws.{BytesComeBack, ComesBack, DoneLeadsBackToFirst, DoneLeadsFromFirst, HasOne};
 
 /// Each call has exactly one answer to the texts that it is given.
 pub fn texts_have_one_answer()
@@ -12,14 +12,18 @@ pub fn texts_have_one_answer()
     ensures rewind { (limits : Limits) (dump journal : List ℕ) → HasOne (RewindAnswers limits dump journal) }
 {}
 
-/// Where all of a dump and a journal is accepted, what was replayed and the same journal are rewound to the dump, byte for byte.
+/// Where all of a dump and a journal is accepted, what was replayed and the same journal are rewound to the dump that is written of the
+/// same collection: a dump of the second version comes back byte for byte, one of the first as that of the second.
 pub fn rewind_takes_replayed_text_back()
-    ensures { RewindTakesReplayedTextBack }
+    ensures collection { ComesBack ReplayAnswers RewindAnswers }
+    ensures bytes { BytesComeBack ReplayAnswers RewindAnswers }
 {}
 
-/// Where all of a dump and a journal is accepted, what was rewound and the same journal are replayed to the dump, byte for byte.
+/// Where all of a dump and a journal is accepted, what was rewound and the same journal are replayed to the dump that is written of the
+/// same collection, byte for byte where the dump is of the second version.
 pub fn replay_takes_rewound_text_back()
-    ensures { ReplayTakesRewoundTextBack }
+    ensures collection { ComesBack RewindAnswers ReplayAnswers }
+    ensures bytes { BytesComeBack RewindAnswers ReplayAnswers }
 {}
 
 /// The changes that a store has done lead from the first collection of its history to its bag.

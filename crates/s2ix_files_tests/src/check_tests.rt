@@ -7,23 +7,36 @@ use std::process::Abort;
 // A dump, the line that is written, and whether the dump is accepted.
 type Row = (&'static [u8], &'static [u8], bool);
 
-const CHECKED: [Row; 8] = [
-    (b"s2ix 1\n04 9 1\n", b"no Truncated 3\n", false),
+const CHECKED: [Row; 13] = [
+    (b"s2ix 2\n04 9 1\n", b"no Truncated 3\n", false),
     (
-        b"s2ix 1\n1 7 1\n04 9 1\nend 2 2\n",
+        b"s2ix 2\n1 7 1\n04 9 1\nend 2 2\n",
         b"no Unsorted 3\n",
         false,
     ),
-    (b"s2ix 1\nend 0 0\nx\n", b"no TrailingBytes 3\n", false),
-    (b"s2ix 1\n04 9 1\nend 1 1\n", b"ok 1 1\n", true),
-    (b"s2ix 1\n040 9 1\nend 1 1\n", b"no BadToken 2\n", false),
+    (b"s2ix 2\nend 0 0\nx\n", b"no TrailingBytes 3\n", false),
+    (b"s2ix 2\n04 9 1\nend 1 1\n", b"ok 1 1\n", true),
+    (b"s2ix 2\n040 9 1\nend 1 1\n", b"no BadToken 2\n", false),
     (b"", b"no Truncated 1\n", false),
+    (b"s2ix 1\n04 9 65535\nend 1 65535\n", b"ok 1 65535\n", true),
     (
-        b"s2ix 1\n04 9 65535\n1 7 2\nend 2 65537\n",
-        b"ok 2 65537\n",
+        b"s2ix 1\n04 9 65536\nend 1 65536\n",
+        b"no BadCount 2\n",
+        false,
+    ),
+    (
+        b"s2ix 2\n04 9 4294967296\nend 1 4294967296\n",
+        b"no BadCount 2\n",
+        false,
+    ),
+    (b"s2ix 2\nend 0 0\n", b"ok 0 0\n", true),
+    (b"s2ix 3\nend 0 0\n", b"no BadHeader 1\n", false),
+    (
+        b"s2ix 2\n04 9 4294967295\n1 7 2\nend 2 4294967297\n",
+        b"ok 2 4294967297\n",
         true,
     ),
-    (b"s2ix 1\n04 9 2\nend 1 1\n", b"no BadEnd 3\n", false),
+    (b"s2ix 2\n04 9 2\nend 1 1\n", b"no BadEnd 3\n", false),
 ];
 
 // A sink: how many bytes a put has at most, which put fails, and whether the flush does; then the answer, how many bytes of the line come
@@ -51,7 +64,7 @@ fn a_dump_is_counted_or_its_first_fault_told(rt: HostRuntime) {
 fn check_device(rt: &impl Abort, alloc: Global, row: usize, device: &Device) {
     let (put_len, put_fault, flush_fails, wanted, taken, flushed) = *device;
     let mut sink = KeepingSink::new(alloc, put_len, put_fault, flush_fails);
-    let told = check_text(alloc, b"s2ix 1\n04 9 1\nend 1 1\n", &mut sink);
+    let told = check_text(alloc, b"s2ix 2\n04 9 1\nend 1 1\n", &mut sink);
     let front = b"ok 1 1\n".starts_with(sink.kept()) && sink.kept().len() == taken;
     let same = front && sink.flushed_len() == flushed && told == wanted;
     assert!(rt; same, "wrong at device {row}");

@@ -120,7 +120,7 @@ fn refused_changes_back(rt: HostRuntime) {
 
 // Two pairs added, and the second taken to the first's label.
 const JOURNAL: &[u8] =
-    b"s2ix-journal 1\nchange 1\n04 9 0 2\nchange 1\n04 3 0 1\nchange 2\n04 3 1 3\n04 9 2 0\nend 3\n";
+    b"s2ix-journal 2\nchange 1\n04 9 0 2\nchange 1\n04 3 0 1\nchange 2\n04 3 1 3\n04 9 2 0\nend 3\n";
 
 fn changes(rt: &impl Abort, alloc: Global) -> Vec<Change> {
     read_journal(alloc, JOURNAL, Limits::default()).expect(rt, SET_UP)

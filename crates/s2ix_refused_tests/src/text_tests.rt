@@ -9,13 +9,13 @@ use s2ix_samples::{holds_pairs, lists_entries};
 use std::alloc::Global;
 use std::process::Abort;
 
-const EMPTY: &[u8] = b"s2ix 1\nend 0 0\n";
+const EMPTY: &[u8] = b"s2ix 2\nend 0 0\n";
 
-const DUMP: &[u8] = b"s2ix 1\n04 3 3\nend 1 3\n";
+const DUMP: &[u8] = b"s2ix 2\n04 3 3\nend 1 3\n";
 
 // Two pairs added, and the second taken to the first's label.
 const JOURNAL: &[u8] =
-    b"s2ix-journal 1\nchange 1\n04 9 0 2\nchange 1\n04 3 0 1\nchange 2\n04 3 1 3\n04 9 2 0\nend 3\n";
+    b"s2ix-journal 2\nchange 1\n04 9 0 2\nchange 1\n04 3 0 1\nchange 2\n04 3 1 3\n04 9 2 0\nend 3\n";
 
 #[test]
 fn refused_readings(rt: HostRuntime) {
@@ -42,7 +42,7 @@ fn refused_journals(rt: HostRuntime) {
 // Texts that are no dump, with the line of the first fault, and what is told of them.
 const FAULTY: [(&[u8], DumpError, &[u8]); 5] = [
     (
-        b"s2ix 1\n04 9 1\n",
+        b"s2ix 2\n04 9 1\n",
         DumpError::At {
             line: 3,
             fault: DumpFault::Truncated,
@@ -50,7 +50,7 @@ const FAULTY: [(&[u8], DumpError, &[u8]); 5] = [
         b"no Truncated 3\n",
     ),
     (
-        b"s2ix 1\n1 7 1\n04 9 1\nend 2 2\n",
+        b"s2ix 2\n1 7 1\n04 9 1\nend 2 2\n",
         DumpError::At {
             line: 3,
             fault: DumpFault::Unsorted,
@@ -58,7 +58,7 @@ const FAULTY: [(&[u8], DumpError, &[u8]); 5] = [
         b"no Unsorted 3\n",
     ),
     (
-        b"s2ix 1\nend 0 0\nx\n",
+        b"s2ix 2\nend 0 0\nx\n",
         DumpError::At {
             line: 3,
             fault: DumpFault::TrailingBytes,
@@ -66,7 +66,7 @@ const FAULTY: [(&[u8], DumpError, &[u8]); 5] = [
         b"no TrailingBytes 3\n",
     ),
     (
-        b"s2ix 1\n040 9 1\nend 1 1\n",
+        b"s2ix 2\n040 9 1\nend 1 1\n",
         DumpError::At {
             line: 2,
             fault: DumpFault::BadToken,

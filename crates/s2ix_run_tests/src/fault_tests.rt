@@ -8,7 +8,7 @@ use std::alloc::Global;
 use std::process::Abort;
 
 // What a run of `dump` over an empty store writes.
-const DUMP: &[u8] = b"s2ix 1\nend 0 0\n";
+const DUMP: &[u8] = b"s2ix 2\nend 0 0\n";
 
 // Three pairs, and a query for what meets two cells.
 const MEETING: &[u8] = b"add 1 7\nadd 04 9\nadd 1c 2\nmeet 1c 04\n";

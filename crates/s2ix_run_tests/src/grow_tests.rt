@@ -18,7 +18,7 @@ const SCRIPTS: [Script; 7] = [
         name: "a level more than eight finer is too fine, and a label that is not held comes before it",
         input: b"add 04 2\ngrow 2 10\ngrow 5 1\ngrow 5 30\ngrow 2 1\ndump\n",
         output: b"ok 1\nno TooFine\nno NoSuchLabel\nno NoSuchLabel\nok 4\n\
-              s2ix 1\n04 2 1\n0c 2 1\n1c 2 1\n94 2 1\nbc 2 1\nend 5 5\n",
+              s2ix 2\n04 2 1\n0c 2 1\n1c 2 1\n94 2 1\nbc 2 1\nend 5 5\n",
         ..PLAIN
     },
     Script {
@@ -37,9 +37,9 @@ const SCRIPTS: [Script; 7] = [
     },
     Script {
         name: "cells past the limit of pairs are refused whole",
-        limits: [4, 65_535, 100_000],
+        limits: [4, u32::MAX, 100_000],
         input: b"add 04 2\ngrow 2 1\ndump\n",
-        output: b"ok 1\nno TooManyPairs\ns2ix 1\n04 2 1\nend 1 1\n",
+        output: b"ok 1\nno TooManyPairs\ns2ix 2\n04 2 1\nend 1 1\n",
         ..PLAIN
     },
     Script {

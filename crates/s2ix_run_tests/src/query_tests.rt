@@ -24,7 +24,7 @@ const SCRIPTS: [Script; 17] = [
     Script {
         name: "an empty table has one range",
         input: b"dump\nranges\n",
-        output: b"s2ix 1\nend 0 0\n0000000000000001 c000000000000001\nend 1\n",
+        output: b"s2ix 2\nend 0 0\n0000000000000001 c000000000000001\nend 1\n",
         ..PLAIN
     },
     Script {

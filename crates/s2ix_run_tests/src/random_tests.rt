@@ -15,7 +15,7 @@ const LINES: [&[u8]; 42] = [
     b"add 04 9",
     b"add 1c 2 3",
     b"add 1 7",
-    b"add 0c 9 65535",
+    b"add 0c 9 4294967295",
     b"add 04 3",
     b"add 000001 7 2",
     b"remove 04 9",

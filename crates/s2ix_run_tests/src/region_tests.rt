@@ -6,22 +6,22 @@ const SCRIPTS: [Script; 7] = [
         name: "four siblings become their parent with one copy, and an undo brings them back",
         input: b"add 04 1\nadd 0c 1\nadd 14 1 5\nadd 1c 1\nnormal 1\ndump\nundo\ndump\n",
         output: b"ok 1\nok 1\nok 1\nok 1\nok 5\n\
-              s2ix 1\n1 1 1\nend 1 1\n\
+              s2ix 2\n1 1 1\nend 1 1\n\
               ok 5\n\
-              s2ix 1\n04 1 1\n0c 1 1\n14 1 5\n1c 1 1\nend 4 8\n",
+              s2ix 2\n04 1 1\n0c 1 1\n14 1 5\n1c 1 1\nend 4 8\n",
         ..PLAIN
     },
     Script {
         name: "a cell within another one goes, and other labels stay",
         input: b"add 04 1\nadd 1 1 2\nadd 04 2\nnormal 1\nregion 1\ndump\n",
-        output: b"ok 1\nok 1\nok 1\nok 2\n1\nend 1\ns2ix 1\n04 2 1\n1 1 1\nend 2 2\n",
+        output: b"ok 1\nok 1\nok 1\nok 2\n1\nend 1\ns2ix 2\n04 2 1\n1 1 1\nend 2 2\n",
         ..PLAIN
     },
     Script {
         name: "a label in its fewest cells stays, and one that is not held is refused",
         input: b"add 04 1\nadd 1c 1\nnormal 1\nnormal 2\njournal\n",
         output: b"ok 1\nok 1\nno NoChange\nno NoSuchLabel\n\
-              s2ix-journal 1\nchange 1\n04 1 0 1\nchange 1\n1c 1 0 1\nend 2\n",
+              s2ix-journal 2\nchange 1\n04 1 0 1\nchange 1\n1c 1 0 1\nend 2\n",
         ..PLAIN
     },
     Script {

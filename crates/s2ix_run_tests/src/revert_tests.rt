@@ -25,14 +25,14 @@ const SCRIPTS: [Script; 12] = [
     },
     Script {
         name: "nor does the number of pairs",
-        limits: [1, 65_535, 100_000],
+        limits: [1, u32::MAX, 100_000],
         input: b"add 04 9\ndrop 9\nadd 1 7\nrevert 2\n",
         output: b"ok 1\nok 1\nok 1\nno TooManyPairs\n",
         ..PLAIN
     },
     Script {
         name: "a full history is refused before a number that no change has",
-        limits: [1_000_000, 65_535, 1],
+        limits: [1_000_000, u32::MAX, 1],
         input: b"add 1 1\nrevert 2\n",
         output: b"ok 1\nno JournalFull\n",
         ..PLAIN
@@ -48,7 +48,7 @@ const SCRIPTS: [Script; 12] = [
         input: b"revert\nrevert 1 1\nrevert x\nrevert +1\nrevert 0000000000\nrevert 100001\nrevert 4294967297\nrevert 00000000001\n\
               revert 100000\nREVERT 1\nadd 04 9\nrevert 0000000001\ndump\n",
         output: b"no BadArguments\nno BadArguments\nno BadNumber\nno BadNumber\nno BadNumber\nno BadNumber\nno BadNumber\n\
-              no BadNumber\nno NoSuchChange\nno BadCommand\nok 1\nok 1\ns2ix 1\nend 0 0\n",
+              no BadNumber\nno NoSuchChange\nno BadCommand\nok 1\nok 1\ns2ix 2\nend 0 0\n",
         ..PLAIN
     },
     Script {
@@ -60,16 +60,16 @@ const SCRIPTS: [Script; 12] = [
     Script {
         name: "what takes back is a change of its own, and is taken back by its number",
         input: b"add 04 9 2\nadd 04 9 3\nrevert 1\njournal\nrevert 3\ndump\nundo\nundo\nredo\nrevert 2\nredo\n",
-        output: b"ok 1\nok 1\nok 1\ns2ix-journal 1\nchange 1\n04 9 0 2\nchange 1\n04 9 2 5\nchange 1\n04 9 5 3\nend 3\n\
-              ok 1\ns2ix 1\n04 9 5\nend 1 5\nok 1\nok 1\nok 1\nok 1\nno NothingToRedo\n",
+        output: b"ok 1\nok 1\nok 1\ns2ix-journal 2\nchange 1\n04 9 0 2\nchange 1\n04 9 2 5\nchange 1\n04 9 5 3\nend 3\n\
+              ok 1\ns2ix 2\n04 9 5\nend 1 5\nok 1\nok 1\nok 1\nok 1\nno NothingToRedo\n",
         ..PLAIN
     },
     Script {
         name: "below zero is refused before a count past the limit, and nothing moves",
         limits: [1_000_000, 3, 100_000],
         input: b"add 04 3 3\nrelabel 3 9\nremove 04 9\nadd 04 3\nrevert 2\ndump\nrevert 3\nrevert 2\nrevert 4\nrevert 2\ndump\n",
-        output: b"ok 1\nok 2\nok 1\nok 1\nno BelowZero\ns2ix 1\n04 3 1\n04 9 2\nend 2 3\nok 1\nno TooManyCopies\nok 1\nok 2\n\
-              s2ix 1\n04 3 3\nend 1 3\n",
+        output: b"ok 1\nok 2\nok 1\nok 1\nno BelowZero\ns2ix 2\n04 3 1\n04 9 2\nend 2 3\nok 1\nno TooManyCopies\nok 1\nok 2\n\
+              s2ix 2\n04 3 3\nend 1 3\n",
         ..PLAIN
     },
     Script {
@@ -77,7 +77,7 @@ const SCRIPTS: [Script; 12] = [
         limits: [2, 3, 100_000],
         input: b"add 04 9 3\nadd 1 9\ndrop 9\nadd 04 9\nadd 3 7\nrevert 3\nrevert 4\nrevert 3\nrevert 5\nrevert 3\ndump\n",
         output: b"ok 1\nok 1\nok 2\nok 1\nok 1\nno TooManyCopies\nok 1\nno TooManyPairs\nok 1\nok 2\n\
-              s2ix 1\n04 9 3\n1 9 1\nend 2 4\n",
+              s2ix 2\n04 9 3\n1 9 1\nend 2 4\n",
         ..PLAIN
     },
     Script {

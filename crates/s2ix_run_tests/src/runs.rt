@@ -11,7 +11,7 @@ use std::alloc::Global;
 pub(crate) type LimitRow = [u32; 3];
 
 /// The widest limits.
-pub(crate) const WIDEST: LimitRow = [1_000_000, 65_535, 100_000];
+pub(crate) const WIDEST: LimitRow = [1_000_000, u32::MAX, 100_000];
 
 /// More bytes than any text here has: a device of this length moves all that there is in one call.
 pub(crate) const ALL: usize = 1_000_000;

@@ -66,8 +66,8 @@ small_counts version hs held = λ k d within. let small = held k d within in let
 pub one_dump : (text : List ℕ) (hs ks : Collection) → IsDump text hs → IsDump text ks → hs ≡ ks
 unfolding end_line
 one_dump text hs ks of_hs of_ks =
-    one_list hs ks _ _ (small_counts of_hs.0 hs of_hs.1.0) (small_counts of_ks.0 ks of_ks.1.0)
-    (same_below of_hs.0 of_ks.0 hs ks (sym of_hs.1.1 ∙ of_ks.1.1)).1
+    one_list hs ks _ _ (small_counts of_hs.0 hs of_hs.1) (small_counts of_ks.0 ks of_ks.1)
+    (same_below of_hs.0 of_ks.0 hs ks (sym of_hs.2 ∙ of_ks.2)).1
 
 -- what is written of a bag is a dump of it
 pub bag_dump : (bag : LimitedCollection) → IsBag bag → IsDump (dump_text bag.held) bag.held

@@ -165,8 +165,8 @@ all_writable version cs are = λ k d within. writable version _ (are k d within)
 pub one_journal : (text : List ℕ) (cs ds : List (List Entry)) → IsJournalText text cs → IsJournalText text ds → cs ≡ ds
 unfolding last_line
 one_journal text cs ds of_cs of_ds =
-    one_groups cs ds _ _ (all_writable of_cs.0 cs of_cs.1.0) (all_writable of_ds.0 ds of_ds.1.0)
-    (same_below of_cs.0 of_ds.0 cs ds (sym of_cs.1.1 ∙ of_ds.1.1)).1
+    one_groups cs ds _ _ (all_writable of_cs.0 cs of_cs.1) (all_writable of_ds.0 ds of_ds.1)
+    (same_below of_cs.0 of_ds.0 cs ds (sym of_cs.2 ∙ of_ds.2)).1
 
 -- what is written of writable changes is a journal of them
 pub written_journal : (cs : List (List Entry)) → All IsWritable cs → IsJournalText (journal_text cs) cs

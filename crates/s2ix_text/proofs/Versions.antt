@@ -12,7 +12,7 @@ use Rattle.s2ix_text.specs.declared.version.Version.TheVariants.{First, Second}
 use Rattle.s2ix_text.specs.Version.{dump_header, dump_version, greatest_below, greatest_in, journal_header, journal_version, version_of}
 
 -- the first byte of a text
-pub head_of : List ℕ → ℕ
+unfoldable pub head_of : List ℕ → ℕ
 head_of [] = 0
 head_of (x ∷ xs) = x
 

@@ -16,24 +16,30 @@ pub enum Version {
 
 impl Version {
     /// The version whose dumps have this first line, without its line feed, or `None` where no dump has it.
+    #[tactic(auto, unfolding(crate::specs::Version::dump_version))]
     pub fn of_dump(header: &[u8]) -> Option<Version>
         ensures { result ≡ dump_version header.now }
     {
-        match header {
-            b"s2ix 1" => Some(Version::First),
-            b"s2ix 2" => Some(Version::Second),
-            _ => None,
+        if header == b"s2ix 1".as_slice() {
+            Some(Version::First)
+        } else if header == b"s2ix 2".as_slice() {
+            Some(Version::Second)
+        } else {
+            None
         }
     }
 
     /// The version whose journals have this first line, without its line feed, or `None` where no journal has it.
+    #[tactic(auto, unfolding(crate::specs::Version::journal_version))]
     pub fn of_journal(header: &[u8]) -> Option<Version>
         ensures { result ≡ journal_version header.now }
     {
-        match header {
-            b"s2ix-journal 1" => Some(Version::First),
-            b"s2ix-journal 2" => Some(Version::Second),
-            _ => None,
+        if header == b"s2ix-journal 1".as_slice() {
+            Some(Version::First)
+        } else if header == b"s2ix-journal 2".as_slice() {
+            Some(Version::Second)
+        } else {
+            None
         }
     }
 
