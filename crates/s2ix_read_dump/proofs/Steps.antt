@@ -12,7 +12,8 @@ use Rattle.s2ix_pairs.specs.declared.pair.Held.{Held}
 use Rattle.s2ix_lists.proofs.Refusals.{copies_bound}
 use Rattle.s2ix_text.specs.declared.version.Version.{Version}
 use Rattle.s2ix_text.specs.Dump.{end_line, pair_line}
-use Rattle.s2ix_text.specs.Version.{dump_version}
+use Rattle.s2ix_text.specs.Version.{dump_header, dump_version}
+use Rattle.s2ix_text.proofs.Versions.{dump_header_named}
 use Rattle.s2ix_read_dump.specs.declared.errors.DumpFault.{DumpFault}
 use Rattle.s2ix_read_dump.specs.declared.errors.DumpFault.TheVariants.{Truncated, BadHeader, BadEnd, TrailingBytes}
 use Rattle.s2ix_read_dump.specs.DumpFaults.{dump_fault, end_text, is_end, line_fault}
@@ -144,11 +145,12 @@ bad_end limits header hs copies rest line below bag sum lines end other =
 -- ---- from the top
 
 -- below the header the first fault is that of what is left
-pub below_header : (limits : Limits) (version : Version) (text header below : List ℕ) → lines_of text ≡ header ∷ lines_of below → dump_version header ≡ Some version → dump_fault limits text ≡ fault_left limits header [] (lines_of below)
+pub below_header : (limits : Limits) (version : Version) (text header below : List ℕ) → lines_of text ≡ header ∷ lines_of below → dump_version header ≡ Some version → dump_fault limits text ≡ fault_left limits (dump_header version) [] (lines_of below)
 unfolding dump_fault
 below_header limits version text header below lines named =
     ap (fault_below line_fault limits []) lines
     ∙ found_later line_fault limits [] header (lines_of below) (ap line_fault (ended limits [] header (lines_of below) (lines_some below)) ∙ header_row limits header ∙ cond-false _ _ _ (ap is_none named))
+    ∙ ap (λ (h : List ℕ). fault_left limits h [] (lines_of below)) (dump_header_named header version named)
 
 pub bad_header : (limits : Limits) (text header below : List ℕ) → lines_of text ≡ header ∷ lines_of below → dump_version header ≡ None → dump_fault limits text ≡ Some (1, BadHeader)
 unfolding dump_fault

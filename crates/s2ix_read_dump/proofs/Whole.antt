@@ -1,11 +1,11 @@
 -- A text has no fault exactly where it is a dump.
-use Rattle.std.proofs.Common.{◌≡◌, ◌==◌, ℕ, ◌+◌, ◌^◌, ◌<◌, ◌≤◌, ◌↔◌, true, false, not, Option, Some, None, Result, Ok, Err, List, [], ◌∷◌, ◌++◌, All, length, map, refl, sym, ap, ap₂, ◌∙◌, subst, arith, append_assoc, ⊎_elim}
+use Rattle.std.proofs.Common.{◌≡◌, ℕ, ◌+◌, ◌^◌, ◌<◌, ◌≤◌, ◌↔◌, true, false, not, Option, Some, None, Result, Ok, Err, List, [], ◌∷◌, ◌++◌, All, length, map, refl, sym, ap, ap₂, ◌∙◌, subst, arith, append_assoc, ⊎_elim}
 use Rattle.std.specs.Prelude.{flat_map, is_none}
 use Rattle.std.specs.List.{join_with_byte}
 use Rattle.std.specs.Str.{bytes_eq}
 use Rattle.std.proofs.lemmas.Bool.{both_ways, cases_Bool, cases_lt, cond-false, cond-true, le-leb, le-ltb, lt-ltb}
 use Rattle.std.proofs.lemmas.List.{append-nil, length-append}
-use Rattle.std.proofs.lemmas.List.Elements.{All-cons, All-head, All-nil, All-tail}
+use Rattle.std.proofs.lemmas.List.Elements.{All-head, All-tail}
 use Rattle.std.proofs.lemmas.Slice.Eq.{bytes_eq-Decides}
 use Rattle.s2ix_pairs.specs.Collection.{Collection, IsBag, LimitedCollection, copies_in}
 use Rattle.s2ix_pairs.specs.Limits.{count_limit, pairs_limit}
@@ -189,11 +189,11 @@ version_from limits header next lines None is none =
     let clash : Some BadHeader ≡ None = sym fault ∙ none_here line_fault limits [] header (next ∷ lines) none in cc
 
 -- a header, and below it the lines of what its version can hold
-pub dump_put_together : (limits : Limits) (version : Version) (text header below : List ℕ) (hs : Collection) → text ≡ header ++ 10 ∷ below → dump_version header ≡ Some version → IsDumped limits header hs → below ≡ flat_map pair_line hs ++ end_line hs → IsDump text hs
+pub dump_put_together : (version : Version) (text header below : List ℕ) (hs : Collection) → text ≡ header ++ 10 ∷ below → dump_version header ≡ Some version → CanHold version hs → below ≡ flat_map pair_line hs ++ end_line hs → IsDump text hs
 unfolding dump_in
-dump_put_together limits version text header below hs cut named is parts = (
+dump_put_together version text header below hs cut named held parts = (
   version,
-  held_in limits header version hs named is,
+  held,
   cut ∙ ap (λ h. h ++ 10 ∷ below) (dump_header_named header version named) ∙ ap (λ b. dump_header version ++ 10 ∷ b) parts,
 )
 
@@ -208,7 +208,7 @@ lines_are_dump limits (header ∷ (next ∷ lines)) some none =
     let left = left_from limits header [] (next ∷ lines) (nothing_dumped limits header) refl later in
     let end = end_text (length left.0) (copies_in left.0) in
     let parts = ap (join_with_byte 10) left.1.is ∙ join_left left.0 end ∙ ap (λ x. flat_map pair_line left.0 ++ x) (sym (end_with_feed left.0)) in
-    (left.0, left.1.dumped.bag, dump_put_together limits named.0 _ header (join_with_byte 10 (next ∷ lines)) left.0 refl named.1 left.1.dumped parts)
+    (left.0, left.1.dumped.bag, dump_put_together named.0 _ header (join_with_byte 10 (next ∷ lines)) left.0 refl named.1 (held_in limits header named.0 left.0 named.1 left.1.dumped) parts)
 
 pub sound_is_dump : (limits : Limits) (text : List ℕ) → dump_fault limits text ≡ None → (ks : Collection) × IsBag (record { limits = limits; held = ks }) × IsDump text ks
 unfolding dump_fault
