@@ -1,6 +1,5 @@
 -- A collection with one held pair more at its end.
-use Rattle.std.proofs.Common.{◌≡◌, ℕ, ◌+◌, ◌<◌, ◌≤◌, true, Some, List, [], ◌∷◌, ◌++◌, All, length, refl, subst, arith}
-use Rattle.std.specs.Prelude.{codes}
+use Rattle.std.proofs.Common.{◌≡◌, ℕ, ◌+◌, ◌<◌, ◌≤◌, true, Option, Some, List, [], ◌∷◌, ◌++◌, All, length, refl, sym, subst, arith}
 use Rattle.std.proofs.lemmas.Bool.{lt-ltb, ltb-true}
 use Rattle.std.proofs.lemmas.List.{length-append, length_push, take_at}
 use Rattle.std.proofs.lemmas.List.Elements.{All-cons, All-head, All-nil, All-push, All-tail, All-take}
@@ -10,8 +9,13 @@ use Rattle.s2ix_pairs.specs.Pair.{rank_of}
 use Rattle.s2ix_pairs.specs.declared.limits.Limits.{Limits}
 use Rattle.s2ix_pairs.specs.declared.pair.Held.{Held}
 use Rattle.s2ix_lists.proofs.Parts.{collection_take}
+use Rattle.s2ix_text.specs.declared.version.Version.{Version}
+use Rattle.s2ix_text.specs.Dump.{CanHold}
+use Rattle.s2ix_text.specs.Version.{dump_header, dump_version, greatest_below}
+use Rattle.s2ix_text.proofs.Versions.{named_by_dump_header}
 use Rattle.s2ix_read_dump.specs.PairLines.{IsDumped, last_pair}
-use Rattle.s2ix_parts.specs.Written.{comes_before, greatest_count}
+use Rattle.s2ix_read_dump.specs.DumpFaults.{greatest_count}
+use Rattle.s2ix_parts.specs.Written.{comes_before}
 use Rattle.s2ix_read_dump.proofs.PairTexts.{HasCount}
 
 -- ---- the order
@@ -57,17 +61,16 @@ here_has P (h ∷ hs) k ks all = here_has P hs k ks (All-tail P h (hs ++ k ∷ k
 
 -- ---- the pairs of a dump
 
--- the limits allow no count that a dump doesn't write
-pub dumped_from_limits : (limits : Limits) (hs : Collection) → IsBag (record { limits = limits; held = hs }) → IsDumped limits (codes "s2ix 1") hs
-unfolding greatest_count
-dumped_from_limits limits hs is = record {
+-- in a version that can hold them
+pub dumped_in : (limits : Limits) (version : Version) (hs : Collection) → IsBag (record { limits = limits; held = hs }) → CanHold version hs → IsDumped limits (dump_header version) hs
+dumped_in limits version hs is held = record {
   bag = is;
-  written =
-      λ k d within.
-      let small = is.small k d within in
-      let most : count_limit limits ≤ 65535 = limits.in_range.3 in
-      omega (arith, small, most);
+  written = subst (λ (found : Option Version). All (λ (h : Held). h.count ≤ greatest_below found) hs) (sym (named_by_dump_header version)) held;
 }
+
+-- and below a header each count is one that its version can hold
+pub held_in : (limits : Limits) (header : List ℕ) (version : Version) (hs : Collection) → dump_version header ≡ Some version → IsDumped limits header hs → CanHold version hs
+held_in limits header version hs named is = subst (λ (found : Option Version). All (λ (h : Held). h.count ≤ greatest_below found) hs) named is.written
 
 pub dumped_more : (limits : Limits) (header : List ℕ) (hs : Collection) (h : Held) → IsDumped limits header hs → HasCount header h → comes_before (last_pair hs) (Some h.pair) ≡ true → h.count ≤ count_limit limits → length hs < pairs_limit limits
     → IsDumped limits header (hs ++ h ∷ [])

@@ -11,7 +11,8 @@ use Rattle.s2ix_pairs.specs.Limits.{count_limit, pairs_limit}
 use Rattle.s2ix_pairs.specs.declared.limits.Limits.{Limits}
 use Rattle.s2ix_pairs.specs.declared.pair.Held.{Held}
 use Rattle.s2ix_text.proofs.Journals.{decimal_graphic, token_graphic}
-use Rattle.s2ix_parts.specs.Written.{comes_before, greatest_count}
+use Rattle.s2ix_read_dump.specs.DumpFaults.{greatest_count}
+use Rattle.s2ix_parts.specs.Written.{comes_before}
 use Rattle.s2ix_parts.proofs.PartCounts.{graphic_lacks}
 use Rattle.s2ix_parts.proofs.Pieces.{one_cut}
 use Rattle.s2ix_read_dump.specs.PairLines.{IsCommonFront, IsNext, held_written, last_pair, line_text}

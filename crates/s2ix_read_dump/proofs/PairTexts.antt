@@ -1,5 +1,5 @@
 -- The line of a held pair, and the end line: how they are cut.
-use Rattle.std.proofs.Common.{◌≡◌, ◌==◌, ℕ, ◌^◌, ◌<◌, ◌≤◌, Bool, true, false, ◌&&◌, Option, Some, Ok, Err, List, [], ◌∷◌, ◌++◌, All, length, refl, sym, ap, ◌∙◌, subst, arith, append_assoc}
+use Rattle.std.proofs.Common.{◌≡◌, ◌==◌, ℕ, ◌^◌, ◌<◌, ◌≤◌, Bool, true, false, ◌&&◌, Option, Some, Result, Ok, Err, List, [], ◌∷◌, ◌++◌, All, length, refl, sym, ap, ◌∙◌, subst, arith, append_assoc}
 use Rattle.std.specs.Prelude.{codes, decimal, slice_index_or}
 use Rattle.std.specs.Bool.{Decides}
 use Rattle.std.specs.Str.{bytes_eq}
@@ -15,12 +15,16 @@ use Rattle.s2ix_pairs.specs.Collection.{Collection, copies_in}
 use Rattle.s2ix_pairs.specs.Label.{value_of}
 use Rattle.s2ix_pairs.specs.declared.label.Label.{Label}
 use Rattle.s2ix_pairs.specs.declared.pair.Held.{Held}
+use Rattle.s2ix_text.specs.declared.version.Version.{Version}
 use Rattle.s2ix_text.specs.Dump.{end_line, pair_line}
+use Rattle.s2ix_text.specs.Version.{dump_header, dump_version, greatest_below, greatest_in}
 use Rattle.s2ix_text.proofs.Journals.{IsGraphic, decimal_graphic, token_graphic}
-use Rattle.s2ix_read_dump.specs.DumpFaults.{end_text, is_end}
+use Rattle.s2ix_text.proofs.Versions.{greatest_below_fits, named_by_dump_header}
+use Rattle.s2ix_read_dump.specs.DumpFaults.{end_text, greatest_count, is_end}
 use Rattle.s2ix_parts.specs.Lines.{has_parts, is_nil, lines_of, parts_of}
 use Rattle.s2ix_read_dump.specs.PairLines.{IsCut, held_of_parts, held_written, line_text}
-use Rattle.s2ix_parts.specs.Written.{cell_written, count_of_line, count_written, label_written, pair_with, pair_written, greatest_count}
+use Rattle.s2ix_parts.specs.Written.{cell_written, count_of_line, count_written, label_written, pair_with, pair_written}
+use Rattle.s2ix_read_dump.specs.declared.errors.DumpFault.{DumpFault}
 use Rattle.s2ix_read_dump.specs.declared.errors.DumpFault.TheVariants.{BadLine}
 use Rattle.s2ix_parts.proofs.PartCounts.{graphic_lacks}
 use Rattle.s2ix_parts.proofs.Pieces.{Lacks, is_some_text, lines_apart, parts_apart, parts_joined, three_from_parts}
@@ -31,8 +35,10 @@ abbrev pub HasCount : List ℕ → Held → Type 0
 HasCount header h = (1 ≤ h.count) × (h.count ≤ greatest_count header)
 
 pub greatest_small : (header : List ℕ) → greatest_count header < 2 ^ 32
-unfolding greatest_count
-greatest_small header = omega arith
+greatest_small header = greatest_below_fits (dump_version header)
+
+pub greatest_known : (version : Version) → greatest_count (dump_header version) ≡ greatest_in version
+greatest_known version = ap greatest_below (named_by_dump_header version)
 
 small_label : (label : Label) → value_of label < 2 ^ 64
 small_label label = let within : value_of label ≤ 2147483647 = label.in_range in omega arith
@@ -75,6 +81,10 @@ line_has_parts header h counted =
 -- that line, its line feed and more, cut
 pub line_cut : (header : List ℕ) (h : Held) (text below : List ℕ) → HasCount header h → text ≡ line_text h ++ 10 ∷ below → IsCut text (line_text h) below
 line_cut header h text below counted is = record { whole = is; lines = ap lines_of is ∙ lines_apart (line_text h) below (line_lacks_feed header h counted) }
+
+-- what is read of a line with the greatest count of a version is what it writes below the header of that version
+pub read_under : (version : Version) (line : List ℕ) (most : ℕ) (read : Result Held DumpFault) → most ≡ greatest_in version → read ≡ held_written most line → held_written (greatest_count (dump_header version)) line ≡ read
+read_under version line most read is reads = ap (λ (m : ℕ). held_written m line) (greatest_known version ∙ sym is) ∙ sym reads
 
 -- what a line writes, from its parts
 pub held_from : (most : ℕ) (line a b c : List ℕ) → has_parts 3 line ≡ true → parts_of line ≡ a ∷ b ∷ c ∷ [] → held_written most line ≡ held_of_parts (cell_written a) (label_written b) (count_written most c)

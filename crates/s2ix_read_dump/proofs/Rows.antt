@@ -1,6 +1,6 @@
 -- The fault of a line, by the table: below the lines of held pairs, at the end, and behind it.
 use Rattle.std.proofs.Common.{◌≡◌, ◌==◌, ℕ, ◌+◌, ◌<◌, ◌≤◌, Bool, true, false, not, ◌&&◌, ◌||◌, cond, Option, Some, None, Result, Ok, Err, List, [], ◌∷◌, ◌++◌, All, length, map, refl, sym, ap, ap₂, ◌∙◌, subst, arith}
-use Rattle.std.specs.Prelude.{codes, find, is_none, nat_le, nat_lt, slice_index_or, sum_by}
+use Rattle.std.specs.Prelude.{find, is_none, nat_le, nat_lt, slice_index_or, sum_by}
 use Rattle.std.specs.List.{list_any}
 use Rattle.std.specs.Option.{option_and_then, unwrap_or}
 use Rattle.std.specs.Str.{bytes_eq}
@@ -15,13 +15,14 @@ use Rattle.s2ix_pairs.specs.Limits.{count_limit, pairs_limit}
 use Rattle.s2ix_pairs.specs.declared.label.Label.{Label}
 use Rattle.s2ix_pairs.specs.declared.limits.Limits.{Limits}
 use Rattle.s2ix_pairs.specs.declared.pair.Held.{Held}
+use Rattle.s2ix_text.specs.Version.{dump_version}
 use Rattle.s2ix_read_dump.specs.declared.errors.DumpFault.{DumpFault}
 use Rattle.s2ix_read_dump.specs.declared.errors.DumpFault.TheVariants.{Truncated, BadHeader, BadEnd, BadLine, BadToken, BadLabel, BadCount, Unsorted, TooManyCopies, TooManyPairs, TrailingBytes}
-use Rattle.s2ix_read_dump.specs.DumpFaults.{copies_above, dump_faults, end_text, is_end, is_first, is_inner, is_of_pair, is_over, line_fault, stands}
+use Rattle.s2ix_read_dump.specs.DumpFaults.{copies_above, dump_faults, end_text, greatest_count, is_end, is_first, is_inner, is_of_pair, is_over, line_fault, stands}
 use Rattle.s2ix_parts.specs.Faults.{Place}
 use Rattle.s2ix_parts.specs.Lines.{has_parts, is_nil, last_of, part, parts_of}
 use Rattle.s2ix_read_dump.specs.PairLines.{IsDumped, IsNext, held_of_parts, held_written, last_pair, line_text, place_below}
-use Rattle.s2ix_parts.specs.Written.{cell_written, comes_before, count_of_line, count_written, label_written, pair_written, greatest_count}
+use Rattle.s2ix_parts.specs.Written.{cell_written, comes_before, count_of_line, count_written, label_written, pair_written}
 use Rattle.s2ix_read_dump.proofs.Appended.{counts_are, dumped_more}
 use Rattle.s2ix_parts.proofs.Numerals.{written_count}
 use Rattle.s2ix_read_dump.proofs.PairTexts.{HasCount, count_of_text, line_is_no_end, pair_of_line, written_held}
@@ -228,7 +229,7 @@ truncated_row p over ended = cond-true (stands p Truncated) _ _ (and_from _ _ (a
 
 -- ---- the header
 
-pub header_row : (limits : Limits) (line : List ℕ) → line_fault (record { limits = limits; above = []; line = line; ended = true }) ≡ cond (not (bytes_eq line (codes "s2ix 1"))) (Some BadHeader) None
+pub header_row : (limits : Limits) (line : List ℕ) → line_fault (record { limits = limits; above = []; line = line; ended = true }) ≡ cond (is_none (dump_version line)) (Some BadHeader) None
 unfolding line_fault stands
 header_row limits line = refl
 

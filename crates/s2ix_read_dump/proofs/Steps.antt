@@ -1,6 +1,6 @@
 -- The first fault of a text, one line further.
 use Rattle.std.proofs.Common.{◌≡◌, ℕ, ◌+◌, ◌≤◌, Bool, true, false, not, ◌||◌, cond, Option, Some, None, List, [], ◌∷◌, ◌++◌, length, map, refl, sym, ap, ap₂, ◌∙◌, arith, append_assoc, subst}
-use Rattle.std.specs.Prelude.{codes, flat_map, IfSome}
+use Rattle.std.specs.Prelude.{codes, flat_map, is_none, IfSome}
 use Rattle.std.specs.Str.{bytes_eq}
 use Rattle.std.proofs.lemmas.Bool.{cond-false, cond-true, false_from_ne_true, not-false}
 use Rattle.std.proofs.lemmas.List.{flat_map_more, length-map, length_push, map_push}
@@ -10,7 +10,10 @@ use Rattle.s2ix_pairs.specs.Collection.{Collection, IsBag, copies_in}
 use Rattle.s2ix_pairs.specs.declared.limits.Limits.{Limits}
 use Rattle.s2ix_pairs.specs.declared.pair.Held.{Held}
 use Rattle.s2ix_lists.proofs.Refusals.{copies_bound}
+use Rattle.s2ix_text.specs.declared.version.Version.{Version}
 use Rattle.s2ix_text.specs.Dump.{end_line, pair_line}
+use Rattle.s2ix_text.specs.Version.{dump_header, dump_version}
+use Rattle.s2ix_text.proofs.Versions.{dump_header_named}
 use Rattle.s2ix_read_dump.specs.declared.errors.DumpFault.{DumpFault}
 use Rattle.s2ix_read_dump.specs.declared.errors.DumpFault.TheVariants.{Truncated, BadHeader, BadEnd, TrailingBytes}
 use Rattle.s2ix_read_dump.specs.DumpFaults.{dump_fault, end_text, is_end, line_fault}
@@ -142,20 +145,19 @@ bad_end limits header hs copies rest line below bag sum lines end other =
 -- ---- from the top
 
 -- below the header the first fault is that of what is left
-pub below_header : (limits : Limits) (text header below : List ℕ) → lines_of text ≡ header ∷ lines_of below → header ≡ codes "s2ix 1" → dump_fault limits text ≡ fault_left limits (codes "s2ix 1") [] (lines_of below)
+pub below_header : (limits : Limits) (version : Version) (text header below : List ℕ) → lines_of text ≡ header ∷ lines_of below → dump_version header ≡ Some version → dump_fault limits text ≡ fault_left limits (dump_header version) [] (lines_of below)
 unfolding dump_fault
-below_header limits text header below lines is =
+below_header limits version text header below lines named =
     ap (fault_below line_fault limits []) lines
-    ∙ found_later line_fault limits [] header (lines_of below) (ap line_fault (ended limits [] header (lines_of below) (lines_some below)) ∙ header_row limits header ∙ cond-false _ _ _ (ap not ((bytes_eq-Decides header (codes "s2ix 1")).1 is)))
-    ∙ ap (λ (h : List ℕ). fault_left limits h [] (lines_of below)) is
+    ∙ found_later line_fault limits [] header (lines_of below) (ap line_fault (ended limits [] header (lines_of below) (lines_some below)) ∙ header_row limits header ∙ cond-false _ _ _ (ap is_none named))
+    ∙ ap (λ (h : List ℕ). fault_left limits h [] (lines_of below)) (dump_header_named header version named)
 
-pub bad_header : (limits : Limits) (text header below : List ℕ) → lines_of text ≡ header ∷ lines_of below → (header ≡ codes "s2ix 1" → ⊥) → dump_fault limits text ≡ Some (1, BadHeader)
+pub bad_header : (limits : Limits) (text header below : List ℕ) → lines_of text ≡ header ∷ lines_of below → dump_version header ≡ None → dump_fault limits text ≡ Some (1, BadHeader)
 unfolding dump_fault
-bad_header limits text header below lines other =
+bad_header limits text header below lines none =
     ap (fault_below line_fault limits []) lines
     ∙ found_here line_fault limits [] header (lines_of below) BadHeader
-    (ap line_fault (ended limits [] header (lines_of below) (lines_some below)) ∙ header_row limits header
-    ∙ cond-true _ _ _ (ap not (false_from_ne_true (bytes_eq header (codes "s2ix 1")) (λ same. other ((bytes_eq-Decides header (codes "s2ix 1")).0 same)))))
+    (ap line_fault (ended limits [] header (lines_of below) (lines_some below)) ∙ header_row limits header ∙ cond-true _ _ _ (ap is_none none))
 
 pub no_header : (limits : Limits) (text : List ℕ) → lines_of text ≡ text ∷ [] → dump_fault limits text ≡ Some (1, Truncated)
 unfolding dump_fault
@@ -164,7 +166,7 @@ no_header limits text lines =
     ∙ found_here line_fault limits [] text [] Truncated (truncated_row (place limits [] text []) refl refl)
 
 -- the sum of the counts fits, and one pair more
-pub copies_small : (limits : Limits) (hs : Collection) → IsBag (record { limits = limits; held = hs }) → (length hs ≤ 1000000) × (copies_in hs ≤ 65535000000)
+pub copies_small : (limits : Limits) (hs : Collection) → IsBag (record { limits = limits; held = hs }) → (length hs ≤ 1000000) × (copies_in hs ≤ 4294967295000000)
 copies_small limits hs bag = (omega (arith, bag.few, limits.in_range.1), copies_bound (record { limits = limits; held = hs }) bag)
 
 -- ---- what the code of `read_below` tests
@@ -173,7 +175,7 @@ pub end_agrees : (line first word : List ℕ) (r : Bool) → r ≡ not (bytes_eq
 end_agrees line first word r is first_is word_is fails = ap₂ (λ (x y : List ℕ). bytes_eq x y) (sym first_is) (sym word_is) ∙ not-false (bytes_eq first word) (sym is ∙ fails)
 
 -- the sum of the counts with the next one fits
-pub next_sum : (limits : Limits) (header : List ℕ) (hs : Collection) (line : List ℕ) (h : Held) → IsNext limits header hs line h → copies_in hs + h.count ≤ 65535000000
+pub next_sum : (limits : Limits) (header : List ℕ) (hs : Collection) (line : List ℕ) (h : Held) → IsNext limits header hs line h → copies_in hs + h.count ≤ 4294967295000000
 next_sum limits header hs line h next = omega (arith, copies_more hs h, (copies_small limits (hs ++ h ∷ []) next.dumped.bag).1)
 
 -- want of memory below the header

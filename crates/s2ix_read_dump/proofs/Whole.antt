@@ -1,33 +1,36 @@
 -- A text has no fault exactly where it is a dump.
-use Rattle.std.proofs.Common.{◌≡◌, ◌==◌, ℕ, ◌+◌, ◌^◌, ◌<◌, ◌≤◌, ◌↔◌, true, false, not, Option, Some, None, Result, Ok, Err, List, [], ◌∷◌, ◌++◌, All, length, map, refl, sym, ap, ap₂, ◌∙◌, subst, arith, append_assoc, ⊎_elim}
-use Rattle.std.specs.Prelude.{codes, flat_map}
+use Rattle.std.proofs.Common.{◌≡◌, ℕ, ◌+◌, ◌^◌, ◌<◌, ◌≤◌, ◌↔◌, true, false, not, Option, Some, None, Result, Ok, Err, List, [], ◌∷◌, ◌++◌, All, length, map, refl, sym, ap, ap₂, ◌∙◌, subst, arith, append_assoc, ⊎_elim}
+use Rattle.std.specs.Prelude.{flat_map, is_none}
 use Rattle.std.specs.List.{join_with_byte}
 use Rattle.std.specs.Str.{bytes_eq}
 use Rattle.std.proofs.lemmas.Bool.{both_ways, cases_Bool, cases_lt, cond-false, cond-true, le-leb, le-ltb, lt-ltb}
 use Rattle.std.proofs.lemmas.List.{append-nil, length-append}
-use Rattle.std.proofs.lemmas.List.Elements.{All-cons, All-head, All-nil, All-tail}
+use Rattle.std.proofs.lemmas.List.Elements.{All-head, All-tail}
 use Rattle.std.proofs.lemmas.Slice.Eq.{bytes_eq-Decides}
 use Rattle.s2ix_pairs.specs.Collection.{Collection, IsBag, LimitedCollection, copies_in}
 use Rattle.s2ix_pairs.specs.Limits.{count_limit, pairs_limit}
 use Rattle.s2ix_pairs.specs.declared.limits.Limits.{Limits}
 use Rattle.s2ix_pairs.specs.declared.pair.Held.{Held}
-use Rattle.s2ix_text.specs.Dump.{dump_text, end_line, pair_line}
-use Rattle.s2ix_text.proofs.Dumps.{one_dump_of_bags}
+use Rattle.s2ix_text.specs.declared.version.Version.{Version}
+use Rattle.s2ix_text.specs.Dump.{CanHold, IsDump, dump_in, end_line, pair_line}
+use Rattle.s2ix_text.specs.Version.{dump_header, dump_version}
+use Rattle.s2ix_text.proofs.Dumps.{one_dump}
+use Rattle.s2ix_text.proofs.Versions.{dump_header_lacks_feed, dump_header_named, named_by_dump_header}
 use Rattle.s2ix_read_dump.specs.declared.errors.DumpError.{DumpError}
 use Rattle.s2ix_read_dump.specs.declared.errors.DumpError.TheVariants.{At, OutOfMemory}
 use Rattle.s2ix_read_dump.specs.declared.errors.DumpFault.{DumpFault}
 use Rattle.s2ix_read_dump.specs.declared.errors.DumpFault.TheVariants.{Truncated, BadHeader, BadEnd, Unsorted, TooManyCopies, TooManyPairs, TrailingBytes}
-use Rattle.s2ix_read_dump.specs.DumpFaults.{IsDumpError, dump_fault, end_text, is_end, line_fault}
+use Rattle.s2ix_read_dump.specs.DumpFaults.{IsDumpError, dump_fault, end_text, greatest_count, is_end, line_fault}
 use Rattle.s2ix_parts.specs.Faults.{fault_below}
 use Rattle.s2ix_parts.specs.Lines.{is_nil, lines_of}
 use Rattle.s2ix_read_dump.specs.PairLines.{IsDumped, IsNext, held_written, last_pair, line_text, lines_down_to, place_below}
-use Rattle.s2ix_parts.specs.Written.{comes_before, greatest_count}
-use Rattle.s2ix_read_dump.proofs.Appended.{counts_are, dumped_from_limits, front_is_dumped, here_has, next_before}
+use Rattle.s2ix_parts.specs.Written.{comes_before}
+use Rattle.s2ix_read_dump.proofs.Appended.{counts_are, dumped_in, front_is_dumped, held_in, here_has, next_before}
 use Rattle.s2ix_read_dump.proofs.PairTexts.{HasCount, end_is_end, end_lacks_feed, end_with_feed, held_of_line, line_is_no_end, line_lacks_feed, line_with_feed}
 use Rattle.s2ix_parts.proofs.FirstFault.{found_later, place}
 use Rattle.s2ix_parts.proofs.NoFault.{none_among, none_here}
 use Rattle.s2ix_parts.proofs.Rests.{join_more, no_lines, some_left}
-use Rattle.s2ix_parts.proofs.Pieces.{Lacks, lines_apart, lines_joined, lines_some}
+use Rattle.s2ix_parts.proofs.Pieces.{lines_apart, lines_joined, lines_some}
 use Rattle.s2ix_read_dump.proofs.Rows.{header_row, next_fault, next_is, not_over, pair_row, truncated_row}
 use Rattle.s2ix_read_dump.proofs.Steps.{below_header, bytes_behind, copies_small, end_fault, fault_after_next, fault_left, nothing_behind}
 
@@ -67,26 +70,20 @@ lines_written header (k ∷ ks) all counted few small =
     ∙ lines_apart (line_text k) (flat_map pair_line ks ++ end_line all) (line_lacks_feed header k (All-head (HasCount header) k ks counted))
     ∙ ap (λ ls. line_text k ∷ ls) (lines_written header ks all (All-tail (HasCount header) k ks counted) few small)
 
-header_lacks_feed : Lacks 10 (codes "s2ix 1")
-header_lacks_feed =
-    let Other : ℕ → Type 0 = λ byte. (byte == 10) ≡ false in
-    All-cons Other 115 (50 ∷ 105 ∷ 120 ∷ 32 ∷ 49 ∷ []) refl
-    (All-cons Other 50 (105 ∷ 120 ∷ 32 ∷ 49 ∷ []) refl
-    (All-cons Other 105 (120 ∷ 32 ∷ 49 ∷ []) refl
-    (All-cons Other 120 (32 ∷ 49 ∷ []) refl
-    (All-cons Other 32 (49 ∷ []) refl
-    (All-cons Other 49 [] refl (All-nil Other))))))
-
--- a dump of a collection within the limits has no fault
-pub dump_is_sound : (limits : Limits) (hs : Collection) → IsBag (record { limits = limits; held = hs }) → dump_fault limits (dump_text hs) ≡ None
-unfolding dump_text
-dump_is_sound limits hs is =
-    let dumped = dumped_from_limits limits hs is in
+-- the dump of a collection within the limits, in a version that can hold it, has no fault
+dump_is_sound : (limits : Limits) (version : Version) (hs : Collection) → IsBag (record { limits = limits; held = hs }) → CanHold version hs → dump_fault limits (dump_in version hs) ≡ None
+unfolding dump_in
+dump_is_sound limits version hs is held =
+    let header = dump_header version in
+    let dumped = dumped_in limits version hs is held in
     let sizes = copies_small limits hs is in
     let below = flat_map pair_line hs ++ end_line hs in
-    below_header limits (codes "s2ix 1" ++ 10 ∷ below) (codes "s2ix 1") below (lines_apart (codes "s2ix 1") below header_lacks_feed) refl
-    ∙ ap (fault_left limits (codes "s2ix 1") []) (lines_written (codes "s2ix 1") hs hs (counts_are limits (codes "s2ix 1") hs dumped) (omega (arith, sizes.0)) (omega (arith, sizes.1)))
-    ∙ sound_left limits (codes "s2ix 1") [] hs dumped
+    below_header limits version (header ++ 10 ∷ below) header below (lines_apart header below (dump_header_lacks_feed version)) (named_by_dump_header version)
+    ∙ ap (fault_left limits header []) (lines_written header hs hs (counts_are limits header hs dumped) (omega (arith, sizes.0)) (omega (arith, sizes.1)))
+    ∙ sound_left limits header [] hs dumped
+
+no_fault : (limits : Limits) (text : List ℕ) (hs : Collection) → IsBag (record { limits = limits; held = hs }) → IsDump text hs → dump_fault limits text ≡ None
+no_fault limits text hs is dump = ap (dump_fault limits) dump.2 ∙ dump_is_sound limits dump.0 hs is dump.1
 
 -- ---- a text without a fault is a dump
 
@@ -185,64 +182,62 @@ nothing_dumped limits header = record {
   written = λ k d within. absurd (omega arith);
 }
 
-header_from : (limits : Limits) (header next : List ℕ) (lines : List (List ℕ)) → fault_below line_fault limits [] (header ∷ next ∷ lines) ≡ None → header ≡ codes "s2ix 1"
-header_from limits header next lines none =
-    ⊎_elim
-    (λ same. (bytes_eq-Decides header (codes "s2ix 1")).0 same)
-    (λ other.
-    let fault = header_row limits header ∙ cond-true _ _ _ (ap not other) in
-    let clash : Some BadHeader ≡ None = sym fault ∙ none_here line_fault limits [] header (next ∷ lines) none in cc)
-    (cases_Bool (bytes_eq header (codes "s2ix 1")))
+version_from : (limits : Limits) (header next : List ℕ) (lines : List (List ℕ)) (found : Option Version) → dump_version header ≡ found → fault_below line_fault limits [] (header ∷ next ∷ lines) ≡ None → (version : Version) × (found ≡ Some version)
+version_from limits header next lines (Some version) is none = (version, refl)
+version_from limits header next lines None is none =
+    let fault = header_row limits header ∙ cond-true _ _ _ (ap is_none is) in
+    let clash : Some BadHeader ≡ None = sym fault ∙ none_here line_fault limits [] header (next ∷ lines) none in cc
 
-lines_are_dump : (limits : Limits) (lines : List (List ℕ)) → is_nil lines ≡ false → fault_below line_fault limits [] lines ≡ None → (ks : Collection) × IsBag (record { limits = limits; held = ks }) × (join_with_byte 10 lines ≡ dump_text ks)
-unfolding dump_text
+-- a header, and below it the lines of what its version can hold
+pub dump_put_together : (version : Version) (text header below : List ℕ) (hs : Collection) → text ≡ header ++ 10 ∷ below → dump_version header ≡ Some version → CanHold version hs → below ≡ flat_map pair_line hs ++ end_line hs → IsDump text hs
+unfolding dump_in
+dump_put_together version text header below hs cut named held parts = (
+  version,
+  held,
+  cut ∙ ap (λ h. h ++ 10 ∷ below) (dump_header_named header version named) ∙ ap (λ b. dump_header version ++ 10 ∷ b) parts,
+)
+
+lines_are_dump : (limits : Limits) (lines : List (List ℕ)) → is_nil lines ≡ false → fault_below line_fault limits [] lines ≡ None → (ks : Collection) × IsBag (record { limits = limits; held = ks }) × IsDump (join_with_byte 10 lines) ks
 lines_are_dump limits [] some none = cc
 lines_are_dump limits (header ∷ []) some none =
     let fault = truncated_row (place limits [] header []) refl refl in
     let clash : Some Truncated ≡ None = sym fault ∙ none_here line_fault limits [] header [] none in cc
 lines_are_dump limits (header ∷ (next ∷ lines)) some none =
-    let is = header_from limits header next lines none in
+    let named = version_from limits header next lines (dump_version header) refl none in
     let later = sym (found_later line_fault limits [] header (next ∷ lines) (none_here line_fault limits [] header (next ∷ lines) none)) ∙ none in
-    let left = left_from limits header [] (next ∷ lines) (nothing_dumped limits header) refl later in (
-      left.0,
-      left.1.dumped.bag,
-      ap (λ h. h ++ 10 ∷ join_with_byte 10 (next ∷ lines)) is
-          ∙ ap (λ (ls : List (List ℕ)). codes "s2ix 1" ++ 10 ∷ join_with_byte 10 ls) left.1.is
-          ∙ ap (λ x. codes "s2ix 1" ++ 10 ∷ x) (join_left left.0 (end_text (length left.0) (copies_in left.0)) ∙ ap (λ x. flat_map pair_line left.0 ++ x) (sym (end_with_feed left.0))),
-    )
+    let left = left_from limits header [] (next ∷ lines) (nothing_dumped limits header) refl later in
+    let end = end_text (length left.0) (copies_in left.0) in
+    let parts = ap (join_with_byte 10) left.1.is ∙ join_left left.0 end ∙ ap (λ x. flat_map pair_line left.0 ++ x) (sym (end_with_feed left.0)) in
+    (left.0, left.1.dumped.bag, dump_put_together named.0 _ header (join_with_byte 10 (next ∷ lines)) left.0 refl named.1 (held_in limits header named.0 left.0 named.1 left.1.dumped) parts)
 
-pub sound_is_dump : (limits : Limits) (text : List ℕ) → dump_fault limits text ≡ None → (ks : Collection) × IsBag (record { limits = limits; held = ks }) × (text ≡ dump_text ks)
+pub sound_is_dump : (limits : Limits) (text : List ℕ) → dump_fault limits text ≡ None → (ks : Collection) × IsBag (record { limits = limits; held = ks }) × IsDump text ks
 unfolding dump_fault
 sound_is_dump limits text none =
     let dump = lines_are_dump limits (lines_of text) (lines_some text) none in
-    (dump.0, dump.1, sym (lines_joined text) ∙ dump.2)
+    (dump.0, dump.1, subst (λ (t : List ℕ). IsDump t dump.0) (lines_joined text) dump.2)
 
-pub dumps_have_no_fault : (limits : Limits) (text : List ℕ) → (dump_fault limits text ≡ None) ↔ ((hs : Collection) × IsBag (record { limits = limits; held = hs }) × (text ≡ dump_text hs))
-dumps_have_no_fault limits text = (sound_is_dump limits text, λ dump. ap (dump_fault limits) dump.2 ∙ dump_is_sound limits dump.0 dump.1)
+pub dumps_have_no_fault : (limits : Limits) (text : List ℕ) → (dump_fault limits text ≡ None) ↔ ((hs : Collection) × IsBag (record { limits = limits; held = hs }) × IsDump text hs)
+dumps_have_no_fault limits text = (sound_is_dump limits text, λ dump. no_fault limits text dump.0 dump.1 dump.2)
 
 -- ---- what a reader answers
 
 -- a dump within the limits is not refused
-pub never_refused : (limits : Limits) (text : List ℕ) (hs : Collection) (found : ℕ × DumpFault) → IsBag (record { limits = limits; held = hs }) → text ≡ dump_text hs → dump_fault limits text ≡ Some found → ⊥
-never_refused limits text hs found is same refused =
-    let clash : ◌≡◌ {A = Option (ℕ × DumpFault)} (Some found) None = sym refused ∙ ap (dump_fault limits) same ∙ dump_is_sound limits hs is in cc
+pub never_refused : (limits : Limits) (text : List ℕ) (hs : Collection) (found : ℕ × DumpFault) → IsBag (record { limits = limits; held = hs }) → IsDump text hs → dump_fault limits text ≡ Some found → ⊥
+never_refused limits text hs found is dump refused =
+    let clash : ◌≡◌ {A = Option (ℕ × DumpFault)} (Some found) None = sym refused ∙ no_fault limits text hs is dump in cc
 
-pub only_memory : (limits : Limits) (text : List ℕ) (hs : Collection) (error : DumpError) → IsBag (record { limits = limits; held = hs }) → text ≡ dump_text hs → IsDumpError error (dump_fault limits text) → error ≡ OutOfMemory
-only_memory limits text hs OutOfMemory is same refused = refl
-only_memory limits text hs (At line fault) is same refused = absurd (never_refused limits text hs (line, fault) is same refused)
-
-pub dump_put_together : (text header below : List ℕ) (hs : Collection) → text ≡ header ++ 10 ∷ below → header ≡ codes "s2ix 1" → below ≡ flat_map pair_line hs ++ end_line hs → text ≡ dump_text hs
-unfolding dump_text
-dump_put_together text header below hs cut is parts = cut ∙ ap (λ h. h ++ 10 ∷ below) is ∙ ap (λ b. codes "s2ix 1" ++ 10 ∷ b) parts
-
-pub one_held : (limits : Limits) (text : List ℕ) (held hs : Collection) → IsBag (record { limits = limits; held = held }) → IsBag (record { limits = limits; held = hs }) → text ≡ dump_text held → text ≡ dump_text hs → held ≡ hs
-one_held limits text held hs held_is is own same = one_dump_of_bags (record { limits = limits; held = held }) (record { limits = limits; held = hs }) held_is is (sym own ∙ same)
+pub only_memory : (limits : Limits) (text : List ℕ) (hs : Collection) (error : DumpError) → IsBag (record { limits = limits; held = hs }) → IsDump text hs → IsDumpError error (dump_fault limits text) → error ≡ OutOfMemory
+only_memory limits text hs OutOfMemory is dump refused = refl
+only_memory limits text hs (At line fault) is dump refused = absurd (never_refused limits text hs (line, fault) is dump refused)
 
 -- ---- laws
 
-pub written_dumps_are_read_back : (bag : LimitedCollection) → IsBag bag
-    → (dump_fault bag.limits (dump_text bag.held) ≡ None) × ((other : LimitedCollection) → IsBag other → dump_text bag.held ≡ dump_text other.held → bag.held ≡ other.held)
-written_dumps_are_read_back bag is = (dump_is_sound bag.limits bag.held is, λ other other_is same. one_dump_of_bags bag other is other_is same)
+pub written_dumps_are_read_back : (bag : LimitedCollection) → IsBag bag → (version : Version) → CanHold version bag.held
+    → (dump_fault bag.limits (dump_in version bag.held) ≡ None) × ((other : LimitedCollection) → IsBag other → IsDump (dump_in version bag.held) other.held → bag.held ≡ other.held)
+written_dumps_are_read_back bag is version held = (
+  dump_is_sound bag.limits version bag.held is held,
+  λ other other_is dump. one_dump (dump_in version bag.held) bag.held other.held (version, held, refl) dump,
+)
 
 pub no_faulty_line_is_accepted : (limits : Limits) (text : List ℕ) → dump_fault limits text ≡ None → (above : List (List ℕ)) (line : List ℕ) (below : List (List ℕ)) → lines_of text ≡ above ++ line ∷ below
     → line_fault (place limits above line below) ≡ None

@@ -12,7 +12,8 @@ use Rattle.s2ix_read_dump.specs.declared.errors.DumpFault.{DumpFault}
 use Rattle.s2ix_read_dump.specs.declared.errors.DumpFault.TheVariants.{Truncated, BadHeader, BadEnd, BadLine, BadToken, BadLabel, BadCount, Unsorted, TooManyCopies, TooManyPairs, TrailingBytes}
 use Rattle.s2ix_parts.specs.Faults.{Place, IsFromLine, fault_below, header_of}
 use Rattle.s2ix_parts.specs.Lines.{has_parts, is_nil, last_of, lines_of, part}
-use Rattle.s2ix_parts.specs.Written.{cell_written, comes_before, count_of_line, count_written, greatest_count, label_written, pair_written}
+use Rattle.s2ix_parts.specs.Written.{cell_written, comes_before, count_of_line, count_written, label_written, pair_written}
+use Rattle.s2ix_text.specs.Version.{dump_version, greatest_below}
 
 -- ---- where a line stands
 
@@ -40,6 +41,10 @@ is_inner p = not (is_first p) && not (is_over p)
 abbrev pub is_of_pair : Place → Bool
 is_of_pair p = is_inner p && not (is_end p.line)
 
+-- the greatest count that is written below a header: that of the version that it names
+abbrev pub greatest_count : List ℕ → ℕ
+greatest_count header = greatest_below (dump_version header)
+
 -- the sum of their counts
 abbrev pub copies_above : Place → ℕ
 copies_above p = sum_by (count_of_line (greatest_count (header_of p))) (pairs_above p)
@@ -57,7 +62,7 @@ end_text pairs copies = codes "end " ++ (decimal pairs ++ (codes " " ++ decimal 
 -- where each fault stands
 unfoldable pub stands : Place → DumpFault → Bool
 stands p Truncated = not (is_over p) && not p.ended
-stands p BadHeader = is_first p && not (bytes_eq p.line (codes "s2ix 1"))
+stands p BadHeader = is_first p && is_none (dump_version p.line)
 stands p BadEnd = is_inner p && is_end p.line && not (bytes_eq p.line (end_text (length (pairs_above p)) (copies_above p)))
 stands p BadLine = is_of_pair p && not (has_parts 3 p.line)
 stands p BadToken = is_of_pair p && is_none (cell_written (part 0 p.line))

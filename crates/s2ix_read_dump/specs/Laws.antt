@@ -2,21 +2,22 @@
 use Rattle.std.specs.Prelude.{◌≡◌, ◌↔◌, ℕ, not, None, List, ◌∷◌, ◌++◌}
 use Rattle.s2ix_pairs.specs.Collection.{Collection, LimitedCollection, IsBag}
 use Rattle.s2ix_pairs.specs.declared.limits.Limits.{Limits}
-use Rattle.s2ix_text.specs.Dump.{dump_text}
+use Rattle.s2ix_text.specs.declared.version.Version.{Version}
+use Rattle.s2ix_text.specs.Dump.{CanHold, IsDump, dump_in}
 use Rattle.s2ix_read_dump.specs.DumpFaults.{dump_fault, line_fault}
 use Rattle.s2ix_parts.specs.Lines.{is_nil, lines_of}
 
--- a text has no fault exactly where it is the dump of a collection within the limits
+-- a text has no fault exactly where it is a dump, in either version, of a collection within the limits
 abbrev pub DumpsHaveNoFault : Type 0
 DumpsHaveNoFault =
     (limits : Limits) (text : List ℕ)
-    → (dump_fault limits text ≡ None) ↔ ((hs : Collection) × IsBag (record { limits = limits; held = hs }) × (text ≡ dump_text hs))
+    → (dump_fault limits text ≡ None) ↔ ((hs : Collection) × IsBag (record { limits = limits; held = hs }) × IsDump text hs)
 
--- what was written of a bag has no fault under its limits, and no other bag has that text
+-- the dump of a bag in each version that can hold it has no fault under its limits, and no other bag has that text
 abbrev pub WrittenDumpsAreReadBack : Type 0
 WrittenDumpsAreReadBack =
-    (bag : LimitedCollection) → IsBag bag
-    → (dump_fault bag.limits (dump_text bag.held) ≡ None) × ((other : LimitedCollection) → IsBag other → dump_text bag.held ≡ dump_text other.held → bag.held ≡ other.held)
+    (bag : LimitedCollection) → IsBag bag → (version : Version) → CanHold version bag.held
+    → (dump_fault bag.limits (dump_in version bag.held) ≡ None) × ((other : LimitedCollection) → IsBag other → IsDump (dump_in version bag.held) other.held → bag.held ≡ other.held)
 
 -- no line of a text without a fault has one
 abbrev pub NoFaultyLineIsAccepted : Type 0

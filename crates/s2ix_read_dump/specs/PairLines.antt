@@ -12,10 +12,10 @@ use Rattle.s2ix_pairs.specs.declared.pair.Held.{Held}
 use Rattle.s2ix_pairs.specs.declared.pair.Pair.{Pair}
 use Rattle.s2ix_read_dump.specs.declared.errors.DumpFault.{DumpFault}
 use Rattle.s2ix_read_dump.specs.declared.errors.DumpFault.TheVariants.{BadLine, BadToken, BadLabel, BadCount}
-use Rattle.s2ix_read_dump.specs.DumpFaults.{line_fault}
+use Rattle.s2ix_read_dump.specs.DumpFaults.{greatest_count, line_fault}
 use Rattle.s2ix_parts.specs.Faults.{Place}
 use Rattle.s2ix_parts.specs.Lines.{has_parts, last_of, lines_of, part}
-use Rattle.s2ix_parts.specs.Written.{cell_written, count_written, label_written, greatest_count}
+use Rattle.s2ix_parts.specs.Written.{cell_written, count_written, label_written}
 
 -- a held pair, where its parts are written; else the fault of the first that isn't
 abbrev pub held_of_parts : Option CellId → Option Label → Option ℕ → Result Held DumpFault

@@ -1,9 +1,9 @@
 //! Dumps, read back.
 ghost use Rattle.std.specs.Prelude.{◌≡◌, ◌∷◌, ◌++◌, [], ℕ, List, codes, flat_map, IfErr, IfNone, IfOk, IfSome, MatchResult, None, OnOk, IsTrue, ◌↔◌, true};
 ghost use Rattle.s2ix_pairs.specs.Collection.{Collection, IsBag, copies_in};
-ghost use Rattle.s2ix_text.specs.Dump.{dump_text, end_line, pair_line};
+ghost use Rattle.s2ix_text.specs.Dump.{IsDump, end_line, pair_line};
+ghost use Rattle.s2ix_text.specs.Version.{dump_header};
 ghost use Rattle.s2ix_read_dump.specs.declared.errors.DumpError.TheVariants.{OutOfMemory};
-ghost use Rattle.s2ix_parts.specs.Written.{greatest_count};
 ghost use Rattle.s2ix_read_dump.specs.DumpFaults.{IsDumpError, dump_fault, end_text, is_end, line_fault};
 ghost use Rattle.s2ix_parts.specs.Faults.{fault_below};
 ghost use Rattle.s2ix_parts.specs.Lines.{lines_of};
@@ -13,7 +13,8 @@ use crate::errors::{DumpError, DumpFault};
 use crate::pair_line::{next_held, next_in_front};
 use itoa::Buffer;
 use s2ix_bag::{Bag, FlatHeld, Held, Limits};
-use s2ix_parts::{GREATEST_COUNT, cut_line, first_part, three_parts};
+use s2ix_parts::{cut_line, first_part, three_parts};
+use s2ix_text::Version;
 use std::alloc::{AllocError, Global};
 
 // Whether a line with the first part `end` is the end line of so many pairs and copies.
@@ -62,26 +63,24 @@ fn push(held: &mut Vec<FlatHeld>, next: Held) -> Result<(), AllocError>
     Ok(())
 }
 
-// The next held pair of a dump and what is behind its line, below a header under which counts are at most `most` and the lines of the pairs
-// before, which have so many copies; or nothing, where what is left is the end line.
+// The next held pair of a dump of a version and what is behind its line, below the lines of the pairs before, which have so many copies; or
+// nothing, where what is left is the end line.
 fn next_line<'a>(
     limits: Limits,
-    most: u32,
+    version: Version,
     before: &[FlatHeld],
     copies: u64,
     text: &'a [u8],
 ) -> Result<Option<(Held, &'a [u8])>, DumpError>
-    ghost header: { List ℕ }
-    requires most { greatest_count header ≡ most }
-    requires dumped { IsDumped limits header before.now }
+    requires dumped { IsDumped limits (dump_header version) before.now }
     requires sum { copies ≡ copies_in before.now }
     ensures next { IfOk result (λ line. IfSome line (λ read. IsCut text.now (line_text read.0) read.1.now)) }
-    ensures fits { IfOk result (λ line. IfSome line (λ read. IsNext limits header before.now (line_text read.0) read.0)) }
+    ensures fits { IfOk result (λ line. IfSome line (λ read. IsNext limits (dump_header version) before.now (line_text read.0) read.0)) }
     ensures end { IfOk result (λ line. IfNone line (text.now ≡ end_line before.now)) }
-    ensures accepted { IfOk result (λ line. IfNone line (fault_below line_fault limits (lines_down_to header before.now) (lines_of text.now) ≡ None)) }
-    ensures refused { IfErr result (λ error. IsDumpError error (fault_below line_fault limits (lines_down_to header before.now) (lines_of text.now))) }
+    ensures accepted { IfOk result (λ line. IfNone line (fault_below line_fault limits (lines_down_to (dump_header version) before.now) (lines_of text.now) ≡ None)) }
+    ensures refused { IfErr result (λ error. IsDumpError error (fault_below line_fault limits (lines_down_to (dump_header version) before.now) (lines_of text.now))) }
 {
-    if let Some(read) = next_in_front(limits, most, before, text) {
+    if let Some(read) = next_in_front(limits, version, before, text) {
         return Ok(Some(read));
     }
     let number = before.len() + 2;
@@ -92,7 +91,7 @@ fn next_line<'a>(
         });
     };
     if first_part(line) != b"end".as_slice() {
-        return match next_held(limits, most, before, line) {
+        return match next_held(limits, version, before, line) {
             Ok(next) => Ok(Some((next, below))),
             Err(fault) => Err(DumpError::At {
                 line: number,
@@ -115,25 +114,23 @@ fn next_line<'a>(
     Ok(None)
 }
 
-// What is read of a dump below its header, under which counts are at most `most`, into a list that is empty at first.
+// What is read of a dump of a version below its header, into a list that is empty at first.
 fn read_below(
     limits: Limits,
-    most: u32,
+    version: Version,
     room: Vec<FlatHeld>,
     text: &[u8],
 ) -> Result<Vec<FlatHeld>, DumpError>
-    ghost header: { List ℕ }
-    requires most { greatest_count header ≡ most }
     requires room { room.items ≡ [] }
-    ensures dumped { IfOk result (λ held. IsDumped limits header held.items) }
+    ensures dumped { IfOk result (λ held. IsDumped limits (dump_header version) held.items) }
     ensures text { IfOk result (λ held. text.now ≡ flat_map pair_line held.items ++ end_line held.items) }
-    ensures accepted { OnOk result (fault_below line_fault limits (lines_down_to header []) (lines_of text.now) ≡ None) }
-    ensures refused { IfErr result (λ error. IsDumpError error (fault_below line_fault limits (lines_down_to header []) (lines_of text.now))) }
+    ensures accepted { OnOk result (fault_below line_fault limits (lines_down_to (dump_header version) []) (lines_of text.now) ≡ None) }
+    ensures refused { IfErr result (λ error. IsDumpError error (fault_below line_fault limits (lines_down_to (dump_header version) []) (lines_of text.now))) }
 {
     let mut held = room;
     let mut copies = 0;
     let mut rest = text;
-    while let Some((next, below)) = next_line(limits, most, held.as_slice(), copies, rest)? {
+    while let Some((next, below)) = next_line(limits, version, held.as_slice(), copies, rest)? {
         copies += u64::from(next.count);
         push(&mut held, next)?;
         rest = below;
@@ -141,15 +138,16 @@ fn read_below(
     Ok(held)
 }
 
-/// Reads a dump under limits: the bag whose dump the text is, or the first line that has a fault and the first fault of that line.
+/// Reads a dump of either version under limits: the bag whose dump the text is, or the first line that has a fault and the first fault of
+/// that line.
 ///
 /// Lines count from 1. Want of memory may be told in place of a fault of line 2 or a later one. O(n) for n bytes.
 /// This project's own.
 pub fn read_dump(alloc: Global, text: &[u8], limits: Limits) -> Result<Bag, DumpError>
     ensures limits { IfOk result (λ bag. bag.limits ≡ limits) }
     ensures within { IfOk result IsBag }
-    ensures text { IfOk result (λ bag. text.now ≡ dump_text bag.held) }
-    ensures every { (hs : Collection) → IsBag (record { limits = limits; held = hs }) → text.now ≡ dump_text hs
+    ensures text { IfOk result (λ bag. IsDump text.now bag.held) }
+    ensures every { (hs : Collection) → IsBag (record { limits = limits; held = hs }) → IsDump text.now hs
         → MatchResult result (λ bag. bag.held ≡ hs) (λ error. error ≡ OutOfMemory) }
     ensures accepted { OnOk result (dump_fault limits text.now ≡ None) }
     ensures refused { IfErr result (λ error. IsDumpError error (dump_fault limits text.now)) }
@@ -160,13 +158,13 @@ pub fn read_dump(alloc: Global, text: &[u8], limits: Limits) -> Result<Bag, Dump
             fault: DumpFault::Truncated,
         });
     };
-    if header != b"s2ix 1".as_slice() {
+    let Some(version) = Version::of_dump(header) else {
         return Err(DumpError::At {
             line: 1,
             fault: DumpFault::BadHeader,
         });
-    }
+    };
     let room = room_for(alloc, limits, below)?;
-    let held = read_below(limits, GREATEST_COUNT, room, below)?;
+    let held = read_below(limits, version, room, below)?;
     Ok(Bag::from_held(alloc, limits, held.as_slice())?)
 }

@@ -10,7 +10,7 @@ use thiserror::Error;
 pub enum DumpFault {
     /// A line is wanted here, and what is left of the text has no line feed.
     Truncated,
-    /// The first line is not `s2ix 1`.
+    /// The first line is neither `s2ix 1` nor `s2ix 2`.
     BadHeader,
     /// The line's first part is `end`, and the line is not `end PAIRS COPIES` with the right numbers.
     BadEnd,
@@ -20,7 +20,7 @@ pub enum DumpFault {
     BadToken,
     /// The second part is no canonical number of at most 2147483647.
     BadLabel,
-    /// The third part is no canonical number from 1 to 65535.
+    /// The third part is no canonical number from 1 to the greatest count of the header's version: 65535, or 4294967295.
     BadCount,
     /// The pair is not above that of the line before.
     Unsorted,
@@ -37,12 +37,14 @@ impl DumpFault {
     fn text(self) -> &'static str {
         match self {
             DumpFault::Truncated => "a line is missing or has no line feed",
-            DumpFault::BadHeader => "the first line is not `s2ix 1`",
+            DumpFault::BadHeader => "the first line is neither `s2ix 1` nor `s2ix 2`",
             DumpFault::BadEnd => "the end line doesn't count the lines above it",
             DumpFault::BadLine => "not three parts with one space between each two",
             DumpFault::BadToken => "the first part is no canonical token",
             DumpFault::BadLabel => "the second part is no canonical number of a label",
-            DumpFault::BadCount => "the third part is no canonical number from 1 to 65535",
+            DumpFault::BadCount => {
+                "the third part is no canonical number from 1 to the greatest count of the header's version: 65535, or 4294967295"
+            }
             DumpFault::Unsorted => "the pair is not above that of the line before",
             DumpFault::TooManyCopies => "a count above the limit",
             DumpFault::TooManyPairs => "more pairs than the limit",

@@ -1,15 +1,17 @@
 //! The line of a held pair.
 ghost use Rattle.std.specs.Prelude.{◌≡◌, ◌≤◌, ◌++◌, ◌∷◌, ℕ, false, IfErr, IfNone, IfOk, IfSome, List, Some};
 ghost use Rattle.s2ix_pairs.specs.declared.pair.Held.{Held as HeldRecord};
+ghost use Rattle.s2ix_text.specs.Version.{dump_header, greatest_in};
 ghost use Rattle.s2ix_read_dump.specs.DumpFaults.{is_end, line_fault};
 ghost use Rattle.s2ix_read_dump.specs.PairLines.{IsCommonFront, IsCut, IsDumped, IsNext, held_written as held_that, last_pair, line_text, place_below};
-ghost use Rattle.s2ix_parts.specs.Written.{comes_before, greatest_count};
+ghost use Rattle.s2ix_parts.specs.Written.{comes_before};
 
 use crate::errors::DumpFault;
 use s2ix_bag::{FlatHeld, Held, Label, Limits, Pair};
 use s2ix_parts::{
     cell_written, count_written, label_written, number_in_front, three_parts, token_in_front,
 };
+use s2ix_text::Version;
 
 // The held pair that a line writes, with a count of at most `most`, or the first fault of its parts.
 fn held_written(most: u32, line: &[u8]) -> Result<Held, DumpFault>
@@ -43,22 +45,19 @@ fn comes_behind(before: &[FlatHeld], pair: Pair) -> bool
     }
 }
 
-/// The held pair of the line that follows those of the pairs before, below a header under which counts are at most `most`, or the fault of
-/// that line.
+/// The held pair of the line that follows those of the pairs before, in a dump of a version, or the fault of that line.
 pub(crate) fn next_held(
     limits: Limits,
-    most: u32,
+    version: Version,
     before: &[FlatHeld],
     line: &[u8],
 ) -> Result<Held, DumpFault>
-    ghost header: { List ℕ }
-    requires most { greatest_count header ≡ most }
-    requires dumped { IsDumped limits header before.now }
+    requires dumped { IsDumped limits (dump_header version) before.now }
     requires pair { is_end line.now ≡ false }
-    ensures next { IfOk result (IsNext limits header before.now line.now) }
-    ensures fault { IfErr result (λ fault. line_fault (place_below limits header before.now line.now) ≡ Some fault) }
+    ensures next { IfOk result (IsNext limits (dump_header version) before.now line.now) }
+    ensures fault { IfErr result (λ fault. line_fault (place_below limits (dump_header version) before.now line.now) ≡ Some fault) }
 {
-    let next = held_written(most, line)?;
+    let next = held_written(version.greatest_count(), line)?;
     if !comes_behind(before, next.pair) {
         return Err(DumpFault::Unsorted);
     }
@@ -93,25 +92,22 @@ fn held_in_front(most: u32, text: &[u8]) -> Option<(Held, &[u8])>
     Some((held, behind))
 }
 
-/// The held pair that follows those of the pairs before, below a header under which counts are at most `most`, and what is behind its line,
-/// where that line stands at the front of a text and has the common shape. Where it answers nothing, no line of the common shape stands there
-/// that is the next.
+/// The held pair that follows those of the pairs before, in a dump of a version, and what is behind its line, where that line stands at the
+/// front of a text and has the common shape. Where it answers nothing, no line of the common shape stands there that is the next.
 #[inline]
 pub(crate) fn next_in_front<'a>(
     limits: Limits,
-    most: u32,
+    version: Version,
     before: &[FlatHeld],
     text: &'a [u8],
 ) -> Option<(Held, &'a [u8])>
-    ghost header: { List ℕ }
-    requires most { greatest_count header ≡ most }
-    requires dumped { IsDumped limits header before.now }
+    requires dumped { IsDumped limits (dump_header version) before.now }
     ensures line { IfSome result (λ read. IsCut text.now (line_text read.0) read.1.now) }
-    ensures next { IfSome result (λ read. IsNext limits header before.now (line_text read.0) read.0) }
-    ensures none { IfNone result ((held : HeldRecord) (rest : List ℕ) → IsCommonFront most text.now held rest
-        → ¬ IsNext limits header before.now (line_text held) held) }
+    ensures next { IfSome result (λ read. IsNext limits (dump_header version) before.now (line_text read.0) read.0) }
+    ensures none { IfNone result ((held : HeldRecord) (rest : List ℕ) → IsCommonFront (greatest_in version) text.now held rest
+        → ¬ IsNext limits (dump_header version) before.now (line_text held) held) }
 {
-    let (next, behind) = held_in_front(most, text)?;
+    let (next, behind) = held_in_front(version.greatest_count(), text)?;
     if !comes_behind(before, next.pair) || next.count > limits.count() {
         return None;
     }

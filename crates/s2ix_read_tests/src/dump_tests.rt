@@ -1,120 +1,215 @@
-// Dumps, read back or refused.
+// Dumps of both versions, read back or refused.
 use s2ix_bag::Limits;
 use s2ix_read_dump::{DumpError, DumpFault, read_dump};
 use std::alloc::Global;
 
-// A text, and how many pairs and copies it holds.
+// The first lines of the two versions.
+const HEADERS: [&[u8]; 2] = [b"s2ix 1\n", b"s2ix 2\n"];
+
+// In place of a header, where a row is a whole text.
+const WHOLE: &[u8] = b"";
+
+// Lines behind a text.
+const MORE: &[u8] = b"9555555555555555 12 345\n9557 12 345\n";
+
+// What is below a header, and how many pairs and copies it holds.
 type Accepted = (&'static [u8], usize, u64);
 
-// A text, its first faulty line and the fault.
+// What is below a header, the text's first faulty line and the fault.
 type Refused = (&'static [u8], usize, DumpFault);
 
+// Below the header of either version.
 const ACCEPTED: [Accepted; 5] = [
-    (b"s2ix 1\nend 0 0\n", 0, 0),
-    (b"s2ix 1\n04 9 1\nend 1 1\n", 1, 1),
+    (b"end 0 0\n", 0, 0),
+    (b"04 9 1\nend 1 1\n", 1, 1),
     (
-        b"s2ix 1\n04 0 3\n04 2147483647 1\nbfffffffffffffff 7 4\nend 3 8\n",
+        b"04 0 3\n04 2147483647 1\nbfffffffffffffff 7 4\nend 3 8\n",
         3,
         8,
     ),
-    (b"s2ix 1\n04 9 65535\nend 1 65535\n", 1, 65535),
+    (b"04 9 65535\nend 1 65535\n", 1, 65535),
     // lines in the common shape, with more than 16 bytes behind each
     (
-        b"s2ix 1\n0001f 0 1\n0002e371d 137 23\n04 2147483647 1\n1 1000000000 9\nbfffffffffffffff 7 65535\nend 5 65569\n",
+        b"0001f 0 1\n0002e371d 137 23\n04 2147483647 1\n1 1000000000 9\nbfffffffffffffff 7 65535\nend 5 65569\n",
         5,
         65569,
     ),
 ];
 
-const REFUSED: [Refused; 41] = [
+// Texts that the second version alone can hold.
+const ACCEPTED_GREAT: [Accepted; 4] = [
+    (b"s2ix 2\n04 9 65536\nend 1 65536\n", 1, 65536),
+    (
+        b"s2ix 2\n04 9 4294967295\nend 1 4294967295\n",
+        1,
+        4294967295,
+    ),
+    // a sum of more than 32 bits
+    (
+        b"s2ix 2\n04 9 4294967295\n1 7 4294967295\nend 2 8589934590\n",
+        2,
+        8589934590,
+    ),
+    // counts of nine digits and of ten, with more than 16 bytes behind each
+    (
+        b"s2ix 2\n04 8 999999999\n04 9 1000000000\n1 7 4294967295\nbfffffffffffffff 7 65536\nend 4 6295032830\n",
+        4,
+        6295032830,
+    ),
+];
+
+// Below the header of either version.
+const REFUSED: [Refused; 33] = [
+    (b"", 2, DumpFault::Truncated),
+    (b"end 0 0", 2, DumpFault::Truncated),
+    (b"04 9 1\n", 3, DumpFault::Truncated),
+    (b"04 9 1", 2, DumpFault::Truncated),
+    (b"end\n", 2, DumpFault::BadEnd),
+    (b"04 9 1\nend 1 2\n", 3, DumpFault::BadEnd),
+    (b"04 9 1\nend  1 1\n", 3, DumpFault::BadEnd),
+    (b"04 9 1\nend 01 1\n", 3, DumpFault::BadEnd),
+    (b"04  9 1\nend 1 1\n", 2, DumpFault::BadLine),
+    (b"04 9\nend 1 1\n", 2, DumpFault::BadLine),
+    (b"04 9 1 \nend 1 1\n", 2, DumpFault::BadLine),
+    (b"040 9 1\nend 1 1\n", 2, DumpFault::BadToken),
+    (b"BC x 0\nend 1 1\n", 2, DumpFault::BadToken),
+    (b"04 2147483648 0\nend 1 1\n", 2, DumpFault::BadLabel),
+    (b"04 +9 1\nend 1 1\n", 2, DumpFault::BadLabel),
+    (b"04 9 0\nend 1 1\n", 2, DumpFault::BadCount),
+    (b"04 9 +1\nend 1 1\n", 2, DumpFault::BadCount),
+    (b"1 7 1\n04 9 1\nend 2 2\n", 3, DumpFault::Unsorted),
+    (b"04 9 1\n04 9 5\nend 2 6\n", 3, DumpFault::Unsorted),
+    (b"end 0 0\nx", 3, DumpFault::TrailingBytes),
+    (b"end 0 0\n\n", 3, DumpFault::TrailingBytes),
+    (b"04 9 1\r\nend 1 1\n", 2, DumpFault::BadCount),
+    (b"\nend 0 0\n", 2, DumpFault::BadLine),
+    (b" 04 9 1\nend 1 1\n", 2, DumpFault::BadLine),
+    (b"04\t9 1\nend 1 1\n", 2, DumpFault::BadLine),
+    (b"04 \xff 1\nend 1 1\n", 2, DumpFault::BadLabel),
+    (b"\xff4 9 1\nend 1 1\n", 2, DumpFault::BadToken),
+    (b"04 9 01\nend 1 1\n", 2, DumpFault::BadCount),
+    (b"04 09 1\nend 1 1\n", 2, DumpFault::BadLabel),
+    (b"04 4294967296 1\nend 1 1\n", 2, DumpFault::BadLabel),
+    (b"04 9 4294967297\nend 1 1\n", 2, DumpFault::BadCount),
+    (b"04 9 1\nend 1 4294967297\n", 3, DumpFault::BadEnd),
+    (b"0A 9 1\nend 1 1\n", 2, DumpFault::BadToken),
+];
+
+// Whole texts: of the header, and of the greatest count below each.
+const REFUSED_WHOLE: [Refused; 20] = [
     (b"", 1, DumpFault::Truncated),
     (b"s2ix 1", 1, DumpFault::Truncated),
     (b"s2ix 2", 1, DumpFault::Truncated),
-    (b"s2ix 2\n", 1, DumpFault::BadHeader),
     (b"s2ix 1 \nend 0 0\n", 1, DumpFault::BadHeader),
-    (b"s2ix 1\n", 2, DumpFault::Truncated),
-    (b"s2ix 1\nend 0 0", 2, DumpFault::Truncated),
-    (b"s2ix 1\n04 9 1\n", 3, DumpFault::Truncated),
-    (b"s2ix 1\n04 9 1", 2, DumpFault::Truncated),
-    (b"s2ix 1\nend\n", 2, DumpFault::BadEnd),
-    (b"s2ix 1\n04 9 1\nend 1 2\n", 3, DumpFault::BadEnd),
-    (b"s2ix 1\n04 9 1\nend  1 1\n", 3, DumpFault::BadEnd),
-    (b"s2ix 1\n04 9 1\nend 01 1\n", 3, DumpFault::BadEnd),
-    (b"s2ix 1\n04  9 1\nend 1 1\n", 2, DumpFault::BadLine),
-    (b"s2ix 1\n04 9\nend 1 1\n", 2, DumpFault::BadLine),
-    (b"s2ix 1\n04 9 1 \nend 1 1\n", 2, DumpFault::BadLine),
-    (b"s2ix 1\n040 9 1\nend 1 1\n", 2, DumpFault::BadToken),
-    (b"s2ix 1\nBC x 0\nend 1 1\n", 2, DumpFault::BadToken),
-    (
-        b"s2ix 1\n04 2147483648 0\nend 1 1\n",
-        2,
-        DumpFault::BadLabel,
-    ),
-    (b"s2ix 1\n04 +9 1\nend 1 1\n", 2, DumpFault::BadLabel),
-    (b"s2ix 1\n04 9 0\nend 1 1\n", 2, DumpFault::BadCount),
-    (b"s2ix 1\n04 9 65536\nend 1 1\n", 2, DumpFault::BadCount),
-    (b"s2ix 1\n04 9 +1\nend 1 1\n", 2, DumpFault::BadCount),
-    (b"s2ix 1\n1 7 1\n04 9 1\nend 2 2\n", 3, DumpFault::Unsorted),
-    (b"s2ix 1\n04 9 1\n04 9 5\nend 2 6\n", 3, DumpFault::Unsorted),
-    (b"s2ix 1\nend 0 0\nx", 3, DumpFault::TrailingBytes),
-    (b"s2ix 1\nend 0 0\n\n", 3, DumpFault::TrailingBytes),
+    (b"s2ix 2 \nend 0 0\n", 1, DumpFault::BadHeader),
     (b"end 0 0\n", 1, DumpFault::BadHeader),
     (b"s2ix 1\r\nend 0 0\n", 1, DumpFault::BadHeader),
-    (b"s2ix 1\n04 9 1\r\nend 1 1\n", 2, DumpFault::BadCount),
-    (b"s2ix 1\n\nend 0 0\n", 2, DumpFault::BadLine),
-    (b"s2ix 1\n 04 9 1\nend 1 1\n", 2, DumpFault::BadLine),
-    (b"s2ix 1\n04\t9 1\nend 1 1\n", 2, DumpFault::BadLine),
-    (b"s2ix 1\n04 \xff 1\nend 1 1\n", 2, DumpFault::BadLabel),
-    (b"s2ix 1\n\xff4 9 1\nend 1 1\n", 2, DumpFault::BadToken),
-    (b"s2ix 1\n04 9 01\nend 1 1\n", 2, DumpFault::BadCount),
-    (b"s2ix 1\n04 09 1\nend 1 1\n", 2, DumpFault::BadLabel),
+    (b"s2ix 0\nend 0 0\n", 1, DumpFault::BadHeader),
+    (b"s2ix 3\nend 0 0\n", 1, DumpFault::BadHeader),
+    (b"s2ix 02\nend 0 0\n", 1, DumpFault::BadHeader),
+    (b"s2ix\nend 0 0\n", 1, DumpFault::BadHeader),
+    (b"s2ix \nend 0 0\n", 1, DumpFault::BadHeader),
+    (b"s2ix-journal 2\nend 0 0\n", 1, DumpFault::BadHeader),
+    (b"s2ix 1\n04 9 65536\nend 1 65536\n", 2, DumpFault::BadCount),
     (
-        b"s2ix 1\n04 4294967296 1\nend 1 1\n",
-        2,
-        DumpFault::BadLabel,
-    ),
-    (
-        b"s2ix 1\n04 9 4294967297\nend 1 1\n",
+        b"s2ix 1\n04 9 4294967295\nend 1 4294967295\n",
         2,
         DumpFault::BadCount,
     ),
-    (b"s2ix 1\n04 9 1\nend 1 4294967297\n", 3, DumpFault::BadEnd),
-    (b"s2ix 1\n0A 9 1\nend 1 1\n", 2, DumpFault::BadToken),
+    (
+        b"s2ix 1\n04 8 1\n04 9 65536\nend 2 65537\n",
+        3,
+        DumpFault::BadCount,
+    ),
+    (
+        b"s2ix 2\n04 9 4294967296\nend 1 4294967296\n",
+        2,
+        DumpFault::BadCount,
+    ),
+    (
+        b"s2ix 2\n04 9 4294967295\n1 7 4294967296\nend 2 1\n",
+        3,
+        DumpFault::BadCount,
+    ),
+    (
+        b"s2ix 2\n04 9 4294967295\n1 7 4294967295\nend 2 8589934589\n",
+        4,
+        DumpFault::BadEnd,
+    ),
+    // the sum's low 32 bits
+    (
+        b"s2ix 2\n04 9 4294967295\n1 7 4294967295\nend 2 4294967294\n",
+        4,
+        DumpFault::BadEnd,
+    ),
 ];
 
-// Under limits of two pairs and three copies of a pair.
-const ACCEPTED_LIMITED: [Accepted; 1] = [(b"s2ix 1\n04 8 3\n04 9 1\nend 2 4\n", 2, 4)];
+// Under limits of two pairs and three copies of a pair, below the header of either version.
+const ACCEPTED_LIMITED: [Accepted; 1] = [(b"04 8 3\n04 9 1\nend 2 4\n", 2, 4)];
 
-const REFUSED_LIMITED: [Refused; 3] = [
+const REFUSED_LIMITED: [Refused; 4] = [
+    (b"04 8 4\n04 9 1\nend 2 5\n", 2, DumpFault::TooManyCopies),
     (
-        b"s2ix 1\n04 8 4\n04 9 1\nend 2 5\n",
+        b"04 8 65535\n04 9 1\nend 2 65536\n",
         2,
         DumpFault::TooManyCopies,
     ),
     (
-        b"s2ix 1\n04 7 1\n04 8 1\n04 9 4\nend 3 6\n",
+        b"04 7 1\n04 8 1\n04 9 4\nend 3 6\n",
         4,
         DumpFault::TooManyCopies,
     ),
     (
-        b"s2ix 1\n04 7 1\n04 8 1\n04 9 1\nend 3 3\n",
+        b"04 7 1\n04 8 1\n04 9 1\nend 3 3\n",
         4,
         DumpFault::TooManyPairs,
     ),
 ];
 
-// Whether a text is read, and holds so many pairs and copies.
-fn is_accepted(alloc: Global, limits: Limits, &(text, pairs, copies): &Accepted) -> bool {
-    match read_dump(alloc, text, limits) {
+// Whole texts: a count above the limit, which one version writes.
+const REFUSED_LIMITED_WHOLE: [Refused; 2] = [
+    (b"s2ix 1\n04 8 65536\nend 1 65536\n", 2, DumpFault::BadCount),
+    (
+        b"s2ix 2\n04 8 65536\nend 1 65536\n",
+        2,
+        DumpFault::TooManyCopies,
+    ),
+];
+
+// A text of some parts.
+fn text_of(alloc: Global, parts: &[&[u8]]) -> Option<Vec<u8>> {
+    let mut text = Vec::new(alloc);
+    for part in parts {
+        text.extend_from_slice(part).ok()?;
+    }
+    Some(text)
+}
+
+// Whether a row is read below a header, and holds so many pairs and copies.
+fn is_accepted(
+    alloc: Global,
+    limits: Limits,
+    header: &[u8],
+    &(below, pairs, copies): &Accepted,
+) -> bool {
+    let Some(text) = text_of(alloc, &[header, below]) else {
+        return false;
+    };
+    match read_dump(alloc, &text, limits) {
         Ok(bag) => bag.len() == pairs && bag.copies() == copies,
         Err(_) => false,
     }
 }
 
-// The place of the first text that is not read as it should be.
-fn first_not_accepted(alloc: Global, limits: Limits, rows: &[Accepted]) -> Option<usize> {
+// The place of the first row that is not read as it should be.
+fn first_not_accepted(
+    alloc: Global,
+    limits: Limits,
+    header: &[u8],
+    rows: &[Accepted],
+) -> Option<usize> {
     for (place, row) in rows.iter().enumerate() {
-        if !is_accepted(alloc, limits, row) {
+        if !is_accepted(alloc, limits, header, row) {
             return Some(place);
         }
     }
@@ -134,46 +229,47 @@ fn has_fault(alloc: Global, limits: Limits, text: &[u8], line: usize, fault: Dum
     }
 }
 
-// A text with more lines behind it.
-fn followed(alloc: Global, text: &[u8]) -> Option<Vec<u8>> {
-    let mut followed = Vec::from_slice(alloc, text).ok()?;
-    followed
-        .extend_from_slice(b"9555555555555555 12 345\n9557 12 345\n")
-        .ok()?;
-    Some(followed)
-}
-
-// A fault of a line stands whatever follows the line: so a row is refused alike with more lines behind it, but for those that lack a line
-// feed.
-fn is_refused_followed(alloc: Global, limits: Limits, &(text, line, fault): &Refused) -> bool {
-    if !text.ends_with(b"\n") || fault == DumpFault::Truncated {
-        return true;
-    }
-    match followed(alloc, text) {
-        Some(followed) => has_fault(alloc, limits, &followed, line, fault),
+// Whether a row is refused below a header for its first fault.
+fn is_refused(
+    alloc: Global,
+    limits: Limits,
+    header: &[u8],
+    &(below, line, fault): &Refused,
+) -> bool {
+    match text_of(alloc, &[header, below]) {
+        Some(text) => has_fault(alloc, limits, &text, line, fault),
         None => false,
     }
 }
 
-// Whether a text is refused for its first fault.
-fn is_refused(alloc: Global, limits: Limits, &(text, line, fault): &Refused) -> bool {
-    has_fault(alloc, limits, text, line, fault)
-}
-
-// The place of the first text that is not refused as it should be.
-fn first_not_refused(alloc: Global, limits: Limits, rows: &[Refused]) -> Option<usize> {
-    for (place, row) in rows.iter().enumerate() {
-        if !is_refused(alloc, limits, row) {
-            return Some(place);
-        }
+// A fault of a line stands whatever follows the line: so a row is refused alike with more lines behind it, but for those that lack a line
+// feed.
+fn is_refused_followed(
+    alloc: Global,
+    limits: Limits,
+    header: &[u8],
+    &(below, line, fault): &Refused,
+) -> bool {
+    if !below.ends_with(b"\n") || fault == DumpFault::Truncated {
+        return true;
     }
-    None
+    match text_of(alloc, &[header, below, MORE]) {
+        Some(text) => has_fault(alloc, limits, &text, line, fault),
+        None => false,
+    }
 }
 
-// The place of the first text that is not refused as it should be with more lines behind it.
-fn first_not_refused_followed(alloc: Global, limits: Limits, rows: &[Refused]) -> Option<usize> {
+// The place of the first row that is not refused as it should be, alone and with more lines behind it.
+fn first_not_refused(
+    alloc: Global,
+    limits: Limits,
+    header: &[u8],
+    rows: &[Refused],
+) -> Option<usize> {
     for (place, row) in rows.iter().enumerate() {
-        if !is_refused_followed(alloc, limits, row) {
+        if !is_refused(alloc, limits, header, row)
+            || !is_refused_followed(alloc, limits, header, row)
+        {
             return Some(place);
         }
     }
@@ -183,22 +279,32 @@ fn first_not_refused_followed(alloc: Global, limits: Limits, rows: &[Refused]) -
 #[test]
 fn a_dump_is_read_or_its_first_fault_told(rt: HostRuntime) {
     let limits = Limits::default();
-    let wrong = first_not_accepted(rt.alloc(), limits, &ACCEPTED);
+    for header in &HEADERS {
+        let wrong = first_not_accepted(rt.alloc(), limits, header, &ACCEPTED);
+        assert!(rt; wrong.is_none(), "wrong at row {wrong:?}");
+        let wrong = first_not_refused(rt.alloc(), limits, header, &REFUSED);
+        assert!(rt; wrong.is_none(), "wrong at faulty row {wrong:?}");
+    }
+}
+
+#[test]
+fn each_version_has_its_header_and_its_greatest_count(rt: HostRuntime) {
+    let limits = Limits::default();
+    let wrong = first_not_accepted(rt.alloc(), limits, WHOLE, &ACCEPTED_GREAT);
     assert!(rt; wrong.is_none(), "wrong at text {wrong:?}");
-    let wrong = first_not_refused(rt.alloc(), limits, &REFUSED);
+    let wrong = first_not_refused(rt.alloc(), limits, WHOLE, &REFUSED_WHOLE);
     assert!(rt; wrong.is_none(), "wrong at faulty text {wrong:?}");
-    let wrong = first_not_refused_followed(rt.alloc(), limits, &REFUSED);
-    assert!(rt;
-        wrong.is_none(),
-        "wrong at faulty text {wrong:?} with lines behind it"
-    );
 }
 
 #[test]
 fn a_dump_keeps_to_limits(rt: HostRuntime) {
     let two_pairs = Limits::new(2, 3, 1).expect(&rt, "limits");
-    let wrong = first_not_accepted(rt.alloc(), two_pairs, &ACCEPTED_LIMITED);
-    assert!(rt; wrong.is_none(), "wrong at limited text {wrong:?}");
-    let wrong = first_not_refused(rt.alloc(), two_pairs, &REFUSED_LIMITED);
+    for header in &HEADERS {
+        let wrong = first_not_accepted(rt.alloc(), two_pairs, header, &ACCEPTED_LIMITED);
+        assert!(rt; wrong.is_none(), "wrong at limited row {wrong:?}");
+        let wrong = first_not_refused(rt.alloc(), two_pairs, header, &REFUSED_LIMITED);
+        assert!(rt; wrong.is_none(), "wrong at faulty limited row {wrong:?}");
+    }
+    let wrong = first_not_refused(rt.alloc(), two_pairs, WHOLE, &REFUSED_LIMITED_WHOLE);
     assert!(rt; wrong.is_none(), "wrong at faulty limited text {wrong:?}");
 }
