@@ -18,8 +18,7 @@ use Rattle.s2ix_parts.proofs.Pieces.{lines_apart, lines_some}
 use Rattle.s2ix_parts.proofs.Rests.{lines_split, some_behind}
 use Rattle.s2ix_read_journal.specs.declared.errors.JournalFault.{JournalFault}
 use Rattle.s2ix_read_journal.specs.declared.errors.JournalFault.TheVariants.{BadEnd, TrailingBytes, Truncated}
-use Rattle.s2ix_parts.specs.Written.{greatest_count}
-use Rattle.s2ix_read_journal.specs.JournalFaults.{behind, end_text, is_end, line_fault}
+use Rattle.s2ix_read_journal.specs.JournalFaults.{behind, end_text, greatest_count, is_end, line_fault}
 use Rattle.s2ix_read_journal.specs.JournalLines.{at_group, change_text, entry_text, group_lines, last_pair, lines_down_to, next_entry, next_size}
 use Rattle.s2ix_read_journal.specs.Journals.{AreEntries, HasSides, IsGroup}
 use Rattle.s2ix_read_journal.proofs.ChangeTexts.{IsSize, change_lacks_feed, change_with_feed, end_with_feed, line_from_size}

@@ -1,6 +1,6 @@
 -- The fault of a line, by the table: inside a group, outside, and behind the end line.
 use Rattle.std.proofs.Common.{◌≡◌, ◌==◌, ℕ, suc, Bool, true, false, not, ◌&&◌, ◌||◌, cond, Option, Some, None, Ok, Err, List, [], refl, ap, ◌∙◌, arith}
-use Rattle.std.specs.Prelude.{codes, is_none, nat_le, nat_lt, slice_index_or}
+use Rattle.std.specs.Prelude.{is_none, nat_le, nat_lt, slice_index_or}
 use Rattle.std.specs.Option.{unwrap_or}
 use Rattle.std.specs.Result.{result_err}
 use Rattle.std.specs.Str.{bytes_eq}
@@ -13,10 +13,11 @@ use Rattle.s2ix_pairs.specs.declared.pair.Entry.{Entry}
 use Rattle.s2ix_pairs.specs.declared.pair.Pair.{Pair}
 use Rattle.s2ix_parts.specs.Faults.{Place}
 use Rattle.s2ix_parts.specs.Lines.{has_parts, is_nil, part}
-use Rattle.s2ix_parts.specs.Written.{cell_written, comes_before, label_written, pair_with, pair_written, greatest_count}
+use Rattle.s2ix_parts.specs.Written.{cell_written, comes_before, label_written, pair_with, pair_written}
+use Rattle.s2ix_text.specs.Version.{journal_version}
 use Rattle.s2ix_read_journal.specs.declared.errors.JournalFault.{JournalFault}
 use Rattle.s2ix_read_journal.specs.declared.errors.JournalFault.TheVariants.{Truncated, BadHeader, BadEnd, BadLine, BadToken, BadLabel, BadCount, NoDifference, Unsorted, TooManyCopies, TooManyChanges, TrailingBytes}
-use Rattle.s2ix_read_journal.specs.JournalFaults.{behind, end_text, is_change, is_end, is_first, is_inner, is_of_entry, is_of_group, is_outside, is_over, line_fault, stands}
+use Rattle.s2ix_read_journal.specs.JournalFaults.{behind, end_text, greatest_count, is_change, is_end, is_first, is_inner, is_of_entry, is_of_group, is_outside, is_over, line_fault, stands}
 use Rattle.s2ix_read_journal.specs.JournalLines.{entry_behind, entry_of_parts, entry_written, next_entry, next_size, size_behind, size_of_part}
 use Rattle.s2ix_read_journal.specs.Numbers.{side_written, size_written}
 
@@ -222,6 +223,6 @@ pub truncated_row : (p : Place) → is_over p ≡ false → p.ended ≡ false �
 unfolding line_fault stands
 truncated_row p over ended = cond-true (stands p Truncated) _ _ (and_from _ _ (ap not over) (ap not ended))
 
-pub header_row : (limits : Limits) (line : List ℕ) → line_fault (place_below limits [] line) ≡ cond (not (bytes_eq line (codes "s2ix-journal 1"))) (Some BadHeader) None
+pub header_row : (limits : Limits) (line : List ℕ) → line_fault (place_below limits [] line) ≡ cond (is_none (journal_version line)) (Some BadHeader) None
 unfolding line_fault stands behind
 header_row limits line = refl

@@ -6,8 +6,8 @@ use Rattle.std.proofs.lemmas.Bool.{cond-false, cond-true}
 use Rattle.std.proofs.lemmas.List.Sums.{fold-append}
 use Rattle.s2ix_pairs.specs.declared.pair.Pair.{Pair}
 use Rattle.s2ix_parts.specs.Lines.{is_nil, part}
-use Rattle.s2ix_parts.specs.Written.{pair_written, greatest_count}
-use Rattle.s2ix_read_journal.specs.JournalFaults.{Standing, at_start, behind, behind_line, behind_next, is_end}
+use Rattle.s2ix_parts.specs.Written.{pair_written}
+use Rattle.s2ix_read_journal.specs.JournalFaults.{Standing, at_start, behind, behind_line, behind_next, greatest_count, is_end}
 use Rattle.s2ix_read_journal.specs.JournalLines.{at_group}
 use Rattle.s2ix_read_journal.specs.Numbers.{size_written}
 use Rattle.s2ix_read_journal.proofs.Rows.{IsBetween, IsInside}

@@ -1,26 +1,29 @@
 -- A text has no fault exactly where it is a journal.
-use Rattle.std.proofs.Common.{get_or, ◌≡◌, ◌==◌, ℕ, zero, suc, ◌+◌, ◌<◌, ◌≤◌, ◌^◌, ◌⊎◌, inl, inr, true, false, not, Option, Some, None, Result, Ok, Err, List, [], ◌∷◌, ◌++◌, All, length, map, refl, sym, ap, ap₂, ◌∙◌, subst, arith, append_assoc, ⊎_elim}
-use Rattle.std.specs.Prelude.{codes, flat_map}
+use Rattle.std.proofs.Common.{get_or, ◌≡◌, ℕ, zero, suc, ◌+◌, ◌<◌, ◌≤◌, ◌^◌, ◌⊎◌, inl, inr, true, false, cond, Option, Some, None, Result, Ok, Err, List, [], ◌∷◌, ◌++◌, All, length, map, refl, sym, ap, ap₂, ◌∙◌, subst, arith, append_assoc, ⊎_elim}
+use Rattle.std.specs.Prelude.{flat_map, is_none}
 use Rattle.std.specs.List.{join_with_byte}
 use Rattle.std.specs.Result.{result_err}
 use Rattle.std.specs.Str.{bytes_eq}
-use Rattle.std.proofs.lemmas.Bool.{both_ways, cases_Bool, cond-false, cond-true, false_from_ne_true}
+use Rattle.std.proofs.lemmas.Bool.{both_ways, cases_Bool, cond-false, cond-true}
 use Rattle.std.proofs.lemmas.List.{flat_map_more, length_push, map_push}
-use Rattle.std.proofs.lemmas.List.Elements.{All-cons, All-nil, All-push}
+use Rattle.std.proofs.lemmas.List.Elements.{All-push}
 use Rattle.std.proofs.lemmas.Slice.Eq.{bytes_eq-Decides}
 use Rattle.s2ix_pairs.specs.Limits.{changes_limit}
 use Rattle.s2ix_pairs.specs.declared.limits.Limits.{Limits}
 use Rattle.s2ix_pairs.specs.declared.pair.Entry.{Entry}
-use Rattle.s2ix_text.specs.Journal.{IsWritable, change_line, entry_line, group_text, journal_text, last_line}
+use Rattle.s2ix_text.specs.declared.version.Version.{Version}
+use Rattle.s2ix_text.specs.Version.{greatest_below, greatest_in, journal_header, journal_version}
+use Rattle.s2ix_text.specs.Journal.{IsJournalText, IsWritableIn, change_line, entry_line, group_text, journal_in, last_line}
+use Rattle.s2ix_text.proofs.Journals.{writable}
+use Rattle.s2ix_text.proofs.Versions.{greatest_fits, journal_header_lacks_feed, journal_header_named, named_by_journal_header}
 use Rattle.s2ix_parts.specs.Lines.{is_nil, lines_of}
 use Rattle.s2ix_parts.proofs.FirstFault.{ended, found_here, found_later, place}
 use Rattle.s2ix_parts.proofs.NoFault.{none_here, none_later}
-use Rattle.s2ix_parts.proofs.Pieces.{Lacks, lines_apart, lines_joined, lines_some}
+use Rattle.s2ix_parts.proofs.Pieces.{lines_apart, lines_joined, lines_some}
 use Rattle.s2ix_parts.proofs.Rests.{join_more, no_lines, some_joined}
 use Rattle.s2ix_read_journal.specs.declared.errors.JournalFault.{JournalFault}
 use Rattle.s2ix_read_journal.specs.declared.errors.JournalFault.TheVariants.{BadEnd, BadHeader, TrailingBytes, Truncated}
-use Rattle.s2ix_parts.specs.Written.{greatest_count}
-use Rattle.s2ix_read_journal.specs.JournalFaults.{behind, end_text, is_end, journal_fault, line_fault}
+use Rattle.s2ix_read_journal.specs.JournalFaults.{behind, end_text, greatest_count, is_end, journal_fault, line_fault}
 use Rattle.s2ix_read_journal.specs.JournalLines.{change_text, entry_text, group_lines, last_pair, lines_down_to, next_entry, next_size}
 use Rattle.s2ix_read_journal.specs.Journals.{AreEntries, IsGroup, IsJournal}
 use Rattle.s2ix_read_journal.proofs.ChangeTexts.{IsSize, change_with_feed, end_is_end, end_lacks_feed, end_with_feed, line_from_size}
@@ -33,57 +36,59 @@ use Rattle.s2ix_read_journal.proofs.Steps.{fault_left, groups_passed}
 
 -- ---- groups, and what a journal holds
 
-writable_group : (limits : Limits) (es : List Entry) → IsGroup 65535 limits es → IsWritable es
-writable_group limits es group = record {
+writable_group : (version : Version) (limits : Limits) (es : List Entry) → IsGroup (greatest_in version) limits es → IsWritableIn version es
+writable_group version limits es group = record {
   some = group.some;
   few = group.few;
   small_before = λ k d within. (group.entries.sides k d within).0;
   small_after = λ k d within. (group.entries.sides k d within).1;
 }
 
-pub journal_of_groups : (limits : Limits) (cs : List (List Entry)) → All (IsGroup 65535 limits) cs → length cs ≤ changes_limit limits → IsJournal limits cs
-journal_of_groups limits cs groups few = record {
+pub groups_writable : (version : Version) (limits : Limits) (cs : List (List Entry)) → All (IsGroup (greatest_in version) limits) cs → All (IsWritableIn version) cs
+groups_writable version limits cs groups = λ k d within. writable_group version limits (get_or cs k d) (groups k d within)
+
+pub journal_of_groups : (version : Version) (limits : Limits) (cs : List (List Entry)) → All (IsGroup (greatest_in version) limits) cs → length cs ≤ changes_limit limits → IsJournal limits cs
+journal_of_groups version limits cs groups few = record {
   lists = λ k d within. (groups k d within).entries.list;
   within = record {
-    writable = λ k d within. writable_group limits (get_or cs k d) (groups k d within);
+    writable = λ k d within. writable version (get_or cs k d) (groups_writable version limits cs groups k d within);
     small = λ k d within. (groups k d within).entries.small;
     few = few;
   };
 }
 
-pub groups_of_journal : (limits : Limits) (cs : List (List Entry)) → IsJournal limits cs → All (IsGroup 65535 limits) cs
-groups_of_journal limits cs is = λ k d within.
-    let writable = is.within.writable k d within in
+groups_of_journal : (version : Version) (limits : Limits) (cs : List (List Entry)) → IsJournal limits cs → All (IsWritableIn version) cs → All (IsGroup (greatest_in version) limits) cs
+groups_of_journal version limits cs is are = λ k d within.
+    let held = are k d within in
     record {
       entries = record {
         list = is.lists k d within;
-        sides = λ i e inside. (writable.small_before i e inside, writable.small_after i e inside);
+        sides = λ i e inside. (held.small_before i e inside, held.small_after i e inside);
         small = is.within.small k d within;
       };
-      some = writable.some;
-      few = writable.few;
+      some = held.some;
+      few = held.few;
     }
 
 -- ---- the header
 
--- the greatest count that the lines below the first header write
-pub first_greatest : (header : List ℕ) → header ≡ codes "s2ix-journal 1" → greatest_count header ≡ 65535
-unfolding greatest_count
-first_greatest header is = ap greatest_count is
+-- the greatest count that the lines below a version's header write
+pub greatest_of_version : (header : List ℕ) (version : Version) → journal_version header ≡ Some version → greatest_count header ≡ greatest_in version
+greatest_of_version header version named = ap greatest_below named
 
-pub below_header : (limits : Limits) (text header below : List ℕ) → lines_of text ≡ header ∷ lines_of below → header ≡ codes "s2ix-journal 1" → journal_fault limits text ≡ fault_left limits (lines_down_to header []) (lines_of below)
+pub below_header : (limits : Limits) (text header below : List ℕ) (version : Version) → lines_of text ≡ header ∷ lines_of below → journal_version header ≡ Some version → journal_fault limits text ≡ fault_left limits (lines_down_to header []) (lines_of below)
 unfolding journal_fault
-below_header limits text header below lines is =
+below_header limits text header below version lines named =
     ap (fault_left limits []) lines
-    ∙ found_later line_fault limits [] header (lines_of below) (ap line_fault (ended limits [] header (lines_of below) (lines_some below)) ∙ header_row limits header ∙ cond-false _ _ _ (ap not ((bytes_eq-Decides header (codes "s2ix-journal 1")).1 is)))
+    ∙ found_later line_fault limits [] header (lines_of below)
+    (ap line_fault (ended limits [] header (lines_of below) (lines_some below)) ∙ header_row limits header ∙ cond-false _ _ _ (ap is_none named))
 
-pub bad_header : (limits : Limits) (text header below : List ℕ) → lines_of text ≡ header ∷ lines_of below → (header ≡ codes "s2ix-journal 1" → ⊥) → journal_fault limits text ≡ Some (1, BadHeader)
+pub bad_header : (limits : Limits) (text header below : List ℕ) → lines_of text ≡ header ∷ lines_of below → journal_version header ≡ None → journal_fault limits text ≡ Some (1, BadHeader)
 unfolding journal_fault
-bad_header limits text header below lines other =
+bad_header limits text header below lines none =
     ap (fault_left limits []) lines
     ∙ found_here line_fault limits [] header (lines_of below) BadHeader
-    (ap line_fault (ended limits [] header (lines_of below) (lines_some below)) ∙ header_row limits header
-    ∙ cond-true _ _ _ (ap not (false_from_ne_true (bytes_eq header (codes "s2ix-journal 1")) (λ same. other ((bytes_eq-Decides header (codes "s2ix-journal 1")).0 same)))))
+    (ap line_fault (ended limits [] header (lines_of below) (lines_some below)) ∙ header_row limits header ∙ cond-true _ _ _ (ap is_none none))
 
 pub no_header : (limits : Limits) (text : List ℕ) → lines_of text ≡ text ∷ [] → journal_fault limits text ≡ Some (1, Truncated)
 unfolding journal_fault behind
@@ -91,47 +96,31 @@ no_header limits text lines =
     ap (fault_left limits []) lines
     ∙ found_here line_fault limits [] text [] Truncated (truncated_row (place limits [] text []) refl refl)
 
-header_lacks_feed : Lacks 10 (codes "s2ix-journal 1")
-header_lacks_feed =
-    let Other : ℕ → Type 0 = λ byte. (byte == 10) ≡ false in
-    All-cons Other 115 (50 ∷ 105 ∷ 120 ∷ 45 ∷ 106 ∷ 111 ∷ 117 ∷ 114 ∷ 110 ∷ 97 ∷ 108 ∷ 32 ∷ 49 ∷ []) refl
-    (All-cons Other 50 (105 ∷ 120 ∷ 45 ∷ 106 ∷ 111 ∷ 117 ∷ 114 ∷ 110 ∷ 97 ∷ 108 ∷ 32 ∷ 49 ∷ []) refl
-    (All-cons Other 105 (120 ∷ 45 ∷ 106 ∷ 111 ∷ 117 ∷ 114 ∷ 110 ∷ 97 ∷ 108 ∷ 32 ∷ 49 ∷ []) refl
-    (All-cons Other 120 (45 ∷ 106 ∷ 111 ∷ 117 ∷ 114 ∷ 110 ∷ 97 ∷ 108 ∷ 32 ∷ 49 ∷ []) refl
-    (All-cons Other 45 (106 ∷ 111 ∷ 117 ∷ 114 ∷ 110 ∷ 97 ∷ 108 ∷ 32 ∷ 49 ∷ []) refl
-    (All-cons Other 106 (111 ∷ 117 ∷ 114 ∷ 110 ∷ 97 ∷ 108 ∷ 32 ∷ 49 ∷ []) refl
-    (All-cons Other 111 (117 ∷ 114 ∷ 110 ∷ 97 ∷ 108 ∷ 32 ∷ 49 ∷ []) refl
-    (All-cons Other 117 (114 ∷ 110 ∷ 97 ∷ 108 ∷ 32 ∷ 49 ∷ []) refl
-    (All-cons Other 114 (110 ∷ 97 ∷ 108 ∷ 32 ∷ 49 ∷ []) refl
-    (All-cons Other 110 (97 ∷ 108 ∷ 32 ∷ 49 ∷ []) refl
-    (All-cons Other 97 (108 ∷ 32 ∷ 49 ∷ []) refl
-    (All-cons Other 108 (32 ∷ 49 ∷ []) refl
-    (All-cons Other 32 (49 ∷ []) refl
-    (All-cons Other 49 [] refl (All-nil Other))))))))))))))
-
 -- ---- a journal has no fault
 
 lines_of_end : (cs : List (List Entry)) → length cs < 2 ^ 64 → lines_of (last_line cs) ≡ end_text (length cs) ∷ [] ∷ []
 lines_of_end cs few =
     ap lines_of (end_with_feed cs) ∙ lines_apart (end_text (length cs)) [] (end_lacks_feed (length cs) few) ∙ ap (λ (ls : List (List ℕ)). end_text (length cs) ∷ ls) no_lines
 
-pub journal_is_sound : (limits : Limits) (cs : List (List Entry)) → IsJournal limits cs → journal_fault limits (journal_text cs) ≡ None
-unfolding journal_text
-journal_is_sound limits cs is =
-    let groups = groups_of_journal limits cs is in
+pub journal_is_sound : (limits : Limits) (cs : List (List Entry)) → IsJournal limits cs → (version : Version) → All (IsWritableIn version) cs → journal_fault limits (journal_in version cs) ≡ None
+unfolding journal_in
+journal_is_sound limits cs is version are =
+    let groups = groups_of_journal version limits cs is are in
     let few : length cs ≤ changes_limit limits = is.within.few in
     let all : changes_limit limits ≤ 100000 = limits.in_range.5 in
-    let first = codes "s2ix-journal 1" in
-    let own = first_greatest first refl in
-    let bounded : 65535 < 2 ^ 32 = omega arith in
+    let header = journal_header version in
+    let most = greatest_in version in
+    let named = named_by_journal_header version in
+    let bounded = greatest_fits version in
     let below = flat_map group_text cs ++ last_line cs in
-    let passed = groups_passed 65535 bounded limits (lines_down_to first []) 0 cs (lines_of (last_line cs)) (between_start 65535 first own) groups (omega (arith, few)) (lines_some (last_line cs)) in
-    let between = subst (λ n. IsBetween 65535 (lines_down_to first cs) n) (let whole : 0 + length cs ≡ length cs = omega arith in whole) passed.between in
-    below_header limits (first ++ 10 ∷ below) first below (lines_apart first below header_lacks_feed) refl
-    ∙ ap (fault_left limits (lines_down_to first [])) (lines_of_groups 65535 bounded limits cs (last_line cs) groups)
+    let start = between_start most header (greatest_of_version header version named) in
+    let passed = groups_passed most bounded limits (lines_down_to header []) 0 cs (lines_of (last_line cs)) start groups (omega (arith, few)) (lines_some (last_line cs)) in
+    let between = subst (λ n. IsBetween most (lines_down_to header cs) n) (let whole : 0 + length cs ≡ length cs = omega arith in whole) passed.between in
+    below_header limits (header ++ 10 ∷ below) header below version (lines_apart header below (journal_header_lacks_feed version)) named
+    ∙ ap (fault_left limits (lines_down_to header [])) (lines_of_groups most bounded limits cs (last_line cs) groups)
     ∙ passed.fault
-    ∙ ap (fault_left limits (lines_down_to first cs)) (lines_of_end cs (omega (arith, few, all)))
-    ∙ nothing_behind 65535 limits (lines_down_to first cs) (length cs) (end_text (length cs)) between (end_is_end (length cs) (omega (arith, few, all))) refl
+    ∙ ap (fault_left limits (lines_down_to header cs)) (lines_of_end cs (omega (arith, few, all)))
+    ∙ nothing_behind most limits (lines_down_to header cs) (length cs) (end_text (length cs)) between (end_is_end (length cs) (omega (arith, few, all))) refl
 
 -- ---- a text without a fault is a journal
 
@@ -329,40 +318,43 @@ join_groups (c ∷ cs) lines some =
     ∙ ap (λ x. group_text c ++ x) (join_groups cs lines some)
     ∙ sym (append_assoc (group_text c) (flat_map group_text cs) (join_with_byte 10 lines))
 
-join_whole : (cs : List (List Entry)) → join_with_byte 10 (lines_down_to (codes "s2ix-journal 1") cs ++ end_text (length cs) ∷ [] ∷ []) ≡ journal_text cs
-unfolding journal_text
-join_whole cs =
-    join_more (codes "s2ix-journal 1") (flat_map group_lines cs ++ end_text (length cs) ∷ [] ∷ []) (some_joined (flat_map group_lines cs) (end_text (length cs) ∷ [] ∷ []) refl)
-    ∙ ap (λ x. codes "s2ix-journal 1" ++ 10 ∷ x) (join_groups cs (end_text (length cs) ∷ [] ∷ []) refl ∙ ap (λ x. flat_map group_text cs ++ x) (sym (end_with_feed cs)))
+join_whole : (version : Version) (cs : List (List Entry)) → join_with_byte 10 (lines_down_to (journal_header version) cs ++ end_text (length cs) ∷ [] ∷ []) ≡ journal_in version cs
+unfolding journal_in
+join_whole version cs =
+    join_more (journal_header version) (flat_map group_lines cs ++ end_text (length cs) ∷ [] ∷ []) (some_joined (flat_map group_lines cs) (end_text (length cs) ∷ [] ∷ []) refl)
+    ∙ ap (λ x. journal_header version ++ 10 ∷ x) (join_groups cs (end_text (length cs) ∷ [] ∷ []) refl ∙ ap (λ x. flat_map group_text cs ++ x) (sym (end_with_feed cs)))
 
 -- ---- from the top
 
-header_from : (limits : Limits) (header next : List ℕ) (lines : List (List ℕ)) → fault_left limits [] (header ∷ next ∷ lines) ≡ None → header ≡ codes "s2ix-journal 1"
-header_from limits header next lines none =
-    ⊎_elim
-    (λ same. (bytes_eq-Decides header (codes "s2ix-journal 1")).0 same)
-    (λ other.
-    let fault = header_row limits header ∙ cond-true _ _ _ (ap not other) in
-    let clash : Some BadHeader ≡ None = sym fault ∙ none_here line_fault limits [] header (next ∷ lines) none in cc)
-    (cases_Bool (bytes_eq header (codes "s2ix-journal 1")))
+version_from : (found : Option Version) → cond (is_none found) (Some BadHeader) None ≡ None → (version : Version) × (found ≡ Some version)
+version_from None none = cc
+version_from (Some version) none = (version, refl)
+
+header_from : (limits : Limits) (header next : List ℕ) (lines : List (List ℕ)) → fault_left limits [] (header ∷ next ∷ lines) ≡ None → (version : Version) × (journal_version header ≡ Some version)
+header_from limits header next lines none = version_from (journal_version header) (sym (header_row limits header) ∙ none_here line_fault limits [] header (next ∷ lines) none)
 
 front_start : (most : ℕ) (limits : Limits) (header : List ℕ) → greatest_count header ≡ most → IsFront most limits header (header ∷ [])
 front_start most limits header own = inl ([], record { groups = λ k d within. absurd (omega arith); few = omega arith; are = refl; between = between_start most header own })
 
-lines_are_journal : (limits : Limits) (lines : List (List ℕ)) → is_nil lines ≡ false → fault_left limits [] lines ≡ None → (cs : List (List Entry)) × IsWhole 65535 limits (codes "s2ix-journal 1") lines cs
+lines_are_journal : (limits : Limits) (lines : List (List ℕ)) → is_nil lines ≡ false → fault_left limits [] lines ≡ None → (version : Version) × (cs : List (List Entry)) × IsWhole (greatest_in version) limits (journal_header version) lines cs
 unfolding behind
 lines_are_journal limits [] some none = cc
 lines_are_journal limits (header ∷ []) some none =
     let fault = truncated_row (place limits [] header []) refl refl in
     let clash : Some Truncated ≡ None = sym fault ∙ none_here line_fault limits [] header [] none in cc
 lines_are_journal limits (header ∷ (next ∷ lines)) some none =
-    let is = header_from limits header next lines none in
+    let named = header_from limits header next lines none in
+    let most = greatest_in named.0 in
     let later = none_later line_fault limits [] header (next ∷ lines) none in
-    let whole = whole_from 65535 (omega arith) limits header (header ∷ []) (next ∷ lines) (front_start 65535 limits header (first_greatest header is)) refl later in
-    (whole.0, subst (λ (h : List ℕ). IsWhole 65535 limits h (header ∷ next ∷ lines) whole.0) is whole.1)
+    let start = front_start most limits header (greatest_of_version header named.0 named.1) in
+    let whole = whole_from most (greatest_fits named.0) limits header (header ∷ []) (next ∷ lines) start refl later in
+    (named.0, whole.0, subst (λ (h : List ℕ). IsWhole most limits h (header ∷ next ∷ lines) whole.0) (journal_header_named header named.0 named.1) whole.1)
 
-pub sound_is_journal : (limits : Limits) (text : List ℕ) → journal_fault limits text ≡ None → (cs : List (List Entry)) × IsJournal limits cs × (text ≡ journal_text cs)
+pub sound_is_journal : (limits : Limits) (text : List ℕ) → journal_fault limits text ≡ None → (cs : List (List Entry)) × IsJournal limits cs × IsJournalText text cs
 unfolding journal_fault
 sound_is_journal limits text none =
     let whole = lines_are_journal limits (lines_of text) (lines_some text) none in
-    (whole.0, journal_of_groups limits whole.0 whole.1.groups whole.1.few, sym (lines_joined text) ∙ ap (join_with_byte 10) whole.1.are ∙ join_whole whole.0)
+    let version = whole.0 in
+    let cs = whole.1 in
+    let is = whole.2 in
+    (cs, journal_of_groups version limits cs is.groups is.few, (version, groups_writable version limits cs is.groups, sym (lines_joined text) ∙ ap (join_with_byte 10) is.are ∙ join_whole version cs))

@@ -13,7 +13,8 @@ use Rattle.s2ix_read_journal.specs.declared.errors.JournalFault.TheVariants.{Tru
 use Rattle.s2ix_read_journal.specs.Numbers.{side_written, size_written}
 use Rattle.s2ix_parts.specs.Faults.{Place, IsFromLine, fault_below, header_of}
 use Rattle.s2ix_parts.specs.Lines.{has_parts, is_nil, lines_of, part}
-use Rattle.s2ix_parts.specs.Written.{cell_written, comes_before, label_written, pair_written, greatest_count}
+use Rattle.s2ix_parts.specs.Written.{cell_written, comes_before, label_written, pair_written}
+use Rattle.s2ix_text.specs.Version.{greatest_below, journal_version}
 
 -- ---- where a line stands
 
@@ -75,6 +76,10 @@ is_of_group p = is_outside p && not (is_end p.line)
 abbrev pub is_of_entry : Place → Bool
 is_of_entry p = is_inner p && not ((behind p.above).wanted == 0)
 
+-- the greatest count below a header: that of the version that it names
+abbrev pub greatest_count : List ℕ → ℕ
+greatest_count header = greatest_below (journal_version header)
+
 -- the counts before and after that a line writes, each up to the greatest of its header
 abbrev pub before_written : Place → Option ℕ
 before_written p = side_written (greatest_count (header_of p)) (part 2 p.line)
@@ -98,7 +103,7 @@ end_text groups = codes "end " ++ decimal groups
 -- where each fault stands
 unfoldable pub stands : Place → JournalFault → Bool
 stands p Truncated = not (is_over p) && not p.ended
-stands p BadHeader = is_first p && not (bytes_eq p.line (codes "s2ix-journal 1"))
+stands p BadHeader = is_first p && is_none (journal_version p.line)
 stands p BadEnd = is_outside p && is_end p.line && not (bytes_eq p.line (end_text (behind p.above).groups))
 stands p BadLine = (is_of_group p && not (is_change p.line)) || (is_of_entry p && not (has_parts 4 p.line))
 stands p BadToken = is_of_entry p && is_none (cell_written (part 0 p.line))

@@ -1,24 +1,26 @@
 -- What the definitions of readers say, in other words: each of these is proved, by the function of `laws` of its name.
-use Rattle.std.specs.Prelude.{◌≡◌, ◌↔◌, ℕ, not, None, List, ◌∷◌, ◌++◌}
+use Rattle.std.specs.Prelude.{◌≡◌, ◌↔◌, ℕ, not, None, List, ◌∷◌, ◌++◌, All}
 use Rattle.s2ix_pairs.specs.declared.limits.Limits.{Limits}
 use Rattle.s2ix_pairs.specs.declared.pair.Entry.{Entry}
-use Rattle.s2ix_text.specs.Journal.{journal_text}
+use Rattle.s2ix_text.specs.declared.version.Version.{Version}
+use Rattle.s2ix_text.specs.Journal.{IsJournalText, IsWritableIn, journal_in}
 use Rattle.s2ix_read_journal.specs.JournalFaults.{journal_fault, line_fault}
 use Rattle.s2ix_read_journal.specs.Journals.{IsJournal}
 use Rattle.s2ix_parts.specs.Lines.{is_nil, lines_of}
 
--- a text has no fault exactly where it is the journal of a list of changes within the limits
+-- a text has no fault exactly where it is a journal, in either version, of a list of changes within the limits
 abbrev pub JournalsHaveNoFault : Type 0
 JournalsHaveNoFault =
     (limits : Limits) (text : List ℕ)
-    → (journal_fault limits text ≡ None) ↔ ((changes : List (List Entry)) × IsJournal limits changes × (text ≡ journal_text changes))
+    → (journal_fault limits text ≡ None) ↔ ((changes : List (List Entry)) × IsJournal limits changes × IsJournalText text changes)
 
--- what was written of changes within limits has no fault under them, and no other such changes have that text
+-- the journal of changes within limits in each version that can hold them has no fault under these limits, and no other such changes have
+-- that text
 abbrev pub WrittenJournalsAreReadBack : Type 0
 WrittenJournalsAreReadBack =
-    (limits : Limits) (changes : List (List Entry)) → IsJournal limits changes
-    → (journal_fault limits (journal_text changes) ≡ None)
-    × ((others : List (List Entry)) → IsJournal limits others → journal_text changes ≡ journal_text others → changes ≡ others)
+    (limits : Limits) (changes : List (List Entry)) → IsJournal limits changes → (version : Version) → All (IsWritableIn version) changes
+    → (journal_fault limits (journal_in version changes) ≡ None)
+    × ((others : List (List Entry)) → IsJournal limits others → IsJournalText (journal_in version changes) others → changes ≡ others)
 
 -- no line of a text without a fault has one
 abbrev pub NoFaultyJournalLineIsAccepted : Type 0

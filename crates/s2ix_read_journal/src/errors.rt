@@ -10,7 +10,7 @@ use thiserror::Error;
 pub enum JournalFault {
     /// A line is wanted here, and what is left of the text has no line feed.
     Truncated,
-    /// The first line is not `s2ix-journal 1`.
+    /// The first line is neither `s2ix-journal 1` nor `s2ix-journal 2`.
     BadHeader,
     /// The line stands outside a group, its first part is `end`, and it is not `end CHANGES` with the right number.
     BadEnd,
@@ -20,7 +20,8 @@ pub enum JournalFault {
     BadToken,
     /// The second part is no canonical number of at most 2147483647.
     BadLabel,
-    /// The number of entries is no canonical number from 1 to 2000000, or a count is none from 0 to 65535.
+    /// The number of entries is no canonical number from 1 to 2000000, or a count is none from 0 to the greatest of the header's version:
+    /// 65535, or 4294967295.
     BadCount,
     /// The counts before and after are equal.
     NoDifference,
@@ -39,7 +40,8 @@ impl JournalFault {
     fn text(self) -> &'static str {
         match self {
             JournalFault::Truncated => "a line is missing or has no line feed",
-            JournalFault::BadHeader => "the first line is not `s2ix-journal 1`",
+            JournalFault::BadHeader =>
+                "the first line is neither `s2ix-journal 1` nor `s2ix-journal 2`",
             JournalFault::BadEnd => "the end line doesn't count the groups above it",
             JournalFault::BadLine =>
                 "neither `change` and a number, nor the four parts of an entry",

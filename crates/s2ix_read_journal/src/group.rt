@@ -1,8 +1,7 @@
 //! The entries of a group.
 ghost use Rattle.std.specs.Prelude.{◌≡◌, ◌<◌, ◌+◌, ◌^◌, ◌∷◌, ◌++◌, [], ℕ, false, flat_map, length, slice_index_or, List, IfErr, IfOk, OnOk};
 ghost use Rattle.s2ix_text.specs.Journal.{entry_line};
-ghost use Rattle.s2ix_parts.specs.Written.{greatest_count};
-ghost use Rattle.s2ix_read_journal.specs.JournalFaults.{IsJournalError, behind, line_fault};
+ghost use Rattle.s2ix_read_journal.specs.JournalFaults.{IsJournalError, behind, greatest_count, line_fault};
 ghost use Rattle.s2ix_read_journal.specs.JournalLines.{at_group};
 ghost use Rattle.s2ix_read_journal.specs.Journals.{AreEntries};
 ghost use Rattle.s2ix_parts.specs.Faults.{fault_below};

@@ -2,10 +2,9 @@
 ghost use Rattle.std.specs.Prelude.{◌≡◌, ◌∷◌, ◌++◌, [], ℕ, flat_map, All, IfErr, IfOk, List, MatchResult, None, OnOk};
 ghost use Rattle.s2ix_pairs.specs.Change.{IsChangeList};
 ghost use Rattle.s2ix_pairs.specs.declared.pair.Entry.{Entry};
-ghost use Rattle.s2ix_text.specs.Journal.{group_text, journal_text, last_line};
+ghost use Rattle.s2ix_text.specs.Journal.{IsJournalText, group_text, last_line};
 ghost use Rattle.s2ix_read_journal.specs.declared.errors.JournalError.TheVariants.{OutOfMemory};
-ghost use Rattle.s2ix_parts.specs.Written.{greatest_count};
-ghost use Rattle.s2ix_read_journal.specs.JournalFaults.{IsJournalError, journal_fault, line_fault};
+ghost use Rattle.s2ix_read_journal.specs.JournalFaults.{IsJournalError, greatest_count, journal_fault, line_fault};
 ghost use Rattle.s2ix_read_journal.specs.JournalLines.{lines_down_to};
 ghost use Rattle.s2ix_read_journal.specs.Journals.{AreGroups, AreWithin, IsJournal};
 ghost use Rattle.s2ix_parts.specs.Faults.{fault_below};
@@ -15,7 +14,8 @@ use crate::change_line::{is_end_of, next_size};
 use crate::errors::{JournalError, JournalFault};
 use crate::group::read_group;
 use s2ix_bag::{Change, Limits};
-use s2ix_parts::{GREATEST_COUNT, cut_line, first_part};
+use s2ix_parts::{cut_line, first_part};
+use s2ix_text::Version;
 use std::alloc::{AllocError, Global};
 
 // Appends a change.
@@ -76,16 +76,16 @@ fn read_groups(
     })
 }
 
-/// Reads a journal under limits: the changes whose journal the text is, the oldest first, or the first line that has a fault and the first
-/// fault of that line.
+/// Reads a journal of either version under limits: the changes whose journal the text is, the oldest first, or the first line that has a
+/// fault and the first fault of that line.
 ///
 /// Lines count from 1. Want of memory may be told in place of a fault of line 2 or a later one. O(n) for n bytes; a growth for each group,
 /// of at most three bytes for each byte of the text, and those of the list. This project's own.
 pub fn read_journal(alloc: Global, text: &[u8], limits: Limits) -> Result<Vec<Change>, JournalError>
     ensures changes { IfOk result (λ changes. All IsChangeList changes.items) }
     ensures within { IfOk result (λ changes. AreWithin limits changes.items) }
-    ensures text { IfOk result (λ changes. text.now ≡ journal_text changes.items) }
-    ensures every { (cs : List (List Entry)) → IsJournal limits cs → text.now ≡ journal_text cs
+    ensures text { IfOk result (λ changes. IsJournalText text.now changes.items) }
+    ensures every { (cs : List (List Entry)) → IsJournal limits cs → IsJournalText text.now cs
         → MatchResult result (λ changes. changes.items ≡ cs) (λ error. error ≡ OutOfMemory) }
     ensures accepted { OnOk result (journal_fault limits text.now ≡ None) }
     ensures refused { IfErr result (λ error. IsJournalError error (journal_fault limits text.now)) }
@@ -96,11 +96,11 @@ pub fn read_journal(alloc: Global, text: &[u8], limits: Limits) -> Result<Vec<Ch
             fault: JournalFault::Truncated,
         });
     };
-    if header != b"s2ix-journal 1".as_slice() {
+    let Some(version) = Version::of_journal(header) else {
         return Err(JournalError::At {
             line: 1,
             fault: JournalFault::BadHeader,
         });
-    }
-    read_groups(alloc, GREATEST_COUNT, limits, below)
+    };
+    read_groups(alloc, version.greatest_count(), limits, below)
 }
