@@ -69,7 +69,7 @@ fn run<'a>(alloc: Global) -> Result<Command<'a>, AllocError>
             alloc,
             "max-count",
             "N",
-            "Holds N copies of a pair at most, 1 to 65535",
+            "Holds N copies of a pair at most, 1 to 4294967295",
         ))?
         .arg(option(
             alloc,

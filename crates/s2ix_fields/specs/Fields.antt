@@ -54,9 +54,9 @@ script_number text =
 abbrev pub label_spelled : List ℕ → Option Label
 label_spelled text = option_and_then label_numbered (script_number text)
 
--- a number of copies: from 1 to 65535
+-- a number of copies: from 1 to 4294967295
 abbrev pub copies_from : ℕ → Option ℕ
-copies_from n = if nat_le 1 n && nat_le n 65535 then Some n else None
+copies_from n = if nat_le 1 n && nat_le n 4294967295 then Some n else None
 
 -- the number of copies that a field names
 abbrev pub copies_spelled : List ℕ → Option ℕ

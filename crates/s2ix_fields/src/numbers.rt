@@ -32,12 +32,12 @@ pub fn label_spelled(text: &[u8]) -> Option<Label>
     Label::new(u32::try_from(value).ok()?)
 }
 
-/// The number of copies that a field names, from 1 to 65535, in 1 to 10 decimal digits. This project's own.
+/// The number of copies that a field names, from 1 to 4294967295, in 1 to 10 decimal digits. This project's own.
 pub fn copies_spelled(text: &[u8]) -> Option<u32>
     ensures { result ≡ copies_that text.now }
 {
     match script_number(text)? {
-        copies @ 1..=65535 => Some(copies as u32),
+        copies @ 1..=4294967295 => Some(copies as u32),
         _ => None,
     }
 }

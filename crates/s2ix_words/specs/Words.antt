@@ -29,7 +29,7 @@ IsGiven default (Some text) n = IsNumber text n
 -- the limits are those given; one that is not is as wide as it may be
 abbrev pub AreGiven : List Row → Limits → Type 0
 AreGiven given limits = IsGiven 1000000 (first_of (codes "max-pairs") given) (pairs_limit limits)
-    × IsGiven 65535 (first_of (codes "max-count") given) (count_limit limits)
+    × IsGiven 4294967295 (first_of (codes "max-count") given) (count_limit limits)
     × IsGiven 100000 (first_of (codes "max-changes") given) (changes_limit limits)
 
 -- the file has the name given

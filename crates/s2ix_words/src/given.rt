@@ -11,7 +11,7 @@ use std::alloc::{AllocError, Global};
 
 /// What is told of a limit that is no number, or out of its range.
 const BAD_LIMIT: &str =
-    "error: a limit is out of its range: --max-pairs takes 1 to 1000000, --max-count 1 to 65535, \
+    "error: a limit is out of its range: --max-pairs takes 1 to 1000000, --max-count 1 to 4294967295, \
     --max-changes 1 to 100000\n\nFor more information, try 's2ix run --help'.\n";
 
 /// What is told where the name of a file is missing.
