@@ -85,7 +85,7 @@ impl Bag {
         self.lists.len() == 0
     }
 
-    /// The sum of the counts, in copies. O(n) for n pairs.
+    /// The sum of the counts, in copies. It fits: limits allow at most 1,000,000 pairs of 4,294,967,295 copies each. O(n) for n pairs.
     pub fn copies(&self) -> u64
         ensures { result ≡ copies_in self.now.held }
     {

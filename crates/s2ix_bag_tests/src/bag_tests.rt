@@ -23,6 +23,16 @@ fn a_bag_counts_its_pairs(rt: HostRuntime) {
     assert!(rt; holds == [true; 5]);
 }
 
+// The greatest counts, whose sum has 33 bits.
+const GREATEST: &str = "04:9:4294967295 1:7:4294967295";
+
+#[test]
+fn the_greatest_counts_are_summed(rt: HostRuntime) {
+    let bag = bag_of(rt.alloc(), (2, 4_294_967_295, 1), GREATEST).expect(&rt, GREATEST);
+    assert!(rt; holds_pairs(&bag, GREATEST));
+    assert!(rt; bag.copies() == 8_589_934_590);
+}
+
 #[test]
 fn an_empty_bag_holds_nothing(rt: HostRuntime) {
     let bag = Bag::empty(rt.alloc(), limits_of(WIDEST).expect(&rt, "limits"));
@@ -63,25 +73,32 @@ fn pairs_come_by_cell_and_then_by_label(rt: HostRuntime) {
     }
 }
 
-// The answer of a bag of two copies, within limits of one pair and three copies, that refuses a change.
-fn refusal(alloc: Global, entry: &str) -> Option<ApplyError> {
-    let bag = bag_of(alloc, (1, 3, 1), "04:9:2")?;
+// The answer of a bag of two copies, within limits of one pair and of copies, that refuses a change.
+fn refusal(alloc: Global, copies: u32, entry: &str) -> Option<ApplyError> {
+    let bag = bag_of(alloc, (1, copies, 1), "04:9:2")?;
     let change = change_of(alloc, entry_of(entry)?)?;
     bag.applied(alloc, &change).err()
 }
 
-// Entries, each with its reason.
-const REFUSED: [(&str, ApplyError); 3] = [
-    ("04:9:1:4", ApplyError::Mismatch(0)),
-    ("1:7:0:4", ApplyError::TooManyCopies),
-    ("1:7:0:3", ApplyError::TooManyPairs),
+// Limits of copies and entries, each with its reason.
+const REFUSED: [(u32, &str, ApplyError); 6] = [
+    (3, "04:9:1:4", ApplyError::Mismatch(0)),
+    (3, "1:7:0:4", ApplyError::TooManyCopies),
+    (3, "1:7:0:3", ApplyError::TooManyPairs),
+    (65_535, "04:9:2:65536", ApplyError::TooManyCopies),
+    (65_535, "1:7:0:65535", ApplyError::TooManyPairs),
+    (
+        4_294_967_294,
+        "04:9:2:4294967295",
+        ApplyError::TooManyCopies,
+    ),
 ];
 
 #[test]
 fn a_change_is_refused_with_its_reason(rt: HostRuntime) {
-    for &(entry, reason) in &REFUSED {
+    for &(copies, entry, reason) in &REFUSED {
         assert!(rt;
-            refusal(rt.alloc(), entry) == Some(reason),
+            refusal(rt.alloc(), copies, entry) == Some(reason),
             "wrong at {entry}"
         );
     }

@@ -10,21 +10,20 @@ fn labels_have_31_bits(rt: HostRuntime) {
 
 #[test]
 fn limits_are_within_their_ranges(rt: HostRuntime) {
-    let widest = Limits::new(1_000_000, 65_535, 100_000).expect(&rt, "the widest limits");
+    let widest = Limits::new(1_000_000, 4_294_967_295, 100_000).expect(&rt, "the widest limits");
     assert!(rt; widest.pairs() == 1_000_000);
-    assert!(rt; widest.count() == 65_535);
+    assert!(rt; widest.count() == 4_294_967_295);
     assert!(rt; widest.changes() == 100_000);
     assert!(rt; Limits::default() == widest);
     assert!(rt; Limits::new(1, 1, 1).is_some());
 }
 
 // Numbers of pairs, copies and changes, one of which is out of its range.
-const OUT_OF_RANGE: [(u32, u32, u32); 6] = [
+const OUT_OF_RANGE: [(u32, u32, u32); 5] = [
     (0, 1, 1),
     (1, 0, 1),
     (1, 1, 0),
     (1_000_001, 1, 1),
-    (1, 65_536, 1),
     (1, 1, 100_001),
 ];
 

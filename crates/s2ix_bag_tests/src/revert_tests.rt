@@ -26,7 +26,7 @@ const AFTER_RELABEL: [Row; 4] = [
     ),
 ];
 
-const REVERTED: [Row; 8] = [
+const REVERTED: [Row; 10] = [
     (WIDEST, "04:9:2", "04:9:0:3", Err(RevertError::BelowZero(0))),
     (WIDEST, "04:9:2", "04:9:0:2", Ok("")),
     (WIDEST, "04:9:5", "04:9:0:2", Ok("04:9:3")),
@@ -40,10 +40,12 @@ const REVERTED: [Row; 8] = [
     ),
     ((2, 3, 1), "04:9:2", "04:9:1:0 1:7:3:0", Ok("04:9:3 1:7:3")),
     ((1, 3, 1), "04:9:2", "04:9:0:2 5:7:1:0", Ok("5:7:1")),
+    (WIDEST, "04:9:4294967294", "04:9:1:0", Ok("04:9:4294967295")),
+    ((1, 65_535, 1), "04:9:1", "04:9:65535:1", Ok("04:9:65535")),
 ];
 
 // Each test goes over all entries before the next one.
-const REFUSED: [Row; 9] = [
+const REFUSED: [Row; 12] = [
     (
         (9, 3, 1),
         "04:9:1",
@@ -96,6 +98,24 @@ const REFUSED: [Row; 9] = [
         WIDEST,
         "04:9:2",
         "04:9:4294967295:0",
+        Err(RevertError::TooManyCopies),
+    ),
+    (
+        WIDEST,
+        "04:9:4294967295",
+        "04:9:1:0",
+        Err(RevertError::TooManyCopies),
+    ),
+    (
+        WIDEST,
+        "04:9:4294967295",
+        "04:9:4294967295:4294967294",
+        Err(RevertError::TooManyCopies),
+    ),
+    (
+        (1, 65_535, 1),
+        "04:9:1",
+        "04:9:65536:1",
         Err(RevertError::TooManyCopies),
     ),
 ];

@@ -41,7 +41,7 @@ const FULL: [&str; 5] = [
 
 #[test]
 fn a_full_journal_comes_first(rt: HostRuntime) {
-    check_history(&rt, rt.alloc(), (1_000_000, 65_535, 1), &FULL);
+    check_history(&rt, rt.alloc(), (1_000_000, 4_294_967_295, 1), &FULL);
 }
 
 // The limits under which two pairs can be held, with three copies each.

@@ -22,7 +22,7 @@ fn redo_is_refused_after_an_edit(rt: HostRuntime) {
 }
 
 // The limits under which two changes can be undone.
-const TWO_CHANGES: LimitRow = (1_000_000, 65_535, 2);
+const TWO_CHANGES: LimitRow = (1_000_000, 4_294_967_295, 2);
 
 // Back by two and on by two.
 const TWO_UNDOS: [&str; 8] = [
@@ -44,7 +44,7 @@ fn redo_leads_back_over_two_undos(rt: HostRuntime) {
 }
 
 // The limits under which seven changes can be undone.
-const SEVEN_CHANGES: LimitRow = (1_000_000, 65_535, 7);
+const SEVEN_CHANGES: LimitRow = (1_000_000, 4_294_967_295, 7);
 
 // What a store starts from.
 const FIRST_PAIRS: &str = "1:1:2 3:1:5";
