@@ -25,7 +25,7 @@ pub enum LineFault {
     /// A field that should name a label is no script number of at most 2147483647.
     #[error("field is no label")]
     BadLabel,
-    /// A field that should be a number of copies is no script number from 1 to 65535.
+    /// A field that should be a number of copies is no script number from 1 to 4294967295.
     #[error("field is no number of copies")]
     BadCount,
     /// A field that should be a level is no script number of at most 30.

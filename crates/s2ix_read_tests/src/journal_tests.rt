@@ -3,8 +3,10 @@ use s2ix_bag::{Change, Limits};
 use s2ix_read_journal::{JournalError, JournalFault, read_journal};
 use std::alloc::Global;
 
-// The first line of a journal.
-const HEADER: &[u8] = b"s2ix-journal 1\n";
+// The first lines of journals.
+const FIRST: &[u8] = b"s2ix-journal 1\n";
+
+const SECOND: &[u8] = b"s2ix-journal 2\n";
 
 // A text, and how many changes it holds and how many entries in all.
 type Accepted = (&'static [u8], usize, usize);
@@ -12,61 +14,56 @@ type Accepted = (&'static [u8], usize, usize);
 // A text, its first faulty line and the fault.
 type Refused = (&'static [u8], usize, JournalFault);
 
+// Below either header.
 const ACCEPTED: [Accepted; 4] = [
-    (b"s2ix-journal 1\nend 0\n", 0, 0),
+    (b"end 0\n", 0, 0),
     (
-        b"s2ix-journal 1\nchange 1\n04 9 0 2\nchange 1\n04 3 0 1\nchange 2\n04 3 1 3\n04 9 2 0\nend 3\n",
+        b"change 1\n04 9 0 2\nchange 1\n04 3 0 1\nchange 2\n04 3 1 3\n04 9 2 0\nend 3\n",
         3,
         4,
     ),
+    (b"change 1\n04 2147483647 65535 0\nend 1\n", 1, 1),
     (
-        b"s2ix-journal 1\nchange 1\n04 2147483647 65535 0\nend 1\n",
-        1,
-        1,
-    ),
-    (
-        b"s2ix-journal 1\nchange 3\n04 9 0 1\n04 10 0 1\nbfffffffffffffff 0 1 65535\nend 1\n",
+        b"change 3\n04 9 0 1\n04 10 0 1\nbfffffffffffffff 0 1 65535\nend 1\n",
         1,
         3,
     ),
 ];
 
-const REFUSED_ABOVE: [Refused; 19] = [
+// Whole texts.
+const REFUSED_WHOLE: [Refused; 15] = [
     (b"", 1, JournalFault::Truncated),
     (b"s2ix-journal 1", 1, JournalFault::Truncated),
     (b"s2ix-journal 2", 1, JournalFault::Truncated),
-    (b"s2ix-journal 2\n", 1, JournalFault::BadHeader),
+    (b"s2ix-journal 3", 1, JournalFault::Truncated),
+    (b"s2ix-journal 0\nend 0\n", 1, JournalFault::BadHeader),
+    (b"s2ix-journal 3\nend 0\n", 1, JournalFault::BadHeader),
+    (b"s2ix-journal 02\nend 0\n", 1, JournalFault::BadHeader),
+    (b"s2ix-journal 12\nend 0\n", 1, JournalFault::BadHeader),
+    (b"s2ix-journal 2 \nend 0\n", 1, JournalFault::BadHeader),
+    (b"s2ix-journal \nend 0\n", 1, JournalFault::BadHeader),
+    (b"s2ix-journal\nend 0\n", 1, JournalFault::BadHeader),
     (b"s2ix-journal 1\r\nend 0\r\n", 1, JournalFault::BadHeader),
+    (b"s2ix-journal 2\r\nend 0\r\n", 1, JournalFault::BadHeader),
     (b"s2ix 1\nend 0 0\n", 1, JournalFault::BadHeader),
-    (b"s2ix-journal 1\n", 2, JournalFault::Truncated),
-    (b"s2ix-journal 1\nend 0", 2, JournalFault::Truncated),
-    (b"s2ix-journal 1\nchange 1\n", 3, JournalFault::Truncated),
-    (
-        b"s2ix-journal 1\nchange 2\n04 9 0 1\n",
-        4,
-        JournalFault::Truncated,
-    ),
-    (
-        b"s2ix-journal 1\nchange 1\n04 9 0 1\nend 1",
-        4,
-        JournalFault::Truncated,
-    ),
-    (
-        b"s2ix-journal 1\nchange 1\n04 9 0 1\nx y z",
-        4,
-        JournalFault::Truncated,
-    ),
-    (b"s2ix-journal 1\nend\n", 2, JournalFault::BadEnd),
-    (b"s2ix-journal 1\nend 1\n", 2, JournalFault::BadEnd),
-    (b"s2ix-journal 1\nend 00\n", 2, JournalFault::BadEnd),
-    (b"s2ix-journal 1\nend  0\n", 2, JournalFault::BadEnd),
-    (b"s2ix-journal 1\nend 0 0\n", 2, JournalFault::BadEnd),
-    (b"s2ix-journal 1\nend 0\n\n", 3, JournalFault::TrailingBytes),
-    (b"s2ix-journal 1\nend 0\nx", 3, JournalFault::TrailingBytes),
+    (b"s2ix 2\nend 0 0\n", 1, JournalFault::BadHeader),
 ];
 
-// Below the header.
-const REFUSED_BELOW: [Refused; 34] = [
+// Below either header.
+const REFUSED: [Refused; 45] = [
+    (b"", 2, JournalFault::Truncated),
+    (b"end 0", 2, JournalFault::Truncated),
+    (b"change 1\n", 3, JournalFault::Truncated),
+    (b"change 2\n04 9 0 1\n", 4, JournalFault::Truncated),
+    (b"change 1\n04 9 0 1\nend 1", 4, JournalFault::Truncated),
+    (b"change 1\n04 9 0 1\nx y z", 4, JournalFault::Truncated),
+    (b"end\n", 2, JournalFault::BadEnd),
+    (b"end 1\n", 2, JournalFault::BadEnd),
+    (b"end 00\n", 2, JournalFault::BadEnd),
+    (b"end  0\n", 2, JournalFault::BadEnd),
+    (b"end 0 0\n", 2, JournalFault::BadEnd),
+    (b"end 0\n\n", 3, JournalFault::TrailingBytes),
+    (b"end 0\nx", 3, JournalFault::TrailingBytes),
     (
         b"change 1\n04 9 0 0\nend 1\n",
         3,
@@ -116,16 +113,6 @@ const REFUSED_BELOW: [Refused; 34] = [
         JournalFault::BadLabel,
     ),
     (b"change 1\n04 9 00 1\nend 1\n", 3, JournalFault::BadCount),
-    (
-        b"change 1\n04 9 0 65536\nend 1\n",
-        3,
-        JournalFault::BadCount,
-    ),
-    (
-        b"change 1\n04 9 65536 0\nend 1\n",
-        3,
-        JournalFault::BadCount,
-    ),
     (b"change 1\n04 9 0 1\r\nend 1\n", 3, JournalFault::BadCount),
     (
         b"change 2\n04 9 0 1\n04 8 5 5\n",
@@ -139,7 +126,71 @@ const REFUSED_BELOW: [Refused; 34] = [
     ),
 ];
 
-// Under limits of three copies of a pair and two changes, below the header.
+// Counts above the greatest of the first version, below its header.
+const REFUSED_FIRST: [Refused; 4] = [
+    (
+        b"change 1\n04 9 0 65536\nend 1\n",
+        3,
+        JournalFault::BadCount,
+    ),
+    (
+        b"change 1\n04 9 65536 0\nend 1\n",
+        3,
+        JournalFault::BadCount,
+    ),
+    (
+        b"change 1\n04 9 0 70000\nend 1\n",
+        3,
+        JournalFault::BadCount,
+    ),
+    (
+        b"change 1\n04 9 4294967295 65536\nend 1\n",
+        3,
+        JournalFault::BadCount,
+    ),
+];
+
+// Counts above that, below the second header.
+const ACCEPTED_SECOND: [Accepted; 4] = [
+    (b"change 1\n04 9 0 70000\nend 1\n", 1, 1),
+    (b"change 1\n04 9 0 4294967295\nend 1\n", 1, 1),
+    (b"change 1\n04 9 4294967295 0\nend 1\n", 1, 1),
+    (
+        b"change 2\n04 8 65535 65536\n04 9 4294967295 4294967294\nend 1\n",
+        1,
+        2,
+    ),
+];
+
+const REFUSED_SECOND: [Refused; 5] = [
+    (
+        b"change 1\n04 9 0 4294967296\nend 1\n",
+        3,
+        JournalFault::BadCount,
+    ),
+    (
+        b"change 1\n04 9 4294967296 0\nend 1\n",
+        3,
+        JournalFault::BadCount,
+    ),
+    (
+        b"change 1\n04 9 0 4294967297\nend 1\n",
+        3,
+        JournalFault::BadCount,
+    ),
+    (
+        b"change 1\n04 9 0 18446744073709551617\nend 1\n",
+        3,
+        JournalFault::BadCount,
+    ),
+    (
+        b"change 1\n04 9 0 04294967295\nend 1\n",
+        3,
+        JournalFault::BadCount,
+    ),
+];
+
+// Under limits of three copies of a pair and two changes, below either header.
 const ACCEPTED_LIMITED: [Accepted; 1] = [(
     b"change 2\n04 8 3 0\n04 9 0 3\nchange 1\n04 9 3 2\nend 2\n",
     2,
@@ -176,6 +227,26 @@ const REFUSED_LIMITED: [Refused; 6] = [
         b"change 1\n04 8 0 1\nchange 1\n04 8 1 2\nend 3\n",
         6,
         JournalFault::BadEnd,
+    ),
+];
+
+// Under the same limits, below one header.
+const REFUSED_LIMITED_FIRST: [Refused; 1] = [(
+    b"change 1\n04 8 0 70000\nend 1\n",
+    3,
+    JournalFault::BadCount,
+)];
+
+const REFUSED_LIMITED_SECOND: [Refused; 2] = [
+    (
+        b"change 1\n04 8 0 70000\nend 1\n",
+        3,
+        JournalFault::TooManyCopies,
+    ),
+    (
+        b"change 1\n04 8 4294967296 4\nend 1\n",
+        3,
+        JournalFault::BadCount,
     ),
 ];
 
@@ -232,6 +303,21 @@ fn is_refused(alloc: Global, limits: Limits, header: &[u8], row: &Refused) -> bo
     }
 }
 
+// The place of the first text below a header that is not read as it should be.
+fn first_not_accepted(
+    alloc: Global,
+    limits: Limits,
+    header: &[u8],
+    rows: &[Accepted],
+) -> Option<usize> {
+    for (place, row) in rows.iter().enumerate() {
+        if !is_accepted(alloc, limits, header, row) {
+            return Some(place);
+        }
+    }
+    None
+}
+
 // The place of the first text below a header that is not refused as it should be.
 fn first_not_refused(
     alloc: Global,
@@ -250,32 +336,39 @@ fn first_not_refused(
 #[test]
 fn a_journal_is_read_or_its_first_fault_told(rt: HostRuntime) {
     let (alloc, limits) = (rt.alloc(), Limits::default());
-    for row in &ACCEPTED {
-        assert!(rt;
-            is_accepted(alloc, limits, b"", row),
-            "wrong at {:?}",
-            row.0
-        );
+    for header in [FIRST, SECOND] {
+        let wrong = first_not_accepted(alloc, limits, header, &ACCEPTED);
+        assert!(rt; wrong.is_none(), "wrong at text {wrong:?}");
+        let wrong = first_not_refused(alloc, limits, header, &REFUSED);
+        assert!(rt; wrong.is_none(), "wrong at faulty text {wrong:?}");
     }
-    let wrong = first_not_refused(alloc, limits, b"", &REFUSED_ABOVE);
-    assert!(rt; wrong.is_none(), "wrong at faulty text {wrong:?}");
-    let wrong = first_not_refused(alloc, limits, HEADER, &REFUSED_BELOW);
-    assert!(rt;
-        wrong.is_none(),
-        "wrong at faulty text {wrong:?} below the header"
-    );
+    let wrong = first_not_refused(alloc, limits, b"", &REFUSED_WHOLE);
+    assert!(rt; wrong.is_none(), "wrong at faulty whole text {wrong:?}");
+}
+
+#[test]
+fn the_header_tells_the_greatest_count(rt: HostRuntime) {
+    let (alloc, limits) = (rt.alloc(), Limits::default());
+    let wrong = first_not_refused(alloc, limits, FIRST, &REFUSED_FIRST);
+    assert!(rt; wrong.is_none(), "wrong at faulty first text {wrong:?}");
+    let wrong = first_not_accepted(alloc, limits, SECOND, &ACCEPTED_SECOND);
+    assert!(rt; wrong.is_none(), "wrong at second text {wrong:?}");
+    let wrong = first_not_refused(alloc, limits, SECOND, &REFUSED_SECOND);
+    assert!(rt; wrong.is_none(), "wrong at faulty second text {wrong:?}");
 }
 
 #[test]
 fn a_journal_keeps_to_limits(rt: HostRuntime) {
+    let alloc = rt.alloc();
     let two_changes = Limits::new(1, 3, 2).expect(&rt, "limits");
-    for row in &ACCEPTED_LIMITED {
-        assert!(rt;
-            is_accepted(rt.alloc(), two_changes, HEADER, row),
-            "wrong at {:?}",
-            row.0
-        );
+    for header in [FIRST, SECOND] {
+        let wrong = first_not_accepted(alloc, two_changes, header, &ACCEPTED_LIMITED);
+        assert!(rt; wrong.is_none(), "wrong at text {wrong:?}");
+        let wrong = first_not_refused(alloc, two_changes, header, &REFUSED_LIMITED);
+        assert!(rt; wrong.is_none(), "wrong at faulty text {wrong:?}");
     }
-    let wrong = first_not_refused(rt.alloc(), two_changes, HEADER, &REFUSED_LIMITED);
-    assert!(rt; wrong.is_none(), "wrong at faulty text {wrong:?}");
+    let wrong = first_not_refused(alloc, two_changes, FIRST, &REFUSED_LIMITED_FIRST);
+    assert!(rt; wrong.is_none(), "wrong at faulty first text {wrong:?}");
+    let wrong = first_not_refused(alloc, two_changes, SECOND, &REFUSED_LIMITED_SECOND);
+    assert!(rt; wrong.is_none(), "wrong at faulty second text {wrong:?}");
 }

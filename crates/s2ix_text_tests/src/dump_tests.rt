@@ -1,13 +1,20 @@
 // Dumps by their call, with no script.
 use crate::texts::{Row, Text, first_wrong};
 
-const DUMPS: [Row; 2] = [
+const DUMPS: [Row; 3] = [
     // the pairs rise
     Row {
         texts: &[Text::Dump("1:7:2 04:9:1")],
         put_len: 3,
         fault_at: 0,
-        kept: b"s2ix 1\n04 9 1\n1 7 2\nend 2 3\n",
+        kept: b"s2ix 2\n04 9 1\n1 7 2\nend 2 3\n",
+    },
+    // the greatest counts, whose sum has 33 bits
+    Row {
+        texts: &[Text::Dump("1:7:4294967295 04:9:4294967295")],
+        put_len: 40,
+        fault_at: 0,
+        kept: b"s2ix 2\n04 9 4294967295\n1 7 4294967295\nend 2 8589934590\n",
     },
     // a fault ends a dump
     Row {
