@@ -176,12 +176,11 @@ const REFUSED_LIMITED_WHOLE: [Refused; 2] = [
     ),
 ];
 
-// A text of some parts.
-fn text_of(alloc: Global, parts: &[&[u8]]) -> Option<Vec<u8>> {
-    let mut text = Vec::new(alloc);
-    for part in parts {
-        text.extend_from_slice(part).ok()?;
-    }
+// A text of a header, what is below it, and what is behind that.
+fn text_of(alloc: Global, header: &[u8], below: &[u8], behind: &[u8]) -> Option<Vec<u8>> {
+    let mut text = Vec::from_slice(alloc, header).ok()?;
+    text.extend_from_slice(below).ok()?;
+    text.extend_from_slice(behind).ok()?;
     Some(text)
 }
 
@@ -192,7 +191,7 @@ fn is_accepted(
     header: &[u8],
     &(below, pairs, copies): &Accepted,
 ) -> bool {
-    let Some(text) = text_of(alloc, &[header, below]) else {
+    let Some(text) = text_of(alloc, header, below, b"") else {
         return false;
     };
     match read_dump(alloc, &text, limits) {
@@ -236,7 +235,7 @@ fn is_refused(
     header: &[u8],
     &(below, line, fault): &Refused,
 ) -> bool {
-    match text_of(alloc, &[header, below]) {
+    match text_of(alloc, header, below, b"") {
         Some(text) => has_fault(alloc, limits, &text, line, fault),
         None => false,
     }
@@ -253,7 +252,7 @@ fn is_refused_followed(
     if !below.ends_with(b"\n") || fault == DumpFault::Truncated {
         return true;
     }
-    match text_of(alloc, &[header, below, MORE]) {
+    match text_of(alloc, header, below, MORE) {
         Some(text) => has_fault(alloc, limits, &text, line, fault),
         None => false,
     }
