@@ -71,14 +71,37 @@ fn fields_stand_between_white_space() -> Result<(), Fail> {
 }
 
 #[test]
-fn fields_write_labels_copies_and_levels(rt: HostRuntime) {
+fn fields_write_labels_and_levels(rt: HostRuntime) {
     let label = label_spelled(b"0000000009").expect(&rt, "a label");
     assert!(&rt; label.get() == 9);
     assert!(&rt; label_spelled(b"2147483648").is_none());
-    assert!(&rt; copies_spelled(b"65535") == Some(65535));
-    assert!(&rt; copies_spelled(b"0").is_none());
     assert!(&rt; level_spelled(b"030") == Some(30));
     assert!(&rt; level_spelled(b"31").is_none());
+}
+
+// Fields, and the number of copies that each writes.
+const COPIES: [(&[u8], Option<u32>); 9] = [
+    (b"1", Some(1)),
+    (b"0000000001", Some(1)),
+    (b"65536", Some(65_536)),
+    (b"4294967295", Some(4_294_967_295)),
+    (b"0", None),
+    // eleven digits
+    (b"00000000001", None),
+    (b"4294967296", None),
+    // its low 32 bits are 1
+    (b"4294967297", None),
+    (b"9999999999", None),
+];
+
+#[test]
+fn fields_write_numbers_of_copies() -> Result<(), Fail> {
+    for (field, copies) in COPIES {
+        if copies_spelled(field) != copies {
+            return Err(Fail::new(format_args!("{field:?}")));
+        }
+    }
+    Ok(())
 }
 
 #[test]

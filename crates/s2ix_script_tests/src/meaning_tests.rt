@@ -27,7 +27,7 @@ enum Asked {
 }
 
 // Lines without fields, comments, and lines whose fields stand between white space of Unicode.
-const REQUESTS: [(&[u8], Asked); 28] = [
+const REQUESTS: [(&[u8], Asked); 29] = [
     (b"", Asked::Nothing),
     (b" \t\r", Asked::Nothing),
     (b"# note", Asked::Nothing),
@@ -43,7 +43,8 @@ const REQUESTS: [(&[u8], Asked); 28] = [
     (b"add\xc2\xa004\xc2\xa09", Asked::Add(9, 1)),
     (b"add 04 0000000009", Asked::Add(9, 1)),
     (b"add 04 9 0000000001", Asked::Add(9, 1)),
-    (b"add 04 9 65535", Asked::Add(9, 65535)),
+    (b"add 04 9 65536", Asked::Add(9, 65536)),
+    (b"add 04 9 4294967295", Asked::Add(9, 4294967295)),
     (b"add 04 2147483647", Asked::Add(2147483647, 1)),
     // tokens name a target
     (b"meet 1c 04 14 0C 04", Asked::Meet(b"1")),
@@ -219,7 +220,9 @@ const FAULTS: [(LineFault, &str); 12] = [
     (
         LineFault::BadCount,
         "add 04 9 0\n\
-        add 04 9 65536\n\
+        add 04 9 00000000001\n\
+        add 04 9 4294967296\n\
+        remove 04 9 9999999999\n\
         remove 04 9 x",
     ),
     (

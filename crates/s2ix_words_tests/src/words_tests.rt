@@ -18,7 +18,7 @@ enum Answer {
 use Answer::{Check, Help, Replay, Rewind, Run, Usage};
 
 // The limits where none is given.
-const WIDEST: (u32, u32, u32) = (1_000_000, 65_535, 100_000);
+const WIDEST: (u32, u32, u32) = (1_000_000, 4_294_967_295, 100_000);
 
 const COMMANDS: [(&[&str], Answer); 13] = [
     (&["run"], Run(None, WIDEST, false)),
@@ -52,16 +52,23 @@ const COMMANDS: [(&[&str], Answer); 13] = [
     (&["rewind", "d", "d"], Rewind("d", "d")),
 ];
 
-const LIMITS: [(&[&str], Answer); 20] = [
+const LIMITS: [(&[&str], Answer); 21] = [
     (&["run", "--max-pairs", "1000000"], Run(None, WIDEST, false)),
     (&["run", "--max-pairs", "1000001"], Usage),
     (
         &["run", "--max-pairs", "1"],
-        Run(None, (1, 65_535, 100_000), false),
+        Run(None, (1, 4_294_967_295, 100_000), false),
     ),
     (&["run", "--max-pairs", "0"], Usage),
-    (&["run", "--max-count", "65535"], Run(None, WIDEST, false)),
-    (&["run", "--max-count", "65536"], Usage),
+    (
+        &["run", "--max-count", "4294967295"],
+        Run(None, WIDEST, false),
+    ),
+    (&["run", "--max-count", "4294967296"], Usage),
+    (
+        &["run", "--max-count", "65536"],
+        Run(None, (1_000_000, 65_536, 100_000), false),
+    ),
     (
         &["run", "--max-count", "1"],
         Run(None, (1_000_000, 1, 100_000), false),
@@ -74,16 +81,16 @@ const LIMITS: [(&[&str], Answer); 20] = [
     (&["run", "--max-changes", "100001"], Usage),
     (
         &["run", "--max-changes", "1"],
-        Run(None, (1_000_000, 65_535, 1), false),
+        Run(None, (1_000_000, 4_294_967_295, 1), false),
     ),
     (&["run", "--max-changes", "0"], Usage),
     (
         &["run", "--max-pairs", "+7"],
-        Run(None, (7, 65_535, 100_000), false),
+        Run(None, (7, 4_294_967_295, 100_000), false),
     ),
     (
         &["run", "--max-pairs", "007"],
-        Run(None, (7, 65_535, 100_000), false),
+        Run(None, (7, 4_294_967_295, 100_000), false),
     ),
     (&["run", "--max-pairs="], Usage),
     (&["run", "--max-pairs", "7 "], Usage),
