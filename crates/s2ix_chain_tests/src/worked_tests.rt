@@ -2,9 +2,8 @@
 use crate::targets::target_of;
 use s2id_samples::cells_of;
 use s2id_union::CellUnion;
-use s2ix_bag::{Held, Label};
 use s2ix_chain::ChainTable;
-use s2ix_samples::{WIDEST, bag_of, held_of, label_of};
+use s2ix_samples::{WIDEST, are_labels, are_pairs, bag_of, held_of};
 use s2ix_table::{ChainIter, RangeRow, RangeTable, contents};
 use std::alloc::Global;
 
@@ -85,28 +84,6 @@ fn gives(mut chain: ChainIter<'_, ChainTable>, pairs: &str) -> bool {
         }
     }
     chain.next().is_none()
-}
-
-// Whether some pairs are these, in their order.
-fn are_pairs(pairs: &[Held], wanted: &str) -> bool {
-    let mut left = pairs.iter();
-    for text in wanted.split_ascii_whitespace() {
-        if left.next().copied() != held_of(text) {
-            return false;
-        }
-    }
-    left.next().is_none()
-}
-
-// Whether some labels are these, in their order.
-fn are_labels(labels: &[Label], wanted: &str) -> bool {
-    let mut left = labels.iter();
-    for text in wanted.split_ascii_whitespace() {
-        if left.next().copied() != label_of(text) {
-            return false;
-        }
-    }
-    left.next().is_none()
 }
 
 // Whether the range at a place is this one.

@@ -7,12 +7,12 @@ use crate::tables::{Row, has_ranges};
 use s2id_core::OutOfMemory;
 use s2id_samples::cells_of;
 use s2id_union::CellUnion;
-use s2ix_bag::{Bag, Change, Held, Label};
+use s2ix_bag::{Bag, Change};
 use s2ix_chain::ChainTable;
 use s2ix_copied::CopiedTable;
 use s2ix_faced::FacedTable;
 use s2ix_reading::BagReader;
-use s2ix_samples::{WIDEST, bag_of, held_of, holds_pairs, label_of};
+use s2ix_samples::{WIDEST, are_labels, are_pairs, bag_of, holds_pairs};
 use s2ix_table::RangeTable;
 use std::alloc::Global;
 use std::process::Abort;
@@ -30,28 +30,6 @@ const RANGES: [Row; 6] = [
 
 fn bag(rt: &impl Abort, alloc: Global, pairs: &str) -> Bag {
     bag_of(alloc, WIDEST, pairs).expect(rt, SET_UP)
-}
-
-// Whether some pairs are these, in their order.
-fn are_pairs(pairs: &[Held], wanted: &str) -> bool {
-    let mut left = pairs.iter();
-    for text in wanted.split_ascii_whitespace() {
-        if left.next().copied() != held_of(text) {
-            return false;
-        }
-    }
-    left.next().is_none()
-}
-
-// Whether some labels are these, in their order.
-fn are_labels(labels: &[Label], wanted: &str) -> bool {
-    let mut left = labels.iter();
-    for text in wanted.split_ascii_whitespace() {
-        if left.next().copied() != label_of(text) {
-            return false;
-        }
-    }
-    left.next().is_none()
 }
 
 fn check_meeting<T: RangeTable>(

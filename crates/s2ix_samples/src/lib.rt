@@ -1,4 +1,4 @@
-//! Pairs, bags and changes from plain texts, and bags of random nested cells, for tests. It promises nothing: a test compares what it
+//! Pairs, lists, bags and changes from plain texts, and bags of random nested cells, for tests. It promises nothing: a test compares what it
 //! makes of these with what its rows say.
 //!
 //! A pair with its count is a text TOKEN:LABEL:COUNT, as in lists that the program prints, and an entry of a change is a text
@@ -6,9 +6,11 @@
 #![tactic(auto)]
 
 mod bags;
+mod lists;
 mod nested;
 mod pairs;
 
 pub use bags::{LimitRow, WIDEST, bag_of, change_of, holds_pairs, limits_of, lists_entries};
+pub use lists::{are_labels, are_pairs, list_of};
 pub use nested::{all_faces, deep_bag, nested_bag, random_cells, with_more};
 pub use pairs::{entry_of, held_of, label_of, pair_of};

@@ -1,20 +1,11 @@
-//! Pairs, labels, unions and tables from plain texts, as `s2ix_samples` reads them. What is no such text, and what memory was wanted for,
+//! Labels, unions and tables from plain texts, as `s2ix_samples` reads them. What is no such text, and what memory was wanted for,
 //! is `None`.
 use s2id_samples::cells_of;
 use s2id_union::CellUnion;
-use s2ix_bag::{Held, Label};
-use s2ix_samples::{WIDEST, bag_of, held_of};
+use s2ix_bag::Label;
+use s2ix_samples::{WIDEST, bag_of};
 use s2ix_table::RangeTable;
 use std::alloc::Global;
-
-/// Pairs with their counts, in the order given.
-pub(crate) fn list_of(alloc: Global, pairs: &str) -> Option<Vec<Held>> {
-    let mut list = Vec::new(alloc);
-    for pair in pairs.split_ascii_whitespace() {
-        list.push(held_of(pair)?).ok()?;
-    }
-    Some(list)
-}
 
 /// The labels with these numbers.
 pub(crate) fn labels_of(alloc: Global, numbers: &[u32]) -> Option<Vec<Label>> {

@@ -1,10 +1,11 @@
 //! Worked tables, and what they answer.
 use crate::checks::{has_range, has_ranges, meets};
-use crate::samples::{labels_of, list_of, table_of, union_of};
+use crate::samples::{labels_of, table_of, union_of};
 use s2id_union::CellUnion;
 use s2ix_chain::ChainTable;
 use s2ix_copied::CopiedTable;
 use s2ix_faced::FacedTable;
+use s2ix_samples::list_of;
 use s2ix_table::{RangeRow, RangeTable};
 use std::alloc::Global;
 

@@ -1,12 +1,12 @@
-// Lists, tables and changes from plain texts, as `s2ix_samples` reads them. What is no such text, and what memory was wanted for, is `None`.
+// Labels, tables and changes from plain texts, as `s2ix_samples` reads them. What is no such text, and what memory was wanted for, is `None`.
 ghost use Rattle.std.specs.Prelude.{◌≡◌, IfSome};
 ghost use Rattle.s2id_core.specs.CellId.{level_of};
 
 use s2id_core::CellId;
 use s2id_samples::cell_of;
-use s2ix_bag::{Change, Held, Label};
+use s2ix_bag::{Change, Label};
 use s2ix_copied::CopiedTable;
-use s2ix_samples::{WIDEST, bag_of, held_of, label_of};
+use s2ix_samples::{WIDEST, bag_of, label_of};
 use s2ix_table::RangeTable;
 use std::alloc::Global;
 
@@ -28,15 +28,6 @@ pub(crate) fn labels_of(alloc: Global, numbers: &str) -> Option<Vec<Label>> {
         labels.push(label_of(number)?).ok()?;
     }
     Some(labels)
-}
-
-// Pairs with their counts, in the order given.
-pub(crate) fn list_of(alloc: Global, pairs: &str) -> Option<Vec<Held>> {
-    let mut list = Vec::new(alloc);
-    for pair in pairs.split_ascii_whitespace() {
-        list.push(held_of(pair)?).ok()?;
-    }
-    Some(list)
 }
 
 // The table of pairs that differ.
