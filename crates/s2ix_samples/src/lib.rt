@@ -1,5 +1,5 @@
-//! Pairs, lists, bags and changes from plain texts, and bags of random nested cells, for tests. It promises nothing: a test compares what it
-//! makes of these with what its rows say.
+//! Pairs, lists, bags and changes from plain texts, and bags of random nested cells, for tests. It promises nothing: a test compares what
+//! it makes of these with what its rows say.
 //!
 //! A pair with its count is a text TOKEN:LABEL:COUNT, as in lists that the program prints, and an entry of a change is a text
 //! TOKEN:LABEL:BEFORE:AFTER. White space stands between some of them. What is no such text, and what memory was wanted for, is `None`.
