@@ -1,13 +1,16 @@
 -- What a dump and a journal come to.
-use Rattle.std.proofs.Common.{◌≡◌, Option, Some, Result, Ok, Err, refl, ap, inl, inr}
+use Rattle.std.proofs.Common.{◌≡◌, ℕ, Option, Some, List, Result, Ok, Err, refl, ap, inl, inr}
 use Rattle.std.specs.Option.{option_map}
+use Rattle.s2ix_pairs.specs.Collection.{LimitedCollection}
+use Rattle.s2ix_pairs.specs.declared.limits.Limits.{Limits}
+use Rattle.s2ix_pairs.specs.declared.pair.Entry.{Entry}
 use Rattle.s2ix_replay.specs.declared.errors.ReplayError.{ReplayError}
 use Rattle.s2ix_replay.specs.declared.errors.ReplayError.TheVariants.{Mismatch, TooManyCopies, TooManyPairs, OutOfMemory}
 use Rattle.s2ix_replay.specs.Replay.{IsReplayError}
 use Rattle.s2ix_files.specs.declared.refusal.Refusal.{Refusal}
 use Rattle.s2ix_files.specs.declared.refusal.TextsError.{TextsError}
 use Rattle.s2ix_files.specs.declared.refusal.TextsError.TheVariants as texts
-use Rattle.s2ix_files.specs.Reads.{Then}
+use Rattle.s2ix_files.specs.Reads.{DumpReads, JournalReads, Leading, Then, TextsLead}
 use Rattle.s2ix_files.specs.Refusals.{IsRefusedBy, error_of_replay}
 
 -- an error of the first decides
@@ -28,3 +31,23 @@ refused_changes ComesTo found (Mismatch change entry) comes is = comes _ (ap (op
 refused_changes ComesTo found (TooManyCopies change) comes is = comes _ (ap (option_map error_of_replay) is)
 refused_changes ComesTo found (TooManyPairs change) comes is = comes _ (ap (option_map error_of_replay) is)
 refused_changes ComesTo found OutOfMemory comes is = tt
+
+-- an error of the journal, where the dump was read
+pub refused_journal : (Leads : Leading) (limits : Limits) (dump journal : List ℕ) (bag : LimitedCollection) (error : TextsError)
+    → DumpReads limits dump (Ok bag) → IsRefusedBy (JournalReads limits journal) error → IsRefusedBy (TextsLead Leads limits dump journal) error
+refused_journal Leads limits dump journal bag error read refused =
+    refused_next (DumpReads limits dump) (λ from. Then (JournalReads limits journal) (Leads from)) bag error read
+    (refused_first (JournalReads limits journal) (Leads bag) error refused)
+
+-- an error of the journal's changes, where both were read
+pub refused_leading : (Leads : Leading) (limits : Limits) (dump journal : List ℕ) (bag : LimitedCollection) (changes : List (List Entry)) (found : Option ReplayError) (error : ReplayError)
+    → ((refusal : Refusal) → option_map error_of_replay found ≡ Some (texts.Refused refusal) → Leads bag changes (Err refusal))
+    → DumpReads limits dump (Ok bag) → JournalReads limits journal (Ok changes) → IsReplayError error found → IsRefusedBy (TextsLead Leads limits dump journal) (error_of_replay error)
+refused_leading Leads limits dump journal bag changes found error comes read then is =
+    refused_next (DumpReads limits dump) (λ from. Then (JournalReads limits journal) (Leads from)) bag (error_of_replay error) read
+    (refused_next (JournalReads limits journal) (Leads bag) changes (error_of_replay error) then (refused_changes (Leads bag changes) found error comes is))
+
+-- what the changes lead to, where both were read
+pub texts_lead : (Leads : Leading) (limits : Limits) (dump journal : List ℕ) (bag : LimitedCollection) (changes : List (List Entry)) (reached : LimitedCollection)
+    → DumpReads limits dump (Ok bag) → JournalReads limits journal (Ok changes) → Leads bag changes (Ok reached) → TextsLead Leads limits dump journal (Ok reached)
+texts_lead Leads limits dump journal bag changes reached read then leads = inl (bag, read, inl (changes, then, leads))

@@ -19,7 +19,7 @@ use Rattle.s2ix_files.specs.declared.refusal.Refusal.TheVariants.{Mismatch, TooM
 use Rattle.s2ix_files.specs.declared.refusal.TextsError.TheVariants.{Refused}
 use Rattle.s2ix_files.specs.Answers.{IsAnswerTo, answer_of}
 use Rattle.s2ix_files.specs.Laws.{HasOne}
-use Rattle.s2ix_files.specs.Reads.{DumpReads, IsDumpOf, IsJournalOf, JournalReads, EndsIn, ReadsAs, ReplayLeads, RewindLeads, TextsReplay, TextsRewind, Then, dump_refusal, journal_refusal}
+use Rattle.s2ix_files.specs.Reads.{DumpReads, IsDumpOf, IsJournalOf, JournalReads, EndsIn, ReadsAs, ReplayLeads, RewindLeads, TextsReplay, TextsRewind, Then, dump_refusal, journal_refusal, Leading, TextsLead}
 use Rattle.s2ix_files.specs.Refusals.{error_of_replay}
 
 -- ---- what is read
@@ -157,15 +157,17 @@ one_rewind bag changes = leads_at (rewind_refusal bag changes) (rewind_refusal b
 
 -- ---- answers
 
+one_texts : (Leads : Leading) → ((bag : LimitedCollection) (changes : List (List Entry)) → HasOne (Leads bag changes)) → (limits : Limits) (dump journal : List ℕ)
+    → HasOne (TextsLead Leads limits dump journal)
+one_texts Leads one limits dump journal =
+    one_then (DumpReads limits dump) (λ bag. Then (JournalReads limits journal) (Leads bag)) (one_dump limits dump)
+    (λ bag. one_then (JournalReads limits journal) (Leads bag) (one_journal limits journal) (one bag))
+
 pub one_replayed : (limits : Limits) (dump journal : List ℕ) → HasOne (TextsReplay limits dump journal)
-one_replayed limits dump journal =
-    one_then (DumpReads limits dump) (λ bag. Then (JournalReads limits journal) (ReplayLeads bag)) (one_dump limits dump)
-    (λ bag. one_then (JournalReads limits journal) (ReplayLeads bag) (one_journal limits journal) (one_replay bag))
+one_replayed = one_texts ReplayLeads one_replay
 
 pub one_rewound : (limits : Limits) (dump journal : List ℕ) → HasOne (TextsRewind limits dump journal)
-one_rewound limits dump journal =
-    one_then (DumpReads limits dump) (λ bag. Then (JournalReads limits journal) (RewindLeads bag)) (one_dump limits dump)
-    (λ bag. one_then (JournalReads limits journal) (RewindLeads bag) (one_journal limits journal) (one_rewind bag))
+one_rewound = one_texts RewindLeads one_rewind
 
 -- what comes to one thing has one answer
 pub one_answer : (printed : LimitedCollection → List ℕ) (ComesTo : Result LimitedCollection Refusal → Type 0) → HasOne ComesTo → HasOne (IsAnswerTo printed ComesTo)

@@ -1,5 +1,5 @@
 -- Texts replayed and then rewound, and the other way round.
-use Rattle.std.proofs.Common.{◌≡◌, ℕ, true, false, List, Result, Ok, Err, ap, refl, subst, sym, ⊎_elim, inl, ◌∙◌}
+use Rattle.std.proofs.Common.{◌≡◌, ℕ, true, false, List, Result, Ok, Err, ap, refl, subst, sym, ⊎_elim, ◌∙◌}
 use Rattle.s2ix_pairs.specs.declared.limits.Limits.{Limits}
 use Rattle.s2ix_pairs.specs.declared.pair.Entry.{Entry}
 use Rattle.s2ix_pairs.specs.Collection.{Collection, IsBag, LimitedCollection}
@@ -13,12 +13,13 @@ use Rattle.s2ix_text.proofs.Dumps.{bag_dump, one_version}
 use Rattle.s2ix_files.specs.declared.refusal.Refusal.{Refusal}
 use Rattle.s2ix_files.specs.Answers.{Answer, IsAnswerTo, ReplayAnswers, RewindAnswers, answer_of, dump_of}
 use Rattle.s2ix_files.specs.Laws.{BytesComeBack, ComesBack}
-use Rattle.s2ix_files.specs.Reads.{DumpReads, JournalReads, ReplayLeads, RewindLeads, Then}
+use Rattle.s2ix_files.specs.Reads.{DumpReads, JournalReads, Leading, ReplayLeads, RewindLeads, TextsLead}
+use Rattle.s2ix_files.proofs.Joined.{texts_lead}
 
 -- ---- what is accepted
 
 -- texts of which all was accepted: the bag of the dump, the changes of the journal, and the bag that they come to
-pub record Accepts (Leads : LimitedCollection → List (List Entry) → Result LimitedCollection Refusal → Type 0) (limits : Limits) (dump journal : List ℕ) (answer : Answer) : Type 0 where
+pub record Accepts (Leads : Leading) (limits : Limits) (dump journal : List ℕ) (answer : Answer) : Type 0 where
   pub bag : LimitedCollection
   pub changes : List (List Entry)
   pub reached : LimitedCollection
@@ -27,8 +28,8 @@ pub record Accepts (Leads : LimitedCollection → List (List Entry) → Result L
   pub leads : Leads bag changes (Ok reached)
   pub text : answer.text ≡ dump_text reached.held
 
-accepted_at : (Leads : LimitedCollection → List (List Entry) → Result LimitedCollection Refusal → Type 0) (limits : Limits) (dump journal : List ℕ) (answer : Answer) (outcome : Result LimitedCollection Refusal)
-    → Then (DumpReads limits dump) (λ bag. Then (JournalReads limits journal) (Leads bag)) outcome → answer ≡ answer_of dump_of outcome → answer.accepted ≡ true
+accepted_at : (Leads : Leading) (limits : Limits) (dump journal : List ℕ) (answer : Answer) (outcome : Result LimitedCollection Refusal)
+    → TextsLead Leads limits dump journal outcome → answer ≡ answer_of dump_of outcome → answer.accepted ≡ true
     → Accepts Leads limits dump journal answer
 accepted_at Leads limits dump journal answer (Err refusal) comes is accepted =
     let clash : false ≡ true = sym (ap (λ (a : Answer). a.accepted) is) ∙ accepted in cc
@@ -50,8 +51,8 @@ accepted_at Leads limits dump journal answer (Ok reached) comes is accepted =
     (λ refused. let clash : Ok reached ≡ Err refused.0 = refused.2 in cc)
     comes
 
-accepts : (Leads : LimitedCollection → List (List Entry) → Result LimitedCollection Refusal → Type 0) (limits : Limits) (dump journal : List ℕ) (answer : Answer)
-    → IsAnswerTo dump_of (Then (DumpReads limits dump) (λ bag. Then (JournalReads limits journal) (Leads bag))) answer → answer.accepted ≡ true
+accepts : (Leads : Leading) (limits : Limits) (dump journal : List ℕ) (answer : Answer)
+    → IsAnswerTo dump_of (TextsLead Leads limits dump journal) answer → answer.accepted ≡ true
     → Accepts Leads limits dump journal answer
 accepts Leads limits dump journal answer answers accepted = accepted_at Leads limits dump journal answer answers.0 answers.1 answers.2 accepted
 
@@ -62,11 +63,11 @@ read_again : (limits : Limits) (text : List ℕ) (bag : LimitedCollection) → I
 read_again limits text bag is_bag limits_are is = (is_bag, limits_are, subst (λ t. IsDump t bag.held) (sym is) (bag_dump bag is_bag))
 
 -- texts that lead to a bag are answered by the dump that is written of it
-leads_home : (Leads : LimitedCollection → List (List Entry) → Result LimitedCollection Refusal → Type 0) (limits : Limits) (text journal : List ℕ) (home there : LimitedCollection) (changes : List (List Entry))
+leads_home : (Leads : Leading) (limits : Limits) (text journal : List ℕ) (home there : LimitedCollection) (changes : List (List Entry))
     → DumpReads limits text (Ok there) → JournalReads limits journal (Ok changes) → Leads there changes (Ok home)
-    → IsAnswerTo dump_of (Then (DumpReads limits text) (λ bag. Then (JournalReads limits journal) (Leads bag))) (record { text = dump_text home.held; accepted = true })
+    → IsAnswerTo dump_of (TextsLead Leads limits text journal) (record { text = dump_text home.held; accepted = true })
 leads_home Leads limits text journal home there changes there_read journal_read leads =
-    (Ok home, inl (there, there_read, inl (changes, journal_read, leads)), refl)
+    (Ok home, texts_lead Leads limits text journal there changes home there_read journal_read leads, refl)
 
 pub rewind_replayed : ComesBack ReplayAnswers RewindAnswers
 rewind_replayed limits dump journal answer answers accepted =

@@ -56,22 +56,30 @@ abbrev pub EndsIn : Option ReplayError → LimitedCollection → Result LimitedC
 EndsIn refusal bag (Ok reached) = (refusal ≡ None) × (reached ≡ bag)
 EndsIn refusal bag (Err found) = option_map error_of_replay refusal ≡ Some (Refused found)
 
+-- what a bag and changes come to
+abbrev pub Leading : Type 1
+Leading = LimitedCollection → List (List Entry) → Result LimitedCollection Refusal → Type 0
+
 -- changes that are done to a bag
-abbrev pub ReplayLeads : LimitedCollection → List (List Entry) → Result LimitedCollection Refusal → Type 0
+abbrev pub ReplayLeads : Leading
 ReplayLeads bag changes = EndsIn (replay_refusal bag changes) (replayed bag changes)
 
 -- changes that are taken back from a bag
-abbrev pub RewindLeads : LimitedCollection → List (List Entry) → Result LimitedCollection Refusal → Type 0
+abbrev pub RewindLeads : Leading
 RewindLeads bag changes = EndsIn (rewind_refusal bag changes) (rewound bag changes)
 
 -- one thing first, and then the next, which goes on from what the first came to; a refusal of the first decides
 abbrev pub Then : {A B : Type 0} → (Result A Refusal → Type 0) → (A → Result B Refusal → Type 0) → Result B Refusal → Type 0
 Then {A} First Next outcome = ((a : A) × First (Ok a) × Next a outcome) ⊎ ((refusal : Refusal) × First (Err refusal) × (outcome ≡ Err refusal))
 
--- first the dump is read, then the journal, and then its changes are done
-abbrev pub TextsReplay : Limits → List ℕ → List ℕ → Result LimitedCollection Refusal → Type 0
-TextsReplay limits dump journal = Then (DumpReads limits dump) (λ bag. Then (JournalReads limits journal) (ReplayLeads bag))
+-- first the dump is read, then the journal, and then its changes lead on from the bag
+abbrev pub TextsLead : Leading → Limits → List ℕ → List ℕ → Result LimitedCollection Refusal → Type 0
+TextsLead Leads limits dump journal = Then (DumpReads limits dump) (λ bag. Then (JournalReads limits journal) (Leads bag))
 
--- first the dump is read, then the journal, and then its changes are taken back
+-- the changes are done
+abbrev pub TextsReplay : Limits → List ℕ → List ℕ → Result LimitedCollection Refusal → Type 0
+TextsReplay = TextsLead ReplayLeads
+
+-- the changes are taken back
 abbrev pub TextsRewind : Limits → List ℕ → List ℕ → Result LimitedCollection Refusal → Type 0
-TextsRewind limits dump journal = Then (DumpReads limits dump) (λ bag. Then (JournalReads limits journal) (RewindLeads bag))
+TextsRewind = TextsLead RewindLeads
