@@ -7,7 +7,7 @@ use std::process::Abort;
 // A dump, the line that is written, and whether the dump is accepted.
 type Row = (&'static [u8], &'static [u8], bool);
 
-const CHECKED: [Row; 13] = [
+const CHECKED: [Row; 15] = [
     (b"s2ix 2\n04 9 1\n", b"no Truncated 3\n", false),
     (
         b"s2ix 2\n1 7 1\n04 9 1\nend 2 2\n",
@@ -29,6 +29,12 @@ const CHECKED: [Row; 13] = [
         b"no BadCount 2\n",
         false,
     ),
+    (
+        b"s2ix 2\n04 9 4294967295\nend 1 4294967295\n",
+        b"ok 1 4294967295\n",
+        true,
+    ),
+    (b"s2ix 1\nendless 9 1\nend 1 1\n", b"no BadToken 2\n", false),
     (b"s2ix 2\nend 0 0\n", b"ok 0 0\n", true),
     (b"s2ix 3\nend 0 0\n", b"no BadHeader 1\n", false),
     (

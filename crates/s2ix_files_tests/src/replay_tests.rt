@@ -28,7 +28,8 @@ const JOURNAL: &[u8] =
 // A dump, a journal, what is written, and whether all is accepted.
 type Row = (&'static [u8], &'static [u8], &'static [u8], bool);
 
-const REPLAYED: [Row; 12] = [
+const REPLAYED: [Row; 13] = [
+    (MERGED_FIRST, b"s2ix-journal 1\nend 0\n", MERGED, true),
     (EMPTY_FIRST, JOURNAL_FIRST, MERGED, true),
     (EMPTY_FIRST, JOURNAL, MERGED, true),
     (EMPTY, JOURNAL_FIRST, MERGED, true),
