@@ -1,38 +1,49 @@
--- How many ranges are at each seat.
-use Rattle.std.proofs.Common.{◌≡◌, ℕ, zero, suc, ◌+◌, ◌-◌, ◌%◌, ◌<◌, ◌≤◌, inl, inr, List, [], ◌∷◌, length, get_or, slice_index_or, refl, sym, ◌∙◌, ap, arith, add-one}
+-- The ranges behind the first one at each seat.
+use Rattle.std.proofs.Common.{◌≡◌, ℕ, zero, suc, ◌+◌, ◌-◌, ◌%◌, ◌<◌, ◌≤◌, inl, inr, List, [], ◌∷◌, length, get_or, slice_index_or, refl, sym, ◌∙◌, ap, arith, add-one, subst}
 use Rattle.std.proofs.lemmas.Bool.{cases_lt}
 use Rattle.std.proofs.lemmas.List.{get_or-map, length-map, get_or_past, get_or_default}
 use Rattle.s2ix_chain.specs.SpanTable.{SpanRanges}
 use Rattle.s2ix_chain.specs.Starts.{IsLastStart}
 use Rattle.s2ix_joined.specs.declared.seat.Seat.{Seat}
-use Rattle.s2ix_joined.specs.Seats.{places_of, AreCounts}
+use Rattle.s2ix_joined.specs.Seats.{seats_of, places_of, AreInner}
 use Rattle.s2ix_joined.specs.Whole.{AreJoined, AreCounted}
 use Rattle.s2ix_joined.proofs.Reading.{no_seat, no_table, in_order, seated}
 use Rattle.s2ix_joined.proofs.Seats.{high_of}
 
--- the counts of six seats are the differences of their places
-pub six_counts : (a b c d e f : Seat) (o p q r s t count : ℕ) → a.place + o ≡ b.place → b.place + p ≡ c.place → c.place + q ≡ d.place → d.place + r ≡ e.place → e.place + s ≡ f.place → f.place + t ≡ count → AreCounts (a ∷ b ∷ c ∷ d ∷ e ∷ f ∷ []) (o ∷ p ∷ q ∷ r ∷ s ∷ t ∷ []) count
-six_counts a b c d e f o p q r s t count ab bc cd de ef fg = record {
+-- what is kept of six seats
+pub six_inner : (a b c d e f : Seat) (u v w x y z o p q r s t count : ℕ) → u ≡ a.place + 1 → v ≡ b.place + 1 → w ≡ c.place + 1 → x ≡ d.place + 1 → y ≡ e.place + 1 → z ≡ f.place + 1 → o ≡ b.place - a.place - 1 → p ≡ c.place - b.place - 1 → q ≡ d.place - c.place - 1 → r ≡ e.place - d.place - 1 → s ≡ f.place - e.place - 1 → t ≡ count - f.place - 1 → AreInner (a ∷ b ∷ c ∷ d ∷ e ∷ f ∷ []) (u ∷ v ∷ w ∷ x ∷ y ∷ z ∷ []) (o ∷ p ∷ q ∷ r ∷ s ∷ t ∷ []) count
+six_inner a b c d e f u v w x y z o p q r s t count ua vb wc xd ye zf ab bc cd de ef fg = record {
+  six_behind = refl;
   six = refl;
+  after = λ i lt. behind i lt;
   apart = λ i j next lt. at i j next lt;
 }
   where
-    at : (i j : ℕ) → j ≡ suc i → i < 6 → slice_index_or (places_of (a ∷ b ∷ c ∷ d ∷ e ∷ f ∷ [])) i 0 + slice_index_or (o ∷ p ∷ q ∷ r ∷ s ∷ t ∷ []) i 0 ≡ slice_index_or (places_of (a ∷ b ∷ c ∷ d ∷ e ∷ f ∷ [])) j count
-    at zero j next lt = ab ∙ ap (λ n. slice_index_or (places_of (a ∷ b ∷ c ∷ d ∷ e ∷ f ∷ [])) n count) (sym next)
-    at (suc zero) j next lt = bc ∙ ap (λ n. slice_index_or (places_of (a ∷ b ∷ c ∷ d ∷ e ∷ f ∷ [])) n count) (sym next)
-    at (suc (suc zero)) j next lt = cd ∙ ap (λ n. slice_index_or (places_of (a ∷ b ∷ c ∷ d ∷ e ∷ f ∷ [])) n count) (sym next)
-    at (suc (suc (suc zero))) j next lt = de ∙ ap (λ n. slice_index_or (places_of (a ∷ b ∷ c ∷ d ∷ e ∷ f ∷ [])) n count) (sym next)
-    at (suc (suc (suc (suc zero)))) j next lt = ef ∙ ap (λ n. slice_index_or (places_of (a ∷ b ∷ c ∷ d ∷ e ∷ f ∷ [])) n count) (sym next)
-    at (suc (suc (suc (suc (suc zero))))) j next lt = fg ∙ ap (λ n. slice_index_or (places_of (a ∷ b ∷ c ∷ d ∷ e ∷ f ∷ [])) n count) (sym next)
+    behind : (i : ℕ) → i < 6 → slice_index_or (u ∷ v ∷ w ∷ x ∷ y ∷ z ∷ []) i 0 ≡ slice_index_or (places_of (a ∷ b ∷ c ∷ d ∷ e ∷ f ∷ [])) i 0 + 1
+    behind zero lt = ua
+    behind (suc zero) lt = vb
+    behind (suc (suc zero)) lt = wc
+    behind (suc (suc (suc zero))) lt = xd
+    behind (suc (suc (suc (suc zero)))) lt = ye
+    behind (suc (suc (suc (suc (suc zero))))) lt = zf
+    behind (suc (suc (suc (suc (suc (suc i)))))) lt = absurd (omega arith)
+
+    at : (i j : ℕ) → j ≡ suc i → i < 6 → slice_index_or (o ∷ p ∷ q ∷ r ∷ s ∷ t ∷ []) i 0 ≡ slice_index_or (places_of (a ∷ b ∷ c ∷ d ∷ e ∷ f ∷ [])) j count - slice_index_or (places_of (a ∷ b ∷ c ∷ d ∷ e ∷ f ∷ [])) i 0 - 1
+    at zero j next lt = ab ∙ ap (λ n. slice_index_or (places_of (a ∷ b ∷ c ∷ d ∷ e ∷ f ∷ [])) n count - a.place - 1) (sym next)
+    at (suc zero) j next lt = bc ∙ ap (λ n. slice_index_or (places_of (a ∷ b ∷ c ∷ d ∷ e ∷ f ∷ [])) n count - b.place - 1) (sym next)
+    at (suc (suc zero)) j next lt = cd ∙ ap (λ n. slice_index_or (places_of (a ∷ b ∷ c ∷ d ∷ e ∷ f ∷ [])) n count - c.place - 1) (sym next)
+    at (suc (suc (suc zero))) j next lt = de ∙ ap (λ n. slice_index_or (places_of (a ∷ b ∷ c ∷ d ∷ e ∷ f ∷ [])) n count - d.place - 1) (sym next)
+    at (suc (suc (suc (suc zero)))) j next lt = ef ∙ ap (λ n. slice_index_or (places_of (a ∷ b ∷ c ∷ d ∷ e ∷ f ∷ [])) n count - e.place - 1) (sym next)
+    at (suc (suc (suc (suc (suc zero))))) j next lt = fg ∙ ap (λ n. slice_index_or (places_of (a ∷ b ∷ c ∷ d ∷ e ∷ f ∷ [])) n count - f.place - 1) (sym next)
     at (suc (suc (suc (suc (suc (suc i)))))) j next lt = absurd (omega arith)
 
 -- what a wrapped difference below a count tells, where nothing wraps at the end
-record IsBetween (place k count : ℕ) : Type 0 where
-  pub from : place ≤ k
-  pub to : k < place + count
+record IsBetween (behind k count past : ℕ) : Type 0 where
+  pub past_is : behind + past ≡ k
+  pub to : k < behind + count
 
-between : (place k count : ℕ) → k < 18446744073709551616 → place + count < 18446744073709551616 → (k + (18446744073709551616 - place)) % 18446744073709551616 < count → IsBetween place k count
-between place k count fits end lt = record { from = omega arith; to = omega arith }
+between : (behind k count past : ℕ) → k < 18446744073709551616 → behind + count < 18446744073709551616 → past ≡ (k + (18446744073709551616 - behind)) % 18446744073709551616 → past < count → IsBetween behind k count past
+between behind k count past fits end is lt = record { past_is = omega arith; to = omega arith }
 
 -- no seat's ranges go beyond all
 ends_within : (tables : List SpanRanges) (seats : List Seat) (count f : ℕ) → AreJoined tables seats count → f < 6 → high_of seats f count ≤ count
@@ -49,25 +60,48 @@ ends_within tables seats count f are lt =
       | inr past ↦ (let none : high_of seats f count ≡ count = get_or_past (places_of seats) (suc f) count (omega arith) in omega arith)
     ]
 
--- a range among those at a seat: the seat is the last one that is not behind it
-pub last_near : (tables : List SpanRanges) (seats : List Seat) (counts : List ℕ) (count k f : ℕ) → AreCounted tables seats counts count → f < 6 → k < 18446744073709551616 → (k + (18446744073709551616 - (get_or seats f no_seat).place)) % 18446744073709551616 < get_or counts f 0 → IsLastStart (places_of seats) k f
-last_near tables seats counts count k f are lt fits less =
+-- a range among those behind the first one at a seat: the seat is the last one that is not behind it
+pub record IsInner (seats : List Seat) (k f past : ℕ) : Type 0 where
+  pub last : IsLastStart (places_of seats) k f
+  pub own : slice_index_or (places_of seats) f 0 + (past + 1) ≡ k
+  pub few : past < 12000006
+
+pub inner_near : (tables : List SpanRanges) (seats : List Seat) (behind inner : List ℕ) (count k f past : ℕ) → AreCounted tables seats behind inner count → f < 6 → k < 18446744073709551616 → past ≡ (k + (18446744073709551616 - get_or behind f 0)) % 18446744073709551616 → past < get_or inner f 0 → IsInner seats k f past
+inner_near tables seats behind inner count k f past are lt fits is less =
     let joined = are.joined in
     let order = in_order tables seats count joined in
     let six = order.six in
     let few = joined.few in
-    let place : slice_index_or (places_of seats) f 0 ≡ (get_or seats f no_seat).place = get_or-map (λ (s : Seat). s.place) seats f no_seat 0 (omega arith) in
     let many : length (places_of seats) ≡ 6 = length-map seats (λ (s : Seat). s.place) ∙ six in
+    let after = are.counted.after f lt in
     let apart = are.counted.apart f (suc f) refl lt in
     let end = ends_within tables seats count f joined lt in
-    let here = between (get_or seats f no_seat).place k (get_or counts f 0) fits (omega arith) less in
-    let from = here.from in
+    let here = between (get_or behind f 0) k (get_or inner f 0) past fits (omega arith) is less in
+    let past_is = here.past_is in
     let to = here.to in
     record {
-      within = omega arith;
-      by = omega arith;
-      next = λ more.
-          let same = ap (λ n. slice_index_or (places_of seats) n count) (add-one f) in
-          let default = get_or_default (places_of seats) (f + 1) count 0 (omega arith) in
-          omega arith;
+      last = record {
+        within = omega arith;
+        by = omega arith;
+        next = λ more.
+            let same = ap (λ n. slice_index_or (places_of seats) n count) (add-one f) in
+            let default = get_or_default (places_of seats) (f + 1) count 0 (omega arith) in
+            omega arith;
+      };
+      own = omega arith;
+      few = omega arith;
     }
+
+-- the same, of the seats of the tables that contracts see
+pub inner_seen : (tables now : List SpanRanges) (seats : List Seat) (count k f past : ℕ) → AreJoined tables seats count → tables ≡ now → IsInner seats k f past → IsInner (seats_of now) k f past
+inner_seen tables now seats count k f past are same is =
+    subst (λ ts. IsInner (seats_of ts) k f past) same (subst (λ ss. IsInner ss k f past) are.seats_are is)
+
+-- the place in a face's table
+pub own_is : (tables now : List SpanRanges) (seats : List Seat) (count k f own : ℕ) → AreJoined tables seats count → tables ≡ now → f < 6 → slice_index_or (places_of (seats_of now)) f 0 + own ≡ k → k - (get_or seats f no_seat).place ≡ own
+own_is tables now seats count k f own are same lt is =
+    let six = (in_order tables seats count are).six in
+    let place : slice_index_or (places_of seats) f 0 ≡ (get_or seats f no_seat).place = get_or-map (λ (s : Seat). s.place) seats f no_seat 0 (omega arith) in
+    let seen : slice_index_or (places_of seats) f 0 ≡ slice_index_or (places_of (seats_of now)) f 0 =
+    ap (λ ss. slice_index_or (places_of ss) f 0) are.seats_are ∙ ap (λ ts. slice_index_or (places_of (seats_of ts)) f 0) same in
+    omega arith

@@ -38,7 +38,9 @@ pub record AreInOrder (seats : List Seat) : Type 0 where
   pub six : length seats ≡ 6
   pub rise : (i j : ℕ) → j ≡ suc i → j < 6 → slice_index_or (places_of seats) i 0 ≤ slice_index_or (places_of seats) j 0
 
--- how many of `count` ranges are at each of six seats: from its place up to the next one's, and at the last one all that are left
-pub record AreCounts (seats : List Seat) (counts : List ℕ) (count : ℕ) : Type 0 where
-  pub six : length counts ≡ 6
-  pub apart : (i j : ℕ) → j ≡ suc i → i < 6 → slice_index_or (places_of seats) i 0 + slice_index_or counts i 0 ≡ slice_index_or (places_of seats) j count
+-- at each of six seats: the place behind its first range, and how many of `count` ranges are there up to the next seat, if any
+pub record AreInner (seats : List Seat) (behind inner : List ℕ) (count : ℕ) : Type 0 where
+  pub six_behind : length behind ≡ 6
+  pub six : length inner ≡ 6
+  pub after : (i : ℕ) → i < 6 → slice_index_or behind i 0 ≡ slice_index_or (places_of seats) i 0 + 1
+  pub apart : (i j : ℕ) → j ≡ suc i → i < 6 → slice_index_or inner i 0 ≡ slice_index_or (places_of seats) j count - slice_index_or (places_of seats) i 0 - 1

@@ -5,7 +5,7 @@ use Rattle.s2ix_chain.specs.SpanTable.{SpanRanges}
 use Rattle.s2ix_joined.specs.declared.seat.Seat.{Seat}
 use Rattle.s2ix_joined.specs.Faces.{AreOverFaces}
 use Rattle.s2ix_joined.specs.Joined.{joined_ranges, AreNeighbours}
-use Rattle.s2ix_joined.specs.Seats.{seats_of, AreCounts}
+use Rattle.s2ix_joined.specs.Seats.{seats_of, AreInner}
 
 -- six tables, one for each face, with their seats and the number of their joined ranges
 pub record AreJoined (tables : List SpanRanges) (seats : List Seat) (count : ℕ) : Type 0 where
@@ -16,7 +16,7 @@ pub record AreJoined (tables : List SpanRanges) (seats : List Seat) (count : ℕ
   pub counted : count ≡ length (joined_ranges tables)
   pub few : count ≤ 12000006
 
--- the same, with how many of the joined ranges are at each seat
-pub record AreCounted (tables : List SpanRanges) (seats : List Seat) (counts : List ℕ) (count : ℕ) : Type 0 where
+-- the same, with the ranges behind the first one at each seat
+pub record AreCounted (tables : List SpanRanges) (seats : List Seat) (behind inner : List ℕ) (count : ℕ) : Type 0 where
   pub joined : AreJoined tables seats count
-  pub counted : AreCounts seats counts count
+  pub counted : AreInner seats behind inner count

@@ -1,4 +1,4 @@
-ghost use Rattle.std.specs.Prelude.{◌≡◌, ◌<◌, ◌∷◌, Some, length, drop, slice_get};
+ghost use Rattle.std.specs.Prelude.{◌≡◌, ◌+◌, ◌<◌, ◌∷◌, Some, IfSome, length, drop, slice_get, slice_index_or};
 ghost use Rattle.s2id_core.specs.CellId.{raw_of, level_of};
 ghost use Rattle.s2ix_pairs.specs.Collection.{IsCollection};
 ghost use Rattle.s2ix_reading.specs.Faces.{held_on};
@@ -25,7 +25,8 @@ use std::marker::Model;
 pub struct JoinedTables {
     tables: [FaceTable; FACES],
     seats: [Seat; FACES],
-    counts: [usize; FACES],
+    behind: [usize; FACES],
+    inner: [usize; FACES],
     count: usize,
 }
 
@@ -38,7 +39,7 @@ impl Model for JoinedTables {
 
     ghost view = { λ t. t.tables };
 
-    ghost invariant = { λ t. AreCounted t.tables t.seats t.counts t.count };
+    ghost invariant = { λ t. AreCounted t.tables t.seats t.behind t.inner t.count };
 }
 
 impl JoinedTables {
@@ -59,13 +60,21 @@ impl JoinedTables {
         JoinedTables {
             tables,
             seats: [first, second, third, fourth, fifth, sixth],
-            counts: [
-                second.place - first.place,
-                third.place - second.place,
-                fourth.place - third.place,
-                fifth.place - fourth.place,
-                sixth.place - fifth.place,
-                count - sixth.place,
+            behind: [
+                first.place + 1,
+                second.place + 1,
+                third.place + 1,
+                fourth.place + 1,
+                fifth.place + 1,
+                sixth.place + 1,
+            ],
+            inner: [
+                first.inner_count(second.place),
+                second.inner_count(third.place),
+                third.inner_count(fourth.place),
+                fourth.inner_count(fifth.place),
+                fifth.inner_count(sixth.place),
+                sixth.inner_count(count),
             ],
             count,
         }
@@ -106,7 +115,10 @@ impl JoinedTables {
         ensures start { result.start ≡ (range_at (joined_ranges self.now) k).start }
         ensures limit { result.limit ≡ (range_at (joined_ranges self.now) k).limit }
     {
-        let face = self.face_near(k, *near);
+        if let Some(own) = self.own_near(k, *near) {
+            return self.range_inside(*near, own, k);
+        }
+        let face = self.face_with(k);
         *near = face;
         self.range_on(face, k)
     }
@@ -138,17 +150,51 @@ impl JoinedTables {
         seat_by(&self.seats, k)
     }
 
-    // The same, where it may be at hand: one test tells whether it is.
+    // The same, where it may be at hand.
     #[inline]
     fn face_near(&self, k: usize, near: usize) -> usize
         ensures within { result < 6 }
         ensures last { IsLastStart (places_of (seats_of self.now)) k result }
     {
-        if near < FACES && k.wrapping_sub(self.seats[near].place) < self.counts[near] {
-            near
-        } else {
-            self.face_with(k)
+        match self.own_near(k, near) {
+            Some(_) => near,
+            None => self.face_with(k),
         }
+    }
+
+    // The place of a range among those of the face at hand, where it is one of them and not the first, which may begin before its face:
+    // one test tells.
+    #[inline]
+    fn own_near(&self, k: usize, near: usize) -> Option<usize>
+        ensures within { IfSome result (λ own. near < 6) }
+        ensures last { IfSome result (λ own. IsLastStart (places_of (seats_of self.now)) k near) }
+        ensures own { IfSome result (λ own. slice_index_or (places_of (seats_of self.now)) near 0 + own ≡ k) }
+        ensures behind { IfSome result (λ own. 0 < own) }
+    {
+        if near >= FACES {
+            return None;
+        }
+        let past = k.wrapping_sub(self.behind[near]);
+        if past < self.inner[near] {
+            Some(past + 1)
+        } else {
+            None
+        }
+    }
+
+    // The leaves of a range behind the first one of its face, by its place there.
+    #[inline]
+    fn range_inside(&self, face: usize, own: usize, k: usize) -> RangeRow
+        requires within { face < 6 }
+        requires last { IsLastStart (places_of (seats_of self.now)) k face }
+        requires own { slice_index_or (places_of (seats_of self.now)) face 0 + own ≡ k }
+        requires behind { 0 < own }
+        requires range { k < length (joined_ranges self.now) }
+        ensures start { result.start ≡ (range_at (joined_ranges self.now) k).start }
+        ensures limit { result.limit ≡ (range_at (joined_ranges self.now) k).limit }
+    {
+        let _ = k;
+        self.tables[face].span().range(own)
     }
 
     // The leaves of a range, by the face whose seat has it.

@@ -1,5 +1,5 @@
 // Where the ranges of each face's table stand among the joined ones.
-ghost use Rattle.std.specs.Prelude.{◌≡◌, ◌+◌, ◌<◌, ◌≤◌, length, slice_index_or};
+ghost use Rattle.std.specs.Prelude.{◌≡◌, ◌+◌, ◌-◌, ◌<◌, ◌≤◌, length, slice_index_or};
 ghost use Rattle.s2ix_chain.specs.SpanTable.{IsSpanTable};
 ghost use Rattle.s2ix_chain.specs.Starts.{IsLastStart};
 ghost use Rattle.s2ix_joined.specs.Seats.{seat_after, places_of, AreInOrder};
@@ -47,6 +47,16 @@ impl Seat {
                 start: next.start(0),
             }
         }
+    }
+}
+
+impl Seat {
+    // How many ranges stand behind this seat's first one, before the next seat. O(1).
+    #[inline]
+    pub(crate) fn inner_count(self, next: usize) -> usize
+        ensures { result ≡ next - self.place - 1 }
+    {
+        next.saturating_sub(self.place).saturating_sub(1)
     }
 }
 

@@ -1,28 +1,28 @@
-use Rattle.std.proofs.Common.{◌≡◌, ℕ, ◌<◌, ◌≤◌, length, get_or, ◌∙◌, ap, arith, subst}
+use Rattle.std.proofs.Common.{◌≡◌, ℕ, ◌<◌, ◌≤◌, length, get_or, refl, ◌∙◌, ap, arith, subst}
 use Rattle.std.proofs.lemmas.List.{get_or_default}
 use Rattle.s2ix_ranges.specs.Table.{leaf_end}
 use Rattle.s2ix_chain.specs.SpanTable.{SpanRanges, IsSpanTable}
 use Rattle.s2ix_joined.specs.Joined.{AreNeighbours}
 use Rattle.s2ix_joined.proofs.Neighbours.{all_rise, joined_table}
 use Rattle.s2ix_joined.proofs.Reading.{six_known, six_neighbours, AreAfter, any_default, six_seats, counted_six, first_seat}
-use Rattle.s2ix_joined.proofs.Counts.{six_counts}
+use Rattle.s2ix_joined.proofs.Counts.{six_inner}
 use Rattle.s2ix_joined.proofs.joined_tables.JoinedTables.together.Goals as goal
 
 few_ranges : (t : SpanRanges) → IsSpanTable t → length t.ranges ≤ 2000001
 few_ranges t is = let few = is.few in let ranges = is.ranges_few in omega arith
 
-six : (c : goal.After-struct_known-12-1) → length c.args.tables ≡ 6
+six : (c : goal.After-inner_count-6) → length c.args.tables ≡ 6
 six c = omega arith
 
-known : (c : goal.After-struct_known-12-1) → (i : ℕ) (x : SpanRanges) → i < 6 → IsSpanTable (get_or c.args.tables i x)
+known : (c : goal.After-inner_count-6) → (i : ℕ) (x : SpanRanges) → i < 6 → IsSpanTable (get_or c.args.tables i x)
 known c =
     six_known IsSpanTable c.args.tables c.index-tables-0.result c.index-tables-1-2.result c.index-tables-2-2.result c.index-tables-3-2.result c.index-tables-4-2.result c.index-tables-5.result (six c)
     c.after-second.ensures.table c.after-third.ensures.table c.after-fourth.ensures.table c.after-fifth.ensures.table c.after-sixth.ensures.table c.after-sixth.ensures.next
 
-neighbours : (c : goal.After-struct_known-12-1) → AreNeighbours 1 c.args.tables leaf_end
+neighbours : (c : goal.After-inner_count-6) → AreNeighbours 1 c.args.tables leaf_end
 neighbours c = six_neighbours c.args.tables (six c) c.requires.faces (known c)
 
-after : (c : goal.After-struct_known-12-1) → AreAfter c.args.tables c.after-second.result c.after-third.result c.after-fourth.result c.after-fifth.result c.after-sixth.result
+after : (c : goal.After-inner_count-6) → AreAfter c.args.tables c.after-second.result c.after-third.result c.after-fourth.result c.after-fifth.result c.after-sixth.result
 after c =
     let len = six c in
     record {
@@ -68,7 +68,7 @@ invariant_of-result c =
         counted = omega arith;
         few = omega arith;
       };
-      counted = six_counts first_seat c.after-second.result c.after-third.result c.after-fourth.result c.after-fifth.result c.after-sixth.result _ _ _ _ _ _ _ (omega arith) (omega arith) (omega arith) (omega arith) (omega arith) (omega arith);
+      counted = six_inner first_seat c.after-second.result c.after-third.result c.after-fourth.result c.after-fifth.result c.after-sixth.result _ _ _ _ _ _ _ _ _ _ _ _ _ refl refl refl refl refl refl c.inner_count.ensures c.inner_count-2.ensures c.inner_count-3.ensures c.inner_count-4.ensures c.inner_count-5.ensures c.inner_count-6.ensures;
     }
 
 pub returns-clause-rises : goal.returns-clause-rises
