@@ -1,5 +1,6 @@
 -- Which refusal of an edit stands first, by which of them stand.
 use Rattle.std.proofs.Common.{◌≡◌, ◌≢◌, ℕ, ◌==◌, nat_le, nat_lt, Bool, true, false, cond, List, [], length, Option, Some, None, refl, sym, ap, ◌∙◌}
+use Rattle.std.proofs.lemmas.Bool.{cond-false}
 use Rattle.s2ix_pairs.specs.declared.pair.Entry.{Entry}
 use Rattle.s2ix_pairs.specs.Change.{change_between}
 use Rattle.s2ix_pairs.specs.Collection.{Collection, LimitedCollection}
@@ -130,3 +131,8 @@ revert_accepted s number none =
     let new = edited (history_of s) (Revert number) in
     accepted_by (nat_le (changes_limit s.bag.limits) (length s.done)) (lacks_change s.done (Revert number)) (goes_below_zero s.done (Revert number) s.bag.held)
     (length (change_of s (Revert number)) == 0) (has_count_above (count_limit s.bag.limits) new) (nat_lt (pairs_limit s.bag.limits) (length new)) none
+
+-- and where none stands, and something would change, it is accepted
+pub revert_taken : (s : State) (number : ℕ) → nat_le (changes_limit s.bag.limits) (length s.done) ≡ false → lacks_change s.done (Revert number) ≡ false → goes_below_zero s.done (Revert number) s.bag.held ≡ false → (length (change_of s (Revert number)) == 0) ≡ false → has_count_above (count_limit s.bag.limits) (edited (history_of s) (Revert number)) ≡ false → nat_lt (pairs_limit s.bag.limits) (length (edited (history_of s) (Revert number))) ≡ false → edit_refusal s (Revert number) ≡ None
+revert_taken s number room there stays differs low few =
+    cond-false _ _ _ room ∙ cond-false _ _ _ there ∙ cond-false _ _ _ stays ∙ cond-false _ _ _ differs ∙ cond-false _ _ _ low ∙ cond-false _ _ _ few

@@ -1,20 +1,18 @@
 -- Which refusals a revert can meet.
-use Rattle.std.proofs.Common.{◌≡◌, ◌≢◌, ℕ, ◌<◌, ◌==◌, nat_lt, nat_le, Bool, true, false, cond, List, length, Option, Some, None, refl, sym, ap, ◌∙◌, arith, ne_eqb}
+use Rattle.std.proofs.Common.{◌≡◌, ◌↔◌, ℕ, ◌<◌, ◌≤◌, ◌==◌, false, List, length, None, ap, ◌∙◌, arith, ne_eqb}
+use Rattle.std.proofs.lemmas.Bool.{leb-false, le-ltb, lt-leb, ltb-false}
 use Rattle.std.proofs.lemmas.List.{length-map}
 use Rattle.s2ix_pairs.specs.declared.pair.Entry.{Entry}
 use Rattle.s2ix_pairs.specs.Change.{change_between, IsChangeList}
-use Rattle.s2ix_pairs.specs.Limits.{pairs_limit, count_limit, changes_limit}
 use Rattle.s2ix_pairs.specs.TakenBack.{entry_back}
 use Rattle.s2ix_pairs.proofs.TakenBack.{above_from_none, between_taken_back}
-use Rattle.s2ix_edit.specs.declared.edit.Edit.{Edit}
 use Rattle.s2ix_edit.specs.declared.edit.Edit.TheVariants.{Revert}
-use Rattle.s2ix_edit.specs.declared.errors.EditError.{EditError}
-use Rattle.s2ix_edit.specs.declared.errors.EditError.TheVariants.{JournalFull, NoSuchLabel, NotHeld, TooFine, NoSuchChange, BelowZero, NoChange, TooManyCopies, TooManyPairs}
-use Rattle.s2ix_edit.specs.Edit.{edited, numbered, without_change}
-use Rattle.s2ix_edit.specs.Refusals.{asks_too_fine, edit_refusal, goes_below_zero, has_count_above, lacks_change, lacks_label, reverts, takes_too_many}
+use Rattle.s2ix_edit.specs.Edit.{numbered, without_change, edited}
+use Rattle.s2ix_edit.specs.Refusals.{edit_refusal, goes_below_zero, lacks_change, has_count_above}
+use Rattle.s2ix_pairs.specs.Limits.{pairs_limit, count_limit, changes_limit}
 use Rattle.s2ix_edit.specs.State.{State, change_of, history_of}
 use Rattle.s2ix_edit.proofs.Edited.{edited_held}
-use Rattle.s2ix_edit.proofs.FirstRefusal.{IsOfRevert, revert_refused}
+use Rattle.s2ix_edit.proofs.FirstRefusal.{IsOfRevert, revert_accepted, revert_refused, revert_taken}
 use Rattle.s2ix_edit.proofs.Revert.{first_above}
 use Rattle.s2ix_store.specs.Store.{IsStore}
 use Rattle.s2ix_store.proofs.Along.{some_done}
@@ -37,3 +35,8 @@ changes_some s number st there stays =
 -- a revert is refused for the journal, its change, counts or pairs alone
 pub reverts_refused : (s : State) (number : ℕ) → IsStore s → IsOfRevert (edit_refusal s (Revert number))
 reverts_refused s number st = revert_refused s number (changes_some s number st)
+
+-- and is accepted exactly where none of these stands
+pub taken_back_where : (s : State) (number : ℕ) → IsStore s → (edit_refusal s (Revert number) ≡ None) ↔ ((length s.done < changes_limit s.bag.limits) × (lacks_change s.done (Revert number) ≡ false) × (goes_below_zero s.done (Revert number) s.bag.held ≡ false) × (has_count_above (count_limit s.bag.limits) (edited (history_of s) (Revert number)) ≡ false) × (length (edited (history_of s) (Revert number)) ≤ pairs_limit s.bag.limits))
+taken_back_where s number st =
+    (λ none. let parts = revert_accepted s number none in (leb-false _ _ parts.0, parts.1, parts.2, parts.3, ltb-false _ _ parts.4), λ parts. revert_taken s number (lt-leb _ _ parts.0) parts.1 parts.2 (changes_some s number st parts.1 parts.2) parts.3 (le-ltb _ _ parts.4))
