@@ -3,6 +3,7 @@ pub mod AddUnion
 mod Beside
 mod DropLabel
 pub mod Edited
+pub mod FirstRefusal
 mod Grow
 mod LabelCells
 mod Normalise

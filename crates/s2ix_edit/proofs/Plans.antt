@@ -1,5 +1,5 @@
 -- Entries that carry an edit out.
-use Rattle.std.proofs.Common.{◌≡◌, ◌≢◌, ℕ, ◌+◌, ◌-◌, ◌≤◌, Bool, false, cond, ltb, not, List, [], ◌∷◌, length, Option, Some, None, Result, IfOk, IfErr, refl, sym, ap, ◌∙◌, subst, ⊎_elim, arith, eq-eqb, ne_eqb, le-ltb}
+use Rattle.std.proofs.Common.{◌≡◌, ◌≢◌, ℕ, ◌+◌, ◌-◌, ◌≤◌, Bool, false, cond, ltb, not, List, [], ◌∷◌, Option, Some, None, Result, IfOk, IfErr, refl, sym, ap, ◌∙◌, subst, ⊎_elim, arith, eq-eqb, ne_eqb, le-ltb}
 use Rattle.std.proofs.Common.{◌==◌}
 use Rattle.std.proofs.lemmas.Bool.{cond-true, cond-false, cases_eq}
 use Rattle.std.proofs.lemmas.Result.{IfErr-weaker, IfOk-weaker}
@@ -10,14 +10,13 @@ use Rattle.s2ix_lists.specs.Apply.{first_mismatch}
 use Rattle.s2ix_pairs.specs.Change.{change_between, changed, IsChangeList}
 use Rattle.s2ix_pairs.specs.Collection.{Collection, LimitedCollection, IsBag, IsCollection, count_in, set_count}
 use Rattle.s2ix_edit.specs.declared.edit.Edit.{Edit}
-use Rattle.s2ix_edit.specs.declared.edit.Edit.TheVariants.{Add, AddUnion, Remove, DropLabel, Relabel, Grow, Normalise, Revert}
+use Rattle.s2ix_edit.specs.declared.edit.Edit.TheVariants.{Add, Remove}
 use Rattle.s2ix_edit.specs.declared.errors.EditError.{EditError}
-use Rattle.s2ix_edit.specs.declared.errors.EditError.TheVariants.{NoSuchLabel, NotHeld, TooFine, NoSuchChange, BelowZero, NoChange, TooManyCopies, TooManyPairs}
 use Rattle.s2ix_edit.specs.declared.errors.PlanError.{PlanError}
 use Rattle.s2ix_edit.specs.Edit.{edited_alone, edited_by}
 use Rattle.s2ix_edit.specs.Plan.{IsPlanRefusal, Plans, one_entry}
-use Rattle.s2ix_edit.specs.Refusals.{asks_too_fine, edit_error, goes_below_zero, has_count_above, lacks_change, lacks_label, reverts, takes_too_many, plan_refusal, IsEditRefusal}
-use Rattle.s2ix_pairs.specs.Limits.{pairs_limit, count_limit}
+use Rattle.s2ix_edit.specs.Refusals.{asks_too_fine, edit_error, goes_below_zero, lacks_change, lacks_label, reverts, takes_too_many, plan_refusal, IsEditRefusal}
+use Rattle.s2ix_edit.proofs.FirstRefusal.{lacks_none, reads_none, same_refusal, stays_above}
 use Rattle.s2ix_lists.proofs.Applied.{before_from_counts, change_between-changed}
 use Rattle.s2ix_pairs.proofs.Collections.{set_count_in}
 use Rattle.s2ix_pairs.proofs.Differences.{between_is_change, changed_between, counts_between_at}
@@ -45,53 +44,6 @@ makes_between bag new es is new_is es_is =
 pub between_changed : (bag : LimitedCollection) (es : List Entry) → IsCollection bag.held → IsChangeList es → first_mismatch bag es ≡ None → change_between bag.held (changed bag.held es) ≡ es
 between_changed bag es c rises matches =
     change_between-changed bag.held es c rises (before_from_no_mismatch bag.held es matches)
-
--- ---- edits that take no change back
-
-pub reads_none : (edit : Edit) (changes : List (List Entry)) (hs : Collection) → reverts edit ≡ false → edited_alone edit hs ≡ edited_by changes edit hs
-reads_none (Add pair copies) changes hs reads = refl
-reads_none (AddUnion cells label) changes hs reads = refl
-reads_none (Remove pair copies) changes hs reads = refl
-reads_none (DropLabel label) changes hs reads = refl
-reads_none (Relabel source target) changes hs reads = refl
-reads_none (Grow label level) changes hs reads = refl
-reads_none (Normalise label) changes hs reads = refl
-reads_none (Revert number) changes hs reads = cc
-
-pub lacks_none : (edit : Edit) (changes : List (List Entry)) → reverts edit ≡ false → lacks_change changes edit ≡ false
-lacks_none (Add pair copies) changes reads = refl
-lacks_none (AddUnion cells label) changes reads = refl
-lacks_none (Remove pair copies) changes reads = refl
-lacks_none (DropLabel label) changes reads = refl
-lacks_none (Relabel source target) changes reads = refl
-lacks_none (Grow label level) changes reads = refl
-lacks_none (Normalise label) changes reads = refl
-lacks_none (Revert number) changes reads = cc
-
-pub stays_above : (edit : Edit) (changes : List (List Entry)) (hs : Collection) → reverts edit ≡ false → goes_below_zero changes edit hs ≡ false
-stays_above (Add pair copies) changes hs reads = refl
-stays_above (AddUnion cells label) changes hs reads = refl
-stays_above (Remove pair copies) changes hs reads = refl
-stays_above (DropLabel label) changes hs reads = refl
-stays_above (Relabel source target) changes hs reads = refl
-stays_above (Grow label level) changes hs reads = refl
-stays_above (Normalise label) changes hs reads = refl
-stays_above (Revert number) changes hs reads = cc
-
--- the refusals of an edit that makes this collection, by whether it lacks its change and goes below 0
-refusal_by : LimitedCollection → Edit → Bool → Bool → Collection → Option EditError
-refusal_by bag edit lacks below new =
-    cond (lacks_label edit bag.held) (Some NoSuchLabel) (cond (takes_too_many edit bag.held) (Some NotHeld)
-    (cond (asks_too_fine edit bag.held) (Some TooFine) (cond lacks (Some NoSuchChange) (cond below (Some BelowZero)
-    (cond (length (change_between bag.held new) == 0) (Some NoChange) (cond (has_count_above (count_limit bag.limits) new) (Some TooManyCopies)
-    (cond (ltb (pairs_limit bag.limits) (length new)) (Some TooManyPairs) None)))))))
-
-same_refusal : (bag : LimitedCollection) (changes : List (List Entry)) (edit : Edit) → reverts edit ≡ false → plan_refusal bag [] edit ≡ plan_refusal bag changes edit
-unfolding refusal_by
-same_refusal bag changes edit reads =
-    ap (λ lacks. refusal_by bag edit lacks (goes_below_zero [] edit bag.held) (edited_alone edit bag.held)) (lacks_none edit [] reads ∙ sym (lacks_none edit changes reads))
-    ∙ ap (λ below. refusal_by bag edit (lacks_change changes edit) below (edited_alone edit bag.held)) (stays_above edit [] bag.held reads ∙ sym (stays_above edit changes bag.held reads))
-    ∙ ap (λ new. refusal_by bag edit (lacks_change changes edit) (goes_below_zero changes edit bag.held) new) (reads_none edit changes bag.held reads)
 
 -- ---- the entries of one pair
 

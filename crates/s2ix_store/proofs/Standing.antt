@@ -1,5 +1,5 @@
 -- Counts as sums of what stands.
-use Rattle.std.proofs.Common.{◌≡◌, ◌≢◌, ℕ, zero, suc, ◌+◌, ◌<◌, Bool, true, false, cond, List, [], ◌∷◌, ◌++◌, All, get_or, length, reverse, take, Option, Some, None, pos, ◌+ℤ◌, refl, sym, ap, ◌∙◌, subst, ⊎_elim, arith}
+use Rattle.std.proofs.Common.{◌≡◌, ◌≢◌, ℕ, zero, suc, ◌+◌, ◌<◌, true, false, List, [], ◌∷◌, ◌++◌, All, get_or, length, reverse, take, Option, Some, None, pos, ◌+ℤ◌, refl, sym, ap, ◌∙◌, subst, ⊎_elim, arith}
 use Rattle.std.proofs.lemmas.Bool.{cases_eq}
 use Rattle.std.proofs.lemmas.Int.{ints}
 use Rattle.std.proofs.lemmas.List.Elements.{All-nil, All-cons, All-get_or}
@@ -17,12 +17,11 @@ use Rattle.s2ix_lists.proofs.Refusals.{made_is_bag, taken_from_none}
 use Rattle.s2ix_edit.specs.State.{State, earlier, history_of, later}
 use Rattle.s2ix_edit.specs.declared.edit.Edit.{Edit}
 use Rattle.s2ix_edit.specs.declared.edit.Edit.TheVariants.{Revert}
-use Rattle.s2ix_edit.specs.declared.errors.EditError.{EditError}
-use Rattle.s2ix_edit.specs.declared.errors.EditError.TheVariants.{JournalFull, NoSuchChange, BelowZero}
 use Rattle.s2ix_edit.specs.Edit.{edited, numbered}
 use Rattle.s2ix_edit.specs.History.{History}
-use Rattle.s2ix_edit.specs.Refusals.{edit_refusal, goes_below_zero, lacks_change}
+use Rattle.s2ix_edit.specs.Refusals.{edit_refusal}
 use Rattle.s2ix_edit.proofs.Edited.{edited_held}
+use Rattle.s2ix_edit.proofs.FirstRefusal.{revert_accepted}
 use Rattle.s2ix_edit.proofs.Revert.{subtracts}
 use Rattle.s2ix_store.specs.Standing.{first_collection, gain_along, without_numbered}
 use Rattle.s2ix_store.specs.Steps.{after_edit, after_redo, after_undo, with_held}
@@ -100,16 +99,6 @@ numbered_holds P zero ess es all found = cc
 numbered_holds P (suc place) ess es all found =
     subst P (get_or_from_slice_get ess place es es found) (All-get_or P ess place es (slice_get_within ess place es found) all)
 
-accepted_by : (full lacks below : Bool) (rest : Option EditError) → cond full (Some JournalFull) (cond lacks (Some NoSuchChange) (cond below (Some BelowZero) rest)) ≡ None → (lacks ≡ false) × (below ≡ false)
-accepted_by true lacks below rest none = cc
-accepted_by false true below rest none = cc
-accepted_by false false true rest none = cc
-accepted_by false false false rest none = (refl, refl)
-
--- an accepted revert has its change, and goes not below 0
-accepted_revert : (s : State) (number : ℕ) → edit_refusal s (Revert number) ≡ None → (lacks_change s.done (Revert number) ≡ false) × (goes_below_zero s.done (Revert number) s.bag.held ≡ false)
-accepted_revert s number none = accepted_by _ _ _ _ none
-
 pub found_of : (found : Option (List Entry)) → (elim found [ Some es ↦ false | None ↦ true ]) ≡ false → (es : List Entry) × (found ≡ Some es)
 found_of (Some es) is = (es, refl)
 found_of None is = cc
@@ -117,10 +106,10 @@ found_of None is = cc
 -- each count is then that of the first collection and the differences of the other changes that stood
 pub change_left_out : (s : State) (number : ℕ) (pair : Pair) → IsStore s → edit_refusal s (Revert number) ≡ None → pos (count_in (edited (history_of s) (Revert number)) pair) ≡ pos (count_in (first_collection s) pair) +ℤ gain_along (without_numbered number s.done) pair
 change_left_out s number pair st none =
-    let parts = accepted_revert s number none in
-    let found = found_of (numbered number s.done) parts.0 in
+    let parts = revert_accepted s number none in
+    let found = found_of (numbered number s.done) parts.1 in
     let rises = numbered_holds IsChangeList number s.done found.0 (changes_rise s st) found.1 in
-    let less = subtracts s.bag.held s.done number found.0 pair st.bag.rises rises found.1 parts.1 in
+    let less = subtracts s.bag.held s.done number found.0 pair st.bag.rises rises found.1 parts.2 in
     ap (λ hs. pos (count_in hs pair)) (edited_held s (Revert number) (stand s st))
     ∙ omega (arith, ints, less, counts_are_sums s pair st, left_out number s.done found.0 pair found.1)
 

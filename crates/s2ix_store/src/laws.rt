@@ -1,16 +1,17 @@
 //! Laws: functions that do nothing, and whose contracts are facts on the definitions.
 
-ghost use Rattle.std.specs.Prelude.{◌≡◌, ◌≢◌, ℕ, ◌+◌, pos, ◌+ℤ◌, Some, None, false, ◌<◌, [], ◌∷◌, ◌++◌, length, reverse, slice_get, take, All, List};
+ghost use Rattle.std.specs.Prelude.{◌≡◌, ◌≢◌, ◌↔◌, ◌≤◌, ℕ, ◌+◌, pos, ◌+ℤ◌, Some, None, false, ◌<◌, [], ◌∷◌, ◌++◌, length, reverse, slice_get, take, All, List};
 ghost use Rattle.s2ix_pairs.specs.declared.pair.Pair.{Pair};
 ghost use Rattle.s2ix_pairs.specs.Change.{IsChangeList, counts_at, difference_of};
 ghost use Rattle.s2ix_pairs.specs.Collection.{LimitedCollection, IsBag, count_in};
+ghost use Rattle.s2ix_pairs.specs.Limits.{changes_limit, count_limit, pairs_limit};
 ghost use Rattle.s2ix_pairs.specs.Pair.{rank_of};
 ghost use Rattle.s2ix_edit.specs.declared.edit.Edit.{Edit};
 ghost use Rattle.s2ix_edit.specs.declared.edit.Edit.TheVariants.{Revert};
 ghost use Rattle.s2ix_edit.specs.Edit.{edited, edited_by};
 ghost use Rattle.s2ix_edit.specs.History.{changes_along, cursor_alone, one_back, one_on, with_next};
 ghost use Rattle.s2ix_edit.specs.State.{State, change_of, history_of, starting_at};
-ghost use Rattle.s2ix_edit.specs.Refusals.{edit_refusal, reverts};
+ghost use Rattle.s2ix_edit.specs.Refusals.{edit_refusal, goes_below_zero, has_count_above, lacks_change, reverts};
 ghost use Rattle.s2ix_edit.specs.declared.errors.EditError.TheVariants.{NoSuchLabel, NotHeld, TooFine, NoSuchChange, BelowZero, NoChange};
 ghost use Rattle.s2ix_store.specs.Standing.{first_collection, gain_along, without_numbered};
 ghost use Rattle.s2ix_store.specs.Steps.{after_edit, after_forget, after_redo, after_undo, with_held};
@@ -137,6 +138,20 @@ pub fn revert_leaves_a_change_out()
         → edit_refusal s (Revert number) ≡ None
         → pos (count_in (edited (history_of s) (Revert number)) pair)
         ≡ pos (count_in (first_collection s) pair) +ℤ gain_along (without_numbered number s.done) pair }
+{}
+
+/// Memory aside, a store takes a change back exactly where its journal has room, a change with the number stands, no count would
+/// be below 0, and what is left is within the limits.
+pub fn standing_changes_can_be_taken_back()
+    ensures { (s : State) (number : ℕ)
+        → IsStore s
+        → let left = edited (history_of s) (Revert number) in
+        (edit_refusal s (Revert number) ≡ None)
+        ↔ ((length s.done < changes_limit s.bag.limits)
+        × (lacks_change s.done (Revert number) ≡ false)
+        × (goes_below_zero s.done (Revert number) s.bag.held ≡ false)
+        × (has_count_above (count_limit s.bag.limits) left ≡ false)
+        × (length left ≤ pairs_limit s.bag.limits)) }
 {}
 
 /// A store refuses a `Revert` for no label, for no copies that aren't held, for no level, and never because nothing would

@@ -3,7 +3,7 @@ use Rattle.s2ix_edit.specs.Edit.{edited_alone}
 use Rattle.s2ix_edit.specs.History.{at_cursor, standing}
 use Rattle.s2ix_edit.specs.State.{history_of}
 use Rattle.s2ix_edit.proofs.Edited.{held_at_cursor}
-use Rattle.s2ix_edit.proofs.Plans.{reads_none}
+use Rattle.s2ix_edit.proofs.FirstRefusal.{reads_none}
 use Rattle.s2ix_edit.proofs.laws.edits_read_the_collection.Goals as goal
 
 pub returns : goal.returns

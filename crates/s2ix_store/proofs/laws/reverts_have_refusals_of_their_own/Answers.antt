@@ -1,8 +1,9 @@
-use Rattle.s2ix_store.proofs.RevertRefusals.{others_refused, revert_refused}
+use Rattle.s2ix_edit.proofs.FirstRefusal.{others_refused}
+use Rattle.s2ix_store.proofs.RevertRefusals.{reverts_refused}
 use Rattle.s2ix_store.proofs.laws.reverts_have_refusals_of_their_own.Goals as goal
 
 pub returns : goal.returns
 returns c = record {
-  revert = revert_refused;
+  revert = reverts_refused;
   others = others_refused;
 }
