@@ -54,8 +54,10 @@ const REPLAYED: [Row; 13] = [
     (EMPTY, EMPTY, b"no journal BadHeader 1\n", false),
 ];
 
-const REWOUND: [Row; 6] = [
+const REWOUND: [Row; 8] = [
     (MERGED_FIRST, JOURNAL_FIRST, EMPTY, true),
+    (MERGED_FIRST, JOURNAL, EMPTY, true),
+    (MERGED, JOURNAL_FIRST, EMPTY, true),
     (GREAT, GREAT_JOURNAL, EMPTY, true),
     (MERGED, JOURNAL, EMPTY, true),
     (EMPTY, JOURNAL, b"no Mismatch 3 1\n", false),
