@@ -6,6 +6,8 @@ mod dump_round_trip_tests;
 #[cfg(test)]
 mod dump_tests;
 #[cfg(test)]
+mod error_tests;
+#[cfg(test)]
 mod front_tests;
 #[cfg(test)]
 mod journal_round_trip_tests;
