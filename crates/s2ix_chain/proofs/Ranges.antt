@@ -1,5 +1,5 @@
 -- Ranges read by their starts.
-use Rattle.std.proofs.Common.{◌≡◌, ℕ, zero, suc, ◌+◌, ◌<◌, List, [], ◌∷◌, ◌++◌, length, get_or, refl, sym, ◌∙◌, ap, arith}
+use Rattle.std.proofs.Common.{◌≡◌, ℕ, zero, suc, ◌+◌, ◌<◌, List, [], ◌∷◌, ◌++◌, length, map, get_or, refl, sym, ◌∙◌, ap, arith}
 use Rattle.std.proofs.lemmas.List.{length-map, get_or-map}
 use Rattle.s2ix_pairs.specs.Collection.{Collection}
 use Rattle.s2ix_ranges.specs.Contents.{contents_at}
@@ -24,6 +24,10 @@ pub range_start : (held : Collection) (starts : List ℕ) (to k d : ℕ) → k <
 range_start held [] to k d lt = absurd (omega arith)
 range_start held (s ∷ ss) to zero d lt = refl
 range_start held (s ∷ ss) to (suc k) d lt = range_start held ss to k d (omega arith)
+
+pub all_starts : (held : Collection) (starts : List ℕ) (to : ℕ) → map (λ (r : Range). r.start) (ranges_from held starts to) ≡ starts
+all_starts held [] to = refl
+all_starts held (s ∷ ss) to = ap (λ more. s ∷ more) (all_starts held ss to)
 
 pub range_contents : (held : Collection) (starts : List ℕ) (to k d : ℕ) → k < length starts → (range_at (ranges_from held starts to) k).contents ≡ contents_at (get_or starts k d) held
 range_contents held [] to k d lt = absurd (omega arith)

@@ -1,7 +1,7 @@
-ghost use Rattle.std.specs.Prelude.{◌≡◌, ◌<◌, ◌≤◌, ◌∷◌, IfOk, length, drop, take};
+ghost use Rattle.std.specs.Prelude.{◌≡◌, ◌<◌, ◌≤◌, ◌∷◌, IfOk, length, drop, take, map};
 ghost use Rattle.s2id_core.specs.CellId.{raw_of};
 ghost use Rattle.s2ix_pairs.specs.Collection.{IsCollection};
-ghost use Rattle.s2ix_ranges.specs.Table.{range_at, IsFound};
+ghost use Rattle.s2ix_ranges.specs.Table.{Range, range_at, IsFound};
 ghost use Rattle.s2ix_walk.specs.Places.{IsPlace, LeadsTo};
 ghost use Rattle.s2ix_chain.specs.Chains.{chain_of};
 ghost use Rattle.s2ix_chain.specs.SpanTable.{IsInSpan, IsSpanTable};
@@ -98,6 +98,14 @@ impl SpanTable {
         ensures { result ≡ (range_at self.now.ranges k).start }
     {
         self.starts[k]
+    }
+
+    /// The numbers of the first leaves of all ranges, in order. O(1).
+    #[inline]
+    pub fn starts(&self) -> &[u64]
+        ensures { result.now ≡ map (λ (r : Range). r.start) self.now.ranges }
+    {
+        self.starts.as_slice()
     }
 
     /// The leaves of a range. O(1).

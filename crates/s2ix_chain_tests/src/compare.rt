@@ -1,6 +1,6 @@
 //! Comparisons of the ranges of two tables of one bag.
 use s2id_core::CellId;
-use s2ix_table::{ChainIter, RangeTable, chain_at, contents};
+use s2ix_table::{ChainIter, RangeTable, Stretch, Window, chain_at, contents};
 
 // Whether two chains give the same pairs.
 fn give_same<A: RangeTable, B: RangeTable>(
@@ -48,32 +48,78 @@ pub(crate) fn have_same_ranges<A: RangeTable, B: RangeTable>(one: &A, other: &B)
     one.range_count() == other.range_count()
 }
 
-// Whether a table answers the same of a range for a note, and for the note that is left, as without one.
+// Whether a range is one of a table, and the table answers the same of it for a note as without one.
 fn answers_for_note<T: RangeTable>(table: &T, k: usize, note: usize) -> bool
 where
     T::Place: PartialEq,
 {
-    if k >= table.range_count() {
-        return false;
-    }
-    let (row, first) = (table.range(k), table.first(k));
-    let mut near = note;
-    table.range_near(k, &mut near) == row
-        && table.first_near(k, note) == first
-        && table.first_near(k, near) == first
-        && table.range_near(k, &mut near) == row
+    k < table.range_count() && table.first_near(k, note) == table.first(k)
 }
 
-/// Whether a table answers the same of each range for any note as without one.
+// Whether a table answers the same of the ranges of a stretch as that tells.
+fn answers_for_stretch<T: RangeTable>(table: &T, stretch: Stretch<'_>) -> bool
+where
+    T::Place: PartialEq,
+{
+    for own in 0..stretch.count {
+        let k = stretch.first.wrapping_add(own);
+        if k >= table.range_count() {
+            return false;
+        }
+        let row = table.range(k);
+        if !answers_for_note(table, k, stretch.note)
+            || stretch.starts.get(own) != Some(&row.start)
+            || stretch.starts.get(own.wrapping_add(1)) != Some(&row.limit)
+        {
+            return false;
+        }
+    }
+    true
+}
+
+/// Whether a table answers the same of each range for any note as without one, and for the stretch that it leaves.
 pub(crate) fn answers_for_notes<T: RangeTable>(table: &T) -> bool
 where
     T::Place: PartialEq,
 {
     for k in 0..table.range_count() {
+        let (row, near) = table.range_near(k);
+        if row != table.range(k) || !answers_for_stretch(table, near) {
+            return false;
+        }
         for note in [0, 1, 2, 3, 4, 5, 6, 255, usize::MAX] {
             if !answers_for_note(table, k, note) {
                 return false;
             }
+        }
+    }
+    true
+}
+
+// Whether the range that has a leaf is in a window.
+fn has_leaf<T: RangeTable>(table: &T, window: Window, number: u64) -> bool {
+    match CellId::from_raw(number) {
+        Some(leaf) if leaf.level() == 30 => {
+            let k = table.find(leaf);
+            window.first <= k && k.wrapping_sub(window.first) < window.size
+        }
+        _ => false,
+    }
+}
+
+/// Whether a table has the first and the last leaf of each face in the face's window, and answers the same of the ranges of its stretch.
+pub(crate) fn answers_for_faces<T: RangeTable>(table: &T) -> bool
+where
+    T::Place: PartialEq,
+{
+    for face in 0..6u8 {
+        let begin = u64::from(face) << 61;
+        let window = table.window(face);
+        if !has_leaf(table, window, begin | 1)
+            || !has_leaf(table, window, begin | 0x1fffffffffffffff)
+            || !answers_for_stretch(table, table.stretch(face))
+        {
+            return false;
         }
     }
     true

@@ -2,7 +2,7 @@
 ghost use Rattle.std.specs.Prelude.{◌≡◌, IfSome};
 ghost use Rattle.s2ix_pairs.specs.Change.{changed};
 
-use crate::compare::{answers_for_notes, have_same_ranges};
+use crate::compare::{answers_for_faces, answers_for_notes, have_same_ranges};
 use crate::targets::{answer_all_the_same, target_of};
 use s2id_samples::Random;
 use s2ix_bag::{Bag, Change};
@@ -20,8 +20,11 @@ fn is_copied(alloc: Global, random: &mut Random, table: &FacedTable, bag: &Bag) 
     has_few_ranges(table);
     let copies = CopiedTable::build(alloc, bag).ok()?;
     let are_noted = answers_for_notes(table) && answers_for_notes(&copies);
+    let are_on_faces = answers_for_faces(table) && answers_for_faces(&copies);
     let are_same = have_same_ranges(table, &copies);
-    Some(are_noted && are_same && answer_all_the_same(alloc, random, table, &copies))
+    Some(
+        are_noted && are_on_faces && are_same && answer_all_the_same(alloc, random, table, &copies),
+    )
 }
 
 // Whether the table that is built of a bag is the one of copied lists.

@@ -14,7 +14,8 @@ use Rattle.s2ix_chain.specs.SpanTable.{SpanRanges}
 use Rattle.s2ix_joined.specs.Joined.{held_in}
 use Rattle.s2ix_reading.specs.Faces.{faces, held_on}
 use Rattle.s2ix_joined.specs.Faces.{face_begin, AreOnFace}
-use Rattle.s2ix_joined.proofs.Faces.{raw_on_face, six_faces}
+use Rattle.s2ix_walk.proofs.OnFaces.{six_faces}
+use Rattle.s2ix_joined.proofs.Faces.{raw_on_face}
 use Rattle.s2ix_faced.specs.Parts.{IsOfFace}
 
 faces_from : ℕ → ℕ → List ℕ

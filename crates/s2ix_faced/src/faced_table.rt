@@ -15,7 +15,7 @@ use s2ix_bag::{Bag, Change, Held};
 use s2ix_joined::laws::keeps_a_pair_once;
 use s2ix_joined::{FacePlace, JoinedTables};
 use s2ix_reading::{BagReader, PairReader};
-use s2ix_table::{RangeRow, RangeTable};
+use s2ix_table::{RangeRow, RangeTable, Stretch, Window};
 use std::alloc::Global;
 
 /// A range table that keeps one table with shared chains for each face, and shares these with the tables that are made of it by
@@ -63,8 +63,18 @@ impl RangeTable for FacedTable {
     }
 
     #[inline]
-    fn range_near(&self, k: usize, near: &mut usize) -> RangeRow {
-        self.tables.range_near(k, near)
+    fn range_near(&self, k: usize) -> (RangeRow, Stretch<'_>) {
+        self.tables.range_near(k)
+    }
+
+    #[inline]
+    fn window(&self, face: u8) -> Window {
+        self.tables.window(face)
+    }
+
+    #[inline]
+    fn stretch(&self, face: u8) -> Stretch<'_> {
+        self.tables.stretch(face)
     }
 
     #[inline]
@@ -73,8 +83,8 @@ impl RangeTable for FacedTable {
     }
 
     #[inline]
-    fn first_near(&self, k: usize, near: usize) -> Option<FacePlace> {
-        self.tables.first_near(k, near)
+    fn first_near(&self, k: usize, note: usize) -> Option<FacePlace> {
+        self.tables.first_near(k, note)
     }
 
     #[inline]

@@ -11,22 +11,9 @@ use Rattle.s2id_core.proofs.Nested.{span}
 use Rattle.s2id_core.proofs.Numbers.{path_of_cell, path_at-number}
 use Rattle.s2id_core.proofs.Spans.{leaf_of_first, leaf_of_last}
 use Rattle.s2ix_pairs.specs.Collection.{Collection}
+use Rattle.s2ix_walk.proofs.OnFaces.{face_bounds, begins_on_face}
 use Rattle.s2ix_chain.specs.SpanTable.{IsInSpan}
 use Rattle.s2ix_joined.specs.Faces.{face_begin, AreOnFace}
-
--- what a number's face says of it
-pub face_bounds : (n face : ℕ) → face ≡ n / 2305843009213693952 → (face * 2305843009213693952 ≤ n) × (n < (face + 1) * 2305843009213693952)
-face_bounds n face is =
-    let low : n / 2305843009213693952 * 2305843009213693952 ≤ n = div-mul-le_self n 2305843009213693952 in
-    let split : (n / 2305843009213693952 < face + 1) ↔ (n < (face + 1) * 2305843009213693952) = div-lt_iff_lt-mul (omega arith) in
-    (omega (arith, low, ap (λ f. f * 2305843009213693952) is), split.0 (omega (arith, is)))
-
-face_of_first : (n : ℕ) → IsCellNumber n → (path_at n).face ≡ first_at n / 2 ^ 61
-unfolding first_at first_leaf
-face_of_first n cell =
-    let p = path_at n in
-    let leaf = leaf_of_first p (path_of_cell n cell) in
-    sym (face_by_bits (number_of (first_leaf p)) ∙ ap (λ (q : Path). q.face) (path_at-number (first_leaf p) leaf.deep.path))
 
 face_of_last : (n : ℕ) → IsCellNumber n → (path_at n).face ≡ number_of (last_leaf (path_at n)) / 2 ^ 61
 unfolding last_leaf
@@ -43,16 +30,11 @@ end_is n = refl
 pub cell_on_face : (c : CellId) → (face_begin (face_of c) ≤ first_of c) × (end_of c ≤ face_begin (face_of c + 1))
 cell_on_face c =
     let s = span (raw_of c) c.valid in
-    let odd = s.odd in
     let odd_end = s.odd_end in
-    let first = face_bounds (first_of c) (face_of c) (face_of_first (raw_of c) c.valid) in
     let last = face_bounds (number_of (last_leaf (path_at (raw_of c)))) (face_of c) (face_of_last (raw_of c) c.valid) in
     let is = end_is (raw_of c) in
-    (by_first (first_of c) (face_of c) odd first.0, by_last (end_of c) (number_of (last_leaf (path_at (raw_of c)))) (face_of c) is odd_end last.1)
+    ((begins_on_face c).0, by_last (end_of c) (number_of (last_leaf (path_at (raw_of c)))) (face_of c) is odd_end last.1)
   where
-    by_first : (n face : ℕ) → n % 2 ≡ 1 → face * 2305843009213693952 ≤ n → face * 2305843009213693952 + 1 ≤ n
-    by_first n face odd le = omega arith
-
     by_last : (e n face : ℕ) → e ≡ n + 2 → e % 2 ≡ 1 → n < (face + 1) * 2305843009213693952 → e ≤ (face + 1) * 2305843009213693952 + 1
     by_last e n face is odd lt = omega arith
 
@@ -64,10 +46,6 @@ raw_on_face c =
     let to = s.to in
     let on = cell_on_face c in
     (omega (arith, on.0), omega (arith, on.1))
-
--- there are six faces
-pub six_faces : (c : CellId) → face_of c < 6
-six_faces c = (path_of_cell (raw_of c) c.valid).face_below
 
 -- pairs on a face lie in its span
 pub face_in_span : (face : ℕ) (held : Collection) → AreOnFace face held → IsInSpan held (face_begin face) (face_begin (face + 1))

@@ -7,6 +7,7 @@ pub mod Seats
 pub mod Faces
 pub mod SeatBy
 pub mod Reading
+pub mod Stretches
 pub mod Counts
 pub mod OnFaces
 pub mod Once

@@ -18,7 +18,8 @@ use Rattle.s2ix_joined.specs.Faces.{face_begin, IsOverFace, AreOverFaces}
 use Rattle.s2ix_joined.specs.Joined.{joined_ranges, AreNeighbours}
 use Rattle.s2ix_joined.specs.Seats.{seat_after, seats_of, places_of, AreInOrder}
 use Rattle.s2ix_joined.specs.Whole.{AreJoined}
-use Rattle.s2ix_joined.proofs.Faces.{six_faces, raw_on_face}
+use Rattle.s2ix_walk.proofs.OnFaces.{six_faces}
+use Rattle.s2ix_joined.proofs.Faces.{raw_on_face}
 use Rattle.s2ix_joined.proofs.Seating.{IsPart}
 use Rattle.s2ix_joined.proofs.Seats.{high_of, seats_fit, length_seats}
 
@@ -265,6 +266,28 @@ place_on tables place d some =
       | inl lt ↦ record { face = lt; chain = ap (λ t. chain_in t place.node) (slice_get-get_or tables place.face d lt) }
       | inr past ↦ absurd (let e = ap (λ t. length (chain_in t place.node)) (slice_get_past tables place.face past) in omega arith)
     ]
+
+-- the same, of the table that is read
+pub record IsReadOn (tables now : List SpanRanges) (place : FacePlace) (d span : SpanRanges) : Type 0 where
+  pub face : place.face < 6
+  pub listed : place.face < length tables
+  pub seen : place.face < length now
+  pub same : span ≡ get_or now place.face d
+  pub chain : chain_at now place ≡ chain_of span.held place.node
+
+pub read_on : (tables now : List SpanRanges) (place : FacePlace) (d span : SpanRanges) → length tables ≡ 6 → tables ≡ now → span ≡ get_or tables place.face d → 0 < length (chain_at now place) → IsReadOn tables now place d span
+read_on tables now place d span six view is some =
+    let on = place_on now place d some in
+    let len = ap length view in
+    let face = on.face in
+    let same = is ∙ ap (λ ts. get_or ts place.face d) view in
+    record {
+      face = omega arith;
+      listed = omega arith;
+      seen = face;
+      same = same;
+      chain = on.chain ∙ ap (λ (s : SpanRanges). chain_of s.held place.node) (sym same);
+    }
 
 -- ---- the table of a leaf's face
 

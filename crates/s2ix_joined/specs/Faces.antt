@@ -1,13 +1,10 @@
 -- The faces' spans of leaves.
 use Rattle.std.specs.Prelude.{◌≡◌, ℕ, ◌+◌, ◌*◌, List, [], ◌∷◌, Contains}
 use Rattle.s2id_core.specs.CellId.{face_of}
+pub use Rattle.s2ix_walk.specs.Faces.{face_begin}
 use Rattle.s2ix_pairs.specs.Collection.{Collection}
 use Rattle.s2ix_pairs.specs.declared.pair.Held.{Held}
 use Rattle.s2ix_chain.specs.SpanTable.{SpanRanges}
-
--- the number of a face's first leaf; behind the last face that of the end of the leaves
-abbrev pub face_begin : ℕ → ℕ
-face_begin face = face * 2305843009213693952 + 1
 
 -- all pairs lie on a face
 abbrev pub AreOnFace : ℕ → Collection → Type 0

@@ -3,7 +3,9 @@ ghost use Rattle.s2id_core.specs.CellId.{raw_of, level_of};
 ghost use Rattle.s2ix_pairs.specs.Collection.{IsCollection};
 ghost use Rattle.s2ix_reading.specs.Faces.{held_on};
 ghost use Rattle.s2ix_ranges.specs.Table.{range_at, IsRangeTable, IsFound};
+ghost use Rattle.s2ix_walk.specs.Faces.{HaveFace};
 ghost use Rattle.s2ix_walk.specs.Places.{IsPlace, LeadsTo};
+ghost use Rattle.s2ix_table.specs.Stretches.{IsStretch};
 ghost use Rattle.s2ix_joined.specs.Faces.{IsOverFace, AreOverFaces};
 ghost use Rattle.s2ix_chain.specs.Starts.{IsLastStart};
 ghost use Rattle.s2ix_joined.specs.Joined.{held_in, joined_ranges};
@@ -16,7 +18,7 @@ use crate::face_table::FaceTable;
 use crate::seat::{FACES, Seat, seat_by};
 use s2id_core::CellId;
 use s2ix_bag::Held;
-use s2ix_table::RangeRow;
+use s2ix_table::{RangeRow, Stretch, Window};
 use std::marker::Model;
 
 /// The tables of the six faces, read as one: empty ranges that meet at the end of a face are one range. Contracts see the six tables; the
@@ -108,19 +110,40 @@ impl JoinedTables {
         self.range_on(self.face_with(k), k)
     }
 
-    /// The leaves of a range, sooner where `near` is the number of the face that has it. It leaves that number there. O(1).
-    #[inline]
-    pub fn range_near(&self, k: usize, near: &mut usize) -> RangeRow
+    /// The leaves of a range, and the stretch of the face that has it. O(1). What reads through stretches comes here seldom.
+    #[cold]
+    #[inline(never)]
+    pub fn range_near(&self, k: usize) -> (RangeRow, Stretch<'_>)
         requires { k < length (joined_ranges self.now) }
-        ensures start { result.start ≡ (range_at (joined_ranges self.now) k).start }
-        ensures limit { result.limit ≡ (range_at (joined_ranges self.now) k).limit }
+        ensures start { result.0.start ≡ (range_at (joined_ranges self.now) k).start }
+        ensures limit { result.0.limit ≡ (range_at (joined_ranges self.now) k).limit }
+        ensures near { IsStretch (joined_ranges self.now) result.1.first result.1.count result.1.starts.now }
     {
-        if let Some(own) = self.own_near(k, *near) {
-            return self.range_inside(*near, own, k);
-        }
         let face = self.face_with(k);
-        *near = face;
-        self.range_on(face, k)
+        (self.range_on(face, k), self.stretch_on(face))
+    }
+
+    /// The ranges among which all of those over a face are. O(1).
+    #[inline]
+    pub fn window(&self, face: u8) -> Window
+        requires { face < 6 }
+        ensures { HaveFace (joined_ranges self.now) face result.first result.size }
+    {
+        let face = usize::from(face);
+        Window {
+            first: self.seats[face].place,
+            size: self.tables[face].span().range_count(),
+        }
+    }
+
+    /// The ranges over a face but for the first one, which may begin before the face, and the last one, which may end behind it. Its note is
+    /// the face. O(1).
+    #[inline]
+    pub fn stretch(&self, face: u8) -> Stretch<'_>
+        requires { face < 6 }
+        ensures { IsStretch (joined_ranges self.now) result.first result.count result.starts.now }
+    {
+        self.stretch_on(usize::from(face))
     }
 
     /// The place of a range's innermost pair, or `None` where nothing lies over it. O(1).
@@ -132,13 +155,13 @@ impl JoinedTables {
         self.first_on(self.face_with(k), k)
     }
 
-    /// The same, sooner where `near` is the number of the face that has the range. O(1).
+    /// The same, sooner where `note` is the number of the face that has the range. O(1).
     #[inline]
-    pub fn first_near(&self, k: usize, near: usize) -> Option<FacePlace>
+    pub fn first_near(&self, k: usize, note: usize) -> Option<FacePlace>
         requires { k < length (joined_ranges self.now) }
         ensures { LeadsTo (chain_at self.now) result (range_at (joined_ranges self.now) k).contents }
     {
-        self.first_on(self.face_near(k, near), k)
+        self.first_on(self.face_near(k, note), k)
     }
 
     // The face whose seat has a range: the last one that is not behind it.
@@ -182,19 +205,19 @@ impl JoinedTables {
         }
     }
 
-    // The leaves of a range behind the first one of its face, by its place there.
+    // The ranges over a face but for the first and the last one.
     #[inline]
-    fn range_inside(&self, face: usize, own: usize, k: usize) -> RangeRow
-        requires within { face < 6 }
-        requires last { IsLastStart (places_of (seats_of self.now)) k face }
-        requires own { slice_index_or (places_of (seats_of self.now)) face 0 + own ≡ k }
-        requires behind { 0 < own }
-        requires range { k < length (joined_ranges self.now) }
-        ensures start { result.start ≡ (range_at (joined_ranges self.now) k).start }
-        ensures limit { result.limit ≡ (range_at (joined_ranges self.now) k).limit }
+    fn stretch_on(&self, face: usize) -> Stretch<'_>
+        requires { face < 6 }
+        ensures { IsStretch (joined_ranges self.now) result.first result.count result.starts.now }
     {
-        let _ = k;
-        self.tables[face].span().range(own)
+        let starts = self.tables[face].span().starts();
+        Stretch {
+            first: self.behind[face],
+            count: starts.len().saturating_sub(2),
+            starts: &starts[1..],
+            note: face,
+        }
     }
 
     // The leaves of a range, by the face whose seat has it.
@@ -227,7 +250,7 @@ impl JoinedTables {
         let own = k - self.seats[face].place;
         match self.tables[face].span().first(own) {
             Some(node) => Some(FacePlace {
-                face: face as u8,
+                face: face as u32,
                 node,
             }),
             None => None,
@@ -240,9 +263,7 @@ impl JoinedTables {
         requires { IsPlace (chain_at self.now) place }
         ensures { chain_at self.now place ≡ result ∷ drop 1 (chain_at self.now place) }
     {
-        self.tables[usize::from(place.face)]
-            .span()
-            .held_at(place.node)
+        self.tables[place.face as usize].span().held_at(place.node)
     }
 
     /// The place of the next pair outwards, or `None` at the outermost. O(1).
@@ -251,10 +272,7 @@ impl JoinedTables {
         requires { IsPlace (chain_at self.now) place }
         ensures { LeadsTo (chain_at self.now) result (drop 1 (chain_at self.now place)) }
     {
-        match self.tables[usize::from(place.face)]
-            .span()
-            .outer(place.node)
-        {
+        match self.tables[place.face as usize].span().outer(place.node) {
             Some(node) => Some(FacePlace {
                 face: place.face,
                 node,

@@ -1,2 +1,3 @@
 pub mod Labelling
 pub mod Yielding
+pub mod Stretching

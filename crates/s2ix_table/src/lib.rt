@@ -13,6 +13,7 @@ mod iter;
 mod labels;
 mod meter;
 mod pairs;
+mod stretch;
 mod table;
 mod visit;
 
@@ -20,6 +21,7 @@ pub use iter::{ChainIter, RangeIter, chain_at, contents, ranges};
 pub use meter::Meter;
 pub use pairs::held_pairs;
 pub use s2ix_ranges::RangeRow;
-pub use s2ix_walk::{Cost, Meeting, Reader, walk};
+pub use s2ix_walk::{Cost, Meeting, Reader, Window, walk};
+pub use stretch::Stretch;
 pub use table::RangeTable;
 pub use visit::{Visit, visit_counted};

@@ -1,17 +1,20 @@
 ghost use Rattle.std.specs.Prelude.{◌≡◌};
 ghost use Rattle.s2ix_walk.specs.Costs.{no_cost};
+ghost use Rattle.s2ix_table.specs.Stretches.{IsStretch};
 
+use crate::stretch::Stretch;
 use crate::table::RangeTable;
 use s2ix_bag::Held;
 use s2ix_ranges::RangeRow;
-use s2ix_walk::{Cost, Reader};
+use s2ix_walk::{Cost, Reader, Window};
 
-/// A reader of a table that counts what is read of it. This project's own.
+/// A reader of a table that counts what is read of it. It keeps a stretch of the table's ranges at hand. This project's own.
 #[derive(Drop)]
-pub struct Meter<'a, T> {
+pub struct Meter<'a, T: RangeTable> {
     table: &'a T,
     cost: Cost,
-    near: usize,
+    near: Stretch<'a>,
+    pub ghost near_is: { IsStretch (T.ranges table.now) near.first near.count near.starts.now },
 }
 
 impl<'a, T: RangeTable> Meter<'a, T> {
@@ -24,7 +27,7 @@ impl<'a, T: RangeTable> Meter<'a, T> {
         Meter {
             table,
             cost: Cost::none(),
-            near: 0,
+            near: Stretch::none(),
         }
     }
 }
@@ -42,8 +45,13 @@ impl<T: RangeTable> Reader for Meter<'_, T> {
         self.table.range_count()
     }
 
+    fn window(&mut self, face: u8) -> Window {
+        self.near = self.table.stretch(face);
+        self.table.window(face)
+    }
+
     fn first(&self, k: usize) -> Option<T::Place> {
-        self.table.first_near(k, self.near)
+        self.table.first_near(k, self.near.note)
     }
 
     fn outer(&self, place: T::Place) -> Option<T::Place> {
@@ -52,7 +60,16 @@ impl<T: RangeTable> Reader for Meter<'_, T> {
 
     fn row(&mut self, k: usize) -> RangeRow {
         self.cost.add_probe();
-        self.table.range_near(k, &mut self.near)
+        let own = k.wrapping_sub(self.near.first);
+        if own < self.near.count {
+            return RangeRow {
+                start: self.near.starts[own],
+                limit: self.near.starts[own + 1],
+            };
+        }
+        let (row, near) = self.table.range_near(k);
+        self.near = near;
+        row
     }
 
     fn node(&mut self, place: T::Place) -> Held {

@@ -4,16 +4,19 @@ ghost use Rattle.s2ix_pairs.specs.Collection.{Collection, IsCollection};
 ghost use Rattle.s2ix_ranges.specs.LabelList.{label_list};
 ghost use Rattle.s2ix_ranges.specs.Table.{Range, range_at, IsRangeTable};
 ghost use Rattle.s2ix_walk.specs.Places.{IsPlace, LeadsTo};
+ghost use Rattle.s2ix_walk.specs.Faces.{HaveFace};
+ghost use Rattle.s2ix_table.specs.Stretches.{IsStretch};
 ghost use Rattle.s2ix_ranges.specs.Meeting.{IsMeetingList, IsLabelList, meeting_of};
 ghost use Rattle.s2ix_walk.specs.Calls.{MayVisit, Visits};
 
 use crate::labels::labels_of;
 use crate::meter::Meter;
+use crate::stretch::Stretch;
 use s2id_core::{CellId, OutOfMemory};
 use s2id_union::CellUnion;
 use s2ix_bag::{Bag, Held, Label};
 use s2ix_ranges::RangeRow;
-use s2ix_walk::{Meeting, walk};
+use s2ix_walk::{Meeting, Window, walk};
 use std::alloc::Global;
 
 /// The range table of a collection: the maximal spans of leaves over which the same pairs lie, in order, each with a
@@ -47,15 +50,33 @@ pub trait RangeTable: Sized {
         ensures start { result.start ≡ (range_at (ranges self.now) k).start }
         ensures limit { result.limit ≡ (range_at (ranges self.now) k).limit };
 
-    /// The leaves of a range, as [`range`](RangeTable::range) gives them: sooner where `near` is what the call for a range nearby has left
-    /// there, a number of the table's own. Any number serves. O(1).
-    fn range_near(&self, k: usize, near: &mut usize) -> RangeRow
+    /// The leaves of a range, as [`range`](RangeTable::range) gives them, and a stretch in which ranges nearby may be. O(1).
+    fn range_near(&self, k: usize) -> (RangeRow, Stretch<'_>)
         requires { k < length (ranges self.now) }
-        ensures start { result.start ≡ (range_at (ranges self.now) k).start }
-        ensures limit { result.limit ≡ (range_at (ranges self.now) k).limit }
+        ensures start { result.0.start ≡ (range_at (ranges self.now) k).start }
+        ensures limit { result.0.limit ≡ (range_at (ranges self.now) k).limit }
+        ensures near { IsStretch (ranges self.now) result.1.first result.1.count result.1.starts.now }
     {
-        let _ = near;
-        self.range(k)
+        (self.range(k), Stretch::none())
+    }
+
+    /// The ranges among which all of those over a face, 0 to 5, are: all that there are, where a table knows no fewer. O(1).
+    fn window(&self, face: u8) -> Window
+        requires { face < 6 }
+        ensures { HaveFace (ranges self.now) face result.first result.size }
+    {
+        Window {
+            first: 0,
+            size: self.range_count(),
+        }
+    }
+
+    /// Ranges over a face, 0 to 5, that can be read by where they begin: none, where a table keeps no such list. O(1).
+    fn stretch(&self, face: u8) -> Stretch<'_>
+        requires { face < 6 }
+        ensures { IsStretch (ranges self.now) result.first result.count result.starts.now }
+    {
+        Stretch::none()
     }
 
     /// The place of a range's innermost pair, or `None` where nothing lies over it. O(1).
@@ -63,13 +84,13 @@ pub trait RangeTable: Sized {
         requires { k < length (ranges self.now) }
         ensures { LeadsTo (chain self.now) result (range_at (ranges self.now) k).contents };
 
-    /// The place of a range's innermost pair, as [`first`](RangeTable::first) gives it: sooner where `near` is what
-    /// [`range_near`](RangeTable::range_near) has left for the range. Any number serves. O(1).
-    fn first_near(&self, k: usize, near: usize) -> Option<Self::Place>
+    /// The place of a range's innermost pair, as [`first`](RangeTable::first) gives it: sooner where `note` is that of a stretch in which
+    /// the range is. Any number serves. O(1).
+    fn first_near(&self, k: usize, note: usize) -> Option<Self::Place>
         requires { k < length (ranges self.now) }
         ensures { LeadsTo (chain self.now) result (range_at (ranges self.now) k).contents }
     {
-        let _ = near;
+        let _ = note;
         self.first(k)
     }
 

@@ -4,6 +4,7 @@ pub mod Meetings
 pub mod Digits
 pub mod Counts
 pub mod Windows
+pub mod OnFaces
 pub mod Walked
 pub mod WalkSteps
 pub mod Paying

@@ -1,10 +1,11 @@
 -- The ranges among which a search still looks.
-use Rattle.std.proofs.Common.{◌≡◌, ℕ, zero, suc, ◌+◌, ◌-◌, ◌*◌, ◌/◌, ◌^◌, ◌<◌, ◌≤◌, inl, inr, List, length, ap, sym, ◌∙◌, subst, arith, refl}
-use Rattle.std.proofs.Math.Nat.{pow-suc}
+use Rattle.std.proofs.Common.{◌≡◌, ℕ, zero, suc, ◌+◌, ◌-◌, ◌*◌, ◌/◌, ◌^◌, ◌<◌, ◌≤◌, max, inl, inr, List, length, ap, sym, ◌∙◌, subst, arith, refl}
+use Rattle.std.proofs.Math.Nat.{pow-suc, max-eq_left, max-eq_right}
 use Rattle.std.proofs.lemmas.Bool.{cases_lt}
 use Rattle.s2ix_pairs.specs.Collection.{Collection}
 use Rattle.s2ix_ranges.specs.Table.{Range, range_at, leaf_end, IsRangeTable}
 use Rattle.s2ix_ranges.proofs.Tables.{limits_rise}
+use Rattle.s2ix_walk.specs.Faces.{face_begin, HaveFace}
 use Rattle.s2ix_walk.specs.Searching.{IsWindow}
 
 starts_rise : (hs : Collection) (ranges : List Range) (i j : ℕ) → IsRangeTable hs ranges → i ≤ j → j + 1 < length ranges → (range_at ranges (i + 1)).start ≤ (range_at ranges (j + 1)).start
@@ -14,9 +15,12 @@ starts_rise hs ranges i j t le lt =
     let r = limits_rise hs 1 leaf_end ranges t i j le (omega arith) in
     omega arith
 
--- the ranges from one on that begins by a leaf
-window_from : (ranges : List Range) (leaf first size : ℕ) → first + size ≡ length ranges → 0 < size → (range_at ranges first).start ≤ leaf → IsWindow ranges leaf first size
-window_from ranges leaf first size all some le = record { some = omega arith; within = omega arith; start = le; limit = λ lt. absurd (omega arith) }
+-- the ranges from one on up to an end
+window_to : (ranges : List Range) (leaf first end : ℕ) → first < end → end ≤ length ranges → (range_at ranges first).start ≤ leaf → (end < length ranges → leaf < (range_at ranges end).start) → IsWindow ranges leaf first (end - first)
+window_to ranges leaf first end some within start limit =
+    let e : first + (end - first) ≡ end = omega arith in
+    let f = ap (λ k. (range_at ranges k).start) e in
+    record { some = omega arith; within = omega arith; start = start; limit = λ more. let l = limit (omega arith) in omega arith }
 
 -- one half of a window, by whether its second half begins by the leaf
 pub half_left : (hs : Collection) (ranges : List Range) (leaf first half one : ℕ) → IsRangeTable hs ranges → IsWindow ranges leaf first (half * 2) → 0 < half → ((range_at ranges (first + half)).start ≤ leaf → one ≡ 1) → (leaf < (range_at ranges (first + half)).start → one ≡ 0) → IsWindow ranges leaf (first + half * one) half
@@ -53,9 +57,11 @@ halved hs ranges leaf first half one (suc j) t w is some by behind =
       window = subst (λ (size : ℕ). IsWindow ranges leaf (first + half * one) size) same (half_left hs ranges leaf first half one t (subst (λ (size : ℕ). IsWindow ranges leaf first size) all w) some by behind);
     }
 
--- as many ranges as there is room for, at the end of those that are left or at their beginning
-pub room_left : (hs : Collection) (ranges : List Range) (leaf from size over one : ℕ) → IsRangeTable hs ranges → from + (over + size) ≡ length ranges → over < size → (range_at ranges from).start ≤ leaf → ((range_at ranges (from + over)).start ≤ leaf → one ≡ 1) → (leaf < (range_at ranges (from + over)).start → one ≡ 0) → IsWindow ranges leaf (from + over * one) size
-room_left hs ranges leaf from size over one t all less begins by behind =
+-- as many ranges as there is room for, at the end of some or at their beginning
+pub room_left : (hs : Collection) (ranges : List Range) (leaf from size over one : ℕ) → IsRangeTable hs ranges → IsWindow ranges leaf from (over + size) → over < size → ((range_at ranges (from + over)).start ≤ leaf → one ≡ 1) → (leaf < (range_at ranges (from + over)).start → one ≡ 0) → IsWindow ranges leaf (from + over * one) size
+room_left hs ranges leaf from size over one t w less by behind =
+    let all = w.within in
+    let begins = w.start in
     elim (cases_lt leaf (range_at ranges (from + over)).start) [
       | inl lt ↦
           (let is : from + over * one ≡ from = ap (λ (k : ℕ). from + over * k) (behind lt) ∙ (omega arith) in
@@ -81,5 +87,35 @@ room_left hs ranges leaf from size over one t all less begins by behind =
           }))
       | inr le ↦
           (let is : from + over * one ≡ from + over = ap (λ (k : ℕ). from + over * k) (by le) ∙ (omega arith) in
-          subst (λ (k : ℕ). IsWindow ranges leaf k size) (sym is) (window_from ranges leaf (from + over) size (omega arith) (omega arith) le))
+          let e : from + over + size ≡ from + (over + size) = omega arith in
+          let f = ap (λ k. (range_at ranges k).start) e in
+          subst (λ (k : ℕ). IsWindow ranges leaf k size) (sym is) (record { some = omega arith; within = omega arith; start = le; limit = λ more. let l = w.limit (omega arith) in omega arith }))
+    ]
+
+-- the ranges over a face, from one on that begins by a leaf of it
+pub window_ahead : (hs : Collection) (ranges : List Range) (leaf face first size from begin : ℕ) → IsRangeTable hs ranges → HaveFace ranges face first size → face_begin face ≤ leaf → leaf < face_begin (face + 1) → from < length ranges → (range_at ranges from).start ≤ leaf → begin ≡ max from first → IsWindow ranges leaf begin (first + size - begin)
+window_ahead hs ranges leaf face first size from begin t have low high lt start is =
+    let some = have.some in
+    let within = have.within in
+    let begins = have.begins in
+    let last : ℕ = first + size - 1 in
+    let end : last + 1 ≡ first + size = omega arith in
+    let ends = have.ends last end in
+    let below : from < first + size = elim (cases_lt from (first + size)) [
+      | inl less ↦ less
+      | inr past ↦
+          (let j : ℕ = from - 1 in
+          let e : j + 1 ≡ from = omega arith in
+          let r = limits_rise hs 1 leaf_end ranges t last j (omega arith) (omega arith) in
+          let n = t.next j from e lt in
+          absurd (omega arith))
+    ] in
+    let limit : first + size < length ranges → leaf < (range_at ranges (first + size)).start = λ more. let n = t.next last (first + size) end more in omega arith in
+    elim (cases_lt from first) [
+      | inl less ↦
+          (let e : begin ≡ first = is ∙ max-eq_right (omega arith) in
+          window_to ranges leaf begin (first + size) (omega arith) within (let p = ap (λ k. (range_at ranges k).start) e in omega arith) limit)
+      | inr le ↦
+          (let e : begin ≡ from = is ∙ max-eq_left le in
+          window_to ranges leaf begin (first + size) (omega arith) within (let p = ap (λ k. (range_at ranges k).start) e in omega arith) limit)
     ]

@@ -6,3 +6,4 @@ pub mod Costs
 pub mod Walking
 pub mod Meetings
 pub mod Laws
+pub mod Faces

@@ -15,8 +15,10 @@ mod search;
 mod steps;
 mod visit;
 mod walk_state;
+mod window;
 
 pub use cost::Cost;
 pub use meeting::Meeting;
 pub use reader::Reader;
 pub use visit::walk;
+pub use window::Window;

@@ -2,10 +2,12 @@ ghost use Rattle.std.specs.Prelude.{◌≡◌, ◌<◌, ◌∷◌, length, drop}
 ghost use Rattle.s2ix_walk.specs.Places.{IsPlace, LeadsTo};
 ghost use Rattle.s2ix_ranges.specs.Table.{range_at};
 ghost use Rattle.s2ix_walk.specs.Costs.{with_look, with_probe};
+ghost use Rattle.s2ix_walk.specs.Faces.{HaveFace};
 ghost use Rattle.s2ix_walk.specs.Shown.{Shown, IsShown};
 ghost use Rattle.s2ix_walk.specs.declared.cost.Cost.{Cost as CostSpent};
 
 use crate::cost::Cost;
+use crate::window::Window;
 use s2ix_bag::Held;
 use s2ix_ranges::RangeRow;
 
@@ -24,6 +26,20 @@ pub trait Reader {
     /// How many ranges there are.
     fn range_count(&self) -> usize
         ensures { result ≡ length (shown self.now).ranges };
+
+    /// The ranges among which all of those over a face, 0 to 5, are: all that there are, where a reader knows no fewer. It tells no bound of a
+    /// range, and counts nothing.
+    fn window(&mut self, face: u8) -> Window
+        requires { face < 6 }
+        ensures window { HaveFace (shown self.old).ranges face result.first result.size }
+        ensures same { shown self.new ≡ shown self.old }
+        ensures unread { spent self.new ≡ spent self.old }
+    {
+        Window {
+            first: 0,
+            size: self.range_count(),
+        }
+    }
 
     /// The place of a range's innermost pair, or `None` where nothing lies over it.
     fn first(&self, k: usize) -> Option<Self::Place>

@@ -6,28 +6,22 @@ ghost use Rattle.s2ix_walk.specs.Costs.{binary_digits};
 ghost use Rattle.s2ix_walk.specs.Searching.{IsWindow};
 
 use crate::reader::Reader;
+use crate::window::Window;
 use s2id_core::CellId;
 
-// The ranges among which one is looked for: `size` of them, from `first` on.
-#[derive(Clone, Copy)]
-struct Window {
-    first: usize,
-    size: usize,
-}
-
-// The range that has a leaf, from one on that begins by it: half of those that are left at each probe. No branch depends on what is read.
+// The range that has a leaf, one of some that are known to have it among them: half of those that are left at each probe. No branch depends
+// on what is read.
 #[inline(always)]
-fn search<R: Reader>(reader: &mut R, leaf: u64, from: usize) -> usize
+fn search<R: Reader>(reader: &mut R, leaf: u64, among: Window) -> usize
     requires within { leaf < leaf_end }
-    requires from { from < length (R.shown reader.old).ranges }
-    requires start { (range_at (R.shown reader.old).ranges from).start ≤ leaf }
+    requires among { IsWindow (R.shown reader.old).ranges leaf among.first among.size }
     ensures found { IsFound (R.shown reader.old).ranges result leaf }
     ensures same { R.shown reader.new ≡ R.shown reader.old }
     ensures looks { (R.spent reader.new).looks ≡ (R.spent reader.old).looks }
     ensures probes { (R.spent reader.new).probes
         ≤ (R.spent reader.old).probes + binary_digits (length (R.shown reader.old).ranges + 1) }
 {
-    let window = narrowed(reader, leaf, from);
+    let window = narrowed(reader, leaf, among);
     let mut first = window.first;
     let mut half = window.size / 2;
     while half > 0 {
@@ -37,12 +31,11 @@ fn search<R: Reader>(reader: &mut R, leaf: u64, from: usize) -> usize
     first
 }
 
-// The ranges from one on, or the last of them, so many that halving leaves none over: the greatest power of two that there is room for.
+// Of some ranges the first or the last ones, so many that halving leaves none over: the greatest power of two that there is room for.
 #[inline(always)]
-fn narrowed<R: Reader>(reader: &mut R, leaf: u64, from: usize) -> Window
+fn narrowed<R: Reader>(reader: &mut R, leaf: u64, among: Window) -> Window
     requires within { leaf < leaf_end }
-    requires from { from < length (R.shown reader.old).ranges }
-    requires start { (range_at (R.shown reader.old).ranges from).start ≤ leaf }
+    requires among { IsWindow (R.shown reader.old).ranges leaf among.first among.size }
     ensures window { IsWindow (R.shown reader.old).ranges leaf result.first result.size }
     ensures power { (k : ℕ) × (result.size ≡ 2 ^ k) }
     ensures same { R.shown reader.new ≡ R.shown reader.old }
@@ -50,11 +43,27 @@ fn narrowed<R: Reader>(reader: &mut R, leaf: u64, from: usize) -> Window
     ensures probes { (R.spent reader.new).probes + binary_digits (result.size - 1)
         ≤ (R.spent reader.old).probes + binary_digits (length (R.shown reader.old).ranges + 1) }
 {
-    let ahead = reader.range_count() - from;
-    let size = power_within(ahead);
-    let over = ahead - size;
-    let first = from + over * begun(reader.row(from + over).start, leaf);
+    let size = power_within(among.size);
+    let over = among.size - size;
+    let first = among.first + over * begun(reader.row(among.first + over).start, leaf);
     Window { first, size }
+}
+
+// The ranges among which is the one with a cell's first leaf: those over the cell's face, from one on that begins by that leaf.
+#[inline(always)]
+fn ahead<R: Reader>(reader: &mut R, cell: CellId, from: usize) -> Window
+    requires from { from < length (R.shown reader.old).ranges }
+    requires start { (range_at (R.shown reader.old).ranges from).start ≤ first_of cell }
+    ensures window { IsWindow (R.shown reader.old).ranges (first_of cell) result.first result.size }
+    ensures same { R.shown reader.new ≡ R.shown reader.old }
+    ensures unread { R.spent reader.new ≡ R.spent reader.old }
+{
+    let window = reader.window(cell.face());
+    let first = from.max(window.first);
+    Window {
+        first,
+        size: window.first + window.size - first,
+    }
 }
 
 // The greatest power of two that is not above a number.
@@ -92,7 +101,8 @@ pub(crate) fn range_from<R: Reader>(reader: &mut R, cell: CellId, range: usize, 
 {
     let start = cell.span_start();
     if seen < start {
-        search(reader, start, range)
+        let among = ahead(reader, cell, range);
+        search(reader, start, among)
     } else {
         range
     }

@@ -20,15 +20,15 @@ returns-else-seen-start-clause-found g c =
     let le = c.if-seen-start.false in
     record { within = f.within; start = omega arith; limit = omega arith }
 
-pub search-requires-clause-from : goal.search-requires-clause-from
-search-requires-clause-from g c =
+pub ahead-among-requires-clause-from : goal.ahead-among-requires-clause-from
+ahead-among-requires-clause-from g c =
     let s = span (raw_of c.args.cell) c.args.cell.valid in
     let test = c.if-seen-start.true in
     let f = c.requires.at_hand (omega (arith, s.ends, s.from, s.to, c.span_start-start.ensures)) in
     f.within
 
-pub search-requires-clause-start : goal.search-requires-clause-start
-search-requires-clause-start g c =
+pub ahead-among-requires-clause-start : goal.ahead-among-requires-clause-start
+ahead-among-requires-clause-start g c =
     let s = span (raw_of c.args.cell) c.args.cell.valid in
     let test = c.if-seen-start.true in
     let f = c.requires.at_hand (omega (arith, s.ends, s.from, s.to, c.span_start-start.ensures)) in

@@ -1,5 +1,5 @@
 use Rattle.std.proofs.Common.{refl, ◌∙◌, arith}
-use Rattle.s2ix_joined.proofs.Faces.{six_faces}
+use Rattle.s2ix_walk.proofs.OnFaces.{six_faces}
 use Rattle.s2ix_joined.proofs.Reading.{leaf_on, found_on}
 use Rattle.s2id_core.specs.CellId.{raw_of}
 use Rattle.s2ix_joined.proofs.joined_tables.JoinedTables.find.Goals as goal

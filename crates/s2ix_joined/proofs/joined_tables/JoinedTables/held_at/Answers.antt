@@ -1,0 +1,26 @@
+use Rattle.std.proofs.Common.{◌<◌, ◌∷◌, length, drop, refl, sym, ◌∙◌, ap, arith, rules, subst}
+use Rattle.s2ix_pairs.specs.Collection.{Collection}
+use Rattle.s2ix_joined.proofs.Reading.{no_table, place_on, read_on}
+use Rattle.s2ix_joined.proofs.joined_tables.JoinedTables.held_at.Goals as goal
+
+pub listed : goal.listed
+listed c =
+    let t = c.self.inside in
+    (read_on t.tables c.args.self.now c.args.place no_table _ c.self.invariant.joined.six c.self.view_is refl c.requires).listed
+
+pub bounds-self-inside-place : goal.bounds-self-inside-place
+bounds-self-inside-place c =
+    let t = c.self.inside in
+    (read_on t.tables c.args.self.now c.args.place no_table _ c.self.invariant.joined.six c.self.view_is refl c.requires).face
+
+pub held_at-requires : goal.held_at-requires
+held_at-requires c =
+    let t = c.self.inside in
+    let read = read_on t.tables c.args.self.now c.args.place c.index-self-place.result c.span.result.now c.self.invariant.joined.six c.self.view_is c.span.ensures c.requires in
+    subst (λ (hs : Collection). 0 < length hs) read.chain c.requires
+
+pub returns : goal.returns
+returns c =
+    let t = c.self.inside in
+    let read = read_on t.tables c.args.self.now c.args.place c.index-self-place.result c.span.result.now c.self.invariant.joined.six c.self.view_is c.span.ensures c.requires in
+    read.chain ∙ c.held_at.ensures ∙ ap (λ (hs : Collection). c.held_at.result ∷ drop 1 hs) (sym read.chain)
