@@ -1,9 +1,9 @@
--- Ancestors, children, digits and the next cell, by places.
-use Rattle.std.proofs.Common.{◌≡◌, ◌≢◌, ℕ, suc, ◌+◌, ◌-◌, ◌*◌, ◌/◌, ◌%◌, ◌^◌, ◌<◌, ◌≤◌, inl, inr, List, [], ◌∷◌, ◌++◌, All, length, take, get_or, bit_and, sym, ◌∙◌, ap, ap₂, arith, subst}
+-- Ancestors, children and digits, by places.
+use Rattle.std.proofs.Common.{◌≡◌, ℕ, suc, ◌+◌, ◌-◌, ◌*◌, ◌/◌, ◌%◌, ◌^◌, ◌<◌, ◌≤◌, inl, inr, List, [], ◌∷◌, ◌++◌, All, length, take, get_or, bit_and, sym, ◌∙◌, ap, ap₂, arith, subst}
 use Rattle.std.specs.Prelude.{bit_xor}
 use Rattle.std.specs.Int.{w64, leading_zeros}
 use Rattle.std.specs.Int.Bits.{xor_self, xor_assoc, xor_zero_l, xor_zero_r}
-use Rattle.std.proofs.Math.Nat.{mod_self, mod-eq_of_lt, div-eq_of_lt}
+use Rattle.std.proofs.Math.Nat.{div-eq_of_lt}
 use Rattle.std.proofs.Math.Pow.{pow_mono}
 use Rattle.std.proofs.lemmas.Bool.{cases_lt}
 use Rattle.std.proofs.lemmas.List.{length-append, length-take-le, take_more}
@@ -79,24 +79,10 @@ digit_by_place k p pos h path =
     low : (m d : ℕ) → d < 4 → (4 * m + d) % 4 ≡ d
     low m d h = omega arith
 
--- ---- the next cell of a level
-
-pub whole_curve : (k : ℕ) → k ≤ 30 → 6 * 2 ^ (2 * k) % 2 ^ 64 ≡ 6 * 4 ^ k
-whole_curve k h =
-    let most : 2 ^ (2 * k) ≤ 2 ^ 60 = pow_mono {i = 2 * k} {j = 60} (omega arith) in
-    let four = four_pow k in
-    let small : 6 * 2 ^ (2 * k) < 2 ^ 64 = omega arith in
-    mod-eq_of_lt small ∙ ap (λ x. 6 * x) four
-
-pub next_place : (m w : ℕ) → m < w → m + 1 ≢ w → m + 1 ≡ (m + 1) % w
-next_place m w h ne = sym (mod-eq_of_lt (let lt : m + 1 < w = omega arith in lt))
-
-pub wrapped_place : (m w : ℕ) → m + 1 ≡ w → 0 ≡ (m + 1) % w
-wrapped_place m w e = sym (ap (λ x. x % w) e ∙ mod_self w)
-
 -- ---- the level of the smallest cell that contains two
 
-same_from_xor : (a b : ℕ) → bit_xor a b ≡ 0 → a ≡ b
+-- two numbers that xor leaves nothing of are one
+pub same_from_xor : (a b : ℕ) → bit_xor a b ≡ 0 → a ≡ b
 same_from_xor a b e =
     sym (xor_zero_r a) ∙ ap (bit_xor a) (sym (xor_self b)) ∙ sym (xor_assoc a b b) ∙ ap (λ x. bit_xor x b) e ∙ xor_zero_l b
 

@@ -5,7 +5,7 @@ ghost use Rattle.std.specs.Prelude.{◌≡◌, ◌↔◌, ◌+◌, ◌-◌, ◌*
 use crate::cell_id::CellId;
 
 impl CellId {
-    ghost use Rattle.s2id_core.specs.Path.{place_of, ancestor, child};
+    ghost use Rattle.s2id_core.specs.Path.{ancestor, child};
     ghost use Rattle.s2id_core.specs.Leaves.{IsCommonLevel};
     ghost use Rattle.s2id_core.specs.CellId.{path_of, face_of, level_of};
 

@@ -1,11 +1,11 @@
 -- The orientations that are kept on the way down to a leaf, and squares found from them.
 use Rattle.std.proofs.Common.{◌≡◌, ◌≢◌, ℕ, suc, ◌+◌, ◌-◌, ◌*◌, ◌/◌, ◌%◌, ◌^◌, ◌<◌, ◌≤◌, inl, inr, List, length, get_or, set, bit_xor, bit_or, below_more, get_or-set_other, get_or-set_same, length-set, sym, ◌∙◌, ap, ap₂, refl, arith, subst}
 use Rattle.std.specs.Int.{w32, leading_zeros}
-use Rattle.std.specs.Int.Bits.{xor_add_and}
 use Rattle.std.proofs.Math.Nat.{mul-add-div_right, mul-div-mul_right, pow-le-pow_right, mul-le-mul_right, mul-lt-mul_of_pos_right, div-eq_of_lt, div-le_self}
-use Rattle.std.proofs.lemmas.Nat.{div-mul-add, shr-shr, shl-shr, pow-add, pow_pos, xor_shr, xor_lt, or_lt, le_or_l, le_or_r, leading_length, and_le_l, and_le_r, div_below}
+use Rattle.std.proofs.lemmas.Nat.{div-mul-add, shr-shr, shl-shr, pow-add, pow_pos, xor_shr, xor_lt, or_lt, le_or_l, le_or_r, leading_length, div_below}
 use Rattle.std.proofs.lemmas.Bool.{cases_lt}
 use Rattle.s2id_core.specs.Path.{Path, IsPath, place_of}
+use Rattle.s2id_core.proofs.Ancestry.{same_from_xor}
 use Rattle.s2id_core.proofs.Powers.{two_step, four_step, four_pow, four_pos, lt_of_mul}
 use Rattle.s2id_cube.specs.declared.face_ij.FaceIj.{FaceIj}
 use Rattle.s2id_cube.specs.Loops.{square_at, square_in, AreStarts, AreFirst}
@@ -57,9 +57,6 @@ before_all place group starts e h = record {
 }
 
 -- ---- the group in which two ways part
-
-same_from_xor : (a b : ℕ) → bit_xor a b ≡ 0 → a ≡ b
-same_from_xor a b e = let sum = xor_add_and a b in let l = and_le_l a b in let r = and_le_r a b in omega arith
 
 -- numbers whose exclusive or is small have the same front
 same_front : (a b n : ℕ) → bit_xor a b < 2 ^ n → a / 2 ^ n ≡ b / 2 ^ n

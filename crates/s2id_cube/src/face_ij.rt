@@ -81,7 +81,7 @@ fn leaf_place(face: u8, i: u32, j: u32) -> u64
     ensures column { (square_at 30 result).i ≡ i }
     ensures row { (square_at 30 result).j ≡ j }
 {
-    let (mut odd, mut even) = woven(i, j);
+    let (mut odd, mut even) = weave(i, j);
     let mut places = 0;
     let mut start = 256 * (face as u64 % 2);
     for pair in 0u8..4 {
@@ -96,7 +96,7 @@ fn leaf_place(face: u8, i: u32, j: u32) -> u64
 }
 
 // Two columns of bytes, each byte four bits of `i` and then four of `j`: those of the upper half of each byte, and of the lower.
-fn woven(i: u32, j: u32) -> (u32, u32)
+fn weave(i: u32, j: u32) -> (u32, u32)
     ensures { AreWoven i j result.0 result.1 }
 {
     let lower_i = i & 0x0f0f0f0f;

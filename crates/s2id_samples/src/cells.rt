@@ -14,3 +14,15 @@ pub fn cells_of(alloc: Global, tokens: &str) -> Option<Vec<CellId>> {
     }
     Some(cells)
 }
+
+/// Whether some cells are those that the tokens name, in their order.
+pub fn are_cells(cells: &[CellId], tokens: &str) -> bool {
+    let mut left = cells.iter();
+    for token in tokens.split_ascii_whitespace() {
+        match left.next() {
+            Some(&cell) if cell_of(token) == Some(cell) => {}
+            _ => return false,
+        }
+    }
+    left.next().is_none()
+}

@@ -6,6 +6,6 @@ mod cells;
 mod cube;
 mod random;
 
-pub use cells::{cell_of, cells_of};
+pub use cells::{are_cells, cell_of, cells_of};
 pub use cube::{Point, point_of};
 pub use random::Random;

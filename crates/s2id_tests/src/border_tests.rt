@@ -1,8 +1,7 @@
 // Borders of cells.
-use crate::samples::are_cells;
 use s2id_core::CellId;
 use s2id_cube::{BorderError, border};
-use s2id_samples::cell_of;
+use s2id_samples::{are_cells, cell_of};
 use std::alloc::Global;
 
 // The border of the cell that a token names.

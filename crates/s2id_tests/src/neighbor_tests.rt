@@ -1,7 +1,6 @@
 // Cells over the sides of cells.
-use crate::samples::are_cells;
 use s2id_cube::edge_neighbors;
-use s2id_samples::cell_of;
+use s2id_samples::{are_cells, cell_of};
 
 // Cells with those that lie down, right, up and left of them, by their tokens: whole faces, corners and edges of the cube, the middle of a
 // face, leaves and coarser cells.

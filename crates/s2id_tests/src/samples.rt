@@ -15,15 +15,3 @@ pub(crate) fn is_cell_or_none(cell: Option<CellId>, token: &str) -> bool {
 pub(crate) fn is_cell(cell: CellId, token: &str) -> bool {
     cell_of(token) == Some(cell)
 }
-
-// Whether some cells are those that the tokens name, in their order.
-pub(crate) fn are_cells(cells: &[CellId], tokens: &str) -> bool {
-    let mut left = cells.iter();
-    for token in tokens.split_ascii_whitespace() {
-        match left.next() {
-            Some(&cell) if is_cell(cell, token) => {}
-            _ => return false,
-        }
-    }
-    left.next().is_none()
-}

@@ -1,7 +1,6 @@
 // Unions of cells, with answers worked out by hand.
-use crate::samples::are_cells;
 use s2id_core::{CellId, LEAF_END};
-use s2id_samples::{cell_of, cells_of};
+use s2id_samples::{are_cells, cell_of, cells_of};
 use s2id_union::{CellUnion, RangeError};
 use std::alloc::Global;
 

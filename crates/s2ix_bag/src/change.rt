@@ -1,4 +1,4 @@
-ghost use Rattle.std.specs.Prelude.{◌≡◌, IfErr, IfOk, None, OnOk, length, ◌≤◌};
+ghost use Rattle.std.specs.Prelude.{◌≡◌, IfErr, IfOk, None, OnOk};
 ghost use Rattle.s2ix_pairs.specs.Change.{IsChangeList, change_between, inverse_of};
 ghost use Rattle.s2ix_pairs.specs.Collection.{IsCollection};
 ghost use Rattle.s2ix_lists.specs.Entries.{IsChangeError, change_fault};

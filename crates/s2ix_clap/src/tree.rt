@@ -1,6 +1,6 @@
 //! The words that the program knows, as clap is told of them.
-ghost use Rattle.std.specs.Prelude.{◌≡◌, IfOk, codes, false};
-ghost use Rattle.clap.specs.Words.{App, Shape, app_of, rule_of, shape_of, with_subcommand};
+ghost use Rattle.std.specs.Prelude.{◌≡◌, IfOk, false};
+ghost use Rattle.clap.specs.Words.{App, Shape, app_of, rule_of, with_subcommand};
 ghost use Rattle.s2ix_clap.specs.Tree.{
   IsSubcommand,
   IsTold,

@@ -1,24 +1,11 @@
 -- The lines that end in a text, and what is left behind them.
-use Rattle.std.proofs.Common.{◌≡◌, ◌≢◌, ℕ, zero, suc, ◌<◌, List, [], ◌∷◌, ◌++◌, length, get_or, take, refl, sym, ap, ◌∙◌, inl, inr, append_assoc, append-nil, arith}
+use Rattle.std.proofs.Common.{◌≡◌, ℕ, suc, List, [], ◌∷◌, ◌++◌, refl, sym, ap, ◌∙◌, inl, inr, append_assoc, append-nil, arith}
 use Rattle.std.proofs.lemmas.Bool.{ne_eqb}
 use Rattle.std.proofs.lemmas.Bool.Decides.{eqb_tells}
 use Rattle.s2ix_script.specs.Lines.{with_first, script_lines}
 use Rattle.s2ix_cli.specs.Coming.{ended_behind, unended_behind, ended_lines}
 use Rattle.s2ix_cli.specs.Piece.{HasNoFeed}
 use Rattle.s2ix_cli.specs.Run.{line_left}
-
--- ---- a text up to its first line feed
-
-no_feed_first : (byte : ℕ) (text : List ℕ) → byte ≢ 10 → HasNoFeed text → HasNoFeed (byte ∷ text)
-no_feed_first byte text is none zero d h = is
-no_feed_first byte text is none (suc k) d h = none k d (omega arith)
-
-no_feed_before : (text : List ℕ) (end : ℕ) → ((k : ℕ) → k < end → k < length text → get_or text k 0 ≢ 10) → HasNoFeed (take end text)
-no_feed_before [] zero before = λ k d h. absurd (omega arith)
-no_feed_before [] (suc end) before = λ k d h. absurd (omega arith)
-no_feed_before (byte ∷ text) zero before = λ k d h. absurd (omega arith)
-no_feed_before (byte ∷ text) (suc end) before =
-    no_feed_first byte (take end text) (before 0 (omega arith) (omega arith)) (no_feed_before text end (λ k h i. before (suc k) (omega arith) (omega arith)))
 
 -- ---- what ends in a text
 

@@ -1,7 +1,7 @@
 -- What is held of a line, and what the line comes to.
 use Rattle.std.proofs.Common.{◌≡◌, ℕ, nat_lt, if◌then◌else◌, Bool, true, false, Option, Some, None, Err, List, ◌++◌, length, refl, sym, ap, subst, length-append, arith}
 use Rattle.std.proofs.lemmas.Bool.{lt-ltb, ltb-true}
-use Rattle.std.proofs.lemmas.Option.{none-some, same_Some}
+use Rattle.std.proofs.lemmas.Option.{none-some}
 use Rattle.std.specs.Io.KnownBytes.{Appends}
 use Rattle.s2ix_edit.specs.State.{State}
 use Rattle.s2ix_fields.specs.Fields.{fields_of}

@@ -14,6 +14,7 @@ use Rattle.s2ix_pairs.specs.Pair.{rank_of}
 use Rattle.s2ix_lists.proofs.Applied.{before_moves}
 use Rattle.s2ix_pairs.proofs.Changes.{changed_at, changed_passes}
 use Rattle.s2ix_pairs.proofs.Counts.{count_head, count_tail, from_lower}
+use Rattle.s2ix_pairs.proofs.OfLabel.{same_label_at}
 use Rattle.s2ix_lists.proofs.Refusals.{no_mismatch}
 use Rattle.s2ix_edit.specs.Edit.{is_of, without}
 use Rattle.s2ix_edit.proofs.Plans.{Makes}
@@ -63,12 +64,6 @@ filter_drops test (h ∷ hs) k fails =
 
 -- ---- pairs of one label
 
-pub same_value : (p q : Pair) → rank_of p ≡ rank_of q → value_of p.label ≡ value_of q.label
-same_value p q e =
-    let first = p.label.in_range in
-    let second = q.label.in_range in
-    omega (arith, e, first, second)
-
 pub is_of_yes : (label : Label) (h : Held) → value_of h.pair.label ≡ value_of label → is_of label h ≡ true
 is_of_yes label h e = eq-eqb _ _ e
 
@@ -78,13 +73,13 @@ is_of_no label h ne = ne_eqb _ _ ne
 -- the collection without a label's pairs has none of them
 pub without_own : (label : Label) (hs : Collection) (p : Pair) → value_of p.label ≡ value_of label → count_in (without label hs) p ≡ 0
 without_own label hs p e =
-    filter_drops (λ h. not (is_of label h)) hs (rank_of p) (λ h at. ap not (is_of_yes label h (same_value h.pair p at ∙ e)))
+    filter_drops (λ h. not (is_of label h)) hs (rank_of p) (λ h at. ap not (is_of_yes label h (same_label_at h.pair p at ∙ e)))
 
 -- and every other count
 pub without_other : (label : Label) (hs : Collection) (p : Pair) → IsCollection hs → value_of p.label ≢ value_of label → count_in (without label hs) p ≡ count_in hs p
 without_other label hs p is ne =
     filter_counts (λ h. not (is_of label h)) 0 hs (rank_of p) is
-    (λ h at. ap not (is_of_no label h (λ e. ne (sym (same_value h.pair p at) ∙ e))))
+    (λ h at. ap not (is_of_no label h (λ e. ne (sym (same_label_at h.pair p at) ∙ e))))
 
 pub without_keeps : (label : Label) (hs : Collection) → IsCollection hs → IsCollection (without label hs)
 without_keeps label hs is = filter_keeps (λ h. not (is_of label h)) 0 hs is

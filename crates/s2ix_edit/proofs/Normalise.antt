@@ -15,13 +15,13 @@ use Rattle.s2ix_pairs.specs.Pair.{rank_of}
 use Rattle.s2ix_pairs.proofs.Collections.{count_set_other, count_set_same, same_collection, set_keeps}
 use Rattle.s2ix_pairs.proofs.Counts.{count_head, count_tail, from_lower}
 use Rattle.s2ix_pairs.proofs.Differences.{between_is_change, counts_between, no_difference, only_change}
-use Rattle.s2ix_pairs.proofs.OfLabel.{count_of_other, count_of_own, of_label_from}
+use Rattle.s2ix_pairs.proofs.OfLabel.{count_of_other, count_of_own, of_label_from, same_label_at}
 use Rattle.s2ix_pairs.proofs.Pairs.{same_pair}
 use Rattle.s2ix_edit.specs.Edit.{pair_of, with_each, with_more, without}
 use Rattle.s2ix_edit.specs.Plan.{one_copy}
 use Rattle.s2ix_edit.specs.Region.{cell_of, cells_of, region_of}
 use Rattle.s2ix_edit.proofs.AddUnion.{RiseFrom, rise_contains, rises_from_zero, with_each_keeps, with_each_other, with_each_same}
-use Rattle.s2ix_edit.proofs.DropLabel.{same_value, without_keeps, without_other, without_own}
+use Rattle.s2ix_edit.proofs.DropLabel.{without_keeps, without_other, without_own}
 use Rattle.s2ix_edit.proofs.Plans.{Makes, makes_between}
 use Rattle.s2ix_edit.proofs.LabelCells.{region_normal}
 
@@ -47,7 +47,7 @@ ones_rise label cs pairs = from_lower 0 (0 * 2147483648) (ones label cs) (omega 
 ones_other : (label : Label) (cs : List CellId) (p : Pair) → value_of p.label ≢ value_of label → count_in (ones label cs) p ≡ 0
 ones_other label [] p other = refl
 ones_other label (c ∷ cs) p other =
-    count_tail (one_copy label c) (ones label cs) (rank_of p) (λ e. other (sym (same_value (pair_of c label) p e))) ∙ ones_other label cs p other
+    count_tail (one_copy label c) (ones label cs) (rank_of p) (λ e. other (sym (same_label_at (pair_of c label) p e))) ∙ ones_other label cs p other
 
 -- one copy more for each cell, where none was: what the pairs are held with
 each_from_none : (n : ℕ) (label : Label) (cs : List CellId) (ks : Collection) (k : ℕ) → IsCollection ks → RiseFrom n cs → count_at ks k ≡ 0 → count_at (with_each label cs ks) k ≡ count_at (ones label cs) k
@@ -82,7 +82,7 @@ replaced_own label cs hs p is pairs own =
 -- and every other its own
 pub replaced_other : (label : Label) (cs : List CellId) (hs : Collection) (p : Pair) → IsCollection hs → value_of p.label ≢ value_of label → count_in (replaced label cs hs) p ≡ count_in hs p
 replaced_other label cs hs p is other =
-    with_each_other label cs (without label hs) (rank_of p) (λ d has e. other (sym (same_value (pair_of d label) p e)))
+    with_each_other label cs (without label hs) (rank_of p) (λ d has e. other (sym (same_label_at (pair_of d label) p e)))
     ∙ without_other label hs p is other
 
 -- ---- the entries

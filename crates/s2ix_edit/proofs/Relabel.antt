@@ -20,14 +20,13 @@ use Rattle.s2ix_pairs.specs.Pair.{rank_of}
 use Rattle.s2ix_pairs.proofs.Changes.{change_lower}
 use Rattle.s2ix_pairs.proofs.Collections.{count_set_other, count_set_same, same_collection, set_keeps}
 use Rattle.s2ix_pairs.proofs.Counts.{count_head, count_tail}
-use Rattle.s2ix_pairs.proofs.OfLabel.{count_of_own, held_of_head, held_of_tail}
+use Rattle.s2ix_pairs.proofs.OfLabel.{count_of_own, held_of_head, held_of_tail, same_label_at}
 use Rattle.s2ix_lists.proofs.Refusals.{no_mismatch}
 use Rattle.s2ix_edit.specs.Edit.{with_all_moved, with_moved, pair_of}
 use Rattle.s2ix_edit.specs.Plan.{move_entries}
 use Rattle.s2ix_edit.proofs.Plans.{Makes}
 use Rattle.s2ix_edit.specs.Refusals.{has_count_above}
 use Rattle.s2ix_edit.proofs.Above.{above_from_count}
-use Rattle.s2ix_edit.proofs.DropLabel.{same_value}
 
 -- ---- the counts of two pairs set
 
@@ -173,7 +172,7 @@ moves_change hs ks v target m (h ∷ rest) part apart is same =
     let p = h.pair in
     let q = pair_of h.pair.cell target in
     let n = count_in hs q + h.count in
-    let two : rank_of p ≢ rank_of q = λ e. apart (sym part.1 ∙ same_value p q e) in
+    let two : rank_of p ≢ rank_of q = λ e. apart (sym part.1 ∙ same_label_at p q e) in
     let here : count_in hs q ≡ count_in ks q = same (rank_of q) (omega (arith, part.0)) in
     let step : set_count q n (set_count p 0 ks) ≡ with_moved target h ks =
     ap (λ x. set_count q (x + h.count) (set_count p 0 ks)) (here ∙ sym (count_set_other p 0 ks (rank_of q) two)) in
@@ -239,14 +238,14 @@ others_stay : (hs : Collection) (v : ℕ) (target : Label) (m : ℕ) (rest : Lis
 others_stay hs v target m [] ks p part not_source not_target = refl
 others_stay hs v target m (h ∷ rest) ks p part not_source not_target =
     others_stay hs v target (raw_of h.pair.cell + 1) rest (with_moved target h ks) p part.4 not_source not_target
-    ∙ with_moved_other target h ks (rank_of p) (λ e. not_source (sym (same_value h.pair p e) ∙ part.1)) (λ e. not_target (sym (same_value (pair_of h.pair.cell target) p e)))
+    ∙ with_moved_other target h ks (rank_of p) (λ e. not_source (sym (same_label_at h.pair p e) ∙ part.1)) (λ e. not_target (sym (same_label_at (pair_of h.pair.cell target) p e)))
 
 source_goes : (hs : Collection) (v : ℕ) (target : Label) (m : ℕ) (rest : List Held) (ks : Collection) (p : Pair) → ArePart hs v m rest → IsCollection ks → v ≢ value_of target → value_of p.label ≡ v → count_at rest (rank_of p) ≡ count_in ks p → count_in (with_all_moved target rest ks) p ≡ 0
 source_goes hs v target m [] ks p part is apart own counted = sym counted
 source_goes hs v target m (h ∷ rest) ks p part is apart own counted =
     let q = pair_of h.pair.cell target in
     let range = p.label.in_range in
-    let not_q : rank_of q ≢ rank_of p = λ e. apart (sym own ∙ sym (same_value q p e)) in
+    let not_q : rank_of q ≢ rank_of p = λ e. apart (sym own ∙ sym (same_label_at q p e)) in
     source_goes hs v target (raw_of h.pair.cell + 1) rest (with_moved target h ks) p part.4 (with_moved_keeps target h ks is) apart own
     (⊎_elim
     (λ here.
@@ -265,7 +264,7 @@ target_gains hs source target m (h ∷ rest) ks c part is apart =
     let range = source.in_range in
     let less = set_count h.pair 0 ks in
     let later = target_gains hs source target (raw_of h.pair.cell + 1) rest (with_moved target h ks) c part.4 (with_moved_keeps target h ks is) apart in
-    let not_q : rank_of h.pair ≢ rank_of q = λ e. apart (sym part.1 ∙ same_value h.pair q e) in
+    let not_q : rank_of h.pair ≢ rank_of q = λ e. apart (sym part.1 ∙ same_label_at h.pair q e) in
     ⊎_elim
     (λ here.
     let at_q : rank_of r ≡ rank_of q = omega (arith, here, part.1) in

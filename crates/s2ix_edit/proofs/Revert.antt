@@ -17,7 +17,7 @@ use Rattle.s2ix_lists.proofs.Refusals.{no_mismatch}
 use Rattle.s2ix_lists.proofs.Reverts.{back_before}
 use Rattle.s2ix_edit.specs.declared.edit.Edit.TheVariants.{Revert}
 use Rattle.s2ix_edit.specs.declared.errors.EditError.{EditError}
-use Rattle.s2ix_edit.specs.declared.errors.EditError.TheVariants.{NoSuchChange, BelowZero, NoChange, TooManyCopies, TooManyPairs}
+use Rattle.s2ix_edit.specs.declared.errors.EditError.TheVariants.{BelowZero, NoChange, TooManyCopies, TooManyPairs}
 use Rattle.s2ix_edit.specs.Edit.{edited_by, numbered, without_change}
 use Rattle.s2ix_edit.specs.Plan.{Plans, IsPlanRefusal}
 use Rattle.s2ix_edit.specs.Refusals.{goes_below_zero, has_count_above, lacks_change, plan_refusal, revert_error, MayWantMemory}
@@ -118,11 +118,6 @@ plans_back bag changes number es back rises found accepted is =
     subst Planned (sym is) (plans_above bag changes number es rises found (none_by (is_high_back bag es) (is_many_back bag es) (first_below_zero bag.held es) (refused_is bag es ∙ accepted)))
 
 -- ---- the refusals
-
--- where no change has the number
-pub no_such_change : (bag : LimitedCollection) (changes : List (List Entry)) (number : ℕ) → numbered number changes ≡ None → plan_refusal bag changes (Revert number) ≡ Some NoSuchChange
-unfolding lacks
-no_such_change bag changes number none = cond-true _ _ _ (lacks_found changes number None none)
 
 below_zero : (bag : LimitedCollection) (changes : List (List Entry)) (number : ℕ) (es : List Entry) → numbered number changes ≡ Some es → is_some (first_below_zero bag.held es) ≡ true → plan_refusal bag changes (Revert number) ≡ Some BelowZero
 unfolding below

@@ -1,5 +1,5 @@
 -- From face to face: what is found, changed and put so far.
-use Rattle.std.proofs.Common.{◌≡◌, ℕ, zero, suc, ◌+◌, ◌<◌, ◌≤◌, not, cond, ◌==◌, Option, Some, None, List, [], ◌∷◌, ◌++◌, take, drop, get_or, set, length, length-set, length-append, position, refl, sym, ap, ◌∙◌, subst, ⊎_elim, arith, append_assoc, eq-eqb, ne_eqb}
+use Rattle.std.proofs.Common.{◌≡◌, ℕ, zero, suc, ◌+◌, ◌<◌, ◌≤◌, not, cond, ◌==◌, Option, Some, None, List, [], ◌∷◌, ◌++◌, take, drop, get_or, set, length, length-set, length-append, position, refl, sym, ap, ◌∙◌, subst, ⊎_elim, arith, append_assoc, append-nil, eq-eqb, ne_eqb}
 use Rattle.std.specs.List.{position_or_len}
 use Rattle.std.proofs.lemmas.Bool.{cases_eq, cases_lt, cond-true, cond-false}
 use Rattle.std.proofs.lemmas.List.{take-append-drop}
@@ -208,10 +208,6 @@ below_behind : (n : ℕ) (fs hs : Collection) → AreBelow n (fs ++ hs) → AreB
 below_behind n [] hs below = below
 below_behind n (f ∷ fs) hs below = below_behind n fs hs below.1
 
-append_nil : (hs : Collection) → hs ++ [] ≡ hs
-append_nil [] = refl
-append_nil (h ∷ hs) = ap (λ x. h ∷ x) (append_nil hs)
-
 -- where all that is held is below a face, it is all before that face's list
 all_in_front : (ls : List Collection) (face : ℕ) → face < length ls → AreFacesFrom 0 ls → AreBelow (face_start face) (all_of ls) → all_of ls ≡ all_of (take face ls)
 all_in_front ls face within apart below =
@@ -220,7 +216,7 @@ all_in_front ls face within apart below =
     let is = all_is ls face within in
     let later = below_behind (face_start face) front behind (subst (λ (xs : Collection). AreBelow (face_start face) xs) is below) in
     let rises = subst (λ (xs : Collection). IsCollectionFrom (face_start face) xs) (behind_is ls face within) (back_from 0 face face ls (omega arith) apart) in
-    is ∙ ap (λ xs. front ++ xs) (none_between (face_start face) behind rises later) ∙ append_nil front
+    is ∙ ap (λ xs. front ++ xs) (none_between (face_start face) behind rises later) ∙ append-nil front
 
 rises_in_front : (n : ℕ) (hs ks : Collection) → IsCollectionFrom n (hs ++ ks) → IsCollectionFrom n hs
 rises_in_front n [] ks all_is = tt
@@ -240,7 +236,7 @@ putting_step hs face ls rest k within was below later =
     (below_more (face_start face) (face_start (face + 1)) (get_or ls face [] ++ all_of (drop (suc face) ls)) (start_more face (face + 1) (omega arith))
     (below_behind (face_start face) (all_of (take face ls)) (get_or ls face [] ++ all_of (drop (suc face) ls))
     (subst (λ (xs : Collection). AreBelow (face_start face) xs) (all_is ls face short) was.below)))) in
-    let all : all_of (set ls face own) ≡ all_of ls ++ own = all_put ls face own short ∙ ap (λ xs. all_of (take face ls) ++ (own ++ xs)) ends ∙ ap (λ xs. all_of (take face ls) ++ xs) (append_nil own) ∙ ap (λ xs. xs ++ own) (sym front) in
+    let all : all_of (set ls face own) ≡ all_of ls ++ own = all_put ls face own short ∙ ap (λ xs. all_of (take face ls) ++ (own ++ xs)) ends ∙ ap (λ xs. all_of (take face ls) ++ xs) (append-nil own) ∙ ap (λ xs. xs ++ own) (sym front) in
     record {
       six = length-set ls face own ∙ was.six;
       apart = apart;
@@ -250,4 +246,4 @@ putting_step hs face ls rest k within was below later =
     }
 
 pub putting_end : (hs : Collection) (ls : List Collection) (rest : Collection) → Putting hs 6 ls rest → all_of ls ≡ hs
-putting_end hs ls rest was = sym (append_nil (all_of ls)) ∙ ap (λ xs. all_of ls ++ xs) (sym (no_pair_behind rest was.rises)) ∙ was.made
+putting_end hs ls rest was = sym (append-nil (all_of ls)) ∙ ap (λ xs. all_of ls ++ xs) (sym (no_pair_behind rest was.rises)) ∙ was.made

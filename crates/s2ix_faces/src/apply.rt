@@ -1,5 +1,5 @@
 // What a change makes of the lists of the faces.
-ghost use Rattle.std.specs.Prelude.{◌≡◌, ◌==◌, ◌<◌, [], not, length, get_or, set, position, IfOk, OnOk};
+ghost use Rattle.std.specs.Prelude.{◌≡◌, ◌==◌, ◌<◌, [], not, length, get_or, set, position, OnOk};
 ghost use Rattle.s2ix_faces.specs.Faces.{AreFacesFrom, all_of};
 ghost use Rattle.s2ix_lists.specs.Apply.{AreBefore};
 ghost use Rattle.s2ix_pairs.specs.Change.{IsChangeList, changed};

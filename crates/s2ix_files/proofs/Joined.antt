@@ -1,5 +1,5 @@
 -- What a dump and a journal come to.
-use Rattle.std.proofs.Common.{◌≡◌, ℕ, Option, Some, List, Result, Ok, Err, refl, ap, inl, inr}
+use Rattle.std.proofs.Common.{◌≡◌, ℕ, Option, Some, List, Result, Ok, Err, refl, sym, ap, subst, inl, inr}
 use Rattle.std.specs.Option.{option_map}
 use Rattle.s2ix_pairs.specs.Collection.{LimitedCollection}
 use Rattle.s2ix_pairs.specs.declared.limits.Limits.{Limits}
@@ -38,6 +38,10 @@ pub refused_journal : (Leads : Leading) (limits : Limits) (dump journal : List �
 refused_journal Leads limits dump journal bag error read refused =
     refused_next (DumpReads limits dump) (λ from. Then (JournalReads limits journal) (Leads from)) bag error read
     (refused_first (JournalReads limits journal) (Leads bag) error refused)
+
+-- a journal that was read, of whose changes a slice was made
+pub read_as_slice : (limits : Limits) (journal : List ℕ) (changes slice : List (List Entry)) → slice ≡ changes → JournalReads limits journal (Ok changes) → JournalReads limits journal (Ok slice)
+read_as_slice limits journal changes slice same read = subst (λ (x : List (List Entry)). JournalReads limits journal (Ok x)) (sym same) read
 
 -- an error of the journal's changes, where both were read
 pub refused_leading : (Leads : Leading) (limits : Limits) (dump journal : List ℕ) (bag : LimitedCollection) (changes : List (List Entry)) (found : Option ReplayError) (error : ReplayError)

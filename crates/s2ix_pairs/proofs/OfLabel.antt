@@ -37,7 +37,8 @@ of_label_from n label (h ∷ hs) c =
 
 -- ---- its counts
 
-same_label_at : (p q : Pair) → rank_of p ≡ rank_of q → value_of p.label ≡ value_of q.label
+-- pairs of one rank have one label
+pub same_label_at : (p q : Pair) → rank_of p ≡ rank_of q → value_of p.label ≡ value_of q.label
 same_label_at p q e = ap (λ (r : Pair). value_of r.label) (same_pair p q e)
 
 -- a pair with the label has the count that it has in all

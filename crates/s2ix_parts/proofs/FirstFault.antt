@@ -1,5 +1,5 @@
 -- The first fault of a text, one line further.
-use Rattle.std.proofs.Common.{◌≡◌, ℕ, ◌+◌, ◌≤◌, Bool, false, not, true, Option, Some, None, List, [], ◌∷◌, ◌++◌, length, refl, ap, arith}
+use Rattle.std.proofs.Common.{◌≡◌, ℕ, ◌+◌, ◌≤◌, Bool, false, not, true, ◌&&◌, Option, Some, None, List, [], ◌∷◌, ◌++◌, length, refl, ap, ◌∙◌, arith}
 use Rattle.std.specs.Option.{option_map, option_or}
 use Rattle.std.proofs.lemmas.List.{length_push}
 use Rattle.s2ix_pairs.specs.declared.limits.Limits.{Limits}
@@ -40,3 +40,7 @@ found_from fault limits n above (line ∷ lines) le =
 -- a line with its line feed has more lines below it
 pub ended : (limits : Limits) (above : List (List ℕ)) (line : List ℕ) (lines : List (List ℕ)) → is_nil lines ≡ false → place limits above line lines ≡ record { limits = limits; above = above; line = line; ended = true }
 ended limits above line lines some = ap (λ (b : Bool). let made : Place = record { limits = limits; above = above; line = line; ended = not b } in made) some
+
+-- a test that is made where another one holds
+pub applies : (b x y : Bool) → b ≡ true → x ≡ y → (b && x) ≡ y
+applies b x y is same = ap (λ t. t && x) is ∙ same

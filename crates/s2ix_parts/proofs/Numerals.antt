@@ -19,7 +19,9 @@ use Rattle.s2id_core.proofs.Spelled.{cell_spelled-some}
 use Rattle.s2ix_pairs.specs.declared.label.Label.{Label}
 use Rattle.s2ix_pairs.specs.Label.{label_numbered, value_of}
 use Rattle.s2ix_pairs.proofs.Labels.{label_numbered-in_range, label_numbered-above}
+use Rattle.s2ix_parts.specs.Lines.{is_nil}
 use Rattle.s2ix_parts.specs.Written.{cell_with, cell_written, count_from, count_written, label_written, number_written}
+use Rattle.s2ix_parts.proofs.Pieces.{is_some_text}
 
 -- ---- cells
 
@@ -42,6 +44,10 @@ pub cell_of_token : (cell : CellId) → cell_written (canonical_token (raw_of ce
 cell_of_token cell =
     cell_from_spelled (canonical_token (raw_of cell)) (Some cell) (cell_spelled-some (canonical_token (raw_of cell)) cell (canonical_spells (raw_of cell) cell.valid))
     ∙ cond-true _ _ _ ((bytes_eq-Decides (canonical_token (raw_of cell)) (canonical_token (raw_of cell))).1 refl)
+
+-- a token has a digit
+pub token_some : (cell : CellId) → is_nil (canonical_token (raw_of cell)) ≡ false
+token_some cell = is_some_text _ (canonical_spells (raw_of cell) cell.valid).some
 
 -- ---- numbers
 
@@ -70,6 +76,9 @@ parsed_number text bytes n r same parses small is =
     parse-decimal 32 n bytes r (omega arith) (omega arith) (same ∙ written_number text n is) parses
 
 -- ---- labels
+
+pub small_label : (label : Label) → value_of label < 2 ^ 64
+small_label label = let within : value_of label ≤ 2147483647 = label.in_range in omega arith
 
 label_at : (number : Option ℕ) → ((n : ℕ) → n < 2 ^ 32 → number ≢ Some n) → option_and_then label_numbered number ≡ None
 label_at None large = refl
@@ -108,7 +117,7 @@ written_label text label is = written_number text (value_of label) (label_in (nu
 pub label_of_digits : (label : Label) → label_written (decimal (value_of label)) ≡ Some label
 label_of_digits label =
     let within : value_of label ≤ 2147483647 = label.in_range in
-    label_from_number (decimal (value_of label)) (value_of label) (number_of_digits (value_of label) (omega arith))
+    label_from_number (decimal (value_of label)) (value_of label) (number_of_digits (value_of label) (small_label label))
     ∙ sym (label_numbered-in_range (value_of label) within)
 
 -- ---- counts

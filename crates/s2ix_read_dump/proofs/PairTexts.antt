@@ -9,7 +9,7 @@ use Rattle.std.proofs.lemmas.List.Elements.{All-append, All-cons, All-head, All-
 use Rattle.std.proofs.lemmas.Slice.Eq.{bytes_eq-Decides}
 use Rattle.s2id_core.specs.CellId.{raw_of}
 use Rattle.s2id_core.specs.Token.{IsLowerHex, canonical_token}
-use Rattle.s2id_core.proofs.Canonical.{canonical_spells, lower-canonical_token}
+use Rattle.s2id_core.proofs.Canonical.{lower-canonical_token}
 use Rattle.s2id_core.specs.declared.cell_id.CellId.{CellId}
 use Rattle.s2ix_pairs.specs.Collection.{Collection, copies_in}
 use Rattle.s2ix_pairs.specs.Label.{value_of}
@@ -21,14 +21,14 @@ use Rattle.s2ix_text.specs.Version.{dump_header, dump_version, greatest_below, g
 use Rattle.s2ix_text.proofs.Journals.{IsGraphic, decimal_graphic, token_graphic}
 use Rattle.s2ix_text.proofs.Versions.{greatest_below_fits, named_by_dump_header}
 use Rattle.s2ix_read_dump.specs.DumpFaults.{end_text, greatest_count, is_end}
-use Rattle.s2ix_parts.specs.Lines.{has_parts, is_nil, lines_of, parts_of}
+use Rattle.s2ix_parts.specs.Lines.{has_parts, lines_of, parts_of}
 use Rattle.s2ix_read_dump.specs.PairLines.{IsCut, held_of_parts, held_written, line_text}
 use Rattle.s2ix_parts.specs.Written.{cell_written, count_of_line, count_written, label_written, pair_with, pair_written}
 use Rattle.s2ix_read_dump.specs.declared.errors.DumpFault.{DumpFault}
 use Rattle.s2ix_read_dump.specs.declared.errors.DumpFault.TheVariants.{BadLine}
 use Rattle.s2ix_parts.proofs.PartCounts.{graphic_lacks}
 use Rattle.s2ix_parts.proofs.Pieces.{Lacks, is_some_text, lines_apart, parts_apart, parts_joined, three_from_parts}
-use Rattle.s2ix_parts.proofs.Numerals.{cell_of_token, count_of_digits, label_of_digits, written_cell, written_count, written_label}
+use Rattle.s2ix_parts.proofs.Numerals.{cell_of_token, count_of_digits, label_of_digits, small_label, token_some, written_cell, written_count, written_label}
 
 -- a count that a dump with this header writes
 abbrev pub HasCount : List ℕ → Held → Type 0
@@ -39,9 +39,6 @@ greatest_small header = greatest_below_fits (dump_version header)
 
 pub greatest_known : (version : Version) → greatest_count (dump_header version) ≡ greatest_in version
 greatest_known version = ap greatest_below (named_by_dump_header version)
-
-small_label : (label : Label) → value_of label < 2 ^ 64
-small_label label = let within : value_of label ≤ 2147483647 = label.in_range in omega arith
 
 -- ---- three parts
 
@@ -70,9 +67,6 @@ line_lacks_feed header h counted =
 pub line_with_feed : (h : Held) → pair_line h ≡ line_text h ++ 10 ∷ []
 unfolding pair_line line_text
 line_with_feed h = simp append_assoc
-
-token_some : (cell : CellId) → is_nil (canonical_token (raw_of cell)) ≡ false
-token_some cell = is_some_text _ (canonical_spells (raw_of cell) cell.valid).some
 
 pub line_has_parts : (header : List ℕ) (h : Held) → HasCount header h → has_parts 3 (line_text h) ≡ true
 line_has_parts header h counted =

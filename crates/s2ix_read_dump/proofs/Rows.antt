@@ -1,5 +1,5 @@
 -- The fault of a line, by the table: below the lines of held pairs, at the end, and behind it.
-use Rattle.std.proofs.Common.{◌≡◌, ◌==◌, ℕ, ◌+◌, ◌<◌, ◌≤◌, Bool, true, false, not, ◌&&◌, ◌||◌, cond, Option, Some, None, Result, Ok, Err, List, [], ◌∷◌, ◌++◌, All, length, map, refl, sym, ap, ap₂, ◌∙◌, subst, arith}
+use Rattle.std.proofs.Common.{◌≡◌, ◌==◌, ℕ, ◌+◌, ◌<◌, ◌≤◌, Bool, true, false, not, ◌||◌, cond, Option, Some, None, Result, Ok, Err, List, [], ◌∷◌, ◌++◌, All, length, map, refl, sym, ap, ap₂, ◌∙◌, subst, arith}
 use Rattle.std.specs.Prelude.{find, is_none, nat_le, nat_lt, slice_index_or, sum_by}
 use Rattle.std.specs.List.{list_any}
 use Rattle.std.specs.Option.{option_and_then, unwrap_or}
@@ -24,6 +24,7 @@ use Rattle.s2ix_parts.specs.Lines.{has_parts, is_nil, last_of, part, parts_of}
 use Rattle.s2ix_read_dump.specs.PairLines.{IsDumped, IsNext, held_of_parts, held_written, last_pair, line_text, place_below}
 use Rattle.s2ix_parts.specs.Written.{cell_written, comes_before, count_of_line, count_written, label_written, pair_written}
 use Rattle.s2ix_read_dump.proofs.Appended.{counts_are, dumped_more}
+use Rattle.s2ix_parts.proofs.FirstFault.{applies}
 use Rattle.s2ix_parts.proofs.Numerals.{written_count}
 use Rattle.s2ix_read_dump.proofs.PairTexts.{HasCount, count_of_text, line_is_no_end, pair_of_line, written_held}
 
@@ -73,9 +74,6 @@ next_fault limits hs (Ok h) =
 of_pair : (limits : Limits) (header : List ℕ) (hs : Collection) (line : List ℕ) → All (HasCount header) hs → is_end line ≡ false → is_of_pair (place_below limits header hs line) ≡ true
 of_pair limits header hs line counted no_end = and_from _ _ (and_from _ _ refl (not_from_false _ (not_over header hs counted))) (not_from_false _ no_end)
 
-same_row : (b x y : Bool) → b ≡ true → x ≡ y → (b && x) ≡ y
-same_row b x y is same = ap (λ t. t && x) is ∙ same
-
 last_rows : (a b c x y z : Bool) → a ≡ x → b ≡ y → c ≡ z
     → ◌≡◌ {A = Option DumpFault} (cond a (Some Unsorted) (cond b (Some TooManyCopies) (cond c (Some TooManyPairs) None))) (cond x (Some Unsorted) (cond y (Some TooManyCopies) (cond z (Some TooManyPairs) None)))
 last_rows a b c x y z ax by cz = rw (ax, by, cz) refl
@@ -94,34 +92,34 @@ at_parts : (limits : Limits) (header : List ℕ) (hs : Collection) (line : List 
 unfolding stands next_fault
 at_parts limits header hs line false cell label count counted no_end a b c d =
     let of = of_pair limits header hs line counted no_end in
-    cond-true (stands (place_below limits header hs line) BadLine) _ _ (same_row _ _ _ of (ap not a))
+    cond-true (stands (place_below limits header hs line) BadLine) _ _ (applies _ _ _ of (ap not a))
 at_parts limits header hs line true None label count counted no_end a b c d =
     let of = of_pair limits header hs line counted no_end in
-    cond-false (stands (place_below limits header hs line) BadLine) _ _ (same_row _ _ _ of (ap not a))
-    ∙ cond-true (stands (place_below limits header hs line) BadToken) _ _ (same_row _ _ _ of (ap is_none b))
+    cond-false (stands (place_below limits header hs line) BadLine) _ _ (applies _ _ _ of (ap not a))
+    ∙ cond-true (stands (place_below limits header hs line) BadToken) _ _ (applies _ _ _ of (ap is_none b))
 at_parts limits header hs line true (Some cell) None count counted no_end a b c d =
     let of = of_pair limits header hs line counted no_end in
-    cond-false (stands (place_below limits header hs line) BadLine) _ _ (same_row _ _ _ of (ap not a))
-    ∙ cond-false (stands (place_below limits header hs line) BadToken) _ _ (same_row _ _ _ of (ap is_none b))
-    ∙ cond-true (stands (place_below limits header hs line) BadLabel) _ _ (same_row _ _ _ of (ap is_none c))
+    cond-false (stands (place_below limits header hs line) BadLine) _ _ (applies _ _ _ of (ap not a))
+    ∙ cond-false (stands (place_below limits header hs line) BadToken) _ _ (applies _ _ _ of (ap is_none b))
+    ∙ cond-true (stands (place_below limits header hs line) BadLabel) _ _ (applies _ _ _ of (ap is_none c))
 at_parts limits header hs line true (Some cell) (Some label) None counted no_end a b c d =
     let of = of_pair limits header hs line counted no_end in
-    cond-false (stands (place_below limits header hs line) BadLine) _ _ (same_row _ _ _ of (ap not a))
-    ∙ cond-false (stands (place_below limits header hs line) BadToken) _ _ (same_row _ _ _ of (ap is_none b))
-    ∙ cond-false (stands (place_below limits header hs line) BadLabel) _ _ (same_row _ _ _ of (ap is_none c))
-    ∙ cond-true (stands (place_below limits header hs line) BadCount) _ _ (same_row _ _ _ of (ap is_none d))
+    cond-false (stands (place_below limits header hs line) BadLine) _ _ (applies _ _ _ of (ap not a))
+    ∙ cond-false (stands (place_below limits header hs line) BadToken) _ _ (applies _ _ _ of (ap is_none b))
+    ∙ cond-false (stands (place_below limits header hs line) BadLabel) _ _ (applies _ _ _ of (ap is_none c))
+    ∙ cond-true (stands (place_below limits header hs line) BadCount) _ _ (applies _ _ _ of (ap is_none d))
 at_parts limits header hs line true (Some cell) (Some label) (Some n) counted no_end a b c d =
     let of = of_pair limits header hs line counted no_end in
     let pair = pair_from line cell label b c in
     let count = count_from_part (greatest_count header) line n d in
-    cond-false (stands (place_below limits header hs line) BadLine) _ _ (same_row _ _ _ of (ap not a))
-    ∙ cond-false (stands (place_below limits header hs line) BadToken) _ _ (same_row _ _ _ of (ap is_none b))
-    ∙ cond-false (stands (place_below limits header hs line) BadLabel) _ _ (same_row _ _ _ of (ap is_none c))
-    ∙ cond-false (stands (place_below limits header hs line) BadCount) _ _ (same_row _ _ _ of (ap is_none d))
+    cond-false (stands (place_below limits header hs line) BadLine) _ _ (applies _ _ _ of (ap not a))
+    ∙ cond-false (stands (place_below limits header hs line) BadToken) _ _ (applies _ _ _ of (ap is_none b))
+    ∙ cond-false (stands (place_below limits header hs line) BadLabel) _ _ (applies _ _ _ of (ap is_none c))
+    ∙ cond-false (stands (place_below limits header hs line) BadCount) _ _ (applies _ _ _ of (ap is_none d))
     ∙ last_rows _ _ _ _ _ _
-    (same_row _ _ _ of (ap (λ p. not (comes_before p (pair_written line))) (last_is header hs counted) ∙ ap (λ p. not (comes_before (last_pair hs) p)) pair))
-    (same_row _ _ _ of (ap (λ m. nat_lt (count_limit limits) m) count))
-    (same_row _ _ _ of (ap (λ m. nat_le (pairs_limit limits) m) (length-map hs line_text)))
+    (applies _ _ _ of (ap (λ p. not (comes_before p (pair_written line))) (last_is header hs counted) ∙ ap (λ p. not (comes_before (last_pair hs) p)) pair))
+    (applies _ _ _ of (ap (λ m. nat_lt (count_limit limits) m) count))
+    (applies _ _ _ of (ap (λ m. nat_le (pairs_limit limits) m) (length-map hs line_text)))
 
 -- the fault of a line that is to write a pair
 pub pair_row : (limits : Limits) (header : List ℕ) (hs : Collection) (line : List ℕ) → IsDumped limits header hs → is_end line ≡ false
@@ -196,7 +194,7 @@ end_row limits header hs line is end =
     ∙ cond-false (t Truncated) _ _ (and_right (not (is_over p)) false refl)
     ∙ cond-false (t BadHeader) (Some BadHeader) _ refl
     ∙ end_rows (t BadEnd) (not (bytes_eq line (end_text (length hs) (copies_in hs)))) (t TrailingBytes)
-    (same_row _ _ _ (and_from _ _ inner end)
+    (applies _ _ _ (and_from _ _ inner end)
     (ap (λ m. not (bytes_eq line (end_text m (copies_above p)))) (length-map hs line_text)
     ∙ ap (λ m. not (bytes_eq line (end_text (length hs) m))) (copies_are header hs counted)))
     (and_left _ _ over)
@@ -216,7 +214,7 @@ behind_row p first over =
     ∙ cond-false (t Truncated) _ _ (and_left _ _ (ap not over))
     ∙ cond-false (t BadHeader) _ _ (and_left _ _ first)
     ∙ cond-false (t BadEnd) _ _ (and_left _ _ (and_left _ _ inner))
-    ∙ ap (λ b. cond b (Some TrailingBytes) None) (same_row _ _ _ over refl)
+    ∙ ap (λ b. cond b (Some TrailingBytes) None) (applies _ _ _ over refl)
 
 pub over_behind : (hs : Collection) (line : List ℕ) → is_end line ≡ true → list_any is_end (map line_text hs ++ line ∷ []) ≡ true
 over_behind hs line end = list_any-append is_end (map line_text hs) (line ∷ []) ∙ or_right _ _ (or_left _ _ end)

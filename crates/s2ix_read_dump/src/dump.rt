@@ -1,5 +1,5 @@
 //! Dumps, read back.
-ghost use Rattle.std.specs.Prelude.{◌≡◌, ◌∷◌, ◌++◌, [], ℕ, List, codes, flat_map, IfErr, IfNone, IfOk, IfSome, MatchResult, None, OnOk, IsTrue, ◌↔◌, true};
+ghost use Rattle.std.specs.Prelude.{◌≡◌, ◌∷◌, ◌++◌, [], flat_map, IfErr, IfNone, IfOk, IfSome, MatchResult, None, OnOk, IsTrue, ◌↔◌, true};
 ghost use Rattle.s2ix_pairs.specs.Collection.{Collection, IsBag, copies_in};
 ghost use Rattle.s2ix_text.specs.Dump.{IsDump, end_line, pair_line};
 ghost use Rattle.s2ix_text.specs.Version.{dump_header};

@@ -1,20 +1,19 @@
 -- The line of an entry: how it is cut, and what it writes.
-use Rattle.std.proofs.Common.{◌≡◌, ℕ, ◌^◌, ◌<◌, ◌≤◌, Bool, true, false, cond, Option, Some, None, Ok, Err, List, [], ◌∷◌, ◌++◌, refl, ap, ◌∙◌, subst, arith, append_assoc}
+use Rattle.std.proofs.Common.{◌≡◌, ℕ, ◌^◌, ◌<◌, Bool, true, false, cond, Option, Some, None, Ok, Err, List, [], ◌∷◌, ◌++◌, refl, ap, ◌∙◌, subst, arith, append_assoc}
 use Rattle.std.specs.Prelude.{decimal, slice_index_or}
 use Rattle.std.proofs.lemmas.Bool.{cond-true, cond-false}
 use Rattle.std.proofs.lemmas.Fmt.{decimal_nonempty}
 use Rattle.s2id_core.specs.CellId.{raw_of}
 use Rattle.s2id_core.specs.Token.{canonical_token}
-use Rattle.s2id_core.proofs.Canonical.{canonical_spells}
 use Rattle.s2id_core.specs.declared.cell_id.CellId.{CellId}
 use Rattle.s2ix_pairs.specs.Label.{value_of}
 use Rattle.s2ix_pairs.specs.declared.label.Label.{Label}
 use Rattle.s2ix_pairs.specs.declared.pair.Entry.{Entry}
 use Rattle.s2ix_text.specs.Journal.{entry_line}
 use Rattle.s2ix_text.proofs.Journals.{decimal_graphic, token_graphic}
-use Rattle.s2ix_parts.specs.Lines.{has_parts, is_nil, part, parts_of}
+use Rattle.s2ix_parts.specs.Lines.{has_parts, part, parts_of}
 use Rattle.s2ix_parts.specs.Written.{cell_written, label_written, pair_with, pair_written}
-use Rattle.s2ix_parts.proofs.Numerals.{cell_of_token, label_of_digits, written_cell, written_label}
+use Rattle.s2ix_parts.proofs.Numerals.{cell_of_token, label_of_digits, small_label, token_some, written_cell, written_label}
 use Rattle.s2ix_parts.proofs.PartCounts.{four_are, four_from_parts, four_joined, graphic_lacks, lacks_feed_more, parts_last, parts_more}
 use Rattle.s2ix_parts.proofs.Pieces.{Lacks, is_some_text}
 use Rattle.s2ix_read_journal.specs.declared.errors.JournalFault.TheVariants.{BadLine}
@@ -22,9 +21,6 @@ use Rattle.s2ix_read_journal.specs.JournalLines.{entry_of_parts, entry_text, ent
 use Rattle.s2ix_read_journal.specs.Journals.{HasSides}
 use Rattle.s2ix_read_journal.specs.Numbers.{side_written}
 use Rattle.s2ix_read_journal.proofs.NumberTexts.{side_of_digits, written_side}
-
-small_label : (label : Label) → value_of label < 2 ^ 64
-small_label label = let within : value_of label ≤ 2147483647 = label.in_range in omega arith
 
 pub line_with_feed : (e : Entry) → entry_line e ≡ entry_text e ++ 10 ∷ []
 unfolding entry_line entry_text
@@ -47,9 +43,6 @@ entry_lacks_feed most bounded e sides =
     (lacks_feed_more (decimal (value_of e.pair.label)) _ (decimal_graphic _ (small_label e.pair.label))
     (lacks_feed_more (decimal e.before) _ (decimal_graphic e.before (omega (arith, sides.0)))
     (graphic_lacks 10 (decimal e.after) (omega arith) (decimal_graphic e.after (omega (arith, sides.1))))))
-
-token_some : (cell : CellId) → is_nil (canonical_token (raw_of cell)) ≡ false
-token_some cell = is_some_text _ (canonical_spells (raw_of cell) cell.valid).some
 
 entry_has_parts : (most : ℕ) → most < 2 ^ 32 → (e : Entry) → HasSides most e → has_parts 4 (entry_text e) ≡ true
 entry_has_parts most bounded e sides =

@@ -20,6 +20,7 @@ use Rattle.s2ix_read_journal.specs.declared.errors.JournalFault.TheVariants.{Tru
 use Rattle.s2ix_read_journal.specs.JournalFaults.{behind, end_text, greatest_count, is_change, is_end, is_first, is_inner, is_of_entry, is_of_group, is_outside, is_over, line_fault, stands}
 use Rattle.s2ix_read_journal.specs.JournalLines.{entry_behind, entry_of_parts, entry_written, next_entry, next_size, size_behind, size_of_part}
 use Rattle.s2ix_read_journal.specs.Numbers.{side_written, size_written}
+use Rattle.s2ix_parts.proofs.FirstFault.{applies}
 
 -- ---- what stands above
 
@@ -62,10 +63,7 @@ same_first : (a b c d e f g h i j k l A B C D E F G H I J K L : Bool) → a ≡ 
     → first_of a b c d e f g h i j k l ≡ first_of A B C D E F G H I J K L
 same_first a b c d e f g h i j k l A B C D E F G H I J K L ra rb rc rd re rf rg rh ri rj rk rl = rw (ra, rb, rc, rd, re, rf, rg, rh, ri, rj, rk, rl) refl
 
--- a test that applies, and one that doesn't
-applies : (b x y : Bool) → b ≡ true → x ≡ y → (b && x) ≡ y
-applies b x y is same = ap (λ t. t && x) is ∙ same
-
+-- of two tests the one that applies, or neither
 first_applies : (a b x y : Bool) → a ≡ true → b ≡ false → ((a && x) || (b && y)) ≡ x
 first_applies false b x y is isnt = cc
 first_applies true true x y is isnt = cc
@@ -74,6 +72,9 @@ first_applies true false false y is isnt = refl
 
 second_applies : (a b x y : Bool) → a ≡ false → b ≡ true → ((a && x) || (b && y)) ≡ y
 second_applies a b x y isnt is = rw (isnt, is) refl
+
+neither : (a b x y : Bool) → a ≡ false → b ≡ false → ((a && x) || (b && y)) ≡ false
+neither a b x y is_a is_b = rw (is_a, is_b) refl
 
 -- ---- inside a group
 
@@ -186,9 +187,6 @@ end_row most limits above line groups is end =
     (and_left _ _ entry)
     (and_left _ _ group)
     (and_left _ _ is.over)
-  where
-    neither : (a b x y : Bool) → a ≡ false → b ≡ false → ((a && x) || (b && y)) ≡ false
-    neither a b x y is_a is_b = rw (is_a, is_b) refl
 
 -- ---- behind the end line
 
@@ -213,9 +211,6 @@ behind_row p first over =
     (and_left _ _ entry)
     (and_left _ _ group)
     (applies _ _ _ over refl)
-  where
-    neither : (a b x y : Bool) → a ≡ false → b ≡ false → ((a && x) || (b && y)) ≡ false
-    neither a b x y is_a is_b = rw (is_a, is_b) refl
 
 -- ---- a line without a line feed, where one is wanted, and the header
 

@@ -45,12 +45,6 @@ from_read rank n hs h hs_is is le =
 
 -- ---- the pairs of a face
 
-on_below : (face : ℕ) (hs : Collection) → AreBelow (face_start face) hs → held_on face hs ≡ []
-on_below face [] below = refl
-on_below face (h ∷ hs) below =
-    let less = (before_by_rank h.pair face (face_of h.pair.cell) refl).1 below.0 in
-    off_face face h hs (λ same. omega (arith, same, less)) ∙ on_below face hs below.1
-
 on_behind : (face m : ℕ) (hs : Collection) → face_start (face + 1) ≤ m → IsCollectionFrom m hs → held_on face hs ≡ []
 on_behind face m [] le hs_is = refl
 on_behind face m (h ∷ hs) le hs_is =

@@ -1,22 +1,10 @@
 // Borders and unions.
 use crate::calls::{SET_UP, answer};
-use s2id_core::CellId;
 use s2id_cube::border;
-use s2id_samples::{cell_of, cells_of};
+use s2id_samples::{are_cells, cell_of, cells_of};
 use s2id_union::CellUnion;
 use std::alloc::Global;
 use std::process::Abort;
-
-// Whether some cells are those that the tokens name, in their order.
-fn are_cells(cells: &[CellId], tokens: &str) -> bool {
-    let mut left = cells.iter();
-    for token in tokens.split_ascii_whitespace() {
-        if left.next().copied() != cell_of(token) {
-            return false;
-        }
-    }
-    left.next().is_none()
-}
 
 #[test]
 fn refused_borders(rt: HostRuntime) {

@@ -1,9 +1,9 @@
 // Stores, step by step.
 use crate::calls::{SET_UP, answer, tell};
 use crate::tables::{Row, has_ranges};
-use s2ix_bag::{Bag, Change, Label, Limits};
+use s2ix_bag::{Bag, Label, Limits};
 use s2ix_edit::{Edit, EditError};
-use s2ix_samples::{WIDEST, bag_of, holds_pairs, label_of, lists_entries, pair_of};
+use s2ix_samples::{WIDEST, are_changes, bag_of, holds_pairs, label_of, pair_of};
 use s2ix_store::Store;
 use std::alloc::Global;
 use std::process::Abort;
@@ -110,18 +110,6 @@ fn seen_at(state: State) -> Seen {
             ..GROWN
         },
     }
-}
-
-// Whether some changes have these entries.
-fn are_changes(changes: &[Change], wanted: &[&str]) -> bool {
-    let mut left = changes.iter();
-    for &entries in wanted {
-        match left.next() {
-            Some(change) if lists_entries(change, entries) => {}
-            _ => return false,
-        }
-    }
-    left.next().is_none()
 }
 
 // Whether a store has its changes done and undone, and its last step built so many faces again.

@@ -66,3 +66,15 @@ pub fn lists_entries(change: &Change, entries: &str) -> bool {
     }
     left.next().is_none()
 }
+
+/// Whether some changes have these entries, each its own and no others, in their order.
+pub fn are_changes(changes: &[Change], wanted: &[&str]) -> bool {
+    let mut left = changes.iter();
+    for &entries in wanted {
+        match left.next() {
+            Some(change) if lists_entries(change, entries) => {}
+            _ => return false,
+        }
+    }
+    left.next().is_none()
+}

@@ -10,7 +10,9 @@ mod lists;
 mod nested;
 mod pairs;
 
-pub use bags::{LimitRow, WIDEST, bag_of, change_of, holds_pairs, limits_of, lists_entries};
+pub use bags::{
+    LimitRow, WIDEST, are_changes, bag_of, change_of, holds_pairs, limits_of, lists_entries,
+};
 pub use lists::{are_labels, are_pairs, list_of};
 pub use nested::{all_faces, deep_bag, nested_bag, random_cells, with_more};
 pub use pairs::{entry_of, held_of, label_of, pair_of};

@@ -1,7 +1,8 @@
 -- What the store answers to an edit, an undo or a redo tells the line's step.
-use Rattle.std.proofs.Common.{◌≡◌, ◌≢◌, ◌↔◌, ◌-◌, ℕ, List, [], ◌∷◌, None, Some, Result, Ok, Err, refl, sym, ap, ◌∙◌, length, arith}
+use Rattle.std.proofs.Common.{◌≡◌, ◌≢◌, ◌↔◌, ◌-◌, ℕ, List, [], ◌∷◌, Option, None, Some, Result, Ok, Err, refl, sym, ap, ◌∙◌, length, arith}
 use Rattle.std.specs.Prelude.{IfOk, IfErr, OnOk, OnErr, slice_get}
 use Rattle.std.proofs.lemmas.Option.{slice_get-get_or}
+use Rattle.s2ix_pairs.specs.declared.pair.Entry.{Entry}
 use Rattle.s2ix_edit.specs.declared.edit.Edit.{Edit}
 use Rattle.s2ix_edit.specs.declared.errors.EditError.{EditError}
 use Rattle.s2ix_edit.specs.declared.errors.EditError.TheVariants.{JournalFull, NoSuchLabel, NotHeld, TooFine, NoSuchChange, BelowZero, NoChange, TooManyCopies, TooManyPairs, OutOfMemory}
@@ -14,7 +15,7 @@ use Rattle.s2ix_edit.specs.State.{State, change_of}
 use Rattle.s2ix_store.specs.Steps.{after_edit, after_undo, after_redo, undo_size, redo_size}
 use Rattle.s2ix_script.specs.Names.{edit_error_name, redo_error_name, undo_error_name}
 use Rattle.s2ix_step.specs.Carry.{IsTold}
-use Rattle.s2ix_step.specs.Step.{edit_step, edit_step_at, no_step, ok_step, redo_step, redo_step_at, undo_step, undo_step_at}
+use Rattle.s2ix_step.specs.Step.{edit_step, edit_step_at, no_step, ok_step, redo_step, redo_step_at, undo_step, undo_step_at, Step}
 
 -- ---- an edit
 
@@ -52,40 +53,39 @@ slice_get-last : {A : Type 0} (xs : List A) → xs ≢ [] → (x : A) × (slice_
 slice_get-last [] some = absurd (some refl)
 slice_get-last (x ∷ xs) some = (_, slice_get-get_or (x ∷ xs) (length (x ∷ xs) - 1) x (omega arith))
 
--- an undo where a change was done
-accepted_undo : (s new : State) (n : ℕ) → s.done ≢ [] → new ≡ after_undo s → n ≡ undo_size s → undo_step s ≡ ok_step new n
-unfolding undo_step
-accepted_undo s new n some stands is =
-    ap (undo_step_at s) (slice_get-last s.done some).1 ∙ ap (ok_step (after_undo s)) (sym is) ∙ ap (λ x. ok_step x n) (sym stands)
-
--- an undo where none was
-refused_undo : (s : State) → s.done ≡ [] → undo_step s ≡ no_step s (undo_error_name undo.NothingToUndo)
-unfolding undo_step
-refused_undo s none = ap (undo_step_at s) (ap (λ xs. slice_get xs (length xs - 1)) none)
+-- a step that takes the last change of a list, as an undo and a redo do: there are two errors, that the list is empty and want of memory
+last_is_told : {E : Type 0} (name : E → List ℕ) (nothing want : E) (step_at : Option (List Entry) → Step) (changes : List (List Entry)) (s new after : State) (size : ℕ) (told : Result ℕ E)
+    → ((error : E) → error ≢ want → error ≡ nothing) → ((es : List Entry) → step_at (Some es) ≡ ok_step after size) → step_at None ≡ no_step s (name nothing)
+    → (told ≡ Err nothing) ↔ (changes ≡ []) → OnOk told (new ≡ after) → IfOk told (λ n. n ≡ size) → OnErr told (new ≡ s)
+    → IsTold name want (step_at (slice_get changes (length changes - 1))) s new told
+last_is_told name nothing want step_at changes s new after size (Ok n) two takes lacks empty stands is unchanged =
+    let last = slice_get-last changes (λ none. let e = empty.1 none in cc) in
+    ap step_at last.1 ∙ takes last.0 ∙ ap (λ x. ok_step x size) (sym stands) ∙ ap (ok_step new) (sym is)
+last_is_told name nothing want step_at changes s new after size (Err error) two takes lacks empty stands is unchanged = (
+  unchanged,
+  λ other.
+      let same = two error other in
+      ap (λ xs. step_at (slice_get xs (length xs - 1))) (empty.0 (ap Err same)) ∙ lacks ∙ ap (λ e. no_step s (name e)) (sym same) ∙ ap (λ x. no_step x (name error)) (sym unchanged),
+)
 
 pub undo_is_told : (s new : State) (told : Result ℕ UndoError) → (told ≡ Err undo.NothingToUndo) ↔ (s.done ≡ []) → OnOk told (new ≡ after_undo s)
     → IfOk told (λ n. n ≡ undo_size s) → OnErr told (new ≡ s)
     → IsTold undo_error_name undo.OutOfMemory (undo_step s) s new told
-undo_is_told s new (Ok n) nothing stands is unchanged = accepted_undo s new n (λ none. let e = nothing.1 none in cc) stands is
-undo_is_told s new (Err undo.NothingToUndo) nothing stands is unchanged =
-    (unchanged, λ other. refused_undo s (nothing.0 refl) ∙ ap (λ x. no_step x (undo_error_name undo.NothingToUndo)) (sym unchanged))
-undo_is_told s new (Err undo.OutOfMemory) nothing stands is unchanged = (unchanged, λ other. absurd (other refl))
-
--- a redo where a change was undone
-accepted_redo : (s new : State) (n : ℕ) → s.undone ≢ [] → new ≡ after_redo s → n ≡ redo_size s → redo_step s ≡ ok_step new n
-unfolding redo_step
-accepted_redo s new n some stands is =
-    ap (redo_step_at s) (slice_get-last s.undone some).1 ∙ ap (ok_step (after_redo s)) (sym is) ∙ ap (λ x. ok_step x n) (sym stands)
-
--- a redo where none was
-refused_redo : (s : State) → s.undone ≡ [] → redo_step s ≡ no_step s (redo_error_name redo.NothingToRedo)
-unfolding redo_step
-refused_redo s none = ap (redo_step_at s) (ap (λ xs. slice_get xs (length xs - 1)) none)
+unfolding undo_step
+undo_is_told s new told nothing stands is unchanged =
+    last_is_told undo_error_name undo.NothingToUndo undo.OutOfMemory (undo_step_at s) s.done s new (after_undo s) (undo_size s) told two (λ es. refl) refl nothing stands is unchanged
+  where
+    two : (error : UndoError) → error ≢ undo.OutOfMemory → error ≡ undo.NothingToUndo
+    two undo.NothingToUndo other = refl
+    two undo.OutOfMemory other = absurd (other refl)
 
 pub redo_is_told : (s new : State) (told : Result ℕ RedoError) → (told ≡ Err redo.NothingToRedo) ↔ (s.undone ≡ []) → OnOk told (new ≡ after_redo s)
     → IfOk told (λ n. n ≡ redo_size s) → OnErr told (new ≡ s)
     → IsTold redo_error_name redo.OutOfMemory (redo_step s) s new told
-redo_is_told s new (Ok n) nothing stands is unchanged = accepted_redo s new n (λ none. let e = nothing.1 none in cc) stands is
-redo_is_told s new (Err redo.NothingToRedo) nothing stands is unchanged =
-    (unchanged, λ other. refused_redo s (nothing.0 refl) ∙ ap (λ x. no_step x (redo_error_name redo.NothingToRedo)) (sym unchanged))
-redo_is_told s new (Err redo.OutOfMemory) nothing stands is unchanged = (unchanged, λ other. absurd (other refl))
+unfolding redo_step
+redo_is_told s new told nothing stands is unchanged =
+    last_is_told redo_error_name redo.NothingToRedo redo.OutOfMemory (redo_step_at s) s.undone s new (after_redo s) (redo_size s) told two (λ es. refl) refl nothing stands is unchanged
+  where
+    two : (error : RedoError) → error ≢ redo.OutOfMemory → error ≡ redo.NothingToRedo
+    two redo.NothingToRedo other = refl
+    two redo.OutOfMemory other = absurd (other refl)

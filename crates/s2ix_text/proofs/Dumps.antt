@@ -1,6 +1,6 @@
 -- Two collections with one dump are one collection.
-use Rattle.std.proofs.Common.{◌≡◌, ℕ, List, [], ◌∷◌, ◌++◌, refl, sym, ap₂, ◌∙◌, subst, append_assoc, arith, All}
-use Rattle.std.specs.Prelude.{codes, decimal, flat_map}
+use Rattle.std.proofs.Common.{◌≡◌, ℕ, ◌^◌, ◌<◌, List, [], ◌∷◌, ◌++◌, refl, sym, ap₂, ◌∙◌, subst, append_assoc, arith, All}
+use Rattle.std.specs.Prelude.{decimal, flat_map}
 use Rattle.std.proofs.lemmas.Fmt.{decimal_injective}
 use Rattle.std.proofs.lemmas.List.Elements.{All-nil, All-cons, All-head, All-tail}
 use Rattle.s2id_core.specs.CellId.{raw_of}
@@ -11,11 +11,15 @@ use Rattle.s2ix_pairs.specs.declared.pair.Pair.{Pair}
 use Rattle.s2ix_pairs.specs.Collection.{Collection, LimitedCollection, IsBag}
 use Rattle.s2ix_text.specs.declared.version.Version.{Version}
 use Rattle.s2ix_text.specs.declared.version.Version.TheVariants.{Second}
-use Rattle.s2ix_text.specs.Dump.{CanHold, HasSmallCount, IsDump, dump_in, dump_text, end_line, pair_line}
+use Rattle.s2ix_text.specs.Dump.{CanHold, IsDump, dump_in, dump_text, end_line, pair_line}
 use Rattle.s2ix_text.proofs.Journals.{IsGraphic, cut_field, cut_pair, decimal_graphic, token_graphic}
 use Rattle.s2ix_text.proofs.Versions.{greatest_fits, same_dump_header}
 
 -- ---- lines of held pairs
+
+-- a held pair with a count that a `u32` holds, as each pair that a bag holds has
+abbrev HasSmallCount : Held → Type 0
+HasSmallCount h = h.count < 2 ^ 32
 
 one_held : (h k : Held) (r s : List ℕ) → HasSmallCount h → HasSmallCount k → pair_line h ++ r ≡ pair_line k ++ s → (h ≡ k) × (r ≡ s)
 unfolding pair_line

@@ -13,7 +13,6 @@ use Rattle.s2ix_pairs.specs.declared.pair.Pair.{Pair}
 use Rattle.s2ix_pairs.proofs.Pairs.{same_pair}
 use Rattle.s2ix_text.specs.declared.version.Version.{Version}
 use Rattle.s2ix_text.specs.declared.version.Version.TheVariants.{Second}
-use Rattle.s2ix_text.specs.Version.{greatest_in}
 use Rattle.s2ix_text.specs.Journal.{IsJournalText, IsWritable, IsWritableIn, change_line, entry_line, group_text, journal_in, journal_text, last_line}
 use Rattle.s2ix_text.proofs.Versions.{greatest_fits, head_of, same_journal_header}
 

@@ -1,5 +1,5 @@
 -- The dump of a collection.
-use Rattle.std.specs.Prelude.{◌≡◌, ℕ, ◌^◌, ◌<◌, ◌≤◌, codes, decimal, List, [], ◌∷◌, ◌++◌, length, flat_map, All}
+use Rattle.std.specs.Prelude.{◌≡◌, ℕ, ◌≤◌, codes, decimal, List, [], ◌∷◌, ◌++◌, length, flat_map, All}
 use Rattle.std.specs.List.{concat}
 use Rattle.s2id_core.specs.CellId.{raw_of}
 use Rattle.s2id_core.specs.Token.{canonical_token}
@@ -33,7 +33,3 @@ CanHold version hs = All (λ h. h.count ≤ greatest_in version) hs
 -- a text is a dump of a collection, in a version that can hold it
 abbrev pub IsDump : List ℕ → Collection → Type 0
 IsDump text hs = (version : Version) × CanHold version hs × (text ≡ dump_in version hs)
-
--- a held pair with a count that a `u32` holds, as each pair that a bag holds has
-abbrev pub HasSmallCount : Held → Type 0
-HasSmallCount h = h.count < 2 ^ 32

@@ -23,12 +23,12 @@ pub fn command_of(alloc: Global, words: &[String]) -> Result<Command, WordsFault
 {
     match program(alloc)?.try_get_matches_from(words) {
         Ok(matches) => command_met(alloc, &matches),
-        Err(error) => Err(told(alloc, &error)),
+        Err(error) => Err(refusal(alloc, &error)),
     }
 }
 
 // What clap says of words that it refuses, or its help.
-fn told(alloc: Global, error: &Error) -> WordsFault
+fn refusal(alloc: Global, error: &Error) -> WordsFault
     ensures { IsToldAs (kind_of error.now) result }
 {
     let Ok(text) = format!(in alloc; "{error}") else {

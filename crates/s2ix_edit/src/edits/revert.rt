@@ -1,5 +1,5 @@
 ghost use Rattle.std.specs.Prelude.{◌≡◌, Some, None, IfOk, IfErr, IfSome, IfNone};
-ghost use Rattle.s2ix_edit.specs.Edit.{numbered as change_of_number};
+ghost use Rattle.s2ix_edit.specs.Edit.{numbered};
 ghost use Rattle.s2ix_edit.specs.Plan.{IsPlanRefusal, Plans};
 
 use crate::edit::Edit;
@@ -18,16 +18,16 @@ pub(crate) fn plan(
     ensures plan { IfOk result (Plans bag.now changes.now (Edit.Revert number)) }
     ensures refused { IfErr result (IsPlanRefusal bag.now changes.now (Edit.Revert number)) }
 {
-    let Some(change) = numbered(changes, number) else {
+    let Some(change) = change_of_number(changes, number) else {
         return Err(PlanError::NoSuchChange);
     };
     Ok(bag.reverting(alloc, change)?)
 }
 
 // The change with the number, counted from 1.
-fn numbered(changes: &[Change], number: u32) -> Option<&Change>
-    ensures some { IfSome result (λ change. change_of_number number changes.now ≡ Some change.now) }
-    ensures none { IfNone result (change_of_number number changes.now ≡ None) }
+fn change_of_number(changes: &[Change], number: u32) -> Option<&Change>
+    ensures some { IfSome result (λ change. numbered number changes.now ≡ Some change.now) }
+    ensures none { IfNone result (numbered number changes.now ≡ None) }
 {
     changes.get((number as usize).checked_sub(1)?)
 }

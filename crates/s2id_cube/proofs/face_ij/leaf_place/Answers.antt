@@ -10,13 +10,13 @@ loop-pair-init c = (pair_none _ _ _ _ _ _ c.requires.column c.requires.row (omeg
 pub place_entry-upper-requires-clause-start : goal.place_entry-upper-requires-clause-start
 place_entry-upper-requires-clause-start c = let o = pair_orientation _ _ _ _ _ _ _ _ _ _ c.requires.face c.loop-pair.invariant.0 in omega arith
 
-step : (c : After-place_entry-lower) → IsPairMore c.args.face c.args.i c.args.j c.woven-odd.result.0 c.woven-odd.result.1 c.loop-pair.pair c.loop-pair.places c.loop-pair.odd c.loop-pair.even c.place_entry-upper.result c.place_entry-lower.result
+step : (c : After-place_entry-lower) → IsPairMore c.args.face c.args.i c.args.j c.weave-odd.result.0 c.weave-odd.result.1 c.loop-pair.pair c.loop-pair.places c.loop-pair.odd c.loop-pair.even c.place_entry-upper.result c.place_entry-lower.result
 step c =
     let u = c.place_entry-upper.ensures in
     let l = c.place_entry-lower.ensures in
     let upper : IsPlaceEntry (c.loop-pair.start / 256) (c.loop-pair.odd / 2 ^ 24) c.place_entry-upper.result = record { steps = u.steps; corner = u.corner; next = u.next } in
     let lower : IsPlaceEntry (c.place_entry-upper.result / 2 ^ 54 / 256) (c.loop-pair.even / 2 ^ 24) c.place_entry-lower.result = record { steps = l.steps; corner = l.corner; next = l.next } in
-    pair_more c.args.face c.args.i c.args.j c.woven-odd.result.0 c.woven-odd.result.1 c.loop-pair.pair c.loop-pair.places (c.loop-pair.start / 256) c.loop-pair.odd c.loop-pair.even c.place_entry-upper.result c.place_entry-lower.result c.requires.face c.requires.column c.requires.row (omega arith) (omega arith) c.woven-odd.ensures c.loop-pair.invariant.0 upper lower
+    pair_more c.args.face c.args.i c.args.j c.weave-odd.result.0 c.weave-odd.result.1 c.loop-pair.pair c.loop-pair.places (c.loop-pair.start / 256) c.loop-pair.odd c.loop-pair.even c.place_entry-upper.result c.place_entry-lower.result c.requires.face c.requires.column c.requires.row (omega arith) (omega arith) c.weave-odd.ensures c.loop-pair.invariant.0 upper lower
 
 pub overflow_add-places-in-loop-pair : goal.overflow_add-places-in-loop-pair
 overflow_add-places-in-loop-pair c = let s = (step (goal.at.overflow_add-places-in-loop-pair c).After-place_entry-lower) in let f = s.fits in let g = s.fits_upper in omega arith
@@ -29,5 +29,5 @@ loop-pair-preserved c =
 pub returns : goal.returns
 returns c =
     let f = c.requires.face in
-    let p = pairs_all c.args.face c.args.i c.args.j c.woven-odd.result.0 c.woven-odd.result.1 c.loop-pair.pair c.loop-pair.places (c.loop-pair.start / 256) c.loop-pair.odd c.loop-pair.even (c.args.face * 2 ^ 60 % 2 ^ 64 + c.loop-pair.places % 2 ^ 62) c.requires.face (omega arith) (omega arith) c.loop-pair.invariant.0 in
+    let p = pairs_all c.args.face c.args.i c.args.j c.weave-odd.result.0 c.weave-odd.result.1 c.loop-pair.pair c.loop-pair.places (c.loop-pair.start / 256) c.loop-pair.odd c.loop-pair.even (c.args.face * 2 ^ 60 % 2 ^ 64 + c.loop-pair.places % 2 ^ 62) c.requires.face (omega arith) (omega arith) c.loop-pair.invariant.0 in
     record { below = p.below; face = p.at_face; column = p.at_i; row = p.at_j }

@@ -1,5 +1,5 @@
 -- Each face's entries are compared with its own list.
-use Rattle.std.proofs.Common.{◌≡◌, ℕ, ◌+◌, ◌<◌, List, [], get_or, position, length, sym, ap, ◌∙◌, subst, subst₂, arith, Some, None}
+use Rattle.std.proofs.Common.{◌≡◌, ℕ, ◌+◌, ◌<◌, List, [], get_or, position, length, sym, ◌∙◌, subst, subst₂, arith, Some, None}
 use Rattle.std.proofs.lemmas.List.{get_or_default}
 use Rattle.s2ix_pairs.specs.Change.{IsChangeList}
 use Rattle.s2ix_pairs.specs.Collection.{Collection, IsCollection}

@@ -1,5 +1,5 @@
 -- The place lies in the list at hand, or behind it.
-use Rattle.std.proofs.Common.{◌≡◌, [], get_or, sym, ◌∙◌, arith}
+use Rattle.std.proofs.Common.{[], sym, ◌∙◌, arith}
 use Rattle.std.proofs.lemmas.List.{get_or_default}
 use Rattle.s2ix_faces.proofs.Places.{face_found}
 use Rattle.s2ix_faces.proofs.read.face_at.Goals as goal

@@ -1,5 +1,5 @@
 -- The faces follow each other.
-use Rattle.std.proofs.Common.{subst, arith}
+use Rattle.std.proofs.Common.{subst}
 use Rattle.s2ix_pairs.specs.Collection.{IsCollection}
 use Rattle.s2ix_faces.proofs.Faces.{all_rise}
 use Rattle.s2ix_faces.proofs.lists.FaceLists.len.Goals as goal

@@ -1,5 +1,5 @@
 use Rattle.std.proofs.Common.{rules}
-use Rattle.s2ix_words.proofs.words.told.Goals as goal
+use Rattle.s2ix_words.proofs.words.refusal.Goals as goal
 
 pub returns-in_default : goal.returns-in_default
 returns-in_default c = search rules

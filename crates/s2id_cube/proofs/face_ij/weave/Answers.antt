@@ -1,6 +1,6 @@
 use Rattle.std.proofs.Common.{refl, arith}
 use Rattle.s2id_cube.proofs.Woven.{lower_bits, woven_is}
-use Rattle.s2id_cube.proofs.face_ij.woven.Goals as goal
+use Rattle.s2id_cube.proofs.face_ij.weave.Goals as goal
 
 pub overflow_add-result : goal.overflow_add-result
 overflow_add-result c =
