@@ -1,7 +1,6 @@
 //! Changes that are taken back by their numbers: what is left, what is refused, and what a refusal leaves.
 use crate::checks::{check_history, check_steps, ends_with, store_of};
-use s2ix_bag::Change;
-use s2ix_samples::{LimitRow, WIDEST, lists_entries};
+use s2ix_samples::{LimitRow, WIDEST, are_changes};
 use s2ix_store::Store;
 
 // Two additions and a label that goes to another one; then one of them is taken back after another, and undo and redo go over that.
@@ -81,18 +80,6 @@ const ACCEPTED: [&str; 3] = [
     "redo = NothingToRedo | 3:9:2 | 7 0",
     "undo = 1 | 04:9:1 3:9:2 | 6 1",
 ];
-
-// Whether some changes have these entries.
-fn are_changes(changes: &[Change], wanted: &[&str]) -> bool {
-    let mut left = changes.iter();
-    for &entries in wanted {
-        match left.next() {
-            Some(change) if lists_entries(change, entries) => {}
-            _ => return false,
-        }
-    }
-    left.next().is_none()
-}
 
 // Whether a store has these changes done and this one undone, and its last step built so many faces again.
 fn stands_so(store: &Store, undone: &str, faces: u8) -> bool {

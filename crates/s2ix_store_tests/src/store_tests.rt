@@ -1,7 +1,6 @@
 // Stores step by step: what they refuse, and what a refusal leaves.
 use crate::checks::{check_history, check_steps, store_from, store_of};
-use s2id_core::CellId;
-use s2id_samples::cell_of;
+use s2id_samples::are_cells;
 use s2ix_bag::Bag;
 use s2ix_samples::{WIDEST, holds_pairs, label_of};
 use s2ix_store::Store;
@@ -90,17 +89,6 @@ fn a_refused_removal_leaves_the_bag(rt: HostRuntime) {
     let mut store = store_of(rt.alloc(), (10, 10, 10)).expect(&rt, "a store");
     check_steps(&rt, rt.alloc(), &mut store, &REFUSED);
     assert!(rt; is_copied_as(rt.alloc(), store.bag(), "04:9:1") == Some(true));
-}
-
-// Whether some cells are those that the tokens name, in their order.
-fn are_cells(cells: &[CellId], tokens: &str) -> bool {
-    let mut left = cells.iter();
-    for token in tokens.split_ascii_whitespace() {
-        if left.next().copied() != cell_of(token) {
-            return false;
-        }
-    }
-    left.next().is_none()
 }
 
 // Whether a label's region has these cells, rising.
