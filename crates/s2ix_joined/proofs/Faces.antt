@@ -1,15 +1,14 @@
 -- Cells lie in the spans of their faces.
-use Rattle.std.proofs.Common.{◌≡◌, refl, ℕ, ◌+◌, ◌*◌, ◌/◌, ◌%◌, ◌^◌, ◌<◌, ◌≤◌, ◌↔◌, sym, ◌∙◌, ap, arith}
-use Rattle.std.proofs.Math.Nat.{div-lt_iff_lt-mul, div-mul-le_self}
+use Rattle.std.proofs.Common.{◌≡◌, refl, ℕ, ◌+◌, ◌*◌, ◌/◌, ◌%◌, ◌^◌, ◌<◌, ◌≤◌, sym, ◌∙◌, ap, arith}
 use Rattle.s2id_core.specs.declared.cell_id.CellId.{CellId}
 use Rattle.s2id_core.specs.CellId.{raw_of, face_of, first_of, end_of}
 use Rattle.s2id_core.specs.Cell.{IsCellNumber}
-use Rattle.s2id_core.specs.Path.{Path, path_at, number_of, first_leaf, last_leaf}
-use Rattle.s2id_core.specs.Span.{first_at, end_at}
+use Rattle.s2id_core.specs.Path.{Path, path_at, number_of, last_leaf}
+use Rattle.s2id_core.specs.Span.{end_at}
 use Rattle.s2id_core.proofs.Bits.{face_by_bits}
 use Rattle.s2id_core.proofs.Nested.{span}
 use Rattle.s2id_core.proofs.Numbers.{path_of_cell, path_at-number}
-use Rattle.s2id_core.proofs.Spans.{leaf_of_first, leaf_of_last}
+use Rattle.s2id_core.proofs.Spans.{leaf_of_last}
 use Rattle.s2ix_pairs.specs.Collection.{Collection}
 use Rattle.s2ix_walk.proofs.OnFaces.{face_bounds, begins_on_face}
 use Rattle.s2ix_chain.specs.SpanTable.{IsInSpan}

@@ -4,7 +4,7 @@ use Rattle.std.proofs.Math.Seq.{take-length}
 use Rattle.std.proofs.lemmas.List.{get_or-map, length-map}
 use Rattle.s2ix_pairs.specs.Collection.{Collection}
 use Rattle.s2ix_ranges.specs.Table.{Range, range_at, IsTableOver, leaf_end}
-use Rattle.s2ix_walk.specs.Faces.{face_begin, HaveFace}
+use Rattle.s2ix_walk.specs.Faces.{HaveFace}
 use Rattle.s2ix_table.specs.Stretches.{IsStretch}
 use Rattle.s2ix_chain.specs.SpanTable.{SpanRanges, IsSpanTable}
 use Rattle.s2ix_joined.specs.declared.seat.Seat.{Seat}

@@ -1,5 +1,5 @@
 -- The faces' spans of leaves.
-use Rattle.std.specs.Prelude.{◌≡◌, ℕ, ◌+◌, ◌*◌, List, [], ◌∷◌, Contains}
+use Rattle.std.specs.Prelude.{◌≡◌, ℕ, ◌+◌, List, [], ◌∷◌, Contains}
 use Rattle.s2id_core.specs.CellId.{face_of}
 pub use Rattle.s2ix_walk.specs.Faces.{face_begin}
 use Rattle.s2ix_pairs.specs.Collection.{Collection}

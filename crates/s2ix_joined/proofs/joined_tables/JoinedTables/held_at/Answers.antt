@@ -1,6 +1,6 @@
-use Rattle.std.proofs.Common.{◌<◌, ◌∷◌, length, drop, refl, sym, ◌∙◌, ap, arith, rules, subst}
+use Rattle.std.proofs.Common.{◌<◌, ◌∷◌, length, drop, refl, sym, ◌∙◌, ap, subst}
 use Rattle.s2ix_pairs.specs.Collection.{Collection}
-use Rattle.s2ix_joined.proofs.Reading.{no_table, place_on, read_on}
+use Rattle.s2ix_joined.proofs.Reading.{no_table, read_on}
 use Rattle.s2ix_joined.proofs.joined_tables.JoinedTables.held_at.Goals as goal
 
 pub listed : goal.listed

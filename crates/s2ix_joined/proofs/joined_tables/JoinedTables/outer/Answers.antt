@@ -1,10 +1,10 @@
-use Rattle.std.proofs.Common.{◌<◌, Some, None, length, drop, refl, sym, ap, arith, rules, subst}
+use Rattle.std.proofs.Common.{◌<◌, Some, None, length, drop, refl, sym, ap, subst}
 use Rattle.s2ix_pairs.specs.Collection.{Collection}
 use Rattle.s2ix_walk.specs.Places.{LeadsTo}
 use Rattle.s2ix_chain.specs.SpanTable.{SpanRanges}
 use Rattle.s2ix_chain.specs.Chains.{chain_of}
 use Rattle.s2ix_joined.specs.Places.{chain_at}
-use Rattle.s2ix_joined.proofs.Reading.{no_table, place_on, read_on, lead_some, lead_none}
+use Rattle.s2ix_joined.proofs.Reading.{no_table, read_on, lead_some, lead_none}
 use Rattle.s2ix_joined.proofs.joined_tables.JoinedTables.outer.Goals as goal
 
 pub listed : goal.listed

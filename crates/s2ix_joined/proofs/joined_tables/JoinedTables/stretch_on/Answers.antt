@@ -1,7 +1,6 @@
-use Rattle.std.proofs.Common.{◌≡◌, ◌+◌, ◌-◌, ◌≤◌, length, drop, get_or, sym, ◌∙◌, ap, arith, rules, subst}
+use Rattle.std.proofs.Common.{◌≡◌, ◌-◌, length, drop, get_or, sym, rules, subst}
 use Rattle.s2ix_table.specs.Stretches.{IsStretch}
 use Rattle.s2ix_joined.specs.Joined.{joined_ranges}
-use Rattle.s2ix_joined.proofs.Reading.{no_seat}
 use Rattle.s2ix_joined.proofs.Counts.{behind_place}
 use Rattle.s2ix_joined.proofs.Stretches.{face_stretch, some_starts, rest_of}
 use Rattle.s2ix_joined.proofs.joined_tables.JoinedTables.stretch_on.Goals as goal
