@@ -15,3 +15,4 @@ pub mod Cells
 mod Reading
 pub mod Canonical
 pub mod Spelled
+pub mod Sorted

@@ -1,6 +1,6 @@
 pub mod Lists
 pub mod Unique
-mod Covering
+pub mod Covering
 mod Adding
 mod Normal
 mod Greatest

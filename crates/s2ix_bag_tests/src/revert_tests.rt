@@ -3,120 +3,104 @@ use crate::changes::change_of;
 use s2ix_bag::{Bag, Change, RevertError};
 use s2ix_samples::{LimitRow, WIDEST, bag_of, holds_pairs, lists_entries};
 use std::alloc::Global;
-use std::process::Abort;
 
-// The limits, what is held now, a change, and what is held with it taken back, or why it isn't.
-type Row = (
-    LimitRow,
-    &'static str,
-    &'static str,
-    Result<&'static str, RevertError>,
-);
+// The limits, what is held now, a change, and what is held with it taken back.
+type Row = (LimitRow, &'static str, &'static str, &'static str);
 
-// Two copies were added, another label's were, and the first label's pairs were taken to the other's.
-const AFTER_RELABEL: [Row; 4] = [
-    (WIDEST, "04:3:3", "04:9:0:2", Err(RevertError::BelowZero(0))),
-    (WIDEST, "04:3:3", "04:3:1:3 04:9:2:0", Ok("04:3:1 04:9:2")),
-    (WIDEST, "04:3:1 04:9:2", "04:9:0:2", Ok("04:3:1")),
-    (
-        WIDEST,
-        "04:3:1",
-        "04:3:1:3 04:9:2:0",
-        Err(RevertError::BelowZero(0)),
-    ),
-];
+// The limits, what is held now, a change, and why it isn't taken back.
+type Refused = (LimitRow, &'static str, &'static str, RevertError);
 
-const REVERTED: [Row; 10] = [
-    (WIDEST, "04:9:2", "04:9:0:3", Err(RevertError::BelowZero(0))),
-    (WIDEST, "04:9:2", "04:9:0:2", Ok("")),
-    (WIDEST, "04:9:5", "04:9:0:2", Ok("04:9:3")),
-    (WIDEST, "04:9:2", "", Ok("04:9:2")),
-    (WIDEST, "04:9:2", "04:9:4294967295:4294967294", Ok("04:9:3")),
+// In the first two, two copies were added, another label's were, and the first label's pairs were taken to the other's.
+const REVERTED: [Row; 11] = [
+    (WIDEST, "04:3:3", "04:3:1:3 04:9:2:0", "04:3:1 04:9:2"),
+    (WIDEST, "04:3:1 04:9:2", "04:9:0:2", "04:3:1"),
+    (WIDEST, "04:9:2", "04:9:0:2", ""),
+    (WIDEST, "04:9:5", "04:9:0:2", "04:9:3"),
+    (WIDEST, "04:9:2", "", "04:9:2"),
+    (WIDEST, "04:9:2", "04:9:4294967295:4294967294", "04:9:3"),
     (
         WIDEST,
         "1:7:1 3:7:1 b:7:2",
         "1:7:0:1 5:7:2:0 b:7:0:1",
-        Ok("3:7:1 5:7:2 b:7:1"),
+        "3:7:1 5:7:2 b:7:1",
     ),
-    ((2, 3, 1), "04:9:2", "04:9:1:0 1:7:3:0", Ok("04:9:3 1:7:3")),
-    ((1, 3, 1), "04:9:2", "04:9:0:2 5:7:1:0", Ok("5:7:1")),
-    (WIDEST, "04:9:4294967294", "04:9:1:0", Ok("04:9:4294967295")),
-    ((1, 65_535, 1), "04:9:1", "04:9:65535:1", Ok("04:9:65535")),
+    ((2, 3, 1), "04:9:2", "04:9:1:0 1:7:3:0", "04:9:3 1:7:3"),
+    ((1, 3, 1), "04:9:2", "04:9:0:2 5:7:1:0", "5:7:1"),
+    (WIDEST, "04:9:4294967294", "04:9:1:0", "04:9:4294967295"),
+    ((1, 65_535, 1), "04:9:1", "04:9:65535:1", "04:9:65535"),
 ];
 
-// Each test goes over all entries before the next one.
-const REFUSED: [Row; 12] = [
+// So were they in the first two. Each test goes over all entries before the next one.
+const REFUSED: [Refused; 15] = [
+    (WIDEST, "04:3:3", "04:9:0:2", RevertError::BelowZero(0)),
     (
-        (9, 3, 1),
-        "04:9:1",
-        "04:9:3:0",
-        Err(RevertError::TooManyCopies),
+        WIDEST,
+        "04:3:1",
+        "04:3:1:3 04:9:2:0",
+        RevertError::BelowZero(0),
     ),
-    (
-        (1, 9, 1),
-        "1:7:1",
-        "04:9:1:0",
-        Err(RevertError::TooManyPairs),
-    ),
+    (WIDEST, "04:9:2", "04:9:0:3", RevertError::BelowZero(0)),
+    ((9, 3, 1), "04:9:1", "04:9:3:0", RevertError::TooManyCopies),
+    ((1, 9, 1), "1:7:1", "04:9:1:0", RevertError::TooManyPairs),
     (
         (1, 3, 1),
         "04:9:2",
         "04:9:2:0 1:7:0:1",
-        Err(RevertError::BelowZero(1)),
+        RevertError::BelowZero(1),
     ),
     (
         (1, 3, 1),
         "04:9:2",
         "04:9:0:1 1:7:9:0",
-        Err(RevertError::TooManyCopies),
+        RevertError::TooManyCopies,
     ),
     (
         (1, 3, 1),
         "04:9:2",
         "04:9:0:1 1:7:3:0",
-        Err(RevertError::TooManyPairs),
+        RevertError::TooManyPairs,
     ),
     (
         WIDEST,
         "04:9:2",
         "04:9:0:1 1:7:0:1 1:8:0:1",
-        Err(RevertError::BelowZero(1)),
+        RevertError::BelowZero(1),
     ),
     (
         WIDEST,
         "b:7:2",
         "1:7:1:0 b:7:0:3",
-        Err(RevertError::BelowZero(1)),
+        RevertError::BelowZero(1),
     ),
     (
         WIDEST,
         "04:9:2",
         "04:9:0:4294967295",
-        Err(RevertError::BelowZero(0)),
+        RevertError::BelowZero(0),
     ),
     (
         WIDEST,
         "04:9:2",
         "04:9:4294967295:0",
-        Err(RevertError::TooManyCopies),
+        RevertError::TooManyCopies,
     ),
     (
         WIDEST,
         "04:9:4294967295",
         "04:9:1:0",
-        Err(RevertError::TooManyCopies),
+        RevertError::TooManyCopies,
     ),
     (
         WIDEST,
         "04:9:4294967295",
         "04:9:4294967295:4294967294",
-        Err(RevertError::TooManyCopies),
+        RevertError::TooManyCopies,
     ),
     (
         (1, 65_535, 1),
         "04:9:1",
         "04:9:65536:1",
-        Err(RevertError::TooManyCopies),
+        RevertError::TooManyCopies,
     ),
 ];
 
@@ -127,20 +111,25 @@ fn leaves(alloc: Global, bag: &Bag, change: &Change, pairs: &str) -> Option<bool
 }
 
 // Whether a row's change is taken back as it says, and the row's bag stays as it is.
-fn is_row(alloc: Global, (limits, held, entries, wanted): &Row) -> Option<bool> {
+fn is_reverted(alloc: Global, (limits, held, entries, wanted): &Row) -> Option<bool> {
     let bag = bag_of(alloc, *limits, held)?;
     let change = change_of(alloc, entries)?;
-    let is_same = match wanted {
-        Ok(pairs) => leaves(alloc, &bag, &change, pairs)?,
-        Err(error) => bag.reverted(alloc, &change).err() == Some(*error),
-    };
-    Some(is_same && holds_pairs(&bag, held))
+    Some(leaves(alloc, &bag, &change, wanted)? && holds_pairs(&bag, held))
 }
 
-fn check_rows(rt: &impl Abort, alloc: Global, rows: &[Row]) {
-    for row in rows {
+// Whether a row's change isn't taken back for its reason, and the row's bag stays as it is.
+fn is_refused(alloc: Global, (limits, held, entries, error): &Refused) -> Option<bool> {
+    let bag = bag_of(alloc, *limits, held)?;
+    let change = change_of(alloc, entries)?;
+    let told = bag.reverted(alloc, &change).err();
+    Some(told == Some(*error) && holds_pairs(&bag, held))
+}
+
+#[test]
+fn a_change_is_taken_back_after_others(rt: HostRuntime) {
+    for row in &REVERTED {
         assert!(rt;
-            is_row(alloc, row) == Some(true),
+            is_reverted(rt.alloc(), row) == Some(true),
             "wrong at {} less {}",
             row.1,
             row.2
@@ -149,14 +138,15 @@ fn check_rows(rt: &impl Abort, alloc: Global, rows: &[Row]) {
 }
 
 #[test]
-fn a_change_is_taken_back_after_others(rt: HostRuntime) {
-    check_rows(&rt, rt.alloc(), &AFTER_RELABEL);
-    check_rows(&rt, rt.alloc(), &REVERTED);
-}
-
-#[test]
 fn a_change_is_not_taken_back_for_the_first_reason(rt: HostRuntime) {
-    check_rows(&rt, rt.alloc(), &REFUSED);
+    for row in &REFUSED {
+        assert!(rt;
+            is_refused(rt.alloc(), row) == Some(true),
+            "wrong at {} less {}",
+            row.1,
+            row.2
+        );
+    }
 }
 
 // Pairs, a change, and the entries of the change that takes it back.

@@ -1,6 +1,6 @@
 ghost use Rattle.std.specs.Prelude.{◌≡◌, ◌≤◌, IfOk, length};
 ghost use Rattle.s2ix_pairs.specs.Collection.{IsCollection};
-ghost use Rattle.s2ix_table.specs.Pairs.{IsCollection-prop};
+ghost use Rattle.s2ix_pairs.specs.OneProof.{IsCollection-prop};
 ghost use Rattle.s2ix_ranges.specs.Table.{IsRangeTable, leaf_end};
 ghost use Rattle.s2ix_chain.specs.Chains.{chain_of};
 
@@ -23,7 +23,7 @@ pub struct ChainTable {
 }
 
 // What a bag holds, in its order. O(n) for n pairs.
-fn held_pairs(alloc: Global, bag: &Bag) -> Result<Vec<FlatHeld>, OutOfMemory>
+fn flat_pairs(alloc: Global, bag: &Bag) -> Result<Vec<FlatHeld>, OutOfMemory>
     ensures list { IfOk result (λ held. held.items ≡ bag.now.held) }
     ensures rises { IfOk result (λ held. IsCollection held.items) }
     ensures few { IfOk result (λ held. length held.items ≤ 1000000) }
@@ -47,7 +47,7 @@ impl RangeTable for ChainTable {
     ghost few = { λ t. t.few };
 
     fn build(alloc: Global, bag: &Bag) -> Result<Self, OutOfMemory> {
-        let held = held_pairs(alloc, bag)?;
+        let held = flat_pairs(alloc, bag)?;
         let span = SpanTable::over(alloc, held, 1, LEAF_END)?;
         Ok(ChainTable { span })
     }

@@ -1,8 +1,7 @@
 //! What is true of every table with shared chains. Each function is a law: it does nothing, and its contract is the fact.
-ghost use Rattle.std.specs.Prelude.{◌≡◌, ℕ, ◌+◌, ◌*◌, ◌≤◌, Contains, length};
-ghost use Rattle.s2ix_pairs.specs.declared.pair.Held.{Held};
+ghost use Rattle.std.specs.Prelude.{◌+◌, ◌*◌, ◌≤◌, length};
 ghost use Rattle.s2ix_chain.specs.Chains.{chain_of};
-ghost use Rattle.s2ix_chain.specs.Once.{IsHeldAt};
+ghost use Rattle.s2ix_chain.specs.Once.{KeepsOnce};
 ghost use Rattle.s2ix_chain.specs.SpanTable.{IsSpanTable};
 
 use crate::chain_table::ChainTable;
@@ -18,26 +17,14 @@ pub fn ranges_are_those_of_the_span(table: &SpanTable)
 
 /// A pair has one place in a span's table: each chain that holds it holds it at a place, and two chains hold it at the same one.
 pub fn span_keeps_a_pair_once(table: &SpanTable)
-    ensures place { (start : ℕ) (h : Held)
-        → Contains (chain_of table.now.held start) h
-        → (p : ℕ) × IsHeldAt (chain_of table.now.held) start h p }
-    ensures same { (start other p q : ℕ) (h : Held)
-        → IsHeldAt (chain_of table.now.held) start h p
-        → IsHeldAt (chain_of table.now.held) other h q
-        → p ≡ q }
+    ensures { KeepsOnce (chain_of table.now.held) }
 {
     let _ = &table.held;
 }
 
 /// A pair has one place: each chain that holds it holds it at a place, and two chains hold it at the same one.
 pub fn keeps_a_pair_once(table: &ChainTable)
-    ensures place { (start : ℕ) (h : Held)
-        → Contains (⟦<ChainTable as RangeTable>⟧.chain table.now start) h
-        → (p : ℕ) × IsHeldAt (⟦<ChainTable as RangeTable>⟧.chain table.now) start h p }
-    ensures same { (start other p q : ℕ) (h : Held)
-        → IsHeldAt (⟦<ChainTable as RangeTable>⟧.chain table.now) start h p
-        → IsHeldAt (⟦<ChainTable as RangeTable>⟧.chain table.now) other h q
-        → p ≡ q }
+    ensures { KeepsOnce (⟦<ChainTable as RangeTable>⟧.chain table.now) }
 {
     span_keeps_a_pair_once(&table.span);
 }

@@ -16,18 +16,17 @@ pub(crate) struct Pass {
 impl Pass {
     ghost use Rattle.s2ix_chain.specs.Pass.{IsWritten};
 
-    // Writes the range up to a bound, unless it has no leaf, and goes there.
+    // Writes the range up to a bound, unless it has no leaf, and goes there. The place behind the ranges is written in either case and
+    // counted where the range has a leaf, so that no branch depends on it.
     pub(crate) fn write_until(&mut self, bound: u64)
         requires starts { self.old.count < length self.old.starts.items }
         requires firsts { self.old.count < length self.old.firsts.items }
         requires few { length self.old.starts.items ≤ 2000001 }
         ensures { IsWritten bound self.old self.new }
     {
-        if self.at < bound {
-            self.starts[self.count] = self.at;
-            self.firsts[self.count] = self.top;
-            self.count += 1;
-            self.at = bound;
-        }
+        self.starts[self.count] = self.at;
+        self.firsts[self.count] = self.top;
+        self.count += usize::from(self.at < bound);
+        self.at = self.at.max(bound);
     }
 }

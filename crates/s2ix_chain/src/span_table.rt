@@ -8,7 +8,7 @@ ghost use Rattle.s2ix_chain.specs.SpanTable.{IsInSpan, IsSpanTable};
 
 use crate::order::sweep_order;
 use crate::places::{as_place, last_start};
-use crate::sweep::swept;
+use crate::sweep::sweep_span;
 use s2id_core::{CellId, OutOfMemory};
 use s2ix_bag::{FlatHeld, Held};
 use s2ix_table::RangeRow;
@@ -61,10 +61,10 @@ impl SpanTable {
         ensures table { IfOk result (λ table. IsSpanTable table) }
     {
         let order = sweep_order(alloc, held.as_slice())?;
-        let pass = swept(alloc, held.as_slice(), order.as_slice(), from, to)?;
+        let pass = sweep_span(alloc, held.as_slice(), order.as_slice(), from, to)?;
         let outer = pass.outer;
-        let starts = trimmed(pass.starts, pass.count);
-        let firsts = trimmed(pass.firsts, pass.count);
+        let starts = trim(pass.starts, pass.count);
+        let firsts = trim(pass.firsts, pass.count);
         Ok(SpanTable {
             held,
             outer,
@@ -163,7 +163,7 @@ impl SpanTable {
 }
 
 // The first elements of a list, in no more room than they need; where a smaller block is refused, they stay where they are.
-fn trimmed<T: Drop>(mut list: Vec<T>, len: usize) -> Vec<T>
+fn trim<T: Drop>(mut list: Vec<T>, len: usize) -> Vec<T>
     ensures { result.items ≡ take len list.items }
 {
     list.truncate(len);

@@ -11,7 +11,7 @@ use s2ix_bag::FlatHeld;
 use std::alloc::Global;
 
 // The sweep over the leaves from one number up to another, with room for what it writes.
-pub(crate) fn swept(
+pub(crate) fn sweep_span(
     alloc: Global,
     held: &[FlatHeld],
     order: &[u32],

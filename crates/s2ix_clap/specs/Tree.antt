@@ -46,8 +46,8 @@ abbrev pub own_words : App
 own_words = record { top = record (new_app (codes "s2ix")).top { no_binary_name = true; subcommand_required = true }; subs = [] }
 
 -- clap was told of a command with these words
-abbrev pub IsTold : App → Command → Type 0
-IsTold words command = (app_of command ≡ words) × ((out-Command command).has_globals ≡ false)
+abbrev pub IsCommand : App → Command → Type 0
+IsCommand words command = (app_of command ≡ words) × ((out-Command command).has_globals ≡ false)
 
 -- clap was told of a subcommand with these words
 abbrev pub IsSubcommand : Shape → Command → Type 0

@@ -3,7 +3,7 @@ ghost use Rattle.std.specs.Prelude.{◌≡◌, IfOk, false};
 ghost use Rattle.clap.specs.Words.{App, Shape, app_of, rule_of, with_subcommand};
 ghost use Rattle.s2ix_clap.specs.Tree.{
   IsSubcommand,
-  IsTold,
+  IsCommand,
   check_words,
   file_rule,
   flag_rule,
@@ -33,7 +33,7 @@ pub fn program<'a>(alloc: Global) -> Result<Command<'a>, AllocError>
 
 // The program without its subcommands.
 fn name<'a>(alloc: Global) -> Result<Command<'a>, AllocError>
-    ensures { IfOk result (IsTold own_words) }
+    ensures { IfOk result (IsCommand own_words) }
 {
     Command::new(alloc, "s2ix")
         .about("An editable index of labelled cells of the S2 curve")
@@ -47,7 +47,7 @@ fn with<'a>(
     command: Command<'a>,
     added: Result<Command<'a>, AllocError>,
 ) -> Result<Command<'a>, AllocError>
-    ensures { (words : App) (shape : Shape) → IsTold words command.entry → IfOk added.entry (IsSubcommand shape) → IfOk result (IsTold (with_subcommand words shape)) }
+    ensures { (words : App) (shape : Shape) → IsCommand words command.entry → IfOk added.entry (IsSubcommand shape) → IfOk result (IsCommand (with_subcommand words shape)) }
 {
     command.subcommand(added?)
 }

@@ -1,8 +1,8 @@
 ghost use Rattle.std.specs.Prelude.{◌≡◌, ◌≢◌, ℕ, ◌%◌, ◌<◌, ◌≤◌, IfOk, drop, length};
 ghost use Rattle.s2ix_pairs.specs.Collection.{IsCollection};
+ghost use Rattle.s2ix_pairs.specs.OneProof.{IsCollection-prop};
 ghost use Rattle.s2ix_ranges.specs.Contents.{contents_at};
 ghost use Rattle.s2ix_ranges.specs.Table.{range_at, leaf_end, IsRangeTable};
-ghost use Rattle.s2ix_table.specs.Pairs.{IsCollection-prop};
 ghost use Rattle.s2ix_copied.specs.Copied.{ranges_of};
 
 use crate::copied_range::CopiedRange;

@@ -13,10 +13,10 @@ use Rattle.s2ix_ranges.proofs.Lists.{later_rank}
 use Rattle.s2ix_chain.specs.SpanTable.{SpanRanges}
 use Rattle.s2ix_joined.specs.Joined.{held_in}
 use Rattle.s2ix_reading.specs.Faces.{faces, held_on}
+use Rattle.s2ix_reading.proofs.Unchanged.{on_face, off_face}
 use Rattle.s2ix_joined.specs.Faces.{face_begin, AreOnFace}
 use Rattle.s2ix_walk.proofs.OnFaces.{six_faces}
 use Rattle.s2ix_joined.proofs.Faces.{raw_on_face}
-use Rattle.s2ix_faced.specs.Parts.{IsOfFace}
 
 faces_from : ℕ → ℕ → List ℕ
 faces_from n zero = []
@@ -27,27 +27,17 @@ on_each hs face = held_on face hs
 
 -- ---- one pair more in front
 
-here : (face : ℕ) (h : Held) (hs : Collection) → face_of h.pair.cell ≡ face → held_on face (h ∷ hs) ≡ h ∷ held_on face hs
-here face h hs is =
-    let test : (face_of h.pair.cell == face) ≡ true = grind (arith, nat_tests) in
-    cond-true _ (h ∷ held_on face hs) (held_on face hs) test
-
-elsewhere : (face : ℕ) (h : Held) (hs : Collection) → (face_of h.pair.cell ≡ face → ⊥) → held_on face (h ∷ hs) ≡ held_on face hs
-elsewhere face h hs ne =
-    let test : (face_of h.pair.cell == face) ≡ false = grind (arith, nat_tests) in
-    cond-false _ (h ∷ held_on face hs) (held_on face hs) test
-
 none_on : (face : ℕ) (hs : Collection) → ((h : Held) → Contains hs h → face < face_of h.pair.cell) → held_on face hs ≡ []
 none_on face [] behind = refl
 none_on face (h ∷ hs) behind =
     let lt = behind h (at_head h hs) in
-    elsewhere face h hs (λ e. omega arith) ∙ none_on face hs (λ x held. behind x (in_tail h hs x held))
+    off_face face h hs (λ e. omega arith) ∙ none_on face hs (λ x held. behind x (in_tail h hs x held))
 
 later_faces : (n k : ℕ) (h : Held) (hs : Collection) → face_of h.pair.cell < n → flat_map (on_each (h ∷ hs)) (faces_from n k) ≡ flat_map (on_each hs) (faces_from n k)
 unfolding faces_from on_each
 later_faces n zero h hs lt = refl
 later_faces n (suc k) h hs lt =
-    ap (λ xs. xs ++ flat_map (on_each (h ∷ hs)) (faces_from (n + 1) k)) (elsewhere n h hs (λ e. omega arith))
+    ap (λ xs. xs ++ flat_map (on_each (h ∷ hs)) (faces_from (n + 1) k)) (off_face n h hs (λ e. omega arith))
     ∙ ap (λ xs. held_on n hs ++ xs) (later_faces (n + 1) k h hs (omega arith))
 
 in_front : (n k : ℕ) (h : Held) (hs : Collection) → n ≤ face_of h.pair.cell → face_of h.pair.cell < n + k → ((x : Held) → Contains hs x → face_of h.pair.cell ≤ face_of x.pair.cell) → flat_map (on_each (h ∷ hs)) (faces_from n k) ≡ h ∷ flat_map (on_each hs) (faces_from n k)
@@ -56,12 +46,12 @@ in_front n zero h hs le lt behind = absurd (omega arith)
 in_front n (suc k) h hs le lt behind =
     elim (cases_eq (face_of h.pair.cell) n) [
       | inl e ↦
-          ap (λ xs. xs ++ flat_map (on_each (h ∷ hs)) (faces_from (n + 1) k)) (here n h hs e)
+          ap (λ xs. xs ++ flat_map (on_each (h ∷ hs)) (faces_from (n + 1) k)) (on_face n h hs e)
           ∙ ap (λ xs. h ∷ (held_on n hs ++ xs)) (later_faces (n + 1) k h hs (omega arith))
       | inr ne ↦
           (let more : n < face_of h.pair.cell = omega (arith, ne) in
           let none = none_on n hs (λ x held. let b = behind x held in omega arith) in
-          ap (λ xs. xs ++ flat_map (on_each (h ∷ hs)) (faces_from (n + 1) k)) (elsewhere n h hs (λ e. ne e) ∙ none)
+          ap (λ xs. xs ++ flat_map (on_each (h ∷ hs)) (faces_from (n + 1) k)) (off_face n h hs (λ e. ne e) ∙ none)
           ∙ in_front (n + 1) k h hs (omega arith) (omega arith) behind
           ∙ ap (λ xs. h ∷ (xs ++ flat_map (on_each hs) (faces_from (n + 1) k))) (sym none))
     ]
@@ -96,7 +86,7 @@ all_faces hs c = made_up 0 hs c
 
 -- ---- what lies on one face
 
-held_rises : (face n : ℕ) (hs : Collection) → IsCollectionFrom n hs → IsCollectionFrom n (held_on face hs)
+pub held_rises : (face n : ℕ) (hs : Collection) → IsCollectionFrom n hs → IsCollectionFrom n (held_on face hs)
 held_rises face n [] c = tt
 held_rises face n (h ∷ hs) c =
     let rest = held_rises face (rank_of h.pair + 1) hs c.2 in
@@ -105,7 +95,7 @@ held_rises face n (h ∷ hs) c =
       | false ↦ from_lower n (rank_of h.pair + 1) (held_on face hs) (omega (arith, c.0)) rest
     ]
 
-held_few : (face : ℕ) (hs : Collection) → length (held_on face hs) ≤ length hs
+pub held_few : (face : ℕ) (hs : Collection) → length (held_on face hs) ≤ length hs
 held_few face [] = omega arith
 held_few face (h ∷ hs) =
     let rest = held_few face hs in
@@ -114,7 +104,7 @@ held_few face (h ∷ hs) =
       | false ↦ omega arith
     ]
 
-lie_on : (face : ℕ) (hs : Collection) → AreOnFace face (held_on face hs)
+pub lie_on : (face : ℕ) (hs : Collection) → AreOnFace face (held_on face hs)
 lie_on face [] x c = absurd (none_in_nil x c)
 lie_on face (h ∷ hs) x c =
     elim (cases_Bool (face_of h.pair.cell == face)) [
@@ -126,13 +116,6 @@ lie_on face (h ∷ hs) x c =
           ])
       | inr f ↦ lie_on face hs x (subst (λ xs. Contains xs x) (cond-false _ (h ∷ held_on face hs) (held_on face hs) f) c)
     ]
-
-pub part_is_of_face : (face : ℕ) (hs : Collection) → IsCollection hs → length hs ≤ 1000000 → IsOfFace face (held_on face hs)
-part_is_of_face face hs c few = record {
-  rises = held_rises face 0 hs c;
-  few = let le = held_few face hs in omega arith;
-  on_face = lie_on face hs;
-}
 
 -- six tables with the pairs of their faces hold all pairs
 pub six_parts : (hs : Collection) (a b c d e f : SpanRanges) → IsCollection hs → a.held ≡ held_on 0 hs → b.held ≡ held_on 1 hs → c.held ≡ held_on 2 hs → d.held ≡ held_on 3 hs → e.held ≡ held_on 4 hs → f.held ≡ held_on 5 hs → held_in (a ∷ b ∷ c ∷ d ∷ e ∷ f ∷ []) ≡ hs

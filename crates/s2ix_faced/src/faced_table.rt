@@ -1,12 +1,12 @@
 ghost use Rattle.std.specs.Prelude.{◌≡◌, ◌≤◌, ◌+◌, ◌*◌, IfOk, OnOk, length};
 ghost use Rattle.s2ix_pairs.specs.Change.{changed};
 ghost use Rattle.s2ix_pairs.specs.Collection.{IsCollection};
+ghost use Rattle.s2ix_pairs.specs.OneProof.{IsCollection-prop};
 ghost use Rattle.s2ix_ranges.specs.Table.{IsRangeTable};
 ghost use Rattle.s2ix_walk.specs.Costs.{binary_digits};
-ghost use Rattle.s2ix_table.specs.Pairs.{IsCollection-prop};
 ghost use Rattle.s2ix_reading.specs.Faces.{changed_count};
 ghost use Rattle.s2ix_joined.specs.Joined.{held_in, joined_ranges};
-ghost use Rattle.s2ix_joined.specs.Once.{KeepsOnce};
+ghost use Rattle.s2ix_chain.specs.Once.{KeepsOnce};
 ghost use Rattle.s2ix_joined.specs.Places.{chain_at};
 
 use crate::tables::{read_tables, tables_after};
@@ -107,7 +107,7 @@ impl FacedTable {
     /// The table of what a reader shows, which a change has made of this table's pairs: the tables of the faces that the change has
     /// entries on are built again, the others are shared. With p pairs on those faces and n in all it reads p to p + 12 * digits(n + 1)
     /// pairs, with the binary digits of n + 1. O(m + p) besides, for m entries. `OutOfMemory` where a growth is refused; pairs may have
-    /// been read then. This project's own.
+    /// been read then, never more than that. This project's own.
     pub fn rebuilt<B: PairReader>(
         &self,
         alloc: Global,
@@ -120,8 +120,7 @@ impl FacedTable {
         ensures table { IfOk result (λ table. IsRangeTable (B.shown bag.old) (⟦<FacedTable as RangeTable>⟧.ranges table)) }
         ensures same { B.shown bag.new ≡ B.shown bag.old }
         ensures reads_all { OnOk result (changed_count change.now (B.shown bag.old) ≤ B.spent bag.new) }
-        ensures reads_few { OnOk result
-            (B.spent bag.new ≤ changed_count change.now (B.shown bag.old) + 12 * binary_digits (length (B.shown bag.old) + 1)) }
+        ensures reads_few { B.spent bag.new ≤ changed_count change.now (B.shown bag.old) + 12 * binary_digits (length (B.shown bag.old) + 1) }
     {
         let tables = tables_after(alloc, &self.tables, bag, change)?;
         Ok(FacedTable {

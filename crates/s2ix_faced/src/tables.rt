@@ -1,8 +1,8 @@
 // The tables of single faces, read from what is held.
-ghost use Rattle.std.specs.Prelude.{◌≡◌, ◌<◌, true, false, IfOk, OnOk};
+ghost use Rattle.std.specs.Prelude.{◌≡◌, ◌<◌, ◌+◌, ◌*◌, true, false, length, IfOk, OnOk};
 ghost use Rattle.s2ix_pairs.specs.Change.{changed};
-ghost use Rattle.s2ix_reading.specs.Faces.{held_on, has_entry_on};
-ghost use Rattle.s2ix_reading.specs.Reading.{IsFaceRead, AreChangedRead};
+ghost use Rattle.s2ix_reading.specs.Faces.{held_on, has_entry_on, changed_count};
+ghost use Rattle.s2ix_reading.specs.Reading.{HasRead, IsFaceRead, AreChangedRead, two_searches};
 ghost use Rattle.s2ix_joined.specs.Faces.{IsOverFace};
 ghost use Rattle.s2ix_joined.specs.Joined.{held_in};
 ghost use Rattle.s2ix_faced.specs.Parts.{AreTablesOf};
@@ -24,6 +24,8 @@ pub(crate) fn read_table<B: PairReader>(
     ensures pairs { IfOk result (λ table. table.held ≡ held_on face (B.shown reader.old)) }
     ensures same { B.shown reader.new ≡ B.shown reader.old }
     ensures reads { OnOk result (IsFaceRead face (B.shown reader.old) (B.spent reader.old) (B.spent reader.new)) }
+    ensures refused { HasRead 0
+        (length (held_on face (B.shown reader.old)) + two_searches (B.shown reader.old)) (B.spent reader.old) (B.spent reader.new) }
 {
     let held = read_face(alloc, reader, face)?;
     FaceTable::new(alloc, face, held)
@@ -45,6 +47,8 @@ pub(crate) fn table_after<B: PairReader>(
     ensures pairs { IfOk result (λ table. table.held ≡ held_on face (B.shown reader.old)) }
     ensures same { B.shown reader.new ≡ B.shown reader.old }
     ensures read { OnOk result (is_changed ≡ true → IsFaceRead face (B.shown reader.old) (B.spent reader.old) (B.spent reader.new)) }
+    ensures refused { is_changed ≡ true → HasRead 0
+        (length (held_on face (B.shown reader.old)) + two_searches (B.shown reader.old)) (B.spent reader.old) (B.spent reader.new) }
     ensures unread { is_changed ≡ false → B.spent reader.new ≡ B.spent reader.old }
 {
     let _ = change;
@@ -82,6 +86,8 @@ pub(crate) fn tables_after<B: PairReader>(
     ensures tables { IfOk result (λ tables. AreTablesOf (B.shown reader.old) tables) }
     ensures same { B.shown reader.new ≡ B.shown reader.old }
     ensures reads { OnOk result (AreChangedRead change.now (B.shown reader.old) (B.spent reader.old) (B.spent reader.new)) }
+    ensures refused { HasRead 0
+        (changed_count change.now (B.shown reader.old) + 6 * two_searches (B.shown reader.old)) (B.spent reader.old) (B.spent reader.new) }
 {
     let changed = changed_faces(change);
     Ok([

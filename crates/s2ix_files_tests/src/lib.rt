@@ -1,8 +1,10 @@
-//! Tests of what is done with whole files.
+//! Tests of what is done with whole files, and of exports.
 #![tactic(auto)]
 
 #[cfg(test)]
 mod check_tests;
+#[cfg(test)]
+mod export_tests;
 #[cfg(test)]
 mod load_tests;
 #[cfg(test)]

@@ -1,5 +1,5 @@
 // What the adapters ask of std's readers and writers: no contract speaks of it, since std's traits have no relation for a call.
-use crate::calls::{Call, answers, gives_all};
+use crate::calls::{Call, Piece, answers, gives_all};
 use s2ix_io::{FromRead, ToWrite, WriteFault};
 use std::io;
 use std::io::{ErrorKind, Read, Write};
@@ -85,7 +85,12 @@ fn writer_of(put_len: usize, fault_at: u64, kind: ErrorKind) -> CountingWriter {
 }
 
 // The pieces of `hello` where the second call fails.
-const PIECES: [Option<&[u8]>; 4] = [Some(b"hel"), None, Some(b"lo"), Some(b"")];
+const PIECES: [Piece; 4] = [
+    Piece::Bytes(b"hel"),
+    Piece::Fault,
+    Piece::Bytes(b"lo"),
+    Piece::Bytes(b""),
+];
 
 // Whether each piece of a reader, whose second call fails with an error of this kind, is one call.
 fn reads_once(kind: ErrorKind) -> bool {

@@ -33,22 +33,28 @@ pub(crate) fn answers<K: Sink>(sink: &mut K, calls: &[Call]) -> bool {
     true
 }
 
-// Whether a source gives this piece, with room for three bytes: a fault where none is said.
-fn gives<S: Source>(source: &mut S, wanted: Option<&[u8]>) -> bool {
+// What a call of a source answers.
+pub(crate) enum Piece {
+    Bytes(&'static [u8]),
+    Fault,
+}
+
+// Whether a source gives this piece, with room for three bytes, or this fault.
+fn gives<S: Source>(source: &mut S, wanted: &Piece) -> bool {
     let mut buf = [0; 3];
     if source.faults() >= MANY {
         return false;
     }
-    let piece = match source.piece(&mut buf) {
-        Ok(count) => Some(&buf[..count]),
-        Err(ReadFault) => None,
-    };
-    piece == wanted
+    match (source.piece(&mut buf), wanted) {
+        (Ok(count), Piece::Bytes(bytes)) => &buf[..count] == *bytes,
+        (Err(ReadFault), Piece::Fault) => true,
+        _ => false,
+    }
 }
 
 // Whether a source gives these pieces, one after the other, and tells of so many faults in the end.
-pub(crate) fn gives_all<S: Source>(source: &mut S, pieces: &[Option<&[u8]>], faults: u64) -> bool {
-    for &piece in pieces {
+pub(crate) fn gives_all<S: Source>(source: &mut S, pieces: &[Piece], faults: u64) -> bool {
+    for piece in pieces {
         if !gives(source, piece) {
             return false;
         }

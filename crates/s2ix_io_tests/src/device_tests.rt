@@ -1,11 +1,21 @@
 // Sources in memory, and the adapters of std's readers and writers.
-use crate::calls::{Call, answers, gives_all};
+use crate::calls::{Call, Piece, answers, gives_all};
 use s2ix_io::{Broken, FromRead, SliceSource, TakesNone, ToWrite, WriteFault};
 
 // The pieces of `hello` where a piece has two bytes at most, and where one has nine and the first call fails.
-const SHORT: [Option<&[u8]>; 4] = [Some(b"he"), Some(b"ll"), Some(b"o"), Some(b"")];
+const SHORT: [Piece; 4] = [
+    Piece::Bytes(b"he"),
+    Piece::Bytes(b"ll"),
+    Piece::Bytes(b"o"),
+    Piece::Bytes(b""),
+];
 
-const LATE: [Option<&[u8]>; 4] = [None, Some(b"hel"), Some(b"lo"), Some(b"")];
+const LATE: [Piece; 4] = [
+    Piece::Fault,
+    Piece::Bytes(b"hel"),
+    Piece::Bytes(b"lo"),
+    Piece::Bytes(b""),
+];
 
 #[test]
 fn a_source_gives_pieces_then_the_end(rt: HostRuntime) {
@@ -14,12 +24,12 @@ fn a_source_gives_pieces_then_the_end(rt: HostRuntime) {
 }
 
 // The pieces of `hello` that a reader of std's gives.
-const READ: [Option<&[u8]>; 3] = [Some(b"hel"), Some(b"lo"), Some(b"")];
+const READ: [Piece; 3] = [Piece::Bytes(b"hel"), Piece::Bytes(b"lo"), Piece::Bytes(b"")];
 
 #[test]
 fn a_reader_is_passed_on(rt: HostRuntime) {
     assert!(rt; gives_all(&mut FromRead::new(b"hello".as_slice()), &READ, 0));
-    assert!(rt; gives_all(&mut FromRead::new(Broken), &[None], 1));
+    assert!(rt; gives_all(&mut FromRead::new(Broken), &[Piece::Fault], 1));
 }
 
 // Calls of a writer that keeps what it takes.

@@ -12,7 +12,7 @@ struct Text {
     fault_at: u64,
     is_flush_failing: bool,
     whole: &'static [u8],
-    parts: [&'static [u8]; 3],
+    parts: &'static [&'static [u8]],
     put: Result<(), WriteFault>,
     kept: &'static [u8],
     put_faults: u64,
@@ -28,7 +28,7 @@ const TEXTS: [Text; 2] = [
         fault_at: 0,
         is_flush_failing: false,
         whole: b"hello",
-        parts: [b" ", b"", b"world\n"],
+        parts: &[b" ", b"", b"world\n"],
         put: Ok(()),
         kept: b"hello world\n",
         put_faults: 0,
@@ -41,7 +41,7 @@ const TEXTS: [Text; 2] = [
         fault_at: 3,
         is_flush_failing: true,
         whole: b"",
-        parts: [b"one", b" two", b""],
+        parts: &[b"one", b" two", b""],
         put: Err(WriteFault),
         kept: b"one",
         put_faults: 1,
@@ -55,7 +55,7 @@ fn keeps(text: Text, sink: &mut KeepingSink) -> bool {
     if sink.faults() > 0 || put_all(sink, text.whole).is_err() || sink.faults() > 0 {
         return false;
     }
-    let put = put_parts(sink, &text.parts);
+    let put = put_parts(sink, text.parts);
     put == text.put
         && sink.faults() == text.put_faults
         && sink.kept() == text.kept

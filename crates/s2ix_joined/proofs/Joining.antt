@@ -7,7 +7,7 @@ use Rattle.s2ix_ranges.specs.Contents.{contents_at}
 use Rattle.s2ix_ranges.specs.Table.{Range}
 use Rattle.s2ix_ranges.proofs.Over.{in_contents}
 use Rattle.s2ix_ranges.proofs.Tables.{IsRangeFrom, Changes, IsTable, table_rises}
-use Rattle.s2ix_joined.specs.Joined.{is_nil, put_first, joined}
+use Rattle.s2ix_joined.specs.Joined.{is_nil, put_first, put_before}
 use Rattle.s2ix_joined.proofs.Appended.{EndBy, BeginFrom, contents_front, contents_back}
 
 pub nil_is : (hs : Collection) → is_nil hs ≡ true → hs ≡ []
@@ -68,7 +68,7 @@ changes_same : (r s : Range) (rs : List Range) → r.contents ≡ s.contents →
 changes_same r s [] same c = tt
 changes_same r s (u ∷ us) same c = λ e. c (sym same ∙ e)
 
-changes_joined : (r s : Range) (rs ss : List Range) → Changes r (s ∷ rs) → Changes r (joined (s ∷ rs) ss)
+changes_joined : (r s : Range) (rs ss : List Range) → Changes r (s ∷ rs) → Changes r (put_before (s ∷ rs) ss)
 changes_joined r s [] [] c = c
 changes_joined r s [] (u ∷ us) c =
     elim (is_nil s.contents && is_nil u.contents) as (λ b. Changes r (cond b (record { start = s.start; limit = u.limit; contents = s.contents } ∷ us) (s ∷ u ∷ us))) [
@@ -114,7 +114,7 @@ join_first hs ks from b to r (s ∷ ss) end begin t u =
     ]
 
 -- tables over neighbouring spans, joined, are a table over both
-pub join_tables : (hs ks : Collection) (from b to : ℕ) (rs ss : List Range) → EndBy hs b → BeginFrom ks b → IsTable hs from rs b → IsTable ks b ss to → IsTable (hs ++ ks) from (joined rs ss) to
+pub join_tables : (hs ks : Collection) (from b to : ℕ) (rs ss : List Range) → EndBy hs b → BeginFrom ks b → IsTable hs from rs b → IsTable ks b ss to → IsTable (hs ++ ks) from (put_before rs ss) to
 join_tables hs ks from b to [] ss end begin t u =
     subst (λ n. IsTable (hs ++ ks) n ss to) (sym t) (back_table hs ks b b ss to end (omega arith) u)
 join_tables hs ks from b to (r ∷ []) ss end begin t u = join_first hs ks from b to r ss end begin t u

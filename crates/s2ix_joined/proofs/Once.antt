@@ -9,14 +9,13 @@ use Rattle.s2ix_ranges.proofs.InOrder.{in_choice}
 use Rattle.s2ix_ranges.specs.Table.{leaf_end}
 use Rattle.s2ix_chain.specs.SpanTable.{SpanRanges, IsSpanTable}
 use Rattle.s2ix_chain.specs.Chains.{chain_of, is_on_chain}
-use Rattle.s2ix_chain.specs.Once.{IsHeldAt}
 use Rattle.s2ix_joined.specs.declared.face_place.FacePlace.{FacePlace}
 use Rattle.s2ix_joined.specs.declared.seat.Seat.{Seat}
 use Rattle.s2ix_joined.specs.Faces.{AreOnFace, IsOverFace}
 use Rattle.s2ix_joined.specs.Joined.{AreNeighbours}
 use Rattle.s2ix_joined.specs.Whole.{AreJoined}
 use Rattle.s2ix_joined.proofs.OnFaces.{held_lie_on}
-use Rattle.s2ix_joined.specs.Once.{KeepsOnce}
+use Rattle.s2ix_chain.specs.Once.{IsHeldAt, KeepsOnce}
 use Rattle.s2ix_joined.specs.Places.{chain_at}
 use Rattle.s2ix_joined.proofs.Reading.{no_table, place_on, chain_is, over_face}
 

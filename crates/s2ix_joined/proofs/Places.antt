@@ -2,7 +2,7 @@
 use Rattle.std.proofs.Common.{◌≡◌, ◌&&◌, ℕ, zero, suc, ◌+◌, ◌<◌, true, false, cond, List, [], ◌∷◌, length, refl, sym, ◌∙◌, ap, arith, subst}
 use Rattle.std.proofs.lemmas.Bool.{cond-true, cond-false}
 use Rattle.s2ix_ranges.specs.Table.{Range, range_at}
-use Rattle.s2ix_joined.specs.Joined.{is_nil, joined}
+use Rattle.s2ix_joined.specs.Joined.{is_nil, put_before}
 
 -- ---- one range at the cut
 
@@ -34,7 +34,7 @@ one_first r s ss = record {
     back zero some lt = absurd (omega arith)
     back (suc k) some lt = at_plus (record { start = r.start; limit = s.limit; contents = r.contents } ∷ ss) (suc k)
 
-pub joined_one : (xs ys : List Range) (p : ℕ) → length xs ≡ p + 1 → 0 < length ys → (is_nil (range_at xs p).contents && is_nil (range_at ys 0).contents) ≡ true → IsOne xs ys p (joined xs ys)
+pub joined_one : (xs ys : List Range) (p : ℕ) → length xs ≡ p + 1 → 0 < length ys → (is_nil (range_at xs p).contents && is_nil (range_at ys 0).contents) ≡ true → IsOne xs ys p (put_before xs ys)
 joined_one [] ys p e some both = absurd (omega arith)
 joined_one (r ∷ []) [] p e some both = absurd (omega arith)
 joined_one (r ∷ []) (s ∷ ss) zero e some both =
@@ -50,10 +50,10 @@ joined_one (r ∷ t ∷ rs) ys (suc p) e some both =
       start = rest.start;
       contents = rest.contents;
       limit = rest.limit;
-      back = λ k some lt. later_at r (joined (t ∷ rs) ys) ys p k (rest.back k some lt);
+      back = λ k some lt. later_at r (put_before (t ∷ rs) ys) ys p k (rest.back k some lt);
     }
   where
-    front : ((k : ℕ) → k < p → range_at (joined (t ∷ rs) ys) k ≡ range_at (t ∷ rs) k) → (k : ℕ) → k < suc p → range_at (r ∷ joined (t ∷ rs) ys) k ≡ range_at (r ∷ t ∷ rs) k
+    front : ((k : ℕ) → k < p → range_at (put_before (t ∷ rs) ys) k ≡ range_at (t ∷ rs) k) → (k : ℕ) → k < suc p → range_at (r ∷ put_before (t ∷ rs) ys) k ≡ range_at (r ∷ t ∷ rs) k
     front same zero lt = refl
     front same (suc k) lt = same k (omega arith)
 
@@ -75,7 +75,7 @@ two_first r s ss = record {
     front zero lt = refl
     front (suc k) lt = absurd (omega arith)
 
-pub joined_two : (xs ys : List Range) (p : ℕ) → length xs ≡ p + 1 → 0 < length ys → (is_nil (range_at xs p).contents && is_nil (range_at ys 0).contents) ≡ false → IsTwo xs ys (joined xs ys)
+pub joined_two : (xs ys : List Range) (p : ℕ) → length xs ≡ p + 1 → 0 < length ys → (is_nil (range_at xs p).contents && is_nil (range_at ys 0).contents) ≡ false → IsTwo xs ys (put_before xs ys)
 joined_two [] ys p e some apart = absurd (omega arith)
 joined_two (r ∷ []) [] p e some apart = absurd (omega arith)
 joined_two (r ∷ []) (s ∷ ss) zero e some apart =
@@ -88,16 +88,16 @@ joined_two (r ∷ t ∷ rs) ys (suc p) e some apart =
     record {
       length_is = omega arith;
       front = front rest.front;
-      back = λ k lt. later_at r (joined (t ∷ rs) ys) ys (length (t ∷ rs)) k (rest.back k lt);
+      back = λ k lt. later_at r (put_before (t ∷ rs) ys) ys (length (t ∷ rs)) k (rest.back k lt);
     }
   where
-    front : ((k : ℕ) → k < length (t ∷ rs) → range_at (joined (t ∷ rs) ys) k ≡ range_at (t ∷ rs) k) → (k : ℕ) → k < length (r ∷ t ∷ rs) → range_at (r ∷ joined (t ∷ rs) ys) k ≡ range_at (r ∷ t ∷ rs) k
+    front : ((k : ℕ) → k < length (t ∷ rs) → range_at (put_before (t ∷ rs) ys) k ≡ range_at (t ∷ rs) k) → (k : ℕ) → k < length (r ∷ t ∷ rs) → range_at (r ∷ put_before (t ∷ rs) ys) k ≡ range_at (r ∷ t ∷ rs) k
     front same zero lt = refl
     front same (suc k) lt = same k (omega arith)
 
 -- ---- the first range, and none behind
 
-pub joined_nil : (xs : List Range) → joined xs [] ≡ xs
+pub joined_nil : (xs : List Range) → put_before xs [] ≡ xs
 joined_nil [] = refl
 joined_nil (r ∷ []) = refl
 joined_nil (r ∷ t ∷ rs) = ap (λ zs. r ∷ zs) (joined_nil (t ∷ rs))
@@ -108,7 +108,7 @@ pub record BeginAlike (xs zs : List Range) : Type 0 where
   pub start : (range_at zs 0).start ≡ (range_at xs 0).start
   pub contents : (range_at zs 0).contents ≡ (range_at xs 0).contents
 
-pub joined_first : (xs ys : List Range) → 0 < length xs → BeginAlike xs (joined xs ys)
+pub joined_first : (xs ys : List Range) → 0 < length xs → BeginAlike xs (put_before xs ys)
 joined_first [] ys some = absurd (omega arith)
 joined_first (r ∷ []) [] some = record { some = omega arith; start = refl; contents = refl }
 joined_first (r ∷ []) (s ∷ ss) some =

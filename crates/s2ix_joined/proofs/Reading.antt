@@ -177,19 +177,15 @@ pub last_in : (tables now : List SpanRanges) (seats : List Seat) (count k f : �
 last_in tables now seats count k f are same last =
     subst (λ ss. IsLastStart (places_of ss) k f) (sym are.seats_are) (subst (λ ts. IsLastStart (places_of (seats_of ts)) k f) (sym same) last)
 
-pub last_seen : (tables now : List SpanRanges) (seats : List Seat) (count k f : ℕ) → AreJoined tables seats count → tables ≡ now → IsLastStart (places_of seats) k f → IsLastStart (places_of (seats_of now)) k f
-last_seen tables now seats count k f are same last =
-    subst (λ ts. IsLastStart (places_of (seats_of ts)) k f) same (subst (λ ss. IsLastStart (places_of ss) k f) are.seats_are last)
-
 -- ---- a range of the whole, read in its table
 
-pub record IsRead (whole part : List Range) (seat : Seat) (k : ℕ) : Type 0 where
+pub record IsReadIn (whole part : List Range) (seat : Seat) (k : ℕ) : Type 0 where
   pub contents : (range_at whole k).contents ≡ (range_at part (k - seat.place)).contents
   pub limit : (range_at whole k).limit ≡ (range_at part (k - seat.place)).limit
   pub begins : k - seat.place ≡ 0 → (range_at whole k).start ≡ seat.start
   pub start : 0 < k - seat.place → (range_at whole k).start ≡ (range_at part (k - seat.place)).start
 
-pub read_part : (whole part : List Range) (seat : Seat) (high k : ℕ) → IsPart whole part seat high → seat.place ≤ k → k < high → k - seat.place < length part → IsRead whole part seat k
+pub read_part : (whole part : List Range) (seat : Seat) (high k : ℕ) → IsPart whole part seat high → seat.place ≤ k → k < high → k - seat.place < length part → IsReadIn whole part seat k
 read_part whole part seat high k is from below own =
     let e : seat.place + (k - seat.place) ≡ k = omega arith in
     record {
@@ -200,12 +196,12 @@ read_part whole part seat high k is from below own =
     }
 
 -- the range in its face's table
-pub is_read : (tables now : List SpanRanges) (seats : List Seat) (count k f : ℕ) (d span : SpanRanges) → AreJoined tables seats count → tables ≡ now → f < 6 → IsLastStart (places_of seats) k f → k < length (joined_ranges now) → span ≡ get_or tables f d → IsRead (joined_ranges now) span.ranges (get_or seats f no_seat) k
+pub is_read : (tables now : List SpanRanges) (seats : List Seat) (count k f : ℕ) (d span : SpanRanges) → AreJoined tables seats count → tables ≡ now → f < 6 → IsLastStart (places_of seats) k f → k < length (joined_ranges now) → span ≡ get_or tables f d → IsReadIn (joined_ranges now) span.ranges (get_or seats f no_seat) k
 is_read tables now seats count k f d span are same within last lt is =
     let lt_own = subst (λ ts. k < length (joined_ranges ts)) (sym same) lt in
     let at = among tables seats count k f d no_seat are within last lt_own in
     let read = read_part (joined_ranges tables) (get_or tables f d).ranges (get_or seats f no_seat) (high_of seats f count) k (seated tables seats count f d no_seat are within) at.from at.below at.own in
-    subst (λ ts. IsRead (joined_ranges ts) span.ranges (get_or seats f no_seat) k) same (subst (λ (s : SpanRanges). IsRead (joined_ranges tables) s.ranges (get_or seats f no_seat) k) (sym is) read)
+    subst (λ ts. IsReadIn (joined_ranges ts) span.ranges (get_or seats f no_seat) k) same (subst (λ (s : SpanRanges). IsReadIn (joined_ranges tables) s.ranges (get_or seats f no_seat) k) (sym is) read)
 
 pub found_part : (whole part : List Range) (seat : Seat) (high j q : ℕ) → IsPart whole part seat high → IsFound part j q → IsFound whole (seat.place + j) q
 found_part whole part seat high j q is found =

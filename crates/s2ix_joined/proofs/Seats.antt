@@ -5,7 +5,7 @@ use Rattle.std.proofs.lemmas.Bool.Decides.{nat_tests}
 use Rattle.s2ix_ranges.specs.Table.{Range, range_at}
 use Rattle.s2ix_chain.specs.SpanTable.{SpanRanges}
 use Rattle.s2ix_joined.specs.declared.seat.Seat.{Seat}
-use Rattle.s2ix_joined.specs.Joined.{is_nil, joined, joined_ranges, AreNeighbours}
+use Rattle.s2ix_joined.specs.Joined.{is_nil, put_before, joined_ranges, AreNeighbours}
 use Rattle.s2ix_joined.specs.Seats.{is_joined, last_start, seat_after, seats_from, seats_of, places_of}
 use Rattle.s2ix_joined.proofs.Joining.{nil_is}
 use Rattle.s2ix_joined.proofs.Neighbours.{joined_table}
@@ -45,7 +45,7 @@ last_begins whole xs ys zs seat p cut one is =
           (ap (λ (r : Range). r.start) there ∙ one.start ∙ sym is_start, omega arith))
     ]
 
-pub next_step : (whole xs ys us : List Range) (seat : Seat) (p : ℕ) → IsCut xs ys p → BeginAlike us ys → IsSeated whole (joined xs ys) seat → IsStep whole xs ys seat (seat_after seat xs us)
+pub next_step : (whole xs ys us : List Range) (seat : Seat) (p : ℕ) → IsCut xs ys p → BeginAlike us ys → IsSeated whole (put_before xs ys) seat → IsStep whole xs ys seat (seat_after seat xs us)
 unfolding seat_with
 next_step whole xs ys us seat p cut begin is =
     let last = cut.last_is in
@@ -62,20 +62,20 @@ next_step whole xs ys us seat p cut begin is =
           let one = joined_one xs ys p last some both in
           let nils = and_parts (is_nil (range_at xs p).contents) (is_nil (range_at ys 0).contents) both in
           let same = nil_is (range_at xs p).contents nils.0 ∙ sym (nil_is (range_at ys 0).contents nils.1) in
-          let begins = last_begins whole xs ys (joined xs ys) seat p cut one is in
+          let begins = last_begins whole xs ys (put_before xs ys) seat p cut one is in
           let is_next : seat_after seat xs us ≡ seat_with (seat.place + p) (last_start seat xs) =
           cond-true (is_joined xs us) joined_seat apart_seat t ∙ ap (λ n. seat_with (seat.place + n) (last_start seat xs)) e in
           subst (IsStep whole xs ys seat) (sym is_next) (record {
-            part = one_part whole xs ys (joined xs ys) seat p cut one is;
-            rest = one_next whole xs ys (joined xs ys) seat p (last_start seat xs) cut one same is begins.0 begins.1;
+            part = one_part whole xs ys (put_before xs ys) seat p cut one is;
+            rest = one_next whole xs ys (put_before xs ys) seat p (last_start seat xs) cut one same is begins.0 begins.1;
           }))
       | inr f ↦
           (let two = joined_two xs ys p last some (sym test ∙ f) in
           let is_next : seat_after seat xs us ≡ seat_with (seat.place + length xs) (range_at ys 0).start =
           cond-false (is_joined xs us) joined_seat apart_seat f ∙ ap (λ n. seat_with (seat.place + length xs) n) (sym begin.start) in
           subst (IsStep whole xs ys seat) (sym is_next) (record {
-            part = two_part whole xs ys (joined xs ys) seat (omega arith) two is;
-            rest = two_next whole xs ys (joined xs ys) seat (omega arith) some two is;
+            part = two_part whole xs ys (put_before xs ys) seat (omega arith) two is;
+            rest = two_next whole xs ys (put_before xs ys) seat (omega arith) some two is;
           }))
     ]
 

@@ -15,11 +15,11 @@ put_first r [] = r ∷ []
 put_first r (s ∷ ss) =
     if is_nil r.contents && is_nil s.contents then record { start = r.start; limit = s.limit; contents = r.contents } ∷ ss else r ∷ s ∷ ss
 
--- ranges, and behind them others: where nothing lies over the last and the first of them, the two are one
-abbrev pub joined : List Range → List Range → List Range
-joined [] ss = ss
-joined (r ∷ []) ss = put_first r ss
-joined (r ∷ t ∷ rs) ss = r ∷ joined (t ∷ rs) ss
+-- ranges before others: where nothing lies over the last and the first of them, the two are one
+abbrev pub put_before : List Range → List Range → List Range
+put_before [] ss = ss
+put_before (r ∷ []) ss = put_first r ss
+put_before (r ∷ t ∷ rs) ss = r ∷ put_before (t ∷ rs) ss
 
 -- what some tables hold, one after the other
 abbrev pub held_in : List SpanRanges → Collection
@@ -28,7 +28,7 @@ held_in tables = flat_map (λ t. t.held) tables
 -- the ranges of some tables, one behind the other
 unfoldable pub joined_ranges : List SpanRanges → List Range
 joined_ranges [] = []
-joined_ranges (t ∷ ts) = joined t.ranges (joined_ranges ts)
+joined_ranges (t ∷ ts) = put_before t.ranges (joined_ranges ts)
 
 -- tables over spans that follow one another, from one leaf number up to another
 abbrev pub AreNeighbours : ℕ → List SpanRanges → ℕ → Type 0

@@ -3,4 +3,3 @@ pub mod Seats
 pub mod Faces
 pub mod Places
 pub mod Whole
-pub mod Once

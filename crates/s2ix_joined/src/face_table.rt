@@ -2,7 +2,7 @@ ghost use Rattle.std.specs.Prelude.{◌≡◌, ◌<◌, ◌≤◌, IfOk, length}
 ghost use Rattle.s2ix_pairs.specs.Collection.{IsCollection};
 ghost use Rattle.s2ix_chain.specs.SpanTable.{IsSpanTable};
 ghost use Rattle.s2ix_chain.specs.Chains.{chain_of};
-ghost use Rattle.s2ix_joined.specs.Once.{KeepsOnce};
+ghost use Rattle.s2ix_chain.specs.Once.{KeepsOnce};
 ghost use Rattle.s2ix_joined.specs.Faces.{AreOnFace, IsOverFace};
 
 use s2id_core::OutOfMemory;

@@ -10,7 +10,7 @@ ghost use Rattle.s2ix_joined.specs.Faces.{IsOverFace, AreOverFaces};
 ghost use Rattle.s2ix_chain.specs.Starts.{IsLastStart};
 ghost use Rattle.s2ix_joined.specs.Joined.{held_in, joined_ranges};
 ghost use Rattle.s2ix_joined.specs.Seats.{seats_of, places_of};
-ghost use Rattle.s2ix_joined.specs.Once.{KeepsOnce};
+ghost use Rattle.s2ix_chain.specs.Once.{KeepsOnce};
 ghost use Rattle.s2ix_joined.specs.Places.{chain_at};
 
 use crate::face_place::FacePlace;
@@ -123,7 +123,7 @@ impl JoinedTables {
         (self.range_on(face, k), self.stretch_on(face))
     }
 
-    /// The ranges among which all of those over a face are. O(1).
+    /// The ranges among which all of those over a face, 0 to 5, are. O(1).
     #[inline]
     pub fn window(&self, face: u8) -> Window
         requires { face < 6 }
@@ -136,8 +136,8 @@ impl JoinedTables {
         }
     }
 
-    /// The ranges over a face but for the first one, which may begin before the face, and the last one, which may end behind it. Its note is
-    /// the face. O(1).
+    /// The ranges over a face, 0 to 5, but for the first one, which may begin before the face, and the last one, which may end behind it. Its
+    /// note is the face. O(1).
     #[inline]
     pub fn stretch(&self, face: u8) -> Stretch<'_>
         requires { face < 6 }

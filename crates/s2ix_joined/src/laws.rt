@@ -1,5 +1,5 @@
 //! What is true of all joined tables. Each function is a law: it does nothing, and its contract is the fact.
-ghost use Rattle.s2ix_joined.specs.Once.{KeepsOnce};
+ghost use Rattle.s2ix_chain.specs.Once.{KeepsOnce};
 ghost use Rattle.s2ix_joined.specs.Places.{chain_at};
 
 use crate::joined_tables::JoinedTables;

@@ -1,4 +1,7 @@
 //! What the fields of a line name: cells, labels, pairs, unions and edits; and what is wrong with a line.
+//!
+//! Each call takes the fields behind a line's word, and gives what they name or a [`LineFault`]: that they are too few or too many, else
+//! that of the first unfit one. A list of cells alone takes memory ([`LineError`]). The words themselves stand in `s2ix_script`.
 #![tactic(auto)]
 
 mod cells;

@@ -4,6 +4,7 @@ pub mod Label
 pub mod Laws
 pub mod Limits
 pub mod OfLabel
+pub mod OneProof
 pub mod Pair
 pub mod Ranges
 pub mod TakenBack

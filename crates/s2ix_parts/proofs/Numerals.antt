@@ -20,17 +20,17 @@ use Rattle.s2ix_pairs.specs.declared.label.Label.{Label}
 use Rattle.s2ix_pairs.specs.Label.{label_numbered, value_of}
 use Rattle.s2ix_pairs.proofs.Labels.{label_numbered-in_range, label_numbered-above}
 use Rattle.s2ix_parts.specs.Lines.{is_nil}
-use Rattle.s2ix_parts.specs.Written.{cell_with, cell_written, count_from, count_written, label_written, number_written}
+use Rattle.s2ix_parts.specs.Written.{cell_if_canonical, cell_written, count_from, count_written, label_written, number_written}
 use Rattle.s2ix_parts.proofs.Pieces.{is_some_text}
 
 -- ---- cells
 
-pub cell_from_spelled : (text : List ℕ) (spelled : Option CellId) → cell_spelled text ≡ spelled → cell_written text ≡ option_and_then (cell_with text) spelled
+pub cell_from_spelled : (text : List ℕ) (spelled : Option CellId) → cell_spelled text ≡ spelled → cell_written text ≡ option_and_then (cell_if_canonical text) spelled
 unfolding cell_written
-cell_from_spelled text spelled is = ap (option_and_then (cell_with text)) is
+cell_from_spelled text spelled is = ap (option_and_then (cell_if_canonical text)) is
 
 -- a cell is written by its canonical token alone
-at_spelled : (text : List ℕ) (spelled : Option CellId) (cell : CellId) → option_and_then (cell_with text) spelled ≡ Some cell → text ≡ canonical_token (raw_of cell)
+at_spelled : (text : List ℕ) (spelled : Option CellId) (cell : CellId) → option_and_then (cell_if_canonical text) spelled ≡ Some cell → text ≡ canonical_token (raw_of cell)
 at_spelled text None cell is = cc
 at_spelled text (Some other) cell is =
     let parts = cond_some (bytes_eq text (canonical_token (raw_of other))) other cell is in

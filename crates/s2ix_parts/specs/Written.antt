@@ -14,12 +14,12 @@ use Rattle.s2ix_pairs.specs.Pair.{rank_of}
 use Rattle.s2ix_parts.specs.Lines.{part}
 
 -- a cell, where the text is its canonical token
-abbrev pub cell_with : List ℕ → CellId → Option CellId
-cell_with text cell = if bytes_eq text (canonical_token (raw_of cell)) then Some cell else None
+abbrev pub cell_if_canonical : List ℕ → CellId → Option CellId
+cell_if_canonical text cell = if bytes_eq text (canonical_token (raw_of cell)) then Some cell else None
 
 -- the cell whose canonical token a text is, if it is any cell's
 unfoldable pub cell_written : List ℕ → Option CellId
-cell_written text = option_and_then (cell_with text) (cell_spelled text)
+cell_written text = option_and_then (cell_if_canonical text) (cell_spelled text)
 
 -- the number whose canonical digits a text is, if it is any number's: decimal digits without a leading zero; zero is `0`
 unfoldable pub number_written : List ℕ → Option ℕ
@@ -38,14 +38,14 @@ unfoldable pub count_written : ℕ → List ℕ → Option ℕ
 count_written most text = option_and_then (count_from most) (number_written text)
 
 -- the pair of a cell and a label, where there are both
-abbrev pub pair_with : Option CellId → Option Label → Option Pair
-pair_with (Some cell) (Some label) = Some (record { cell = cell; label = label })
-pair_with (Some cell) None = None
-pair_with None label = None
+abbrev pub pair_of_both : Option CellId → Option Label → Option Pair
+pair_of_both (Some cell) (Some label) = Some (record { cell = cell; label = label })
+pair_of_both (Some cell) None = None
+pair_of_both None label = None
 
 -- the pair that the first two parts of a line write
 unfoldable pub pair_written : List ℕ → Option Pair
-pair_written line = pair_with (cell_written (part 0 line)) (label_written (part 1 line))
+pair_written line = pair_of_both (cell_written (part 0 line)) (label_written (part 1 line))
 
 -- the count that the third part of a line writes; 0 where it writes none
 unfoldable pub count_of_line : ℕ → List ℕ → ℕ

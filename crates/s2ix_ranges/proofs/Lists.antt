@@ -7,8 +7,8 @@ use Rattle.s2id_core.specs.CellId.{raw_of, path_of, level_of}
 use Rattle.s2id_core.specs.Leaves.{IsLeafPath}
 use Rattle.s2id_core.specs.Path.{Path, number_of, path_at}
 use Rattle.s2id_core.proofs.Nested.{span, same_from_level, span_from_leaf, leaf_from_span, leaf_of_odd}
-use Rattle.s2id_union.specs.Covers.{Covers}
-use Rattle.s2id_union.specs.Region.{InRegion, Meets}
+use Rattle.s2id_union.specs.Region.{Meets}
+use Rattle.s2id_union.proofs.Covering.{covers_from_region}
 use Rattle.s2ix_pairs.proofs.Collections.{rank_of_get}
 use Rattle.s2ix_lists.proofs.Parts.{collection_take}
 use Rattle.s2ix_pairs.specs.Collection.{Collection, IsCollection, IsCollectionFrom}
@@ -111,11 +111,6 @@ same_contents held leaf xs ys x y =
     same_rising IsDeeper xs ys (λ a b _ _. deeper_one_way a b) x.rises y.rises (λ h k. (y.each h).1 ((x.each h).0 k)) (λ h k. (x.each h).1 ((y.each h).0 k))
 
 -- ---- meeting lists
-
-pub covers_from_region : (target : List CellId) (l : Path) → InRegion target l → Covers target (number_of l)
-covers_from_region target l i =
-    let at = span_from_leaf l (raw_of i.1) i.1.valid i.4 in
-    record { cell = i.1; held = (i.0, i.2, i.3); from = at.0; to = at.1 }
 
 -- the leaf at which a cell first meets a target
 record HasFirst (target : List CellId) (cell : CellId) : Type 0 where

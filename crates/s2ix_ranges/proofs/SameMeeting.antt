@@ -13,7 +13,7 @@ use Rattle.s2ix_ranges.specs.Contents.{depth_key}
 use Rattle.s2ix_ranges.specs.InOrder.{choice}
 use Rattle.s2ix_ranges.specs.Meeting.{first_shared, meeting_key, meeting_from, meeting_of}
 use Rattle.s2ix_ranges.specs.Table.{leaf_end}
-use Rattle.s2ix_ranges.proofs.Lists.{covers_from_region}
+use Rattle.s2id_union.proofs.Covering.{covers_from_region}
 use Rattle.s2ix_ranges.proofs.FirstShared.{shared_le, shared_is, shared_tail}
 
 same_covers : (xs ys : List CellId) → HaveSameRegion xs ys → (q : ℕ) → q % 2 ≡ 1 → q < leaf_end → Covers xs q → Covers ys q

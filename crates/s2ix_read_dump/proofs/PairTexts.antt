@@ -23,7 +23,7 @@ use Rattle.s2ix_text.proofs.Versions.{greatest_below_fits, named_by_dump_header}
 use Rattle.s2ix_read_dump.specs.DumpFaults.{end_text, greatest_count, is_end}
 use Rattle.s2ix_parts.specs.Lines.{has_parts, lines_of, parts_of}
 use Rattle.s2ix_read_dump.specs.PairLines.{IsCut, held_of_parts, held_written, line_text}
-use Rattle.s2ix_parts.specs.Written.{cell_written, count_of_line, count_written, label_written, pair_with, pair_written}
+use Rattle.s2ix_parts.specs.Written.{cell_written, count_of_line, count_written, label_written, pair_of_both, pair_written}
 use Rattle.s2ix_read_dump.specs.declared.errors.DumpFault.{DumpFault}
 use Rattle.s2ix_read_dump.specs.declared.errors.DumpFault.TheVariants.{BadLine}
 use Rattle.s2ix_parts.proofs.PartCounts.{graphic_lacks}
@@ -104,7 +104,7 @@ held_of_line header h counted =
 pub pair_of_line : (header : List ℕ) (h : Held) → HasCount header h → pair_written (line_text h) ≡ Some h.pair
 unfolding pair_written
 pair_of_line header h counted =
-    ap (λ (ps : List (List ℕ)). pair_with (cell_written (slice_index_or ps 0 [])) (label_written (slice_index_or ps 1 []))) (line_parts header h counted)
+    ap (λ (ps : List (List ℕ)). pair_of_both (cell_written (slice_index_or ps 0 [])) (label_written (slice_index_or ps 1 []))) (line_parts header h counted)
     ∙ rw (cell_of_token h.pair.cell, label_of_digits h.pair.label) refl
 
 pub count_of_text : (header : List ℕ) (h : Held) → HasCount header h → count_of_line (greatest_count header) (line_text h) ≡ h.count

@@ -20,18 +20,18 @@ use Rattle.s2ix_read_journal.specs.Journals.{AreGroups, IsJournal}
 use Rattle.s2ix_read_journal.proofs.Whole.{groups_writable, journal_is_sound, journal_of_groups, sound_is_journal}
 
 -- what is read below a version's header is a journal with its text
-abbrev pub IsRead : Limits → List ℕ → List (List Entry) → Type 0
-IsRead limits text cs = IsJournal limits cs × IsJournalText text cs
+abbrev pub IsJournalIn : Limits → List ℕ → List (List Entry) → Type 0
+IsJournalIn limits text cs = IsJournal limits cs × IsJournalText text cs
 
 put_together : (version : Version) (limits : Limits) (text header below : List ℕ) (cs : List (List Entry)) → text ≡ header ++ 10 ∷ below → header ≡ journal_header version
-    → AreGroups (greatest_in version) limits cs → below ≡ flat_map group_text cs ++ last_line cs → IsRead limits text cs
+    → AreGroups (greatest_in version) limits cs → below ≡ flat_map group_text cs ++ last_line cs → IsJournalIn limits text cs
 unfolding journal_in
 put_together version limits text header below cs cut is are parts =
     let whole : text ≡ journal_in version cs = cut ∙ ap₂ (λ (h b : List ℕ). h ++ 10 ∷ b) is parts in
     (journal_of_groups version limits cs are.groups are.few, (version, groups_writable version limits cs are.groups, whole))
 
 pub read_below : {X Y : Type 0} (r : Result X Y) (list : X → List (List Entry)) (version : Version) (most : ℕ) (limits : Limits) (text header below : List ℕ) → journal_version header ≡ Some version → most ≡ greatest_in version → text ≡ header ++ 10 ∷ below
-    → IfOk r (λ x. AreGroups most limits (list x)) → IfOk r (λ x. below ≡ flat_map group_text (list x) ++ last_line (list x)) → IfOk r (λ x. IsRead limits text (list x))
+    → IfOk r (λ x. AreGroups most limits (list x)) → IfOk r (λ x. below ≡ flat_map group_text (list x) ++ last_line (list x)) → IfOk r (λ x. IsJournalIn limits text (list x))
 read_below (Ok x) list version most limits text header below named own cut are parts =
     put_together version limits text header below (list x) cut (journal_header_named header version named) (subst (λ m. AreGroups m limits (list x)) own are) parts
 read_below (Err e) list version most limits text header below named own cut are parts = tt

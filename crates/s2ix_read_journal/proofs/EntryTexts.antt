@@ -12,7 +12,7 @@ use Rattle.s2ix_pairs.specs.declared.pair.Entry.{Entry}
 use Rattle.s2ix_text.specs.Journal.{entry_line}
 use Rattle.s2ix_text.proofs.Journals.{decimal_graphic, token_graphic}
 use Rattle.s2ix_parts.specs.Lines.{has_parts, part, parts_of}
-use Rattle.s2ix_parts.specs.Written.{cell_written, label_written, pair_with, pair_written}
+use Rattle.s2ix_parts.specs.Written.{cell_written, label_written, pair_of_both, pair_written}
 use Rattle.s2ix_parts.proofs.Numerals.{cell_of_token, label_of_digits, small_label, token_some, written_cell, written_label}
 use Rattle.s2ix_parts.proofs.PartCounts.{four_are, four_from_parts, four_joined, graphic_lacks, lacks_feed_more, parts_last, parts_more}
 use Rattle.s2ix_parts.proofs.Pieces.{Lacks, is_some_text}
@@ -72,7 +72,7 @@ entry_of_text most bounded e sides =
 pub pair_of_text : (most : ℕ) → most < 2 ^ 32 → (e : Entry) → HasSides most e → pair_written (entry_text e) ≡ Some e.pair
 unfolding pair_written
 pair_of_text most bounded e sides =
-    ap (λ (ps : List (List ℕ)). pair_with (cell_written (slice_index_or ps 0 [])) (label_written (slice_index_or ps 1 []))) (entry_parts most bounded e sides)
+    ap (λ (ps : List (List ℕ)). pair_of_both (cell_written (slice_index_or ps 0 [])) (label_written (slice_index_or ps 1 []))) (entry_parts most bounded e sides)
     ∙ rw (cell_of_token e.pair.cell, label_of_digits e.pair.label) refl
 
 -- and no other line writes it

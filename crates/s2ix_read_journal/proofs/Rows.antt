@@ -13,7 +13,7 @@ use Rattle.s2ix_pairs.specs.declared.pair.Entry.{Entry}
 use Rattle.s2ix_pairs.specs.declared.pair.Pair.{Pair}
 use Rattle.s2ix_parts.specs.Faults.{Place}
 use Rattle.s2ix_parts.specs.Lines.{has_parts, is_nil, part}
-use Rattle.s2ix_parts.specs.Written.{cell_written, comes_before, label_written, pair_with, pair_written}
+use Rattle.s2ix_parts.specs.Written.{cell_written, comes_before, label_written, pair_of_both, pair_written}
 use Rattle.s2ix_text.specs.Version.{journal_version}
 use Rattle.s2ix_read_journal.specs.declared.errors.JournalFault.{JournalFault}
 use Rattle.s2ix_read_journal.specs.declared.errors.JournalFault.TheVariants.{Truncated, BadHeader, BadEnd, BadLine, BadToken, BadLabel, BadCount, NoDifference, Unsorted, TooManyCopies, TooManyChanges, TrailingBytes}
@@ -86,7 +86,7 @@ three_tests false true true e = refl
 three_tests false true false e = refl
 
 at_entry : (limits : Limits) (last : Option Pair) (four : Bool) (cell : Option CellId) (label : Option Label) (before after : Option ℕ)
-    → first_of false false false (not four) (is_none cell) (is_none label) (is_none before || is_none after) (unwrap_or before 0 == unwrap_or after 0) (not (comes_before last (pair_with cell label)))
+    → first_of false false false (not four) (is_none cell) (is_none label) (is_none before || is_none after) (unwrap_or before 0 == unwrap_or after 0) (not (comes_before last (pair_of_both cell label)))
     (nat_lt (count_limit limits) (unwrap_or before 0) || nat_lt (count_limit limits) (unwrap_or after 0)) false false
     ≡ result_err (entry_behind limits last (cond four (entry_of_parts cell label before after) (Err BadLine)))
 at_entry limits last false cell label before after = refl

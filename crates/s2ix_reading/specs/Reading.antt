@@ -1,8 +1,6 @@
 -- Reading held pairs one by one, and what it costs.
-use Rattle.std.specs.Prelude.{ℕ, zero, suc, ◌≡◌, ◌+◌, ◌*◌, ◌≤◌, List, [], ◌∷◌, length, min}
-use Rattle.std.specs.Coded.{le_prop, Unit-prop}
-use Rattle.s2ix_pairs.specs.Collection.{Collection, IsCollection, IsCollectionFrom}
-use Rattle.s2ix_pairs.specs.Pair.{rank_of}
+use Rattle.std.specs.Prelude.{ℕ, zero, suc, ◌≡◌, ◌+◌, ◌*◌, ◌≤◌, List, length, min}
+use Rattle.s2ix_pairs.specs.Collection.{Collection, IsCollection}
 use Rattle.s2ix_pairs.specs.declared.pair.Entry.{Entry}
 use Rattle.s2ix_walk.specs.Costs.{binary_digits}
 use Rattle.s2ix_reading.specs.Faces.{held_on, changed_count}
@@ -11,11 +9,6 @@ use Rattle.s2ix_reading.specs.Faces.{held_on, changed_count}
 pub record IsRead (held : Collection) : Type 0 where
   pub is_collection : IsCollection held
   pub few : length held ≤ 1000000
-
--- that a list is a collection has one proof
-pub IsCollection-prop : (n : ℕ) (hs : Collection) → IsProp (IsCollectionFrom n hs)
-IsCollection-prop n [] = Unit-prop
-IsCollection-prop n (h ∷ hs) = hlevel (le_prop, IsCollection-prop (rank_of h.pair + 1) hs)
 
 -- one pair more was read; counts stop at 2 ^ 64 - 1
 abbrev pub with_read : ℕ → ℕ

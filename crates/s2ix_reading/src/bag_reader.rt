@@ -1,12 +1,12 @@
 ghost use Rattle.std.specs.Prelude.{◌≡◌, ◌≤◌, length, take, drop};
 ghost use Rattle.s2ix_pairs.specs.Collection.{IsCollection};
-ghost use Rattle.s2ix_reading.specs.Reading.{IsCollection-prop};
+ghost use Rattle.s2ix_pairs.specs.OneProof.{IsCollection-prop};
 
 use crate::pair_reader::PairReader;
 use s2ix_bag::{Bag, FlatHeld, Held};
 
 /// A reader of a bag that counts what is read of it. This project's own.
-#[derive(Drop)]
+#[derive(Debug, Drop)]
 pub struct BagReader<'a> {
     bag: &'a Bag,
     len: usize,

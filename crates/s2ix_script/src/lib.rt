@@ -1,4 +1,7 @@
 //! Scripts: what a line asks for, and the names by which lines are refused.
+//!
+//! [`meaning`] reads one line and gives the [`Instruction`] that it asks for, nothing for a comment or a line without a field, or the first
+//! fault. Nothing is carried out here: `s2ix_step` does that over a store.
 #![tactic(auto)]
 
 mod instruction;

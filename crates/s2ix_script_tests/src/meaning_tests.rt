@@ -5,63 +5,64 @@ use s2ix_edit::Edit;
 use s2ix_script::{Instruction, LineError, LineFault, meaning};
 use std::alloc::Global;
 
-// What a line asks for, with the tokens of cells.
-enum Asked {
+// What a line asks for. A cell and the one cell of a target are the face 1, and a pair is one of the cell 04.
+#[derive(Clone, Copy)]
+enum Word {
     Nothing,
     Undo,
     Ranges,
-    // copies of the cell 04 under a label
-    Add(u32, u32),
-    At(&'static [u8]),
-    // a target of one cell
-    Meet(&'static [u8]),
-    Labels(&'static [u8]),
+    // a label and copies
+    Add,
+    At,
+    Meet,
+    Labels,
     // a label, and a level or another label
-    Grow(u32, u8),
-    Normal(u32),
+    Grow,
+    Normal,
     // the number of a change
-    Revert(u32),
-    Region(u32),
-    Common(u32, u32),
-    Only(u32, u32),
+    Revert,
+    Region,
+    Common,
+    Only,
 }
 
-// Lines without fields, comments, and lines whose fields stand between white space of Unicode.
-const REQUESTS: [(&[u8], Asked); 29] = [
-    (b"", Asked::Nothing),
-    (b" \t\r", Asked::Nothing),
-    (b"# note", Asked::Nothing),
-    (b"#undo", Asked::Nothing),
-    (b"\xc2\xa0 #", Asked::Nothing),
+// Lines without fields, comments, and lines whose fields stand between white space of Unicode, with what they ask for and its numbers, 0
+// where there is none.
+const REQUESTS: [(&[u8], Word, u32, u32); 29] = [
+    (b"", Word::Nothing, 0, 0),
+    (b" \t\r", Word::Nothing, 0, 0),
+    (b"# note", Word::Nothing, 0, 0),
+    (b"#undo", Word::Nothing, 0, 0),
+    (b"\xc2\xa0 #", Word::Nothing, 0, 0),
     // white space is that of Unicode
-    (b"undo\r", Asked::Undo),
-    (b"\tundo\x0b", Asked::Undo),
-    (b"\xc2\x85undo\xe2\x80\x83", Asked::Undo),
+    (b"undo\r", Word::Undo, 0, 0),
+    (b"\tundo\x0b", Word::Undo, 0, 0),
+    (b"\xc2\x85undo\xe2\x80\x83", Word::Undo, 0, 0),
     // fields name a pair and copies
-    (b"add 04 9", Asked::Add(9, 1)),
-    (b"add 04 9\r", Asked::Add(9, 1)),
-    (b"add\xc2\xa004\xc2\xa09", Asked::Add(9, 1)),
-    (b"add 04 0000000009", Asked::Add(9, 1)),
-    (b"add 04 9 0000000001", Asked::Add(9, 1)),
-    (b"add 04 9 65536", Asked::Add(9, 65536)),
-    (b"add 04 9 4294967295", Asked::Add(9, 4294967295)),
-    (b"add 04 2147483647", Asked::Add(2147483647, 1)),
+    (b"add 04 9", Word::Add, 9, 1),
+    (b"add 04 9\r", Word::Add, 9, 1),
+    (b"add\xc2\xa004\xc2\xa09", Word::Add, 9, 1),
+    (b"add 04 0000000009", Word::Add, 9, 1),
+    (b"add 04 9 0000000001", Word::Add, 9, 1),
+    (b"add 04 9 65536", Word::Add, 9, 65536),
+    (b"add 04 9 4294967295", Word::Add, 9, 4294967295),
+    (b"add 04 2147483647", Word::Add, 2147483647, 1),
     // tokens name a target
-    (b"meet 1c 04 14 0C 04", Asked::Meet(b"1")),
-    (b"labels 1 1d", Asked::Labels(b"1")),
-    (b"at 1", Asked::At(b"1")),
-    (b"ranges", Asked::Ranges),
+    (b"meet 1c 04 14 0C 04", Word::Meet, 0, 0),
+    (b"labels 1 1d", Word::Labels, 0, 0),
+    (b"at 1", Word::At, 0, 0),
+    (b"ranges", Word::Ranges, 0, 0),
     // labels and levels
-    (b"grow 9 0", Asked::Grow(9, 0)),
-    (b"grow 9 030", Asked::Grow(9, 30)),
-    (b"normal 9", Asked::Normal(9)),
-    (b"region 9", Asked::Region(9)),
-    (b"common 9 3", Asked::Common(9, 3)),
-    (b"only 9 3", Asked::Only(9, 3)),
+    (b"grow 9 0", Word::Grow, 9, 0),
+    (b"grow 9 030", Word::Grow, 9, 30),
+    (b"normal 9", Word::Normal, 9, 0),
+    (b"region 9", Word::Region, 9, 0),
+    (b"common 9 3", Word::Common, 9, 3),
+    (b"only 9 3", Word::Only, 9, 3),
     // numbers of changes
-    (b"revert 1", Asked::Revert(1)),
-    (b"revert 100000", Asked::Revert(100000)),
-    (b"revert 0000000002", Asked::Revert(2)),
+    (b"revert 1", Word::Revert, 1, 0),
+    (b"revert 100000", Word::Revert, 100000, 0),
+    (b"revert 0000000002", Word::Revert, 2, 0),
 ];
 
 // Whether the one cell of a target has this token.
@@ -78,59 +79,58 @@ fn are_labels(first: Label, second: Label, one: u32, other: u32) -> bool {
 }
 
 // Whether an edit is what is asked for.
-fn is_edit(edit: &Edit, asked: &Asked) -> bool {
-    match (edit, asked) {
-        (Edit::Add { pair, copies }, Asked::Add(label, wanted)) => {
-            is_cell(&[pair.cell], b"04") && pair.label.get() == *label && copies == wanted
+fn is_edit(edit: &Edit, word: Word, one: u32, other: u32) -> bool {
+    match (edit, word) {
+        (Edit::Add { pair, copies }, Word::Add) => {
+            is_cell(&[pair.cell], b"04") && pair.label.get() == one && *copies == other
         }
-        (Edit::Grow { label, level }, Asked::Grow(number, wanted)) => {
-            label.get() == *number && level == wanted
+        (Edit::Grow { label, level }, Word::Grow) => {
+            label.get() == one && u32::from(*level) == other
         }
-        (Edit::Normalise { label }, Asked::Normal(number)) => label.get() == *number,
-        (Edit::Revert { number }, Asked::Revert(wanted)) => number == wanted,
+        (Edit::Normalise { label }, Word::Normal) => label.get() == one,
+        (Edit::Revert { number }, Word::Revert) => *number == one,
         _ => false,
     }
 }
 
 // Whether an instruction is on the regions of labels that are asked for.
-fn is_on_regions(instruction: &Instruction, asked: &Asked) -> bool {
-    match (instruction, asked) {
-        (Instruction::Region(label), Asked::Region(number)) => label.get() == *number,
-        (Instruction::Common(first, second), Asked::Common(one, other)) => {
-            are_labels(*first, *second, *one, *other)
+fn is_on_regions(instruction: &Instruction, word: Word, one: u32, other: u32) -> bool {
+    match (instruction, word) {
+        (Instruction::Region(label), Word::Region) => label.get() == one,
+        (Instruction::Common(first, second), Word::Common) => {
+            are_labels(*first, *second, one, other)
         }
-        (Instruction::Only(first, second), Asked::Only(one, other)) => {
-            are_labels(*first, *second, *one, *other)
-        }
+        (Instruction::Only(first, second), Word::Only) => are_labels(*first, *second, one, other),
         _ => false,
     }
 }
 
 // Whether an instruction is what is asked for.
-fn is_asked(instruction: &Instruction, asked: &Asked) -> bool {
-    match (instruction, asked) {
-        (Instruction::Undo, Asked::Undo) | (Instruction::Ranges, Asked::Ranges) => true,
-        (Instruction::At(cell), Asked::At(token)) => is_cell(&[*cell], token),
-        (Instruction::Meet(target), Asked::Meet(token)) => is_cell(target.cells(), token),
-        (Instruction::Labels(target), Asked::Labels(token)) => is_cell(target.cells(), token),
-        (Instruction::Edit(edit), _) => is_edit(edit, asked),
-        _ => is_on_regions(instruction, asked),
+fn is_asked(instruction: &Instruction, word: Word, one: u32, other: u32) -> bool {
+    match (instruction, word) {
+        (Instruction::Undo, Word::Undo) | (Instruction::Ranges, Word::Ranges) => true,
+        (Instruction::At(cell), Word::At) => is_cell(&[*cell], b"1"),
+        (Instruction::Meet(target), Word::Meet) => is_cell(target.cells(), b"1"),
+        (Instruction::Labels(target), Word::Labels) => is_cell(target.cells(), b"1"),
+        (Instruction::Edit(edit), _) => is_edit(edit, word, one, other),
+        _ => is_on_regions(instruction, word, one, other),
     }
 }
 
 // Whether a line asks for this.
-fn asks_for(alloc: Global, line: &[u8], asked: &Asked) -> bool {
+fn asks_for(alloc: Global, line: &[u8], word: Word, one: u32, other: u32) -> bool {
     match meaning(alloc, line) {
-        Ok(Some(instruction)) => is_asked(&instruction, asked),
-        Ok(None) => matches!(asked, Asked::Nothing),
+        Ok(Some(instruction)) => is_asked(&instruction, word, one, other),
+        Ok(None) => matches!(word, Word::Nothing),
         Err(_) => false,
     }
 }
 
 #[test]
 fn fields_say_what_a_line_asks_for(rt: HostRuntime) {
-    for (line, asked) in &REQUESTS {
-        assert!(rt; asks_for(rt.alloc(), line, asked), "wrong at {line:?}");
+    for &(line, word, one, other) in &REQUESTS {
+        let is_so = asks_for(rt.alloc(), line, word, one, other);
+        assert!(rt; is_so, "wrong at {line:?}");
     }
 }
 
@@ -288,6 +288,6 @@ fn the_first_fault_is_answered(rt: HostRuntime) {
 #[test]
 fn a_line_may_have_65536_bytes(rt: HostRuntime) {
     let blank = [b' '; 65537];
-    assert!(rt; asks_for(rt.alloc(), &blank[..65536], &Asked::Nothing));
+    assert!(rt; asks_for(rt.alloc(), &blank[..65536], Word::Nothing, 0, 0));
     assert!(rt; has_fault(rt.alloc(), &blank, LineFault::LineTooLong));
 }

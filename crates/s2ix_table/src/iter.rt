@@ -12,7 +12,7 @@ use s2ix_bag::Held;
 use s2ix_ranges::RangeRow;
 
 /// The ranges of a table with their places, in order (S2's `RangeIterator`). O(1) for each.
-#[derive(Drop)]
+#[derive(Debug, Drop)]
 #[derive_where(Clone)]
 pub struct RangeIter<'a, T> {
     table: &'a T,
@@ -74,6 +74,7 @@ pub fn ranges<T: RangeTable>(table: &T) -> RangeIter<'_, T>
 /// The pairs of a chain, innermost cell first, the labels of one cell rising (S2's `ContentsIterator`, without its memory of what it gave). O(1)
 /// for each.
 #[derive(Drop)]
+#[derive_where(Debug; T, T::Place)]
 pub struct ChainIter<'a, T: RangeTable> {
     table: &'a T,
     next: Option<T::Place>,

@@ -9,7 +9,7 @@ use s2ix_ranges::RangeRow;
 use s2ix_walk::{Cost, Reader, Window};
 
 /// A reader of a table that counts what is read of it. It keeps a stretch of the table's ranges at hand. This project's own.
-#[derive(Drop)]
+#[derive(Debug, Drop)]
 pub struct Meter<'a, T: RangeTable> {
     table: &'a T,
     cost: Cost,
@@ -18,7 +18,7 @@ pub struct Meter<'a, T: RangeTable> {
 }
 
 impl<'a, T: RangeTable> Meter<'a, T> {
-    /// A reader of a table that has read nothing.
+    /// A reader of a table that has read nothing. O(1).
     pub fn new(table: &'a T) -> Meter<'a, T>
         ensures shown { ⟦<Meter<'a, T> as Reader>⟧.shown result
             ≡ record { pairs = T.pairs table.now; ranges = T.ranges table.now; chain = T.chain table.now } }

@@ -5,7 +5,6 @@ pub mod Digits
 pub mod Counts
 pub mod Windows
 pub mod OnFaces
-pub mod Walked
 pub mod WalkSteps
 pub mod Paying
 pub mod Calling

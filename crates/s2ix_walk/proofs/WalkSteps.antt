@@ -6,6 +6,7 @@ use Rattle.s2id_core.specs.declared.cell_id.CellId.{CellId}
 use Rattle.s2id_core.specs.CellId.{raw_of, first_of, end_of}
 use Rattle.s2id_core.proofs.Nested.{span}
 use Rattle.s2id_union.specs.Covers.{Covers, FollowOneAnother}
+use Rattle.s2id_union.proofs.NormalForm.{test_from_covers}
 use Rattle.s2ix_pairs.specs.Collection.{Collection}
 use Rattle.s2ix_pairs.specs.declared.pair.Held.{Held}
 use Rattle.s2ix_ranges.specs.Meeting.{meeting_from}
@@ -17,7 +18,6 @@ use Rattle.s2ix_walk.specs.declared.walk_state.WalkState.{WalkState}
 use Rattle.s2ix_ranges.proofs.Over.{IsOver, in_contents, contents_has}
 use Rattle.s2ix_ranges.proofs.Tables.{places_fit, limits_rise}
 use Rattle.s2ix_walk.proofs.Meetings.{IsStep, step_meets, front_here, front_stops}
-use Rattle.s2ix_walk.proofs.Walked.{covered_from}
 
 -- ---- the cells of the target
 
@@ -194,7 +194,7 @@ walk_past {P} shown target k range limit end x y walk a begun leads is_limit is_
       next = record {
         odd = odd_next;
         within = omega arith;
-        tight = λ q some e. covered_from target q (covers_last q (omega arith) (omega arith));
+        tight = λ q some e. test_from_covers target q (covers_last q (omega arith) (omega arith));
         passed = λ j d less within.
             let c = a.follow j walk.cell d less begun.within in
             let e = ap (λ (c : CellId). first_of c) (begun.is ∙ get_or_default target walk.cell y d begun.within) in

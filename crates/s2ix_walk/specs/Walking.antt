@@ -1,9 +1,10 @@
 -- Where a walk over the ranges that a target meets stands, what it has still to give, and what it may have read so far: what the view of
 -- `Meeting` and the invariants of the walk stand on.
-use Rattle.std.specs.Prelude.{◌≡◌, ℕ, ◌+◌, ◌-◌, ◌*◌, ◌%◌, ◌<◌, ◌≤◌, nat_le, nat_lt, ◌&&◌, if◌then◌else◌, Bool, true, Option, Some, None, List, [], ◌∷◌, ◌++◌, length, slice_index_or}
-use Rattle.std.specs.List.{count_by, list_any}
+use Rattle.std.specs.Prelude.{◌≡◌, ℕ, ◌+◌, ◌-◌, ◌*◌, ◌%◌, ◌<◌, ◌≤◌, nat_le, nat_lt, ◌&&◌, if◌then◌else◌, true, Option, Some, None, List, [], ◌∷◌, ◌++◌, length, slice_index_or}
+use Rattle.std.specs.List.{count_by}
 use Rattle.s2id_core.specs.declared.cell_id.CellId.{CellId}
 use Rattle.s2id_core.specs.CellId.{first_of, end_of}
+use Rattle.s2id_union.specs.NormalForm.{is_covered}
 use Rattle.s2ix_pairs.specs.Collection.{Collection}
 use Rattle.s2ix_ranges.specs.Meeting.{meeting_from, meeting_of}
 use Rattle.s2ix_walk.specs.Places.{IsPlace, from_place}
@@ -21,10 +22,6 @@ front_from from (h ∷ hs) = if nat_le from (first_of h.pair.cell) then h ∷ fr
 -- the pairs that are still to be met: what is new of the chain at hand, and then the meeting list from `seen` on
 abbrev pub left_of : {P : Type 0} → Shown P → List CellId → WalkState P → Collection
 left_of shown target walk = front_from walk.from (from_place shown.chain walk.place) ++ meeting_from target walk.seen shown.pairs
-
--- whether a number lies in the span of a cell of a list
-abbrev pub is_covered : List CellId → ℕ → Bool
-is_covered target q = list_any (λ c. nat_le (first_of c) q && nat_lt q (end_of c)) target
 
 -- the first cells of a target end by a leaf
 abbrev pub ArePassed : List CellId → ℕ → ℕ → Type 0

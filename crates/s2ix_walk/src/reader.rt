@@ -27,8 +27,8 @@ pub trait Reader {
     fn range_count(&self) -> usize
         ensures { result ≡ length (shown self.now).ranges };
 
-    /// The ranges among which all of those over a face, 0 to 5, are: all that there are, where a reader knows no fewer. It tells no bound of a
-    /// range, and counts nothing.
+    /// The ranges among which all of those over a face, 0 to 5, are: all that there are, where a reader knows no fewer. It answers places
+    /// alone and counts nothing; where the windows of two neighbouring faces abut, a range begins where the second face does.
     fn window(&mut self, face: u8) -> Window
         requires { face < 6 }
         ensures window { HaveFace (shown self.old).ranges face result.first result.size }

@@ -21,7 +21,7 @@ fn search<R: Reader>(reader: &mut R, leaf: u64, among: Window) -> usize
     ensures probes { (R.spent reader.new).probes
         ≤ (R.spent reader.old).probes + binary_digits (length (R.shown reader.old).ranges + 1) }
 {
-    let window = narrowed(reader, leaf, among);
+    let window = narrow(reader, leaf, among);
     let mut first = window.first;
     let mut half = window.size / 2;
     while half > 0 {
@@ -33,7 +33,7 @@ fn search<R: Reader>(reader: &mut R, leaf: u64, among: Window) -> usize
 
 // Of some ranges the first or the last ones, so many that halving leaves none over: the greatest power of two that there is room for.
 #[inline(always)]
-fn narrowed<R: Reader>(reader: &mut R, leaf: u64, among: Window) -> Window
+fn narrow<R: Reader>(reader: &mut R, leaf: u64, among: Window) -> Window
     requires within { leaf < leaf_end }
     requires among { IsWindow (R.shown reader.old).ranges leaf among.first among.size }
     ensures window { IsWindow (R.shown reader.old).ranges leaf result.first result.size }

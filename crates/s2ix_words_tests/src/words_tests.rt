@@ -7,7 +7,10 @@ use std::test::Fail;
 // What is answered: a command, help with this text in it, or usage.
 #[derive(Clone, Copy, PartialEq, Eq)]
 enum Answer {
-    Run(Option<&'static str>, (u32, u32, u32), bool),
+    // a run within limits that stops at a refusal or not
+    Run((u32, u32, u32), bool),
+    // the same over the dump in a file
+    Load(&'static str, (u32, u32, u32), bool),
     Check(&'static str),
     Replay(&'static str, &'static str),
     Rewind(&'static str, &'static str),
@@ -15,20 +18,20 @@ enum Answer {
     Usage,
 }
 
-use Answer::{Check, Help, Replay, Rewind, Run, Usage};
+use Answer::{Check, Help, Load, Replay, Rewind, Run, Usage};
 
 // The limits where none is given.
 const WIDEST: (u32, u32, u32) = (1_000_000, 4_294_967_295, 100_000);
 
 const COMMANDS: [(&[&str], Answer); 13] = [
-    (&["run"], Run(None, WIDEST, false)),
+    (&["run"], Run(WIDEST, false)),
     (
         &["run", "--load", "a b.txt"],
-        Run(Some("a b.txt"), WIDEST, false),
+        Load("a b.txt", WIDEST, false),
     ),
-    (&["run", "--load", ""], Run(Some(""), WIDEST, false)),
-    (&["run", "--load=d=é"], Run(Some("d=é"), WIDEST, false)),
-    (&["run", "--stop"], Run(None, WIDEST, true)),
+    (&["run", "--load", ""], Load("", WIDEST, false)),
+    (&["run", "--load=d=é"], Load("d=é", WIDEST, false)),
+    (&["run", "--stop"], Run(WIDEST, true)),
     (
         &[
             "run",
@@ -41,7 +44,7 @@ const COMMANDS: [(&[&str], Answer); 13] = [
             "--max-count",
             "2",
         ],
-        Run(Some("d"), (1, 2, 3), true),
+        Load("d", (1, 2, 3), true),
     ),
     (&["check", "a"], Check("a")),
     (&["check", "--", "--stop"], Check("--stop")),
@@ -53,44 +56,38 @@ const COMMANDS: [(&[&str], Answer); 13] = [
 ];
 
 const LIMITS: [(&[&str], Answer); 21] = [
-    (&["run", "--max-pairs", "1000000"], Run(None, WIDEST, false)),
+    (&["run", "--max-pairs", "1000000"], Run(WIDEST, false)),
     (&["run", "--max-pairs", "1000001"], Usage),
     (
         &["run", "--max-pairs", "1"],
-        Run(None, (1, 4_294_967_295, 100_000), false),
+        Run((1, 4_294_967_295, 100_000), false),
     ),
     (&["run", "--max-pairs", "0"], Usage),
-    (
-        &["run", "--max-count", "4294967295"],
-        Run(None, WIDEST, false),
-    ),
+    (&["run", "--max-count", "4294967295"], Run(WIDEST, false)),
     (&["run", "--max-count", "4294967296"], Usage),
     (
         &["run", "--max-count", "65536"],
-        Run(None, (1_000_000, 65_536, 100_000), false),
+        Run((1_000_000, 65_536, 100_000), false),
     ),
     (
         &["run", "--max-count", "1"],
-        Run(None, (1_000_000, 1, 100_000), false),
+        Run((1_000_000, 1, 100_000), false),
     ),
     (&["run", "--max-count", "0"], Usage),
-    (
-        &["run", "--max-changes", "100000"],
-        Run(None, WIDEST, false),
-    ),
+    (&["run", "--max-changes", "100000"], Run(WIDEST, false)),
     (&["run", "--max-changes", "100001"], Usage),
     (
         &["run", "--max-changes", "1"],
-        Run(None, (1_000_000, 4_294_967_295, 1), false),
+        Run((1_000_000, 4_294_967_295, 1), false),
     ),
     (&["run", "--max-changes", "0"], Usage),
     (
         &["run", "--max-pairs", "+7"],
-        Run(None, (7, 4_294_967_295, 100_000), false),
+        Run((7, 4_294_967_295, 100_000), false),
     ),
     (
         &["run", "--max-pairs", "007"],
-        Run(None, (7, 4_294_967_295, 100_000), false),
+        Run((7, 4_294_967_295, 100_000), false),
     ),
     (&["run", "--max-pairs="], Usage),
     (&["run", "--max-pairs", "7 "], Usage),
@@ -153,19 +150,28 @@ fn numbers(limits: Limits) -> (u32, u32, u32) {
     (limits.pairs(), limits.count(), limits.changes())
 }
 
-fn is_text(text: &Option<String>, wanted: Option<&str>) -> bool {
-    match (text, wanted) {
-        (Some(text), Some(wanted)) => text.as_str() == wanted,
-        (None, None) => true,
-        _ => false,
-    }
-}
-
 fn is_answer(answer: &Result<Command, WordsFault>, wanted: Answer) -> bool {
     match (answer, wanted) {
-        (Ok(Command::Run { load, limits, stop }), Run(file, given, stops)) => {
-            is_text(load, file) && numbers(*limits) == given && *stop == stops
-        }
+        (
+            Ok(
+                Command::Run {
+                    load: None,
+                    limits,
+                    stop,
+                },
+            ),
+            Run(given, stops),
+        ) => numbers(*limits) == given && *stop == stops,
+        (
+            Ok(
+                Command::Run {
+                    load: Some(load),
+                    limits,
+                    stop,
+                },
+            ),
+            Load(file, given, stops),
+        ) => load.as_str() == file && numbers(*limits) == given && *stop == stops,
         (Ok(Command::Check { file }), Check(wanted)) => file.as_str() == wanted,
         (Ok(Command::Replay { dump, journal }), Replay(first, second)) => {
             dump.as_str() == first && journal.as_str() == second

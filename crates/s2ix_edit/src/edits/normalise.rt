@@ -20,13 +20,13 @@ pub(crate) fn plan(alloc: Global, bag: &Bag, label: Label) -> Result<Change, Pla
         return Err(PlanError::NoSuchLabel);
     }
     let region = region_of(alloc, bag, label)?;
-    let old = held_pairs(alloc, bag, label)?;
+    let old = label_pairs(alloc, bag, label)?;
     let new = one_copy_each(alloc, region.cells(), label)?;
     Ok(Change::between_lists(alloc, old.as_slice(), new.as_slice())?)
 }
 
 // The pairs that are held with a label.
-fn held_pairs(alloc: Global, bag: &Bag, label: Label) -> Result<Vec<FlatHeld>, AllocError>
+fn label_pairs(alloc: Global, bag: &Bag, label: Label) -> Result<Vec<FlatHeld>, AllocError>
     ensures { IfOk result (λ held. held.items ≡ held_of label bag.now.held) }
 {
     let mut pairs = Vec::new(alloc);

@@ -3,7 +3,7 @@ use Rattle.s2id_core.specs.CellId.{path_of}
 use Rattle.s2id_core.proofs.Numbers.{path_of_cell}
 use Rattle.s2id_cube.specs.declared.face_ij.FaceIj.{FaceIj}
 use Rattle.s2id_cube.proofs.Shared.{IsSquare-square_of, square_facts}
-use Rattle.s2id_cube.proofs.Sorting.{rising, same_members, border_cells, border_paths}
+use Rattle.s2id_cube.proofs.Sorting.{rising, same_cells, border_cells, border_paths}
 use Rattle.s2id_cube.proofs.borders.border.Goals as goal
 
 pub cells_round-requires : goal.cells_round-requires
@@ -21,7 +21,7 @@ pub returns-clause-cells : goal.returns-clause-cells
 returns-clause-cells c =
     let own = c.level-own.ensures.level in
     let above : c.args.level ≡ length (path_of c.args.cell).digits + (c.args.level - c.level-own.result) = omega arith in
-    border_cells c.args.cell c.to_face_ij.result (c.args.level - c.level-own.result) c.args.level c.in_ok-cells.cells.items c.dedup.new.self.items c.to_face_ij.ensures above (omega arith) c.in_ok-cells.ensures (same_members c.in_ok-cells.cells.items c.sort_unstable.new.self.items c.dedup.new.self.items c.sort_unstable.ensures.permutation c.dedup.ensures.filtered)
+    border_cells c.args.cell c.to_face_ij.result (c.args.level - c.level-own.result) c.args.level c.in_ok-cells.cells.items c.dedup.new.self.items c.to_face_ij.ensures above (omega arith) c.in_ok-cells.ensures (same_cells c.in_ok-cells.cells.items c.sort_unstable.new.self.items c.dedup.new.self.items c.sort_unstable.ensures.permutation c.dedup.ensures.filtered)
 
 pub returns-clause-complete : goal.returns-clause-complete
 returns-clause-complete c =

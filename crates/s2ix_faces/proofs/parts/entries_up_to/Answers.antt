@@ -1,12 +1,9 @@
 -- Where the steps end, the entry at hand is of a later face, or the list ends.
-use Rattle.std.proofs.Common.{ℕ, ◌+◌, ◌<◌, ◌≤◌, true, arith, ⊎_elim}
-use Rattle.std.proofs.lemmas.Bool.{iff_false, cases_lt}
+use Rattle.std.proofs.Common.{◌+◌, arith}
+use Rattle.std.proofs.lemmas.Bool.{iff_false}
 use Rattle.s2ix_faces.specs.Faces.{face_start}
 use Rattle.s2ix_faces.proofs.Ends.{entries_below_more, entries_from, from_none}
 use Rattle.s2ix_faces.proofs.parts.entries_up_to.Goals as goal
-
-le_from_not_lt : (m n : ℕ) → (m < n → ⊥) → n ≤ m
-le_from_not_lt m n not_lt = ⊎_elim (λ lt. absurd (not_lt lt)) (λ le. le) (cases_lt m n)
 
 pub loop-count-preserved : goal.loop-count-preserved
 loop-count-preserved c = (
@@ -16,7 +13,7 @@ loop-count-preserved c = (
 
 pub returns-else-is_up_to-clause-rest : goal.returns-else-is_up_to-clause-rest
 returns-else-is_up_to-clause-rest c =
-    entries_from (face_start (c.args.face + 1)) c.loop-count.count 0 c.args.entries.now c.index-entries-count.result c.requires (λ within. le_from_not_lt _ _ (iff_false c.is_up_to.ensures c.if-is_up_to.false))
+    entries_from (face_start (c.args.face + 1)) c.loop-count.count 0 c.args.entries.now c.index-entries-count.result c.requires (λ within. omega (arith, iff_false c.is_up_to.ensures c.if-is_up_to.false))
 
 pub returns-after-loop-count-clause-rest : goal.returns-after-loop-count-clause-rest
 returns-after-loop-count-clause-rest c =

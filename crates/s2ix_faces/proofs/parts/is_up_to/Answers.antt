@@ -1,5 +1,5 @@
 -- A face is the number's highest bits.
-use Rattle.std.proofs.Common.{◌<◌, ◌≤◌, sym, ◌∙◌, arith}
+use Rattle.std.proofs.Common.{◌≤◌, sym, ◌∙◌, arith}
 use Rattle.std.proofs.lemmas.Bool.Decides.{nat_tests}
 use Rattle.s2id_core.proofs.Bits.{face_by_bits}
 use Rattle.s2ix_faces.proofs.Ends.{rank_by_face}

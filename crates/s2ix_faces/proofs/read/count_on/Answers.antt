@@ -1,5 +1,5 @@
 -- A pair is held on its own face alone.
-use Rattle.std.proofs.Common.{◌≡◌, ◌<◌, [], get_or, length, sym, ap, ◌∙◌, subst, arith}
+use Rattle.std.proofs.Common.{◌<◌, [], get_or, length, sym, ap, ◌∙◌, subst, arith}
 use Rattle.std.proofs.lemmas.List.{get_or_default}
 use Rattle.s2id_core.proofs.Bits.{face_by_bits}
 use Rattle.s2ix_pairs.specs.Collection.{IsCollection, count_at}

@@ -1,6 +1,6 @@
 -- Where the steps end, the pair at hand isn't before the one that is asked for, or the list ends.
-use Rattle.std.proofs.Common.{◌≡◌, ◌<◌, ◌≤◌, length, drop, get_or, sym, ap, ◌∙◌, subst, arith, ℕ, ⊎_elim}
-use Rattle.std.proofs.lemmas.Bool.{iff_false, cases_lt}
+use Rattle.std.proofs.Common.{◌≡◌, ◌<◌, ◌≤◌, length, drop, get_or, sym, ap, ◌∙◌, subst, arith, ℕ}
+use Rattle.std.proofs.lemmas.Bool.{iff_false}
 use Rattle.s2ix_pairs.specs.Collection.{Collection, IsCollection, IsCollectionFrom}
 use Rattle.s2ix_pairs.specs.Pair.{rank_of}
 use Rattle.s2ix_pairs.specs.declared.pair.Held.{Held}
@@ -8,9 +8,6 @@ use Rattle.s2ix_pairs.specs.declared.pair.Pair.{Pair}
 use Rattle.s2ix_lists.proofs.Parts.{collection_take, from_front, next_from_read}
 use Rattle.s2ix_lists.proofs.search.next_from.Goals as goal
 use Rattle.s2ix_lists.proofs.search.next_from.Goals.{then-loop-high-test+else-is_before, else-loop-high-test}
-
-le_from_not_lt : (m n : ℕ) → (m < n → ⊥) → n ≤ m
-le_from_not_lt m n not_lt = ⊎_elim (λ lt. absurd (not_lt lt)) (λ le. le) (cases_lt m n)
 
 pub first_from-requires : goal.first_from-requires
 first_from-requires c =
@@ -27,7 +24,7 @@ returns-clause-rest c =
       | then-loop-high-test+else-is_before w ↦
           let LastIsPast : ℕ → Type 0 = λ k. (d : Held) → k < length hs → rank ≤ rank_of (get_or hs k d).pair in
           let high_is : c.loop-high.high ≡ c.min.result = omega arith in
-          let later = le_from_not_lt (rank_of w.pair.result) rank (iff_false w.is_before.ensures w.if-is_before.false) in
+          let later : rank ≤ rank_of w.pair.result = omega (arith, iff_false w.is_before.ensures w.if-is_before.false) in
           let not_before = subst (λ (p : Pair). rank ≤ rank_of p) (w.pair.ensures ∙ ap (λ (h : Held). h.pair) w.index-held-high.is) later in
           subst LastIsPast high_is (next_from_read rank c.loop-high.high hs w.index-held-high.result c.requires (omega arith) not_before)
       | else-loop-high-test w ↦ λ d within. absurd (omega arith)

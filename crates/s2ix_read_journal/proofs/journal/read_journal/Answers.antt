@@ -7,7 +7,7 @@ use Rattle.s2ix_text.proofs.Journals.{one_journal}
 use Rattle.s2ix_read_journal.specs.declared.errors.JournalError.TheVariants.{OutOfMemory}
 use Rattle.s2ix_read_journal.specs.declared.errors.JournalFault.{JournalFault}
 use Rattle.s2ix_read_journal.specs.JournalFaults.{IsJournalError, journal_fault}
-use Rattle.s2ix_read_journal.proofs.Answered.{IsRead, never_refused, no_fault, only_memory, read_below}
+use Rattle.s2ix_read_journal.proofs.Answered.{IsJournalIn, never_refused, no_fault, only_memory, read_below}
 use Rattle.s2ix_read_journal.proofs.Whole.{bad_header, below_header, greatest_of_version, no_header}
 use Rattle.s2ix_read_journal.proofs.journal.read_journal.Goals as goal
 
@@ -27,13 +27,13 @@ returns-in_default-of_journal-clause-every c = λ cs is same. absurd (never_refu
 pub returns-clause-text : goal.returns-clause-text
 returns-clause-text c =
     let named = sym c.of_journal.ensures ∙ c.in-Some-of_journal.is in
-    IfOk-weaker c.read_groups.result (λ changes. IsRead c.args.limits c.args.text.now changes.items) (λ changes. IsJournalText c.args.text.now changes.items) (λ changes read. read.1)
+    IfOk-weaker c.read_groups.result (λ changes. IsJournalIn c.args.limits c.args.text.now changes.items) (λ changes. IsJournalText c.args.text.now changes.items) (λ changes read. read.1)
     (read_below c.read_groups.result (λ changes. changes.items) c.in-Some-of_journal.version c.greatest_count.result c.args.limits c.args.text.now c.in-Some.header.now c.in-Some.below.now named c.greatest_count.ensures c.in-Some.ensures.cut c.read_groups.ensures.groups c.read_groups.ensures.text)
 
 pub returns-clause-accepted : goal.returns-clause-accepted
 returns-clause-accepted c =
     let named = sym c.of_journal.ensures ∙ c.in-Some-of_journal.is in
-    IfOk-weaker c.read_groups.result (λ changes. IsRead c.args.limits c.args.text.now changes.items) (λ _. journal_fault c.args.limits c.args.text.now ≡ None)
+    IfOk-weaker c.read_groups.result (λ changes. IsJournalIn c.args.limits c.args.text.now changes.items) (λ _. journal_fault c.args.limits c.args.text.now ≡ None)
     (λ changes read. no_fault c.args.limits c.args.text.now changes.items read.0 read.1)
     (read_below c.read_groups.result (λ changes. changes.items) c.in-Some-of_journal.version c.greatest_count.result c.args.limits c.args.text.now c.in-Some.header.now c.in-Some.below.now named c.greatest_count.ensures c.in-Some.ensures.cut c.read_groups.ensures.groups c.read_groups.ensures.text)
 

@@ -1,4 +1,4 @@
-use Rattle.std.proofs.Common.{◌≡◌, ◌+◌, ◌-◌, ◌*◌, ◌/◌, ◌^◌, ℕ, ◌∙◌, ap, subst, rules, arith}
+use Rattle.std.proofs.Common.{◌+◌, ◌-◌, ◌*◌, ◌/◌, ℕ, ◌∙◌, ap, subst, rules, arith}
 use Rattle.s2ix_ranges.specs.Table.{range_at}
 use Rattle.s2ix_walk.proofs.WalkSteps.{range_fits}
 use Rattle.s2ix_walk.specs.Costs.{binary_digits}
@@ -13,13 +13,13 @@ use Rattle.s2ix_walk.proofs.search.search.Goals.{After-begun}
 
 pub loop-half-init : goal.loop-half-init
 loop-half-init g c =
-    let n = c.narrowed-window.ensures in
+    let n = c.narrow-window.ensures in
     let ranges = (g.R.Reader.shown c.args.reader.now).ranges in
     let k = n.power.0 in
     let is = n.power.1 in
     let paid = n.probes in
     let same = ap (λ (size : ℕ). binary_digits (size - 1)) is in (
-      (k, ap (λ (size : ℕ). size / 2) is, subst (λ (size : ℕ). IsWindow ranges c.args.leaf c.narrowed-window.result.first size) is n.window, omega (arith, digits_below k)),
+      (k, ap (λ (size : ℕ). size / 2) is, subst (λ (size : ℕ). IsWindow ranges c.args.leaf c.narrow-window.result.first size) is n.window, omega (arith, digits_below k)),
       n.same,
       n.looks,
     )

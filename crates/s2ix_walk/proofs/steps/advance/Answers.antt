@@ -2,13 +2,13 @@ use Rattle.std.proofs.Common.{◌≡◌, ◌≤◌, ◌∙◌, ap, subst, sym, i
 use Rattle.s2id_core.specs.declared.cell_id.CellId.{CellId}
 use Rattle.s2id_core.specs.CellId.{raw_of, first_of, end_of}
 use Rattle.s2id_core.proofs.Nested.{span}
+use Rattle.s2id_union.proofs.NormalForm.{covers_from_test}
 use Rattle.s2ix_walk.specs.Places.{LeadsTo}
 use Rattle.s2ix_ranges.specs.Table.{range_at}
 use Rattle.s2ix_walk.proofs.Meetings.{none_meets}
 use Rattle.s2ix_walk.proofs.WalkSteps.{IsPast, IsBegun, begun_after, passed_all, range_fits, walk_past}
 use Rattle.s2ix_walk.specs.Shown.{Shown}
 use Rattle.s2ix_walk.specs.declared.cost.Cost.{Cost}
-use Rattle.s2ix_walk.proofs.Walked.{covered}
 use Rattle.s2ix_walk.proofs.Paying.{IsPassed, step_pays}
 use Rattle.s2ix_walk.proofs.steps.advance.Given.{Over}
 use Rattle.s2ix_walk.proofs.steps.advance.Goals as goal
@@ -53,7 +53,7 @@ step_past g c =
       follow = c.requires.follow;
       table = (g.met.R.Reader.is_shown c.args.reader.now).is_table;
       odd = c.requires.walk.odd;
-      tight = λ q some e. covered c.args.cells.now q (c.requires.walk.tight q some e);
+      tight = λ q some e. covers_from_test c.args.cells.now q (c.requires.walk.tight q some e);
       passed = c.first_beyond-cell.ensures.passed;
       within = omega arith;
       is = c.index-cells-cell.is;

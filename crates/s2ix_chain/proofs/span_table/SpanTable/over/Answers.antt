@@ -9,13 +9,13 @@ invariant_of-result c =
     let held = c.args.held.items in
     let pass = c.in_ok-pass.pass in
     let swept : IsSwept held c.args.from c.args.to pass = subst (λ (hs : Collection). IsSwept hs c.args.from c.args.to pass) c.as_slice-2.ensures.value c.in_ok-pass.ensures in
-    nodes_of_pass held c.args.from c.args.to pass c.trimmed-starts.result.items c.trimmed-firsts.result.items c.requires.rises c.requires.few c.requires.span swept c.trimmed-starts.ensures c.trimmed-firsts.ensures
+    nodes_of_pass held c.args.from c.args.to pass c.trim-starts.result.items c.trim-firsts.result.items c.requires.rises c.requires.few c.requires.span swept c.trim-starts.ensures c.trim-firsts.ensures
 
 pub returns-clause-table : goal.returns-clause-table
 returns-clause-table c =
     let held = c.args.held.items in
     let pass = c.in_ok-pass.pass in
-    let starts = c.trimmed-starts.result.items in
-    let firsts = c.trimmed-firsts.result.items in
+    let starts = c.trim-starts.result.items in
+    let firsts = c.trim-firsts.result.items in
     let swept : IsSwept held c.args.from c.args.to pass = subst (λ (hs : Collection). IsSwept hs c.args.from c.args.to pass) c.as_slice-2.ensures.value c.in_ok-pass.ensures in
-    spans held c.args.from c.args.to pass.outer.items starts firsts (nodes_of_pass held c.args.from c.args.to pass starts firsts c.requires.rises c.requires.few c.requires.span swept c.trimmed-starts.ensures c.trimmed-firsts.ensures)
+    spans held c.args.from c.args.to pass.outer.items starts firsts (nodes_of_pass held c.args.from c.args.to pass starts firsts c.requires.rises c.requires.few c.requires.span swept c.trim-starts.ensures c.trim-firsts.ensures)

@@ -2,7 +2,7 @@ use Rattle.std.proofs.Common.{rules, ◌+◌, ◌≤◌, List, All, sym, ◌∙�
 use Rattle.std.proofs.lemmas.Fn.{filter_same}
 use Rattle.s2id_core.specs.declared.cell_id.CellId.{CellId}
 use Rattle.s2id_core.specs.CellId.{level_of}
-use Rattle.s2id_cube.proofs.Sorting.{rising, same_members}
+use Rattle.s2id_cube.proofs.Sorting.{rising, same_cells}
 use Rattle.s2id_union.specs.Region.{HaveSameRegion}
 use Rattle.s2ix_edit.proofs.Beside.{AreNext}
 use Rattle.s2ix_edit.proofs.Grow.{fits_level, kept_are_grown, near_enough, outside_all}
@@ -24,5 +24,5 @@ returns c =
     ∙ kept_are_grown c.args.label c.args.level c.args.bag.now.held c.in_ok-region.region c.in_ok-grown.grown.items c.dedup.new.self.items
     (subst Same (c.as_slice.ensures.value ∙ c.in_ok-cells.ensures) c.in_ok-region.ensures.region)
     (subst Next (c.as_slice-2.ensures.value ∙ c.in_ok-cells.ensures) c.in_ok-grown.ensures)
-    (same_members c.in_ok-grown.grown.items c.sort_unstable.new.self.items c.dedup.new.self.items c.sort_unstable.ensures.permutation c.dedup.ensures.filtered)
+    (same_cells c.in_ok-grown.grown.items c.sort_unstable.new.self.items c.dedup.new.self.items c.sort_unstable.ensures.permutation c.dedup.ensures.filtered)
     (rising c.sort_unstable.new.self.items c.dedup.new.self.items c.sort_unstable.ensures.sorted c.dedup.ensures.filtered)

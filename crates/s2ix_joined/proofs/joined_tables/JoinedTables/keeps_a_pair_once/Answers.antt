@@ -1,7 +1,7 @@
 use Rattle.std.proofs.Common.{subst}
 use Rattle.s2ix_chain.specs.SpanTable.{SpanRanges}
 use Rattle.s2ix_chain.specs.Chains.{chain_of}
-use Rattle.s2ix_joined.specs.Once.{KeepsOnce}
+use Rattle.s2ix_chain.specs.Once.{KeepsOnce}
 use Rattle.s2ix_joined.specs.Places.{chain_at}
 use Rattle.s2ix_joined.proofs.Once.{faces_once}
 use Rattle.s2ix_joined.proofs.Reading.{six_known}

@@ -5,7 +5,7 @@ use Rattle.s2ix_walk.specs.declared.cost.Cost.{Cost}
 use Rattle.s2ix_walk.proofs.Digits.{digits_above}
 use Rattle.s2ix_walk.proofs.WalkSteps.{range_fits}
 use Rattle.s2ix_walk.proofs.Windows.{room_left}
-use Rattle.s2ix_walk.proofs.search.narrowed.Goals as goal
+use Rattle.s2ix_walk.proofs.search.narrow.Goals as goal
 
 pub returns-clause-window : goal.returns-clause-window
 returns-clause-window g c =

@@ -1,6 +1,6 @@
 // Lines as fields, and the numbers that these write.
+use s2ix_bag::Label;
 use s2ix_fields::{Fields, change_number_spelled, copies_spelled, label_spelled, level_spelled};
-use std::test::Fail;
 
 // Lines with their fields.
 const LINES: [(&[u8], &[&[u8]]); 19] = [
@@ -61,22 +61,23 @@ fn has_fields(line: &[u8], wanted: &[&[u8]]) -> bool {
 }
 
 #[test]
-fn fields_stand_between_white_space() -> Result<(), Fail> {
-    for (line, fields) in LINES {
-        if !has_fields(line, fields) {
-            return Err(Fail::new(format_args!("{line:?}")));
-        }
+fn fields_stand_between_white_space(rt: HostRuntime) {
+    for &(line, fields) in &LINES {
+        assert!(rt; has_fields(line, fields), "wrong at {line:?}");
     }
-    Ok(())
+}
+
+// Whether labels and levels are those that fields write.
+fn are_labels_and_levels() -> bool {
+    label_spelled(b"0000000009") == Label::new(9)
+        && label_spelled(b"2147483648").is_none()
+        && level_spelled(b"030") == Some(30)
+        && level_spelled(b"31").is_none()
 }
 
 #[test]
 fn fields_write_labels_and_levels(rt: HostRuntime) {
-    let label = label_spelled(b"0000000009").expect(&rt, "a label");
-    assert!(&rt; label.get() == 9);
-    assert!(&rt; label_spelled(b"2147483648").is_none());
-    assert!(&rt; level_spelled(b"030") == Some(30));
-    assert!(&rt; level_spelled(b"31").is_none());
+    assert!(rt; are_labels_and_levels());
 }
 
 // Fields, and the number of copies that each writes.
@@ -95,23 +96,30 @@ const COPIES: [(&[u8], Option<u32>); 9] = [
 ];
 
 #[test]
-fn fields_write_numbers_of_copies() -> Result<(), Fail> {
-    for (field, copies) in COPIES {
-        if copies_spelled(field) != copies {
-            return Err(Fail::new(format_args!("{field:?}")));
-        }
+fn fields_write_numbers_of_copies(rt: HostRuntime) {
+    for &(field, copies) in &COPIES {
+        assert!(rt; copies_spelled(field) == copies, "wrong at {field:?}");
     }
-    Ok(())
 }
+
+// Fields, and the number of a change that each writes.
+const CHANGES: [(&[u8], Option<u32>); 8] = [
+    (b"1", Some(1)),
+    (b"100000", Some(100000)),
+    (b"0000100000", Some(100000)),
+    (b"0", None),
+    (b"100001", None),
+    (b"00000000001", None),
+    (b"+1", None),
+    (b"", None),
+];
 
 #[test]
 fn fields_write_numbers_of_changes(rt: HostRuntime) {
-    assert!(&rt; change_number_spelled(b"1") == Some(1));
-    assert!(&rt; change_number_spelled(b"100000") == Some(100000));
-    assert!(&rt; change_number_spelled(b"0000100000") == Some(100000));
-    assert!(&rt; change_number_spelled(b"0").is_none());
-    assert!(&rt; change_number_spelled(b"100001").is_none());
-    assert!(&rt; change_number_spelled(b"00000000001").is_none());
-    assert!(&rt; change_number_spelled(b"+1").is_none());
-    assert!(&rt; change_number_spelled(b"").is_none());
+    for &(field, number) in &CHANGES {
+        assert!(rt;
+            change_number_spelled(field) == number,
+            "wrong at {field:?}"
+        );
+    }
 }

@@ -1,5 +1,5 @@
 use Rattle.std.proofs.Common.{rules}
-use Rattle.s2ix_chain.proofs.sweep.swept.Goals as goal
+use Rattle.s2ix_chain.proofs.sweep.sweep_span.Goals as goal
 
 pub returns-in_err-outer : goal.returns-in_err-outer
 returns-in_err-outer c = search rules

@@ -3,7 +3,6 @@ use s2ix_bag::Limits;
 use s2ix_export::export;
 use s2ix_read_dump::read_dump;
 use std::alloc::Global;
-use std::test::Fail;
 
 // A dump, and the export of the same collection.
 type Row = (&'static [u8], &'static str);
@@ -33,20 +32,17 @@ const ROWS: [Row; 5] = [
     ),
 ];
 
-fn check_row(alloc: Global, (dump, wanted): Row) -> Result<(), Fail> {
-    let bag = read_dump(alloc, dump, Limits::default())?;
-    let text = export(alloc, &bag)?;
-    if text.as_str() == wanted {
-        Ok(())
-    } else {
-        Err(Fail::new("another export is wanted"))
-    }
+// Whether the bag of a dump has this export.
+fn is_exported(alloc: Global, dump: &[u8], wanted: &str) -> Option<bool> {
+    let bag = read_dump(alloc, dump, Limits::default()).ok()?;
+    let text = export(alloc, &bag).ok()?;
+    Some(text.as_str() == wanted)
 }
 
 #[test]
-fn exports_hold_the_pairs_in_rising_order(rt: HostRuntime) -> Result<(), Fail> {
-    for row in ROWS {
-        check_row(rt.alloc(), row)?;
+fn exports_hold_the_pairs_in_rising_order(rt: HostRuntime) {
+    for &(dump, wanted) in &ROWS {
+        let same = is_exported(rt.alloc(), dump, wanted);
+        assert!(rt; same == Some(true), "wrong at {wanted}");
     }
-    Ok(())
 }

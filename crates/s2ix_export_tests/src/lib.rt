@@ -1,5 +1,0 @@
-//! Tests of exports.
-#![tactic(auto)]
-
-#[cfg(test)]
-mod export_tests;
