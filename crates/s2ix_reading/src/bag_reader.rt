@@ -49,6 +49,8 @@ impl PairReader for BagReader<'_> {
         self.len
     }
 
+    // compiled into its callers, so that a face is read by one loop without a call
+    #[inline(always)]
     fn read(&mut self, k: usize) -> Held {
         self.reads = self.reads.saturating_add(1);
         // a place before the face at hand is far behind it too
