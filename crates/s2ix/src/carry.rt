@@ -85,7 +85,9 @@ fn rewind(rt: &HostRuntime, dump: &str, journal: &str) -> Result<bool, RunFault>
 
 // All of a file. One that can't be opened is a fault of reading.
 fn file_text(rt: &HostRuntime, name: &str) -> Result<Vec<u8>, RunFault> {
-    let file = File::open(rt, name).map_err(|_| RunFault::Read)?;
+    let Ok(file) = File::open(rt, name) else {
+        return Err(RunFault::Read);
+    };
     read_whole(rt.alloc(), &mut FromRead::new(file), TURNS)
 }
 
@@ -93,6 +95,8 @@ fn file_text(rt: &HostRuntime, name: &str) -> Result<Vec<u8>, RunFault> {
 fn output(rt: &HostRuntime) -> Result<ToWrite<BufWriter<Stdout>>, RunFault>
     ensures { IfOk result (λ sink. writer_faults sink ≡ 0) }
 {
-    let writer = BufWriter::new(rt.alloc(), rt.stdout()).map_err(|_| RunFault::OutOfMemory)?;
-    Ok(ToWrite::new(writer))
+    match BufWriter::new(rt.alloc(), rt.stdout()) {
+        Ok(writer) => Ok(ToWrite::new(writer)),
+        Err(_) => Err(RunFault::OutOfMemory),
+    }
 }

@@ -15,7 +15,10 @@ use std::process::ExitCode;
 // What the program's words ask for.
 fn asked(rt: &HostRuntime) -> Result<Command, WordsFault> {
     let words = match env::args(rt) {
-        Ok(all) => all.skip(1).collect::<Vec<String>>(rt.alloc())?,
+        Ok(mut all) => {
+            let _program = all.next();
+            all.collect::<Vec<String>>(rt.alloc())?
+        }
         Err(error) if error.kind() == ErrorKind::OutOfMemory => return Err(WordsFault::OutOfMemory),
         Err(_) => {
             let text = String::from_str(rt.alloc(), "error: a word is no UTF-8\n")?;
