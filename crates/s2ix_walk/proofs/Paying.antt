@@ -114,7 +114,7 @@ begun_before held target ranges x k seen next j t p lt other met before =
           )
     ]
 
-pub begins_once : (held : Collection) (target : List CellId) (ranges : List Range) (x : CellId) (k seen next : ℕ) → IsRangeTable held ranges → IsPassed target ranges x k seen next → ranges_begun target ranges next ≤ ranges_begun target ranges seen + 1
+begins_once : (held : Collection) (target : List CellId) (ranges : List Range) (x : CellId) (k seen next : ℕ) → IsRangeTable held ranges → IsPassed target ranges x k seen next → ranges_begun target ranges next ≤ ranges_begun target ranges seen + 1
 begins_once held target ranges x k seen next t p =
     count_grows_once (record { start = 0; limit = 0; contents = [] }) (λ (r : Range). is_met target r && ltb r.start next) (λ r. is_met target r && ltb r.start seen) ranges k (λ j lt other e.
     let both = and_parts (is_met target (range_at ranges j)) (ltb (range_at ranges j).start next) e in
