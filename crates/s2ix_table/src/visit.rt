@@ -1,7 +1,7 @@
-ghost use Rattle.std.specs.Prelude.{◌≡◌, ℕ};
+ghost use Rattle.std.specs.Prelude.{◌≡◌, ◌≤◌, ℕ, IsTrue};
 ghost use Rattle.s2ix_ranges.specs.Meeting.{meeting_of};
 ghost use Rattle.s2ix_walk.specs.Calls.{MayVisit, CallsOn};
-ghost use Rattle.s2ix_walk.specs.Costs.{IsWalkCost};
+ghost use Rattle.s2ix_walk.specs.Costs.{ranges_met, IsWalkCost};
 
 use crate::meter::Meter;
 use crate::table::RangeTable;
@@ -26,9 +26,10 @@ pub fn visit_counted<T: RangeTable, F: FnMut(Held) -> bool>(
     f: &mut F,
 ) -> Visit
     requires { MayVisit F.pre F.step f.old (meeting_of target.now (T.pairs table.now)) }
-    ensures { (calls : ℕ)
+    ensures visits { (calls : ℕ)
         × CallsOn F.step f.old (meeting_of target.now (T.pairs table.now)) calls result.whole f.new
         × IsWalkCost target.now (T.ranges table.now) calls result.cost }
+    ensures whole_probes { IsTrue result.whole → ranges_met target.now (T.ranges table.now) ≤ result.cost.probes }
 {
     let mut meter = Meter::new(table);
     let whole = walk(&mut meter, target, f);

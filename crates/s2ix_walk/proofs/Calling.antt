@@ -1,11 +1,11 @@
 -- Calls and costs at equal arguments.
-use Rattle.std.proofs.Common.{◌≡◌, ℕ, Bool, List, refl, subst}
+use Rattle.std.proofs.Common.{◌≡◌, ◌≤◌, ℕ, Bool, List, refl, subst}
 use Rattle.s2id_core.specs.declared.cell_id.CellId.{CellId}
 use Rattle.s2ix_pairs.specs.Collection.{Collection}
 use Rattle.s2ix_pairs.specs.declared.pair.Held.{Held}
 use Rattle.s2ix_walk.specs.Calls.{CallsOn}
 use Rattle.s2ix_ranges.specs.Meeting.{meeting_of}
-use Rattle.s2ix_walk.specs.Costs.{IsWalkCost}
+use Rattle.s2ix_walk.specs.Costs.{ranges_met, IsWalkCost}
 use Rattle.s2ix_walk.specs.Shown.{Shown}
 use Rattle.s2ix_walk.specs.declared.cost.Cost.{Cost}
 
@@ -20,3 +20,7 @@ cost_same {P} xs ys shown other j k a b cells same n cost is =
 pub meeting_same : {P : Type 0} (xs ys : List CellId) (shown other : Shown P) → xs ≡ ys → shown ≡ other → meeting_of xs shown.pairs ≡ meeting_of ys other.pairs
 meeting_same {P} xs ys shown other cells same =
     subst (λ (zs : List CellId). meeting_of xs shown.pairs ≡ meeting_of zs other.pairs) cells (subst (λ (s : Shown P). meeting_of xs shown.pairs ≡ meeting_of xs s.pairs) same refl)
+
+pub read_same : {P : Type 0} (xs ys : List CellId) (shown other : Shown P) (j k : ℕ) → xs ≡ ys → shown ≡ other → j ≡ k → ranges_met xs shown.ranges ≤ j → ranges_met ys other.ranges ≤ k
+read_same {P} xs ys shown other j k cells same n read =
+    subst (λ (zs : List CellId). ranges_met zs other.ranges ≤ k) cells (subst (λ (s : Shown P). ranges_met xs s.ranges ≤ k) same (subst (λ (m : ℕ). ranges_met xs shown.ranges ≤ m) n read))

@@ -1,8 +1,8 @@
 -- Ranges that meet a target have a leaf of it.
-use Rattle.std.proofs.Common.{◌≡◌, ◌<◌, true, ltb, max, inl, inr, List, ap, ◌∙◌, arith, Contains}
-use Rattle.std.proofs.lemmas.Bool.{and_parts, ltb-true, cases_lt}
+use Rattle.std.proofs.Common.{◌≡◌, ◌<◌, true, ltb, max, inl, inr, List, ap, ◌∙◌, arith, Contains, lt-ltb}
+use Rattle.std.proofs.lemmas.Bool.{and_parts, and_from, ltb-true, cases_lt}
 use Rattle.std.proofs.lemmas.List.{get_or_default}
-use Rattle.std.proofs.lemmas.List.Folds.{Any-from_list_any}
+use Rattle.std.proofs.lemmas.List.Folds.{Any-from_list_any, list_any-from_Any}
 use Rattle.s2id_core.specs.declared.cell_id.CellId.{CellId}
 use Rattle.s2id_core.specs.CellId.{raw_of, first_of, end_of}
 use Rattle.s2id_core.proofs.Nested.{span}
@@ -10,7 +10,10 @@ use Rattle.s2ix_pairs.specs.Collection.{Collection}
 use Rattle.s2ix_ranges.specs.Table.{Range, range_at, IsRangeTable}
 use Rattle.s2ix_walk.specs.Costs.{is_met}
 use Rattle.s2ix_walk.specs.Laws.{SharesLeaf}
-use Rattle.s2ix_walk.proofs.Paying.{met_from}
+
+pub met_from : (target : List CellId) (x : CellId) (r : Range) → Contains target x → r.start < end_of x → first_of x < r.limit → is_met target r ≡ true
+met_from target x r held a b =
+    list_any-from_Any _ target (held.0, x, held.1, held.2, and_from _ _ (lt-ltb _ _ a) (lt-ltb _ _ b))
 
 pub leaf_of_met : (target : List CellId) (held : Collection) (ranges : List Range) (range : Range) → IsRangeTable held ranges → Contains ranges range → is_met target range ≡ true → SharesLeaf target range
 leaf_of_met target held ranges range t in_ranges e =

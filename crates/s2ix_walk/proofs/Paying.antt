@@ -4,24 +4,30 @@ use Rattle.std.proofs.Math.Nat.{mul-le-mul_right, suc-mul}
 use Rattle.std.proofs.lemmas.Bool.{and_parts, and_from, and_right, leb-true, ltb-true, lt-leb, cases_lt}
 use Rattle.std.proofs.lemmas.List.Elements.{Contains-get_or}
 use Rattle.std.proofs.lemmas.List.Sums.{count_by-le-length}
-use Rattle.std.proofs.lemmas.List.Folds.{list_any-from_Any}
+use Rattle.std.proofs.lemmas.List.Folds.{Any-from_list_any}
 use Rattle.s2id_core.specs.declared.cell_id.CellId.{CellId}
 use Rattle.s2id_core.specs.CellId.{raw_of, first_of, end_of}
 use Rattle.s2id_core.proofs.Nested.{span}
+use Rattle.s2id_union.specs.Covers.{Covers}
+use Rattle.s2ix_pairs.specs.Collection.{Collection}
 use Rattle.s2ix_pairs.specs.declared.pair.Held.{Held}
 use Rattle.s2ix_ranges.specs.Meeting.{meeting_key, is_met_from, meeting_from, meeting_of}
-use Rattle.s2ix_ranges.specs.Table.{Range, range_at}
+use Rattle.s2ix_ranges.specs.Table.{Range, range_at, leaf_end, IsRangeTable}
 use Rattle.s2ix_ranges.proofs.InOrder.{length_choice}
-use Rattle.s2ix_walk.specs.Costs.{no_cost, with_look, binary_digits, is_met, IsWalkCost}
+use Rattle.s2ix_ranges.proofs.Tables.{places_fit}
+use Rattle.s2ix_walk.specs.Costs.{no_cost, with_look, binary_digits, is_met, ranges_met, IsWalkCost}
 use Rattle.s2ix_walk.specs.Shown.{Shown, IsShown}
-use Rattle.s2ix_walk.specs.Walking.{left_of, IsPaid, HasPaid, one_if_some, looked_at, cells_begun, ends_passed}
+use Rattle.s2ix_walk.specs.Walking.{left_of, ArePassed, IsPaid, HasPaid, one_if_some, looked_at, cells_begun, ends_passed, ranges_begun}
 use Rattle.s2ix_walk.specs.declared.cost.Cost.{Cost}
 use Rattle.s2ix_walk.specs.declared.walk_state.WalkState.{WalkState}
-use Rattle.s2ix_walk.proofs.Counts.{count_grows, count_gains}
+use Rattle.s2ix_walk.proofs.Counts.{count_grows, count_gains, count_grows_once, count_none}
+use Rattle.s2ix_walk.proofs.Meets.{met_from, leaf_of_met}
+use Rattle.s2ix_walk.proofs.WalkSteps.{range_fits, ranges_follow}
 
 -- ---- what is passed
 
--- a step over a range that has the first leaf, from `seen` on, of a cell of the target: to the nearer end of the two, or beyond it
+-- a step over a range that has the first leaf of the target from `seen` on, which is that of a cell: to the nearer end of the two, or beyond
+-- it, and not beyond the range
 pub record IsPassed (target : List CellId) (ranges : List Range) (x : CellId) (k seen next : ℕ) : Type 0 where
   pub held : Contains target x
   pub beyond : seen < end_of x
@@ -29,16 +35,14 @@ pub record IsPassed (target : List CellId) (ranges : List Range) (x : CellId) (k
   pub start : (range_at ranges k).start ≤ max seen (first_of x)
   pub limit : max seen (first_of x) < (range_at ranges k).limit
   pub goes : min (range_at ranges k).limit (end_of x) ≤ next
+  pub stays : next ≤ (range_at ranges k).limit
+  pub first : (q : ℕ) → Covers target q → seen ≤ q → first_of x ≤ q
 
 later : (a b s t : ℕ) → s ≤ t → leb a s ≡ true → leb a t ≡ true
 later a b s t le e = let l = leb-true a s e in le-leb a t (omega arith)
 
 ended_later : (target : List CellId) (s t : ℕ) → s ≤ t → (r : Range) → (is_met target r && leb r.limit s) ≡ true → (is_met target r && leb r.limit t) ≡ true
 ended_later target s t le r e = let both = and_parts _ _ e in and_from _ _ both.0 (later r.limit 0 s t le both.1)
-
-pub met_from : (target : List CellId) (x : CellId) (r : Range) → Contains target x → r.start < end_of x → first_of x < r.limit → is_met target r ≡ true
-met_from target x r held a b =
-    list_any-from_Any _ target (held.0, x, held.1, held.2, and_from _ _ (lt-ltb _ _ a) (lt-ltb _ _ b))
 
 at_held : (ranges : List Range) (k : ℕ) → k < length ranges → Contains ranges (range_at ranges k)
 at_held ranges k lt = Contains-get_or ranges k (record { start = 0; limit = 0; contents = [] }) lt
@@ -75,6 +79,67 @@ cells_gain : (target : List CellId) (x : CellId) (s t : ℕ) → Contains target
 cells_gain target x s t held le lt =
     count_gains (λ (y : CellId). ltb (first_of y) s) (λ y. ltb (first_of y) t) target x (begun_later s t (omega arith)) held (le-ltb _ _ le) (lt-ltb _ _ lt)
 
+-- ---- what has begun
+
+-- no range begins before the first leaf
+none_begun : (held : Collection) (target : List CellId) (ranges : List Range) → IsRangeTable held ranges → ranges_begun target ranges 1 ≡ 0
+none_begun held target ranges t =
+    count_none (record { start = 0; limit = 0; contents = [] }) (λ (r : Range). is_met target r && ltb r.start 1) ranges (λ j lt e.
+    let both = and_parts (is_met target (range_at ranges j)) (ltb (range_at ranges j).start 1) e in
+    let before = ltb-true (range_at ranges j).start 1 both.1 in
+    let fit = places_fit held 1 leaf_end ranges t j lt in
+    absurd (omega arith))
+
+-- of the ranges that meet the target none but the one that is passed begins in a step
+begun_before : (held : Collection) (target : List CellId) (ranges : List Range) (x : CellId) (k seen next j : ℕ) → IsRangeTable held ranges → IsPassed target ranges x k seen next → j < length ranges → (j ≡ k → ⊥) → is_met target (range_at ranges j) ≡ true → (range_at ranges j).start < next → (range_at ranges j).start < seen
+begun_before held target ranges x k seen next j t p lt other met before =
+    let a = p.within in
+    let b = p.start in
+    let s = p.stays in
+    elim (cases_lt (range_at ranges j).start seen) [
+      | inl less ↦ less
+      | inr ge ↦
+          absurd (
+          let l = leaf_of_met target held ranges (range_at ranges j) t (at_held ranges j lt) met in
+          let from = l.from in
+          let to = l.to in
+          let first = p.first l.leaf l.covered (omega arith) in
+          elim (cases_lt j k) [
+            | inl under ↦ let f = ranges_follow held ranges t j k under a in omega arith
+            | inr over ↦
+                (let more : k < j = elim (cases_lt k j) [ inl more ↦ more | inr same ↦ absurd (other (omega arith)) ] in
+                let f = ranges_follow held ranges t k j more lt in
+                omega arith)
+          ]
+          )
+    ]
+
+begins_once : (held : Collection) (target : List CellId) (ranges : List Range) (x : CellId) (k seen next : ℕ) → IsRangeTable held ranges → IsPassed target ranges x k seen next → ranges_begun target ranges next ≤ ranges_begun target ranges seen + 1
+begins_once held target ranges x k seen next t p =
+    count_grows_once (record { start = 0; limit = 0; contents = [] }) (λ (r : Range). is_met target r && ltb r.start next) (λ r. is_met target r && ltb r.start seen) ranges k (λ j lt other e.
+    let both = and_parts (is_met target (range_at ranges j)) (ltb (range_at ranges j).start next) e in
+    let before = ltb-true (range_at ranges j).start next both.1 in
+    and_from (is_met target (range_at ranges j)) (ltb (range_at ranges j).start seen) both.0 (lt-ltb _ _ (begun_before held target ranges x k seen next j t p lt other both.0 before)))
+
+-- what has begun can be counted
+begun_fits : (held : Collection) (target : List CellId) (ranges : List Range) (seen : ℕ) → IsRangeTable held ranges → ranges_begun target ranges seen ≤ 18446744073709551615
+begun_fits held target ranges seen t =
+    let some = t.some in
+    let few = count_by-le-length (λ (r : Range). is_met target r && ltb r.start seen) ranges in
+    let fit = range_fits held ranges t (length ranges - 1) (omega arith) in
+    omega arith
+
+-- where the whole target is passed, each range that meets it has begun
+met_begun : (target : List CellId) (r : Range) (seen : ℕ) → ArePassed target (length target) seen → is_met target r ≡ true → ltb r.start seen ≡ true
+met_begun target r seen passed met =
+    let any = Any-from_list_any _ target met in
+    let x : CellId = any.1 in
+    let both = and_parts (ltb r.start (end_of x)) (ltb (first_of x) r.limit) any.4 in
+    let before = ltb-true r.start (end_of x) both.0 in
+    let ends = passed any.0 x any.2 any.2 in
+    let is = ap (λ (y : CellId). end_of y) any.3 in
+    lt-ltb r.start seen (omega arith)
+
 -- ---- steps
 
 times_more : (m d : ℕ) → (m + 1) * d ≡ m * d + d
@@ -85,8 +150,8 @@ one_most None = omega arith
 one_most (Some x) = omega arith
 
 -- a step to the next range: one probe, and a search where a cell begins
-pub step_pays : {P : Type 0} (shown : Shown P) (target : List CellId) (walk next : WalkState P) (x : CellId) (k calls : ℕ) (old new : Cost) → IsPassed target shown.ranges x k walk.seen next.seen → new.looks ≡ old.looks → (first_of x ≤ walk.seen → new.probes ≤ old.probes + 1) → new.probes ≤ old.probes + binary_digits (length shown.ranges + 1) + 1 → IsPaid shown target walk calls old → IsPaid shown target next calls new
-step_pays shown target walk next x k calls old new p looks at_hand searched paid =
+pub step_pays : {P : Type 0} (shown : Shown P) (target : List CellId) (walk next : WalkState P) (x : CellId) (k calls : ℕ) (old new : Cost) → IsPassed target shown.ranges x k walk.seen next.seen → new.looks ≡ old.looks → (first_of x ≤ walk.seen → new.probes ≤ old.probes + 1) → new.probes ≤ old.probes + binary_digits (length shown.ranges + 1) + 1 → min (old.probes + 1) 18446744073709551615 ≤ new.probes → IsShown shown → IsPaid shown target walk calls old → IsPaid shown target next calls new
+step_pays shown target walk next x k calls old new p looks at_hand searched rises is paid =
     let d : ℕ = binary_digits (length shown.ranges + 1) in
     let s = span (raw_of x) x.valid in
     let s1 = s.from in
@@ -112,6 +177,10 @@ step_pays shown target walk next x k calls old new p looks at_hand searched paid
             let few = at_hand ge in
             omega arith)
       ];
+      begun = let begun = paid.begun in
+          let one = begins_once shown.pairs target shown.ranges x k walk.seen next.seen is.is_table p in
+          let fits = begun_fits shown.pairs target shown.ranges next.seen is.is_table in
+          omega arith;
     }
 
 looked_some : {P : Type 0} (place : Option P) (cost : Cost) → one_if_some place ≡ 1 → looked_at place cost ≡ with_look cost
@@ -127,7 +196,8 @@ look_pays shown target walk outer calls old new few some is paid =
     let each = paid.each in
     let before = paid.looks in
     let read = paid.probes in
-    record { each = omega arith; looks = let o = one_most outer in omega arith; probes = omega arith }
+    let begun = paid.begun in
+    record { each = omega arith; looks = let o = one_most outer in omega arith; probes = omega arith; begun = omega arith }
 
 closed_by : {P : Type 0} (place : Option P) (old : Cost) → ((looked_at place old).looks ≤ old.looks + one_if_some place) × ((looked_at place old).probes ≡ old.probes) × (min old.looks 18446744073709551615 ≤ (looked_at place old).looks)
 closed_by None old = (omega arith, refl, omega arith)
@@ -145,7 +215,8 @@ close_pays shown target walk calls old new few is paid =
     let each = paid.each in
     let before = paid.looks in
     let read = paid.probes in
-    record { each = omega arith; looks = omega arith; probes = omega arith }
+    let begun = paid.begun in
+    record { each = omega arith; looks = omega arith; probes = omega arith; begun = omega arith }
 
 -- ---- the pairs that were given
 
@@ -158,13 +229,14 @@ few_meet shown target is =
     omega arith
 
 -- nothing was given and nothing was read
-pub none_pays : {P : Type 0} (shown : Shown P) (target : List CellId) (walk : WalkState P) (cost : Cost) → walk.place ≡ None → left_of shown target walk ≡ meeting_of target shown.pairs → cost ≡ no_cost → HasPaid shown target walk cost
-none_pays shown target walk cost none all unread =
+pub none_pays : {P : Type 0} (shown : Shown P) (target : List CellId) (walk : WalkState P) (cost : Cost) → IsShown shown → walk.seen ≡ 1 → walk.place ≡ None → left_of shown target walk ≡ meeting_of target shown.pairs → cost ≡ no_cost → HasPaid shown target walk cost
+none_pays shown target walk cost is first none all unread =
     let same = ap length all in
     let looks = ap (λ (c : Cost). c.looks) unread in
     let probes = ap (λ (c : Cost). c.probes) unread in
     let closed = ap one_if_some none in
-    record { fits = omega arith; paid = record { each = omega arith; looks = omega arith; probes = omega arith } }
+    let begun = ap (ranges_begun target shown.ranges) first ∙ none_begun shown.pairs target shown.ranges is.is_table in
+    record { fits = omega arith; paid = record { each = omega arith; looks = omega arith; probes = omega arith; begun = omega arith } }
 
 -- one pair more was given, or the end was reached
 pub next_pays : {P : Type 0} (shown : Shown P) (target : List CellId) (walk next : WalkState P) (old new : Cost) (result : Option Held) → IsShown shown → (result ≡ None → (left_of shown target walk ≡ []) × (left_of shown target next ≡ [])) → IfSome result (λ held. left_of shown target walk ≡ held ∷ left_of shown target next) → ((calls : ℕ) → calls ≤ 1000000 → IsPaid shown target walk calls old → IsPaid shown target next (calls + one_if_some result) new) → HasPaid shown target walk old → HasPaid shown target next new
@@ -196,3 +268,10 @@ paid_costs shown target walk calls cost paid =
     let ends = count_by-le-length (λ (c : CellId). leb (end_of c) walk.seen) target in
     let times = mul-le-mul_right d (count_by-le-length (λ (c : CellId). ltb (first_of c) walk.seen) target) in
     record { each = each; looks = omega arith; probes = omega arith }
+
+-- what has passed the whole target has read each range that meets it
+pub passed_costs : {P : Type 0} (shown : Shown P) (target : List CellId) (walk : WalkState P) (calls : ℕ) (cost : Cost) → ArePassed target (length target) walk.seen → IsPaid shown target walk calls cost → ranges_met target shown.ranges ≤ cost.probes
+passed_costs shown target walk calls cost passed paid =
+    let begun = paid.begun in
+    let all = count_grows (is_met target) (λ (r : Range). is_met target r && ltb r.start walk.seen) shown.ranges (λ r met. and_from (is_met target r) (ltb r.start walk.seen) met (met_begun target r walk.seen passed met)) in
+    omega arith

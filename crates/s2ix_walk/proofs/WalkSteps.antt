@@ -32,7 +32,7 @@ passed_all target k seen passed le q v =
     omega arith
 
 -- no leaf of the target lies between the passed cells and the next
-gap_from : (target : List CellId) (k seen : ℕ) (x : CellId) → FollowOneAnother target → ArePassed target k seen → k < length target → x ≡ get_or target k x → (q : ℕ) → Covers target q → seen ≤ q → first_of x ≤ q
+pub gap_from : (target : List CellId) (k seen : ℕ) (x : CellId) → FollowOneAnother target → ArePassed target k seen → k < length target → x ≡ get_or target k x → (q : ℕ) → Covers target q → seen ≤ q → first_of x ≤ q
 gap_from target k seen x follow passed lt is q v le =
     let j = v.held.0 in
     let within = v.held.1 in
@@ -78,6 +78,13 @@ range_fits hs ranges t k lt =
     let fit = places_fit hs 1 leaf_end ranges t k lt in
     let rises = t.rises k lt in
     let bounds = (limit_bounds hs ranges t k lt).1 in
+    omega arith
+
+-- a range ends before any behind it begins
+pub ranges_follow : (hs : Collection) (ranges : List Range) → IsRangeTable hs ranges → (i j : ℕ) → i < j → j < length ranges → (range_at ranges i).limit ≤ (range_at ranges j).start
+ranges_follow hs ranges t i j less lt =
+    let rises = limits_rise hs 1 leaf_end ranges t i (j - 1) (omega arith) (omega arith) in
+    let next = t.next (j - 1) j (omega arith) lt in
     omega arith
 
 -- the next range has the leaf at which one ends

@@ -56,12 +56,17 @@ cells_begun target seen = count_by (λ c. nat_lt (first_of c) seen) target
 abbrev pub ends_passed : List CellId → List Range → ℕ → ℕ
 ends_passed target ranges seen = count_by (λ r. is_met target r && nat_le r.limit seen) ranges + count_by (λ c. nat_le (end_of c) seen) target
 
+-- how many ranges that meet a target begin before a leaf
+abbrev pub ranges_begun : List CellId → List Range → ℕ → ℕ
+ranges_begun target ranges seen = count_by (λ r. is_met target r && nat_lt r.start seen) ranges
+
 -- what a walk may have read after some calls: for each range or cell passed one probe and one look that gave no new pair, and a
--- search for each cell begun; for a chain at hand that look is still to come
+-- search for each cell begun; for a chain at hand that look is still to come; and at least one probe for each range begun that is met
 pub record IsPaid {P : Type 0} (shown : Shown P) (target : List CellId) (walk : WalkState P) (calls : ℕ) (cost : Cost) : Type 0 where
   pub each : calls ≤ cost.looks
   pub looks : cost.looks + one_if_some walk.place ≤ calls + ends_passed target shown.ranges walk.seen
   pub probes : cost.probes ≤ cells_begun target walk.seen * binary_digits (length shown.ranges + 1) + ends_passed target shown.ranges walk.seen
+  pub begun : ranges_begun target shown.ranges walk.seen ≤ cost.probes
 
 -- a walk has paid for the pairs that it gave: those of the meeting list that are not left
 pub record HasPaid {P : Type 0} (shown : Shown P) (target : List CellId) (walk : WalkState P) (cost : Cost) : Type 0 where

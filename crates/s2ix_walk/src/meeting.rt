@@ -1,8 +1,8 @@
-ghost use Rattle.std.specs.Prelude.{◌≡◌};
+ghost use Rattle.std.specs.Prelude.{◌≡◌, ◌≤◌, None};
 ghost use Rattle.std.specs.Iterator.{YieldsFirst, item_count};
 ghost use Rattle.s2id_union.specs.Covers.{FollowOneAnother};
 ghost use Rattle.s2ix_ranges.specs.Meeting.{meeting_of};
-ghost use Rattle.s2ix_walk.specs.Costs.{no_cost};
+ghost use Rattle.s2ix_walk.specs.Costs.{no_cost, ranges_met};
 ghost use Rattle.s2ix_walk.specs.Walking.{IsWalk, HasPaid};
 
 use crate::reader::Reader;
@@ -49,13 +49,15 @@ impl<'a, R: Reader> Meeting<'a, R> {
         }
     }
 
-    /// The next pair, or `None` behind the last one.
+    /// The next pair, or `None` behind the last one: then the reader has read at least as many ranges as the target meets.
     #[inline(always)]
     pub fn advance(&mut self) -> Option<Held>
         ensures reference { (reader_in self.new).ghost_name ≡ (reader_in self.old).ghost_name }
         ensures shown { R.shown (reader_in self.new).now ≡ R.shown (reader_in self.old).now }
         ensures cells { target_in self.new ≡ target_in self.old }
         ensures yields { YieldsFirst left_in self.old result self.new }
+        ensures whole_probes { result ≡ None
+            → ranges_met (target_in self.new) (R.shown (reader_in self.new).now).ranges ≤ (R.spent (reader_in self.new).now).probes }
     {
         next_met(self.reader, self.cells, &mut self.walk)
     }

@@ -57,6 +57,7 @@ pub(crate) fn next_met<R: Reader>(
     ensures gives { IfSome result (λ held. left_of (R.shown reader.old) cells.now walk.old
         ≡ held ∷ left_of (R.shown reader.old) cells.now walk.new) }
     ensures walk { IsWalk (R.shown reader.old) cells.now walk.new }
+    ensures passed { result ≡ None → ArePassed cells.now (length cells.now) walk.new.seen }
     ensures same { R.shown reader.new ≡ R.shown reader.old }
     ensures paid { (calls : ℕ)
         → calls ≤ 1000000
@@ -85,6 +86,7 @@ fn advance<R: Reader>(
     requires walk { IsWalk (R.shown reader.old) cells.now walk }
     requires done { walk.place ≡ None }
     ensures ends { result ≡ None → meeting_from cells.now walk.seen (R.shown reader.old).pairs ≡ [] }
+    ensures passed { result ≡ None → ArePassed cells.now (length cells.now) walk.seen }
     ensures left { IfSome result (λ next. meeting_from cells.now walk.seen (R.shown reader.old).pairs
         ≡ left_of (R.shown reader.old) cells.now next) }
     ensures next { IfSome result (λ next. IsWalk (R.shown reader.old) cells.now next) }

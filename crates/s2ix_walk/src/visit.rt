@@ -1,7 +1,7 @@
-ghost use Rattle.std.specs.Prelude.{◌≡◌, ℕ};
+ghost use Rattle.std.specs.Prelude.{◌≡◌, ◌≤◌, ℕ, IsTrue};
 ghost use Rattle.s2ix_ranges.specs.Meeting.{meeting_of};
 ghost use Rattle.s2ix_walk.specs.Calls.{MayVisit, CallsOn};
-ghost use Rattle.s2ix_walk.specs.Costs.{no_cost, IsWalkCost};
+ghost use Rattle.s2ix_walk.specs.Costs.{no_cost, ranges_met, IsWalkCost};
 
 use crate::meeting::Meeting;
 use crate::reader::Reader;
@@ -13,7 +13,7 @@ use s2ix_bag::Held;
 ///
 /// The reader must have read nothing. Let k be the number of calls, t that of the target's cells, n that of the table's ranges, r that of
 /// those which the target meets, and d the number of binary digits of n + 1. Then the reader has read at least k and at most k + r + t
-/// pairs, and at most t * d + r + t ranges.
+/// pairs, and at most t * d + r + t ranges; where every call answered true it has read at least r ranges.
 pub fn walk<R: Reader, F: FnMut(Held) -> bool>(
     reader: &mut R,
     target: &CellUnion,
@@ -25,6 +25,7 @@ pub fn walk<R: Reader, F: FnMut(Held) -> bool>(
     ensures visits { (calls : ℕ)
         × CallsOn F.step f.old (meeting_of target.now (R.shown reader.old).pairs) calls result f.new
         × IsWalkCost target.now (R.shown reader.old).ranges calls (R.spent reader.new) }
+    ensures whole_probes { IsTrue result → ranges_met target.now (R.shown reader.old).ranges ≤ (R.spent reader.new).probes }
 {
     let mut meeting = Meeting::new(reader, target);
     while let Some(held) = meeting.advance() {

@@ -80,15 +80,17 @@ fn ranges_met<T: RangeTable>(table: &T, target: &CellUnion) -> u64 {
     met
 }
 
-// Whether a cost keeps to the bounds for so many calls.
-fn is_bounded<T: RangeTable>(table: &T, target: &CellUnion, calls: usize, cost: Cost) -> bool {
-    let (calls, cells) = (calls as u64, target.cells().len() as u64);
-    let passed = ranges_met(table, target).wrapping_add(cells);
+// Whether what a visit read keeps to the bounds for its calls.
+fn is_bounded<T: RangeTable>(table: &T, target: &CellUnion, visit: &Seen) -> bool {
+    let (calls, cost) = (visit.calls as u64, visit.cost);
+    let (met, cells) = (ranges_met(table, target), target.cells().len() as u64);
+    let passed = met.wrapping_add(cells);
     let count = (table.range_count() as u64).wrapping_add(1);
     let digits = u64::from(64u32.saturating_sub(count.leading_zeros()));
     calls <= cost.looks
         && cost.looks <= calls.wrapping_add(passed)
         && cost.probes <= cells.wrapping_mul(digits).wrapping_add(passed)
+        && (!visit.whole || met <= cost.probes)
 }
 
 // Whether the pairs that meet a target, read one by one, are these.
@@ -119,7 +121,7 @@ fn is_bounded_visit<T: RangeTable>(
     stop: usize,
 ) -> bool {
     let visit = seen_by(table, target, pairs, stop);
-    is_visit(&visit, pairs, stop) && is_bounded(table, target, visit.calls, visit.cost)
+    is_visit(&visit, pairs, stop) && is_bounded(table, target, &visit)
 }
 
 // Whether visits of a target call these pairs and keep to their bounds, where the first call answers false, the second, the last or none,

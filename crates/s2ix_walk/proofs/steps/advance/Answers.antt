@@ -6,7 +6,7 @@ use Rattle.s2id_union.proofs.NormalForm.{covers_from_test}
 use Rattle.s2ix_walk.specs.Places.{LeadsTo}
 use Rattle.s2ix_ranges.specs.Table.{range_at}
 use Rattle.s2ix_walk.proofs.Meetings.{none_meets}
-use Rattle.s2ix_walk.proofs.WalkSteps.{IsPast, IsBegun, begun_after, passed_all, range_fits, walk_past}
+use Rattle.s2ix_walk.proofs.WalkSteps.{IsPast, IsBegun, begun_after, passed_all, gap_from, range_fits, walk_past}
 use Rattle.s2ix_walk.specs.Shown.{Shown}
 use Rattle.s2ix_walk.specs.declared.cost.Cost.{Cost}
 use Rattle.s2ix_walk.proofs.Paying.{IsPassed, step_pays}
@@ -18,6 +18,10 @@ pub returns-then-cell-cells-clause-ends : goal.returns-then-cell-cells-clause-en
 returns-then-cell-cells-clause-ends g c e =
     none_meets c.args.cells.now (g.R.Reader.shown c.args.reader.now).pairs c.args.walk.seen
     (passed_all c.args.cells.now c.first_beyond-cell.result c.args.walk.seen c.first_beyond-cell.ensures.passed (omega (arith, c.if-cell-cells.true)))
+
+pub returns-then-cell-cells-clause-passed : goal.returns-then-cell-cells-clause-passed
+returns-then-cell-cells-clause-passed g c e j d lt within =
+    c.first_beyond-cell.ensures.passed j d (omega (arith, c.if-cell-cells.true)) within
 
 pub overflow_add-next : goal.overflow_add-next
 overflow_add-next g c =
@@ -96,6 +100,11 @@ step_passes g c =
             | then-row-end w ↦ omega (arith, w.if-row-end.true, ap (λ to. to.1) w.next-is)
             | else-row-end w ↦ omega (arith, w.if-row-end.false, later, ap (λ to. to.1) w.next-is)
           ];
+      stays = elim c.if-row-end.branch [
+        | then-row-end w ↦ omega (arith, ap (λ to. to.1) w.next-is)
+        | else-row-end w ↦ omega (arith, w.if-row-end.false, ap (λ to. to.1) w.next-is)
+      ];
+      first = gap_from c.args.cells.now c.first_beyond-cell.result c.args.walk.seen x c.requires.follow c.first_beyond-cell.ensures.passed (omega arith) c.index-cells-cell.is;
     }
 
 pub returns-clause-paid : goal.returns-clause-paid
@@ -105,7 +114,7 @@ returns-clause-paid g c calls paid =
     let probes = ap (λ (z : Cost). z.probes) counts in
     let e = c.range_from-range.ensures in
     let searched = e.probes in
-    step_pays (g.R.Reader.shown c.args.reader.now) c.args.cells.now c.args.walk _ c.index-cells-cell.result c.range_from-range.result calls _ _ (step_passes g (goal.at.returns-clause-paid g c).After-first-place) (looks ∙ e.looks) (λ le. let same = ap (λ (z : Cost). z.probes) (e.at_hand le) in omega arith) (omega arith) paid
+    step_pays (g.R.Reader.shown c.args.reader.now) c.args.cells.now c.args.walk _ c.index-cells-cell.result c.range_from-range.result calls _ _ (step_passes g (goal.at.returns-clause-paid g c).After-first-place) (looks ∙ e.looks) (λ le. let same = ap (λ (z : Cost). z.probes) (e.at_hand le) in omega arith) (omega arith) (omega (arith, e.rises)) (g.met.R.Reader.is_shown c.args.reader.now) paid
 
 pub returns-clause-rises : goal.returns-clause-rises
 returns-clause-rises g c =

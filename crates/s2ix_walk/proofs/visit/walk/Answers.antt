@@ -2,7 +2,7 @@ use Rattle.std.proofs.Common.{rules, ◌+◌, ◌-◌, ℕ, length, true, false,
 use Rattle.s2ix_ranges.specs.Meeting.{meeting_of}
 use Rattle.s2ix_walk.proofs.Visits.{may_same, no_call, last_call, one_call}
 use Rattle.s2ix_walk.specs.Walking.{left_of}
-use Rattle.s2ix_walk.proofs.Calling.{calls_same, cost_same, meeting_same}
+use Rattle.s2ix_walk.proofs.Calling.{calls_same, cost_same, meeting_same, read_same}
 use Rattle.s2ix_walk.proofs.Paying.{paid_costs}
 use Rattle.s2ix_walk.proofs.visit.walk.Goals as goal
 
@@ -79,3 +79,11 @@ returns-clause-visits g c =
       i.4 0 true c.loop-held.f (no_call (λ p x r q. goal.F-step g p x r q) c.loop-held.f before ends.0),
       cost_same new.cells.now target (g.R.Reader.shown new.reader.now) s (length (meeting_of new.cells.now (g.R.Reader.shown new.reader.now).pairs) - length rest) calls (g.R.Reader.spent new.reader.now) _ (e.cells ∙ i.2) (e.shown ∙ i.1) (omega (arith, ap length ends.0, ap length ends.1, ap length after)) (search rules) (paid_costs _ _ new.walk _ _ new.paid.paid),
     )
+
+pub returns-clause-whole_probes : goal.returns-clause-whole_probes
+returns-clause-whole_probes g c whole =
+    let s = g.R.Reader.shown c.args.reader.now in
+    let new = c.advance.new.self in
+    let i = c.loop-held.invariant in
+    let e = c.advance.ensures in
+    read_same new.cells.now c.args.target.now (g.R.Reader.shown new.reader.now) s (g.R.Reader.spent new.reader.now).probes _ (e.cells ∙ i.2) (e.shown ∙ i.1) (search rules) (c.in_default.ensures.whole_probes refl)

@@ -1,7 +1,7 @@
-use Rattle.std.proofs.Common.{sym, subst}
+use Rattle.std.proofs.Common.{sym, subst, rules}
 use Rattle.s2ix_walk.specs.Shown.{Shown}
 use Rattle.s2ix_walk.specs.Walking.{IsWalk, HasPaid}
-use Rattle.s2ix_walk.proofs.Paying.{next_pays}
+use Rattle.s2ix_walk.proofs.Paying.{next_pays, passed_costs}
 use Rattle.s2ix_walk.proofs.meeting.Meeting.advance.Goals as goal
 
 pub invariant_of-self-clause-walks : goal.invariant_of-self-clause-walks
@@ -13,3 +13,10 @@ invariant_of-self-clause-paid g c =
     let s = g.R.Reader.shown c.args.self.now.reader.now in
     subst (λ (z : Shown g.row.R-Place.Denot). HasPaid z c.args.self.now.cells.now c.next_met.new.walk (g.R.Reader.spent c.next_met.new.reader)) (sym c.next_met.ensures.same)
     (next_pays s c.args.self.now.cells.now c.args.self.now.walk c.next_met.new.walk _ _ c.next_met.result (g.met.R.Reader.is_shown c.args.self.now.reader.now) c.next_met.ensures.ends c.next_met.ensures.gives c.next_met.ensures.paid c.args.self.now.paid)
+
+pub returns-clause-whole_probes : goal.returns-clause-whole_probes
+returns-clause-whole_probes g c none =
+    let cells = c.args.self.now.cells.now in
+    let next = c.next_met.new in
+    let paid : HasPaid (g.R.Reader.shown next.reader) cells next.walk (g.R.Reader.spent next.reader) = search rules in
+    passed_costs (g.R.Reader.shown next.reader) cells next.walk _ _ (c.next_met.ensures.passed none) paid.paid
