@@ -10,7 +10,8 @@ type Row = (LimitRow, &'static str, &'static str, &'static str);
 // The limits, what is held now, a change, and why it isn't taken back.
 type Refused = (LimitRow, &'static str, &'static str, RevertError);
 
-// In the first two, two copies were added, another label's were, and the first label's pairs were taken to the other's.
+// The first two rows are of one history: two copies of label 9 were added, then one of label 3, and then those of label 9 were taken to
+// label 3. Row 1 takes the last of these changes back, and row 2 the first one from what row 1 leaves.
 const REVERTED: [Row; 11] = [
     (WIDEST, "04:3:3", "04:3:1:3 04:9:2:0", "04:3:1 04:9:2"),
     (WIDEST, "04:3:1 04:9:2", "04:9:0:2", "04:3:1"),
@@ -30,7 +31,9 @@ const REVERTED: [Row; 11] = [
     ((1, 65_535, 1), "04:9:1", "04:9:65535:1", "04:9:65535"),
 ];
 
-// So were they in the first two. Each test goes over all entries before the next one.
+// The first two rows are of the history of the first two above: its first change isn't taken back while its last one stands, nor its last
+// one again where both were. Of several reasons that a change has, `BelowZero` is told before `TooManyCopies` before `TooManyPairs`,
+// whichever entry comes first: each is looked for in all entries before the next one is.
 const REFUSED: [Refused; 15] = [
     (WIDEST, "04:3:3", "04:9:0:2", RevertError::BelowZero(0)),
     (

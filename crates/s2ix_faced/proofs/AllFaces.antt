@@ -1,7 +1,8 @@
 -- What lies on each of the six faces makes up what is held.
-use Rattle.std.proofs.Common.{◌≡◌, ℕ, zero, suc, ◌+◌, ◌*◌, ◌<◌, ◌≤◌, ◌==◌, inl, inr, true, false, cond, List, [], ◌∷◌, ◌++◌, length, flat_map, refl, sym, ◌∙◌, ap, ap₂, arith, Contains, subst}
+use Rattle.std.proofs.Common.{◌≡◌, ℕ, zero, suc, ◌+◌, ◌*◌, ◌<◌, ◌≤◌, ◌==◌, inl, inr, true, false, cond, List, [], ◌∷◌, ◌++◌, length, map, set, flat_map, refl, sym, ◌∙◌, ap, ap₂, arith, Contains, subst}
 use Rattle.std.proofs.lemmas.Bool.{cases_Bool, cases_eq, cond-true, cond-false}
 use Rattle.std.proofs.lemmas.Bool.Decides.{nat_tests}
+use Rattle.std.proofs.lemmas.List.Folds.{flat_map-map}
 use Rattle.s2id_core.specs.CellId.{raw_of, face_of}
 use Rattle.s2id_union.proofs.Lists.{in_tail, at_head, none_in_nil, cons_cases}
 use Rattle.s2ix_pairs.specs.Collection.{Collection, IsCollection, IsCollectionFrom}
@@ -14,7 +15,7 @@ use Rattle.s2ix_chain.specs.SpanTable.{SpanRanges}
 use Rattle.s2ix_joined.specs.Joined.{held_in}
 use Rattle.s2ix_reading.specs.Faces.{faces, held_on}
 use Rattle.s2ix_reading.proofs.Unchanged.{on_face, off_face}
-use Rattle.s2ix_joined.specs.Faces.{face_begin, AreOnFace}
+use Rattle.s2ix_joined.specs.Faces.{face_begin, AreOnFace, IsOverFace, AreOverFaces}
 use Rattle.s2ix_walk.proofs.OnFaces.{six_faces}
 use Rattle.s2ix_joined.proofs.Faces.{raw_on_face}
 
@@ -117,8 +118,24 @@ lie_on face (h ∷ hs) x c =
       | inr f ↦ lie_on face hs x (subst (λ xs. Contains xs x) (cond-false _ (h ∷ held_on face hs) (held_on face hs) f) c)
     ]
 
--- six tables with the pairs of their faces hold all pairs
-pub six_parts : (hs : Collection) (a b c d e f : SpanRanges) → IsCollection hs → a.held ≡ held_on 0 hs → b.held ≡ held_on 1 hs → c.held ≡ held_on 2 hs → d.held ≡ held_on 3 hs → e.held ≡ held_on 4 hs → f.held ≡ held_on 5 hs → held_in (a ∷ b ∷ c ∷ d ∷ e ∷ f ∷ []) ≡ hs
-six_parts hs a b c d e f is pa pb pc pd pe pf =
-    let join : Collection → Collection → Collection = λ xs ys. xs ++ ys in
-    ap₂ join pa (ap₂ join pb (ap₂ join pc (ap₂ join pd (ap₂ join pe (ap₂ join pf refl))))) ∙ all_faces hs is
+-- ---- tables of the faces
+
+-- tables with the pairs of their faces hold all pairs
+pub all_parts : (hs : Collection) (tables : List SpanRanges) → IsCollection hs → map (λ t. t.held) tables ≡ map (λ face. held_on face hs) faces → held_in tables ≡ hs
+all_parts hs tables is parts =
+    sym (flat_map-map (λ (xs : Collection). xs) (λ (t : SpanRanges). t.held) tables)
+    ∙ ap (λ (lists : List Collection). flat_map (λ (xs : Collection). xs) lists) parts
+    ∙ flat_map-map (λ (xs : Collection). xs) (λ (face : ℕ). held_on face hs) faces
+    ∙ all_faces hs is
+
+-- the lists of the six faces
+pub six_parts : (hs a b c d e f : Collection) → a ≡ held_on 0 hs → b ≡ held_on 1 hs → c ≡ held_on 2 hs → d ≡ held_on 3 hs → e ≡ held_on 4 hs → f ≡ held_on 5 hs → a ∷ b ∷ c ∷ d ∷ e ∷ f ∷ [] ≡ map (λ face. held_on face hs) faces
+six_parts hs a b c d e f pa pb pc pd pe pf =
+    let put : Collection → List Collection → List Collection = λ xs xss. xs ∷ xss in
+    ap₂ put pa (ap₂ put pb (ap₂ put pc (ap₂ put pd (ap₂ put pe (ap₂ put pf refl)))))
+
+-- a table over the span of a face is put into its place
+pub over_set : (first i face : ℕ) (tables : List SpanRanges) (t : SpanRanges) → face ≡ first + i → AreOverFaces first tables → IsOverFace face t → AreOverFaces first (set tables i t)
+over_set first i face [] t e over is = tt
+over_set first zero face (x ∷ xs) t e over is = let here : face ≡ first = omega arith in (subst (λ k. IsOverFace k t) here is, over.1)
+over_set first (suc i) face (x ∷ xs) t e over is = (over.0, over_set (first + 1) i face xs t (omega arith) over.1 is)

@@ -1,3 +1,2 @@
 pub mod AllFaces
 pub mod Few
-pub mod Taking

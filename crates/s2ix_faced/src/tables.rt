@@ -1,9 +1,9 @@
 // The tables of single faces, read from what is held.
-ghost use Rattle.std.specs.Prelude.{◌≡◌, ◌<◌, ◌+◌, ◌*◌, true, false, length, IfOk, OnOk};
+ghost use Rattle.std.specs.Prelude.{◌≡◌, ◌<◌, ◌+◌, ◌*◌, length, map, IfOk, OnOk};
 ghost use Rattle.s2ix_pairs.specs.Change.{changed};
-ghost use Rattle.s2ix_reading.specs.Faces.{held_on, has_entry_on, changed_count};
+ghost use Rattle.s2ix_reading.specs.Faces.{faces, held_on, changed_count};
 ghost use Rattle.s2ix_reading.specs.Reading.{HasRead, IsFaceRead, AreChangedRead, two_searches};
-ghost use Rattle.s2ix_joined.specs.Faces.{IsOverFace};
+ghost use Rattle.s2ix_joined.specs.Faces.{IsOverFace, AreOverFaces};
 ghost use Rattle.s2ix_joined.specs.Joined.{held_in};
 ghost use Rattle.s2ix_faced.specs.Parts.{AreTablesOf};
 
@@ -11,7 +11,7 @@ use s2id_core::OutOfMemory;
 use s2ix_bag::Change;
 use s2ix_joined::{FaceTable, JoinedTables};
 use s2ix_reading::{PairReader, changed_faces, read_face};
-use std::alloc::Global;
+use std::alloc::{AllocError, Global};
 
 // The table of a face, of what a reader shows of it.
 pub(crate) fn read_table<B: PairReader>(
@@ -31,33 +31,6 @@ pub(crate) fn read_table<B: PairReader>(
     FaceTable::new(alloc, face, held)
 }
 
-// The table of a face after a change: of what a reader shows of it where the change has an entry there, else the one that stands, shared.
-pub(crate) fn table_after<B: PairReader>(
-    alloc: Global,
-    tables: &JoinedTables,
-    reader: &mut B,
-    change: &Change,
-    is_changed: bool,
-    face: u8,
-) -> Result<FaceTable, OutOfMemory>
-    requires six { face < 6 }
-    requires is_changed { is_changed ≡ has_entry_on change.now face }
-    requires made { changed (held_in tables.now) change.now ≡ B.shown reader.old }
-    ensures over { IfOk result (λ table. IsOverFace face table) }
-    ensures pairs { IfOk result (λ table. table.held ≡ held_on face (B.shown reader.old)) }
-    ensures same { B.shown reader.new ≡ B.shown reader.old }
-    ensures read { OnOk result (is_changed ≡ true → IsFaceRead face (B.shown reader.old) (B.spent reader.old) (B.spent reader.new)) }
-    ensures refused { is_changed ≡ true → HasRead 0
-        (length (held_on face (B.shown reader.old)) + two_searches (B.shown reader.old)) (B.spent reader.old) (B.spent reader.new) }
-    ensures unread { is_changed ≡ false → B.spent reader.new ≡ B.spent reader.old }
-{
-    let _ = change;
-    if is_changed {
-        return read_table(alloc, reader, face);
-    }
-    Ok(tables.face(face).clone()?)
-}
-
 // The tables of the six faces, of what a reader shows.
 pub(crate) fn read_tables<B: PairReader>(
     alloc: Global,
@@ -75,7 +48,23 @@ pub(crate) fn read_tables<B: PairReader>(
     ])
 }
 
-// The tables of the six faces after a change, of what a reader shows.
+// The tables of the six faces as they stand, each shared once more.
+fn shared_tables(tables: &JoinedTables) -> Result<[FaceTable; 6], AllocError>
+    ensures over { IfOk result (λ shared. AreOverFaces 0 shared) }
+    ensures pairs { IfOk result (λ shared. map (λ t. t.held) shared ≡ map (λ face. held_on face (held_in tables.now)) faces) }
+{
+    Ok([
+        tables.face(0).clone()?,
+        tables.face(1).clone()?,
+        tables.face(2).clone()?,
+        tables.face(3).clone()?,
+        tables.face(4).clone()?,
+        tables.face(5).clone()?,
+    ])
+}
+
+// The tables of the six faces after a change: of what a reader shows of a face where the change has an entry on it, else the one that
+// stands, shared.
 pub(crate) fn tables_after<B: PairReader>(
     alloc: Global,
     tables: &JoinedTables,
@@ -90,12 +79,11 @@ pub(crate) fn tables_after<B: PairReader>(
         (changed_count change.now (B.shown reader.old) + 6 * two_searches (B.shown reader.old)) (B.spent reader.old) (B.spent reader.new) }
 {
     let changed = changed_faces(change);
-    Ok([
-        table_after(alloc, tables, reader, change, changed[0], 0)?,
-        table_after(alloc, tables, reader, change, changed[1], 1)?,
-        table_after(alloc, tables, reader, change, changed[2], 2)?,
-        table_after(alloc, tables, reader, change, changed[3], 3)?,
-        table_after(alloc, tables, reader, change, changed[4], 4)?,
-        table_after(alloc, tables, reader, change, changed[5], 5)?,
-    ])
+    let mut after = shared_tables(tables)?;
+    for face in 0..6u8 {
+        if changed[usize::from(face)] {
+            after[usize::from(face)] = read_table(alloc, reader, face)?;
+        }
+    }
+    Ok(after)
 }

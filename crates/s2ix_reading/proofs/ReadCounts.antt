@@ -9,7 +9,7 @@ use Rattle.s2ix_pairs.specs.declared.pair.Held.{Held}
 use Rattle.s2ix_walk.specs.Costs.{binary_digits}
 use Rattle.s2ix_walk.proofs.Digits.{digits_below, digits_rise}
 use Rattle.s2ix_reading.specs.Faces.{has_entry_on, changed_count}
-use Rattle.s2ix_reading.specs.Reading.{with_read, with_reads, HasRead, IsRead, AreChangedRead}
+use Rattle.s2ix_reading.specs.Reading.{with_read, with_reads, HasRead, IsRead, two_searches}
 
 reads_join : (j k n : ℕ) → with_reads (j + k) n ≡ with_reads j (with_reads k n)
 reads_join zero k n = let e : 0 + k ≡ k = omega arith in ap (λ (m : ℕ). with_reads m n) e
@@ -43,14 +43,14 @@ read_within least most less more before after low high r =
     record { made = r.made; counts = r.counts; some = omega arith; few = omega arith }
 
 -- counts that don't stop
-pub reads_are : (k n : ℕ) → k + n ≤ 18446744073709551615 → with_reads k n ≡ k + n
+reads_are : (k n : ℕ) → k + n ≤ 18446744073709551615 → with_reads k n ≡ k + n
 reads_are zero n fits = omega arith
 reads_are (suc k) n fits =
     let e : k + n + 1 ≡ suc k + n = omega arith in
     ap (λ (r : ℕ). with_read r) (reads_are k n (omega arith)) ∙ min-eq_left (omega arith) ∙ e
 
 -- where none was read before, the count of reads itself is within the bounds
-pub first_reads : (least most after : ℕ) → most ≤ 18446744073709551615 → HasRead least most 0 after → (least ≤ after) × (after ≤ most)
+first_reads : (least most after : ℕ) → most ≤ 18446744073709551615 → HasRead least most 0 after → (least ≤ after) × (after ≤ most)
 first_reads least most after fits r =
     let some = r.some in
     let few = r.few in
@@ -66,13 +66,14 @@ face_reads d e p q l m s0 s1 s2 s3 same pairs low first second each =
 few_digits : (n : ℕ) → n ≤ 1000000 → binary_digits (n + 1) ≤ 40
 few_digits n few = omega (arith, digits_below 40, digits_rise (n + 1) (2 ^ 40 - 1) (omega (arith, few)))
 
-pub few_reads : (change : List Entry) (held : Collection) (reads : ℕ) → IsRead held → AreChangedRead change held 0 reads → (changed_count change held ≤ reads) × (reads ≤ changed_count change held + 12 * binary_digits (length held + 1))
-few_reads change held reads is r =
+-- what the faces of a change take, where none was read before: at least as many as what is known, and few
+pub few_reads : (change : List Entry) (held : Collection) (least reads : ℕ) → IsRead held → HasRead least (changed_count change held + 6 * two_searches held) 0 reads → (least ≤ reads) × (reads ≤ changed_count change held + 12 * binary_digits (length held + 1))
+few_reads change held least reads is r =
     let p : ℕ = changed_count change held in
     let d : ℕ = binary_digits (length held + 1) in
     let few = few_digits (length held) is.few in
     let on : Held → Bool = λ h. has_entry_on change (face_of h.pair.cell) in
     let less : p ≤ length held = omega (arith, length-filter on held, count_by-le-length on held) in
     let all = is.few in
-    let both = first_reads p (p + 6 * (2 * d)) reads (omega (arith, few, less, all)) r in
+    let both = first_reads least (p + 6 * (2 * d)) reads (omega (arith, few, less, all)) r in
     (both.0, omega (arith, both.1))

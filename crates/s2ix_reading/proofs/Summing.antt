@@ -1,5 +1,5 @@
 -- The pairs on the faces that a change has entries on, face by face.
-use Rattle.std.proofs.Common.{◌≡◌, ℕ, zero, suc, ◌+◌, ◌*◌, ◌<◌, ◌≤◌, Bool, true, false, ◌⊎◌, inl, inr, Option, Some, None, List, [], ◌∷◌, length, get_or, map, set, filter, nat_lt, refl, sym, ap, ◌∙◌, subst, arith, ⊎_elim}
+use Rattle.std.proofs.Common.{◌≡◌, ℕ, zero, suc, ◌+◌, ◌*◌, ◌<◌, ◌≤◌, Bool, true, false, ◌⊎◌, inl, inr, Some, None, List, [], ◌∷◌, length, get_or, map, set, filter, nat_lt, refl, sym, ap, ◌∙◌, subst, arith, ⊎_elim}
 use Rattle.std.specs.Prelude.{if◌then◌else◌}
 use Rattle.std.proofs.Math.Nat.{suc-mul, mul-le-mul_right}
 use Rattle.std.proofs.lemmas.Bool.{cases_eq, cond-true, cond-false}
@@ -79,7 +79,7 @@ none_held change (suc n) =
     (both (has_entry_on change n))
 
 -- all faces
-pub all_summed : (change : List Entry) (hs : Collection) → sum_below change hs 6 ≡ changed_count change hs
+all_summed : (change : List Entry) (hs : Collection) → sum_below change hs 6 ≡ changed_count change hs
 all_summed change [] = none_held change 6
 all_summed change (h ∷ hs) =
     let q : ℕ = face_of h.pair.cell in
@@ -102,7 +102,7 @@ pub record AreReadBelow (change : List Entry) (hs : Collection) (w face before a
 pub nothing_read : (change : List Entry) (hs : Collection) (w before after : ℕ) → after ≡ before → AreReadBelow change hs w 0 before after
 nothing_read change hs w before after same = record { reads = read_within 0 0 (sum_below change hs 0) (sum_below change hs 0 + 0 * w) before after (omega arith) (omega arith) (none_read before after same) }
 
-pub face_left : (change : List Entry) (hs : Collection) (w face before after : ℕ) → has_entry_on change face ≡ false → AreReadBelow change hs w face before after → AreReadBelow change hs w (face + 1) before after
+face_left : (change : List Entry) (hs : Collection) (w face before after : ℕ) → has_entry_on change face ≡ false → AreReadBelow change hs w face before after → AreReadBelow change hs w (face + 1) before after
 face_left change hs w face before after none r =
     let p = part_none change hs face none in
     let more = suc-mul face w in
@@ -111,7 +111,7 @@ face_left change hs w face before after none r =
     subst (λ (n : ℕ). AreReadBelow change hs w n before after) next
     (record { reads = read_within (sum_below change hs face) (sum_below change hs face + face * w) (sum_below change hs (suc face)) (sum_below change hs (suc face) + suc face * w) before after (omega (arith, s)) (omega (arith, s, more)) r.reads })
 
-pub face_read : (change : List Entry) (hs : Collection) (w face before between after : ℕ) → has_entry_on change face ≡ true → AreReadBelow change hs w face before between → HasRead (length (held_on face hs)) (length (held_on face hs) + w) between after → AreReadBelow change hs w (face + 1) before after
+face_read : (change : List Entry) (hs : Collection) (w face before between after : ℕ) → has_entry_on change face ≡ true → AreReadBelow change hs w face before between → HasRead (length (held_on face hs)) (length (held_on face hs) + w) between after → AreReadBelow change hs w (face + 1) before after
 face_read change hs w face before between after some r own =
     let p = part_some change hs face some in
     let more = suc-mul face w in
@@ -127,7 +127,7 @@ all_read change hs w face before after last r =
     read_within (sum_below change hs 6) (sum_below change hs 6 + 6 * w) (changed_count change hs) (changed_count change hs + 6 * w) before after (omega (arith, all)) (omega (arith, all)) is.reads
 
 -- sums over fewer faces are no greater
-pub sum_rises : (change : List Entry) (hs : Collection) (m n : ℕ) → m ≤ n → sum_below change hs m ≤ sum_below change hs n
+sum_rises : (change : List Entry) (hs : Collection) (m n : ℕ) → m ≤ n → sum_below change hs m ≤ sum_below change hs n
 sum_rises change hs m zero le = let e : m ≡ 0 = omega arith in omega (arith, ap (λ (k : ℕ). sum_below change hs k) e)
 sum_rises change hs m (suc n) le =
     ⊎_elim
@@ -136,7 +136,7 @@ sum_rises change hs m (suc n) le =
     (cases_eq m (suc n))
 
 -- where a face's reading was refused
-pub refused_at : (change : List Entry) (hs : Collection) (w face before between after : ℕ) → face < 6 → has_entry_on change face ≡ true → AreReadBelow change hs w face before between → HasRead 0 (length (held_on face hs) + w) between after → HasRead 0 (changed_count change hs + 6 * w) before after
+refused_at : (change : List Entry) (hs : Collection) (w face before between after : ℕ) → face < 6 → has_entry_on change face ≡ true → AreReadBelow change hs w face before between → HasRead 0 (length (held_on face hs) + w) between after → HasRead 0 (changed_count change hs + 6 * w) before after
 refused_at change hs w face before between after within some r own =
     let p = part_some change hs face some in
     let all = all_summed change hs in
@@ -146,40 +146,40 @@ refused_at change hs w face before between after within some r own =
     let n : ℕ = length (held_on face hs) in
     read_within (sum_below change hs face + 0) (sum_below change hs face + face * w + (n + w)) 0 (changed_count change hs + 6 * w) before after (omega arith) (omega (arith, p, all, up, most, more)) (both_read (sum_below change hs face) (sum_below change hs face + face * w) 0 (n + w) before between after r.reads own)
 
--- ---- the lists of the faces before one
+-- ---- what is kept of each face, with that of the faces before one renewed
 
--- what is read of each face, up to one
-abbrev pub read_to : ℕ → (ℕ → Option Collection) → List (Option Collection)
-read_to n own = map (λ face. if nat_lt face n then own face else None) faces
+abbrev pub renewed : {A : Type 0} → ℕ → (ℕ → A) → (ℕ → A) → List A
+renewed n own old = map (λ face. if nat_lt face n then own face else old face) faces
 
-pub read_next : (n : ℕ) (own : ℕ → Option Collection) → n < 6 → set (read_to n own) n (own n) ≡ read_to (n + 1) own
-read_next zero own lt = refl
-read_next (suc zero) own lt = refl
-read_next (suc (suc zero)) own lt = refl
-read_next (suc (suc (suc zero))) own lt = refl
-read_next (suc (suc (suc (suc zero)))) own lt = refl
-read_next (suc (suc (suc (suc (suc zero))))) own lt = refl
-read_next (suc (suc (suc (suc (suc (suc n)))))) own lt = absurd (omega arith)
+renewed_next : {A : Type 0} (n : ℕ) (own old : ℕ → A) → n < 6 → set (renewed n own old) n (own n) ≡ renewed (n + 1) own old
+renewed_next zero own old lt = refl
+renewed_next (suc zero) own old lt = refl
+renewed_next (suc (suc zero)) own old lt = refl
+renewed_next (suc (suc (suc zero))) own old lt = refl
+renewed_next (suc (suc (suc (suc zero)))) own old lt = refl
+renewed_next (suc (suc (suc (suc (suc zero))))) own old lt = refl
+renewed_next (suc (suc (suc (suc (suc (suc n)))))) own old lt = absurd (omega arith)
 
-none_there : (n : ℕ) (own : ℕ → Option Collection) → n < 6 → set (read_to n own) n None ≡ read_to n own
-none_there zero own lt = refl
-none_there (suc zero) own lt = refl
-none_there (suc (suc zero)) own lt = refl
-none_there (suc (suc (suc zero))) own lt = refl
-none_there (suc (suc (suc (suc zero)))) own lt = refl
-none_there (suc (suc (suc (suc (suc zero))))) own lt = refl
-none_there (suc (suc (suc (suc (suc (suc n)))))) own lt = absurd (omega arith)
+old_there : {A : Type 0} (n : ℕ) (own old : ℕ → A) → n < 6 → set (renewed n own old) n (old n) ≡ renewed n own old
+old_there zero own old lt = refl
+old_there (suc zero) own old lt = refl
+old_there (suc (suc zero)) own old lt = refl
+old_there (suc (suc (suc zero))) own old lt = refl
+old_there (suc (suc (suc (suc zero)))) own old lt = refl
+old_there (suc (suc (suc (suc (suc zero))))) own old lt = refl
+old_there (suc (suc (suc (suc (suc (suc n)))))) own old lt = absurd (omega arith)
 
-pub none_next : (n : ℕ) (own : ℕ → Option Collection) → n < 6 → own n ≡ None → read_to n own ≡ read_to (n + 1) own
-none_next n own lt none = sym (none_there n own lt) ∙ ap (λ (x : Option Collection). set (read_to n own) n x) (sym none) ∙ read_next n own lt
+-- what is the same of one face more stays
+pub same_next : {A : Type 0} (n : ℕ) (own old : ℕ → A) → n < 6 → own n ≡ old n → renewed n own old ≡ renewed (n + 1) own old
+same_next {A} n own old lt same = sym (old_there n own old lt) ∙ ap (λ (x : A). set (renewed n own old) n x) (sym same) ∙ renewed_next n own old lt
 
-pub all_to : (n : ℕ) (own : ℕ → Option Collection) → n ≡ 6 → read_to n own ≡ map own faces
-all_to n own last = ap (λ (k : ℕ). read_to k own) last
+-- that of one face more is put into its place
+pub put_next : {A : Type 0} (n r : ℕ) (own old : ℕ → A) (xs : List A) (x : A) → n < 6 → r ≡ n → xs ≡ renewed n own old → x ≡ own n → set xs r x ≡ renewed (n + 1) own old
+put_next {A} n r own old xs x within here before is =
+    ap (λ (k : ℕ). set xs k x) here ∙ ap (λ (zs : List A). set zs n x) before ∙ ap (λ (z : A). set (renewed n own old) n z) is ∙ renewed_next n own old within
 
--- the list of one face more is put into its place
-pub put_next : (n r : ℕ) (own : ℕ → Option Collection) (xs : List (Option Collection)) (x : Option Collection) → n < 6 → r ≡ n → xs ≡ read_to n own → x ≡ own n → set xs r x ≡ read_to (n + 1) own
-put_next n r own xs x within here before is =
-    ap (λ (k : ℕ). set xs k x) here ∙ ap (λ (zs : List (Option Collection)). set zs n x) before ∙ ap (λ (z : Option Collection). set (read_to n own) n z) is ∙ read_next n own within
+pub all_renewed : {A : Type 0} (n : ℕ) (own old : ℕ → A) → n ≡ 6 → renewed n own old ≡ map own faces
+all_renewed n own old last = ap (λ (k : ℕ). renewed k own old) last
 
 pub some_on : (change : List Entry) (hs held : Collection) (face : ℕ) → has_entry_on change face ≡ true → held ≡ held_on face hs → Some held ≡ changed_on change hs face
 some_on change hs held face some is = ap (λ (x : Collection). Some x) is ∙ sym (cond-true _ _ _ some)

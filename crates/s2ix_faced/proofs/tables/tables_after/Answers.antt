@@ -1,133 +1,82 @@
-use Rattle.std.proofs.Common.{◌∙◌, List, Bool, false, get_or, refl, ap, arith}
+-- Face by face, each where the change has an entry on it.
+use Rattle.std.proofs.Common.{◌≡◌, ℕ, List, map, ◌<◌, true, false, refl, sym, ap, ◌∙◌, subst, arith}
+use Rattle.std.proofs.lemmas.List.{map-set}
+use Rattle.s2ix_pairs.specs.Collection.{Collection}
+use Rattle.s2ix_chain.specs.SpanTable.{SpanRanges}
+use Rattle.s2ix_joined.specs.Faces.{AreOverFaces}
+use Rattle.s2ix_joined.specs.Joined.{held_in}
 use Rattle.s2ix_reading.specs.Faces.{held_on}
 use Rattle.s2ix_reading.specs.Reading.{two_searches}
-use Rattle.s2ix_reading.proofs.ReadCounts.{read_within}
-use Rattle.s2ix_reading.proofs.Summing.{nothing_read, all_read}
-use Rattle.s2ix_faced.proofs.AllFaces.{six_parts}
-use Rattle.s2ix_faced.proofs.Taking.{read_step, refused_step}
+use Rattle.s2ix_reading.proofs.ReadCounts.{none_read, read_within}
+use Rattle.s2ix_reading.proofs.Summing.{face_was_read, face_was_left, face_was_refused, tested, put_next, same_next, all_renewed, nothing_read, all_read}
+use Rattle.s2ix_reading.proofs.Unchanged.{unchanged_stay}
+use Rattle.s2ix_faced.proofs.AllFaces.{all_parts, over_set}
 use Rattle.s2ix_faced.proofs.tables.tables_after.Goals as goal
+use Rattle.s2ix_faced.proofs.tables.tables_after.Goals.{then-changed-from+in_ok-after-2, else-changed-from}
+
+pub loop-face-init : goal.loop-face-init
+loop-face-init g c =
+    let hs = g.B.PairReader.shown c.args.reader.now in
+    (c.in_ok-after.ensures.pairs, nothing_read c.args.change.now hs (two_searches hs) _ _ refl, refl, c.in_ok-after.ensures.over)
+
+pub loop-face-preserved : goal.loop-face-preserved
+loop-face-preserved g c =
+    let change = c.args.change.now in
+    let hs = g.B.PairReader.shown c.args.reader.now in
+    let face : ℕ = c.loop-face.face in
+    let own : ℕ → Collection = λ f. held_on f hs in
+    let old : ℕ → Collection = λ f. held_on f (held_in c.args.tables.now) in
+    let held_of : List SpanRanges → List Collection = λ ts. map (λ t. t.held) ts in
+    let i = c.loop-face.invariant in
+    let test = c.loop-face-test.true in
+    let within : face < 6 = omega (arith, test) in
+    elim c.if-changed-from.branch [
+      | then-changed-from+in_ok-after-2 w ↦
+          (let on = tested change c.changed_faces-changed.result face c.from.result true c.changed_faces-changed.ensures c.from.ensures within w.if-changed-from.true in
+          let is : face ≡ w.from-then-changed-from.result = sym w.from-then-changed-from.ensures in
+          let r = w.in_ok-after-2.ensures in (
+            ap held_of w.after-is ∙ map-set _ _ _ _ ∙ put_next face w.from-then-changed-from.result own old _ _ within w.from-then-changed-from.ensures i.0 (r.pairs ∙ ap (λ (xs : Collection). held_on face xs) i.2),
+            face_was_read change hs _ face _ _ _ _ on i.2 (ap g.B.PairReader.spent w.reader-is) i.1 r.reads,
+            ap g.B.PairReader.shown w.reader-is ∙ r.same ∙ i.2,
+            subst (AreOverFaces 0) (sym w.after-is) (over_set 0 _ face _ _ (omega arith) i.3 r.over),
+          ))
+      | else-changed-from w ↦
+          (let none = tested change c.changed_faces-changed.result face c.from.result false c.changed_faces-changed.ensures c.from.ensures within w.if-changed-from.false in (
+            ap held_of w.after-is ∙ i.0 ∙ same_next face own old within (sym (ap (λ (xs : Collection). held_on face xs) c.requires.made) ∙ unchanged_stay (held_in c.args.tables.now) change face none),
+            face_was_left change hs face _ _ _ none (ap g.B.PairReader.spent w.reader-is) i.1,
+            ap g.B.PairReader.shown w.reader-is ∙ i.2,
+            subst (AreOverFaces 0) (sym w.after-is) i.3,
+          ))
+    ]
 
 pub returns-clause-tables : goal.returns-clause-tables
 returns-clause-tables g c =
     let hs = g.B.PairReader.shown c.args.reader.now in
     let is = (g.met.B.PairReader.is_read c.args.reader.now).is_collection in
-    let same_1 = c.in_ok-table_after.ensures.same in
-    let same_2 = c.in_ok-table_after-2.ensures.same ∙ same_1 in
-    let same_3 = c.in_ok-table_after-3.ensures.same ∙ same_2 in
-    let same_4 = c.in_ok-table_after-4.ensures.same ∙ same_3 in
-    let same_5 = c.in_ok-table_after-5.ensures.same ∙ same_4 in
-    record {
-      over = (c.in_ok-table_after.ensures.over, (c.in_ok-table_after-2.ensures.over, (c.in_ok-table_after-3.ensures.over, (c.in_ok-table_after-4.ensures.over, (c.in_ok-table_after-5.ensures.over, (c.in_ok-table_after-6.ensures.over, tt))))));
-      pairs = six_parts hs c.in_ok-table_after.field-0 c.in_ok-table_after-2.field-0 c.in_ok-table_after-3.field-0 c.in_ok-table_after-4.field-0 c.in_ok-table_after-5.field-0 c.in_ok-table_after-6.field-0 is c.in_ok-table_after.ensures.pairs
-          (c.in_ok-table_after-2.ensures.pairs ∙ ap (held_on 1) same_1)
-          (c.in_ok-table_after-3.ensures.pairs ∙ ap (held_on 2) same_2)
-          (c.in_ok-table_after-4.ensures.pairs ∙ ap (held_on 3) same_3)
-          (c.in_ok-table_after-5.ensures.pairs ∙ ap (held_on 4) same_4)
-          (c.in_ok-table_after-6.ensures.pairs ∙ ap (held_on 5) same_5);
-    }
+    let own : ℕ → Collection = λ f. held_on f hs in
+    let old : ℕ → Collection = λ f. held_on f (held_in c.args.tables.now) in
+    record { over = c.loop-face.invariant.3; pairs = all_parts hs _ is (c.loop-face.invariant.0 ∙ all_renewed c.loop-face.face own old (omega arith)) }
 
 pub returns-clause-reads : goal.returns-clause-reads
 returns-clause-reads g c =
     let hs = g.B.PairReader.shown c.args.reader.now in
-    let change = c.args.change.now in
-    let spent = g.B.PairReader.spent c.args.reader.now in
-    let same_1 = c.in_ok-table_after.ensures.same in
-    let same_2 = c.in_ok-table_after-2.ensures.same ∙ same_1 in
-    let same_3 = c.in_ok-table_after-3.ensures.same ∙ same_2 in
-    let same_4 = c.in_ok-table_after-4.ensures.same ∙ same_3 in
-    let same_5 = c.in_ok-table_after-5.ensures.same ∙ same_4 in
-    let read_0 = nothing_read change hs (two_searches hs) spent spent refl in
-    let read_1 = read_step change hs _ 0 _ spent _ _ (ap (λ (bs : List Bool). get_or bs 0 false) c.changed_faces-changed.ensures) refl c.in_ok-table_after.ensures.read c.in_ok-table_after.ensures.unread read_0 in
-    let read_2 = read_step change hs _ 1 _ spent _ _ (ap (λ (bs : List Bool). get_or bs 1 false) c.changed_faces-changed.ensures) same_1 c.in_ok-table_after-2.ensures.read c.in_ok-table_after-2.ensures.unread read_1 in
-    let read_3 = read_step change hs _ 2 _ spent _ _ (ap (λ (bs : List Bool). get_or bs 2 false) c.changed_faces-changed.ensures) same_2 c.in_ok-table_after-3.ensures.read c.in_ok-table_after-3.ensures.unread read_2 in
-    let read_4 = read_step change hs _ 3 _ spent _ _ (ap (λ (bs : List Bool). get_or bs 3 false) c.changed_faces-changed.ensures) same_3 c.in_ok-table_after-4.ensures.read c.in_ok-table_after-4.ensures.unread read_3 in
-    let read_5 = read_step change hs _ 4 _ spent _ _ (ap (λ (bs : List Bool). get_or bs 4 false) c.changed_faces-changed.ensures) same_4 c.in_ok-table_after-5.ensures.read c.in_ok-table_after-5.ensures.unread read_4 in
-    let read_6 = read_step change hs _ 5 _ spent _ _ (ap (λ (bs : List Bool). get_or bs 5 false) c.changed_faces-changed.ensures) same_5 c.in_ok-table_after-6.ensures.read c.in_ok-table_after-6.ensures.unread read_5 in
-    all_read change hs (two_searches hs) 6 spent _ refl read_6
-
--- where the table of a face was refused
-
-pub returns-in_err-table_after-clause-refused : goal.returns-in_err-table_after-clause-refused
-returns-in_err-table_after-clause-refused g c =
-    let hs = g.B.PairReader.shown c.args.reader.now in
-    let change = c.args.change.now in
-    let spent = g.B.PairReader.spent c.args.reader.now in
-    let read_0 = nothing_read change hs (two_searches hs) spent spent refl in
-    refused_step change hs _ 0 _ spent _ _ (omega arith) (ap (λ (bs : List Bool). get_or bs 0 false) c.changed_faces-changed.ensures) refl c.table_after.ensures.refused c.table_after.ensures.unread read_0
-
-pub returns-in_err-table_after-2-clause-refused : goal.returns-in_err-table_after-2-clause-refused
-returns-in_err-table_after-2-clause-refused g c =
-    let hs = g.B.PairReader.shown c.args.reader.now in
-    let change = c.args.change.now in
-    let spent = g.B.PairReader.spent c.args.reader.now in
-    let same_1 = c.in_ok-table_after.ensures.same in
-    let read_0 = nothing_read change hs (two_searches hs) spent spent refl in
-    let read_1 = read_step change hs _ 0 _ spent _ _ (ap (λ (bs : List Bool). get_or bs 0 false) c.changed_faces-changed.ensures) refl c.in_ok-table_after.ensures.read c.in_ok-table_after.ensures.unread read_0 in
-    refused_step change hs _ 1 _ spent _ _ (omega arith) (ap (λ (bs : List Bool). get_or bs 1 false) c.changed_faces-changed.ensures) same_1 c.table_after-2.ensures.refused c.table_after-2.ensures.unread read_1
-
-pub returns-in_err-table_after-3-clause-refused : goal.returns-in_err-table_after-3-clause-refused
-returns-in_err-table_after-3-clause-refused g c =
-    let hs = g.B.PairReader.shown c.args.reader.now in
-    let change = c.args.change.now in
-    let spent = g.B.PairReader.spent c.args.reader.now in
-    let same_1 = c.in_ok-table_after.ensures.same in
-    let same_2 = c.in_ok-table_after-2.ensures.same ∙ same_1 in
-    let read_0 = nothing_read change hs (two_searches hs) spent spent refl in
-    let read_1 = read_step change hs _ 0 _ spent _ _ (ap (λ (bs : List Bool). get_or bs 0 false) c.changed_faces-changed.ensures) refl c.in_ok-table_after.ensures.read c.in_ok-table_after.ensures.unread read_0 in
-    let read_2 = read_step change hs _ 1 _ spent _ _ (ap (λ (bs : List Bool). get_or bs 1 false) c.changed_faces-changed.ensures) same_1 c.in_ok-table_after-2.ensures.read c.in_ok-table_after-2.ensures.unread read_1 in
-    refused_step change hs _ 2 _ spent _ _ (omega arith) (ap (λ (bs : List Bool). get_or bs 2 false) c.changed_faces-changed.ensures) same_2 c.table_after-3.ensures.refused c.table_after-3.ensures.unread read_2
-
-pub returns-in_err-table_after-4-clause-refused : goal.returns-in_err-table_after-4-clause-refused
-returns-in_err-table_after-4-clause-refused g c =
-    let hs = g.B.PairReader.shown c.args.reader.now in
-    let change = c.args.change.now in
-    let spent = g.B.PairReader.spent c.args.reader.now in
-    let same_1 = c.in_ok-table_after.ensures.same in
-    let same_2 = c.in_ok-table_after-2.ensures.same ∙ same_1 in
-    let same_3 = c.in_ok-table_after-3.ensures.same ∙ same_2 in
-    let read_0 = nothing_read change hs (two_searches hs) spent spent refl in
-    let read_1 = read_step change hs _ 0 _ spent _ _ (ap (λ (bs : List Bool). get_or bs 0 false) c.changed_faces-changed.ensures) refl c.in_ok-table_after.ensures.read c.in_ok-table_after.ensures.unread read_0 in
-    let read_2 = read_step change hs _ 1 _ spent _ _ (ap (λ (bs : List Bool). get_or bs 1 false) c.changed_faces-changed.ensures) same_1 c.in_ok-table_after-2.ensures.read c.in_ok-table_after-2.ensures.unread read_1 in
-    let read_3 = read_step change hs _ 2 _ spent _ _ (ap (λ (bs : List Bool). get_or bs 2 false) c.changed_faces-changed.ensures) same_2 c.in_ok-table_after-3.ensures.read c.in_ok-table_after-3.ensures.unread read_2 in
-    refused_step change hs _ 3 _ spent _ _ (omega arith) (ap (λ (bs : List Bool). get_or bs 3 false) c.changed_faces-changed.ensures) same_3 c.table_after-4.ensures.refused c.table_after-4.ensures.unread read_3
-
-pub returns-in_err-table_after-5-clause-refused : goal.returns-in_err-table_after-5-clause-refused
-returns-in_err-table_after-5-clause-refused g c =
-    let hs = g.B.PairReader.shown c.args.reader.now in
-    let change = c.args.change.now in
-    let spent = g.B.PairReader.spent c.args.reader.now in
-    let same_1 = c.in_ok-table_after.ensures.same in
-    let same_2 = c.in_ok-table_after-2.ensures.same ∙ same_1 in
-    let same_3 = c.in_ok-table_after-3.ensures.same ∙ same_2 in
-    let same_4 = c.in_ok-table_after-4.ensures.same ∙ same_3 in
-    let read_0 = nothing_read change hs (two_searches hs) spent spent refl in
-    let read_1 = read_step change hs _ 0 _ spent _ _ (ap (λ (bs : List Bool). get_or bs 0 false) c.changed_faces-changed.ensures) refl c.in_ok-table_after.ensures.read c.in_ok-table_after.ensures.unread read_0 in
-    let read_2 = read_step change hs _ 1 _ spent _ _ (ap (λ (bs : List Bool). get_or bs 1 false) c.changed_faces-changed.ensures) same_1 c.in_ok-table_after-2.ensures.read c.in_ok-table_after-2.ensures.unread read_1 in
-    let read_3 = read_step change hs _ 2 _ spent _ _ (ap (λ (bs : List Bool). get_or bs 2 false) c.changed_faces-changed.ensures) same_2 c.in_ok-table_after-3.ensures.read c.in_ok-table_after-3.ensures.unread read_2 in
-    let read_4 = read_step change hs _ 3 _ spent _ _ (ap (λ (bs : List Bool). get_or bs 3 false) c.changed_faces-changed.ensures) same_3 c.in_ok-table_after-4.ensures.read c.in_ok-table_after-4.ensures.unread read_3 in
-    refused_step change hs _ 4 _ spent _ _ (omega arith) (ap (λ (bs : List Bool). get_or bs 4 false) c.changed_faces-changed.ensures) same_4 c.table_after-5.ensures.refused c.table_after-5.ensures.unread read_4
-
-pub returns-in_err-table_after-6-clause-refused : goal.returns-in_err-table_after-6-clause-refused
-returns-in_err-table_after-6-clause-refused g c =
-    let hs = g.B.PairReader.shown c.args.reader.now in
-    let change = c.args.change.now in
-    let spent = g.B.PairReader.spent c.args.reader.now in
-    let same_1 = c.in_ok-table_after.ensures.same in
-    let same_2 = c.in_ok-table_after-2.ensures.same ∙ same_1 in
-    let same_3 = c.in_ok-table_after-3.ensures.same ∙ same_2 in
-    let same_4 = c.in_ok-table_after-4.ensures.same ∙ same_3 in
-    let same_5 = c.in_ok-table_after-5.ensures.same ∙ same_4 in
-    let read_0 = nothing_read change hs (two_searches hs) spent spent refl in
-    let read_1 = read_step change hs _ 0 _ spent _ _ (ap (λ (bs : List Bool). get_or bs 0 false) c.changed_faces-changed.ensures) refl c.in_ok-table_after.ensures.read c.in_ok-table_after.ensures.unread read_0 in
-    let read_2 = read_step change hs _ 1 _ spent _ _ (ap (λ (bs : List Bool). get_or bs 1 false) c.changed_faces-changed.ensures) same_1 c.in_ok-table_after-2.ensures.read c.in_ok-table_after-2.ensures.unread read_1 in
-    let read_3 = read_step change hs _ 2 _ spent _ _ (ap (λ (bs : List Bool). get_or bs 2 false) c.changed_faces-changed.ensures) same_2 c.in_ok-table_after-3.ensures.read c.in_ok-table_after-3.ensures.unread read_2 in
-    let read_4 = read_step change hs _ 3 _ spent _ _ (ap (λ (bs : List Bool). get_or bs 3 false) c.changed_faces-changed.ensures) same_3 c.in_ok-table_after-4.ensures.read c.in_ok-table_after-4.ensures.unread read_3 in
-    let read_5 = read_step change hs _ 4 _ spent _ _ (ap (λ (bs : List Bool). get_or bs 4 false) c.changed_faces-changed.ensures) same_4 c.in_ok-table_after-5.ensures.read c.in_ok-table_after-5.ensures.unread read_4 in
-    refused_step change hs _ 5 _ spent _ _ (omega arith) (ap (λ (bs : List Bool). get_or bs 5 false) c.changed_faces-changed.ensures) same_5 c.table_after-6.ensures.refused c.table_after-6.ensures.unread read_5
+    all_read c.args.change.now hs (two_searches hs) c.loop-face.face _ _ (omega arith) c.loop-face.invariant.1
 
 pub returns-clause-refused : goal.returns-clause-refused
 returns-clause-refused g c =
     let hs = g.B.PairReader.shown c.args.reader.now in
+    read_within _ _ 0 _ _ _ (omega arith) (omega arith) (all_read c.args.change.now hs (two_searches hs) c.loop-face.face _ _ (omega arith) c.loop-face.invariant.1)
+
+pub returns-in_err-after-2-clause-refused : goal.returns-in_err-after-2-clause-refused
+returns-in_err-after-2-clause-refused g c =
     let change = c.args.change.now in
-    let spent = g.B.PairReader.spent c.args.reader.now in
-    read_within _ _ 0 _ _ _ (omega arith) (omega arith) (returns-clause-reads g c)
+    let hs = g.B.PairReader.shown c.args.reader.now in
+    let face : ℕ = c.loop-face.face in
+    let test = c.loop-face-test.true in
+    let within : face < 6 = omega (arith, test) in
+    let i = c.loop-face.invariant in
+    let on = tested change c.changed_faces-changed.result face c.from.result true c.changed_faces-changed.ensures c.from.ensures within c.if-changed-from.true in
+    face_was_refused change hs _ face _ _ _ within on i.2 i.1 c.read_table.ensures.refused
+
+pub returns-in_err-after-clause-refused : goal.returns-in_err-after-clause-refused
+returns-in_err-after-clause-refused g c = read_within 0 0 0 _ _ _ (omega arith) (omega arith) (none_read _ _ refl)

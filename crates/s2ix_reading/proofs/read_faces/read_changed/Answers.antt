@@ -1,12 +1,12 @@
 -- Face by face, each where the change has an entry on it.
-use Rattle.std.proofs.Common.{ℕ, Vec, Global, Option, List, map, option_map, ◌<◌, true, false, refl, ap, ◌∙◌, arith}
+use Rattle.std.proofs.Common.{ℕ, Vec, Global, Option, None, List, map, option_map, ◌<◌, true, false, refl, ap, ◌∙◌, arith}
 use Rattle.std.proofs.lemmas.List.{map-set}
 use Rattle.s2ix_lists.specs.declared.flat.FlatHeld.{FlatHeld}
 use Rattle.s2ix_pairs.specs.Collection.{Collection}
 use Rattle.s2ix_reading.specs.Faces.{held_on, changed_on}
 use Rattle.s2ix_reading.specs.Reading.{two_searches}
 use Rattle.s2ix_reading.proofs.ReadCounts.{read_within}
-use Rattle.s2ix_reading.proofs.Summing.{face_was_read, face_was_left, face_was_refused, tested, put_next, some_on, none_on_face, nothing_read, all_read, none_next, all_to}
+use Rattle.s2ix_reading.proofs.Summing.{face_was_read, face_was_left, face_was_refused, tested, put_next, same_next, all_renewed, some_on, none_on_face, nothing_read, all_read}
 use Rattle.s2ix_reading.proofs.read_faces.read_changed.Goals as goal
 use Rattle.s2ix_reading.proofs.read_faces.read_changed.Goals.{then-changed-from+in_ok-read_face+in-Some-1, then-changed-from+in_ok-read_face+in-None-1, else-changed-from}
 
@@ -18,7 +18,7 @@ loop-face-init g c =
 pub returns-clause-pairs : goal.returns-clause-pairs
 returns-clause-pairs g c =
     let hs = g.B.PairReader.shown c.args.reader.now in
-    c.loop-face.invariant.0 ∙ all_to c.loop-face.face (changed_on c.args.change.now hs) (omega arith)
+    c.loop-face.invariant.0 ∙ all_renewed c.loop-face.face (changed_on c.args.change.now hs) (λ f. None) (omega arith)
 
 pub returns-clause-reads : goal.returns-clause-reads
 returns-clause-reads g c =
@@ -46,6 +46,7 @@ loop-face-preserved g c =
     let hs = g.B.PairReader.shown c.args.reader.now in
     let face : ℕ = c.loop-face.face in
     let own = changed_on change hs in
+    let none_yet : ℕ → Option Collection = λ f. None in
     let i = c.loop-face.invariant in
     let within : face < 6 = c.loop-face-test.true in
     elim c.if-changed-from.branch [
@@ -53,7 +54,7 @@ loop-face-preserved g c =
           (let on = tested change c.changed_faces-changed.result face c.from.result true c.changed_faces-changed.ensures c.from.ensures within w.if-changed-from.true in
           let r = w.in_ok-read_face.ensures in
           let made = r.pairs ∙ ap (λ (xs : Collection). held_on face xs) i.2 in (
-            ap (λ (xs : List (Option (Vec FlatHeld Global))). map (option_map (λ (held : Vec FlatHeld Global). held.items)) xs) w.read-is ∙ map-set _ _ _ _ ∙ put_next face w.from-then-changed-from.result own _ _ within w.from-then-changed-from.ensures i.0 (some_on change hs _ face on made),
+            ap (λ (xs : List (Option (Vec FlatHeld Global))). map (option_map (λ (held : Vec FlatHeld Global). held.items)) xs) w.read-is ∙ map-set _ _ _ _ ∙ put_next face w.from-then-changed-from.result own none_yet _ _ within w.from-then-changed-from.ensures i.0 (some_on change hs _ face on made),
             face_was_read change hs _ face _ _ _ _ on i.2 (ap g.B.PairReader.spent w.reader-is) i.1 r.reads,
             ap g.B.PairReader.shown w.reader-is ∙ r.same ∙ i.2,
           ))
@@ -61,13 +62,13 @@ loop-face-preserved g c =
           (let on = tested change c.changed_faces-changed.result face c.from.result true c.changed_faces-changed.ensures c.from.ensures within w.if-changed-from.true in
           let r = w.in_ok-read_face.ensures in
           let made = r.pairs ∙ ap (λ (xs : Collection). held_on face xs) i.2 in (
-            ap (λ (xs : List (Option (Vec FlatHeld Global))). map (option_map (λ (held : Vec FlatHeld Global). held.items)) xs) w.read-is ∙ map-set _ _ _ _ ∙ put_next face w.from-then-changed-from.result own _ _ within w.from-then-changed-from.ensures i.0 (some_on change hs _ face on made),
+            ap (λ (xs : List (Option (Vec FlatHeld Global))). map (option_map (λ (held : Vec FlatHeld Global). held.items)) xs) w.read-is ∙ map-set _ _ _ _ ∙ put_next face w.from-then-changed-from.result own none_yet _ _ within w.from-then-changed-from.ensures i.0 (some_on change hs _ face on made),
             face_was_read change hs _ face _ _ _ _ on i.2 (ap g.B.PairReader.spent w.reader-is) i.1 r.reads,
             ap g.B.PairReader.shown w.reader-is ∙ r.same ∙ i.2,
           ))
       | else-changed-from w ↦
           (let none = tested change c.changed_faces-changed.result face c.from.result false c.changed_faces-changed.ensures c.from.ensures within w.if-changed-from.false in (
-            ap (λ (xs : List (Option (Vec FlatHeld Global))). map (option_map (λ (held : Vec FlatHeld Global). held.items)) xs) w.read-is ∙ i.0 ∙ none_next face own within (none_on_face change hs face none),
+            ap (λ (xs : List (Option (Vec FlatHeld Global))). map (option_map (λ (held : Vec FlatHeld Global). held.items)) xs) w.read-is ∙ i.0 ∙ same_next face own none_yet within (none_on_face change hs face none),
             face_was_left change hs face _ _ _ none (ap g.B.PairReader.spent w.reader-is) i.1,
             ap g.B.PairReader.shown w.reader-is ∙ i.2,
           ))

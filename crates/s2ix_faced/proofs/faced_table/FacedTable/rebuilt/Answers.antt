@@ -5,7 +5,6 @@ use Rattle.s2ix_joined.specs.Joined.{held_in, joined_ranges}
 use Rattle.s2ix_reading.specs.Faces.{changed_count}
 use Rattle.s2ix_reading.specs.Reading.{HasRead, AreChangedRead, two_searches}
 use Rattle.s2ix_reading.proofs.ReadCounts.{few_reads}
-use Rattle.s2ix_faced.proofs.Taking.{few_at_most}
 use Rattle.s2ix_faced.proofs.faced_table.FacedTable.rebuilt.Goals as goal
 
 pub invariant_of-result : goal.invariant_of-result
@@ -30,18 +29,18 @@ returns-clause-reads_all g c =
     let hs = g.B.PairReader.shown c.args.bag.now in
     let is = g.met.B.PairReader.is_read c.args.bag.now in
     let after = g.B.PairReader.spent c.tables_after.new.reader in
-    (few_reads c.args.change.now hs after is (subst (λ n. AreChangedRead c.args.change.now hs n after) c.requires.unread c.in_ok-tables.ensures.reads)).0
+    (few_reads c.args.change.now hs (changed_count c.args.change.now hs) after is (subst (λ n. AreChangedRead c.args.change.now hs n after) c.requires.unread c.in_ok-tables.ensures.reads)).0
 
 pub returns-clause-reads_few : goal.returns-clause-reads_few
 returns-clause-reads_few g c =
     let hs = g.B.PairReader.shown c.args.bag.now in
     let is = g.met.B.PairReader.is_read c.args.bag.now in
     let after = g.B.PairReader.spent c.tables_after.new.reader in
-    few_at_most c.args.change.now hs after is (subst (λ n. HasRead 0 (changed_count c.args.change.now hs + 6 * two_searches hs) n after) c.requires.unread c.tables_after.ensures.refused)
+    (few_reads c.args.change.now hs 0 after is (subst (λ n. HasRead 0 (changed_count c.args.change.now hs + 6 * two_searches hs) n after) c.requires.unread c.tables_after.ensures.refused)).1
 
 pub returns-in_err-tables-clause-reads_few : goal.returns-in_err-tables-clause-reads_few
 returns-in_err-tables-clause-reads_few g c =
     let hs = g.B.PairReader.shown c.args.bag.now in
     let is = g.met.B.PairReader.is_read c.args.bag.now in
     let after = g.B.PairReader.spent c.tables_after.new.reader in
-    few_at_most c.args.change.now hs after is (subst (λ n. HasRead 0 (changed_count c.args.change.now hs + 6 * two_searches hs) n after) c.requires.unread c.tables_after.ensures.refused)
+    (few_reads c.args.change.now hs 0 after is (subst (λ n. HasRead 0 (changed_count c.args.change.now hs + 6 * two_searches hs) n after) c.requires.unread c.tables_after.ensures.refused)).1
