@@ -81,7 +81,6 @@ topped top pass = record { outer = pass.outer; starts = pass.starts; firsts = pa
 -- a turn of the inner loop
 pub record IsTakenOff (held : Collection) (order : List ℕ) (from to k depth bound next : ℕ) (lasts : List ℕ) (old mid : Pass) : Type 0 where
   pub by : mid.at ≤ bound
-  pub some : 0 < depth
   pub way : IsOnWay held order from to k (depth - 1) lasts (topped next mid)
   pub fewer : length (chain_of held next) < length (chain_of held old.top)
 
@@ -121,7 +120,6 @@ taken_off held order from to k depth bound next lasts old mid o span way is_boun
           let shallow = way.shallow in
           record {
             by = omega arith;
-            some = omega arith;
             way = record {
               within = way.within;
               shallow = omega arith;
