@@ -8,5 +8,6 @@ pub mod Tables
 pub mod Numbers
 pub mod Making
 pub mod Windows
+pub mod Lasts
 pub mod Turning
 pub mod OnePlace

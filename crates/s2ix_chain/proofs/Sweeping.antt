@@ -15,11 +15,12 @@ use Rattle.s2ix_chain.specs.Order.{sweep_key, first_at, IsSweepOrder}
 use Rattle.s2ix_chain.specs.Pass.{Progress}
 use Rattle.s2ix_chain.specs.Starts.{ranges_from}
 use Rattle.s2ix_chain.specs.SpanTable.{IsInSpan}
-use Rattle.s2ix_chain.specs.Sweep.{start_at, EndsBehind}
+use Rattle.s2ix_chain.specs.Sweep.{start_at}
 use Rattle.s2ix_chain.proofs.Chains.{on_at, none_on, outward-true, outward_ends, chain_none}
 use Rattle.s2ix_chain.proofs.Keys.{first_by_key, key_some}
 use Rattle.s2ix_chain.proofs.Orders.{at_is, key_is, reached, to_come}
 use Rattle.s2ix_chain.proofs.Passing.{IsPassing, CanReach, contains_at}
+use Rattle.s2ix_chain.proofs.Lasts.{EndsBehind}
 
 -- what stands before a sweep
 pub fresh_passes : (held : Collection) (from to : ℕ) (outer : List ℕ) (s : Progress) → IsInSpan held from to → s.at ≡ from → s.count ≡ 0 → s.top ≡ length held → s.starts ≡ [] → s.firsts ≡ [] → IsPassing held from to 0 0 outer s

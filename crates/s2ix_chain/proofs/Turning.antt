@@ -1,8 +1,9 @@
 -- The turns of a sweep.
-use Rattle.std.proofs.Common.{◌≡◌, ℕ, ◌+◌, ◌*◌, ◌<◌, ◌≤◌, inl, inr, true, Some, List, [], length, get_or, take, slice_get, set, sym, ◌∙◌, ap, arith, Contains, subst}
+use Rattle.std.proofs.Common.{◌≡◌, ℕ, ◌+◌, ◌-◌, ◌*◌, ◌<◌, ◌≤◌, inl, inr, true, Some, List, [], ◌∷◌, length, get_or, take, slice_get, set, sym, ◌∙◌, ap, arith, Contains, subst}
 use Rattle.std.proofs.lemmas.Option.{get_or_from_slice_get, slice_get-get_or, slice_get_within, slice_get_cases, slice_get_past}
 use Rattle.std.proofs.lemmas.Bool.{cases_lt}
-use Rattle.std.proofs.lemmas.List.{length-set}
+use Rattle.std.proofs.lemmas.List.{length-set, get_or-set_same}
+use Rattle.s2id_core.specs.CellId.{end_of}
 use Rattle.s2ix_pairs.specs.Collection.{Collection, IsCollection}
 use Rattle.s2ix_ranges.proofs.Tables.{IsTable, places_from_table}
 use Rattle.s2ix_chain.specs.declared.pass.Pass.{Pass}
@@ -11,14 +12,18 @@ use Rattle.s2ix_chain.specs.Order.{sweep_key, IsSweepOrder}
 use Rattle.s2ix_chain.specs.Pass.{Progress, progress_of, written, IsWritten}
 use Rattle.s2ix_chain.specs.Starts.{ranges_from}
 use Rattle.s2ix_chain.specs.SpanTable.{IsInSpan}
-use Rattle.s2ix_chain.specs.Sweep.{IsFresh, IsSwept, start_at, IsEndBy, EndsBehind}
-use Rattle.s2ix_chain.proofs.Orders.{reached, reached_next, reached_less, to_come, key_is}
+use Rattle.s2ix_chain.specs.Sweep.{IsFresh, IsSwept, AreLasts, start_at, last_at}
+use Rattle.s2ix_chain.proofs.Chains.{chain_none}
+use Rattle.s2ix_chain.proofs.Orders.{reached, reached_next, reached_less, to_come, at_is, key_is}
 use Rattle.s2ix_chain.proofs.Passing.{IsPassing, CanReach, written_passes, written_at, written_top, with_top, popped, popped_chain, can_pop, put_on, contains_at}
+use Rattle.s2ix_chain.proofs.Lasts.{IsEndBy, EndsBehind, chain_head, last_below, last_behind, lasts_popped, lasts_put}
 use Rattle.s2ix_chain.proofs.Sweeping.{fresh_passes, IsNext, next_is, start_is, start_end, can_reach, ends_behind}
 
 -- the first k cells of the order have begun
-pub record IsOnWay (held : Collection) (order : List ℕ) (from to k : ℕ) (pass : Pass) : Type 0 where
+pub record IsOnWay (held : Collection) (order : List ℕ) (from to k depth : ℕ) (lasts : List ℕ) (pass : Pass) : Type 0 where
   pub within : k ≤ length order
+  pub shallow : depth ≤ k
+  pub lasts_are : AreLasts held (chain_of held pass.top) depth lasts
   pub passes : IsPassing held from to (reached held order k) (2 * k) pass.outer.items (progress_of pass)
   pub size : length pass.outer.items ≡ length held
   pub starts_room : length pass.starts.items ≡ 2 * length held + 1
@@ -31,7 +36,7 @@ way_written : (held : Collection) (from to last room bound : ℕ) (old mid : Pas
 way_written held from to last room bound old mid passes reach w =
     subst (IsPassing held from to last (room + 1) mid.outer.items) (sym w.progress) (subst (λ os. IsPassing held from to last (room + 1) os (written bound (progress_of old))) (sym w.outer) (written_passes held from to last room old.outer.items (progress_of old) bound passes reach))
 
-top_written : (bound : ℕ) (old mid : Pass) → IsWritten bound old mid → mid.top ≡ old.top
+pub top_written : (bound : ℕ) (old mid : Pass) → IsWritten bound old mid → mid.top ≡ old.top
 top_written bound old mid w = ap (λ (p : Progress). p.top) w.progress ∙ written_top bound (progress_of old)
 
 at_written : (bound : ℕ) (old mid : Pass) → old.at ≤ bound → IsWritten bound old mid → mid.at ≡ bound
@@ -39,9 +44,11 @@ at_written bound old mid le w = ap (λ (p : Progress). p.at) w.progress ∙ writ
 
 -- ---- before the first turn
 
-pub way_begins : (held : Collection) (order : List ℕ) (from to : ℕ) (pass : Pass) → IsInSpan held from to → pass.at ≡ from → IsFresh held pass → IsOnWay held order from to 0 pass
-way_begins held order from to pass span at fresh = record {
+pub way_begins : (held : Collection) (order : List ℕ) (from to : ℕ) (lasts : List ℕ) (pass : Pass) → IsInSpan held from to → pass.at ≡ from → IsFresh held pass → AreLasts held [] 0 lasts → IsOnWay held order from to 0 0 lasts pass
+way_begins held order from to lasts pass span at fresh l = record {
   within = omega arith;
+  shallow = omega arith;
+  lasts_are = subst (λ cs. AreLasts held cs 0 lasts) (sym (chain_none held pass.top (slice_get_past held pass.top (let top = fresh.top in omega arith)))) l;
   passes = fresh_passes held from to pass.outer.items (progress_of pass) span at fresh.count fresh.top (none pass.starts.items) (none pass.firsts.items);
   size = fresh.outer;
   starts_room = fresh.starts;
@@ -51,8 +58,8 @@ way_begins held order from to pass span at fresh = record {
     none : (xs : List ℕ) → take pass.count xs ≡ []
     none xs = ap (λ n. take n xs) fresh.count
 
-pub way_next : (held : Collection) (order : List ℕ) (from to k : ℕ) (pass : Pass) → IsSweepOrder held order → IsInSpan held from to → IsOnWay held order from to k pass → pass.at ≤ start_at held order to k
-way_next held order from to k pass o span way =
+pub way_next : (held : Collection) (order : List ℕ) (from to k depth : ℕ) (lasts : List ℕ) (pass : Pass) → IsSweepOrder held order → IsInSpan held from to → IsOnWay held order from to k depth lasts pass → pass.at ≤ start_at held order to k
+way_next held order from to k depth lasts pass o span way =
     let within = way.passes.within in
     elim ((slice_get_cases order k).1) [
       | inr past ↦ (let e = start_end held order to k past.1 in omega arith)
@@ -72,13 +79,20 @@ abbrev pub topped : ℕ → Pass → Pass
 topped top pass = record { outer = pass.outer; starts = pass.starts; firsts = pass.firsts; count = pass.count; at = pass.at; top = top }
 
 -- a turn of the inner loop
-pub record IsTakenOff (held : Collection) (order : List ℕ) (from to k bound next : ℕ) (old mid : Pass) : Type 0 where
+pub record IsTakenOff (held : Collection) (order : List ℕ) (from to k depth bound next : ℕ) (lasts : List ℕ) (old mid : Pass) : Type 0 where
   pub by : mid.at ≤ bound
-  pub way : IsOnWay held order from to k (topped next mid)
+  pub way : IsOnWay held order from to k (depth - 1) lasts (topped next mid)
   pub fewer : length (chain_of held next) < length (chain_of held old.top)
 
-pub taken_off : (held : Collection) (order : List ℕ) (from to k bound end next : ℕ) (old mid : Pass) → IsSweepOrder held order → IsInSpan held from to → IsOnWay held order from to k old → bound ≡ start_at held order to k → IsEndBy held old.top bound end → IsWritten end old mid → next ≡ get_or mid.outer.items mid.top next → IsTakenOff held order from to k bound next old mid
-taken_off held order from to k bound end next old mid o span way is_bound by w leads =
+-- where the last number of the innermost cell is below the bound, that cell ends by it
+pub ends_by : (held : Collection) (order : List ℕ) (from to k depth bound : ℕ) (lasts : List ℕ) (pass : Pass) → IsOnWay held order from to k depth lasts pass → bound ≤ 18446744073709551615 → get_or lasts depth 0 < bound → IsEndBy held pass.top bound (get_or lasts depth 0 + 1)
+ends_by held order from to k depth bound lasts pass way fits below =
+    last_below held from to (reached held order k) (2 * k) bound depth pass.outer.items lasts (progress_of pass) way.passes way.size way.lasts_are fits below
+
+pub taken_off : (held : Collection) (order : List ℕ) (from to k depth bound next : ℕ) (lasts : List ℕ) (old mid : Pass) → IsSweepOrder held order → IsInSpan held from to → IsOnWay held order from to k depth lasts old → bound ≡ start_at held order to k → bound ≤ 18446744073709551615 → get_or lasts depth 0 < bound → IsWritten (get_or lasts depth 0 + 1) old mid → next ≡ get_or mid.outer.items mid.top next → IsTakenOff held order from to k depth bound next lasts old mid
+taken_off held order from to k depth bound next lasts old mid o span way is_bound fits below w leads =
+    let end = get_or lasts depth 0 + 1 in
+    let by = ends_by held order from to k depth bound lasts old way fits below in
     elim ((slice_get_cases held old.top).1) [
       | inr past ↦ absurd (let lt = by.within in let ge = past.0 in omega arith)
       | inl (x, lt, at, got) ↦
@@ -99,11 +113,17 @@ taken_off held order from to k bound end next old mid o span way is_bound by w l
           let led : slice_get mid.outer.items mid.top ≡ Some next = slice_get-get_or mid.outer.items mid.top next short ∙ ap (λ n. Some n) (sym leads) in
           let chain = popped_chain held from to last (2 * k + 1) mid.outer.items (progress_of mid) x next passes at_mid led i in
           let len = ap length chain in
-          let same = ap (λ n. length (chain_of held n)) top in
+          let same = ap (chain_of held) top in
+          let same_len = ap length same in
+          let l = subst (λ cs. AreLasts held cs depth lasts) (sym same ∙ chain) way.lasts_are in
+          let deep = l.depth_is in
+          let shallow = way.shallow in
           record {
             by = omega arith;
             way = record {
               within = way.within;
+              shallow = omega arith;
+              lasts_are = lasts_popped held (chain_of held next) x depth lasts l;
               passes = popped held from to last (2 * k) mid.outer.items (progress_of mid) x next passes at_mid led i (at_end ∙ sym ends);
               size = ap (λ (os : List ℕ). length os) w.outer ∙ way.size;
               starts_room = w.starts_room ∙ way.starts_room;
@@ -115,16 +135,22 @@ taken_off held order from to k bound end next old mid o span way is_bound by w l
 
 -- ---- a cell is put on
 
-pub way_reaches : (held : Collection) (order : List ℕ) (from to k bound : ℕ) (old mid : Pass) → IsSweepOrder held order → IsInSpan held from to → IsOnWay held order from to k old → bound ≡ start_at held order to k → old.at ≤ bound → EndsBehind held old.top bound → IsWritten bound old mid → IsPassing held from to (reached held order k) (2 * k + 1) mid.outer.items (progress_of mid)
-way_reaches held order from to k bound old mid o span way is_bound ahead behind w =
+-- where it is not, that cell ends behind the bound
+ends_after : (held : Collection) (order : List ℕ) (from to k depth bound : ℕ) (lasts : List ℕ) (pass : Pass) → IsOnWay held order from to k depth lasts pass → bound ≤ get_or lasts depth 0 → EndsBehind held pass.top bound
+ends_after held order from to k depth bound lasts pass way above =
+    last_behind held from to (reached held order k) (2 * k) bound depth pass.outer.items lasts (progress_of pass) way.passes way.size way.lasts_are above
+
+way_reaches : (held : Collection) (order : List ℕ) (from to k depth bound : ℕ) (lasts : List ℕ) (old mid : Pass) → IsSweepOrder held order → IsInSpan held from to → IsOnWay held order from to k depth lasts old → bound ≡ start_at held order to k → old.at ≤ bound → EndsBehind held old.top bound → IsWritten bound old mid → IsPassing held from to (reached held order k) (2 * k + 1) mid.outer.items (progress_of mid)
+way_reaches held order from to k depth bound lasts old mid o span way is_bound ahead behind w =
     let last = reached held order k in
     let next = subst (IsNext held to last) (sym is_bound) (next_is held order from to k o span way.within) in
     way_written held from to last (2 * k) bound old mid way.passes (can_reach held from to last (2 * k) bound old.outer.items (progress_of old) way.passes next ahead behind) w
 
-pub put_next : (held : Collection) (order : List ℕ) (from to k bound place : ℕ) (old mid : Pass) → IsCollection held → IsSweepOrder held order → IsInSpan held from to → IsOnWay held order from to k old → bound ≡ start_at held order to k → old.at ≤ bound → EndsBehind held old.top bound → IsWritten bound old mid → slice_get order k ≡ Some place → (new : Pass) → new.outer.items ≡ set mid.outer.items place mid.top → new.starts.items ≡ mid.starts.items → new.firsts.items ≡ mid.firsts.items → progress_of new ≡ with_top place (progress_of mid) → IsOnWay held order from to (k + 1) new
-put_next held order from to k bound place old mid c o span way is_bound ahead behind w is new outers starts firsts progress =
+pub put_next : (held : Collection) (order : List ℕ) (from to k depth bound place number : ℕ) (lasts : List ℕ) (old mid : Pass) → IsCollection held → IsSweepOrder held order → IsInSpan held from to → IsOnWay held order from to k depth lasts old → bound ≡ start_at held order to k → old.at ≤ bound → bound ≤ get_or lasts depth 0 → IsWritten bound old mid → slice_get order k ≡ Some place → number ≡ last_at held place → (new : Pass) → new.outer.items ≡ set mid.outer.items place mid.top → new.starts.items ≡ mid.starts.items → new.firsts.items ≡ mid.firsts.items → progress_of new ≡ with_top place (progress_of mid) → IsOnWay held order from to (k + 1) (depth + 1) (set lasts (depth + 1) number) new
+put_next held order from to k depth bound place number lasts old mid c o span way is_bound ahead above w is is_number new outers starts firsts progress =
     let last = reached held order k in
-    let passes = way_reaches held order from to k bound old mid o span way is_bound ahead behind w in
+    let behind = ends_after held order from to k depth bound lasts old way above in
+    let passes = way_reaches held order from to k depth bound lasts old mid o span way is_bound ahead behind w in
     let top = top_written bound old mid w in
     let at_bound = at_written bound old mid ahead w in
     let within = slice_get_within order k place is in
@@ -144,10 +170,20 @@ put_next held order from to k bound place old mid c o span way is_bound ahead be
           let step1 = subst (λ l. IsPassing held from to l (2 * k + 1 + 1) (set mid.outer.items place mid.top) (with_top place (progress_of mid))) key put in
           let step2 = subst (λ r. IsPassing held from to (reached held order (k + 1)) r (set mid.outer.items place mid.top) (with_top place (progress_of mid))) rooms step1 in
           let step3 = subst (λ os. IsPassing held from to (reached held order (k + 1)) (2 * (k + 1)) os (with_top place (progress_of mid))) (sym outers) step2 in
+          let now_passes = subst (IsPassing held from to (reached held order (k + 1)) (2 * (k + 1)) new.outer.items) (sym progress) step3 in
+          let now_size = ap (λ (os : List ℕ). length os) outers ∙ length-set mid.outer.items place mid.top ∙ size in
+          let now_top : new.top ≡ place = ap (λ (s : Progress). s.top) progress in
+          let head = chain_head held from to (reached held order (k + 1)) (2 * (k + 1)) new.outer.items (progress_of new) x now_passes now_size (ap (slice_get held) now_top ∙ at) in
+          let outwards : get_or new.outer.items new.top 0 ≡ old.top = ap (λ (os : List ℕ). get_or os new.top 0) outers ∙ ap (λ n. get_or (set mid.outer.items place mid.top) n 0) now_top ∙ get_or-set_same mid.outer.items place mid.top 0 (omega arith) ∙ top in
+          let chain : chain_of held new.top ≡ x ∷ chain_of held old.top = head ∙ ap (λ n. x ∷ chain_of held n) outwards in
+          let shallow = way.shallow in
+          let all = o.size in
           record {
             within = omega arith;
-            passes = subst (IsPassing held from to (reached held order (k + 1)) (2 * (k + 1)) new.outer.items) (sym progress) step3;
-            size = ap (λ (os : List ℕ). length os) outers ∙ length-set mid.outer.items place mid.top ∙ size;
+            shallow = omega arith;
+            lasts_are = subst (λ cs. AreLasts held cs (depth + 1) (set lasts (depth + 1) number)) (sym chain) (lasts_put held (chain_of held old.top) x depth number lasts way.lasts_are (omega arith) (is_number ∙ at_is (λ h. end_of h.pair.cell - 1) held place x at));
+            passes = now_passes;
+            size = now_size;
             starts_room = ap (λ (os : List ℕ). length os) starts ∙ w.starts_room ∙ way.starts_room;
             firsts_room = ap (λ (os : List ℕ). length os) firsts ∙ w.firsts_room ∙ way.firsts_room;
           })
@@ -155,9 +191,10 @@ put_next held order from to k bound place old mid c o span way is_bound ahead be
 
 -- ---- after the last turn
 
-pub way_ends : (held : Collection) (order : List ℕ) (from to k bound : ℕ) (old mid : Pass) → IsSweepOrder held order → IsInSpan held from to → IsOnWay held order from to k old → bound ≡ start_at held order to k → old.at ≤ bound → EndsBehind held old.top bound → IsWritten bound old mid → length order ≤ k → IsSwept held from to mid
-way_ends held order from to k bound old mid o span way is_bound ahead behind w past =
-    let passes = way_reaches held order from to k bound old mid o span way is_bound ahead behind w in
+pub way_ends : (held : Collection) (order : List ℕ) (from to k depth bound : ℕ) (lasts : List ℕ) (old mid : Pass) → IsSweepOrder held order → IsInSpan held from to → IsOnWay held order from to k depth lasts old → bound ≡ start_at held order to k → old.at ≤ bound → bound ≤ get_or lasts depth 0 → IsWritten bound old mid → length order ≤ k → IsSwept held from to mid
+way_ends held order from to k depth bound lasts old mid o span way is_bound ahead above w past =
+    let behind = ends_after held order from to k depth bound lasts old way above in
+    let passes = way_reaches held order from to k depth bound lasts old mid o span way is_bound ahead behind w in
     let at_bound = at_written bound old mid ahead w in
     let end = start_end held order to k (slice_get_past order k past) in
     let at_to : mid.at ≡ to = omega arith in

@@ -1,9 +1,9 @@
 // The sweep over the starts and ends of held cells, which makes ranges and chains.
-ghost use Rattle.std.specs.Prelude.{◌≡◌, ◌≤◌, None, length, IfOk, IfSome};
+ghost use Rattle.std.specs.Prelude.{◌≡◌, ◌<◌, ◌≤◌, [], length, IfOk};
 ghost use Rattle.s2ix_pairs.specs.Collection.{IsCollection};
 ghost use Rattle.s2ix_chain.specs.Order.{IsSweepOrder, ArePlaces};
 ghost use Rattle.s2ix_chain.specs.SpanTable.{IsInSpan};
-ghost use Rattle.s2ix_chain.specs.Sweep.{IsFresh, IsSwept, start_at, IsEndBy, EndsBehind};
+ghost use Rattle.s2ix_chain.specs.Sweep.{IsFresh, IsSwept, AreLasts, start_at, last_at};
 
 use crate::pass::Pass;
 use s2id_core::OutOfMemory;
@@ -37,25 +37,30 @@ pub(crate) fn sweep_span(
         at: from,
         top: len as u32,
     };
-    sweep(held, order, &mut pass, to);
+    let mut lasts = Vec::from_elem(alloc, u64::MAX, len + 1)?;
+    sweep(held, order, &mut pass, lasts.as_mut_slice(), to);
     Ok(pass)
 }
 
-// Goes over the leaves up to `to`: a cell is taken off where it ends, and put on where it begins.
-fn sweep(held: &[FlatHeld], order: &[u32], pass: &mut Pass, to: u64)
+// Goes over the leaves up to `to`: a cell is taken off where it ends, and put on where it begins. The last numbers in the open cells are
+// kept beside the chain, behind one that stands for none: no bound lies behind it.
+fn sweep(held: &[FlatHeld], order: &[u32], pass: &mut Pass, lasts: &mut [u64], to: u64)
     requires rises { IsCollection held.now }
     requires few { length held.now ≤ 1000000 }
     requires order { IsSweepOrder held.now order.now }
     requires span { IsInSpan held.now pass.old.at to }
     requires fresh { IsFresh held.now pass.old }
+    requires lasts { AreLasts held.now [] 0 lasts.old }
     ensures { IsSwept held.now pass.old.at to pass.new }
 {
+    let mut depth = 0;
     let mut k = 0;
     loop {
         let bound = next_start(held, order, k, to);
-        while let Some(end) = end_by(held, pass.top, bound) {
-            pass.write_until(end);
+        while lasts[depth] < bound {
+            pass.write_until(lasts[depth] + 1);
             pass.top = pass.outer[pass.top as usize];
+            depth -= 1;
         }
         pass.write_until(bound);
         if k >= order.len() {
@@ -64,6 +69,8 @@ fn sweep(held: &[FlatHeld], order: &[u32], pass: &mut Pass, to: u64)
         let place = order[k];
         pass.outer[place as usize] = pass.top;
         pass.top = place;
+        depth += 1;
+        lasts[depth] = last_in(held, place);
         k += 1;
     }
 }
@@ -80,15 +87,10 @@ fn next_start(held: &[FlatHeld], order: &[u32], k: usize, to: u64) -> u64
     }
 }
 
-// Where the cell of a place ends, if it is one and ends by a bound.
-fn end_by(held: &[FlatHeld], place: u32, bound: u64) -> Option<u64>
-    ensures ends { IfSome result (λ end. IsEndBy held.now place bound end) }
-    ensures stays { result ≡ None → EndsBehind held.now place bound }
+// The last number in the cell of a place.
+fn last_in(held: &[FlatHeld], place: u32) -> u64
+    requires { place < length held.now }
+    ensures { result ≡ last_at held.now place }
 {
-    let place = place as usize;
-    if place >= held.len() {
-        return None;
-    }
-    let end = held[place].cell().span_end();
-    if end <= bound { Some(end) } else { None }
+    held[place as usize].cell().span_end() - 1
 }

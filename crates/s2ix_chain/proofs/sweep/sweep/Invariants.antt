@@ -4,15 +4,15 @@ use Rattle.s2ix_chain.specs.Sweep.{start_at}
 use Rattle.s2ix_chain.proofs.Turning.{IsOnWay}
 use Rattle.s2ix_chain.proofs.sweep.sweep.Given as goal
 
-abbrev pub invariant-loop-end-2 : goal.invariant-loop-end-2
-invariant-loop-end-2 l =
-    (l.bound ≡ start_at l.held l.order l.to l.k) × (l.pass.at ≤ l.bound) × IsOnWay l.held l.order l.fn.pass.at l.to l.k l.pass
+abbrev pub invariant-loop-depth : goal.invariant-loop-depth
+invariant-loop-depth l =
+    (l.bound ≡ start_at l.held l.order l.to l.k) × (l.pass.at ≤ l.bound) × IsOnWay l.held l.order l.fn.pass.at l.to l.k l.depth l.lasts l.pass
 
-abbrev pub decreases-loop-end-2 : goal.decreases-loop-end-2
-decreases-loop-end-2 l = length (chain_of l.held l.pass.top)
+abbrev pub decreases-loop-depth : goal.decreases-loop-depth
+decreases-loop-depth l = length (chain_of l.held l.pass.top)
 
-abbrev pub invariant-loop-end : goal.invariant-loop-end
-invariant-loop-end l = IsOnWay l.held l.order l.fn.pass.at l.to l.k l.pass
+abbrev pub invariant-loop-lasts : goal.invariant-loop-lasts
+invariant-loop-lasts l = IsOnWay l.held l.order l.fn.pass.at l.to l.k l.depth l.lasts l.pass
 
-abbrev pub decreases-loop-end : goal.decreases-loop-end
-decreases-loop-end l = length l.order - l.k
+abbrev pub decreases-loop-lasts : goal.decreases-loop-lasts
+decreases-loop-lasts l = length l.order - l.k
