@@ -3,6 +3,7 @@ use Rattle.std.proofs.Common.{◌≡◌, ℕ, zero, suc, ◌+◌, ◌*◌, ◌<�
 use Rattle.std.specs.Prelude.{if◌then◌else◌}
 use Rattle.std.proofs.Math.Nat.{suc-mul, mul-le-mul_right}
 use Rattle.std.proofs.lemmas.Bool.{cases_eq, cond-true, cond-false}
+use Rattle.std.proofs.lemmas.List.{map-set}
 use Rattle.s2id_core.proofs.Bits.{face_by_bits}
 use Rattle.s2id_core.specs.CellId.{face_of}
 use Rattle.s2ix_faces.proofs.Ends.{face_below_six}
@@ -174,9 +175,14 @@ pub same_next : {A : Type 0} (n : ℕ) (own old : ℕ → A) → n < 6 → own n
 same_next {A} n own old lt same = sym (old_there n own old lt) ∙ ap (λ (x : A). set (renewed n own old) n x) (sym same) ∙ renewed_next n own old lt
 
 -- that of one face more is put into its place
-pub put_next : {A : Type 0} (n r : ℕ) (own old : ℕ → A) (xs : List A) (x : A) → n < 6 → r ≡ n → xs ≡ renewed n own old → x ≡ own n → set xs r x ≡ renewed (n + 1) own old
-put_next {A} n r own old xs x within here before is =
-    ap (λ (k : ℕ). set xs k x) here ∙ ap (λ (zs : List A). set zs n x) before ∙ ap (λ (z : A). set (renewed n own old) n z) is ∙ renewed_next n own old within
+pub put_next : {A V : Type 0} (of : V → A) (n r : ℕ) (own old : ℕ → A) (before after : List V) (x : V) → n < 6 → r ≡ n → after ≡ set before r x → map of before ≡ renewed n own old → of x ≡ own n → map of after ≡ renewed (n + 1) own old
+put_next {A} {V} of n r own old before after x lt here put are is =
+    ap (λ (vs : List V). map of vs) put
+    ∙ map-set of before r x
+    ∙ ap (λ (k : ℕ). set (map of before) k (of x)) here
+    ∙ ap (λ (xs : List A). set xs n (of x)) are
+    ∙ ap (λ (y : A). set (renewed n own old) n y) is
+    ∙ renewed_next n own old lt
 
 pub all_renewed : {A : Type 0} (n : ℕ) (own old : ℕ → A) → n ≡ 6 → renewed n own old ≡ map own faces
 all_renewed n own old last = ap (λ (k : ℕ). renewed k own old) last

@@ -1,6 +1,5 @@
 -- Face by face, each where the change has an entry on it.
 use Rattle.std.proofs.Common.{◌≡◌, ℕ, List, map, ◌<◌, true, false, refl, sym, ap, ◌∙◌, subst, arith}
-use Rattle.std.proofs.lemmas.List.{map-set}
 use Rattle.s2ix_pairs.specs.Collection.{Collection}
 use Rattle.s2ix_chain.specs.SpanTable.{SpanRanges}
 use Rattle.s2ix_joined.specs.Faces.{AreOverFaces}
@@ -26,7 +25,7 @@ loop-face-preserved g c =
     let face : ℕ = c.loop-face.face in
     let own : ℕ → Collection = λ f. held_on f hs in
     let old : ℕ → Collection = λ f. held_on f (held_in c.args.tables.now) in
-    let held_of : List SpanRanges → List Collection = λ ts. map (λ t. t.held) ts in
+    let held_of : SpanRanges → Collection = λ t. t.held in
     let i = c.loop-face.invariant in
     let test = c.loop-face-test.true in
     let within : face < 6 = omega (arith, test) in
@@ -35,14 +34,14 @@ loop-face-preserved g c =
           (let on = tested change c.changed_faces-changed.result face c.from.result true c.changed_faces-changed.ensures c.from.ensures within w.if-changed-from.true in
           let is : face ≡ w.from-then-changed-from.result = sym w.from-then-changed-from.ensures in
           let r = w.in_ok-after-2.ensures in (
-            ap held_of w.after-is ∙ map-set _ _ _ _ ∙ put_next face w.from-then-changed-from.result own old _ _ within w.from-then-changed-from.ensures i.0 (r.pairs ∙ ap (λ (xs : Collection). held_on face xs) i.2),
+            put_next held_of face _ own old _ _ _ within w.from-then-changed-from.ensures w.after-is i.0 (r.pairs ∙ ap (λ (xs : Collection). held_on face xs) i.2),
             face_was_read change hs _ face _ _ _ _ on i.2 (ap g.B.PairReader.spent w.reader-is) i.1 r.reads,
             ap g.B.PairReader.shown w.reader-is ∙ r.same ∙ i.2,
             subst (AreOverFaces 0) (sym w.after-is) (over_set 0 _ face _ _ (omega arith) i.3 r.over),
           ))
       | else-changed-from w ↦
           (let none = tested change c.changed_faces-changed.result face c.from.result false c.changed_faces-changed.ensures c.from.ensures within w.if-changed-from.false in (
-            ap held_of w.after-is ∙ i.0 ∙ same_next face own old within (sym (ap (λ (xs : Collection). held_on face xs) c.requires.made) ∙ unchanged_stay (held_in c.args.tables.now) change face none),
+            ap (λ (ts : List SpanRanges). map held_of ts) w.after-is ∙ i.0 ∙ same_next face own old within (sym (ap (λ (xs : Collection). held_on face xs) c.requires.made) ∙ unchanged_stay (held_in c.args.tables.now) change face none),
             face_was_left change hs face _ _ _ none (ap g.B.PairReader.spent w.reader-is) i.1,
             ap g.B.PairReader.shown w.reader-is ∙ i.2,
             subst (AreOverFaces 0) (sym w.after-is) i.3,

@@ -1,6 +1,5 @@
 -- Face by face, each where the change has an entry on it.
 use Rattle.std.proofs.Common.{ℕ, Vec, Global, Option, None, List, map, option_map, ◌<◌, true, false, refl, ap, ◌∙◌, arith}
-use Rattle.std.proofs.lemmas.List.{map-set}
 use Rattle.s2ix_lists.specs.declared.flat.FlatHeld.{FlatHeld}
 use Rattle.s2ix_pairs.specs.Collection.{Collection}
 use Rattle.s2ix_reading.specs.Faces.{held_on, changed_on}
@@ -47,6 +46,7 @@ loop-face-preserved g c =
     let face : ℕ = c.loop-face.face in
     let own = changed_on change hs in
     let none_yet : ℕ → Option Collection = λ f. None in
+    let items : Option (Vec FlatHeld Global) → Option Collection = λ x. option_map (λ held. held.items) x in
     let i = c.loop-face.invariant in
     let within : face < 6 = c.loop-face-test.true in
     elim c.if-changed-from.branch [
@@ -54,7 +54,7 @@ loop-face-preserved g c =
           (let on = tested change c.changed_faces-changed.result face c.from.result true c.changed_faces-changed.ensures c.from.ensures within w.if-changed-from.true in
           let r = w.in_ok-read_face.ensures in
           let made = r.pairs ∙ ap (λ (xs : Collection). held_on face xs) i.2 in (
-            ap (λ (xs : List (Option (Vec FlatHeld Global))). map (option_map (λ (held : Vec FlatHeld Global). held.items)) xs) w.read-is ∙ map-set _ _ _ _ ∙ put_next face w.from-then-changed-from.result own none_yet _ _ within w.from-then-changed-from.ensures i.0 (some_on change hs _ face on made),
+            put_next items face _ own none_yet _ _ _ within w.from-then-changed-from.ensures w.read-is i.0 (some_on change hs _ face on made),
             face_was_read change hs _ face _ _ _ _ on i.2 (ap g.B.PairReader.spent w.reader-is) i.1 r.reads,
             ap g.B.PairReader.shown w.reader-is ∙ r.same ∙ i.2,
           ))
@@ -62,13 +62,13 @@ loop-face-preserved g c =
           (let on = tested change c.changed_faces-changed.result face c.from.result true c.changed_faces-changed.ensures c.from.ensures within w.if-changed-from.true in
           let r = w.in_ok-read_face.ensures in
           let made = r.pairs ∙ ap (λ (xs : Collection). held_on face xs) i.2 in (
-            ap (λ (xs : List (Option (Vec FlatHeld Global))). map (option_map (λ (held : Vec FlatHeld Global). held.items)) xs) w.read-is ∙ map-set _ _ _ _ ∙ put_next face w.from-then-changed-from.result own none_yet _ _ within w.from-then-changed-from.ensures i.0 (some_on change hs _ face on made),
+            put_next items face _ own none_yet _ _ _ within w.from-then-changed-from.ensures w.read-is i.0 (some_on change hs _ face on made),
             face_was_read change hs _ face _ _ _ _ on i.2 (ap g.B.PairReader.spent w.reader-is) i.1 r.reads,
             ap g.B.PairReader.shown w.reader-is ∙ r.same ∙ i.2,
           ))
       | else-changed-from w ↦
           (let none = tested change c.changed_faces-changed.result face c.from.result false c.changed_faces-changed.ensures c.from.ensures within w.if-changed-from.false in (
-            ap (λ (xs : List (Option (Vec FlatHeld Global))). map (option_map (λ (held : Vec FlatHeld Global). held.items)) xs) w.read-is ∙ i.0 ∙ same_next face own none_yet within (none_on_face change hs face none),
+            ap (λ (xs : List (Option (Vec FlatHeld Global))). map items xs) w.read-is ∙ i.0 ∙ same_next face own none_yet within (none_on_face change hs face none),
             face_was_left change hs face _ _ _ none (ap g.B.PairReader.spent w.reader-is) i.1,
             ap g.B.PairReader.shown w.reader-is ∙ i.2,
           ))
