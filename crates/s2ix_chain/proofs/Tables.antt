@@ -40,15 +40,15 @@ spans held from to outer starts firsts nodes =
     }
 
 -- what a sweep has written, once the room that is left is given back
-pub nodes_of_pass : (held : Collection) (from to : ℕ) (pass : Pass) (starts firsts : List ℕ) → IsCollection held → length held ≤ 1000000 → IsInSpan held from to → IsSwept held from to pass → starts ≡ take pass.count pass.starts.items → firsts ≡ take pass.count pass.firsts.items → AreNodes held from to pass.outer.items starts firsts
+pub nodes_of_pass : (held : Collection) (from to : ℕ) (pass : Pass) (starts firsts : List ℕ) → IsCollection held → length held ≤ 1000000 → IsInSpan held from to → IsSwept held from to pass → starts ≡ take pass.stand.count pass.starts.items → firsts ≡ take pass.stand.count pass.firsts.items → AreNodes held from to pass.outer.items starts firsts
 nodes_of_pass held from to pass starts firsts rises few within swept starts_are firsts_are =
     record {
       rises = rises;
       few = few;
       within = within;
       table = subst (λ (ss : List ℕ). IsTableOver held from to (ranges_from held ss to)) (sym starts_are) swept.table;
-      ranges_few = let short = ap length starts_are ∙ length-take pass.count pass.starts.items in let count = swept.few in omega arith;
+      ranges_few = let short = ap length starts_are ∙ length-take pass.stand.count pass.starts.items in let count = swept.few in omega arith;
       size = swept.size;
       outwards = swept.outer;
-      leads = subst (λ (ss : List ℕ). AreFirsts held ss firsts) (sym starts_are) (subst (λ (fs : List ℕ). AreFirsts held (take pass.count pass.starts.items) fs) (sym firsts_are) swept.firsts);
+      leads = subst (λ (ss : List ℕ). AreFirsts held ss firsts) (sym starts_are) (subst (λ (fs : List ℕ). AreFirsts held (take pass.stand.count pass.starts.items) fs) (sym firsts_are) swept.firsts);
     }

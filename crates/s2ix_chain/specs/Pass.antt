@@ -1,6 +1,7 @@
 -- What a step of a sweep writes.
 use Rattle.std.specs.Prelude.{◌≡◌, ℕ, ◌+◌, nat_lt, if◌then◌else◌, List, [], ◌∷◌, ◌++◌, length, take}
 use Rattle.s2ix_chain.specs.declared.pass.Pass.{Pass}
+use Rattle.s2ix_chain.specs.declared.pass.Stand.{Stand}
 
 -- where a sweep stands, and the ranges that it has written: their starts, and beside them the places of their innermost pairs
 pub record Progress : Type 0 where
@@ -12,12 +13,16 @@ pub record Progress : Type 0 where
 
 abbrev pub progress_of : Pass → Progress
 progress_of pass = record {
-  count = pass.count;
-  at = pass.at;
-  top = pass.top;
-  starts = take pass.count pass.starts.items;
-  firsts = take pass.count pass.firsts.items;
+  count = pass.stand.count;
+  at = pass.stand.at;
+  top = pass.stand.top;
+  starts = take pass.stand.count pass.starts.items;
+  firsts = take pass.stand.count pass.firsts.items;
 }
+
+-- a pass that stands there
+abbrev pub standing : Stand → Pass → Pass
+standing stand pass = record { outer = pass.outer; starts = pass.starts; firsts = pass.firsts; stand = stand }
 
 -- the range up to a bound is written, unless it has no leaf, and the sweep stands at the bound
 abbrev pub written : ℕ → Progress → Progress

@@ -63,8 +63,8 @@ impl SpanTable {
         let order = sweep_order(alloc, held.as_slice())?;
         let pass = sweep_span(alloc, held.as_slice(), order.as_slice(), from, to)?;
         let outer = pass.outer;
-        let starts = trim(pass.starts, pass.count);
-        let firsts = trim(pass.firsts, pass.count);
+        let starts = trim(pass.starts, pass.stand.count);
+        let firsts = trim(pass.firsts, pass.stand.count);
         Ok(SpanTable {
             held,
             outer,

@@ -5,7 +5,7 @@ ghost use Rattle.s2ix_chain.specs.Order.{IsSweepOrder, ArePlaces};
 ghost use Rattle.s2ix_chain.specs.SpanTable.{IsInSpan};
 ghost use Rattle.s2ix_chain.specs.Sweep.{IsFresh, IsSwept, AreLasts, start_at, last_at};
 
-use crate::pass::Pass;
+use crate::pass::{Pass, Stand};
 use s2id_core::OutOfMemory;
 use s2ix_bag::FlatHeld;
 use std::alloc::Global;
@@ -33,9 +33,11 @@ pub(crate) fn sweep_span(
         outer,
         starts,
         firsts,
-        count: 0,
-        at: from,
-        top: len as u32,
+        stand: Stand {
+            count: 0,
+            at: from,
+            top: len as u32,
+        },
     };
     let mut lasts = Vec::from_elem(alloc, u64::MAX, len + 1)?;
     sweep(held, order, &mut pass, lasts.as_mut_slice(), to);
@@ -48,27 +50,29 @@ fn sweep(held: &[FlatHeld], order: &[u32], pass: &mut Pass, lasts: &mut [u64], t
     requires rises { IsCollection held.now }
     requires few { length held.now ≤ 1000000 }
     requires order { IsSweepOrder held.now order.now }
-    requires span { IsInSpan held.now pass.old.at to }
+    requires span { IsInSpan held.now pass.old.stand.at to }
     requires fresh { IsFresh held.now pass.old }
     requires lasts { AreLasts held.now [] 0 lasts.old }
-    ensures { IsSwept held.now pass.old.at to pass.new }
+    ensures { IsSwept held.now pass.old.stand.at to pass.new }
 {
+    let mut stand = pass.stand;
     let mut depth = 0;
     let mut k = 0;
     loop {
         let bound = next_start(held, order, k, to);
         while lasts[depth] < bound {
-            pass.write_until(lasts[depth] + 1);
-            pass.top = pass.outer[pass.top as usize];
+            stand = pass.write_until(stand, lasts[depth] + 1);
+            stand.top = pass.outer[stand.top as usize];
             depth -= 1;
         }
-        pass.write_until(bound);
+        stand = pass.write_until(stand, bound);
         if k >= order.len() {
+            pass.stand = stand;
             return;
         }
         let place = order[k];
-        pass.outer[place as usize] = pass.top;
-        pass.top = place;
+        pass.outer[place as usize] = stand.top;
+        stand.top = place;
         depth += 1;
         lasts[depth] = last_in(held, place);
         k += 1;
