@@ -17,6 +17,7 @@ returns c =
     let first = region_of c.args.first c.args.store.now.bag.held in
     IfOk-weaker c.difference.result _ _
     (λ union is.
-    is ∙ ap (λ (cells : List CellId). cells_where (λ q. is_covered cells q && not (is_covered c.in_ok-second.second q))) c.in_ok-first.ensures.form
+    is ∙ ap (λ (cells : List CellId). cells_where (λ q. is_covered cells q && not (is_covered c.in_ok-second.second q)))
+    c.in_ok-first.ensures.form
     ∙ ap (λ (cells : List CellId). cells_where (λ q. is_covered first q && not (is_covered cells q))) c.in_ok-second.ensures.form)
     c.difference.ensures.form

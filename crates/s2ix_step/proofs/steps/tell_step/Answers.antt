@@ -34,7 +34,8 @@ returns-in_err-write_ok-in-Ok-clause-carries g c =
     let exit = c.from_residual in
     let p = err_from_is_err_and exit.result exit.ensures.1 in
     rw (c.in-Ok.is, p.1, p.2) (λ step old new told.
-    subst (λ (s : Step). StopsAt s old new (g.K.Sink.taken c.args.sink.now) (g.K.Sink.taken c.write_ok.new.sink) Write) (sym told) (refl, c.in_err-write_ok-in-Ok.ensures.puts))
+    subst (λ (s : Step). StopsAt s old new (g.K.Sink.taken c.args.sink.now) (g.K.Sink.taken c.write_ok.new.sink) Write)
+    (sym told) (refl, c.in_err-write_ok-in-Ok.ensures.puts))
 
 pub returns-in_ok-write_no-in-Err-clause-carries : goal.returns-in_ok-write_no-in-Err-clause-carries
 returns-in_ok-write_no-in-Err-clause-carries g c = rw c.in-Err.is (λ step old new told.
@@ -53,3 +54,12 @@ returns-in_ok-write_no-in-Err-clause-memory g c = search rules
 
 pub returns-in_ok-write_no-in-Err-clause-faults : goal.returns-in_ok-write_no-in-Err-clause-faults
 returns-in_ok-write_no-in-Err-clause-faults g c = search rules
+
+pub returns-in_err-write_no-in-Err-clause-carries : goal.returns-in_err-write_no-in-Err-clause-carries
+returns-in_err-write_no-in-Err-clause-carries g c =
+    let exit = c.from_residual-in_err-write_no-in-Err in
+    let p = err_from_is_err_and exit.result exit.ensures.1 in
+    rw (c.in-Err.is, p.1, p.2) (λ step old new told.
+    let is = told.1 (λ e. let none = c.in-Some.ensures.memory.1 e in cc) ∙ ap (no_step new) (sym c.in-Some.ensures.name) in
+    subst (λ (s : Step). StopsAt s old new (g.K.Sink.taken c.args.sink.now) (g.K.Sink.taken c.write_no.new.sink) Write)
+    (sym is) (refl, c.in_err-write_no-in-Err.ensures.puts))
