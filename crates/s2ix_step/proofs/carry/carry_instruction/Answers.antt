@@ -1,4 +1,5 @@
--- A step is what the store's answer tells.
+-- A step is what the store's answer tells. A `meet` is what its own call tells.
+use Rattle.std.proofs.Common.{rules}
 use Rattle.s2ix_step.proofs.Told.{edit_is_told, redo_is_told, undo_is_told}
 use Rattle.s2ix_step.proofs.carry.carry_instruction.Goals as goal
 
@@ -25,3 +26,9 @@ returns-in-Common-clause-carries g c = rw c.in-Common.is (c.print_region-in-Comm
 
 pub returns-in-Only-clause-carries : goal.returns-in-Only-clause-carries
 returns-in-Only-clause-carries g c = rw c.in-Only.is (c.print_region-in-Only.ensures.carries _ _ c.only.ensures)
+
+pub returns-in-Meet-clause-carries : goal.returns-in-Meet-clause-carries
+returns-in-Meet-clause-carries g c = search rules
+
+pub returns-in-Meet-clause-memory : goal.returns-in-Meet-clause-memory
+returns-in-Meet-clause-memory g c = search rules

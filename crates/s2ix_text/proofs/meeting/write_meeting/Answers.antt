@@ -1,5 +1,5 @@
 -- The line of this pair is written behind those before it, or a fault ends it; then the end line.
-use Rattle.std.proofs.Common.{◌≡◌, ℕ, length, subst, arith}
+use Rattle.std.proofs.Common.{◌≡◌, ℕ, length, subst, arith, rules}
 use Rattle.s2ix_io.specs.Puts.{Writes}
 use Rattle.s2ix_ranges.specs.Meeting.{meeting_of}
 use Rattle.s2ix_walk.specs.Shown.{Shown}
@@ -16,6 +16,9 @@ overflow_add-count g c =
     let few = few_meet shown c.args.target.now (record { is_collection = g.met.T.RangeTable.is_collection table; is_table = g.met.T.RangeTable.is_table table; few = g.met.T.RangeTable.few table }) in
     let within = c.loop-held.invariant.1 in
     omega arith
+
+pub loop-held-init : goal.loop-held-init
+loop-held-init g c = search rules
 
 pub loop-held-preserved : goal.loop-held-preserved
 loop-held-preserved g c =
