@@ -60,8 +60,16 @@ impl SpanTable {
         ensures ends { IfOk result (λ table. table.to ≡ to) }
         ensures table { IfOk result (λ table. IsSpanTable table) }
     {
-        let order = sweep_order(alloc, held.as_slice())?;
-        let pass = sweep_span(alloc, held.as_slice(), order.as_slice(), from, to)?;
+        let mut stack = Vec::from_elem(alloc, 0, held.len() + 1)?;
+        let order = sweep_order(alloc, held.as_slice(), stack.as_mut_slice())?;
+        let pass = sweep_span(
+            alloc,
+            held.as_slice(),
+            order.as_slice(),
+            stack.as_mut_slice(),
+            from,
+            to,
+        )?;
         let outer = pass.outer;
         let starts = trim(pass.starts, pass.stand.count);
         let firsts = trim(pass.firsts, pass.stand.count);

@@ -1,5 +1,5 @@
 // The sweep over the starts and ends of held cells, which makes ranges and chains.
-ghost use Rattle.std.specs.Prelude.{◌≡◌, ◌<◌, ◌≤◌, [], length, IfOk};
+ghost use Rattle.std.specs.Prelude.{◌≡◌, ◌<◌, ◌≤◌, ◌+◌, [], length, IfOk};
 ghost use Rattle.s2ix_pairs.specs.Collection.{IsCollection};
 ghost use Rattle.s2ix_chain.specs.Order.{IsSweepOrder, ArePlaces};
 ghost use Rattle.s2ix_chain.specs.SpanTable.{IsInSpan};
@@ -15,6 +15,7 @@ pub(crate) fn sweep_span(
     alloc: Global,
     held: &[FlatHeld],
     order: &[u32],
+    stack: &mut [u64],
     from: u64,
     to: u64,
 ) -> Result<Pass, OutOfMemory>
@@ -22,6 +23,7 @@ pub(crate) fn sweep_span(
     requires few { length held.now ≤ 1000000 }
     requires order { IsSweepOrder held.now order.now }
     requires span { IsInSpan held.now from to }
+    requires room { length stack.old ≡ length held.now + 1 }
     ensures { IfOk result (λ pass. IsSwept held.now from to pass) }
 {
     let len = held.len();
@@ -39,8 +41,8 @@ pub(crate) fn sweep_span(
             top: len as u32,
         },
     };
-    let mut lasts = Vec::from_elem(alloc, u64::MAX, len + 1)?;
-    sweep(held, order, &mut pass, lasts.as_mut_slice(), to);
+    stack[0] = u64::MAX;
+    sweep(held, order, &mut pass, stack, to);
     Ok(pass)
 }
 
