@@ -19,12 +19,12 @@ returns g c =
     let fifth = c.in_ok-read_table-5.field-0 in
     let sixth = c.in_ok-read_table-6.field-0 in
     let parts = six_parts hs _ _ _ _ _ _
-        c.in_ok-read_table.ensures.pairs
-        (c.in_ok-read_table-2.ensures.pairs ∙ ap (held_on 1) same_1)
-        (c.in_ok-read_table-3.ensures.pairs ∙ ap (held_on 2) same_2)
-        (c.in_ok-read_table-4.ensures.pairs ∙ ap (held_on 3) same_3)
-        (c.in_ok-read_table-5.ensures.pairs ∙ ap (held_on 4) same_4)
-        (c.in_ok-read_table-6.ensures.pairs ∙ ap (held_on 5) same_5) in
+    c.in_ok-read_table.ensures.pairs
+    (c.in_ok-read_table-2.ensures.pairs ∙ ap (held_on 1) same_1)
+    (c.in_ok-read_table-3.ensures.pairs ∙ ap (held_on 2) same_2)
+    (c.in_ok-read_table-4.ensures.pairs ∙ ap (held_on 3) same_3)
+    (c.in_ok-read_table-5.ensures.pairs ∙ ap (held_on 4) same_4)
+    (c.in_ok-read_table-6.ensures.pairs ∙ ap (held_on 5) same_5) in
     record {
       over = (c.in_ok-read_table.ensures.over, (c.in_ok-read_table-2.ensures.over, (c.in_ok-read_table-3.ensures.over, (c.in_ok-read_table-4.ensures.over, (c.in_ok-read_table-5.ensures.over, (c.in_ok-read_table-6.ensures.over, tt))))));
       pairs = all_parts hs (first ∷ second ∷ third ∷ fourth ∷ fifth ∷ sixth ∷ []) is parts;
