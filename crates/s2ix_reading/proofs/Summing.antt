@@ -2,8 +2,8 @@
 use Rattle.std.proofs.Common.{◌≡◌, ℕ, zero, suc, ◌+◌, ◌*◌, ◌<◌, ◌≤◌, Bool, true, false, ◌⊎◌, inl, inr, Some, None, List, [], ◌∷◌, length, get_or, map, set, filter, nat_lt, refl, sym, ap, ◌∙◌, subst, arith, ⊎_elim}
 use Rattle.std.specs.Prelude.{if◌then◌else◌}
 use Rattle.std.proofs.Math.Nat.{suc-mul, mul-le-mul_right}
-use Rattle.std.proofs.lemmas.Bool.{cases_eq, cond-true, cond-false}
-use Rattle.std.proofs.lemmas.List.{map-set}
+use Rattle.std.proofs.lemmas.Bool.{cases_eq, cond-true, cond-false, le-ltb}
+use Rattle.std.proofs.lemmas.List.{map-set, set-get_or}
 use Rattle.s2id_core.proofs.Bits.{face_by_bits}
 use Rattle.s2id_core.specs.CellId.{face_of}
 use Rattle.s2ix_faces.proofs.Ends.{face_below_six}
@@ -149,6 +149,15 @@ refused_at change hs w face before between after within some r own =
 
 -- ---- what is kept of each face, with that of the faces before one renewed
 
+mapped_at : {A : Type 0} (f : ℕ → A) (n : ℕ) (d : A) → n < 6 → get_or (map f faces) n d ≡ f n
+mapped_at f zero d lt = refl
+mapped_at f (suc zero) d lt = refl
+mapped_at f (suc (suc zero)) d lt = refl
+mapped_at f (suc (suc (suc zero))) d lt = refl
+mapped_at f (suc (suc (suc (suc zero)))) d lt = refl
+mapped_at f (suc (suc (suc (suc (suc zero))))) d lt = refl
+mapped_at f (suc (suc (suc (suc (suc (suc n)))))) d lt = absurd (omega arith)
+
 abbrev pub renewed : {A : Type 0} → ℕ → (ℕ → A) → (ℕ → A) → List A
 renewed n own old = map (λ face. if nat_lt face n then own face else old face) faces
 
@@ -162,13 +171,9 @@ renewed_next (suc (suc (suc (suc (suc zero))))) own old lt = refl
 renewed_next (suc (suc (suc (suc (suc (suc n)))))) own old lt = absurd (omega arith)
 
 old_there : {A : Type 0} (n : ℕ) (own old : ℕ → A) → n < 6 → set (renewed n own old) n (old n) ≡ renewed n own old
-old_there zero own old lt = refl
-old_there (suc zero) own old lt = refl
-old_there (suc (suc zero)) own old lt = refl
-old_there (suc (suc (suc zero))) own old lt = refl
-old_there (suc (suc (suc (suc zero)))) own old lt = refl
-old_there (suc (suc (suc (suc (suc zero))))) own old lt = refl
-old_there (suc (suc (suc (suc (suc (suc n)))))) own old lt = absurd (omega arith)
+old_there {A} n own old lt =
+    let is : get_or (renewed n own old) n (old n) ≡ old n = mapped_at (λ (face : ℕ). if nat_lt face n then own face else old face) n (old n) lt ∙ cond-false _ _ _ (le-ltb n n (omega arith)) in
+    ap (λ (x : A). set (renewed n own old) n x) (sym is) ∙ set-get_or (renewed n own old) n (old n)
 
 -- what is the same of one face more stays
 pub same_next : {A : Type 0} (n : ℕ) (own old : ℕ → A) → n < 6 → own n ≡ old n → renewed n own old ≡ renewed (n + 1) own old
@@ -193,19 +198,10 @@ some_on change hs held face some is = ap (λ (x : Collection). Some x) is ∙ sy
 pub none_on_face : (change : List Entry) (hs : Collection) (face : ℕ) → has_entry_on change face ≡ false → changed_on change hs face ≡ None
 none_on_face change hs face none = cond-false _ _ _ none
 
-entry_at : (change : List Entry) (n : ℕ) → n < 6 → get_or (map (has_entry_on change) faces) n false ≡ has_entry_on change n
-entry_at change zero lt = refl
-entry_at change (suc zero) lt = refl
-entry_at change (suc (suc zero)) lt = refl
-entry_at change (suc (suc (suc zero))) lt = refl
-entry_at change (suc (suc (suc (suc zero)))) lt = refl
-entry_at change (suc (suc (suc (suc (suc zero))))) lt = refl
-entry_at change (suc (suc (suc (suc (suc (suc n)))))) lt = absurd (omega arith)
-
 -- what the six tests say of one face
 pub tested : (change : List Entry) (tests : List Bool) (n r : ℕ) (b : Bool) → tests ≡ map (has_entry_on change) faces → r ≡ n → n < 6 → get_or tests r false ≡ b → has_entry_on change n ≡ b
 tested change tests n r b are here lt is =
-    sym (entry_at change n lt) ∙ ap (λ (ts : List Bool). get_or ts n false) (sym are) ∙ ap (λ (k : ℕ). get_or tests k false) (sym here) ∙ is
+    sym (mapped_at (has_entry_on change) n false lt) ∙ ap (λ (ts : List Bool). get_or ts n false) (sym are) ∙ ap (λ (k : ℕ). get_or tests k false) (sym here) ∙ is
 
 -- ---- the same of a reader that still shows what it showed
 
