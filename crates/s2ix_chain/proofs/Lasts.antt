@@ -1,17 +1,32 @@
 -- The last numbers in the open cells, beside their chain.
-use Rattle.std.proofs.Common.{◌≡◌, ℕ, zero, suc, ◌+◌, ◌-◌, ◌<◌, ◌≤◌, inl, inr, Some, List, ◌∷◌, length, get_or, slice_get, set, refl, sym, ◌∙◌, ap, arith, subst}
-use Rattle.std.proofs.lemmas.Option.{same_Some, slice_get-get_or, slice_get_cases, slice_get_within}
+use Rattle.std.proofs.Common.{◌≡◌, ℕ, zero, suc, ◌+◌, ◌-◌, ◌<◌, ◌≤◌, inl, inr, Some, List, [], ◌∷◌, length, get_or, slice_get, set, refl, sym, ◌∙◌, ap, arith, subst}
+use Rattle.std.proofs.lemmas.Option.{none-some, same_Some, slice_get-get_or, slice_get_cases, slice_get_within}
 use Rattle.std.proofs.lemmas.Grind.{get_or-set_at}
-use Rattle.std.proofs.lemmas.List.{length-set, get_or-set_other}
+use Rattle.std.proofs.lemmas.List.{length-set, get_or-set_same, get_or-set_other}
 use Rattle.s2id_core.specs.CellId.{end_of}
 use Rattle.s2ix_pairs.specs.Collection.{Collection}
 use Rattle.s2ix_pairs.specs.declared.pair.Held.{Held}
 use Rattle.s2ix_ranges.proofs.Over.{span_of}
 use Rattle.s2ix_chain.specs.Chains.{chain_of}
 use Rattle.s2ix_chain.specs.Pass.{Progress}
-use Rattle.s2ix_chain.specs.Sweep.{AreLasts}
 use Rattle.s2ix_chain.proofs.Chains.{chain_none}
 use Rattle.s2ix_chain.proofs.Passing.{IsPassing, popped_chain, contains_at}
+
+-- the last numbers in the cells of a chain, the innermost at its length, behind one that stands for none: no bound lies behind it
+pub record AreLasts (held chain : Collection) (depth : ℕ) (lasts : List ℕ) : Type 0 where
+  pub room : length lasts ≡ length held + 1
+  pub depth_is : depth ≡ length chain
+  pub none : get_or lasts 0 0 ≡ 18446744073709551615
+  pub each : (j : ℕ) (h : Held) → slice_get chain j ≡ Some h → get_or lasts (depth - j) 0 ≡ end_of h.pair.cell - 1
+
+-- where no cell is open, the one that stands for none is there
+pub none_open : (held : Collection) (lasts : List ℕ) → length lasts ≡ length held + 1 → AreLasts held [] 0 (set lasts 0 18446744073709551615)
+none_open held lasts room = record {
+  room = length-set lasts 0 18446744073709551615 ∙ room;
+  depth_is = refl;
+  none = get_or-set_same lasts 0 18446744073709551615 0 (omega arith);
+  each = λ j h is. absurd (none-some h is);
+}
 
 -- the cell of a place ends here, by a bound
 pub record IsEndBy (held : Collection) (place bound end : ℕ) : Type 0 where

@@ -12,11 +12,11 @@ use Rattle.s2ix_chain.specs.Order.{sweep_key, IsSweepOrder}
 use Rattle.s2ix_chain.specs.Pass.{Progress, progress_of, standing, written, IsWritten}
 use Rattle.s2ix_chain.specs.Starts.{ranges_from}
 use Rattle.s2ix_chain.specs.SpanTable.{IsInSpan}
-use Rattle.s2ix_chain.specs.Sweep.{IsFresh, IsSwept, AreLasts, start_at, last_at}
+use Rattle.s2ix_chain.specs.Sweep.{IsFresh, IsSwept, start_at, last_at}
 use Rattle.s2ix_chain.proofs.Chains.{chain_none}
 use Rattle.s2ix_chain.proofs.Orders.{reached, reached_next, reached_less, to_come, at_is, key_is}
 use Rattle.s2ix_chain.proofs.Passing.{IsPassing, CanReach, written_passes, written_at, written_top, with_top, popped, popped_chain, can_pop, put_on, contains_at}
-use Rattle.s2ix_chain.proofs.Lasts.{IsEndBy, EndsBehind, chain_head, last_below, last_behind, lasts_popped, lasts_put}
+use Rattle.s2ix_chain.proofs.Lasts.{AreLasts, IsEndBy, EndsBehind, none_open, chain_head, last_below, last_behind, lasts_popped, lasts_put}
 use Rattle.s2ix_chain.proofs.Sweeping.{fresh_passes, IsNext, next_is, start_is, start_end, can_reach, ends_behind}
 
 -- the first k cells of the order have begun
@@ -44,11 +44,11 @@ at_written bound old mid le w = ap (λ (p : Progress). p.at) w.progress ∙ writ
 
 -- ---- before the first turn
 
-pub way_begins : (held : Collection) (order : List ℕ) (from to : ℕ) (lasts : List ℕ) (pass : Pass) → IsInSpan held from to → pass.stand.at ≡ from → IsFresh held pass → AreLasts held [] 0 lasts → IsOnWay held order from to 0 0 lasts pass
-way_begins held order from to lasts pass span at fresh l = record {
+pub way_begins : (held : Collection) (order : List ℕ) (from to : ℕ) (lasts : List ℕ) (pass : Pass) → IsInSpan held from to → pass.stand.at ≡ from → IsFresh held pass → length lasts ≡ length held + 1 → IsOnWay held order from to 0 0 (set lasts 0 18446744073709551615) pass
+way_begins held order from to lasts pass span at fresh room = record {
   within = omega arith;
   shallow = omega arith;
-  lasts_are = subst (λ cs. AreLasts held cs 0 lasts) (sym (chain_none held pass.stand.top (slice_get_past held pass.stand.top (let top = fresh.top in omega arith)))) l;
+  lasts_are = subst (λ cs. AreLasts held cs 0 (set lasts 0 18446744073709551615)) (sym (chain_none held pass.stand.top (slice_get_past held pass.stand.top (let top = fresh.top in omega arith)))) (none_open held lasts room);
   passes = fresh_passes held from to pass.outer.items (progress_of pass) span at fresh.count fresh.top (none pass.starts.items) (none pass.firsts.items);
   size = fresh.outer;
   starts_room = fresh.starts;

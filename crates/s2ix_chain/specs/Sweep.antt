@@ -1,9 +1,8 @@
 -- What a sweep over a span of leaves makes.
-use Rattle.std.specs.Prelude.{◌≡◌, ℕ, ◌+◌, ◌-◌, ◌*◌, ◌≤◌, Some, List, length, slice_get, slice_index_or, option_map}
+use Rattle.std.specs.Prelude.{◌≡◌, ℕ, ◌+◌, ◌-◌, ◌*◌, ◌≤◌, List, length, slice_get, option_map}
 use Rattle.std.specs.Option.{unwrap_or}
 use Rattle.s2id_core.specs.CellId.{end_of}
 use Rattle.s2ix_pairs.specs.Collection.{Collection}
-use Rattle.s2ix_pairs.specs.declared.pair.Held.{Held}
 use Rattle.s2ix_ranges.specs.Table.{IsTableOver}
 use Rattle.s2ix_chain.specs.declared.pass.Pass.{Pass}
 use Rattle.s2ix_chain.specs.Chains.{AreOuter, AreFirsts}
@@ -36,10 +35,3 @@ start_at held order to k = unwrap_or (option_map (first_at held) (slice_get orde
 -- the last number in the cell of a place, that before its end
 abbrev pub last_at : Collection → ℕ → ℕ
 last_at held place = at_place (λ h. end_of h.pair.cell - 1) held place
-
--- the last numbers in the cells of a chain, the innermost at its length, behind one that stands for none: no bound lies behind it
-pub record AreLasts (held chain : Collection) (depth : ℕ) (lasts : List ℕ) : Type 0 where
-  pub room : length lasts ≡ length held + 1
-  pub depth_is : depth ≡ length chain
-  pub none : slice_index_or lasts 0 0 ≡ 18446744073709551615
-  pub each : (j : ℕ) (h : Held) → slice_get chain j ≡ Some h → slice_index_or lasts (depth - j) 0 ≡ end_of h.pair.cell - 1

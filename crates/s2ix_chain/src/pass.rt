@@ -10,7 +10,8 @@ pub(crate) struct Stand {
     pub(crate) top: u32,
 }
 
-// The lists that a sweep writes, and where it stands. The first `count` starts and firsts are the ranges.
+// The lists that a sweep writes, and where it stands before it begins and once it has ended: meanwhile it hands that on by itself. The
+// first `count` starts and firsts are the ranges.
 #[derive(Drop)]
 pub(crate) struct Pass {
     pub(crate) outer: Vec<u32>,

@@ -1,9 +1,9 @@
 // The sweep over the starts and ends of held cells, which makes ranges and chains.
-ghost use Rattle.std.specs.Prelude.{◌≡◌, ◌<◌, ◌≤◌, ◌+◌, [], length, IfOk};
+ghost use Rattle.std.specs.Prelude.{◌≡◌, ◌<◌, ◌≤◌, ◌+◌, length, IfOk};
 ghost use Rattle.s2ix_pairs.specs.Collection.{IsCollection};
 ghost use Rattle.s2ix_chain.specs.Order.{IsSweepOrder, ArePlaces};
 ghost use Rattle.s2ix_chain.specs.SpanTable.{IsInSpan};
-ghost use Rattle.s2ix_chain.specs.Sweep.{IsFresh, IsSwept, AreLasts, start_at, last_at};
+ghost use Rattle.s2ix_chain.specs.Sweep.{IsFresh, IsSwept, start_at, last_at};
 
 use crate::pass::{Pass, Stand};
 use s2id_core::OutOfMemory;
@@ -41,7 +41,6 @@ pub(crate) fn sweep_span(
             top: len as u32,
         },
     };
-    stack[0] = u64::MAX;
     sweep(held, order, &mut pass, stack, to);
     Ok(pass)
 }
@@ -54,9 +53,10 @@ fn sweep(held: &[FlatHeld], order: &[u32], pass: &mut Pass, lasts: &mut [u64], t
     requires order { IsSweepOrder held.now order.now }
     requires span { IsInSpan held.now pass.old.stand.at to }
     requires fresh { IsFresh held.now pass.old }
-    requires lasts { AreLasts held.now [] 0 lasts.old }
+    requires room { length lasts.old ≡ length held.now + 1 }
     ensures { IsSwept held.now pass.old.stand.at to pass.new }
 {
+    lasts[0] = u64::MAX;
     let mut stand = pass.stand;
     let mut depth = 0;
     let mut k = 0;

@@ -7,7 +7,7 @@ use Rattle.s2ix_chain.proofs.sweep.sweep.Goals as goal
 
 pub loop-lasts-init : goal.loop-lasts-init
 loop-lasts-init c =
-    way_begins c.args.held.now c.args.order.now c.args.pass.now.stand.at c.args.to c.args.lasts.now c.args.pass.now c.requires.span refl c.requires.fresh c.requires.lasts
+    way_begins c.args.held.now c.args.order.now c.args.pass.now.stand.at c.args.to c.args.lasts.now c.args.pass.now c.requires.span refl c.requires.fresh c.requires.room
 
 pub loop-depth-init : goal.loop-depth-init
 loop-depth-init c =
