@@ -11,7 +11,7 @@ use Rattle.s2ix_ranges.specs.Table.{leaf_end}
 use Rattle.s2ix_ranges.proofs.Over.{span_of}
 use Rattle.s2ix_ranges.proofs.Tables.{IsTable}
 use Rattle.s2ix_chain.specs.Chains.{is_on_chain, chain_of}
-use Rattle.s2ix_chain.specs.Order.{sweep_key, first_at, IsSweepOrder}
+use Rattle.s2ix_chain.specs.Order.{sweep_key, begin_at, IsSweepOrder}
 use Rattle.s2ix_chain.specs.Pass.{Progress}
 use Rattle.s2ix_chain.specs.Starts.{ranges_from}
 use Rattle.s2ix_chain.specs.SpanTable.{IsInSpan}
@@ -56,10 +56,10 @@ pub record IsNext (held : Collection) (to last bound : ℕ) : Type 0 where
 
 pub start_is : (held : Collection) (order : List ℕ) (to k p : ℕ) (h : Held) → slice_get order k ≡ Some p → slice_get held p ≡ Some h → start_at held order to k ≡ first_of h.pair.cell
 start_is held order to k p h is at =
-    ap (λ (o : Option ℕ). unwrap_or (option_map (first_at held) o) to) is ∙ at_is (λ x. first_of x.pair.cell) held p h at
+    ap (λ (o : Option ℕ). unwrap_or (option_map (begin_at held) o) to) is ∙ at_is (λ x. first_of x.pair.cell) held p h at
 
 pub start_end : (held : Collection) (order : List ℕ) (to k : ℕ) → slice_get order k ≡ None → start_at held order to k ≡ to
-start_end held order to k is = ap (λ (o : Option ℕ). unwrap_or (option_map (first_at held) o) to) is
+start_end held order to k is = ap (λ (o : Option ℕ). unwrap_or (option_map (begin_at held) o) to) is
 
 pub next_is : (held : Collection) (order : List ℕ) (from to k : ℕ) → IsSweepOrder held order → IsInSpan held from to → k ≤ length order → IsNext held to (reached held order k) (start_at held order to k)
 next_is held order from to k o span within =

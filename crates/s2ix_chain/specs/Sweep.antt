@@ -6,7 +6,7 @@ use Rattle.s2ix_pairs.specs.Collection.{Collection}
 use Rattle.s2ix_ranges.specs.Table.{IsTableOver}
 use Rattle.s2ix_chain.specs.declared.pass.Pass.{Pass}
 use Rattle.s2ix_chain.specs.Chains.{AreOuter, AreFirsts}
-use Rattle.s2ix_chain.specs.Order.{at_place, first_at}
+use Rattle.s2ix_chain.specs.Order.{at_place, begin_at}
 use Rattle.s2ix_chain.specs.Pass.{progress_of}
 use Rattle.s2ix_chain.specs.Starts.{ranges_from}
 
@@ -30,7 +30,7 @@ pub record IsSwept (held : Collection) (from to : ℕ) (pass : Pass) : Type 0 wh
 
 -- where the k-th place of an order begins, and behind the last the end of the span
 abbrev pub start_at : Collection → List ℕ → ℕ → ℕ → ℕ
-start_at held order to k = unwrap_or (option_map (first_at held) (slice_get order k)) to
+start_at held order to k = unwrap_or (option_map (begin_at held) (slice_get order k)) to
 
 -- the last number in the cell of a place, that before its end
 abbrev pub last_at : Collection → ℕ → ℕ
