@@ -1,0 +1,7 @@
+//! Tests of long random histories of stores, beside a plain model that sums up the changes that stand.
+#![tactic(auto)]
+
+#[cfg(test)]
+mod sum_tests;
+#[cfg(test)]
+mod sums;
