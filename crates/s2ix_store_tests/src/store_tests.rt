@@ -5,6 +5,12 @@ use s2ix_samples::{LimitRow, WIDEST, are_changes, holds_pairs, label_of};
 use s2ix_store::Store;
 use s2ix_store_samples::{answer_of, first_other_row, store_from, store_of};
 use std::alloc::Global;
+use std::process::Abort;
+
+// Fails where something is wrong, and tells what.
+fn check(rt: &impl Abort, wrong: Option<&'static str>) {
+    assert!(rt; wrong.is_none(), "wrong at {wrong:?}");
+}
 
 // The limits under which seven changes can be undone.
 const SEVEN_CHANGES: LimitRow = (1_000_000, 4_294_967_295, 7);
@@ -22,8 +28,7 @@ const NO_HISTORY: [&str; 2] = [
 fn a_store_starts_from_its_bag(rt: HostRuntime) {
     let mut store = store_from(rt.alloc(), SEVEN_CHANGES, FIRST_PAIRS).expect(&rt, "a store");
     assert!(rt; store.bag().limits().changes() == 7);
-    let wrong = first_other_row(rt.alloc(), &mut store, &NO_HISTORY);
-    assert!(rt; wrong.is_none(), "wrong at {wrong:?}");
+    check(&rt, first_other_row(rt.alloc(), &mut store, &NO_HISTORY));
 }
 
 // A removal of more than is held.
@@ -41,8 +46,10 @@ fn is_copied_as(alloc: Global, bag: &Bag, pairs: &str) -> Option<bool> {
 #[test]
 fn a_refused_removal_leaves_the_bag(rt: HostRuntime) {
     let mut store = store_of(rt.alloc(), (10, 10, 10)).expect(&rt, "a store");
-    let wrong = first_other_row(rt.alloc(), &mut store, &REFUSED_REMOVAL);
-    assert!(rt; wrong.is_none(), "wrong at {wrong:?}");
+    check(
+        &rt,
+        first_other_row(rt.alloc(), &mut store, &REFUSED_REMOVAL),
+    );
     assert!(rt; is_copied_as(rt.alloc(), store.bag(), "04:9:1") == Some(true));
 }
 
@@ -93,14 +100,14 @@ fn stands_so(store: &Store, undone: &str, faces: u8) -> bool {
 #[test]
 fn a_refused_revert_leaves_all(rt: HostRuntime) {
     let mut store = store_of(rt.alloc(), NARROW).expect(&rt, "a store");
-    let wrong = first_other_row(rt.alloc(), &mut store, &UP_TO);
-    assert!(rt; wrong.is_none(), "wrong at {wrong:?}");
+    check(&rt, first_other_row(rt.alloc(), &mut store, &UP_TO));
     assert!(rt; stands_so(&store, "04:9:1:0 3:9:2:0", 2));
-    let wrong = first_other_row(rt.alloc(), &mut store, &REFUSED_REVERTS);
-    assert!(rt; wrong.is_none(), "wrong at {wrong:?}");
+    check(
+        &rt,
+        first_other_row(rt.alloc(), &mut store, &REFUSED_REVERTS),
+    );
     assert!(rt; stands_so(&store, "04:9:1:0 3:9:2:0", 2));
-    let wrong = first_other_row(rt.alloc(), &mut store, &ACCEPTED);
-    assert!(rt; wrong.is_none(), "wrong at {wrong:?}");
+    check(&rt, first_other_row(rt.alloc(), &mut store, &ACCEPTED));
     assert!(rt; stands_so(&store, "04:9:1:0", 1));
 }
 
@@ -131,8 +138,7 @@ fn first_other_faces(alloc: Global, store: &mut Store) -> Option<&'static str> {
 fn the_faces_of_the_last_step_are_counted(rt: HostRuntime) {
     let mut store = store_of(rt.alloc(), WIDEST).expect(&rt, "a store");
     assert!(rt; store.faces_rebuilt() == 0);
-    let wrong = first_other_faces(rt.alloc(), &mut store);
-    assert!(rt; wrong.is_none(), "wrong at {wrong:?}");
+    check(&rt, first_other_faces(rt.alloc(), &mut store));
 }
 
 // Whether a label's region has these cells, rising.
@@ -160,6 +166,5 @@ fn first_other_region(store: &Store) -> Option<&'static str> {
 #[test]
 fn a_region_has_the_fewest_cells(rt: HostRuntime) {
     let store = store_from(rt.alloc(), WIDEST, TWO_SETS).expect(&rt, "a store");
-    let wrong = first_other_region(&store);
-    assert!(rt; wrong.is_none(), "wrong at {wrong:?}");
+    check(&rt, first_other_region(&store));
 }

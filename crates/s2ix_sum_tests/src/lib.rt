@@ -3,5 +3,3 @@
 
 #[cfg(test)]
 mod sum_tests;
-#[cfg(test)]
-mod sums;
