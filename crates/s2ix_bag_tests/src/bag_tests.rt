@@ -1,8 +1,6 @@
 // Bags, and the pairs of a label.
 use s2ix_bag::{ApplyError, Bag};
-use s2ix_samples::{
-    WIDEST, bag_of, change_of, entry_of, held_of, holds_pairs, label_of, limits_of, pair_of,
-};
+use s2ix_samples::{WIDEST, bag_of, change_of, held_of, holds_pairs, label_of, limits_of, pair_of};
 use std::alloc::Global;
 use std::process::Abort;
 
@@ -76,7 +74,7 @@ fn pairs_come_by_cell_and_then_by_label(rt: HostRuntime) {
 // The answer of a bag of two copies, within limits of one pair and of copies, that refuses a change.
 fn refusal(alloc: Global, copies: u32, entry: &str) -> Option<ApplyError> {
     let bag = bag_of(alloc, (1, copies, 1), "04:9:2")?;
-    let change = change_of(alloc, entry_of(entry)?)?;
+    let change = change_of(alloc, entry)?;
     bag.applied(alloc, &change).err()
 }
 

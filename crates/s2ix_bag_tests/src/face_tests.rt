@@ -1,7 +1,6 @@
 // Bags with pairs on several faces.
-use crate::changes::change_of;
-use s2ix_bag::{Bag, FlatHeld};
-use s2ix_samples::{LimitRow, bag_of, held_of, holds_pairs};
+use s2ix_bag::Bag;
+use s2ix_samples::{LimitRow, are_flat_pairs, bag_of, change_of, held_of, holds_pairs};
 use std::alloc::Global;
 
 const LIMITS: LimitRow = (12, 9, 1);
@@ -69,26 +68,11 @@ fn gives_pairs(bag: &Bag, pairs: &str) -> bool {
     left.next().is_none()
 }
 
-// Whether some pairs are these, in their order.
-pub(crate) fn are_pairs(held: &[FlatHeld], pairs: &str) -> bool {
-    let mut left = held.iter();
-    for text in pairs.split_ascii_whitespace() {
-        let Some(wanted) = held_of(text) else {
-            return false;
-        };
-        match left.next() {
-            Some(flat) if flat.held() == wanted => {}
-            _ => return false,
-        }
-    }
-    left.next().is_none()
-}
-
 // Whether the bag of some pairs has them in order, one by one and in one list.
 fn has_order(alloc: Global, pairs: &str) -> Option<bool> {
     let bag = bag_of(alloc, LIMITS, pairs)?;
     let flat = bag.flat(alloc).ok()?;
-    Some(gives_pairs(&bag, pairs) && are_pairs(flat.as_slice(), pairs))
+    Some(gives_pairs(&bag, pairs) && are_flat_pairs(flat.as_slice(), pairs))
 }
 
 const IN_ORDER: [&str; 4] = ["", "7:7:4", "04:9:2 1:7:3 b:7:6", ALL_FACES];

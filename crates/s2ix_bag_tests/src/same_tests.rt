@@ -1,18 +1,14 @@
-// Bags and changes that are the same, and their clones.
-use s2ix_bag::{Bag, Change};
+// Bags that are the same, and their clones.
 use s2ix_samples::{LimitRow, bag_of};
-use std::alloc::Global;
 
 const LIMITS: LimitRow = (2, 3, 1);
 
 const TWO: &str = "04:9:2";
 
-const THREE: &str = "04:9:3";
-
 // Limits and pairs, and whether their bag is that of the two copies.
 const BAGS: [(LimitRow, &str, bool); 4] = [
     (LIMITS, TWO, true),
-    (LIMITS, THREE, false),
+    (LIMITS, "04:9:3", false),
     (LIMITS, "", false),
     ((2, 3, 2), TWO, false),
 ];
@@ -31,30 +27,4 @@ fn the_clone_of_a_bag_is_the_same(rt: HostRuntime) {
     let bag = bag_of(rt.alloc(), LIMITS, TWO).expect(&rt, "a bag");
     let copy = bag.clone().expect(&rt, "memory");
     assert!(rt; copy == bag);
-}
-
-// The change that makes these pairs of nothing.
-fn change_to(alloc: Global, pairs: &str) -> Option<Change> {
-    let bag = bag_of(alloc, LIMITS, pairs)?;
-    let empty = Bag::empty(alloc, bag.limits());
-    Change::between(alloc, &empty, &bag).ok()
-}
-
-// Whether the change that makes these pairs of nothing is this one.
-fn is_change_to(alloc: Global, change: &Change, pairs: &str) -> Option<bool> {
-    Some(*change == change_to(alloc, pairs)?)
-}
-
-#[test]
-fn changes_are_the_same_where_their_entries_are(rt: HostRuntime) {
-    let change = change_to(rt.alloc(), TWO).expect(&rt, TWO);
-    assert!(rt; is_change_to(rt.alloc(), &change, TWO) == Some(true));
-    assert!(rt; is_change_to(rt.alloc(), &change, THREE) == Some(false));
-}
-
-#[test]
-fn the_clone_of_a_change_is_the_same(rt: HostRuntime) {
-    let change = change_to(rt.alloc(), TWO).expect(&rt, TWO);
-    let copy = change.clone().expect(&rt, "memory");
-    assert!(rt; copy == change);
 }

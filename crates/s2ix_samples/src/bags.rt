@@ -1,5 +1,6 @@
-use crate::pairs::{entry_of, held_of};
-use s2ix_bag::{Bag, Change, Entry, Held, Limits};
+use crate::changes::change_by;
+use crate::pairs::held_of;
+use s2ix_bag::{Bag, Entry, Held, Limits};
 use std::alloc::Global;
 
 /// The greatest numbers of pairs, of copies of a pair, and of changes that can be undone.
@@ -13,11 +14,6 @@ pub fn limits_of((pairs, count, changes): LimitRow) -> Option<Limits> {
     Limits::new(pairs, count, changes)
 }
 
-/// The change of one pair's count.
-pub fn change_of(alloc: Global, entry: Entry) -> Option<Change> {
-    Change::from_entries(alloc, &[entry]).ok()
-}
-
 // The bag with a pair that it didn't hold.
 fn with_pair(alloc: Global, bag: &Bag, held: Held) -> Option<Bag> {
     let entry = Entry {
@@ -25,7 +21,7 @@ fn with_pair(alloc: Global, bag: &Bag, held: Held) -> Option<Bag> {
         before: 0,
         after: held.count,
     };
-    let change = change_of(alloc, entry)?;
+    let change = change_by(alloc, entry)?;
     bag.applied(alloc, &change).ok()
 }
 
@@ -54,27 +50,4 @@ pub fn holds_pairs(bag: &Bag, pairs: &str) -> bool {
         place = place.wrapping_add(1);
     }
     place == bag.len()
-}
-
-/// Whether a change has these entries and no others.
-pub fn lists_entries(change: &Change, entries: &str) -> bool {
-    let mut left = change.entries().iter();
-    for text in entries.split_ascii_whitespace() {
-        if left.next().copied() != entry_of(text) {
-            return false;
-        }
-    }
-    left.next().is_none()
-}
-
-/// Whether some changes have these entries, each its own and no others, in their order.
-pub fn are_changes(changes: &[Change], wanted: &[&str]) -> bool {
-    let mut left = changes.iter();
-    for &entries in wanted {
-        match left.next() {
-            Some(change) if lists_entries(change, entries) => {}
-            _ => return false,
-        }
-    }
-    left.next().is_none()
 }

@@ -6,13 +6,13 @@
 #![tactic(auto)]
 
 mod bags;
+mod changes;
 mod lists;
 mod nested;
 mod pairs;
 
-pub use bags::{
-    LimitRow, WIDEST, are_changes, bag_of, change_of, holds_pairs, limits_of, lists_entries,
-};
-pub use lists::{are_labels, are_pairs, list_of};
+pub use bags::{LimitRow, WIDEST, bag_of, holds_pairs, limits_of};
+pub use changes::{are_changes, change_of, changes_of, entries_of, lists_entries};
+pub use lists::{are_flat_pairs, are_labels, are_pairs, list_of};
 pub use nested::{all_faces, deep_bag, nested_bag, random_cells, with_more};
 pub use pairs::{entry_of, held_of, label_of, pair_of};

@@ -1,5 +1,5 @@
 use crate::pairs::{held_of, label_of};
-use s2ix_bag::{Held, Label};
+use s2ix_bag::{FlatHeld, Held, Label};
 use std::alloc::Global;
 
 /// Pairs with their counts, in the order given.
@@ -17,6 +17,21 @@ pub fn are_pairs(pairs: &[Held], wanted: &str) -> bool {
     for text in wanted.split_ascii_whitespace() {
         if left.next().copied() != held_of(text) {
             return false;
+        }
+    }
+    left.next().is_none()
+}
+
+/// Whether some held pairs of a bag's lists are these, in their order.
+pub fn are_flat_pairs(held: &[FlatHeld], wanted: &str) -> bool {
+    let mut left = held.iter();
+    for text in wanted.split_ascii_whitespace() {
+        let Some(wanted) = held_of(text) else {
+            return false;
+        };
+        match left.next() {
+            Some(flat) if flat.held() == wanted => {}
+            _ => return false,
         }
     }
     left.next().is_none()

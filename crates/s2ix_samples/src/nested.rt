@@ -1,4 +1,4 @@
-use crate::bags::change_of;
+use crate::changes::change_by;
 use s2id_core::CellId;
 use s2id_samples::Random;
 use s2ix_bag::{Bag, Entry, Held, Label, Limits, Pair};
@@ -16,7 +16,7 @@ pub fn with_more(alloc: Global, bag: &Bag, added: Held) -> Option<Bag> {
         before,
         after,
     };
-    let change = change_of(alloc, entry)?;
+    let change = change_by(alloc, entry)?;
     bag.applied(alloc, &change).ok()
 }
 

@@ -1,7 +1,6 @@
 // Changes that are taken back from bags that other changes led on to.
-use crate::changes::change_of;
 use s2ix_bag::{Bag, Change, RevertError};
-use s2ix_samples::{LimitRow, WIDEST, bag_of, holds_pairs, lists_entries};
+use s2ix_samples::{LimitRow, WIDEST, bag_of, change_of, holds_pairs, lists_entries};
 use std::alloc::Global;
 
 // The limits, what is held now, a change, and what is held with it taken back.

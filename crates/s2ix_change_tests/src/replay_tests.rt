@@ -1,8 +1,7 @@
 // Changes done to a bag in their order, and taken back.
-use crate::changes::change_of;
 use s2ix_bag::{Bag, Change};
 use s2ix_replay::{ReplayError, replay, rewind};
-use s2ix_samples::{LimitRow, bag_of, holds_pairs, limits_of};
+use s2ix_samples::{LimitRow, bag_of, changes_of, holds_pairs, limits_of};
 use std::alloc::Global;
 use std::process::Abort;
 
@@ -78,14 +77,6 @@ const NOT_REWOUND: [Refused; 3] = [
         ReplayError::TooManyPairs { change: 1 },
     ),
 ];
-
-fn changes_of(alloc: Global, texts: &str) -> Option<Vec<Change>> {
-    let mut all = Vec::new(alloc);
-    for text in texts.lines() {
-        all.push(change_of(alloc, text)?).ok()?;
-    }
-    Some(all)
-}
 
 // What changes that are done, or taken back, make of a bag.
 fn made_of(alloc: Global, back: bool, first: &Bag, changes: &[Change]) -> Result<Bag, ReplayError> {

@@ -1,7 +1,6 @@
 // Changes between bags.
-use crate::changes::{change_of, entries_of};
-use s2ix_bag::{Change, ChangeError, FlatHeld};
-use s2ix_samples::{LimitRow, bag_of, held_of, holds_pairs, lists_entries};
+use s2ix_bag::{ApplyError, Change, ChangeError, FlatHeld};
+use s2ix_samples::{LimitRow, bag_of, change_of, entries_of, held_of, holds_pairs, lists_entries};
 use std::alloc::Global;
 
 const LIMITS: LimitRow = (3, 3, 1);
@@ -39,6 +38,27 @@ fn its_inverse_leads_back(rt: HostRuntime) {
     let change = change_between(rt.alloc(), OLD, NEW).expect(&rt, "a change");
     let inverse = change.inverse(rt.alloc()).expect(&rt, "memory");
     assert!(rt; leads(rt.alloc(), &inverse, NEW, OLD) == Some(true));
+}
+
+// Two labels of one cell, and what it is when the copies of the one go to the other.
+const TWO_LABELS: &str = "04:3:1 04:9:2";
+
+const ONE_LABEL: &str = "04:3:3";
+
+// Why a change doesn't fit the bag of some pairs.
+fn misfit(alloc: Global, change: &Change, pairs: &str) -> Option<ApplyError> {
+    let bag = bag_of(alloc, LIMITS, pairs)?;
+    bag.applied(alloc, change).err()
+}
+
+#[test]
+fn a_relabel_is_a_change_between_two_bags(rt: HostRuntime) {
+    let change = change_between(rt.alloc(), TWO_LABELS, ONE_LABEL).expect(&rt, "a change");
+    assert!(rt; lists_entries(&change, "04:3:1:3 04:9:2:0"));
+    assert!(rt; misfit(rt.alloc(), &change, ONE_LABEL) == Some(ApplyError::Mismatch(0)));
+    let inverse = change.inverse(rt.alloc()).expect(&rt, "memory");
+    assert!(rt; lists_entries(&inverse, "04:3:3:1 04:9:0:2"));
+    assert!(rt; leads(rt.alloc(), &inverse, ONE_LABEL, TWO_LABELS) == Some(true));
 }
 
 // The change that leads from one held pair alone to another alone.

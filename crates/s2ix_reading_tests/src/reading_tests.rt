@@ -1,11 +1,9 @@
 // Bags that are read pair by pair, and the faces that changes have entries on.
-use crate::changes::change_of;
-use crate::face_tests::are_pairs;
 use s2ix_bag::{Bag, Change, FlatHeld, Held};
 use s2ix_reading::{
     BagReader, PairReader, changed_face_count, changed_faces, read_changed, read_face,
 };
-use s2ix_samples::{LimitRow, bag_of, held_of};
+use s2ix_samples::{LimitRow, are_flat_pairs, bag_of, change_of, held_of};
 use std::alloc::Global;
 
 const LIMITS: LimitRow = (12, 9, 1);
@@ -116,7 +114,7 @@ fn stand_on_face(bag: &Bag, place: usize, before: usize, pairs: &str) -> bool {
         return false;
     }
     let (first, own) = bag.face_at(place);
-    first == before && are_pairs(own, pairs)
+    first == before && are_flat_pairs(own, pairs)
 }
 
 #[test]
@@ -146,7 +144,7 @@ fn reads_face(alloc: Global, bag: &Bag, face: u8, wanted: &str, most: u64) -> Op
     let mut reader = BagReader::new(bag);
     let held = read_face(alloc, &mut reader, face).ok()?;
     let is_within = (held.len() as u64) <= reader.reads() && reader.reads() <= most;
-    Some(is_within && are_pairs(held.as_slice(), wanted))
+    Some(is_within && are_flat_pairs(held.as_slice(), wanted))
 }
 
 #[test]
@@ -162,7 +160,7 @@ fn a_face_is_read_by_few_reads(rt: HostRuntime) {
 fn are_two_faces(read: &[Option<Vec<FlatHeld>>; 6], pairs: &str) -> bool {
     match read {
         [None, Some(second), Some(third), None, None, None] => {
-            second.is_empty() && are_pairs(third.as_slice(), pairs)
+            second.is_empty() && are_flat_pairs(third.as_slice(), pairs)
         }
         _ => false,
     }

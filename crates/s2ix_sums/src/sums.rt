@@ -1,34 +1,34 @@
-//! A plain model of a store over four pairs: the first counts, and the differences of each change that stands. It knows no other counts
-//! than their sums.
-
 use std::alloc::Global;
 
 /// Counts of the four pairs, or what a change adds to them.
-pub(crate) type Row = [i64; 4];
+pub type Row = [i64; 4];
 
 /// The four pairs: of two cells on two faces, each under two labels.
-pub(crate) const PAIRS: [&str; 4] = ["04:3", "04:9", "b:3", "b:9"];
+pub const PAIRS: [&str; 4] = ["04:3", "04:9", "b:3", "b:9"];
 
 /// The most pairs, copies of one and changes.
-pub(crate) const MOST: (i64, i64, usize) = (3, 4, 6);
+pub const MOST: (i64, i64, usize) = (3, 4, 6);
 
 /// What a step does.
 #[derive(Clone, Copy)]
-pub(crate) enum Step {
-    // adds this to the counts
+pub enum Step {
+    /// Adds this to the counts.
     Add(Row),
-    // moves the copies of 9 to 3
+    /// Moves the copies of 9 to 3.
     Relabel,
-    // takes back the change with the number
+    /// Takes back the change with the number.
     Revert(usize),
+    /// Takes back the last change that stands.
     Undo,
+    /// Does again what was undone last.
     Redo,
+    /// Forgets what was done and undone, and keeps the counts.
     Forget,
 }
 
 /// The first counts, what was done and what was undone, and on how many faces the last accepted step changed something.
 #[derive(Drop)]
-pub(crate) struct Sums {
+pub struct Sums {
     pub first: Row,
     pub done: Vec<Row>,
     pub undone: Vec<Row>,
@@ -36,7 +36,7 @@ pub(crate) struct Sums {
 }
 
 /// The model that starts from some counts.
-pub(crate) fn sums_from(alloc: Global, first: Row) -> Sums {
+pub fn sums_from(alloc: Global, first: Row) -> Sums {
     Sums {
         first,
         done: Vec::new(alloc),
@@ -106,7 +106,7 @@ fn summed(first: Row, rows: &[Row]) -> Row {
 }
 
 /// The counts: the first ones, and what each change that stands adds.
-pub(crate) fn counts_of(sums: &Sums) -> Row {
+pub fn counts_of(sums: &Sums) -> Row {
     summed(sums.first, sums.done.as_slice())
 }
 
@@ -202,7 +202,7 @@ fn forget(sums: &mut Sums) -> Option<&'static str> {
 }
 
 /// Carries a step out, and gives its answer; none where memory is wanted.
-pub(crate) fn model_answer(sums: &mut Sums, step: Step) -> Option<&'static str> {
+pub fn model_answer(sums: &mut Sums, step: Step) -> Option<&'static str> {
     match step {
         Step::Undo => undo(sums),
         Step::Redo => redo(sums),

@@ -1,11 +1,9 @@
 //! What the edits of unions and of whole labels do and refuse, on stores with ample memory.
 
-use crate::checks::{check_history, check_steps, ends_with, store_of};
-use crate::edits::edit_of;
-use s2ix_bag::{ApplyError, Bag, Change};
+use crate::checks::check_history;
 use s2ix_edit::Edit;
-use s2ix_samples::{WIDEST, holds_pairs, lists_entries};
-use s2ix_store::Store;
+use s2ix_samples::WIDEST;
+use s2ix_store_samples::edit_of;
 use std::alloc::Global;
 
 // Unions within limits of two pairs and two copies.
@@ -60,61 +58,18 @@ fn a_label_is_dropped_whole(rt: HostRuntime) {
     check_history(&rt, rt.alloc(), WIDEST, &DROPS);
 }
 
-// Two labels of one cell.
-const ADD_LABELS: [&str; 2] = [
+// Two labels of one cell, to the one and back, and to the other one.
+const RELABELS: [&str; 5] = [
     "add 04:9:2 = 1 | 04:9:2 | 1 0",
     "add 04:3:1 = 1 | 04:3:1 04:9:2 | 2 0",
-];
-
-// To the one label.
-const RELABEL: [&str; 1] = ["relabel 9 3 = 2 | 04:3:3 | 3 0"];
-
-// Back, and to the other one.
-const RELABEL_BACK: [&str; 2] = [
+    "relabel 9 3 = 2 | 04:3:3 | 3 0 | 04:3:1:3 04:9:2:0",
     "undo = 2 | 04:3:1 04:9:2 | 2 1",
-    "relabel 3 9 = 2 | 04:9:3 | 3 0",
+    "relabel 3 9 = 2 | 04:9:3 | 3 0 | 04:3:1:0 04:9:2:3",
 ];
-
-// What leads from two labels to the one, what leads back from it, and what leads on to the other one.
-const TO_THREE: &str = "04:3:1:3 04:9:2:0";
-
-const FROM_THREE: &str = "04:3:3:1 04:9:0:2";
-
-const TO_NINE: &str = "04:3:1:0 04:9:2:3";
 
 #[test]
 fn copies_move_to_another_label(rt: HostRuntime) {
-    let mut store = store_of(rt.alloc(), WIDEST).expect(&rt, "a store");
-    check_steps(&rt, rt.alloc(), &mut store, &ADD_LABELS);
-    check_steps(&rt, rt.alloc(), &mut store, &RELABEL);
-    assert!(rt; ends_with(&store, TO_THREE));
-    check_steps(&rt, rt.alloc(), &mut store, &RELABEL_BACK);
-    assert!(rt; ends_with(&store, TO_NINE));
-}
-
-// Whether the change from one bag to another has these entries, and doesn't fit the bag that it led to.
-fn leads_there(alloc: Global, old: &Bag, new: &Bag) -> Option<bool> {
-    let change = Change::between(alloc, old, new).ok()?;
-    let again = new.applied(alloc, &change).err();
-    Some(lists_entries(&change, TO_THREE) && again == Some(ApplyError::Mismatch(0)))
-}
-
-// Whether the change that leads back has these entries, and what it leads back to.
-fn leads_back(alloc: Global, old: &Bag, new: &Bag) -> Option<bool> {
-    let change = Change::between(alloc, old, new).ok()?;
-    let inverse = change.inverse(alloc).ok()?;
-    let led = new.applied(alloc, &inverse).ok()?;
-    Some(lists_entries(&inverse, FROM_THREE) && holds_pairs(&led, "04:3:1 04:9:2"))
-}
-
-#[test]
-fn a_relabel_is_a_change_between_two_bags(rt: HostRuntime) {
-    let mut store = store_of(rt.alloc(), (10, 10, 10)).expect(&rt, "a store");
-    check_steps(&rt, rt.alloc(), &mut store, &ADD_LABELS);
-    let old = store.bag().copied(rt.alloc()).expect(&rt, "memory");
-    check_steps(&rt, rt.alloc(), &mut store, &RELABEL);
-    assert!(rt; leads_there(rt.alloc(), &old, store.bag()) == Some(true));
-    assert!(rt; leads_back(rt.alloc(), &old, store.bag()) == Some(true));
+    check_history(&rt, rt.alloc(), WIDEST, &RELABELS);
 }
 
 // Labels within a limit of three copies.

@@ -1,6 +1,3 @@
-//! Edits from texts, much as a script writes them: `add 04:9:2`, `remove 04:9:2`, `addunion 9 04 3`, `drop 9`, `relabel 9 3`, `grow 9 1`,
-//! `normal 9` and `revert 1`.
-
 use s2id_samples::cells_of;
 use s2id_union::CellUnion;
 use s2ix_bag::Held;
@@ -8,8 +5,8 @@ use s2ix_edit::Edit;
 use s2ix_samples::{held_of, label_of};
 use std::alloc::Global;
 
-// The union of the cells that some tokens name.
-pub(crate) fn union_of(alloc: Global, tokens: &str) -> Option<CellUnion> {
+/// The union of the cells that some tokens name.
+pub fn union_of(alloc: Global, tokens: &str) -> Option<CellUnion> {
     let cells = cells_of(alloc, tokens)?;
     CellUnion::normalise(alloc, &cells).ok()
 }
@@ -70,8 +67,8 @@ fn revert(text: &str) -> Option<Edit> {
     })
 }
 
-// The edit that a text is.
-pub(crate) fn edit_of(alloc: Global, text: &str) -> Option<Edit> {
+/// The edit that a text is.
+pub fn edit_of(alloc: Global, text: &str) -> Option<Edit> {
     let (word, fields) = text.split_once(' ')?;
     match word {
         "add" => add(fields),

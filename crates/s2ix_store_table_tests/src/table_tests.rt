@@ -1,11 +1,8 @@
 //! The range table of a store, step by step.
-use crate::checks::{answers, store_of};
-use crate::edits::union_of;
-use s2id_core::sixteen_digits;
 use s2id_union::CellUnion;
-use s2ix_bag::Held;
-use s2ix_samples::{WIDEST, label_of};
+use s2ix_samples::{WIDEST, are_pairs};
 use s2ix_store::{Store, StoreTable};
+use s2ix_store_samples::{answers, store_of, union_of};
 use s2ix_table::{RangeTable, ranges};
 use std::alloc::Global;
 
@@ -44,59 +41,43 @@ fn the_table_follows_the_bag(rt: HostRuntime) {
     assert!(rt; ranges_of_copy(rt.alloc(), &store) == Some(3));
 }
 
-// Whether a text is a leaf number's sixteen digits.
-fn is_number(text: Option<&str>, number: u64) -> bool {
-    match text {
-        Some(text) => text.as_bytes() == sixteen_digits(number).as_slice(),
-        None => false,
-    }
-}
-
 // Whether the ranges of a table end here.
-fn has_ends(table: &StoreTable, ends: &str) -> bool {
-    let mut left = ends.split_ascii_whitespace();
+fn has_ends(table: &StoreTable, ends: &[u64]) -> bool {
+    let mut left = ends.iter();
     for (_, row) in ranges(table) {
-        if !is_number(left.next(), row.limit) {
+        if left.next().copied() != Some(row.limit) {
             return false;
         }
     }
     left.next().is_none()
 }
 
-// Whether some pairs have these labels, in their order.
-fn have_labels(pairs: &[Held], labels: &str) -> bool {
-    let mut left = pairs.iter();
-    for text in labels.split_ascii_whitespace() {
-        match left.next() {
-            Some(held) if Some(held.pair.label) == label_of(text) => {}
-            _ => return false,
-        }
-    }
-    left.next().is_none()
+// Whether these pairs meet a target.
+fn meets(alloc: Global, table: &StoreTable, target: &CellUnion, pairs: &str) -> Option<bool> {
+    let met = table.meeting(alloc, target).ok()?;
+    Some(are_pairs(&met, pairs))
 }
 
-// Whether the pairs that meet a target have these labels.
-fn meets(alloc: Global, table: &StoreTable, target: &CellUnion, labels: &str) -> Option<bool> {
-    let pairs = table.meeting(alloc, target).ok()?;
-    Some(have_labels(&pairs, labels))
-}
-
-// A step, where the ranges of the table end behind it, and the labels of the pairs that meet the first leaf.
-const TABLES: [(&str, &str, &str); 3] = [
-    ("add 1:7:1", "2000000000000001 c000000000000001", "7"),
+// A step, where the ranges of the table end behind it, and the pairs that meet the first leaf.
+const TABLES: [(&str, &[u64], &str); 3] = [
+    (
+        "add 1:7:1",
+        &[0x2000000000000001, 0xc000000000000001],
+        "1:7:1",
+    ),
     (
         "add 04:9:1",
-        "0800000000000001 2000000000000001 c000000000000001",
-        "9 7",
+        &[0x0800000000000001, 0x2000000000000001, 0xc000000000000001],
+        "04:9:1 1:7:1",
     ),
-    ("undo", "2000000000000001 c000000000000001", "7"),
+    ("undo", &[0x2000000000000001, 0xc000000000000001], "1:7:1"),
 ];
 
 // Carries the steps out, and tells behind which the table is first another one.
 fn first_other_table(alloc: Global, store: &mut Store, target: &CellUnion) -> Option<&'static str> {
-    for &(step, ends, labels) in &TABLES {
+    for &(step, ends, pairs) in &TABLES {
         let holds = answers(alloc, store, step, "1") && has_ends(store.table(), ends);
-        if !holds || meets(alloc, store.table(), target, labels) != Some(true) {
+        if !holds || meets(alloc, store.table(), target, pairs) != Some(true) {
             return Some(step);
         }
     }
