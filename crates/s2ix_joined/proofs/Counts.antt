@@ -106,6 +106,16 @@ own_is tables now seats count k f own are same lt is =
     ap (λ ss. slice_index_or (places_of ss) f 0) are.seats_are ∙ ap (λ ts. slice_index_or (places_of (seats_of ts)) f 0) same in
     omega arith
 
+-- a range's place, from its place in its face's table
+pub own_back : (tables now : List SpanRanges) (seats : List Seat) (count k f : ℕ) → AreJoined tables seats count → tables ≡ now → f < 6 → IsLastStart (places_of (seats_of now)) k f → slice_index_or (places_of (seats_of now)) f 0 + (k - (get_or seats f no_seat).place) ≡ k
+own_back tables now seats count k f are same lt last =
+    let six = (in_order tables seats count are).six in
+    let by = last.by in
+    let place : slice_index_or (places_of seats) f 0 ≡ (get_or seats f no_seat).place = get_or-map (λ (s : Seat). s.place) seats f no_seat 0 (omega arith) in
+    let seen : slice_index_or (places_of seats) f 0 ≡ slice_index_or (places_of (seats_of now)) f 0 =
+    ap (λ ss. slice_index_or (places_of ss) f 0) are.seats_are ∙ ap (λ ts. slice_index_or (places_of (seats_of ts)) f 0) same in
+    omega arith
+
 -- the place behind the first range at a seat
 pub behind_place : (tables : List SpanRanges) (seats : List Seat) (behind inner : List ℕ) (count f : ℕ) → AreCounted tables seats behind inner count → f < 6 → get_or behind f 0 ≡ (get_or seats f no_seat).place + 1
 behind_place tables seats behind inner count f are lt =

@@ -26,7 +26,7 @@ fn search<R: Reader>(reader: &mut R, leaf: u64, among: Window) -> usize
     let mut first = window.first;
     let mut half = window.size / 2;
     while half > 0 {
-        first += half * begun(reader.row(first + half).start, leaf);
+        first += half * begun(reader.start(first + half), leaf);
         half /= 2;
     }
     first
@@ -47,7 +47,7 @@ fn narrow<R: Reader>(reader: &mut R, leaf: u64, among: Window) -> Window
 {
     let size = power_within(among.size);
     let over = among.size - size;
-    let first = among.first + over * begun(reader.row(among.first + over).start, leaf);
+    let first = among.first + over * begun(reader.start(among.first + over), leaf);
     Window { first, size }
 }
 
