@@ -179,14 +179,16 @@ impl JoinedTables {
         seat_by(&self.seats, k)
     }
 
-    // The place of a range among those of the face at hand, where it is one of them and not the first, which may begin before its face:
-    // one test tells.
+    // The place of a range among those of the face at hand, where it is one of them and neither the first, which may begin before its face,
+    // nor the last: one test tells.
     #[inline]
     fn own_near(&self, k: usize, near: usize) -> Option<usize>
         ensures within { IfSome result (λ own. near < 6) }
         ensures last { IfSome result (λ own. IsLastStart (places_of (seats_of self.now)) k near) }
         ensures own { IfSome result (λ own. slice_index_or (places_of (seats_of self.now)) near 0 + own ≡ k) }
         ensures behind { IfSome result (λ own. 0 < own) }
+        ensures next { IfSome result (λ own. IsLastStart (places_of (seats_of self.now)) (k + 1) near) }
+        ensures more { IfSome result (λ own. k + 1 < length (joined_ranges self.now)) }
     {
         if near >= FACES {
             return None;
@@ -233,19 +235,24 @@ impl JoinedTables {
         }
     }
 
-    // The leaves of a range, by the face whose seat has it and the range's place in that face's table, where it is not the first one there.
+    // The leaves of a range, by the face whose seat has it and the next one, and by its place in that face's table, where it is not the first.
     #[inline]
     fn range_of(&self, face: usize, own: usize) -> RangeRow
         requires within { face < 6 }
         requires last { IsLastStart (places_of (seats_of self.now)) (slice_index_or (places_of (seats_of self.now)) face 0 + own) face }
-        requires range { slice_index_or (places_of (seats_of self.now)) face 0 + own < length (joined_ranges self.now) }
+        requires next { IsLastStart (places_of (seats_of self.now)) (slice_index_or (places_of (seats_of self.now)) face 0 + own + 1) face }
+        requires more { slice_index_or (places_of (seats_of self.now)) face 0 + own + 1 < length (joined_ranges self.now) }
         requires later { 0 < own }
         ensures start { result.start
             ≡ (range_at (joined_ranges self.now) (slice_index_or (places_of (seats_of self.now)) face 0 + own)).start }
         ensures limit { result.limit
             ≡ (range_at (joined_ranges self.now) (slice_index_or (places_of (seats_of self.now)) face 0 + own)).limit }
     {
-        self.tables[face].span().range(own)
+        let span = self.tables[face].span();
+        RangeRow {
+            start: span.start(own),
+            limit: span.start(own + 1),
+        }
     }
 
     // The place of a range's innermost pair, by the face whose seat has it.

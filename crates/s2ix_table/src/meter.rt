@@ -19,6 +19,9 @@ pub struct Meter<'a, T: RangeTable> {
     pub ghost near_is: { IsStretch (T.ranges table.now) near.first near.count near.starts.now },
 }
 
+// A number that no table knows a range by: what a search reads so is in no stretch at hand, and what reads it is not compiled into its loop.
+const NO_NOTE: usize = usize::MAX;
+
 impl<'a, T: RangeTable> Meter<'a, T> {
     /// A reader of a table that has read nothing. O(1).
     pub fn new(table: &'a T) -> Meter<'a, T>
@@ -73,7 +76,7 @@ impl<T: RangeTable> Reader for Meter<'_, T> {
         if own < self.near.count {
             return self.near.starts[own];
         }
-        self.table.read_near(k, self.note).0.start
+        self.table.read_near(k, NO_NOTE).0.start
     }
 
     fn row_and_first(&mut self, k: usize) -> (RangeRow, Option<T::Place>) {

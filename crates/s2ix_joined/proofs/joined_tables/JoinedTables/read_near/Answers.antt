@@ -1,4 +1,4 @@
-use Rattle.std.proofs.Common.{◌≡◌, ◌<◌, length, sym, subst}
+use Rattle.std.proofs.Common.{◌≡◌, ◌<◌, ◌+◌, length, sym, subst}
 use Rattle.s2ix_walk.specs.Places.{LeadsTo}
 use Rattle.s2ix_ranges.specs.Table.{range_at}
 use Rattle.s2ix_chain.specs.Starts.{IsLastStart}
@@ -10,8 +10,11 @@ use Rattle.s2ix_joined.proofs.joined_tables.JoinedTables.read_near.Goals as goal
 pub range_of-requires-clause-last : goal.range_of-requires-clause-last
 range_of-requires-clause-last c = subst (λ n. IsLastStart (places_of (seats_of c.args.self.now)) n c.args.note) (sym c.in-Some.ensures.own) c.in-Some.ensures.last
 
-pub range_of-requires-clause-range : goal.range_of-requires-clause-range
-range_of-requires-clause-range c = subst (λ n. n < length (joined_ranges c.args.self.now)) (sym c.in-Some.ensures.own) c.requires
+pub range_of-requires-clause-next : goal.range_of-requires-clause-next
+range_of-requires-clause-next c = subst (λ n. IsLastStart (places_of (seats_of c.args.self.now)) (n + 1) c.args.note) (sym c.in-Some.ensures.own) c.in-Some.ensures.next
+
+pub range_of-requires-clause-more : goal.range_of-requires-clause-more
+range_of-requires-clause-more c = subst (λ n. n + 1 < length (joined_ranges c.args.self.now)) (sym c.in-Some.ensures.own) c.in-Some.ensures.more
 
 pub first_of-requires-clause-last : goal.first_of-requires-clause-last
 first_of-requires-clause-last c = subst (λ n. IsLastStart (places_of (seats_of c.args.self.now)) n c.args.note) (sym c.in-Some.ensures.own) c.in-Some.ensures.last
