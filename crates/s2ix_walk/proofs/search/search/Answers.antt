@@ -22,7 +22,7 @@ loop-half-init g c =
       (k, ap (λ (size : ℕ). size / 2) is, subst (λ (size : ℕ). IsWindow ranges c.args.leaf c.narrow-window.result.first size) is n.window, omega (arith, digits_below k)),
       n.same,
       n.looks,
-      n.rises,
+      n.kept,
     )
 
 -- the half that is left
@@ -47,7 +47,7 @@ loop-half-preserved g c =
       (h.left, ap (λ (half : ℕ). half / 2) h.is, h.window, omega arith),
       c.start.ensures.same ∙ i.1,
       looks ∙ i.2,
-      let rises = i.3 in omega arith,
+      let kept = i.3 in omega arith,
     )
 
 pub overflow_add-first : goal.overflow_add-first

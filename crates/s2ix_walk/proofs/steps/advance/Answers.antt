@@ -114,7 +114,7 @@ returns-clause-paid g c calls paid =
     let probes = ap (λ (z : Cost). z.probes) counts in
     let e = c.range_from-range.ensures in
     let searched = e.probes in
-    step_pays (g.R.Reader.shown c.args.reader.now) c.args.cells.now c.args.walk _ c.index-cells-cell.result c.range_from-range.result calls _ _ (step_passes g (goal.at.returns-clause-paid g c).Joined-row-end) (looks ∙ e.looks) (λ le. let same = ap (λ (z : Cost). z.probes) (e.at_hand le) in omega arith) (omega arith) (omega (arith, e.rises)) (g.met.R.Reader.is_shown c.args.reader.now) paid
+    step_pays (g.R.Reader.shown c.args.reader.now) c.args.cells.now c.args.walk _ c.index-cells-cell.result c.range_from-range.result calls _ _ (step_passes g (goal.at.returns-clause-paid g c).Joined-row-end) (looks ∙ e.looks) (λ le. let same = ap (λ (z : Cost). z.probes) (e.at_hand le) in omega arith) (omega arith) (omega (arith, e.kept)) (g.met.R.Reader.is_shown c.args.reader.now) paid
 
 pub returns-clause-rises : goal.returns-clause-rises
 returns-clause-rises g c =

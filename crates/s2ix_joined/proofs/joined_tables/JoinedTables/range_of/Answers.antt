@@ -1,4 +1,4 @@
-use Rattle.std.proofs.Common.{◌≡◌, ◌<◌, ◌+◌, length, slice_index_or, refl, sym, ◌∙◌, arith}
+use Rattle.std.proofs.Common.{◌+◌, slice_index_or, refl, ◌∙◌, arith}
 use Rattle.s2ix_joined.specs.Seats.{seats_of, places_of}
 use Rattle.s2ix_joined.proofs.Counts.{later_is, next_start}
 use Rattle.s2ix_joined.proofs.joined_tables.JoinedTables.range_of.Goals as goal
