@@ -53,7 +53,13 @@ fn answers_for_note<T: RangeTable>(table: &T, k: usize, note: usize) -> bool
 where
     T::Place: PartialEq,
 {
-    k < table.range_count() && table.first_near(k, note) == table.first(k)
+    if k >= table.range_count() {
+        return false;
+    }
+    let (row, first, near) = table.read_near(k, note);
+    let (same_row, same_first, _) = table.read_near(k, near);
+    let (own_row, own_first) = (table.range(k), table.first(k));
+    row == own_row && same_row == own_row && first == own_first && same_first == own_first
 }
 
 // Whether a table answers the same of the ranges of a stretch as that tells.
@@ -77,16 +83,12 @@ where
     true
 }
 
-/// Whether a table answers the same of each range for any note as without one, and for the stretch that it leaves.
+/// Whether a table answers the same of each range for any note as without one, and for the note that it leaves.
 pub(crate) fn answers_for_notes<T: RangeTable>(table: &T) -> bool
 where
     T::Place: PartialEq,
 {
     for k in 0..table.range_count() {
-        let (row, near) = table.range_near(k);
-        if row != table.range(k) || !answers_for_stretch(table, near) {
-            return false;
-        }
         for note in [0, 1, 2, 3, 4, 5, 6, 255, usize::MAX] {
             if !answers_for_note(table, k, note) {
                 return false;

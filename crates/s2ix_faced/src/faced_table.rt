@@ -63,11 +63,6 @@ impl RangeTable for FacedTable {
     }
 
     #[inline]
-    fn range_near(&self, k: usize) -> (RangeRow, Stretch<'_>) {
-        self.tables.range_near(k)
-    }
-
-    #[inline]
     fn window(&self, face: u8) -> Window {
         self.tables.window(face)
     }
@@ -83,8 +78,8 @@ impl RangeTable for FacedTable {
     }
 
     #[inline]
-    fn first_near(&self, k: usize, note: usize) -> Option<FacePlace> {
-        self.tables.first_near(k, note)
+    fn read_near(&self, k: usize, note: usize) -> (RangeRow, Option<FacePlace>, usize) {
+        self.tables.read_near(k, note)
     }
 
     #[inline]

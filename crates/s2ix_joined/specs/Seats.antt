@@ -38,9 +38,9 @@ pub record AreInOrder (seats : List Seat) : Type 0 where
   pub six : length seats ≡ 6
   pub rise : (i j : ℕ) → j ≡ suc i → j < 6 → slice_index_or (places_of seats) i 0 ≤ slice_index_or (places_of seats) j 0
 
--- at each of six seats: the place behind its first range, and how many of `count` ranges are there up to the next seat, if any
+-- at each of six seats: the place behind its first range, and how many of `count` ranges are there before the last one up to the next seat, if any
 pub record AreInner (seats : List Seat) (behind inner : List ℕ) (count : ℕ) : Type 0 where
   pub six_behind : length behind ≡ 6
   pub six : length inner ≡ 6
   pub after : (i : ℕ) → i < 6 → slice_index_or behind i 0 ≡ slice_index_or (places_of seats) i 0 + 1
-  pub apart : (i j : ℕ) → j ≡ suc i → i < 6 → slice_index_or inner i 0 ≡ slice_index_or (places_of seats) j count - slice_index_or (places_of seats) i 0 - 1
+  pub apart : (i j : ℕ) → j ≡ suc i → i < 6 → slice_index_or inner i 0 ≡ slice_index_or (places_of seats) j count - slice_index_or (places_of seats) i 0 - 2

@@ -110,19 +110,6 @@ impl JoinedTables {
         self.range_on(self.face_with(k), k)
     }
 
-    /// The leaves of a range, and the stretch of the face that has it. O(1). What reads through stretches comes here seldom.
-    #[cold]
-    #[inline(never)]
-    pub fn range_near(&self, k: usize) -> (RangeRow, Stretch<'_>)
-        requires { k < length (joined_ranges self.now) }
-        ensures start { result.0.start ≡ (range_at (joined_ranges self.now) k).start }
-        ensures limit { result.0.limit ≡ (range_at (joined_ranges self.now) k).limit }
-        ensures near { IsStretch (joined_ranges self.now) result.1.first result.1.count result.1.starts.now }
-    {
-        let face = self.face_with(k);
-        (self.range_on(face, k), self.stretch_on(face))
-    }
-
     /// The ranges among which all of those over a face, 0 to 5, are. O(1).
     #[inline]
     pub fn window(&self, face: u8) -> Window
@@ -155,13 +142,32 @@ impl JoinedTables {
         self.first_on(self.face_with(k), k)
     }
 
-    /// The same, sooner where `note` is the number of the face that has the range. O(1).
+    /// The leaves of a range, the place of its innermost pair, or `None` where nothing lies over it, and the number of the face that has it:
+    /// sooner where `note` is that number. O(1).
     #[inline]
-    pub fn first_near(&self, k: usize, note: usize) -> Option<FacePlace>
+    pub fn read_near(&self, k: usize, note: usize) -> (RangeRow, Option<FacePlace>, usize)
         requires { k < length (joined_ranges self.now) }
-        ensures { LeadsTo (chain_at self.now) result (range_at (joined_ranges self.now) k).contents }
+        ensures start { result.0.start ≡ (range_at (joined_ranges self.now) k).start }
+        ensures limit { result.0.limit ≡ (range_at (joined_ranges self.now) k).limit }
+        ensures first { LeadsTo (chain_at self.now) result.1 (range_at (joined_ranges self.now) k).contents }
     {
-        self.first_on(self.face_near(k, note), k)
+        match self.own_near(k, note) {
+            Some(own) => (self.range_of(note, own), self.first_of(note, own), note),
+            None => self.read_far(k),
+        }
+    }
+
+    // The same, where no face is at hand. What reads by notes comes here seldom.
+    #[cold]
+    #[inline(never)]
+    fn read_far(&self, k: usize) -> (RangeRow, Option<FacePlace>, usize)
+        requires { k < length (joined_ranges self.now) }
+        ensures start { result.0.start ≡ (range_at (joined_ranges self.now) k).start }
+        ensures limit { result.0.limit ≡ (range_at (joined_ranges self.now) k).limit }
+        ensures first { LeadsTo (chain_at self.now) result.1 (range_at (joined_ranges self.now) k).contents }
+    {
+        let face = self.face_with(k);
+        (self.range_on(face, k), self.first_on(face, k), face)
     }
 
     // The face whose seat has a range: the last one that is not behind it.
@@ -173,26 +179,16 @@ impl JoinedTables {
         seat_by(&self.seats, k)
     }
 
-    // The same, where it may be at hand.
-    #[inline]
-    fn face_near(&self, k: usize, near: usize) -> usize
-        ensures within { result < 6 }
-        ensures last { IsLastStart (places_of (seats_of self.now)) k result }
-    {
-        match self.own_near(k, near) {
-            Some(_) => near,
-            None => self.face_with(k),
-        }
-    }
-
-    // The place of a range among those of the face at hand, where it is one of them and not the first, which may begin before its face:
-    // one test tells.
+    // The place of a range among those of the face at hand, where it is one of them and neither the first, which may begin before its face,
+    // nor the last: one test tells.
     #[inline]
     fn own_near(&self, k: usize, near: usize) -> Option<usize>
         ensures within { IfSome result (λ own. near < 6) }
         ensures last { IfSome result (λ own. IsLastStart (places_of (seats_of self.now)) k near) }
         ensures own { IfSome result (λ own. slice_index_or (places_of (seats_of self.now)) near 0 + own ≡ k) }
         ensures behind { IfSome result (λ own. 0 < own) }
+        ensures next { IfSome result (λ own. IsLastStart (places_of (seats_of self.now)) (k + 1) near) }
+        ensures more { IfSome result (λ own. k + 1 < length (joined_ranges self.now)) }
     {
         if near >= FACES {
             return None;
@@ -239,6 +235,26 @@ impl JoinedTables {
         }
     }
 
+    // The leaves of a range, by the face whose seat has it and the next one, and by its place in that face's table, where it is not the first.
+    #[inline]
+    fn range_of(&self, face: usize, own: usize) -> RangeRow
+        requires within { face < 6 }
+        requires last { IsLastStart (places_of (seats_of self.now)) (slice_index_or (places_of (seats_of self.now)) face 0 + own) face }
+        requires next { IsLastStart (places_of (seats_of self.now)) (slice_index_or (places_of (seats_of self.now)) face 0 + own + 1) face }
+        requires more { slice_index_or (places_of (seats_of self.now)) face 0 + own + 1 < length (joined_ranges self.now) }
+        requires later { 0 < own }
+        ensures start { result.start
+            ≡ (range_at (joined_ranges self.now) (slice_index_or (places_of (seats_of self.now)) face 0 + own)).start }
+        ensures limit { result.limit
+            ≡ (range_at (joined_ranges self.now) (slice_index_or (places_of (seats_of self.now)) face 0 + own)).limit }
+    {
+        let span = self.tables[face].span();
+        RangeRow {
+            start: span.start(own),
+            limit: span.start(own + 1),
+        }
+    }
+
     // The place of a range's innermost pair, by the face whose seat has it.
     #[inline]
     fn first_on(&self, face: usize, k: usize) -> Option<FacePlace>
@@ -247,12 +263,21 @@ impl JoinedTables {
         requires range { k < length (joined_ranges self.now) }
         ensures { LeadsTo (chain_at self.now) result (range_at (joined_ranges self.now) k).contents }
     {
-        let own = k - self.seats[face].place;
+        self.first_of(face, k - self.seats[face].place)
+    }
+
+    // The place of a range's innermost pair, by the face whose seat has it and the range's place in that face's table.
+    #[inline]
+    fn first_of(&self, face: usize, own: usize) -> Option<FacePlace>
+        requires within { face < 6 }
+        requires last { IsLastStart (places_of (seats_of self.now)) (slice_index_or (places_of (seats_of self.now)) face 0 + own) face }
+        requires range { slice_index_or (places_of (seats_of self.now)) face 0 + own < length (joined_ranges self.now) }
+        ensures { LeadsTo (chain_at self.now)
+            result
+            (range_at (joined_ranges self.now) (slice_index_or (places_of (seats_of self.now)) face 0 + own)).contents }
+    {
         match self.tables[face].span().first(own) {
-            Some(node) => Some(FacePlace {
-                face: face as u32,
-                node,
-            }),
+            Some(node) => Some(FacePlace { face, node }),
             None => None,
         }
     }
@@ -263,7 +288,8 @@ impl JoinedTables {
         requires { IsPlace (chain_at self.now) place }
         ensures { chain_at self.now place ≡ result ∷ drop 1 (chain_at self.now place) }
     {
-        self.tables[place.face as usize].span().held_at(place.node)
+        let tables = &self.tables;
+        tables[place.face].span().held_at(place.node)
     }
 
     /// The place of the next pair outwards, or `None` at the outermost. O(1).
@@ -272,7 +298,8 @@ impl JoinedTables {
         requires { IsPlace (chain_at self.now) place }
         ensures { LeadsTo (chain_at self.now) result (drop 1 (chain_at self.now place)) }
     {
-        match self.tables[place.face as usize].span().outer(place.node) {
+        let tables = &self.tables;
+        match tables[place.face].span().outer(place.node) {
             Some(node) => Some(FacePlace {
                 face: place.face,
                 node,

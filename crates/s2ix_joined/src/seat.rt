@@ -51,12 +51,12 @@ impl Seat {
 }
 
 impl Seat {
-    // How many ranges stand behind this seat's first one, before the next seat. O(1).
+    // How many ranges stand behind this seat's first one, before the last one before the next seat. O(1).
     #[inline]
     pub(crate) fn inner_count(self, next: usize) -> usize
-        ensures { result ≡ next - self.place - 1 }
+        ensures { result ≡ next - self.place - 2 }
     {
-        next.saturating_sub(self.place).saturating_sub(1)
+        next.saturating_sub(self.place).saturating_sub(2)
     }
 }
 

@@ -8,14 +8,19 @@ use s2ix_bag::Held;
 use s2ix_ranges::RangeRow;
 use s2ix_walk::{Cost, Reader, Window};
 
-/// A reader of a table that counts what is read of it. It keeps a stretch of the table's ranges at hand. This project's own.
+/// A reader of a table that counts what is read of it. It keeps the stretch of the face that was last asked for at hand, by which a search
+/// reads where ranges begin, and the note by which the table reads ranges nearby. This project's own.
 #[derive(Debug, Drop)]
 pub struct Meter<'a, T: RangeTable> {
     table: &'a T,
     cost: Cost,
     near: Stretch<'a>,
+    note: usize,
     pub ghost near_is: { IsStretch (T.ranges table.now) near.first near.count near.starts.now },
 }
+
+// A number that no table knows a range by: what a search reads so is in no stretch at hand, and what reads it is not compiled into its loop.
+const NO_NOTE: usize = usize::MAX;
 
 impl<'a, T: RangeTable> Meter<'a, T> {
     /// A reader of a table that has read nothing. O(1).
@@ -28,6 +33,7 @@ impl<'a, T: RangeTable> Meter<'a, T> {
             table,
             cost: Cost::none(),
             near: Stretch::none(),
+            note: 0,
         }
     }
 }
@@ -47,11 +53,12 @@ impl<T: RangeTable> Reader for Meter<'_, T> {
 
     fn window(&mut self, face: u8) -> Window {
         self.near = self.table.stretch(face);
+        self.note = self.near.note;
         self.table.window(face)
     }
 
     fn first(&self, k: usize) -> Option<T::Place> {
-        self.table.first_near(k, self.near.note)
+        self.table.first(k)
     }
 
     fn outer(&self, place: T::Place) -> Option<T::Place> {
@@ -60,16 +67,23 @@ impl<T: RangeTable> Reader for Meter<'_, T> {
 
     fn row(&mut self, k: usize) -> RangeRow {
         self.cost.add_probe();
+        self.table.range(k)
+    }
+
+    fn start(&mut self, k: usize) -> u64 {
+        self.cost.add_probe();
         let own = k.wrapping_sub(self.near.first);
         if own < self.near.count {
-            return RangeRow {
-                start: self.near.starts[own],
-                limit: self.near.starts[own + 1],
-            };
+            return self.near.starts[own];
         }
-        let (row, near) = self.table.range_near(k);
-        self.near = near;
-        row
+        self.table.read_near(k, NO_NOTE).0.start
+    }
+
+    fn row_and_first(&mut self, k: usize) -> (RangeRow, Option<T::Place>) {
+        self.cost.add_probe();
+        let (row, first, note) = self.table.read_near(k, self.note);
+        self.note = note;
+        (row, first)
     }
 
     fn node(&mut self, place: T::Place) -> Held {

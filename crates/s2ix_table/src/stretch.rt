@@ -12,7 +12,7 @@ pub struct Stretch<'a> {
     pub count: usize,
     /// Where each begins, and behind the last one where it ends.
     pub starts: &'a [u64],
-    /// A number of the table's own, for [`first_near`](crate::RangeTable::first_near).
+    /// A number of the table's own, for [`read_near`](crate::RangeTable::read_near).
     pub note: usize,
 }
 

@@ -50,16 +50,6 @@ pub trait RangeTable: Sized {
         ensures start { result.start ≡ (range_at (ranges self.now) k).start }
         ensures limit { result.limit ≡ (range_at (ranges self.now) k).limit };
 
-    /// The leaves of a range, as [`range`](RangeTable::range) gives them, and a stretch in which ranges nearby may be. O(1).
-    fn range_near(&self, k: usize) -> (RangeRow, Stretch<'_>)
-        requires { k < length (ranges self.now) }
-        ensures start { result.0.start ≡ (range_at (ranges self.now) k).start }
-        ensures limit { result.0.limit ≡ (range_at (ranges self.now) k).limit }
-        ensures near { IsStretch (ranges self.now) result.1.first result.1.count result.1.starts.now }
-    {
-        (self.range(k), Stretch::none())
-    }
-
     /// The ranges among which all of those over a face, 0 to 5, are: all that there are, where a table knows no fewer. O(1).
     fn window(&self, face: u8) -> Window
         requires { face < 6 }
@@ -84,14 +74,16 @@ pub trait RangeTable: Sized {
         requires { k < length (ranges self.now) }
         ensures { LeadsTo (chain self.now) result (range_at (ranges self.now) k).contents };
 
-    /// The place of a range's innermost pair, as [`first`](RangeTable::first) gives it: sooner where `note` is that of a stretch in which
-    /// the range is. Any number serves. O(1).
-    fn first_near(&self, k: usize, note: usize) -> Option<Self::Place>
+    /// The leaves of a range and the place of its innermost pair, as [`range`](RangeTable::range) and [`first`](RangeTable::first) give
+    /// them, and a number to read ranges nearby by: sooner where `note` is such a number, or that of a stretch in which the range is. Any
+    /// number serves. O(1).
+    fn read_near(&self, k: usize, note: usize) -> (RangeRow, Option<Self::Place>, usize)
         requires { k < length (ranges self.now) }
-        ensures { LeadsTo (chain self.now) result (range_at (ranges self.now) k).contents }
+        ensures start { result.0.start ≡ (range_at (ranges self.now) k).start }
+        ensures limit { result.0.limit ≡ (range_at (ranges self.now) k).limit }
+        ensures first { LeadsTo (chain self.now) result.1 (range_at (ranges self.now) k).contents }
     {
-        let _ = note;
-        self.first(k)
+        (self.range(k), self.first(k), note)
     }
 
     /// The pair at a place, with its count. O(1).

@@ -19,6 +19,10 @@ with_look cost = record { looks = min (cost.looks + 1) 18446744073709551615; pro
 abbrev pub with_probe : Cost → Cost
 with_probe cost = record { looks = cost.looks; probes = min (cost.probes + 1) 18446744073709551615 }
 
+-- no fewer ranges were read than before, in a count that stops at 2 ^ 64 - 1
+abbrev pub NoFewerProbes : Cost → Cost → Type 0
+NoFewerProbes before after = min before.probes 18446744073709551615 ≤ after.probes
+
 -- ---- the bounds of a walk
 
 -- how many binary digits a number has: none at 0

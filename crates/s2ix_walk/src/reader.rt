@@ -59,6 +59,29 @@ pub trait Reader {
         ensures same { shown self.new ≡ shown self.old }
         ensures counts { spent self.new ≡ with_probe (spent self.old) };
 
+    /// Where a range begins, as [`row`](Reader::row) gives it: one probe. A search reads ranges so.
+    fn start(&mut self, k: usize) -> u64
+        requires { k < length (shown self.old).ranges }
+        ensures start { result ≡ (range_at (shown self.old).ranges k).start }
+        ensures same { shown self.new ≡ shown self.old }
+        ensures counts { spent self.new ≡ with_probe (spent self.old) }
+    {
+        self.row(k).start
+    }
+
+    /// The leaves of a range and the place of its innermost pair, as [`row`](Reader::row) and [`first`](Reader::first) give them: one probe.
+    fn row_and_first(&mut self, k: usize) -> (RangeRow, Option<Self::Place>)
+        requires { k < length (shown self.old).ranges }
+        ensures start { result.0.start ≡ (range_at (shown self.old).ranges k).start }
+        ensures limit { result.0.limit ≡ (range_at (shown self.old).ranges k).limit }
+        ensures first { LeadsTo (shown self.old).chain result.1 (range_at (shown self.old).ranges k).contents }
+        ensures same { shown self.new ≡ shown self.old }
+        ensures counts { spent self.new ≡ with_probe (spent self.old) }
+    {
+        let first = self.first(k);
+        (self.row(k), first)
+    }
+
     /// The pair at a place, with its count: one look.
     fn node(&mut self, place: Self::Place) -> Held
         requires { IsPlace (shown self.old).chain place }

@@ -1,8 +1,8 @@
 // The range that has a leaf, found by reading few ranges.
-ghost use Rattle.std.specs.Prelude.{◌≡◌, ℕ, ◌+◌, ◌-◌, ◌*◌, ◌^◌, ◌%◌, ◌<◌, ◌≤◌, length, max, min};
+ghost use Rattle.std.specs.Prelude.{◌≡◌, ℕ, ◌+◌, ◌-◌, ◌*◌, ◌^◌, ◌%◌, ◌<◌, ◌≤◌, length, max};
 ghost use Rattle.s2id_core.specs.CellId.{first_of, end_of};
 ghost use Rattle.s2ix_ranges.specs.Table.{range_at, IsFound, leaf_end};
-ghost use Rattle.s2ix_walk.specs.Costs.{binary_digits};
+ghost use Rattle.s2ix_walk.specs.Costs.{binary_digits, NoFewerProbes};
 ghost use Rattle.s2ix_walk.specs.Searching.{IsWindow};
 
 use crate::reader::Reader;
@@ -18,7 +18,7 @@ fn search<R: Reader>(reader: &mut R, leaf: u64, among: Window) -> usize
     ensures found { IsFound (R.shown reader.old).ranges result leaf }
     ensures same { R.shown reader.new ≡ R.shown reader.old }
     ensures looks { (R.spent reader.new).looks ≡ (R.spent reader.old).looks }
-    ensures rises { min (R.spent reader.old).probes 18446744073709551615 ≤ (R.spent reader.new).probes }
+    ensures kept { NoFewerProbes (R.spent reader.old) (R.spent reader.new) }
     ensures probes { (R.spent reader.new).probes
         ≤ (R.spent reader.old).probes + binary_digits (length (R.shown reader.old).ranges + 1) }
 {
@@ -26,7 +26,7 @@ fn search<R: Reader>(reader: &mut R, leaf: u64, among: Window) -> usize
     let mut first = window.first;
     let mut half = window.size / 2;
     while half > 0 {
-        first += half * begun(reader.row(first + half).start, leaf);
+        first += half * begun(reader.start(first + half), leaf);
         half /= 2;
     }
     first
@@ -41,13 +41,13 @@ fn narrow<R: Reader>(reader: &mut R, leaf: u64, among: Window) -> Window
     ensures power { (k : ℕ) × (result.size ≡ 2 ^ k) }
     ensures same { R.shown reader.new ≡ R.shown reader.old }
     ensures looks { (R.spent reader.new).looks ≡ (R.spent reader.old).looks }
-    ensures rises { min (R.spent reader.old).probes 18446744073709551615 ≤ (R.spent reader.new).probes }
+    ensures kept { NoFewerProbes (R.spent reader.old) (R.spent reader.new) }
     ensures probes { (R.spent reader.new).probes + binary_digits (result.size - 1)
         ≤ (R.spent reader.old).probes + binary_digits (length (R.shown reader.old).ranges + 1) }
 {
     let size = power_within(among.size);
     let over = among.size - size;
-    let first = among.first + over * begun(reader.row(among.first + over).start, leaf);
+    let first = among.first + over * begun(reader.start(among.first + over), leaf);
     Window { first, size }
 }
 
@@ -98,7 +98,7 @@ pub(crate) fn range_from<R: Reader>(reader: &mut R, cell: CellId, range: usize, 
     ensures same { R.shown reader.new ≡ R.shown reader.old }
     ensures looks { (R.spent reader.new).looks ≡ (R.spent reader.old).looks }
     ensures at_hand { first_of cell ≤ seen → R.spent reader.new ≡ R.spent reader.old }
-    ensures rises { min (R.spent reader.old).probes 18446744073709551615 ≤ (R.spent reader.new).probes }
+    ensures kept { NoFewerProbes (R.spent reader.old) (R.spent reader.new) }
     ensures probes { (R.spent reader.new).probes
         ≤ (R.spent reader.old).probes + binary_digits (length (R.shown reader.old).ranges + 1) }
 {

@@ -103,7 +103,7 @@ fn advance<R: Reader>(
     }
     let target = cells[cell];
     let range = range_from(reader, target, walk.range, walk.seen);
-    let row = reader.row(range);
+    let (row, place) = reader.row_and_first(range);
     let last = last_begun(cells, cell, row.limit);
     let last_cell = cells[last];
     let end = last_cell.span_end();
@@ -113,7 +113,6 @@ fn advance<R: Reader>(
         (range, end)
     };
     let from = walk.seen;
-    let place = reader.first(range);
     Some(WalkState {
         cell: last,
         range: next,

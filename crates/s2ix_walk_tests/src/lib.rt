@@ -6,6 +6,8 @@ mod counting;
 #[cfg(test)]
 mod random_tests;
 #[cfg(test)]
+mod reading_tests;
+#[cfg(test)]
 mod samples;
 #[cfg(test)]
 mod worked_tests;

@@ -24,7 +24,7 @@ returns-clause-probes g c =
     let within = c.requires.among.within in
     let power = c.power_within-size.ensures in
     let le = power.2 in
-    let probes = ap (λ (z : Cost). z.probes) c.row.ensures.counts in
+    let probes = ap (λ (z : Cost). z.probes) c.start.ensures.counts in
     let same = ap (λ (size : ℕ). binary_digits (size - 1)) power.1 in
     omega (arith, digits_above power.0 (length (g.R.Reader.shown c.args.reader.now).ranges + 1) (omega arith))
 

@@ -22,7 +22,7 @@ loop-half-init g c =
       (k, ap (λ (size : ℕ). size / 2) is, subst (λ (size : ℕ). IsWindow ranges c.args.leaf c.narrow-window.result.first size) is n.window, omega (arith, digits_below k)),
       n.same,
       n.looks,
-      n.rises,
+      n.kept,
     )
 
 -- the half that is left
@@ -32,22 +32,22 @@ half_is g c =
     let s = g.R.Reader.shown r in
     let i = c.loop-half.invariant in
     let at : ℕ = c.loop-half.first + c.loop-half.half in
-    let start = c.row.ensures.start ∙ ap (λ (z : Shown g.row.R-Place.Denot). (range_at z.ranges at).start) i.1 in
+    let start = c.start.ensures.start ∙ ap (λ (z : Shown g.row.R-Place.Denot). (range_at z.ranges at).start) i.1 in
     halved s.pairs s.ranges c.args.leaf c.loop-half.first c.loop-half.half c.begun.result i.0.0 (g.met.R.Reader.is_shown r).is_table i.0.2 i.0.1 c.loop-half-test.true (λ by. c.begun.ensures.by (omega arith)) (λ lt. c.begun.ensures.behind (omega arith))
 
 pub loop-half-preserved : goal.loop-half-preserved
 loop-half-preserved g c =
     let h = half_is g (goal.at.loop-half-preserved g c).After-begun in
     let i = c.loop-half.invariant in
-    let counts = c.row.ensures.counts in
+    let counts = c.start.ensures.counts in
     let looks = ap (λ (z : Cost). z.looks) counts in
     let probes = ap (λ (z : Cost). z.probes) counts in
     let fewer = h.fewer in
     let paid = i.0.3 in (
       (h.left, ap (λ (half : ℕ). half / 2) h.is, h.window, omega arith),
-      c.row.ensures.same ∙ i.1,
+      c.start.ensures.same ∙ i.1,
       looks ∙ i.2,
-      let rises = i.3 in omega arith,
+      let kept = i.3 in omega arith,
     )
 
 pub overflow_add-first : goal.overflow_add-first

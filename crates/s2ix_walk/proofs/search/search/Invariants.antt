@@ -1,5 +1,5 @@
-use Rattle.std.proofs.Common.{◌≡◌, ◌+◌, ◌/◌, ◌^◌, ◌≤◌, ℕ, length, min}
-use Rattle.s2ix_walk.specs.Costs.{binary_digits}
+use Rattle.std.proofs.Common.{◌≡◌, ◌+◌, ◌/◌, ◌^◌, ◌≤◌, ℕ, length}
+use Rattle.s2ix_walk.specs.Costs.{binary_digits, NoFewerProbes}
 use Rattle.s2ix_walk.specs.Searching.{IsWindow}
 use Rattle.s2ix_walk.proofs.search.search.Given as goal
 
@@ -11,7 +11,7 @@ invariant-loop-half g l =
     × ((g.R.Reader.spent l.reader).probes + k ≤ (g.R.Reader.spent l.fn.reader).probes + binary_digits (length (g.R.Reader.shown l.fn.reader).ranges + 1)))
     × (g.R.Reader.shown l.reader ≡ g.R.Reader.shown l.fn.reader)
     × ((g.R.Reader.spent l.reader).looks ≡ (g.R.Reader.spent l.fn.reader).looks)
-    × (min (g.R.Reader.spent l.fn.reader).probes 18446744073709551615 ≤ (g.R.Reader.spent l.reader).probes)
+    × NoFewerProbes (g.R.Reader.spent l.fn.reader) (g.R.Reader.spent l.reader)
 
 abbrev pub decreases-loop-half : goal.decreases-loop-half
 decreases-loop-half g l = l.half

@@ -12,7 +12,7 @@ use Rattle.s2ix_walk.specs.declared.cost.Cost.{Cost}
 use Rattle.s2ix_walk.proofs.Paying.{IsPassed, step_pays}
 use Rattle.s2ix_walk.proofs.steps.advance.Given.{Over}
 use Rattle.s2ix_walk.proofs.steps.advance.Goals as goal
-use Rattle.s2ix_walk.proofs.steps.advance.Goals.{After-first-place, then-row-end, else-row-end}
+use Rattle.s2ix_walk.proofs.steps.advance.Goals.{Joined-row-end, then-row-end, else-row-end}
 
 pub returns-then-cell-cells-clause-ends : goal.returns-then-cell-cells-clause-ends
 returns-then-cell-cells-clause-ends g c e =
@@ -30,12 +30,12 @@ overflow_add-next g c =
     search (rules, fits)
 
 -- the limit of the range that was read
-limit_is : (g : Over) (c : goal.After-first-place g) → c.row-row.result.limit ≡ (range_at (g.R.Reader.shown c.args.reader.now).ranges c.range_from-range.result).limit
+limit_is : (g : Over) (c : goal.Joined-row-end g) → c.row_and_first-place.result.0.limit ≡ (range_at (g.R.Reader.shown c.args.reader.now).ranges c.range_from-range.result).limit
 limit_is g c =
-    c.row-row.ensures.limit ∙ ap (λ (z : Shown g.row.R-Place.Denot). (range_at z.ranges c.range_from-range.result).limit) c.range_from-range.ensures.same
+    c.row_and_first-place.ensures.limit ∙ ap (λ (z : Shown g.row.R-Place.Denot). (range_at z.ranges c.range_from-range.result).limit) c.range_from-range.ensures.same
 
 -- the last cell that begins in the range
-last_is : (g : Over) (c : goal.After-first-place g) → IsBegun c.args.cells.now c.first_beyond-cell.result c.row-row.result.limit c.last_begun-last.result c.index-cells-last.result
+last_is : (g : Over) (c : goal.Joined-row-end g) → IsBegun c.args.cells.now c.first_beyond-cell.result c.row_and_first-place.result.0.limit c.last_begun-last.result c.index-cells-last.result
 last_is g c = record {
   from = c.last_begun-last.ensures.from;
   within = c.last_begun-last.ensures.within;
@@ -44,14 +44,14 @@ last_is g c = record {
 }
 
 -- the walk behind the range at hand
-step_past : (g : Over) (c : goal.After-first-place g) → IsPast (g.R.Reader.shown c.args.reader.now) c.args.cells.now (record { cell = c.last_begun-last.result; range = c.if-row-end.next.0; seen = c.if-row-end.next.1; from = c.args.walk.seen; place = c.first-place.result })
+step_past : (g : Over) (c : goal.Joined-row-end g) → IsPast (g.R.Reader.shown c.args.reader.now) c.args.cells.now (record { cell = c.last_begun-last.result; range = c.if-row-end.next.0; seen = c.if-row-end.next.1; from = c.args.walk.seen; place = c.row_and_first-place.result.1 })
 step_past g c =
     let s = g.R.Reader.shown c.args.reader.now in
     let x = c.index-cells-cell.result in
     let within = c.if-cell-cells.false in
     let ends = ap (λ (y : CellId). end_of y) c.index-cells-cell.is in
     let beyond = c.first_beyond-cell.ensures.beyond x (omega arith) in
-    let leads = subst (λ (z : Shown g.row.R-Place.Denot). LeadsTo z.chain c.first-place.result (range_at z.ranges c.range_from-range.result).contents) (c.row-row.ensures.same ∙ c.range_from-range.ensures.same) c.first-place.ensures in
+    let leads = subst (λ (z : Shown g.row.R-Place.Denot). LeadsTo z.chain c.row_and_first-place.result.1 (range_at z.ranges c.range_from-range.result).contents) (c.range_from-range.ensures.same) c.row_and_first-place.ensures.first in
     let y = c.index-cells-last.result in
     walk_past s c.args.cells.now c.first_beyond-cell.result c.range_from-range.result _ _ x y _ (record {
       follow = c.requires.follow;
@@ -69,13 +69,13 @@ step_past g c =
     ])
 
 pub returns-clause-left : goal.returns-clause-left
-returns-clause-left g c = (step_past g (goal.at.returns-clause-left g c).After-first-place).left
+returns-clause-left g c = (step_past g (goal.at.returns-clause-left g c).Joined-row-end).left
 
 pub returns-clause-next : goal.returns-clause-next
-returns-clause-next g c = (step_past g (goal.at.returns-clause-next g c).After-first-place).next
+returns-clause-next g c = (step_past g (goal.at.returns-clause-next g c).Joined-row-end).next
 
 -- the cell and the range that are passed
-step_passes : (g : Over) (c : goal.After-first-place g) → IsPassed c.args.cells.now (g.R.Reader.shown c.args.reader.now).ranges c.index-cells-cell.result c.range_from-range.result c.args.walk.seen c.if-row-end.next.1
+step_passes : (g : Over) (c : goal.Joined-row-end g) → IsPassed c.args.cells.now (g.R.Reader.shown c.args.reader.now).ranges c.index-cells-cell.result c.range_from-range.result c.args.walk.seen c.if-row-end.next.1
 step_passes g c =
     let x = c.index-cells-cell.result in
     let within = c.if-cell-cells.false in
@@ -91,7 +91,7 @@ step_passes g c =
       within = found.within;
       start = found.start;
       limit = found.limit;
-      goes = let b = begun_after c.args.cells.now c.first_beyond-cell.result c.row-row.result.limit c.last_begun-last.result x y c.requires.follow c.index-cells-cell.is (last_is g c) in
+      goes = let b = begun_after c.args.cells.now c.first_beyond-cell.result c.row_and_first-place.result.0.limit c.last_begun-last.result x y c.requires.follow c.index-cells-cell.is (last_is g c) in
           let z = span (raw_of y) y.valid in
           let z1 = z.from in
           let z2 = z.to in
@@ -109,16 +109,16 @@ step_passes g c =
 
 pub returns-clause-paid : goal.returns-clause-paid
 returns-clause-paid g c calls paid =
-    let counts = c.row-row.ensures.counts in
+    let counts = c.row_and_first-place.ensures.counts in
     let looks = ap (λ (z : Cost). z.looks) counts in
     let probes = ap (λ (z : Cost). z.probes) counts in
     let e = c.range_from-range.ensures in
     let searched = e.probes in
-    step_pays (g.R.Reader.shown c.args.reader.now) c.args.cells.now c.args.walk _ c.index-cells-cell.result c.range_from-range.result calls _ _ (step_passes g (goal.at.returns-clause-paid g c).After-first-place) (looks ∙ e.looks) (λ le. let same = ap (λ (z : Cost). z.probes) (e.at_hand le) in omega arith) (omega arith) (omega (arith, e.rises)) (g.met.R.Reader.is_shown c.args.reader.now) paid
+    step_pays (g.R.Reader.shown c.args.reader.now) c.args.cells.now c.args.walk _ c.index-cells-cell.result c.range_from-range.result calls _ _ (step_passes g (goal.at.returns-clause-paid g c).Joined-row-end) (looks ∙ e.looks) (λ le. let same = ap (λ (z : Cost). z.probes) (e.at_hand le) in omega arith) (omega arith) (omega (arith, e.kept)) (g.met.R.Reader.is_shown c.args.reader.now) paid
 
 pub returns-clause-rises : goal.returns-clause-rises
 returns-clause-rises g c =
-    let p = step_passes g (goal.at.returns-clause-rises g c).After-first-place in
+    let p = step_passes g (goal.at.returns-clause-rises g c).Joined-row-end in
     let a = p.goes in
     let b = p.beyond in
     let l = p.limit in
