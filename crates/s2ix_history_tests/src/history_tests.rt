@@ -1,7 +1,6 @@
 // Tables of faces along random histories: built again after each change, and compared with tables of copied lists and with a filter.
 ghost use Rattle.std.specs.Prelude.{◌≡◌};
 
-use crate::filter_tests::{LABELS, answers_as_filter, is_built_so};
 use s2id_samples::Random;
 use s2ix_bag::{Bag, Change, Held, Limits};
 use s2ix_copied::CopiedTable;
@@ -9,6 +8,7 @@ use s2ix_faced::FacedTable;
 use s2ix_reading::{BagReader, PairReader};
 use s2ix_samples::{nested_bag, with_more};
 use s2ix_table::RangeTable;
+use s2ix_table_checks::{LABELS, answers_as_filter, is_built_so};
 use std::alloc::Global;
 use std::marker::Model;
 

@@ -1,4 +1,3 @@
-//! Comparisons of what a table answers with plain lists.
 ghost use Rattle.std.specs.Prelude.{◌≡◌, ℕ, Some};
 ghost use Rattle.s2id_core.specs.CellId.{level_of, raw_of};
 ghost use Rattle.s2ix_pairs.specs.declared.pair.Held.{Held};
@@ -96,12 +95,7 @@ fn leads_to<T: RangeTable>(
 }
 
 /// Whether this range is the k-th of a table, and these pairs lie over it, by its place and by its first leaf and its last.
-pub(crate) fn has_range<T: RangeTable>(
-    table: &T,
-    k: usize,
-    range: RangeRow,
-    pairs: &[Held],
-) -> bool {
+pub fn has_range<T: RangeTable>(table: &T, k: usize, range: RangeRow, pairs: &[Held]) -> bool {
     is_range(table, k, range, pairs)
         && has_places(table, k, pairs)
         && leads_to(table, range.start, k, range, pairs)
@@ -142,7 +136,7 @@ fn leads_back<T: RangeTable>(rows: &mut RangeIter<'_, T>, wanted: &[RangeRow]) -
 }
 
 /// Whether a table has these ranges, in order.
-pub(crate) fn has_ranges<T: RangeTable>(table: &T, wanted: &[RangeRow]) -> bool {
+pub fn has_ranges<T: RangeTable>(table: &T, wanted: &[RangeRow]) -> bool {
     let mut rows = ranges(table);
     table.range_count() == wanted.len()
         && gives_ranges(&mut rows, wanted)
@@ -207,7 +201,7 @@ fn lists_labels<T: RangeTable>(
 }
 
 /// Whether these pairs meet a target, also where a call of a visit answers false, and have these labels.
-pub(crate) fn meets<T: RangeTable>(
+pub fn meets<T: RangeTable>(
     alloc: Global,
     table: &T,
     target: &CellUnion,

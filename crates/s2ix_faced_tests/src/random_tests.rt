@@ -1,10 +1,9 @@
 // Tables of random nested cells, with shared chains and with copied lists.
-use crate::compare::have_same_ranges;
-use crate::targets::answer_all_the_same;
 use s2id_samples::Random;
 use s2ix_bag::Bag;
 use s2ix_chain::ChainTable;
 use s2ix_copied::CopiedTable;
+use s2ix_same_tables::{answer_all_the_same, have_same_ranges};
 use s2ix_samples::{deep_bag, nested_bag};
 use s2ix_table::RangeTable;
 use std::alloc::Global;

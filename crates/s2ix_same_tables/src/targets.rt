@@ -1,4 +1,3 @@
-//! Targets, and what meets them in two tables of one bag.
 use s2id_core::CellId;
 use s2id_samples::Random;
 use s2id_union::CellUnion;
@@ -6,8 +5,8 @@ use s2ix_samples::{all_faces, random_cells};
 use s2ix_table::RangeTable;
 use std::alloc::Global;
 
-/// The union of some cells.
-pub(crate) fn target_of(alloc: Global, cells: Option<Vec<CellId>>) -> Option<CellUnion> {
+// The union of some cells.
+fn target_of(alloc: Global, cells: Option<Vec<CellId>>) -> Option<CellUnion> {
     CellUnion::normalise(alloc, &cells?).ok()
 }
 
@@ -47,7 +46,7 @@ fn answer_same<A: RangeTable, B: RangeTable>(
 }
 
 /// Whether both tables answer the same of the whole sphere, and of some random targets.
-pub(crate) fn answer_all_the_same<A: RangeTable, B: RangeTable>(
+pub fn answer_all_the_same<A: RangeTable, B: RangeTable>(
     alloc: Global,
     random: &mut Random,
     one: &A,

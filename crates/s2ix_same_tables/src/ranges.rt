@@ -1,4 +1,3 @@
-//! Comparisons of the ranges of two tables of one bag.
 use s2id_core::CellId;
 use s2ix_table::{ChainIter, RangeTable, Stretch, Window, chain_at, contents};
 
@@ -39,7 +38,7 @@ fn have_same_range<A: RangeTable, B: RangeTable>(one: &A, other: &B, k: usize) -
 }
 
 /// Whether two tables have the same ranges, and the same pairs over each.
-pub(crate) fn have_same_ranges<A: RangeTable, B: RangeTable>(one: &A, other: &B) -> bool {
+pub fn have_same_ranges<A: RangeTable, B: RangeTable>(one: &A, other: &B) -> bool {
     for k in 0..one.range_count() {
         if !have_same_range(one, other, k) {
             return false;
@@ -78,7 +77,7 @@ where
 }
 
 /// Whether a table answers the same of each range for any note as without one, and for the stretch that it leaves.
-pub(crate) fn answers_for_notes<T: RangeTable>(table: &T) -> bool
+pub fn answers_for_notes<T: RangeTable>(table: &T) -> bool
 where
     T::Place: PartialEq,
 {
@@ -108,7 +107,7 @@ fn has_leaf<T: RangeTable>(table: &T, window: Window, number: u64) -> bool {
 }
 
 /// Whether a table has the first and the last leaf of each face in the face's window, and answers the same of the ranges of its stretch.
-pub(crate) fn answers_for_faces<T: RangeTable>(table: &T) -> bool
+pub fn answers_for_faces<T: RangeTable>(table: &T) -> bool
 where
     T::Place: PartialEq,
 {

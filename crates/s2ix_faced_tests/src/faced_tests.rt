@@ -2,15 +2,16 @@
 ghost use Rattle.std.specs.Prelude.{◌≡◌, IfSome};
 ghost use Rattle.s2ix_pairs.specs.Change.{changed};
 
-use crate::compare::{answers_for_faces, answers_for_notes, have_same_ranges};
-use crate::targets::{answer_all_the_same, target_of};
 use s2id_samples::Random;
 use s2ix_bag::{Bag, Change};
 use s2ix_copied::CopiedTable;
 use s2ix_faced::FacedTable;
 use s2ix_faced::laws::{has_few_ranges, keeps_a_pair_once};
-use s2ix_reading::{BagReader, PairReader};
-use s2ix_samples::{WIDEST, all_faces, bag_of, deep_bag, held_of, nested_bag};
+use s2ix_reading::BagReader;
+use s2ix_same_tables::{
+    answer_all_the_same, answers_for_faces, answers_for_notes, have_same_ranges,
+};
+use s2ix_samples::{WIDEST, bag_of, deep_bag, nested_bag};
 use s2ix_table::RangeTable;
 use std::alloc::Global;
 
@@ -126,29 +127,4 @@ fn rebuilt_tables_are_built_ones(rt: HostRuntime) {
         assert!(rt; same == Some(true), "wrong at sample {sample}");
         bag = other;
     }
-}
-
-// Whether a pair is the last one of a table.
-fn ends_with(alloc: Global, table: &FacedTable, pair: &str) -> Option<bool> {
-    let sphere = target_of(alloc, all_faces(alloc))?;
-    let met = table.meeting(alloc, &sphere).ok()?;
-    Some(met.last().copied() == held_of(pair))
-}
-
-// Whether a change of one face leads to a table of four ranges with a new last pair, by few reads.
-fn reads_one_face(alloc: Global, bag: &Bag, change: &Change) -> Option<bool> {
-    let next = bag.applied(alloc, change).ok()?;
-    let table = FacedTable::build(alloc, bag).ok()?;
-    let mut reader = BagReader::new(&next);
-    let table = table.rebuilt(alloc, &mut reader, change).ok()?;
-    let is_read = (1..=25).contains(&reader.reads());
-    Some(is_read && table.range_count() == 4 && ends_with(alloc, &table, "5:2:1")?)
-}
-
-#[test]
-fn one_changed_face_is_read(rt: HostRuntime) {
-    let bag = bag_of(rt.alloc(), WIDEST, "1:1:1").expect(&rt, "a bag");
-    let other = bag_of(rt.alloc(), WIDEST, "1:1:1 5:2:1").expect(&rt, "a bag");
-    let change = Change::between(rt.alloc(), &bag, &other).expect(&rt, "a change");
-    assert!(rt; reads_one_face(rt.alloc(), &bag, &change) == Some(true));
 }
