@@ -1,9 +1,9 @@
 // Dumps of random bags, read back.
-use crate::samples::{next_number, random_pairs};
 use s2id_samples::Random;
 use s2ix_bag::{Bag, Change, Entry, Limits};
 use s2ix_io::KeepingSink;
 use s2ix_read_dump::read_dump;
+use s2ix_samples::{number_below, random_pairs};
 use s2ix_text::write_dump;
 use std::alloc::Global;
 
@@ -13,7 +13,7 @@ fn random_entries(alloc: Global, random: &mut Random, greatest: u32) -> Option<V
     let pairs = random_pairs(alloc, random, count)?;
     let mut entries = Vec::new(alloc);
     for &pair in pairs.as_slice() {
-        let after = next_number(random, u64::from(greatest))?.wrapping_add(1);
+        let after = number_below(random, u64::from(greatest))?.wrapping_add(1);
         let entry = Entry {
             pair,
             before: 0,

@@ -1,9 +1,9 @@
 // Journals of random changes, read back below either header.
-use crate::samples::{next_number, random_pairs};
 use s2id_samples::Random;
 use s2ix_bag::{Change, Entry, Limits};
 use s2ix_io::KeepingSink;
 use s2ix_read_journal::read_journal;
+use s2ix_samples::{number_below, random_pairs};
 use s2ix_text::write_journal;
 use std::alloc::Global;
 
@@ -19,7 +19,7 @@ fn random_entries(alloc: Global, random: &mut Random, greatest: u32) -> Option<V
     let pairs = random_pairs(alloc, random, count)?;
     let mut entries = Vec::new(alloc);
     for &pair in pairs.as_slice() {
-        let before = next_number(random, u64::from(greatest).wrapping_add(1))?;
+        let before = number_below(random, u64::from(greatest).wrapping_add(1))?;
         let after = greatest.wrapping_sub(before);
         let entry = Entry {
             pair,

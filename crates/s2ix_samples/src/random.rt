@@ -1,17 +1,12 @@
-//! Random pairs for texts that are written and read back.
+use crate::nested::number_below;
 use s2id_samples::Random;
 use s2ix_bag::{Label, Pair};
 use std::alloc::Global;
 
-// The next number below a bound.
-pub(crate) fn next_number(random: &mut Random, bound: u64) -> Option<u32> {
-    u32::try_from(random.below(bound)).ok()
-}
-
 // A random pair.
 fn next_pair(random: &mut Random) -> Option<Pair> {
     let cell = random.any_cell()?;
-    let label = Label::new(next_number(random, 1 << 31)?)?;
+    let label = Label::new(number_below(random, 1 << 31)?)?;
     Some(Pair { cell, label })
 }
 
@@ -24,8 +19,8 @@ fn pairs_in_any_order(alloc: Global, random: &mut Random, count: u64) -> Option<
     Some(pairs)
 }
 
-// As many random pairs, or fewer, in rising order, each once.
-pub(crate) fn random_pairs(alloc: Global, random: &mut Random, count: u64) -> Option<Vec<Pair>> {
+/// As many random pairs of any cells and labels, or fewer, in rising order, each once.
+pub fn random_pairs(alloc: Global, random: &mut Random, count: u64) -> Option<Vec<Pair>> {
     let mut pairs = pairs_in_any_order(alloc, random, count)?;
     pairs.sort().ok()?;
     pairs.dedup();
