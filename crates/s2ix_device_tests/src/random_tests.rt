@@ -2,7 +2,7 @@
 ghost use Rattle.s2ix_io.specs.Faults.{CanCount};
 
 use crate::random_pieces::RandomPieces;
-use crate::runs::{ALL, WIDEST, empty_store};
+use crate::stores::{ALL, empty_store};
 use s2id_samples::Random;
 use s2ix_cli::{RunEnd, RunOptions, run};
 use s2ix_io::{KeepingSink, Sink, SliceSource, Source};
@@ -114,7 +114,7 @@ fn outcome<S: Source>(
         stop,
         turns: u64::MAX,
     };
-    let mut store = empty_store(alloc, WIDEST)?;
+    let mut store = empty_store(alloc)?;
     let end = run(alloc, source, sink, &mut store, options).ok()?;
     write_all(&store, sink)?;
     Some(end)

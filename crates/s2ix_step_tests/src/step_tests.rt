@@ -2,10 +2,10 @@
 ghost use Rattle.std.specs.Prelude.{◌≡◌, true};
 ghost use Rattle.s2ix_io.specs.Faults.{CanCount};
 
-use crate::runs::{ALL, WIDEST, empty_store};
 use s2id_core::CellId;
 use s2id_samples::cell_of;
 use s2id_union::CellUnion;
+use s2ix_bag::Limits;
 use s2ix_io::{KeepingSink, Sink};
 use s2ix_script::Instruction;
 use s2ix_step::{LineOutcome, carry_instruction, carry_out};
@@ -34,8 +34,8 @@ fn check_instruction(
     outcome: LineOutcome,
     printed: &[u8],
 ) {
-    let mut store = empty_store(alloc, WIDEST).expect(rt, "a store");
-    let mut sink = KeepingSink::new(alloc, ALL, 0, false);
+    let mut store = Store::new(alloc, Limits::default()).expect(rt, "a store");
+    let mut sink = KeepingSink::new(alloc, 1_000_000, 0, false);
     let is_held = holds_a_face(alloc, &mut store, &mut sink);
     assert!(rt; is_held);
     let step = carry_instruction(alloc, &mut store, &mut sink, instruction);

@@ -1,9 +1,9 @@
 // Runs over an empty store that a device ends.
 ghost use Rattle.s2ix_io.specs.Faults.{CanCount};
 
-use crate::runs::{ALL, WIDEST, run_over_empty};
-use s2ix_cli::{RunFault, RunOptions};
-use s2ix_io::{KeepingSink, Sink, SliceSource, TakesNone, ToWrite};
+use crate::stores::{ALL, empty_store};
+use s2ix_cli::{RunEnd, RunFault, RunOptions, run};
+use s2ix_io::{KeepingSink, Sink, SliceSource, Source, TakesNone, ToWrite};
 use std::alloc::Global;
 use std::process::Abort;
 
@@ -133,6 +133,20 @@ const RUNS: [Devices; 9] = [
     },
 ];
 
+// Runs what a source gives over an empty store.
+fn run_over_empty<S: Source, K: Sink>(
+    alloc: Global,
+    source: &mut S,
+    sink: &mut K,
+    options: RunOptions,
+) -> Option<Result<RunEnd, RunFault>>
+    requires source_counts { CanCount (S.fault_count source.old) }
+    requires sink_counts { CanCount (K.fault_count sink.old) }
+{
+    let mut store = empty_store(alloc)?;
+    Some(run(alloc, source, sink, &mut store, options))
+}
+
 // Runs the script of some devices over an empty store, and says how it ends.
 fn ended(alloc: Global, devices: &Devices, sink: &mut KeepingSink) -> Option<Option<RunFault>>
     requires { CanCount (⟦<KeepingSink as Sink>⟧.fault_count sink.old) }
@@ -142,7 +156,7 @@ fn ended(alloc: Global, devices: &Devices, sink: &mut KeepingSink) -> Option<Opt
         stop: false,
         turns: devices.turns,
     };
-    let end = run_over_empty(alloc, &mut source, sink, WIDEST, options)?;
+    let end = run_over_empty(alloc, &mut source, sink, options)?;
     Some(end.err())
 }
 
@@ -216,6 +230,6 @@ fn a_writer_that_takes_none_ends_a_run(rt: HostRuntime) {
         stop: false,
         turns: 100,
     };
-    let end = run_over_empty(rt.alloc(), &mut source, &mut sink, WIDEST, options);
+    let end = run_over_empty(rt.alloc(), &mut source, &mut sink, options);
     assert!(rt; matches!(end, Some(Err(RunFault::Write))));
 }

@@ -1,5 +1,5 @@
 // Lines that come in pieces: each is carried out once its end has come, and its answer is flushed before more is asked for.
-use crate::runs::{ALL, WIDEST, empty_store};
+use crate::stores::{ALL, empty_store};
 use s2ix_cli::{RunFault, RunOptions, run};
 use s2ix_io::{KeepingSink, SliceSource};
 use s2ix_store::Store;
@@ -110,7 +110,7 @@ fn comes_to(alloc: Global, store: &mut Store, expected: &Run) -> bool {
 #[test]
 fn each_line_is_carried_out_as_it_comes(rt: HostRuntime) {
     for expected in &RUNS {
-        let mut store = empty_store(rt.alloc(), WIDEST).expect(&rt, "a store");
+        let mut store = empty_store(rt.alloc()).expect(&rt, "a store");
         assert!(rt;
             comes_to(rt.alloc(), &mut store, expected),
             "wrong at {}",
