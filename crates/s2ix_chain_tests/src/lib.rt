@@ -1,15 +1,7 @@
-//! Tests of tables with shared chains, of all faces and of each: beside tables of copied lists, and worked ones.
+//! Tests of tables with shared chains: worked ones, and those over the leaves of one face.
 #![tactic(auto)]
 
 #[cfg(test)]
-mod compare;
-#[cfg(test)]
-mod faced_tests;
-#[cfg(test)]
-mod random_tests;
-#[cfg(test)]
 mod span_tests;
-#[cfg(test)]
-mod targets;
 #[cfg(test)]
 mod worked_tests;

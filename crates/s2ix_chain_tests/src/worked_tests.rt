@@ -1,5 +1,4 @@
 // Worked tables, and what they answer.
-use crate::targets::target_of;
 use s2id_samples::cells_of;
 use s2id_union::CellUnion;
 use s2ix_chain::ChainTable;
@@ -117,7 +116,8 @@ fn has_labels(alloc: Global, table: &ChainTable, target: &CellUnion, wanted: &st
 
 // Whether a table answers as it should of the target.
 fn answers(alloc: Global, table: &ChainTable, worked: &Worked) -> Option<bool> {
-    let target = target_of(alloc, cells_of(alloc, worked.cells))?;
+    let cells = cells_of(alloc, worked.cells)?;
+    let target = CellUnion::normalise(alloc, &cells).ok()?;
     Some(
         meets(alloc, table, &target, worked.met)?
             && has_labels(alloc, table, &target, worked.labels)?,

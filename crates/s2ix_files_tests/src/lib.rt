@@ -1,10 +1,8 @@
-//! Tests of what is done with whole files, and of exports.
+//! Tests of what is done with whole files.
 #![tactic(auto)]
 
 #[cfg(test)]
 mod check_tests;
-#[cfg(test)]
-mod export_tests;
 #[cfg(test)]
 mod load_tests;
 #[cfg(test)]

@@ -1,12 +1,22 @@
 //! Scripts with what runs of them print, and runs that are compared with it.
 ghost use Rattle.s2ix_io.specs.Faults.{CanCount};
 
-use crate::runs::{ALL, LimitRow, WIDEST, run_over_empty};
-use s2ix_cli::RunOptions;
+use s2ix_bag::Limits;
+use s2ix_cli::{RunOptions, run};
 use s2ix_io::{KeepingSink, Sink, SliceSource};
+use s2ix_store::Store;
 use std::alloc::Global;
 use std::process::Abort;
 use std::str;
+
+/// The greatest numbers of pairs, of copies of a pair, and of changes that can be undone.
+pub(crate) type LimitRow = [u32; 3];
+
+// The widest limits.
+const WIDEST: LimitRow = [1_000_000, u32::MAX, 100_000];
+
+// More bytes than any text here has: a device of this length moves all that there is in one call.
+const ALL: usize = 1_000_000;
 
 /// A script, with what a run of it over an empty store prints.
 #[derive(Clone, Copy)]
@@ -38,6 +48,12 @@ fn refusals_in(output: &[u8]) -> u64 {
     refusals
 }
 
+// The empty store within some limits.
+fn empty_store(alloc: Global, limits: LimitRow) -> Option<Store> {
+    let [pairs, count, changes] = limits;
+    Store::new(alloc, Limits::new(pairs, count, changes)?).ok()
+}
+
 // How many refusals a run of a script counts, with a source that gives at most `piece_len` bytes a call.
 fn refused_by(
     alloc: Global,
@@ -52,8 +68,9 @@ fn refused_by(
         stop: script.stop,
         turns: u64::MAX,
     };
-    let end = run_over_empty(alloc, &mut source, sink, script.limits, options)?;
-    Some(end.ok()?.refused)
+    let mut store = empty_store(alloc, script.limits)?;
+    let end = run(alloc, &mut source, sink, &mut store, options).ok()?;
+    Some(end.refused)
 }
 
 // Runs a script with a source that gives at most `piece_len` bytes a call and a sink that takes at most `put_len`, and compares what it

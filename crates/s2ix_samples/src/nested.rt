@@ -26,8 +26,8 @@ fn cell_at_end(random: &mut Random) -> Option<CellId> {
     leaf.parent(u8::try_from(random.below(31)).ok()?)
 }
 
-// A number below a bound.
-fn number_below(random: &mut Random, bound: u64) -> Option<u32> {
+/// The next number below a bound.
+pub fn number_below(random: &mut Random, bound: u64) -> Option<u32> {
     u32::try_from(random.below(bound)).ok()
 }
 

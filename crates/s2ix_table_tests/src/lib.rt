@@ -1,14 +1,8 @@
-//! Tests of range tables: worked ones, random ones beside a plain filter of their pairs, and those to which histories lead.
+//! Tests of range tables of all kinds: worked ones, and random ones beside a plain filter of their pairs.
 #![tactic(auto)]
 
 #[cfg(test)]
-mod checks;
-#[cfg(test)]
 mod filter_tests;
-#[cfg(test)]
-mod history_tests;
-#[cfg(test)]
-mod plain;
 #[cfg(test)]
 mod samples;
 #[cfg(test)]

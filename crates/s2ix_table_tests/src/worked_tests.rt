@@ -1,5 +1,4 @@
 //! Worked tables, and what they answer.
-use crate::checks::{has_range, has_ranges, meets};
 use crate::samples::{labels_of, table_of, union_of};
 use s2id_union::CellUnion;
 use s2ix_chain::ChainTable;
@@ -7,6 +6,7 @@ use s2ix_copied::CopiedTable;
 use s2ix_faced::FacedTable;
 use s2ix_samples::list_of;
 use s2ix_table::{RangeRow, RangeTable};
+use s2ix_table_checks::{has_range, has_ranges, meets};
 use std::alloc::Global;
 
 // Pairs, the ranges of their table, and what lies over each range.
