@@ -30,7 +30,7 @@ impl CellId {
     pub fn span_start(self) -> u64
         ensures { result ≡ first_of self }
     {
-        self.raw() - self.reach()
+        self.raw() - self.lsb() + 1
     }
 
     /// The leaf number after that of the cell's last leaf, with which its span ends: `LEAF_END` for the last cells of
