@@ -11,16 +11,24 @@ import resource
 import subprocess
 
 TOP = os.path.dirname(os.path.dirname(os.path.realpath(__file__)))
-CRATE = f"{TOP}/crates/s2ix_refused_tests"
-TESTS = f"{CRATE}/out/s2ix_refused_tests_tests"
 WELL, NO_SET_UP = "\ntest result: ok\n", "no memory for the set-up"
 # A step of a store tells of which kind its error is; a sink in memory that has no room for a text fails.
 TOLD = re.compile(r"refused: (OutOfMemory|(Edit|Undo|Redo)\(OutOfMemory\)|Write)\n")
 
 
-def names():
-    """Each test by its module and name, from the sources."""
-    for path in sorted(glob.glob(f"{CRATE}/src/*_tests.rt")):
+def crates():
+    """The crates of these tests, which are named for it."""
+    return sorted(glob.glob(f"{TOP}/crates/*_refused_*tests"))
+
+
+def program_of(crate):
+    """The built tests of a crate."""
+    return f"{crate}/out/{os.path.basename(crate)}_tests"
+
+
+def names(crate):
+    """Each test of a crate by its module and name, from the sources."""
+    for path in sorted(glob.glob(f"{crate}/src/*_tests.rt")):
         with open(path, encoding="utf-8") as file:
             found = re.findall(r"#\[test\]\nfn (\w+)\(", file.read())
         yield from (f"{os.path.basename(path)[:-3]}::{name}" for name in found)
@@ -30,13 +38,13 @@ def keep_no_core():
     resource.setrlimit(resource.RLIMIT_CORE, (0, 0))
 
 
-def run(room, name, growth):
-    """Runs a test with a growth refused. Says its status, what it wrote, what it said on standard error, and how many growths it asked for."""
+def run(room, program, name, growth):
+    """Runs a test of a program with a growth refused. Says its status, what it wrote, what it said on standard error, and how many growths it asked for."""
     counts = f"{room.path}/counts"
     if os.path.exists(counts):
         os.remove(counts)
     shim = {"LD_PRELOAD": room.shim, "REFUSE_COUNTS": counts, "REFUSE_GROWTH": str(growth)}
-    ran = subprocess.run([TESTS, name], stdin=subprocess.DEVNULL, capture_output=True, env=shim, timeout=60, preexec_fn=keep_no_core)
+    ran = subprocess.run([program, name], stdin=subprocess.DEVNULL, capture_output=True, env=shim, timeout=60, preexec_fn=keep_no_core)
     many = None
     if os.path.exists(counts):
         with open(counts, encoding="ascii") as file:
@@ -44,12 +52,12 @@ def run(room, name, growth):
     return ran.returncode, ran.stdout.decode(), ran.stderr.decode(), many
 
 
-def refuse(room, name):
-    """Refuses each growth of a test in turn. Says in how many of the runs a call gave up, and in how many what it needs."""
+def refuse(room, program, name):
+    """Refuses each growth of a program's test in turn. Says in how many of the runs a call gave up, and in how many what it needs."""
     calls, set_ups, growth = 0, 0, 0
     while True:
         growth += 1
-        status, output, words, many = run(room, name, growth)
+        status, output, words, many = run(room, program, name, growth)
         if many is not None and many < growth:
             room.expect(f"{name}: no growth was refused: {status} {output!r} {words!r}", (status, output, words) == (0, WELL, ""))
             return calls, set_ups
@@ -63,14 +71,21 @@ def refuse(room, name):
         room.expect(f"{name}: growth {growth} is refused: {status} {output!r} {words!r}", is_well)
 
 
-def refuse_calls(room):
-    """Refuses each growth of each test. Says in how many runs a call gave up."""
-    if not os.access(TESTS, os.X_OK):
-        room.expect(f"there is no {TESTS}: ./test builds it", False)
+def refuse_tests(room, crate):
+    """Refuses each growth of each test of a crate. Says in how many runs a call gave up."""
+    program, refused = program_of(crate), 0
+    if not os.access(program, os.X_OK):
+        room.expect(f"there is no {program}: ./test builds it", False)
         return 0
-    refused = 0
-    for name in names():
-        calls, _ = refuse(room, name)
+    for name in names(crate):
+        calls, _ = refuse(room, program, name)
         room.expect(f"{name}: none of its calls gave up", calls > 0)
         refused += calls
+    room.expect(f"{crate}: it has no test", refused > 0)
     return refused
+
+
+def refuse_calls(room):
+    """Does so with each crate. Says in how many runs a call gave up."""
+    room.expect("no crate has tests of refused calls", crates() != [])
+    return sum(refuse_tests(room, crate) for crate in crates())

@@ -1,11 +1,13 @@
-//! Cells from plain texts, corners of squares on the cube, and numbers that look random, for tests. It promises nothing: a test compares
-//! what it makes of these with what its rows say.
+//! Cells from plain texts, corners of squares on the cube, numbers that look random, and calls that are made once more where they gave up,
+//! for tests. It promises nothing: a test compares what it makes of these with what its rows say.
 #![tactic(auto)]
 
+mod calls;
 mod cells;
 mod cube;
 mod random;
 
+pub use calls::{SET_UP, TOLD, tell};
 pub use cells::{are_cells, cell_of, cells_of};
 pub use cube::{Point, point_of};
 pub use random::Random;

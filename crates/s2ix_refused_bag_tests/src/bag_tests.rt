@@ -1,7 +1,6 @@
 // Bags, the changes between them, and what is done with them.
-use crate::calls::{SET_UP, answer, tell};
-use s2ix_bag::{Bag, Change, Limits, RevertError};
-use s2ix_read_journal::read_journal;
+use s2id_samples::{SET_UP, TOLD, answer, tell};
+use s2ix_bag::{Bag, Change, RevertError};
 use s2ix_replay::{ReplayError, replay, rewind};
 use s2ix_samples::{WIDEST, bag_of, holds_pairs, lists_entries};
 use std::alloc::Global;
@@ -118,12 +117,19 @@ fn refused_changes_back(rt: HostRuntime) {
     assert!(&rt; holds_pairs(&later, LATER) && lists_entries(&change, THERE));
 }
 
-// Two pairs added, and the second taken to the first's label.
-const JOURNAL: &[u8] =
-    b"s2ix-journal 2\nchange 1\n04 9 0 2\nchange 1\n04 3 0 1\nchange 2\n04 3 1 3\n04 9 2 0\nend 3\n";
+// Two pairs added, and the first taken to the second's label.
+const STEPS: [&str; 3] = ["04:9:2", OLD, NEW];
 
 fn changes(rt: &impl Abort, alloc: Global) -> Vec<Change> {
-    read_journal(alloc, JOURNAL, Limits::default()).expect(rt, SET_UP)
+    let mut changes = Vec::new(alloc);
+    let mut old = bag(rt, alloc, "");
+    for pairs in STEPS {
+        let new = bag(rt, alloc, pairs);
+        let change = Change::between(alloc, &old, &new).expect(rt, SET_UP);
+        changes.push(change).expect(rt, SET_UP);
+        old = new;
+    }
+    changes
 }
 
 // What the changes make of an empty bag.
@@ -156,7 +162,7 @@ fn check_mismatch(rt: &(impl Abort + Print), alloc: Global, other: &Bag, changes
     let mut told = replay(alloc, other, changes).err();
     if let Some(error) = &told {
         if *error != MISMATCH {
-            tell(rt, error);
+            tell(rt, error).expect(rt, TOLD);
             told = replay(alloc, other, changes).err();
         }
     }

@@ -1,5 +1,5 @@
 // Inputs that are read whole, texts that are read, and the calls over whole texts.
-use crate::calls::{answer, tell};
+use s2id_samples::{TOLD, answer, tell};
 use s2ix_bag::Limits;
 use s2ix_files::{check_text, load_text, replay_texts, rewind_texts};
 use s2ix_io::{KeepingSink, RunFault, SliceSource, read_whole};
@@ -87,7 +87,7 @@ fn check_fault(rt: &(impl Abort + Print), alloc: Global, text: &[u8], wanted: Du
     let mut told = read_dump(alloc, text, Limits::default()).err();
     if let Some(error) = &told {
         if *error != wanted {
-            tell(rt, error);
+            tell(rt, error).expect(rt, TOLD);
             told = read_dump(alloc, text, Limits::default()).err();
         }
     }
@@ -142,7 +142,7 @@ fn check_call(
 ) {
     let (mut answer, mut sink) = called(alloc, call);
     if let Err(fault) = answer {
-        tell(rt, &fault);
+        tell(rt, &fault).expect(rt, TOLD);
         check_given_up(rt, fault, &sink, wanted);
         (answer, sink) = called(alloc, call);
     }

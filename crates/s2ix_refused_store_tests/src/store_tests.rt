@@ -1,10 +1,10 @@
 // Stores, step by step.
-use crate::calls::{SET_UP, answer, tell};
-use crate::tables::{Row, has_ranges};
+use s2id_samples::{SET_UP, TOLD, answer, tell};
 use s2ix_bag::{Bag, Label, Limits};
 use s2ix_edit::{Edit, EditError};
 use s2ix_samples::{WIDEST, are_changes, bag_of, holds_pairs, label_of, pair_of};
 use s2ix_store::Store;
+use s2ix_table_samples::{Row, has_ranges};
 use std::alloc::Global;
 use std::process::Abort;
 
@@ -19,27 +19,38 @@ struct Seen {
     ranges: &'static [Row],
 }
 
-// The states of the stores here.
-#[derive(Clone, Copy)]
-enum State {
-    Empty,
-    // a face that grew over all faces
-    Grown,
-    // the same before it reached the last face
-    Back,
-    // the same before it grew
-    First,
-    // grown once more, by a step that is made again
-    GrownOnce,
-    // not grown, by a change that takes the growth back
-    Reverted,
-    // a store that starts with all faces
-    Started,
-}
-
 const ALL_FACES: &str = "1:4:1 3:4:1 5:4:1 7:4:1 9:4:1 b:4:1";
 
-const EMPTY: Seen = Seen {
+const BACK_PAIRS: &str = "1:4:1 3:4:1 5:4:1 9:4:1 b:4:1";
+
+const FIRST_ENTRIES: &str = "1:4:0:1";
+
+const SECOND_ENTRIES: &str = "3:4:0:1 5:4:0:1 9:4:0:1 b:4:0:1";
+
+const LAST_ENTRIES: &str = "7:4:0:1";
+
+const ALL_RANGES: &[Row] = &[
+    (0x2000000000000001, "1:4:1"),
+    (0x4000000000000001, "3:4:1"),
+    (0x6000000000000001, "5:4:1"),
+    (0x8000000000000001, "7:4:1"),
+    (0xa000000000000001, "9:4:1"),
+    (0xc000000000000001, "b:4:1"),
+];
+
+const BACK_RANGES: &[Row] = &[
+    (0x2000000000000001, "1:4:1"),
+    (0x4000000000000001, "3:4:1"),
+    (0x6000000000000001, "5:4:1"),
+    (0x8000000000000001, ""),
+    (0xa000000000000001, "9:4:1"),
+    (0xc000000000000001, "b:4:1"),
+];
+
+const FIRST_RANGES: &[Row] = &[(0x2000000000000001, "1:4:1"), (0xc000000000000001, "")];
+
+// What is seen of a store without a pair.
+static EMPTY: Seen = Seen {
     pairs: "",
     done: &[],
     undone: &[],
@@ -47,70 +58,63 @@ const EMPTY: Seen = Seen {
     ranges: &[(0xc000000000000001, "")],
 };
 
-const GROWN: Seen = Seen {
+// A face that grew over all faces.
+static GROWN: Seen = Seen {
     pairs: ALL_FACES,
-    done: &["1:4:0:1", "3:4:0:1 5:4:0:1 9:4:0:1 b:4:0:1", "7:4:0:1"],
+    done: &[FIRST_ENTRIES, SECOND_ENTRIES, LAST_ENTRIES],
     undone: &[],
     faces: 1,
-    ranges: &[
-        (0x2000000000000001, "1:4:1"),
-        (0x4000000000000001, "3:4:1"),
-        (0x6000000000000001, "5:4:1"),
-        (0x8000000000000001, "7:4:1"),
-        (0xa000000000000001, "9:4:1"),
-        (0xc000000000000001, "b:4:1"),
-    ],
+    ranges: ALL_RANGES,
 };
 
-const BACK: Seen = Seen {
-    pairs: "1:4:1 3:4:1 5:4:1 9:4:1 b:4:1",
-    done: &["1:4:0:1", "3:4:0:1 5:4:0:1 9:4:0:1 b:4:0:1"],
-    undone: &["7:4:0:1"],
+// The same before it reached the last face.
+static BACK: Seen = Seen {
+    pairs: BACK_PAIRS,
+    done: &[FIRST_ENTRIES, SECOND_ENTRIES],
+    undone: &[LAST_ENTRIES],
     faces: 1,
-    ranges: &[
-        (0x2000000000000001, "1:4:1"),
-        (0x4000000000000001, "3:4:1"),
-        (0x6000000000000001, "5:4:1"),
-        (0x8000000000000001, ""),
-        (0xa000000000000001, "9:4:1"),
-        (0xc000000000000001, "b:4:1"),
-    ],
+    ranges: BACK_RANGES,
 };
 
-const FIRST: Seen = Seen {
+// The same before it grew.
+static FIRST: Seen = Seen {
     pairs: "1:4:1",
-    done: &["1:4:0:1"],
-    undone: &["7:4:0:1", "3:4:0:1 5:4:0:1 9:4:0:1 b:4:0:1"],
+    done: &[FIRST_ENTRIES],
+    undone: &[LAST_ENTRIES, SECOND_ENTRIES],
     faces: 4,
-    ranges: &[(0x2000000000000001, "1:4:1"), (0xc000000000000001, "")],
+    ranges: FIRST_RANGES,
 };
 
-const REVERTED: Seen = Seen {
+// Grown once more, by a step that is made again.
+static GROWN_ONCE: Seen = Seen {
+    pairs: BACK_PAIRS,
+    done: &[FIRST_ENTRIES, SECOND_ENTRIES],
+    undone: &[LAST_ENTRIES],
+    faces: 4,
+    ranges: BACK_RANGES,
+};
+
+// Not grown, by a change that takes the growth back.
+static REVERTED: Seen = Seen {
+    pairs: "1:4:1",
     done: &[
-        "1:4:0:1",
-        "3:4:0:1 5:4:0:1 9:4:0:1 b:4:0:1",
+        FIRST_ENTRIES,
+        SECOND_ENTRIES,
         "3:4:1:0 5:4:1:0 9:4:1:0 b:4:1:0",
     ],
     undone: &[],
-    ..FIRST
+    faces: 4,
+    ranges: FIRST_RANGES,
 };
 
-// What is seen of a store in a state.
-fn seen_at(state: State) -> Seen {
-    match state {
-        State::Empty => EMPTY,
-        State::Grown => GROWN,
-        State::Back => BACK,
-        State::First => FIRST,
-        State::GrownOnce => Seen { faces: 4, ..BACK },
-        State::Reverted => REVERTED,
-        State::Started => Seen {
-            done: &[],
-            faces: 0,
-            ..GROWN
-        },
-    }
-}
+// A store that starts with all faces.
+static STARTED: Seen = Seen {
+    pairs: ALL_FACES,
+    done: &[],
+    undone: &[],
+    faces: 0,
+    ranges: ALL_RANGES,
+};
 
 // Whether a store has its changes done and undone, and its last step built so many faces again.
 fn has_history(store: &Store, seen: &Seen) -> bool {
@@ -119,10 +123,9 @@ fn has_history(store: &Store, seen: &Seen) -> bool {
         && store.faces_rebuilt() == seen.faces
 }
 
-fn check_seen(rt: &impl Abort, store: &Store, state: State) {
-    let seen = seen_at(state);
+fn check_seen(rt: &impl Abort, store: &Store, seen: &Seen) {
     assert!(rt; holds_pairs(store.bag(), seen.pairs));
-    assert!(rt; has_history(store, &seen));
+    assert!(rt; has_history(store, seen));
     assert!(rt; has_ranges(store.table(), seen.ranges));
 }
 
@@ -150,17 +153,17 @@ fn grown(rt: &impl Abort, alloc: Global) -> Store {
 }
 
 // Looks at what a step left: each entry of its change lies on a face of its own.
-fn check_after(rt: &impl Abort, store: &Store, number: usize, after: State) {
+fn check_after(rt: &impl Abort, store: &Store, number: usize, after: &Seen) {
     assert!(rt; number == usize::from(store.faces_rebuilt()));
     check_seen(rt, store, after);
 }
 
-fn check_undo(rt: &(impl Abort + Print), store: &mut Store, before: State, after: State) {
+fn check_undo(rt: &(impl Abort + Print), store: &mut Store, before: &Seen, after: &Seen) {
     let number = answer!(rt, store.undo(), check_seen(rt, store, before));
     check_after(rt, store, number, after);
 }
 
-fn check_redo(rt: &(impl Abort + Print), store: &mut Store, before: State, after: State) {
+fn check_redo(rt: &(impl Abort + Print), store: &mut Store, before: &Seen, after: &Seen) {
     let number = answer!(rt, store.redo(), check_seen(rt, store, before));
     check_after(rt, store, number, after);
 }
@@ -169,8 +172,8 @@ fn check_edit(
     rt: &(impl Abort + Print),
     store: &mut Store,
     edit: &Edit,
-    before: State,
-    after: State,
+    before: &Seen,
+    after: &Seen,
 ) {
     let number = answer!(rt, store.edit(edit), check_seen(rt, store, before));
     check_after(rt, store, number, after);
@@ -179,18 +182,18 @@ fn check_edit(
 #[test]
 fn refused_steps(rt: HostRuntime) {
     let mut store = grown(&rt, rt.alloc());
-    check_undo(&rt, &mut store, State::Grown, State::Back);
-    check_undo(&rt, &mut store, State::Back, State::First);
-    check_redo(&rt, &mut store, State::First, State::GrownOnce);
-    check_redo(&rt, &mut store, State::GrownOnce, State::Grown);
-    check_undo(&rt, &mut store, State::Grown, State::Back);
-    check_edit(&rt, &mut store, &growing(&rt), State::Back, State::Grown);
+    check_undo(&rt, &mut store, &GROWN, &BACK);
+    check_undo(&rt, &mut store, &BACK, &FIRST);
+    check_redo(&rt, &mut store, &FIRST, &GROWN_ONCE);
+    check_redo(&rt, &mut store, &GROWN_ONCE, &GROWN);
+    check_undo(&rt, &mut store, &GROWN, &BACK);
+    check_edit(&rt, &mut store, &growing(&rt), &BACK, &GROWN);
 }
 
 // Takes the growth back that is left of an undone one.
 fn check_revert(rt: &(impl Abort + Print), store: &mut Store) {
     let revert = Edit::Revert { number: 2 };
-    check_edit(rt, store, &revert, State::Back, State::Reverted);
+    check_edit(rt, store, &revert, &BACK, &REVERTED);
 }
 
 // Looks that a change is not taken back for this reason, and that all stays.
@@ -199,7 +202,7 @@ fn check_no_revert(
     store: &mut Store,
     number: u32,
     error: EditError,
-    state: State,
+    state: &Seen,
 ) {
     let told = store.edit(&Edit::Revert { number }).err();
     assert!(rt; told == Some(error));
@@ -210,17 +213,17 @@ fn check_no_revert(
 #[test]
 fn refused_reverts(rt: HostRuntime) {
     let mut store = grown(&rt, rt.alloc());
-    check_undo(&rt, &mut store, State::Grown, State::Back);
-    check_no_revert(&rt, &mut store, 3, EditError::NoSuchChange, State::Back);
+    check_undo(&rt, &mut store, &GROWN, &BACK);
+    check_no_revert(&rt, &mut store, 3, EditError::NoSuchChange, &BACK);
     check_revert(&rt, &mut store);
-    check_no_revert(&rt, &mut store, 2, EditError::BelowZero, State::Reverted);
+    check_no_revert(&rt, &mut store, 2, EditError::BelowZero, &REVERTED);
 }
 
 fn check_region(rt: &(impl Abort + Print), store: &Store) {
     let label = label(rt);
     let region = answer!(rt, store.region(label));
     assert!(rt; region.cells().len() == 6);
-    check_seen(rt, store, State::Grown);
+    check_seen(rt, store, &GROWN);
 }
 
 #[test]
@@ -231,7 +234,7 @@ fn refused_regions(rt: HostRuntime) {
 
 fn check_new(rt: &(impl Abort + Print), alloc: Global) {
     let store = answer!(rt, Store::new(alloc, Limits::default()));
-    check_seen(rt, &store, State::Empty);
+    check_seen(rt, &store, &EMPTY);
 }
 
 fn all_faces(rt: &impl Abort, alloc: Global) -> Bag {
@@ -243,7 +246,7 @@ fn started(rt: &(impl Abort + Print), alloc: Global, bag: Bag, equal: Bag) -> St
     match Store::from_bag(alloc, bag) {
         Ok(store) => store,
         Err(error) => {
-            tell(rt, &error);
+            tell(rt, &error).expect(rt, TOLD);
             Store::from_bag(alloc, equal).expect(rt, "the call made again")
         }
     }
@@ -255,5 +258,5 @@ fn refused_stores(rt: HostRuntime) {
     let bag = all_faces(&rt, rt.alloc());
     let equal = all_faces(&rt, rt.alloc());
     let store = started(&rt, rt.alloc(), bag, equal);
-    check_seen(&rt, &store, State::Started);
+    check_seen(&rt, &store, &STARTED);
 }

@@ -2,10 +2,8 @@
 ghost use Rattle.std.specs.Prelude.{◌≡◌};
 ghost use Rattle.s2ix_pairs.specs.Change.{changed};
 
-use crate::calls::{SET_UP, answer};
-use crate::tables::{Row, has_ranges};
 use s2id_core::OutOfMemory;
-use s2id_samples::cells_of;
+use s2id_samples::{SET_UP, answer, cells_of};
 use s2id_union::CellUnion;
 use s2ix_bag::{Bag, Change};
 use s2ix_chain::ChainTable;
@@ -14,6 +12,7 @@ use s2ix_faced::FacedTable;
 use s2ix_reading::BagReader;
 use s2ix_samples::{WIDEST, are_labels, are_pairs, bag_of, holds_pairs};
 use s2ix_table::RangeTable;
+use s2ix_table_samples::{Row, has_ranges};
 use std::alloc::Global;
 use std::process::Abort;
 

@@ -1,31 +1,31 @@
-//! A call that is made once more where it gave up.
 use std::fmt::Debug;
-use std::process::Abort;
+use std::io;
 
 /// What a test ends with where memory is wanted before its call.
-pub(crate) const SET_UP: &str = "no memory for the set-up";
+pub const SET_UP: &str = "no memory for the set-up";
+
+/// What a test ends with where standard output takes no line.
+pub const TOLD: &str = "a line on standard output";
 
 /// Says on standard output why a call gave up.
-pub(crate) fn tell<E: Debug>(rt: &(impl Abort + Print), error: &E) {
-    let told = println!(rt; "refused: {error:?}");
-    assert!(rt; told.is_ok());
+pub fn tell<E: Debug>(rt: &impl Print, error: &E) -> io::Result<()> {
+    println!(rt; "refused: {error:?}")
 }
 
 /// What a call answers. Where it gives up, it is told why, what is unchanged is looked at, and the call is made again.
+#[macro_export]
 macro_rules! answer {
     ($rt:expr, $call:expr) => {
-        $crate::calls::answer!($rt, $call, ())
+        $crate::answer!($rt, $call, ())
     };
     ($rt:expr, $call:expr, $unchanged:expr) => {
         match $call {
             Ok(answer) => answer,
             Err(error) => {
-                $crate::calls::tell($rt, &error);
+                $crate::tell($rt, &error).expect($rt, $crate::TOLD);
                 $unchanged;
                 $call.expect($rt, "the call made again")
             }
         }
     };
 }
-
-pub(crate) use answer;

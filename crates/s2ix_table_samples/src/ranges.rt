@@ -1,9 +1,8 @@
-//! What tables are compared with.
 use s2ix_samples::held_of;
 use s2ix_table::{ChainIter, RangeTable, contents, ranges};
 
 /// Where a range ends, and the pairs over it from the innermost cell outwards.
-pub(crate) type Row = (u64, &'static str);
+pub type Row = (u64, &'static str);
 
 // Whether a chain gives these pairs.
 fn gives<T: RangeTable>(mut chain: ChainIter<'_, T>, pairs: &str) -> bool {
@@ -16,7 +15,7 @@ fn gives<T: RangeTable>(mut chain: ChainIter<'_, T>, pairs: &str) -> bool {
 }
 
 /// Whether a table has these ranges and no others.
-pub(crate) fn has_ranges<T: RangeTable>(table: &T, rows: &[Row]) -> bool {
+pub fn has_ranges<T: RangeTable>(table: &T, rows: &[Row]) -> bool {
     let mut left = rows.iter();
     for (k, range) in ranges(table) {
         let Some(&(limit, pairs)) = left.next() else {

@@ -1,7 +1,6 @@
 // Borders and unions.
-use crate::calls::{SET_UP, answer};
 use s2id_cube::border;
-use s2id_samples::{are_cells, cell_of, cells_of};
+use s2id_samples::{SET_UP, answer, are_cells, cell_of, cells_of};
 use s2id_union::CellUnion;
 use std::alloc::Global;
 use std::process::Abort;
