@@ -5,13 +5,17 @@ use Rattle.clap.specs.declared.builder.ArgAction.TheVariants.{SetTrue}
 use Rattle.clap.specs.declared.builder.Command.{Command}
 use Rattle.clap.specs.declared.builder.Command.TheViews.{out-Command}
 
+-- what is named behind two dashes
+abbrev pub dashed_rule : Text → Rule
+dashed_rule name = record (new_rule name) { long = Some name }
+
 -- `--NAME VALUE`, which may be left out
 abbrev pub option_rule : Text → Rule
-option_rule name = record (new_rule name) { long = Some name; value_names = 1 }
+option_rule name = record (dashed_rule name) { value_names = 1 }
 
 -- `--NAME`, which may be left out
 abbrev pub flag_rule : Text → Rule
-flag_rule name = record (new_rule name) { long = Some name; action = Some SetTrue }
+flag_rule name = record (dashed_rule name) { action = Some SetTrue }
 
 -- the name of a file, which must be given
 abbrev pub file_rule : Text → Rule

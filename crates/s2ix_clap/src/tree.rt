@@ -5,6 +5,7 @@ ghost use Rattle.s2ix_clap.specs.Tree.{
   IsSubcommand,
   IsCommand,
   check_words,
+  dashed_rule,
   file_rule,
   flag_rule,
   option_rule,
@@ -104,10 +105,7 @@ fn option<'a>(alloc: Global, name: &'a str, value: &'a str, help: &'a str) -> Ar
     ensures rule { rule_of result ≡ option_rule name.now }
     ensures local { result.global ≡ false }
 {
-    Arg::new(alloc, name)
-        .long(name)
-        .value_name(value)
-        .help(help)
+    dashed(alloc, name, help).value_name(value)
 }
 
 // `--NAME`, which may be left out.
@@ -115,10 +113,15 @@ fn flag<'a>(alloc: Global, name: &'a str, help: &'a str) -> Arg<'a>
     ensures rule { rule_of result ≡ flag_rule name.now }
     ensures local { result.global ≡ false }
 {
-    Arg::new(alloc, name)
-        .long(name)
-        .action(ArgAction::SetTrue)
-        .help(help)
+    dashed(alloc, name, help).action(ArgAction::SetTrue)
+}
+
+// What is named behind two dashes.
+fn dashed<'a>(alloc: Global, name: &'a str, help: &'a str) -> Arg<'a>
+    ensures rule { rule_of result ≡ dashed_rule name.now }
+    ensures local { result.global ≡ false }
+{
+    Arg::new(alloc, name).long(name).help(help)
 }
 
 // The name of a file, which must be given.
