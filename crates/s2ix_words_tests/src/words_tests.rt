@@ -1,196 +1,168 @@
-// Words, and the command that they ask for.
-use s2ix_bag::Limits;
-use s2ix_words::{Command, WordsFault, command_of};
-use std::alloc::{AllocError, Global};
+//! Words, and the command that they ask for.
+use s2ix_words_samples::told;
+use std::alloc::Global;
 use std::test::Fail;
 
-// What is answered: a command, help with this text in it, or usage.
-#[derive(Clone, Copy, PartialEq, Eq)]
-enum Answer {
-    // a run within limits that stops at a refusal or not
-    Run((u32, u32, u32), bool),
-    // the same over the dump in a file
-    Load(&'static str, (u32, u32, u32), bool),
-    Check(&'static str),
-    Replay(&'static str, &'static str),
-    Rewind(&'static str, &'static str),
-    Help(&'static str),
-    Usage,
+// Words of each command, and what they ask for.
+const COMMANDS: [(&str, &str); 13] = [
+    ("s2ix|run", "run over nothing: 1000000, 4294967295, 100000"),
+    (
+        "s2ix|run|--load|a b.txt",
+        "run over <a b.txt>: 1000000, 4294967295, 100000",
+    ),
+    (
+        "s2ix|run|--load|",
+        "run over <>: 1000000, 4294967295, 100000",
+    ),
+    (
+        "s2ix|run|--load=d=é",
+        "run over <d=é>: 1000000, 4294967295, 100000",
+    ),
+    (
+        "s2ix|run|--stop",
+        "run over nothing: 1000000, 4294967295, 100000, stops",
+    ),
+    (
+        "s2ix|run|--stop|--max-changes|3|--load|d|--max-pairs=1|--max-count|2",
+        "run over <d>: 1, 2, 3, stops",
+    ),
+    ("s2ix|check|a", "check <a>"),
+    ("s2ix|check|--|--stop", "check <--stop>"),
+    ("s2ix|check|", "check <>"),
+    ("s2ix|check|run", "check <run>"),
+    ("s2ix|replay|d|j", "replay <d> <j>"),
+    ("s2ix|replay|d|--|-j", "replay <d> <-j>"),
+    ("s2ix|rewind|d|d", "rewind <d> <d>"),
+];
+
+// Limits at the ends of their ranges, and numbers as Rust reads them.
+const LIMITS: [(&str, &str); 9] = [
+    (
+        "s2ix|run|--max-pairs|1000000",
+        "run over nothing: 1000000, 4294967295, 100000",
+    ),
+    (
+        "s2ix|run|--max-pairs|1",
+        "run over nothing: 1, 4294967295, 100000",
+    ),
+    (
+        "s2ix|run|--max-count|4294967295",
+        "run over nothing: 1000000, 4294967295, 100000",
+    ),
+    (
+        "s2ix|run|--max-count|65536",
+        "run over nothing: 1000000, 65536, 100000",
+    ),
+    (
+        "s2ix|run|--max-count|1",
+        "run over nothing: 1000000, 1, 100000",
+    ),
+    (
+        "s2ix|run|--max-changes|100000",
+        "run over nothing: 1000000, 4294967295, 100000",
+    ),
+    (
+        "s2ix|run|--max-changes|1",
+        "run over nothing: 1000000, 4294967295, 1",
+    ),
+    (
+        "s2ix|run|--max-pairs|+7",
+        "run over nothing: 7, 4294967295, 100000",
+    ),
+    (
+        "s2ix|run|--max-pairs|007",
+        "run over nothing: 7, 4294967295, 100000",
+    ),
+];
+
+// Limits out of their ranges, and texts that are no numbers.
+const WRONG_LIMITS: [&str; 12] = [
+    "s2ix|run|--max-pairs|1000001",
+    "s2ix|run|--max-pairs|0",
+    "s2ix|run|--max-count|4294967296",
+    "s2ix|run|--max-count|0",
+    "s2ix|run|--max-changes|100001",
+    "s2ix|run|--max-changes|0",
+    "s2ix|run|--max-pairs=",
+    "s2ix|run|--max-pairs|7 ",
+    "s2ix|run|--max-pairs|0x7",
+    "s2ix|run|--max-pairs|4294967297",
+    "s2ix|run|--max-pairs|18446744073709551617",
+    "s2ix|run|--max-pairs=-7",
+];
+
+// Other words that ask for nothing.
+const REFUSED: [&str; 21] = [
+    "s2ix",
+    "s2ix|",
+    "s2ix|fly",
+    "s2ix|Run",
+    "s2ix|--stop",
+    "s2ix|--stop|run",
+    "s2ix|run|a",
+    "s2ix|run|--fly",
+    "s2ix|run|-s",
+    "s2ix|run|--stop|--stop",
+    "s2ix|run|--stop=true",
+    "s2ix|run|--load",
+    "s2ix|run|--load|a|--load|a",
+    "s2ix|run|--max-count|1|--max-count=1",
+    "s2ix|check",
+    "s2ix|check|a|b",
+    "s2ix|check|--stop|a",
+    "s2ix|replay|d",
+    "s2ix|rewind|d|j|k",
+    "s2ix|rewind",
+    "s2ix|help|fly",
+];
+
+// Words that ask for help, and a part of it.
+const HELP: [(&str, &str); 8] = [
+    ("s2ix|--help", "Usage: s2ix <COMMAND>"),
+    ("s2ix|-h", "Usage: s2ix <COMMAND>"),
+    ("s2ix|help", "Usage: s2ix <COMMAND>"),
+    ("s2ix|run|--help", "Usage: s2ix run [OPTIONS]"),
+    ("s2ix|help|run", "--max-changes <N>"),
+    ("s2ix|check|-h", "Usage: s2ix check <FILE>"),
+    ("s2ix|replay|--help", "Usage: s2ix replay <DUMP> <JOURNAL>"),
+    (
+        "s2ix|rewind|a|--help",
+        "Usage: s2ix rewind <DUMP> <JOURNAL>",
+    ),
+];
+
+fn wrong(line: &str, answer: &str) -> Result<(), Fail> {
+    Err(Fail::new(format_args!("{line}: {answer}")))
 }
 
-use Answer::{Check, Help, Load, Replay, Rewind, Run, Usage};
-
-// The limits where none is given.
-const WIDEST: (u32, u32, u32) = (1_000_000, 4_294_967_295, 100_000);
-
-const COMMANDS: [(&[&str], Answer); 13] = [
-    (&["run"], Run(WIDEST, false)),
-    (
-        &["run", "--load", "a b.txt"],
-        Load("a b.txt", WIDEST, false),
-    ),
-    (&["run", "--load", ""], Load("", WIDEST, false)),
-    (&["run", "--load=d=é"], Load("d=é", WIDEST, false)),
-    (&["run", "--stop"], Run(WIDEST, true)),
-    (
-        &[
-            "run",
-            "--stop",
-            "--max-changes",
-            "3",
-            "--load",
-            "d",
-            "--max-pairs=1",
-            "--max-count",
-            "2",
-        ],
-        Load("d", (1, 2, 3), true),
-    ),
-    (&["check", "a"], Check("a")),
-    (&["check", "--", "--stop"], Check("--stop")),
-    (&["check", ""], Check("")),
-    (&["check", "run"], Check("run")),
-    (&["replay", "d", "j"], Replay("d", "j")),
-    (&["replay", "d", "--", "-j"], Replay("d", "-j")),
-    (&["rewind", "d", "d"], Rewind("d", "d")),
-];
-
-const LIMITS: [(&[&str], Answer); 21] = [
-    (&["run", "--max-pairs", "1000000"], Run(WIDEST, false)),
-    (&["run", "--max-pairs", "1000001"], Usage),
-    (
-        &["run", "--max-pairs", "1"],
-        Run((1, 4_294_967_295, 100_000), false),
-    ),
-    (&["run", "--max-pairs", "0"], Usage),
-    (&["run", "--max-count", "4294967295"], Run(WIDEST, false)),
-    (&["run", "--max-count", "4294967296"], Usage),
-    (
-        &["run", "--max-count", "65536"],
-        Run((1_000_000, 65_536, 100_000), false),
-    ),
-    (
-        &["run", "--max-count", "1"],
-        Run((1_000_000, 1, 100_000), false),
-    ),
-    (&["run", "--max-count", "0"], Usage),
-    (&["run", "--max-changes", "100000"], Run(WIDEST, false)),
-    (&["run", "--max-changes", "100001"], Usage),
-    (
-        &["run", "--max-changes", "1"],
-        Run((1_000_000, 4_294_967_295, 1), false),
-    ),
-    (&["run", "--max-changes", "0"], Usage),
-    (
-        &["run", "--max-pairs", "+7"],
-        Run((7, 4_294_967_295, 100_000), false),
-    ),
-    (
-        &["run", "--max-pairs", "007"],
-        Run((7, 4_294_967_295, 100_000), false),
-    ),
-    (&["run", "--max-pairs="], Usage),
-    (&["run", "--max-pairs", "7 "], Usage),
-    (&["run", "--max-pairs", "0x7"], Usage),
-    (&["run", "--max-pairs", "4294967297"], Usage),
-    (&["run", "--max-pairs", "18446744073709551617"], Usage),
-    (&["run", "--max-pairs=-7"], Usage),
-];
-
-const REFUSED: [(&[&str], Answer); 20] = [
-    (&[], Usage),
-    (&[""], Usage),
-    (&["fly"], Usage),
-    (&["Run"], Usage),
-    (&["--stop"], Usage),
-    (&["--stop", "run"], Usage),
-    (&["run", "a"], Usage),
-    (&["run", "--fly"], Usage),
-    (&["run", "-s"], Usage),
-    (&["run", "--stop", "--stop"], Usage),
-    (&["run", "--stop=true"], Usage),
-    (&["run", "--load"], Usage),
-    (&["run", "--load", "a", "--load", "a"], Usage),
-    (&["run", "--max-count", "1", "--max-count=1"], Usage),
-    (&["check"], Usage),
-    (&["check", "a", "b"], Usage),
-    (&["check", "--stop", "a"], Usage),
-    (&["replay", "d"], Usage),
-    (&["rewind", "d", "j", "k"], Usage),
-    (&["rewind"], Usage),
-];
-
-const HELP: [(&[&str], Answer); 9] = [
-    (&["--help"], Help("Usage: s2ix <COMMAND>")),
-    (&["-h"], Help("Usage: s2ix <COMMAND>")),
-    (&["help"], Help("Usage: s2ix <COMMAND>")),
-    (&["run", "--help"], Help("Usage: s2ix run [OPTIONS]")),
-    (&["help", "run"], Help("--max-changes <N>")),
-    (&["check", "-h"], Help("Usage: s2ix check <FILE>")),
-    (
-        &["replay", "--help"],
-        Help("Usage: s2ix replay <DUMP> <JOURNAL>"),
-    ),
-    (
-        &["rewind", "a", "--help"],
-        Help("Usage: s2ix rewind <DUMP> <JOURNAL>"),
-    ),
-    (&["help", "fly"], Usage),
-];
-
-fn strings(alloc: Global, texts: &[&str]) -> Result<Vec<String>, AllocError> {
-    let mut strings = Vec::new(alloc);
-    for text in texts {
-        strings.push(String::from_str(alloc, text)?)?;
-    }
-    Ok(strings)
-}
-
-fn numbers(limits: Limits) -> (u32, u32, u32) {
-    (limits.pairs(), limits.count(), limits.changes())
-}
-
-fn is_answer(answer: &Result<Command, WordsFault>, wanted: Answer) -> bool {
-    match (answer, wanted) {
-        (
-            Ok(
-                Command::Run {
-                    load: None,
-                    limits,
-                    stop,
-                },
-            ),
-            Run(given, stops),
-        ) => numbers(*limits) == given && *stop == stops,
-        (
-            Ok(
-                Command::Run {
-                    load: Some(load),
-                    limits,
-                    stop,
-                },
-            ),
-            Load(file, given, stops),
-        ) => load.as_str() == file && numbers(*limits) == given && *stop == stops,
-        (Ok(Command::Check { file }), Check(wanted)) => file.as_str() == wanted,
-        (Ok(Command::Replay { dump, journal }), Replay(first, second)) => {
-            dump.as_str() == first && journal.as_str() == second
+// Each row's words ask for its command.
+fn ask_for(alloc: Global, rows: &[(&str, &str)]) -> Result<(), Fail> {
+    for &(line, command) in rows {
+        let answer = told(alloc, line)?;
+        if answer.as_str() != command {
+            return wrong(line, &answer);
         }
-        (Ok(Command::Rewind { dump, journal }), Rewind(first, second)) => {
-            dump.as_str() == first && journal.as_str() == second
-        }
-        (Err(WordsFault::HelpAsked(text)), Help(part)) => text.contains(part),
-        (Err(WordsFault::Usage(text)), Usage) => text.starts_with("error: "),
-        _ => false,
     }
+    Ok(())
 }
 
-fn check_rows(alloc: Global, rows: &[(&[&str], Answer)]) -> Result<(), Fail> {
-    for &(texts, wanted) in rows {
-        let words = strings(alloc, texts)?;
-        let answer = command_of(alloc, words.as_slice());
-        if !is_answer(&answer, wanted) {
-            return Err(Fail::new(format_args!("{texts:?}: {answer:?}")));
+// Each line's words are usage.
+fn are_usage(alloc: Global, lines: &[&str]) -> Result<(), Fail> {
+    for &line in lines {
+        let answer = told(alloc, line)?;
+        if !answer.starts_with("usage: error: ") {
+            return wrong(line, &answer);
+        }
+    }
+    Ok(())
+}
+
+// Each row's words are told a help with its part.
+fn are_helped(alloc: Global, rows: &[(&str, &str)]) -> Result<(), Fail> {
+    for &(line, part) in rows {
+        let answer = told(alloc, line)?;
+        if !answer.starts_with("help: ") || !answer.contains(part) {
+            return wrong(line, &answer);
         }
     }
     Ok(())
@@ -198,20 +170,21 @@ fn check_rows(alloc: Global, rows: &[(&[&str], Answer)]) -> Result<(), Fail> {
 
 #[test]
 fn words_name_a_command_with_its_files_and_options(rt: HostRuntime) -> Result<(), Fail> {
-    check_rows(rt.alloc(), &COMMANDS)
+    ask_for(rt.alloc(), &COMMANDS)
 }
 
 #[test]
 fn limits_are_numbers_in_their_ranges(rt: HostRuntime) -> Result<(), Fail> {
-    check_rows(rt.alloc(), &LIMITS)
+    ask_for(rt.alloc(), &LIMITS)?;
+    are_usage(rt.alloc(), &WRONG_LIMITS)
 }
 
 #[test]
 fn other_words_are_usage(rt: HostRuntime) -> Result<(), Fail> {
-    check_rows(rt.alloc(), &REFUSED)
+    are_usage(rt.alloc(), &REFUSED)
 }
 
 #[test]
 fn help_is_told_of_each_command(rt: HostRuntime) -> Result<(), Fail> {
-    check_rows(rt.alloc(), &HELP)
+    are_helped(rt.alloc(), &HELP)
 }
