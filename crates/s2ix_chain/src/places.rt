@@ -17,7 +17,7 @@ pub(crate) fn as_place(held: &[FlatHeld], number: u32) -> Option<u32>
     }
 }
 
-// The last of rising starts that is not behind a leaf. O(log n), and no branch depends on the leaf.
+// The last of rising starts that is not behind a leaf. O(log n).
 pub(crate) fn last_start(starts: &[u64], leaf: u64) -> usize
     requires some { 0 < length starts.now }
     requires rises { AllPairs (λ a b. a < b) starts.now }

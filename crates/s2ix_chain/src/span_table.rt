@@ -159,7 +159,7 @@ impl SpanTable {
         as_place(self.held.as_slice(), self.outer[place as usize])
     }
 
-    /// The range that has a leaf of the span. O(log n), and no branch depends on the leaf.
+    /// The range that has a leaf of the span. O(log n).
     #[inline]
     pub fn find(&self, leaf: CellId) -> usize
         requires begins { self.now.from ≤ raw_of leaf }

@@ -24,7 +24,8 @@ const PIECE: usize = 32768;
 /// `ReaderTooLong` all lines whose ends were read are carried out, and their whole output is flushed: no line is lost. A line that
 /// memory was refused for has changed nothing and printed nothing, and it is an edit, an undo, a redo, a line with a list of cells, or
 /// one that asks for regions or an export. Where the sink failed in a line's answer, the store keeps what that line did, and a front of
-/// its answer went out. After `Write` and `OutOfMemory` nothing is flushed.
+/// its answer went out. After `Write` and `OutOfMemory` no flush follows.
+/// O(n) for n bytes of input, and what their lines take.
 pub fn run<S: Source, K: Sink>(
     alloc: Global,
     source: &mut S,

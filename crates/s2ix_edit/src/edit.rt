@@ -1,7 +1,7 @@
 use s2id_union::CellUnion;
 use s2ix_bag::{Label, Pair};
 
-/// A step from one collection to the next. This project's own.
+/// What makes the next collection of a store. This project's own.
 #[derive(Debug, Drop, PartialEq, Eq)]
 pub enum Edit {
     /// Adds copies to the pair's count.

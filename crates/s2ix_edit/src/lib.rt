@@ -1,6 +1,6 @@
 //! Edits of a collection: what each makes of it, where it is refused, and the change that carries it out.
 //!
-//! An [`Edit`] is a step from one collection to the next. [`plan`] says which counts it changes in a bag, and changes nothing
+//! An [`Edit`] makes the next collection of one. [`plan`] says which counts it changes in a bag, and changes nothing
 //! itself: the planned change is applied by the bag, and recorded by the store that stands above this crate, with its
 //! history. So an edit, and why a step is refused, can be named without a store.
 #![tactic(auto)]

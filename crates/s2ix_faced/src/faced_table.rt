@@ -7,7 +7,7 @@ ghost use Rattle.s2ix_walk.specs.Costs.{binary_digits};
 ghost use Rattle.s2ix_reading.specs.Faces.{changed_count};
 ghost use Rattle.s2ix_joined.specs.Joined.{held_in, joined_ranges};
 ghost use Rattle.s2ix_chain.specs.Once.{KeepsOnce};
-ghost use Rattle.s2ix_joined.specs.Places.{chain_at};
+ghost use Rattle.s2ix_joined.specs.Places.{chain_from};
 
 use crate::tables::{read_tables, tables_after};
 use s2id_core::{CellId, OutOfMemory};
@@ -36,7 +36,7 @@ impl RangeTable for FacedTable {
 
     ghost ranges = { λ t. joined_ranges t.tables };
 
-    ghost chain = { λ t p. chain_at t.tables p };
+    ghost chain = { λ t p. chain_from t.tables p };
 
     ghost is_collection = { λ t. t.rises };
 

@@ -121,8 +121,8 @@ impl FaceLists {
         Ok(all)
     }
 
-    /// Why a change is refused, memory aside: each test goes over all entries, in the order of the errors. O(n + m) for n pairs and m
-    /// entries.
+    /// Why a change is refused, memory aside: each test goes over all entries, in the order of the errors. O(k + m) for m entries
+    /// and the k pairs held on their faces.
     pub fn refusal(&self, limits: Limits, entries: &[Entry]) -> Option<ApplyError>
         requires { IsChangeList entries.now }
         ensures { result ≡ apply_refusal (record { limits = limits; held = self.now }) entries.now }

@@ -7,7 +7,7 @@ use Rattle.s2ix_pairs.specs.declared.pair.Entry.{Entry}
 use Rattle.s2ix_pairs.specs.Change.{changed, inverse_of}
 use Rattle.s2ix_pairs.specs.Collection.{Collection, LimitedCollection}
 use Rattle.s2ix_edit.specs.State.{State, earlier, history_of, later}
-use Rattle.s2ix_replay.specs.Replay.{Numbered, after_changes, back_of, first_refusal, numbered, numbered_from, replay_refusal, replayed, rewind_refusal, rewound, way_back}
+use Rattle.s2ix_replay.specs.Replay.{Numbered, after_changes, back_of, first_refusal, with_numbers, numbered_from, replay_refusal, replayed, rewind_refusal, rewound, way_back}
 use Rattle.s2ix_replay.proofs.Back.{AreChanges, back_are_changes, push_change, there_and_back, way_back-way_back}
 use Rattle.s2ix_replay.proofs.Forth.{limits_stay, refusal_behind}
 use Rattle.s2ix_store.specs.Steps.{with_held}
@@ -61,24 +61,24 @@ changes_reversed n (es ∷ rest) =
     ∙ ap (λ ess. ess ++ es ∷ []) (changes_reversed (n + 1) rest) ∙ sym (reverse-append (es ∷ []) rest)
 
 -- the way back from a store's bag
-back_from : (s : State) → IsStore s → CanGoBack s.bag (changes_in (reverse (numbered s.done)))
+back_from : (s : State) → IsStore s → CanGoBack s.bag (changes_in (reverse (with_numbers s.done)))
 back_from s st = subst (CanGoBack s.bag) (sym (changes_reversed 1 s.done)) st.back
 
 pub done_is_taken_back : (s : State) → IsStore s → rewind_refusal s.bag s.done ≡ None
-done_is_taken_back s st = goes_back s.bag (reverse (numbered s.done)) (back_from s st)
+done_is_taken_back s st = goes_back s.bag (reverse (with_numbers s.done)) (back_from s st)
 
 same_first : (hs first : Collection) (found : Option Collection) → found ≡ Some hs → found ≡ Some first → hs ≡ first
 same_first hs first found is so = let e : Some hs ≡ Some first = sym is ∙ so in cc
 
 limits_back : (s : State) → (rewound s.bag s.done).limits ≡ s.bag.limits
-limits_back s = limits_stay s.bag (way_back (numbered s.done))
+limits_back s = limits_stay s.bag (way_back (with_numbers s.done))
 
 made : (bag : LimitedCollection) (hs : Collection) → bag.held ≡ hs → (other : LimitedCollection) → bag.limits ≡ other.limits → bag ≡ with_held other hs
 made bag hs held other limits = ap₂ (λ (l : Limits) (h : Collection). let b : LimitedCollection = record { limits = l; held = h } in b) limits held
 
 pub done_leads_back : (s : State) (first : Collection) → IsStore s → slice_get (history_of s).collections 0 ≡ Some first → rewound s.bag s.done ≡ with_held s.bag first
 done_leads_back s first st is =
-    let cs = reverse (numbered s.done) in
+    let cs = reverse (with_numbers s.done) in
     let rest = later s.bag.held (reverse s.undone) in
     let there = ap (λ ess. slice_get (earlier s.bag.held ess ++ s.bag.held ∷ rest) 0) (changes_reversed 1 s.done) in
     let held = same_first (rewound s.bag s.done).held first (slice_get (history_of s).collections 0) (sym there ∙ first_of_earlier s.bag cs rest) is in
@@ -87,7 +87,7 @@ done_leads_back s first st is =
 pub done_leads : (s : State) (first : Collection) → IsStore s → slice_get (history_of s).collections 0 ≡ Some first
     → (replay_refusal (with_held s.bag first) s.done ≡ None) × (replayed (with_held s.bag first) s.done ≡ s.bag)
 done_leads s first st is =
-    let cs = numbered s.done in
+    let cs = with_numbers s.done in
     let changes = turned cs (goes_over_changes s.bag (reverse cs) (back_from s st)) in
     let home = there_and_back s.bag (way_back cs) st.bag (back_are_changes cs changes) (done_is_taken_back s st) in
     let start = done_leads_back s first st is in (

@@ -10,7 +10,7 @@ use Rattle.s2ix_read_journal.specs.JournalFaults.{journal_fault}
 use Rattle.s2ix_read_journal.proofs.Answered.{journals_have_no_fault}
 use Rattle.s2ix_replay.specs.declared.errors.ReplayError.{ReplayError}
 use Rattle.s2ix_replay.specs.declared.errors.ReplayError.TheVariants as told
-use Rattle.s2ix_replay.specs.Replay.{numbered, replay_refusal, replayed, rewind_refusal, rewound, way_back}
+use Rattle.s2ix_replay.specs.Replay.{with_numbers, replay_refusal, replayed, rewind_refusal, rewound, way_back}
 use Rattle.s2ix_replay.proofs.Forth.{never_memory}
 use Rattle.s2ix_text.proofs.Dumps.{one_dump as one_collection}
 use Rattle.s2ix_text.proofs.Journals.{one_journal as one_list}
@@ -150,10 +150,10 @@ leads_at refusal (Some (told.TooManyPairs change)) bag is never = leads_told ref
 leads_at refusal (Some told.OutOfMemory) bag is never = absurd (never is)
 
 one_replay : (bag : LimitedCollection) (changes : List (List Entry)) → HasOne (ReplayLeads bag changes)
-one_replay bag changes = leads_at (replay_refusal bag changes) (replay_refusal bag changes) (replayed bag changes) refl (never_memory bag (numbered changes))
+one_replay bag changes = leads_at (replay_refusal bag changes) (replay_refusal bag changes) (replayed bag changes) refl (never_memory bag (with_numbers changes))
 
 one_rewind : (bag : LimitedCollection) (changes : List (List Entry)) → HasOne (RewindLeads bag changes)
-one_rewind bag changes = leads_at (rewind_refusal bag changes) (rewind_refusal bag changes) (rewound bag changes) refl (never_memory bag (way_back (numbered changes)))
+one_rewind bag changes = leads_at (rewind_refusal bag changes) (rewind_refusal bag changes) (rewound bag changes) refl (never_memory bag (way_back (with_numbers changes)))
 
 -- ---- answers
 

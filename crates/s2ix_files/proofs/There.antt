@@ -3,7 +3,7 @@ use Rattle.std.proofs.Common.{◌≡◌, ℕ, true, false, List, Result, Ok, Err
 use Rattle.s2ix_pairs.specs.declared.limits.Limits.{Limits}
 use Rattle.s2ix_pairs.specs.declared.pair.Entry.{Entry}
 use Rattle.s2ix_pairs.specs.Collection.{Collection, IsBag, LimitedCollection}
-use Rattle.s2ix_replay.specs.Replay.{numbered, replayed, rewound, way_back}
+use Rattle.s2ix_replay.specs.Replay.{with_numbers, replayed, rewound, way_back}
 use Rattle.s2ix_replay.proofs.Back.{replay_of_rewind, replayed_is_bag, rewind_of_replay, rewound_is_bag}
 use Rattle.s2ix_replay.proofs.Forth.{limits_stay}
 use Rattle.s2ix_text.specs.declared.version.Version.{Version}
@@ -77,7 +77,7 @@ rewind_replayed limits dump journal answer answers accepted =
     let there = replayed a.bag a.changes in
     let is_bag = replayed_is_bag a.bag a.changes a.dump_read.0 lists a.leads.0 in
     let text = a.text ∙ ap dump_of a.leads.1 in
-    let again = read_again limits answer.text there is_bag (limits_stay a.bag (numbered a.changes) ∙ a.dump_read.1) text in
+    let again = read_again limits answer.text there is_bag (limits_stay a.bag (with_numbers a.changes) ∙ a.dump_read.1) text in
     (a.bag, a.dump_read, leads_home RewindLeads limits answer.text journal a.bag there a.changes again a.journal_read (back.taken, sym back.back))
 
 pub replay_rewound : ComesBack RewindAnswers ReplayAnswers
@@ -88,7 +88,7 @@ replay_rewound limits dump journal answer answers accepted =
     let there = rewound a.bag a.changes in
     let is_bag = rewound_is_bag a.bag a.changes a.dump_read.0 lists a.leads.0 in
     let text = a.text ∙ ap dump_of a.leads.1 in
-    let again = read_again limits answer.text there is_bag (limits_stay a.bag (way_back (numbered a.changes)) ∙ a.dump_read.1) text in
+    let again = read_again limits answer.text there is_bag (limits_stay a.bag (way_back (with_numbers a.changes)) ∙ a.dump_read.1) text in
     (a.bag, a.dump_read, leads_home ReplayLeads limits answer.text journal a.bag there a.changes again a.journal_read (forth.0, sym forth.1))
 
 -- ---- byte for byte

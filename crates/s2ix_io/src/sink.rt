@@ -10,7 +10,7 @@ use thiserror::Error;
 #[error("write fault")]
 pub struct WriteFault;
 
-/// Where a run's bytes go. A sink may take less than it is given, and may fail at any call. This project's own.
+/// What bytes go to. It may take less than it is given, and may fail at any call. This project's own.
 pub trait Sink {
     // The bytes that the sink took so far, where they are known.
     ghost taken: { Self → Option (List ℕ) };

@@ -10,7 +10,7 @@ use thiserror::Error;
 #[error("read fault")]
 pub struct ReadFault;
 
-/// Where a run's bytes come from. A source is read piece by piece, and may fail at any piece. This project's own.
+/// What bytes come from, piece by piece. It may fail at any piece. This project's own.
 pub trait Source {
     // The bytes that are still to come, where they are known.
     ghost left: { Self → Option (List ℕ) };

@@ -16,7 +16,7 @@ use Rattle.s2ix_joined.specs.Joined.{AreNeighbours}
 use Rattle.s2ix_joined.specs.Whole.{AreJoined}
 use Rattle.s2ix_joined.proofs.OnFaces.{held_lie_on}
 use Rattle.s2ix_chain.specs.Once.{IsHeldAt, KeepsOnce}
-use Rattle.s2ix_joined.specs.Places.{chain_at}
+use Rattle.s2ix_joined.specs.Places.{chain_from}
 use Rattle.s2ix_joined.proofs.Reading.{no_table, place_on, chain_is, over_face}
 
 on_chain : (held : Collection) (place : ℕ) (h : Held) → Contains (chain_of held place) h → Contains held h
@@ -42,20 +42,20 @@ same_place p q a b = let e : place_with p.face p.node ≡ place_with q.face q.no
 -- a place whose chain has a pair is on the pair's face
 record IsOnFaceOf (tables : List SpanRanges) (place : FacePlace) (h : Held) : Type 0 where
   face : place.face ≡ face_of h.pair.cell
-  chain : chain_at tables place ≡ chain_of (get_or tables (face_of h.pair.cell) no_table).held place.node
+  chain : chain_from tables place ≡ chain_of (get_or tables (face_of h.pair.cell) no_table).held place.node
 
-on_face_of : (tables : List SpanRanges) (place : FacePlace) (h : Held) → length tables ≡ 6 → ((i : ℕ) (d : SpanRanges) → i < 6 → AreOnFace i (get_or tables i d).held) → Contains (chain_at tables place) h → IsOnFaceOf tables place h
+on_face_of : (tables : List SpanRanges) (place : FacePlace) (h : Held) → length tables ≡ 6 → ((i : ℕ) (d : SpanRanges) → i < 6 → AreOnFace i (get_or tables i d).held) → Contains (chain_from tables place) h → IsOnFaceOf tables place h
 on_face_of tables place h six on c =
-    let is = place_on tables place no_table (has_some (chain_at tables place) h c) in
+    let is = place_on tables place no_table (has_some (chain_from tables place) h c) in
     let lt = is.face in
     let held = on_chain (get_or tables place.face no_table).held place.node h (subst (λ cs. Contains cs h) is.chain c) in
     let face : face_of h.pair.cell ≡ place.face = on place.face no_table (omega arith) h held in
     record { face = sym face; chain = is.chain ∙ ap (λ n. chain_of (get_or tables n no_table).held place.node) (sym face) }
 
-held_there : (tables : List SpanRanges) (start p : FacePlace) (h : Held) → length tables ≡ 6 → ((i : ℕ) (d : SpanRanges) → i < 6 → AreOnFace i (get_or tables i d).held) → IsHeldAt (chain_at tables) start h p → IsHeldAt (chain_of (get_or tables (face_of h.pair.cell) no_table).held) start.node h p.node × (p.face ≡ face_of h.pair.cell)
+held_there : (tables : List SpanRanges) (start p : FacePlace) (h : Held) → length tables ≡ 6 → ((i : ℕ) (d : SpanRanges) → i < 6 → AreOnFace i (get_or tables i d).held) → IsHeldAt (chain_from tables) start h p → IsHeldAt (chain_of (get_or tables (face_of h.pair.cell) no_table).held) start.node h p.node × (p.face ≡ face_of h.pair.cell)
 held_there tables start p h six on is =
-    let here : Contains (chain_at tables p) h = subst (λ cs. Contains cs h) (sym is.pair) (at_head h (drop 1 (chain_at tables p))) in
-    let from : Contains (chain_at tables start) h = behind is.rest.0 (chain_at tables start) h (subst (λ cs. Contains cs h) (sym is.rest.1) here) in
+    let here : Contains (chain_from tables p) h = subst (λ cs. Contains cs h) (sym is.pair) (at_head h (drop 1 (chain_from tables p))) in
+    let from : Contains (chain_from tables start) h = behind is.rest.0 (chain_from tables start) h (subst (λ cs. Contains cs h) (sym is.rest.1) here) in
     let at = on_face_of tables p h six on here in
     let start_at = on_face_of tables start h six on from in (
       record {
@@ -65,11 +65,11 @@ held_there tables start p h six on is =
       at.face,
     )
 
-pub joined_once : (tables : List SpanRanges) → length tables ≡ 6 → ((i : ℕ) (d : SpanRanges) → i < 6 → AreOnFace i (get_or tables i d).held) → ((i : ℕ) (d : SpanRanges) → i < 6 → KeepsOnce (chain_of (get_or tables i d).held)) → KeepsOnce (chain_at tables)
+pub joined_once : (tables : List SpanRanges) → length tables ≡ 6 → ((i : ℕ) (d : SpanRanges) → i < 6 → AreOnFace i (get_or tables i d).held) → ((i : ℕ) (d : SpanRanges) → i < 6 → KeepsOnce (chain_of (get_or tables i d).held)) → KeepsOnce (chain_from tables)
 unfolding place_with
 joined_once tables six on each = record {
   place = λ start h c.
-      let is = place_on tables start no_table (has_some (chain_at tables start) h c) in
+      let is = place_on tables start no_table (has_some (chain_from tables start) h c) in
       let lt = is.face in
       let own = (each start.face no_table (omega arith)).place start.node h (subst (λ cs. Contains cs h) is.chain c) in
       let p = place_with start.face own.0 in
@@ -84,8 +84,8 @@ joined_once tables six on each = record {
       let a = held_there tables start p h six on one in
       let b = held_there tables other q h six on two in
       let face = a.1 in
-      let here = on_face_of tables p h six on (subst (λ cs. Contains cs h) (sym one.pair) (at_head h (drop 1 (chain_at tables p)))) in
-      let node = (each (face_of h.pair.cell) no_table (let lt = (place_on tables p no_table (has_some (chain_at tables p) h (subst (λ cs. Contains cs h) (sym one.pair) (at_head h (drop 1 (chain_at tables p)))))).face in omega arith)).same start.node other.node p.node q.node h a.0 b.0 in
+      let here = on_face_of tables p h six on (subst (λ cs. Contains cs h) (sym one.pair) (at_head h (drop 1 (chain_from tables p)))) in
+      let node = (each (face_of h.pair.cell) no_table (let lt = (place_on tables p no_table (has_some (chain_from tables p) h (subst (λ cs. Contains cs h) (sym one.pair) (at_head h (drop 1 (chain_from tables p)))))).face in omega arith)).same start.node other.node p.node q.node h a.0 b.0 in
       same_place p q (a.1 ∙ sym b.1) node;
 }
 
@@ -95,7 +95,7 @@ known_at from zero (t ∷ ts) d to are lt = are.1
 known_at from (suc i) (t ∷ ts) d to are lt = known_at t.to i ts d to are.2 (omega arith)
 
 -- so it is where each face's table keeps its pairs once
-pub faces_once : (tables : List SpanRanges) (seats : List Seat) (count : ℕ) → AreJoined tables seats count → ((i : ℕ) (d : SpanRanges) → i < 6 → KeepsOnce (chain_of (get_or tables i d).held)) → KeepsOnce (chain_at tables)
+pub faces_once : (tables : List SpanRanges) (seats : List Seat) (count : ℕ) → AreJoined tables seats count → ((i : ℕ) (d : SpanRanges) → i < 6 → KeepsOnce (chain_of (get_or tables i d).held)) → KeepsOnce (chain_from tables)
 faces_once tables seats count are each =
     let six = are.six in
     joined_once tables six (λ i d lt.

@@ -13,7 +13,7 @@ use Rattle.s2ix_chain.specs.Starts.{IsLastStart}
 use Rattle.s2ix_joined.specs.declared.seat.Seat.{Seat}
 use Rattle.s2ix_joined.specs.declared.face_place.FacePlace.{FacePlace}
 use Rattle.s2ix_chain.specs.Chains.{chain_of}
-use Rattle.s2ix_joined.specs.Places.{chain_in, chain_at}
+use Rattle.s2ix_joined.specs.Places.{chain_in, chain_from}
 use Rattle.s2ix_joined.specs.Faces.{face_begin, IsOverFace, AreOverFaces}
 use Rattle.s2ix_joined.specs.Joined.{joined_ranges, AreNeighbours}
 use Rattle.s2ix_joined.specs.Seats.{seat_after, seats_of, places_of, AreInOrder}
@@ -227,13 +227,13 @@ found_part whole part seat high j q is found =
 
 -- ---- places
 
-pub chain_is : (tables : List SpanRanges) (face node : ℕ) (d : SpanRanges) → face < length tables → chain_at tables (record { face = face; node = node }) ≡ chain_of (get_or tables face d).held node
+pub chain_is : (tables : List SpanRanges) (face node : ℕ) (d : SpanRanges) → face < length tables → chain_from tables (record { face = face; node = node }) ≡ chain_of (get_or tables face d).held node
 chain_is tables face node d lt = ap (λ t. chain_in t node) (slice_get-get_or tables face d lt)
 
 some_same : (p q : FacePlace) → Some p ≡ Some q → p ≡ q
 some_same p q e = cc
 
-pub lead_some : (tables : List SpanRanges) (face node : ℕ) (d : SpanRanges) (pairs : Collection) → face < length tables → LeadsTo (chain_of (get_or tables face d).held) (Some node) pairs → LeadsTo (chain_at tables) (Some (record { face = face; node = node })) pairs
+pub lead_some : (tables : List SpanRanges) (face node : ℕ) (d : SpanRanges) (pairs : Collection) → face < length tables → LeadsTo (chain_of (get_or tables face d).held) (Some node) pairs → LeadsTo (chain_from tables) (Some (record { face = face; node = node })) pairs
 lead_some tables face node d pairs lt leads =
     let same = chain_is tables face node d lt in
     let place : FacePlace = record { face = face; node = node } in
@@ -241,11 +241,11 @@ lead_some tables face node d pairs lt leads =
       pairs_are = same ∙ leads.pairs_are;
       place = λ p e.
           let is = leads.place node refl in
-          let here : 0 < length (chain_at tables place) = let l = ap length same in omega arith in
-          subst (λ q. 0 < length (chain_at tables q)) (some_same place p e) here;
+          let here : 0 < length (chain_from tables place) = let l = ap length same in omega arith in
+          subst (λ q. 0 < length (chain_from tables q)) (some_same place p e) here;
     }
 
-pub lead_none : (tables : List SpanRanges) (held pairs : Collection) → LeadsTo (chain_of held) None pairs → LeadsTo (chain_at tables) None pairs
+pub lead_none : (tables : List SpanRanges) (held pairs : Collection) → LeadsTo (chain_of held) None pairs → LeadsTo (chain_from tables) None pairs
 lead_none tables held pairs leads = record { pairs_are = leads.pairs_are; place = λ p e. absurd (none_some p e) }
   where
     none_some : (p : FacePlace) → None ≡ Some p → ⊥
@@ -254,9 +254,9 @@ lead_none tables held pairs leads = record { pairs_are = leads.pairs_are; place 
 -- a place is one of the table of its face
 pub record IsOn (tables : List SpanRanges) (place : FacePlace) (d : SpanRanges) : Type 0 where
   pub face : place.face < length tables
-  pub chain : chain_at tables place ≡ chain_of (get_or tables place.face d).held place.node
+  pub chain : chain_from tables place ≡ chain_of (get_or tables place.face d).held place.node
 
-pub place_on : (tables : List SpanRanges) (place : FacePlace) (d : SpanRanges) → 0 < length (chain_at tables place) → IsOn tables place d
+pub place_on : (tables : List SpanRanges) (place : FacePlace) (d : SpanRanges) → 0 < length (chain_from tables place) → IsOn tables place d
 place_on tables place d some =
     elim (cases_lt place.face (length tables)) [
       | inl lt ↦ record { face = lt; chain = ap (λ t. chain_in t place.node) (slice_get-get_or tables place.face d lt) }
@@ -269,9 +269,9 @@ pub record IsReadOn (tables now : List SpanRanges) (place : FacePlace) (d span :
   pub listed : place.face < length tables
   pub seen : place.face < length now
   pub same : span ≡ get_or now place.face d
-  pub chain : chain_at now place ≡ chain_of span.held place.node
+  pub chain : chain_from now place ≡ chain_of span.held place.node
 
-pub read_on : (tables now : List SpanRanges) (place : FacePlace) (d span : SpanRanges) → length tables ≡ 6 → tables ≡ now → span ≡ get_or tables place.face d → 0 < length (chain_at now place) → IsReadOn tables now place d span
+pub read_on : (tables now : List SpanRanges) (place : FacePlace) (d span : SpanRanges) → length tables ≡ 6 → tables ≡ now → span ≡ get_or tables place.face d → 0 < length (chain_from now place) → IsReadOn tables now place d span
 read_on tables now place d span six view is some =
     let on = place_on now place d some in
     let len = ap length view in

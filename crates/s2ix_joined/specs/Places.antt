@@ -11,5 +11,5 @@ chain_in None place = []
 chain_in (Some table) place = chain_of table.held place
 
 -- the chain from a place of one of some tables outwards
-abbrev pub chain_at : List SpanRanges → FacePlace → Collection
-chain_at tables place = chain_in (slice_get tables place.face) place.node
+abbrev pub chain_from : List SpanRanges → FacePlace → Collection
+chain_from tables place = chain_in (slice_get tables place.face) place.node

@@ -11,7 +11,7 @@ ghost use Rattle.s2ix_chain.specs.Starts.{IsLastStart};
 ghost use Rattle.s2ix_joined.specs.Joined.{held_in, joined_ranges};
 ghost use Rattle.s2ix_joined.specs.Seats.{seats_of, places_of};
 ghost use Rattle.s2ix_chain.specs.Once.{KeepsOnce};
-ghost use Rattle.s2ix_joined.specs.Places.{chain_at};
+ghost use Rattle.s2ix_joined.specs.Places.{chain_from};
 
 use crate::face_place::FacePlace;
 use crate::face_table::FaceTable;
@@ -22,7 +22,7 @@ use s2ix_table::{RangeRow, Stretch, Window};
 use std::marker::Model;
 
 /// The tables of the six faces, read as one: empty ranges that meet at the end of a face are one range. Contracts see the six tables; the
-/// pairs of all are `held_in` them, their ranges `joined_ranges`, and the chain from a place is `chain_at` them. This project's own.
+/// pairs of all are `held_in` them, their ranges `joined_ranges`, and the chain from a place is `chain_from` them. This project's own.
 #[derive(Debug, Drop)]
 pub struct JoinedTables {
     tables: [FaceTable; FACES],
@@ -137,7 +137,7 @@ impl JoinedTables {
     #[inline]
     pub fn first(&self, k: usize) -> Option<FacePlace>
         requires { k < length (joined_ranges self.now) }
-        ensures { LeadsTo (chain_at self.now) result (range_at (joined_ranges self.now) k).contents }
+        ensures { LeadsTo (chain_from self.now) result (range_at (joined_ranges self.now) k).contents }
     {
         self.first_on(self.face_with(k), k)
     }
@@ -149,7 +149,7 @@ impl JoinedTables {
         requires { k < length (joined_ranges self.now) }
         ensures start { result.0.start ≡ (range_at (joined_ranges self.now) k).start }
         ensures limit { result.0.limit ≡ (range_at (joined_ranges self.now) k).limit }
-        ensures first { LeadsTo (chain_at self.now) result.1 (range_at (joined_ranges self.now) k).contents }
+        ensures first { LeadsTo (chain_from self.now) result.1 (range_at (joined_ranges self.now) k).contents }
     {
         match self.own_near(k, note) {
             Some(own) => (self.range_of(note, own), self.first_of(note, own), note),
@@ -164,7 +164,7 @@ impl JoinedTables {
         requires { k < length (joined_ranges self.now) }
         ensures start { result.0.start ≡ (range_at (joined_ranges self.now) k).start }
         ensures limit { result.0.limit ≡ (range_at (joined_ranges self.now) k).limit }
-        ensures first { LeadsTo (chain_at self.now) result.1 (range_at (joined_ranges self.now) k).contents }
+        ensures first { LeadsTo (chain_from self.now) result.1 (range_at (joined_ranges self.now) k).contents }
     {
         let face = self.face_with(k);
         (self.range_on(face, k), self.first_on(face, k), face)
@@ -261,7 +261,7 @@ impl JoinedTables {
         requires within { face < 6 }
         requires last { IsLastStart (places_of (seats_of self.now)) k face }
         requires range { k < length (joined_ranges self.now) }
-        ensures { LeadsTo (chain_at self.now) result (range_at (joined_ranges self.now) k).contents }
+        ensures { LeadsTo (chain_from self.now) result (range_at (joined_ranges self.now) k).contents }
     {
         self.first_of(face, k - self.seats[face].place)
     }
@@ -272,7 +272,7 @@ impl JoinedTables {
         requires within { face < 6 }
         requires last { IsLastStart (places_of (seats_of self.now)) (slice_index_or (places_of (seats_of self.now)) face 0 + own) face }
         requires range { slice_index_or (places_of (seats_of self.now)) face 0 + own < length (joined_ranges self.now) }
-        ensures { LeadsTo (chain_at self.now)
+        ensures { LeadsTo (chain_from self.now)
             result
             (range_at (joined_ranges self.now) (slice_index_or (places_of (seats_of self.now)) face 0 + own)).contents }
     {
@@ -285,8 +285,8 @@ impl JoinedTables {
     /// The pair at a place, with its count. O(1).
     #[inline]
     pub fn held_at(&self, place: FacePlace) -> Held
-        requires { IsPlace (chain_at self.now) place }
-        ensures { chain_at self.now place ≡ result ∷ drop 1 (chain_at self.now place) }
+        requires { IsPlace (chain_from self.now) place }
+        ensures { chain_from self.now place ≡ result ∷ drop 1 (chain_from self.now place) }
     {
         let tables = &self.tables;
         tables[place.face].span().held_at(place.node)
@@ -295,8 +295,8 @@ impl JoinedTables {
     /// The place of the next pair outwards, or `None` at the outermost. O(1).
     #[inline]
     pub fn outer(&self, place: FacePlace) -> Option<FacePlace>
-        requires { IsPlace (chain_at self.now) place }
-        ensures { LeadsTo (chain_at self.now) result (drop 1 (chain_at self.now place)) }
+        requires { IsPlace (chain_from self.now) place }
+        ensures { LeadsTo (chain_from self.now) result (drop 1 (chain_from self.now place)) }
     {
         let tables = &self.tables;
         match tables[place.face].span().outer(place.node) {
@@ -320,7 +320,7 @@ impl JoinedTables {
 
     // A law: a pair has one place.
     pub(crate) fn keeps_a_pair_once(&self)
-        ensures { KeepsOnce (chain_at self.now) }
+        ensures { KeepsOnce (chain_from self.now) }
     {
         self.tables[0].keeps_a_pair_once();
         self.tables[1].keeps_a_pair_once();

@@ -1,7 +1,7 @@
 ghost use Rattle.std.specs.Prelude.{◌≡◌, ◌≤◌, ◌↔◌, IsSome, IfSome};
 ghost use Rattle.s2ix_pairs.specs.Ranges.{AreLimits};
 
-/// How large a collection and its history may grow. This project's own.
+/// How large a collection and its history may be. This project's own.
 #[derive(Clone, Copy, Debug, PartialEq, Eq, Hash)]
 pub struct Limits {
     pairs: u32,

@@ -11,7 +11,7 @@ use Rattle.s2ix_lists.proofs.Applied.{changed_inverse}
 use Rattle.s2ix_pairs.proofs.Inverse.{inverse-inverse, inverse_keeps}
 use Rattle.s2ix_lists.proofs.Refusals.{inverse_taken, made_is_bag, refusal_of_taken, taken_from_none}
 use Rattle.s2ix_replay.specs.declared.errors.ReplayError.{ReplayError}
-use Rattle.s2ix_replay.specs.Replay.{IsReplayError, Numbered, after_change, after_changes, back_of, first_refusal, numbered, numbered_from, refusal_numbered, replay_refusal, replayed, rewind_refusal, rewound, way_back}
+use Rattle.s2ix_replay.specs.Replay.{IsReplayError, Numbered, after_change, after_changes, back_of, first_refusal, with_numbers, numbered_from, refusal_numbered, replay_refusal, replayed, rewind_refusal, rewound, way_back}
 use Rattle.s2ix_replay.proofs.Forth.{after_changes-append, first_refusal-append, first_taken, refusal_behind, refused_here, rest_taken}
 
 -- ---- the way back
@@ -52,14 +52,14 @@ abbrev pub change_at : ℕ → List Entry → Numbered
 change_at place es = record { number = place + 1; change = es }
 
 -- the way back from behind a change begins with that change
-pub way_back_from : (changes : List (List Entry)) (place : ℕ) (es : List Entry) → place < length changes → es ≡ get_or changes place es → way_back (numbered (take (place + 1) changes)) ≡ back_of (change_at place es) ∷ way_back (numbered (take place changes))
+pub way_back_from : (changes : List (List Entry)) (place : ℕ) (es : List Entry) → place < length changes → es ≡ get_or changes place es → way_back (with_numbers (take (place + 1) changes)) ≡ back_of (change_at place es) ∷ way_back (with_numbers (take place changes))
 way_back_from changes place es lt is =
     let more : take (place + 1) changes ≡ take place changes ++ es ∷ [] = take_more changes place es lt ∙ ap (λ x. take place changes ++ x ∷ []) (sym is) in
     let number : 1 + length (take place changes) ≡ place + 1 = omega (arith, length-take place changes, lt) in
-    ap (λ xs. way_back (numbered xs)) more
+    ap (λ xs. way_back (with_numbers xs)) more
     ∙ ap way_back (numbered_push 1 (take place changes) es)
-    ∙ way_back_push (numbered (take place changes)) (record { number = 1 + length (take place changes); change = es })
-    ∙ ap (λ k. back_of (record { number = k; change = es }) ∷ way_back (numbered (take place changes))) number
+    ∙ way_back_push (with_numbers (take place changes)) (record { number = 1 + length (take place changes); change = es })
+    ∙ ap (λ k. back_of (record { number = k; change = es }) ∷ way_back (with_numbers (take place changes))) number
 
 -- ---- a step back
 
@@ -72,26 +72,26 @@ pub record IsBefore (changes : List (List Entry)) (place : ℕ) (back : List Ent
   pub inverse : back ≡ inverse_of change
 
 -- the way back from here begins with it
-pub way_back_here : (changes : List (List Entry)) (place : ℕ) (back : List Entry) → IsBefore changes place back → way_back (numbered (take place changes)) ≡ change_at (place - 1) back ∷ way_back (numbered (take (place - 1) changes))
+pub way_back_here : (changes : List (List Entry)) (place : ℕ) (back : List Entry) → IsBefore changes place back → way_back (with_numbers (take place changes)) ≡ change_at (place - 1) back ∷ way_back (with_numbers (take (place - 1) changes))
 way_back_here changes place back b =
     let some = b.some in
     let within = b.within in
     let on : place ≡ place - 1 + 1 = omega arith in
-    ap (λ k. way_back (numbered (take k changes))) on ∙ way_back_from changes (place - 1) b.change (omega arith) b.is
-    ∙ ap (λ es. change_at (place - 1) es ∷ way_back (numbered (take (place - 1) changes))) (sym b.inverse)
+    ap (λ k. way_back (with_numbers (take k changes))) on ∙ way_back_from changes (place - 1) b.change (omega arith) b.is
+    ∙ ap (λ es. change_at (place - 1) es ∷ way_back (with_numbers (take (place - 1) changes))) (sym b.inverse)
 
 -- it is refused: the error tells it
 pub refused_back : (bag : LimitedCollection) (changes : List (List Entry)) (place : ℕ) (back : List Entry) (error : ReplayError) → IsBefore changes place back → IsReplayError error (option_map (refusal_numbered (place - 1 + 1)) (apply_refusal bag back)) → IsReplayError error (rewind_refusal bag (take place changes))
 refused_back bag changes place back error b is =
     let Tells : List Numbered → Type 0 = λ cs. IsReplayError error (first_refusal bag cs) in
     subst Tells (sym (way_back_here changes place back b))
-    (refused_here bag (change_at (place - 1) back) (way_back (numbered (take (place - 1) changes))) error is)
+    (refused_here bag (change_at (place - 1) back) (way_back (with_numbers (take (place - 1) changes))) error is)
 
 -- it is taken: the refusals are those of the way back from there
 pub taken_back : (bag next : LimitedCollection) (changes : List (List Entry)) (place : ℕ) (back : List Entry) → IsBefore changes place back → apply_refusal bag back ≡ None → next ≡ after_change bag back → rewind_refusal bag (take place changes) ≡ rewind_refusal next (take (place - 1) changes)
 taken_back bag next changes place back b taken is =
     ap (first_refusal bag) (way_back_here changes place back b)
-    ∙ refusal_behind bag (change_at (place - 1) back) (way_back (numbered (take (place - 1) changes))) taken
+    ∙ refusal_behind bag (change_at (place - 1) back) (way_back (with_numbers (take (place - 1) changes))) taken
     ∙ ap (λ x. rewind_refusal x (take (place - 1) changes)) (sym is)
 
 -- and so is the bag
@@ -143,13 +143,13 @@ there_and_back bag (c ∷ rest) is_bag cs_are none =
           ∙ ap (λ b. after_changes b (back_of c ∷ [])) behind.back ∙ home;
     }
 
-pub rewind_of_replay : (bag : LimitedCollection) (changes : List (List Entry)) → IsBag bag → All IsChangeList changes → replay_refusal bag changes ≡ None → Returns bag (numbered changes)
+pub rewind_of_replay : (bag : LimitedCollection) (changes : List (List Entry)) → IsBag bag → All IsChangeList changes → replay_refusal bag changes ≡ None → Returns bag (with_numbers changes)
 rewind_of_replay bag changes is_bag all none =
-    there_and_back bag (numbered changes) is_bag (numbered_are_changes 1 changes all) none
+    there_and_back bag (with_numbers changes) is_bag (numbered_are_changes 1 changes all) none
 
 pub replay_of_rewind : (bag : LimitedCollection) (changes : List (List Entry)) → IsBag bag → All IsChangeList changes → rewind_refusal bag changes ≡ None → (replay_refusal (rewound bag changes) changes ≡ None) × (replayed (rewound bag changes) changes ≡ bag)
 replay_of_rewind bag changes is_bag all none =
-    let cs = numbered changes in
+    let cs = with_numbers changes in
     let returns = there_and_back bag (way_back cs) is_bag (back_are_changes cs (numbered_are_changes 1 changes all)) none in (
       ap (first_refusal (rewound bag changes)) (sym (way_back-way_back cs)) ∙ returns.taken,
       ap (after_changes (rewound bag changes)) (sym (way_back-way_back cs)) ∙ returns.back,
@@ -162,8 +162,8 @@ changes_make_bag bag (c ∷ rest) is_bag cs_are none =
     changes_make_bag (after_change bag c.change) rest (made_is_bag bag c.change is_bag cs_are.0 (taken_from_none bag c.change (first_taken bag c rest none))) cs_are.1 (rest_taken bag c rest none)
 
 pub replayed_is_bag : (bag : LimitedCollection) (changes : List (List Entry)) → IsBag bag → All IsChangeList changes → replay_refusal bag changes ≡ None → IsBag (replayed bag changes)
-replayed_is_bag bag changes is_bag all none = changes_make_bag bag (numbered changes) is_bag (numbered_are_changes 1 changes all) none
+replayed_is_bag bag changes is_bag all none = changes_make_bag bag (with_numbers changes) is_bag (numbered_are_changes 1 changes all) none
 
 pub rewound_is_bag : (bag : LimitedCollection) (changes : List (List Entry)) → IsBag bag → All IsChangeList changes → rewind_refusal bag changes ≡ None → IsBag (rewound bag changes)
 rewound_is_bag bag changes is_bag all none =
-    changes_make_bag bag (way_back (numbered changes)) is_bag (back_are_changes (numbered changes) (numbered_are_changes 1 changes all)) none
+    changes_make_bag bag (way_back (with_numbers changes)) is_bag (back_are_changes (with_numbers changes) (numbered_are_changes 1 changes all)) none

@@ -23,8 +23,8 @@ numbered_from number [] = []
 numbered_from number (es ∷ rest) = record { number = number; change = es } ∷ numbered_from (number + 1) rest
 
 -- changes with their numbers in a journal, which counts from 1
-abbrev pub numbered : List (List Entry) → List Numbered
-numbered changes = numbered_from 1 changes
+abbrev pub with_numbers : List (List Entry) → List Numbered
+with_numbers changes = numbered_from 1 changes
 
 -- what takes a change back, under its number
 abbrev pub back_of : Numbered → Numbered
@@ -47,11 +47,11 @@ after_changes bag (c ∷ rest) = after_changes (after_change bag c.change) rest
 
 -- the bag after a journal's changes
 abbrev pub replayed : LimitedCollection → List (List Entry) → LimitedCollection
-replayed bag changes = after_changes bag (numbered changes)
+replayed bag changes = after_changes bag (with_numbers changes)
 
 -- the bag before a journal's changes
 abbrev pub rewound : LimitedCollection → List (List Entry) → LimitedCollection
-rewound bag changes = after_changes bag (way_back (numbered changes))
+rewound bag changes = after_changes bag (way_back (with_numbers changes))
 
 -- ---- the first change that is refused
 
@@ -70,11 +70,11 @@ first_refusal bag (c ∷ rest) =
 
 -- why a bag refuses a journal's changes, memory aside
 abbrev pub replay_refusal : LimitedCollection → List (List Entry) → Option ReplayError
-replay_refusal bag changes = first_refusal bag (numbered changes)
+replay_refusal bag changes = first_refusal bag (with_numbers changes)
 
 -- why a bag refuses to take a journal's changes back, memory aside
 abbrev pub rewind_refusal : LimitedCollection → List (List Entry) → Option ReplayError
-rewind_refusal bag changes = first_refusal bag (way_back (numbered changes))
+rewind_refusal bag changes = first_refusal bag (way_back (with_numbers changes))
 
 -- the error is the refusal that stands, or memory was wanted
 abbrev pub IsReplayError : ReplayError → Option ReplayError → Type 0

@@ -2,7 +2,7 @@ ghost use Rattle.std.specs.Prelude.{◌≡◌, ◌+◌, ◌<◌, ◌^◌, None, 
 ghost use Rattle.std.specs.Option.{option_map};
 ghost use Rattle.s2ix_lists.specs.Apply.{apply_refusal};
 ghost use Rattle.s2ix_replay.specs.declared.errors.ReplayError.TheVariants.{OutOfMemory};
-ghost use Rattle.s2ix_replay.specs.Replay.{IsReplayError, after_change, first_refusal, numbered, refusal_numbered, replay_refusal, replayed, rewind_refusal, rewound};
+ghost use Rattle.s2ix_replay.specs.Replay.{IsReplayError, after_change, first_refusal, with_numbers, refusal_numbered, replay_refusal, replayed, rewind_refusal, rewound};
 
 use crate::errors::ReplayError;
 use s2ix_bag::{ApplyError, Bag, Change};
@@ -41,7 +41,7 @@ pub fn replay(alloc: Global, bag: &Bag, changes: &[Change]) -> Result<Bag, Repla
     ensures bag { IfOk result (λ after. after ≡ replayed bag.now changes.now) }
     ensures accepted { OnOk result (replay_refusal bag.now changes.now ≡ None) }
     ensures refused { IfErr result (λ error. IsReplayError error (replay_refusal bag.now changes.now)) }
-    ensures first { result ≡ Err OutOfMemory → first_refusal bag.now (take 1 (numbered changes.now)) ≡ None }
+    ensures first { result ≡ Err OutOfMemory → first_refusal bag.now (take 1 (with_numbers changes.now)) ≡ None }
 {
     let Some((first, rest)) = changes.split_first() else {
         return Ok(bag.copied(alloc)?);

@@ -38,7 +38,7 @@ pub(crate) fn asked_by(
     }
 }
 
-// What a word asks for that asks for nothing on a union of cells.
+// What a word asks for that is none on a union of cells.
 fn by_cell(word: &[u8], fields: &mut Fields<'_>) -> Result<Instruction, LineFault>
     ensures { result ≡ asked_in (cell_words ++ query_words ++ history_words ++ edit_words) word.now fields.old }
 {
@@ -53,7 +53,7 @@ fn by_cell(word: &[u8], fields: &mut Fields<'_>) -> Result<Instruction, LineFaul
     }
 }
 
-// What a word asks for that asks for no cell alone either.
+// What a word asks for that is none of those, nor on a cell alone.
 fn by_query(word: &[u8], fields: &mut Fields<'_>) -> Result<Instruction, LineFault>
     ensures { result ≡ asked_in (query_words ++ history_words ++ edit_words) word.now fields.old }
 {
@@ -78,7 +78,7 @@ fn by_query(word: &[u8], fields: &mut Fields<'_>) -> Result<Instruction, LineFau
     }
 }
 
-// What a word asks for that asks for nothing that is held.
+// What a word asks for that is no query.
 fn by_history(word: &[u8], fields: &mut Fields<'_>) -> Result<Instruction, LineFault>
     ensures { result ≡ asked_in (history_words ++ edit_words) word.now fields.old }
 {
@@ -93,7 +93,7 @@ fn by_history(word: &[u8], fields: &mut Fields<'_>) -> Result<Instruction, LineF
     }
 }
 
-// What a word asks for that can be but an edit.
+// What a word asks for that is an edit's or no word of a script.
 fn by_edit(word: &[u8], fields: &mut Fields<'_>) -> Result<Instruction, LineFault>
     ensures { result ≡ asked_in edit_words word.now fields.old }
 {

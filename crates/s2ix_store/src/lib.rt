@@ -5,7 +5,7 @@
 //! collection alone. A refused step leaves the store as it was. The store keeps the range table of its collection
 //! beside it, for queries.
 //!
-//! Each step builds again what the bag and that table have of the faces of its change, in a time that grows with the pairs held there. A
+//! Each step builds again what the bag and that table have of the faces of its change, in a time that rises with the pairs held there. A
 //! store drops no change by itself: once as many can be undone as its limits allow, edits are refused until one is undone or all are
 //! forgotten.
 #![tactic(auto)]

@@ -27,8 +27,8 @@ use s2ix_table::RangeTable;
 use std::alloc::Global;
 use std::marker::Model;
 
-/// A collection with its history and its range table. Contracts see a store as its bag with the changes that were
-/// done and undone; the table is always that of the bag. This project's own.
+/// A collection with its history and its range table. Contracts see a store as its bag, the changes that were done and undone, and how
+/// many faces its last step read again; the table is always that of the bag. This project's own.
 #[derive(Debug, Drop)]
 pub struct Store {
     alloc: Global,
@@ -69,8 +69,8 @@ impl Store {
         Store::from_bag(alloc, Bag::empty(alloc, limits))
     }
 
-    /// A store that starts from its bag, with the bag's limits and nothing to undo or redo. `OutOfMemory` where a
-    /// growth of its table is refused; the bag is let go then. It takes what [`StoreTable`] takes to be built of the bag.
+    /// A store that starts from its bag, with the bag's limits and nothing to undo or redo. `OutOfMemory` where a growth of its table is
+    /// refused; the bag is let go then. O(n) for n pairs.
     pub fn from_bag(alloc: Global, bag: Bag) -> Result<Store, OutOfMemory>
         ensures state { IfOk result (λ store. store ≡ starting_at bag) }
         ensures history { IfOk result (λ store. history_of store ≡ alone bag.held) }
@@ -133,7 +133,7 @@ impl Store {
     }
 
     /// Takes the last change back, and answers how many pairs it had. The change goes to the end of `undone`.
-    /// `NothingToUndo` is tested first; after it only memory can be wanting. O(m + p) for m entries of the change and the p pairs held
+    /// `NothingToUndo` is tested first; then `OutOfMemory` where a growth is refused. O(m + p) for m entries of the change and the p pairs held
     /// on their faces, of which alone bag and table are built again.
     pub fn undo(&mut self) -> Result<usize, UndoError>
         ensures state { OnOk result (self.new ≡ after_undo self.old) }
@@ -160,9 +160,9 @@ impl Store {
         Ok(number)
     }
 
-    /// Does the last undone change again, and answers how many pairs it has. The change goes back to the end of
-    /// `done`. `NothingToRedo` is tested first; after it only memory can be wanting, and the journal is never
-    /// full: an undo keeps the room of its change. O(m + p), as `undo`.
+    /// Does the last undone change again, and answers how many pairs it has. The change goes back to the end of `done`. `NothingToRedo` is
+    /// tested first; then `OutOfMemory` where a growth is refused. The journal is never full: an undo keeps the room of its change.
+    /// O(m + p), as `undo`.
     pub fn redo(&mut self) -> Result<usize, RedoError>
         ensures state { OnOk result (self.new ≡ after_redo self.old) }
         ensures history { OnOk result (history_of self.new ≡ one_on (history_of self.old)) }
@@ -187,7 +187,8 @@ impl Store {
         Ok(number)
     }
 
-    /// Keeps the collection and lets all changes go: nothing is left to undo or redo. It takes no memory.
+    /// Keeps the collection and lets all changes go: nothing is left to undo or redo. It takes no memory. O(k) for the k changes
+    /// that are let go.
     pub fn forget(&mut self)
         ensures state { self.new ≡ after_forget self.old }
         ensures history { history_of self.new ≡ cursor_alone (history_of self.old) }

@@ -6,7 +6,7 @@
 //!
 //! A table is built of a bag and never changed: another bag has another table. `visit`, `meeting` and `labels` answer what meets a union;
 //! [`chain_at`] what lies over a leaf; [`ranges`] and [`contents`] go along the table, as S2's iterators do. `StoreTable` of `s2ix_store`
-//! names the table that a store keeps; `CopiedTable` of `s2ix_copied` is a plain and slow one to compare it with.
+//! names the table that a store keeps (`FacedTable`); `CopiedTable` of `s2ix_copied` is a plain and slow one to compare it with.
 #![tactic(auto)]
 
 mod iter;

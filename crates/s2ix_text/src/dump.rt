@@ -76,7 +76,7 @@ fn write_end<K: Sink>(bag: &Bag, sink: &mut K) -> Result<(), WriteFault>
 }
 
 /// Writes the dump of a bag in the second version: one line for each held pair in rising order, between a header and the two sums.
-/// O(n) for n pairs. It does not flush. Where the sink fails, a front of the dump went out. This project's own.
+/// O(n) for n pairs. This project's own.
 pub fn write_dump<K: Sink>(bag: &Bag, sink: &mut K) -> Result<(), WriteFault>
     requires { CanCount (K.fault_count sink.old) }
     ensures { Writes K.taken K.flush_mark K.fault_count sink.old sink.new result (dump_text bag.now.held) }

@@ -7,7 +7,7 @@ pub enum Command {
     Run {
         /// The file with the dump to begin with, or `None` for the empty collection.
         load: Option<String>,
-        /// How large the collection and its history may grow.
+        /// How large the collection and its history may be.
         limits: Limits,
         /// To end after the first refused line.
         stop: bool,

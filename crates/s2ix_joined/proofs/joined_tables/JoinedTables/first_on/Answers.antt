@@ -3,7 +3,7 @@ use Rattle.s2ix_walk.specs.Places.{LeadsTo}
 use Rattle.s2ix_ranges.specs.Table.{range_at}
 use Rattle.s2ix_chain.specs.Starts.{IsLastStart}
 use Rattle.s2ix_joined.specs.Joined.{joined_ranges}
-use Rattle.s2ix_joined.specs.Places.{chain_at}
+use Rattle.s2ix_joined.specs.Places.{chain_from}
 use Rattle.s2ix_joined.specs.Seats.{seats_of, places_of}
 use Rattle.s2ix_joined.proofs.Counts.{own_back}
 use Rattle.s2ix_joined.proofs.joined_tables.JoinedTables.first_on.Goals as goal
@@ -24,4 +24,4 @@ pub returns : goal.returns
 returns c =
     let t = c.self.inside in
     let back = own_back t.tables c.args.self.now t.seats t.count c.args.k c.args.face c.self.invariant.joined c.self.view_is c.requires.within c.requires.last in
-    subst (λ n. LeadsTo (chain_at c.args.self.now) c.first_of.result (range_at (joined_ranges c.args.self.now) n).contents) back c.first_of.ensures
+    subst (λ n. LeadsTo (chain_from c.args.self.now) c.first_of.result (range_at (joined_ranges c.args.self.now) n).contents) back c.first_of.ensures

@@ -3,7 +3,7 @@ use Rattle.s2ix_walk.specs.Places.{LeadsTo}
 use Rattle.s2ix_ranges.specs.Table.{range_at}
 use Rattle.s2ix_chain.specs.Starts.{IsLastStart}
 use Rattle.s2ix_joined.specs.Joined.{joined_ranges}
-use Rattle.s2ix_joined.specs.Places.{chain_at}
+use Rattle.s2ix_joined.specs.Places.{chain_from}
 use Rattle.s2ix_joined.specs.Seats.{seats_of, places_of}
 use Rattle.s2ix_joined.proofs.joined_tables.JoinedTables.read_near.Goals as goal
 
@@ -29,4 +29,4 @@ pub returns-in-Some-clause-limit : goal.returns-in-Some-clause-limit
 returns-in-Some-clause-limit c = subst (λ n. c.range_of.result.limit ≡ (range_at (joined_ranges c.args.self.now) n).limit) c.in-Some.ensures.own c.range_of.ensures.limit
 
 pub returns-in-Some-clause-first : goal.returns-in-Some-clause-first
-returns-in-Some-clause-first c = subst (λ n. LeadsTo (chain_at c.args.self.now) c.first_of.result (range_at (joined_ranges c.args.self.now) n).contents) c.in-Some.ensures.own c.first_of.ensures
+returns-in-Some-clause-first c = subst (λ n. LeadsTo (chain_from c.args.self.now) c.first_of.result (range_at (joined_ranges c.args.self.now) n).contents) c.in-Some.ensures.own c.first_of.ensures
