@@ -7,9 +7,10 @@ ghost use Rattle.s2ix_copied.specs.Copied.{ranges_of};
 
 use crate::copied_range::CopiedRange;
 use crate::filter::{contents_over, next_bound};
+use crate::pairs::held_pairs;
 use s2id_core::{CellId, LEAF_END, OutOfMemory};
 use s2ix_bag::{Bag, Held};
-use s2ix_table::{RangeRow, RangeTable, held_pairs};
+use s2ix_table::{RangeRow, RangeTable};
 use std::alloc::Global;
 use std::snapshot::Snapshot;
 

@@ -4,5 +4,6 @@
 mod copied;
 mod copied_range;
 mod filter;
+mod pairs;
 
 pub use copied::{CopiedPlace, CopiedTable};

@@ -12,14 +12,12 @@
 mod iter;
 mod labels;
 mod meter;
-mod pairs;
 mod stretch;
 mod table;
 mod visit;
 
 pub use iter::{ChainIter, RangeIter, chain_at, contents, ranges};
 pub use meter::Meter;
-pub use pairs::held_pairs;
 pub use s2ix_ranges::RangeRow;
 pub use s2ix_walk::{Cost, Meeting, Reader, Window, walk};
 pub use stretch::Stretch;

@@ -2,7 +2,7 @@ use Rattle.std.proofs.Common.{◌≡◌, ℕ, ◌+◌, ◌<◌, ◌∷◌, ◌++
 use Rattle.std.proofs.lemmas.List.{take_more}
 use Rattle.std.proofs.lemmas.Option.{get_or_from_slice_get}
 use Rattle.s2ix_pairs.specs.declared.pair.Held.{Held}
-use Rattle.s2ix_table.proofs.pairs.held_pairs.Goals as goal
+use Rattle.s2ix_copied.proofs.pairs.held_pairs.Goals as goal
 
 -- the first pairs with the next one behind them
 with_next : (hs front out : List Held) (k : ℕ) (x : Held) → k < length hs → slice_get hs k ≡ Some x → front ≡ take k hs → out ≡ front ++ x ∷ [] → out ≡ take (k + 1) hs

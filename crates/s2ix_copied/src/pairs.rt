@@ -5,8 +5,8 @@ use s2id_core::OutOfMemory;
 use s2ix_bag::{Bag, Held};
 use std::alloc::Global;
 
-/// What a bag holds, in its order. `OutOfMemory` where a growth is refused. O(n) for n pairs. This project's own.
-pub fn held_pairs(alloc: Global, bag: &Bag) -> Result<Vec<Held>, OutOfMemory>
+// What a bag holds, in its order. O(n) for n pairs.
+pub(crate) fn held_pairs(alloc: Global, bag: &Bag) -> Result<Vec<Held>, OutOfMemory>
     ensures list { IfOk result (λ held. held.items ≡ bag.now.held) }
     ensures rises { IfOk result (λ held. IsCollection held.items) }
     ensures few { IfOk result (λ held. length held.items ≤ 1000000) }
