@@ -13,7 +13,7 @@ use crate::search::{has_all, meets};
 use crate::span::add_span;
 use crate::sweep::{Operation, sweep_both};
 use s2id_core::{CellId, LEAF_END, OutOfMemory};
-use std::alloc::Global;
+use std::alloc::{AllocError, Global};
 use std::marker::Model;
 
 /// A set of leaves, kept as its one normal list of cells: in rising order, no cell within another, and no four
@@ -140,5 +140,15 @@ impl CellUnion {
         ensures { (leaves : List Path) × IsLeafList self.now leaves × (length leaves ≡ result) }
     {
         count_leaves(self.cells())
+    }
+}
+
+/// A union of the same cells. O(n) for n cells.
+impl Clone for CellUnion {
+    ghost is_clone = { λ union copy. copy ≡ union };
+
+    fn clone(&self) -> Result<CellUnion, AllocError> {
+        let cells = self.cells.clone()?;
+        Ok(CellUnion { cells })
     }
 }

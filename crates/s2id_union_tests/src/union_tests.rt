@@ -116,6 +116,13 @@ fn unions_contain_their_cells(rt: HostRuntime) {
     }
 }
 
+#[test]
+fn the_clone_of_a_union_has_its_cells(rt: HostRuntime) {
+    let union = union_of(rt.alloc(), "04 14 1c").expect(&rt, "a union");
+    let copy = union.clone().expect(&rt, "memory");
+    assert!(rt; copy == union && are_cells(copy.cells(), "04 14 1c"));
+}
+
 // `count` leaves from the first on, each `step` leaf numbers behind the one before.
 fn leaves_at_steps(alloc: Global, count: u64, step: u64) -> Option<Vec<CellId>> {
     let mut cells = Vec::new(alloc);

@@ -2,7 +2,7 @@ use s2id_union::CellUnion;
 use s2ix_bag::{Label, Pair};
 
 /// What makes the next collection of a store. This project's own.
-#[derive(Debug, Drop, PartialEq, Eq)]
+#[derive(Clone, Debug, Drop, PartialEq, Eq)]
 pub enum Edit {
     /// Adds copies to the pair's count.
     Add { pair: Pair, copies: u32 },

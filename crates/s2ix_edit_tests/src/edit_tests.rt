@@ -43,6 +43,13 @@ fn edits_are_equal_where_their_parts_are(rt: HostRuntime) {
     }
 }
 
+#[test]
+fn the_clone_of_an_edit_is_the_same(rt: HostRuntime) {
+    let edit = edit_of(rt.alloc(), "addunion 9 3 04").expect(&rt, "an edit");
+    let copy = edit.clone().expect(&rt, "memory");
+    assert!(rt; copy == edit);
+}
+
 // A label that is not held, then held with two cells, then no more.
 const DROPS: [&str; 6] = [
     "drop 9 = NoSuchLabel | | 0 0",

@@ -4,7 +4,7 @@ use s2ix_bag::Label;
 use s2ix_edit::Edit;
 
 /// What a line of a script asks for. This project's own.
-#[derive(Debug, Drop, PartialEq, Eq)]
+#[derive(Clone, Debug, Drop, PartialEq, Eq)]
 pub enum Instruction {
     /// `add`, `addunion`, `remove`, `drop`, `relabel`, `grow`, `normal` and `revert`.
     Edit(Edit),
