@@ -24,8 +24,8 @@ pub fn held_of(text: &str) -> Option<Held> {
     })
 }
 
-/// The entry of a change that a text TOKEN:LABEL:BEFORE:AFTER is.
-pub fn entry_of(text: &str) -> Option<Entry> {
+// The entry of a change that a text TOKEN:LABEL:BEFORE:AFTER is.
+pub(crate) fn entry_of(text: &str) -> Option<Entry> {
     let (before, after) = text.rsplit_once(':')?;
     let Held { pair, count } = held_of(before)?;
     Some(Entry {
