@@ -9,13 +9,14 @@ use Rattle.s2ix_pairs.specs.declared.pair.Entry.{Entry}
 use Rattle.s2ix_lists.specs.Apply.{first_mismatch}
 use Rattle.s2ix_pairs.specs.Change.{change_between, changed, IsChangeList}
 use Rattle.s2ix_pairs.specs.Collection.{Collection, LimitedCollection, IsBag, IsCollection, count_in, set_count}
+use Rattle.s2ix_refusals.specs.declared.errors.EditError.{EditError}
+use Rattle.s2ix_refusals.specs.declared.errors.PlanError.{PlanError}
+use Rattle.s2ix_refusals.specs.Errors.{edit_error, IsEditRefusal}
 use Rattle.s2ix_edit.specs.declared.edit.Edit.{Edit}
 use Rattle.s2ix_edit.specs.declared.edit.Edit.TheVariants.{Add, Remove}
-use Rattle.s2ix_edit.specs.declared.errors.EditError.{EditError}
-use Rattle.s2ix_edit.specs.declared.errors.PlanError.{PlanError}
 use Rattle.s2ix_edit.specs.Edit.{edited_alone, edited_by}
 use Rattle.s2ix_edit.specs.Plan.{IsPlanRefusal, Plans, one_entry}
-use Rattle.s2ix_edit.specs.Refusals.{asks_too_fine, edit_error, goes_below_zero, lacks_change, lacks_label, reverts, takes_too_many, plan_refusal, IsEditRefusal}
+use Rattle.s2ix_edit.specs.Refusals.{asks_too_fine, goes_below_zero, lacks_change, lacks_label, reverts, takes_too_many, plan_refusal}
 use Rattle.s2ix_edit.proofs.FirstRefusal.{lacks_none, reads_none, same_refusal, stays_above}
 use Rattle.s2ix_lists.proofs.Applied.{before_from_counts, change_between-changed}
 use Rattle.s2ix_pairs.proofs.Collections.{set_count_in}

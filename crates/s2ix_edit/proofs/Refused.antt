@@ -7,10 +7,10 @@ use Rattle.s2ix_pairs.specs.declared.pair.Entry.{Entry}
 use Rattle.s2ix_pairs.specs.Change.{change_between, changed}
 use Rattle.s2ix_pairs.specs.Collection.{Collection, LimitedCollection, IsBag, IsCollection, count_in}
 use Rattle.s2ix_pairs.specs.Limits.{pairs_limit, count_limit, changes_limit}
+use Rattle.s2ix_refusals.specs.declared.errors.EditError.{EditError}
+use Rattle.s2ix_refusals.specs.declared.errors.EditError.TheVariants.{NoChange, TooManyCopies, TooManyPairs}
 use Rattle.s2ix_edit.specs.declared.edit.Edit.{Edit}
 use Rattle.s2ix_edit.specs.declared.edit.Edit.TheVariants.{Add}
-use Rattle.s2ix_edit.specs.declared.errors.EditError.{EditError}
-use Rattle.s2ix_edit.specs.declared.errors.EditError.TheVariants.{NoChange, TooManyCopies, TooManyPairs}
 use Rattle.s2ix_edit.specs.Edit.{edited_by}
 use Rattle.s2ix_edit.specs.History.{standing}
 use Rattle.s2ix_edit.specs.State.{State, change_of, history_of}

@@ -15,12 +15,13 @@ use Rattle.s2ix_lists.specs.declared.errors.RevertError.{RevertError}
 use Rattle.s2ix_lists.specs.declared.errors.RevertError.TheVariants as revert
 use Rattle.s2ix_lists.proofs.Refusals.{no_mismatch}
 use Rattle.s2ix_lists.proofs.Reverts.{back_before}
+use Rattle.s2ix_refusals.specs.declared.errors.EditError.{EditError}
+use Rattle.s2ix_refusals.specs.declared.errors.EditError.TheVariants.{BelowZero, NoChange, TooManyCopies, TooManyPairs}
+use Rattle.s2ix_refusals.specs.Errors.{revert_error, MayWantMemory}
 use Rattle.s2ix_edit.specs.declared.edit.Edit.TheVariants.{Revert}
-use Rattle.s2ix_edit.specs.declared.errors.EditError.{EditError}
-use Rattle.s2ix_edit.specs.declared.errors.EditError.TheVariants.{BelowZero, NoChange, TooManyCopies, TooManyPairs}
 use Rattle.s2ix_edit.specs.Edit.{edited_by, numbered, without_change}
 use Rattle.s2ix_edit.specs.Plan.{Plans, IsPlanRefusal}
-use Rattle.s2ix_edit.specs.Refusals.{goes_below_zero, has_count_above, lacks_change, plan_refusal, revert_error, MayWantMemory}
+use Rattle.s2ix_edit.specs.Refusals.{goes_below_zero, has_count_above, lacks_change, plan_refusal}
 use Rattle.s2ix_edit.proofs.Above.{any_above_changed}
 use Rattle.s2ix_edit.proofs.Refused.{planned_refusal, too_high, too_many}
 

@@ -9,3 +9,4 @@ pub use Rattle.s2ix_pairs.specs.Change
 pub use Rattle.s2ix_pairs.specs.Collection
 pub use Rattle.s2ix_pairs.specs.Limits
 pub use Rattle.s2ix_pairs.specs.OfLabel
+pub use Rattle.s2ix_refusals.specs.Errors

@@ -11,12 +11,13 @@ use Rattle.s2ix_pairs.specs.Change.{changed, removal_of, IsChangeList}
 use Rattle.s2ix_pairs.specs.Label.{value_of}
 use Rattle.s2ix_pairs.specs.Collection.{LimitedCollection}
 use Rattle.s2ix_pairs.specs.Limits.{pairs_limit, count_limit}
+use Rattle.s2ix_refusals.specs.declared.errors.EditError.{EditError}
+use Rattle.s2ix_refusals.specs.declared.errors.EditError.TheVariants.{NoChange, TooManyCopies, TooManyPairs}
+use Rattle.s2ix_refusals.specs.declared.errors.PlanError.{PlanError}
+use Rattle.s2ix_refusals.specs.Errors.{edit_error, IsEditRefusal}
 use Rattle.s2ix_edit.specs.declared.edit.Edit.{Edit}
-use Rattle.s2ix_edit.specs.declared.errors.EditError.{EditError}
-use Rattle.s2ix_edit.specs.declared.errors.EditError.TheVariants.{NoChange, TooManyCopies, TooManyPairs}
 use Rattle.s2ix_edit.specs.Edit.{edited_by, pair_of}
-use Rattle.s2ix_edit.specs.declared.errors.PlanError.{PlanError}
-use Rattle.s2ix_edit.specs.Refusals.{lacks_label, takes_too_many, asks_too_fine, lacks_change, goes_below_zero, edit_error, plan_refusal, IsEditRefusal}
+use Rattle.s2ix_edit.specs.Refusals.{lacks_label, takes_too_many, asks_too_fine, lacks_change, goes_below_zero, plan_refusal}
 
 -- the entries that change the count of one pair: none where it stays
 abbrev pub one_entry : Pair → ℕ → ℕ → List Entry

@@ -1,5 +1,5 @@
 -- Where an edit is refused.
-use Rattle.std.specs.Prelude.{◌≡◌, ℕ, ◌==◌, nat_lt, nat_le, Bool, true, false, Option, Some, None, List, [], ◌∷◌, length, find, is_some}
+use Rattle.std.specs.Prelude.{ℕ, ◌==◌, nat_lt, nat_le, Bool, true, false, Option, Some, None, List, [], ◌∷◌, length, find, is_some}
 use Rattle.std.specs.List.{list_any}
 use Rattle.s2ix_pairs.specs.declared.label.Label.{Label}
 use Rattle.s2ix_pairs.specs.declared.pair.Entry.{Entry}
@@ -8,14 +8,10 @@ use Rattle.s2ix_pairs.specs.Collection.{Collection, LimitedCollection, count_in}
 use Rattle.s2ix_pairs.specs.Limits.{pairs_limit, count_limit, changes_limit}
 use Rattle.s2ix_pairs.specs.OfLabel.{held_of}
 use Rattle.s2ix_pairs.specs.TakenBack.{first_below_zero}
+use Rattle.s2ix_refusals.specs.declared.errors.EditError.{EditError}
+use Rattle.s2ix_refusals.specs.declared.errors.EditError.TheVariants.{JournalFull, NoSuchLabel, NotHeld, TooFine, NoSuchChange, BelowZero, NoChange, TooManyCopies, TooManyPairs, OutOfMemory}
 use Rattle.s2ix_edit.specs.declared.edit.Edit.{Edit}
 use Rattle.s2ix_edit.specs.declared.edit.Edit.TheVariants.{Add, AddUnion, Remove, DropLabel, Relabel, Grow, Normalise, Revert}
-use Rattle.s2ix_edit.specs.declared.errors.EditError.{EditError}
-use Rattle.s2ix_edit.specs.declared.errors.EditError.TheVariants.{JournalFull, NoSuchLabel, NotHeld, TooFine, NoSuchChange, BelowZero, NoChange, TooManyCopies, TooManyPairs, OutOfMemory}
-use Rattle.s2ix_edit.specs.declared.errors.PlanError.{PlanError}
-use Rattle.s2ix_edit.specs.declared.errors.PlanError.TheVariants as plan
-use Rattle.s2ix_lists.specs.declared.errors.RevertError.{RevertError}
-use Rattle.s2ix_lists.specs.declared.errors.RevertError.TheVariants as revert
 use Rattle.s2ix_edit.specs.Edit.{edited, edited_by, numbered}
 use Rattle.s2ix_edit.specs.Grow.{is_too_fine}
 use Rattle.s2ix_edit.specs.Region.{cells_of}
@@ -101,48 +97,3 @@ edit_refusal s edit = find (stands s.bag s.done edit (edited (history_of s) edit
 -- why an edit of a bag that these changes led to is refused where the journal has room, memory aside
 abbrev pub plan_refusal : LimitedCollection → List (List Entry) → Edit → Option EditError
 plan_refusal bag changes edit = find (stands bag changes edit (edited_by changes edit bag.held)) refusals_with_room
-
--- want of memory may come where the edit is accepted, and in place of what is found while the change is made
-abbrev pub MayWantMemory : Option EditError → Type 0
-MayWantMemory None = Unit {0}
-MayWantMemory (Some JournalFull) = ⊥
-MayWantMemory (Some NoSuchLabel) = ⊥
-MayWantMemory (Some NotHeld) = ⊥
-MayWantMemory (Some TooFine) = ⊥
-MayWantMemory (Some NoSuchChange) = ⊥
-MayWantMemory (Some BelowZero) = ⊥
-MayWantMemory (Some NoChange) = Unit {0}
-MayWantMemory (Some TooManyCopies) = Unit {0}
-MayWantMemory (Some TooManyPairs) = Unit {0}
-MayWantMemory (Some OutOfMemory) = ⊥
-
--- the error is the refusal, or memory was wanted where it may be
-abbrev pub IsEditRefusal : EditError → Option EditError → Type 0
-IsEditRefusal JournalFull refusal = refusal ≡ Some JournalFull
-IsEditRefusal NoSuchLabel refusal = refusal ≡ Some NoSuchLabel
-IsEditRefusal NotHeld refusal = refusal ≡ Some NotHeld
-IsEditRefusal TooFine refusal = refusal ≡ Some TooFine
-IsEditRefusal NoSuchChange refusal = refusal ≡ Some NoSuchChange
-IsEditRefusal BelowZero refusal = refusal ≡ Some BelowZero
-IsEditRefusal NoChange refusal = refusal ≡ Some NoChange
-IsEditRefusal TooManyCopies refusal = refusal ≡ Some TooManyCopies
-IsEditRefusal TooManyPairs refusal = refusal ≡ Some TooManyPairs
-IsEditRefusal OutOfMemory refusal = MayWantMemory refusal
-
--- what an edit is refused for where it has no plan
-abbrev pub edit_error : PlanError → EditError
-edit_error plan.NoSuchLabel = NoSuchLabel
-edit_error plan.NotHeld = NotHeld
-edit_error plan.TooFine = TooFine
-edit_error plan.NoSuchChange = NoSuchChange
-edit_error plan.BelowZero = BelowZero
-edit_error plan.TooManyCopies = TooManyCopies
-edit_error plan.TooManyPairs = TooManyPairs
-edit_error plan.OutOfMemory = OutOfMemory
-
--- why an edit has no plan where a bag refuses to take the change back
-abbrev pub revert_error : RevertError → PlanError
-revert_error (revert.BelowZero place) = plan.BelowZero
-revert_error revert.TooManyCopies = plan.TooManyCopies
-revert_error revert.TooManyPairs = plan.TooManyPairs
-revert_error revert.OutOfMemory = plan.OutOfMemory

@@ -7,11 +7,10 @@
 
 mod edit;
 mod edits;
-mod errors;
 pub mod laws;
 mod region;
 
 pub use edit::Edit;
 pub use edits::plan;
-pub use errors::{EditError, PlanError, RedoError, UndoError};
 pub use region::region_of;
+pub use s2ix_refusals::{EditError, PlanError, RedoError, UndoError};

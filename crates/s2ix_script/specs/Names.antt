@@ -1,11 +1,11 @@
 -- The names that refused lines are answered by.
 use Rattle.std.specs.Prelude.{ℕ, List, codes}
-use Rattle.s2ix_edit.specs.declared.errors.EditError.{EditError}
-use Rattle.s2ix_edit.specs.declared.errors.EditError.TheVariants as edit
-use Rattle.s2ix_edit.specs.declared.errors.RedoError.{RedoError}
-use Rattle.s2ix_edit.specs.declared.errors.RedoError.TheVariants as redo
-use Rattle.s2ix_edit.specs.declared.errors.UndoError.{UndoError}
-use Rattle.s2ix_edit.specs.declared.errors.UndoError.TheVariants as undo
+use Rattle.s2ix_refusals.specs.declared.errors.EditError.{EditError}
+use Rattle.s2ix_refusals.specs.declared.errors.EditError.TheVariants as edit
+use Rattle.s2ix_refusals.specs.declared.errors.RedoError.{RedoError}
+use Rattle.s2ix_refusals.specs.declared.errors.RedoError.TheVariants as redo
+use Rattle.s2ix_refusals.specs.declared.errors.UndoError.{UndoError}
+use Rattle.s2ix_refusals.specs.declared.errors.UndoError.TheVariants as undo
 
 -- the name by which `at` is refused where its cell is no leaf
 unfoldable pub not_leaf_name : List ℕ

@@ -3,14 +3,15 @@ use Rattle.std.proofs.Common.{◌≡◌, ◌≢◌, ◌↔◌, ◌-◌, ℕ, Lis
 use Rattle.std.specs.Prelude.{IfOk, IfErr, OnOk, OnErr, slice_get}
 use Rattle.std.proofs.lemmas.Option.{slice_get-get_or}
 use Rattle.s2ix_pairs.specs.declared.pair.Entry.{Entry}
+use Rattle.s2ix_refusals.specs.declared.errors.EditError.{EditError}
+use Rattle.s2ix_refusals.specs.declared.errors.EditError.TheVariants.{JournalFull, NoSuchLabel, NotHeld, TooFine, NoSuchChange, BelowZero, NoChange, TooManyCopies, TooManyPairs, OutOfMemory}
+use Rattle.s2ix_refusals.specs.declared.errors.RedoError.{RedoError}
+use Rattle.s2ix_refusals.specs.declared.errors.RedoError.TheVariants as redo
+use Rattle.s2ix_refusals.specs.declared.errors.UndoError.{UndoError}
+use Rattle.s2ix_refusals.specs.declared.errors.UndoError.TheVariants as undo
+use Rattle.s2ix_refusals.specs.Errors.{IsEditRefusal}
 use Rattle.s2ix_edit.specs.declared.edit.Edit.{Edit}
-use Rattle.s2ix_edit.specs.declared.errors.EditError.{EditError}
-use Rattle.s2ix_edit.specs.declared.errors.EditError.TheVariants.{JournalFull, NoSuchLabel, NotHeld, TooFine, NoSuchChange, BelowZero, NoChange, TooManyCopies, TooManyPairs, OutOfMemory}
-use Rattle.s2ix_edit.specs.declared.errors.RedoError.{RedoError}
-use Rattle.s2ix_edit.specs.declared.errors.RedoError.TheVariants as redo
-use Rattle.s2ix_edit.specs.declared.errors.UndoError.{UndoError}
-use Rattle.s2ix_edit.specs.declared.errors.UndoError.TheVariants as undo
-use Rattle.s2ix_edit.specs.Refusals.{edit_refusal, IsEditRefusal}
+use Rattle.s2ix_edit.specs.Refusals.{edit_refusal}
 use Rattle.s2ix_edit.specs.State.{State, change_of}
 use Rattle.s2ix_store.specs.Steps.{after_edit, after_undo, after_redo, undo_size, redo_size}
 use Rattle.s2ix_script.specs.Names.{edit_error_name, redo_error_name, undo_error_name}

@@ -4,10 +4,10 @@ use Rattle.s2ix_pairs.specs.declared.pair.Entry.{Entry}
 use Rattle.s2id_core.specs.declared.cell_id.CellId.{CellId}
 use Rattle.s2id_core.specs.CellId.{level_of, path_of, raw_of}
 use Rattle.s2id_cube.specs.Square.{square_of}
+use Rattle.s2ix_refusals.specs.declared.errors.EditError.{EditError}
+use Rattle.s2ix_refusals.specs.declared.errors.RedoError.TheVariants.{NothingToRedo}
+use Rattle.s2ix_refusals.specs.declared.errors.UndoError.TheVariants.{NothingToUndo}
 use Rattle.s2ix_edit.specs.declared.edit.Edit.{Edit}
-use Rattle.s2ix_edit.specs.declared.errors.EditError.{EditError}
-use Rattle.s2ix_edit.specs.declared.errors.RedoError.TheVariants.{NothingToRedo}
-use Rattle.s2ix_edit.specs.declared.errors.UndoError.TheVariants.{NothingToUndo}
 use Rattle.s2ix_edit.specs.Refusals.{edit_refusal}
 use Rattle.s2ix_edit.specs.Region.{common_of, only_of, region_of}
 use Rattle.s2ix_edit.specs.State.{State, change_of}

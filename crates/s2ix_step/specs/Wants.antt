@@ -1,7 +1,8 @@
 -- Where a line may want memory.
 use Rattle.std.specs.Prelude.{◌≡◌, ◌≢◌, ◌⊎◌, ℕ, true, Option, Some, None, Result, Ok, Err, List, []}
+use Rattle.s2ix_refusals.specs.Errors.{MayWantMemory}
 use Rattle.s2ix_edit.specs.State.{State}
-use Rattle.s2ix_edit.specs.Refusals.{MayWantMemory, edit_refusal}
+use Rattle.s2ix_edit.specs.Refusals.{edit_refusal}
 use Rattle.s2ix_script.specs.declared.instruction.Instruction.{Instruction}
 use Rattle.s2ix_script.specs.declared.instruction.Instruction.TheVariants as asks
 use Rattle.s2ix_line.specs.declared.line_fault.LineFault.{LineFault}

@@ -1,9 +1,9 @@
 //! Telling what a step of the store came to: how many pairs changed, or why it was refused.
 ghost use Rattle.std.specs.Prelude.{◌≡◌, ◌≢◌, ◌↔◌, ◌+◌, ℕ, List, Err, IfErr, IfSome, IsNone};
+ghost use Rattle.s2ix_refusals.specs.declared.errors.EditError.{EditError};
+ghost use Rattle.s2ix_refusals.specs.declared.errors.RedoError.{RedoError};
+ghost use Rattle.s2ix_refusals.specs.declared.errors.UndoError.{UndoError};
 ghost use Rattle.s2ix_edit.specs.State.{State};
-ghost use Rattle.s2ix_edit.specs.declared.errors.EditError.{EditError};
-ghost use Rattle.s2ix_edit.specs.declared.errors.RedoError.{RedoError};
-ghost use Rattle.s2ix_edit.specs.declared.errors.UndoError.{UndoError};
 ghost use Rattle.s2ix_io.specs.Faults.{CanCount, sink_faults, IsWantOnlyIf};
 ghost use Rattle.s2ix_script.specs.Names.{edit_error_name as name_of_edit_error, redo_error_name as name_of_redo_error, undo_error_name as name_of_undo_error};
 ghost use Rattle.s2ix_step.specs.Carry.{Carries, IsTold};

@@ -4,6 +4,7 @@ pub mod Store
 pub use Rattle.s2ix_pairs.specs.Change
 pub use Rattle.s2ix_pairs.specs.Collection
 pub use Rattle.s2ix_pairs.specs.Limits
+pub use Rattle.s2ix_refusals.specs.Errors
 pub use Rattle.s2ix_edit.specs.Edit
 pub use Rattle.s2ix_edit.specs.History
 pub use Rattle.s2ix_edit.specs.Refusals

@@ -6,13 +6,13 @@ ghost use Rattle.s2ix_pairs.specs.Change.{IsChangeList, counts_at, difference_of
 ghost use Rattle.s2ix_pairs.specs.Collection.{LimitedCollection, IsBag, count_in};
 ghost use Rattle.s2ix_pairs.specs.Limits.{changes_limit, count_limit, pairs_limit};
 ghost use Rattle.s2ix_pairs.specs.Pair.{rank_of};
+ghost use Rattle.s2ix_refusals.specs.declared.errors.EditError.TheVariants.{NoSuchLabel, NotHeld, TooFine, NoSuchChange, BelowZero, NoChange};
 ghost use Rattle.s2ix_edit.specs.declared.edit.Edit.{Edit};
 ghost use Rattle.s2ix_edit.specs.declared.edit.Edit.TheVariants.{Revert};
 ghost use Rattle.s2ix_edit.specs.Edit.{edited, edited_by};
 ghost use Rattle.s2ix_edit.specs.History.{changes_along, cursor_alone, one_back, one_on, with_next};
 ghost use Rattle.s2ix_edit.specs.State.{State, change_of, history_of, starting_at};
 ghost use Rattle.s2ix_edit.specs.Refusals.{edit_refusal, goes_below_zero, has_count_above, lacks_change, reverts};
-ghost use Rattle.s2ix_edit.specs.declared.errors.EditError.TheVariants.{NoSuchLabel, NotHeld, TooFine, NoSuchChange, BelowZero, NoChange};
 ghost use Rattle.s2ix_store.specs.Standing.{first_collection, gain_along, without_numbered};
 ghost use Rattle.s2ix_store.specs.Steps.{after_edit, after_forget, after_redo, after_undo, with_held};
 ghost use Rattle.s2ix_store.specs.Store.{IsStore};

@@ -5,8 +5,8 @@ ghost use Rattle.std.specs.Prelude.{◌≡◌, ◌<◌, None, IfOk, IfErr, OnOk,
 ghost use Rattle.s2ix_lists.specs.Apply.{apply_refusal, first_mismatch};
 ghost use Rattle.s2ix_pairs.specs.Change.{changed};
 ghost use Rattle.s2ix_pairs.specs.Collection.{IsBag};
+ghost use Rattle.s2ix_refusals.specs.Errors.{IsEditRefusal};
 ghost use Rattle.s2ix_edit.specs.Plan.{entries_refusal};
-ghost use Rattle.s2ix_edit.specs.Refusals.{IsEditRefusal};
 ghost use Rattle.s2ix_store.specs.Steps.{IsShifted, with_held};
 
 use crate::store_table::StoreTable;

@@ -3,8 +3,8 @@ ghost use Rattle.s2ix_edit.specs.Plan.{IsPlanRefusal, Plans};
 
 use crate::edit::Edit;
 use crate::edits::parts::one_pair;
-use crate::errors::PlanError;
 use s2ix_bag::{Bag, Change, Pair};
+use s2ix_refusals::PlanError;
 use std::alloc::Global;
 
 // The change that adds copies to a pair's count. O(log n) for n pairs held.

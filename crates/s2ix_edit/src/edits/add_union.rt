@@ -3,9 +3,9 @@ ghost use Rattle.s2ix_edit.specs.Plan.{IsPlanRefusal, Plans};
 
 use crate::edit::Edit;
 use crate::edits::parts::push_entry;
-use crate::errors::PlanError;
 use s2id_union::CellUnion;
 use s2ix_bag::{Bag, Change, Label, Pair};
+use s2ix_refusals::PlanError;
 use std::alloc::Global;
 
 // The change that gives each cell of a union one copy more under the label. A sum that no `u32` holds is above

@@ -5,8 +5,8 @@ ghost use Rattle.s2ix_edit.specs.Plan.{IsPlanRefusal, Plans};
 
 use crate::edit::Edit;
 use crate::edits::parts::{lacks_label, removal};
-use crate::errors::PlanError;
 use s2ix_bag::{Bag, Change, Entry, Label};
+use s2ix_refusals::PlanError;
 use std::alloc::{AllocError, Global};
 
 // The change that takes all pairs of a label away. O(n) for n pairs held.

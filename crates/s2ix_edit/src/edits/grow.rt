@@ -7,12 +7,12 @@ ghost use Rattle.s2ix_edit.specs.Region.{cells_of};
 
 use crate::edit::Edit;
 use crate::edits::parts::lacks_label;
-use crate::errors::PlanError;
 use crate::region::label_cells;
 use s2id_core::{CellId, OutOfMemory};
 use s2id_cube::{BorderError, border, edge_neighbors};
 use s2id_union::CellUnion;
 use s2ix_bag::{Bag, Change, Entry, Label, Pair};
+use s2ix_refusals::PlanError;
 use std::alloc::{AllocError, Global};
 
 // The change that gives one copy under the label to each cell that the label grows by at a level.

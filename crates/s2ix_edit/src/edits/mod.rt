@@ -15,8 +15,8 @@ ghost use Rattle.std.specs.Prelude.{IfOk, IfErr};
 ghost use Rattle.s2ix_edit.specs.Plan.{IsPlanRefusal, Plans};
 
 use crate::edit::Edit;
-use crate::errors::PlanError;
 use s2ix_bag::{Bag, Change};
+use s2ix_refusals::PlanError;
 use std::alloc::Global;
 
 /// The change that carries an edit out on a bag: an entry for each pair whose count the edit changes, and none where nothing

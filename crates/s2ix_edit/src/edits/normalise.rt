@@ -4,10 +4,10 @@ ghost use Rattle.s2ix_edit.specs.Plan.{IsPlanRefusal, Plans, one_copy};
 
 use crate::edit::Edit;
 use crate::edits::parts::lacks_label;
-use crate::errors::PlanError;
 use crate::region::region_of;
 use s2id_core::CellId;
 use s2ix_bag::{Bag, Change, FlatHeld, Held, Label, LabelIter, Pair};
+use s2ix_refusals::PlanError;
 use std::alloc::{AllocError, Global};
 
 // The change that replaces a label's pairs by one copy at each cell of its region. O(n + m log m) for n pairs held, m of

@@ -5,8 +5,8 @@ ghost use Rattle.s2ix_edit.specs.Refusals.{holds_none};
 
 use crate::edit::Edit;
 use crate::edits::parts::{lacks_label, removal};
-use crate::errors::PlanError;
 use s2ix_bag::{Bag, Change, Entry, Held, Label, Pair};
+use s2ix_refusals::PlanError;
 use std::alloc::{AllocError, Global};
 
 // The change that moves all copies of `source` to `target`. O(n + m log n) for n pairs held, m of them of

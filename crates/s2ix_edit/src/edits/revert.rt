@@ -3,8 +3,8 @@ ghost use Rattle.s2ix_edit.specs.Edit.{numbered};
 ghost use Rattle.s2ix_edit.specs.Plan.{IsPlanRefusal, Plans};
 
 use crate::edit::Edit;
-use crate::errors::PlanError;
 use s2ix_bag::{Bag, Change};
+use s2ix_refusals::PlanError;
 use std::alloc::Global;
 
 // The change that takes back the one with the number. It is found at once, however many stand. O(m log n) for its m

@@ -4,8 +4,8 @@ use Rattle.s2id_core.specs.declared.cell_id.CellId.{CellId}
 use Rattle.s2id_core.specs.CellId.{raw_of}
 use Rattle.s2ix_pairs.specs.declared.pair.Entry.{Entry}
 use Rattle.s2ix_pairs.specs.Change.{IsChangeList}
+use Rattle.s2ix_refusals.specs.declared.errors.EditError.TheVariants.{TooManyCopies}
 use Rattle.s2ix_edit.specs.declared.edit.Edit.TheVariants.{AddUnion}
-use Rattle.s2ix_edit.specs.declared.errors.EditError.TheVariants.{TooManyCopies}
 use Rattle.s2ix_edit.specs.Plan.{Plans}
 use Rattle.s2ix_edit.specs.Refusals.{plan_refusal}
 use Rattle.s2ix_edit.proofs.AddUnion.{addition, addition_above, additions_make}

@@ -1,7 +1,7 @@
 use Rattle.std.proofs.Common.{sym, subst}
 use Rattle.std.proofs.lemmas.Result.{err_from_is_err_and}
+use Rattle.s2ix_refusals.specs.declared.errors.PlanError.{PlanError}
 use Rattle.s2ix_edit.specs.declared.edit.Edit.TheVariants.{Revert}
-use Rattle.s2ix_edit.specs.declared.errors.PlanError.{PlanError}
 use Rattle.s2ix_edit.specs.Plan.{IsPlanRefusal}
 use Rattle.s2ix_edit.proofs.Revert.{plans_back, refused_back}
 use Rattle.s2ix_edit.proofs.edits.revert.plan.Goals as goal

@@ -1,10 +1,11 @@
 use Rattle.std.proofs.Common.{◌<◌, length, Option, sym, ap, ◌∙◌, subst, arith}
 use Rattle.std.proofs.lemmas.Result.{IfErr-weaker, IfOk-weaker, on_ok_weaker, err_from_is_err_and}
 use Rattle.s2ix_pairs.specs.Limits.{changes_limit}
-use Rattle.s2ix_edit.specs.declared.errors.EditError.{EditError}
+use Rattle.s2ix_refusals.specs.declared.errors.EditError.{EditError}
+use Rattle.s2ix_refusals.specs.Errors.{edit_error, IsEditRefusal}
 use Rattle.s2ix_edit.specs.State.{State, history_of}
 use Rattle.s2ix_edit.specs.Plan.{Plans}
-use Rattle.s2ix_edit.specs.Refusals.{edit_error, edit_refusal, plan_refusal, IsEditRefusal}
+use Rattle.s2ix_edit.specs.Refusals.{edit_refusal, plan_refusal}
 use Rattle.s2ix_edit.proofs.Refused.{change_planned, with_room}
 use Rattle.s2ix_store.specs.Store.{IsStore}
 use Rattle.s2ix_store.proofs.Followed.{history_edited}

@@ -1,5 +1,5 @@
 use s2id_core::OutOfMemory;
-use s2ix_bag::RevertError;
+use s2ix_lists::RevertError;
 use std::alloc::{AllocError, AllocFailed};
 use thiserror::Error;
 
@@ -41,7 +41,7 @@ pub enum EditError {
 
 impl From<OutOfMemory> for EditError {
     ghost use Rattle.std.specs.Prelude.{◌≡◌};
-    ghost use Rattle.s2ix_edit.specs.declared.errors.EditError.TheVariants.{OutOfMemory};
+    ghost use Rattle.s2ix_refusals.specs.declared.errors.EditError.TheVariants.{OutOfMemory};
 
     ghost from_gives = { λ _ error. error ≡ OutOfMemory };
 
@@ -52,7 +52,7 @@ impl From<OutOfMemory> for EditError {
 
 impl<T: Drop> From<AllocFailed<T>> for EditError {
     ghost use Rattle.std.specs.Prelude.{◌≡◌};
-    ghost use Rattle.s2ix_edit.specs.declared.errors.EditError.TheVariants.{OutOfMemory};
+    ghost use Rattle.s2ix_refusals.specs.declared.errors.EditError.TheVariants.{OutOfMemory};
 
     ghost from_gives = { λ _ error. error ≡ OutOfMemory };
 
@@ -63,7 +63,7 @@ impl<T: Drop> From<AllocFailed<T>> for EditError {
 
 impl From<PlanError> for EditError {
     ghost use Rattle.std.specs.Prelude.{◌≡◌};
-    ghost use Rattle.s2ix_edit.specs.Refusals.{edit_error};
+    ghost use Rattle.s2ix_refusals.specs.Errors.{edit_error};
 
     ghost from_gives = { λ reason error. error ≡ edit_error reason };
 
@@ -112,7 +112,7 @@ pub enum PlanError {
 
 impl From<RevertError> for PlanError {
     ghost use Rattle.std.specs.Prelude.{◌≡◌};
-    ghost use Rattle.s2ix_edit.specs.Refusals.{revert_error};
+    ghost use Rattle.s2ix_refusals.specs.Errors.{revert_error};
 
     ghost from_gives = { λ reason error. error ≡ revert_error reason };
 
@@ -128,7 +128,7 @@ impl From<RevertError> for PlanError {
 
 impl From<AllocError> for PlanError {
     ghost use Rattle.std.specs.Prelude.{◌≡◌};
-    ghost use Rattle.s2ix_edit.specs.declared.errors.PlanError.TheVariants.{OutOfMemory};
+    ghost use Rattle.s2ix_refusals.specs.declared.errors.PlanError.TheVariants.{OutOfMemory};
 
     ghost from_gives = { λ _ error. error ≡ OutOfMemory };
 
@@ -139,7 +139,7 @@ impl From<AllocError> for PlanError {
 
 impl From<OutOfMemory> for PlanError {
     ghost use Rattle.std.specs.Prelude.{◌≡◌};
-    ghost use Rattle.s2ix_edit.specs.declared.errors.PlanError.TheVariants.{OutOfMemory};
+    ghost use Rattle.s2ix_refusals.specs.declared.errors.PlanError.TheVariants.{OutOfMemory};
 
     ghost from_gives = { λ _ error. error ≡ OutOfMemory };
 
@@ -162,7 +162,7 @@ pub enum UndoError {
 
 impl From<OutOfMemory> for UndoError {
     ghost use Rattle.std.specs.Prelude.{◌≡◌};
-    ghost use Rattle.s2ix_edit.specs.declared.errors.UndoError.TheVariants.{OutOfMemory};
+    ghost use Rattle.s2ix_refusals.specs.declared.errors.UndoError.TheVariants.{OutOfMemory};
 
     ghost from_gives = { λ _ error. error ≡ OutOfMemory };
 
@@ -184,7 +184,7 @@ pub enum RedoError {
 
 impl From<OutOfMemory> for RedoError {
     ghost use Rattle.std.specs.Prelude.{◌≡◌};
-    ghost use Rattle.s2ix_edit.specs.declared.errors.RedoError.TheVariants.{OutOfMemory};
+    ghost use Rattle.s2ix_refusals.specs.declared.errors.RedoError.TheVariants.{OutOfMemory};
 
     ghost from_gives = { λ _ error. error ≡ OutOfMemory };
 
