@@ -1,4 +1,4 @@
-// Cells: their numbers, their leaves, and their relatives.
+//! Cells: their numbers, their leaves, and their relatives.
 use crate::samples::{is_cell, is_cell_or_none};
 use s2id_core::{CellId, LEAF_END};
 use s2id_samples::cell_of;

@@ -1,4 +1,4 @@
-// Cells in formats.
+//! Cells in formats.
 use s2id_samples::cell_of;
 
 #[test]

@@ -1,4 +1,4 @@
-// That a growth which is refused becomes `OutOfMemory` by `?`.
+//! That a growth which is refused becomes `OutOfMemory` by `?`.
 use s2id_core::OutOfMemory;
 use std::alloc::Global;
 

@@ -1,4 +1,4 @@
-// Tokens, digits and paths of cells, as they are written and read.
+//! Tokens, digits and paths of cells, as they are written and read.
 use crate::samples::is_cell_or_none;
 use s2id_core::{CellId, TokenError, sixteen_digits};
 use s2id_samples::cell_of;

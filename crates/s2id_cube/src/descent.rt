@@ -9,8 +9,8 @@ use crate::curve::{place_entry, square_entry};
 use crate::face_ij::FaceIj;
 use s2id_core::CellId;
 
-/// The way to a leaf from its face down, by eight groups of four levels. Two positions 0 stand before the 30 of the leaf, which lead back
-/// to where they began.
+// The way to a leaf from its face down, by eight groups of four levels. Two positions 0 stand before the 30 of the leaf, which lead back
+// to where they began.
 #[derive(Clone, Copy)]
 pub(crate) struct Descent {
     /// The leaf's square.
@@ -21,7 +21,7 @@ pub(crate) struct Descent {
     pub(crate) starts: [u64; 8],
 }
 
-/// The way to the leaf at a place along the whole curve.
+// The way to the leaf at a place along the whole curve.
 #[inline(always)]
 pub(crate) fn descend(place: u64) -> Descent
     requires { place < 6 * 2 ^ 60 }
@@ -56,7 +56,7 @@ pub(crate) fn descend(place: u64) -> Descent
     }
 }
 
-/// The cell of a square on the leaf's face, by the positions of its first leaf from the group on in which the two ways part.
+// The cell of a square on the leaf's face, by the positions of its first leaf from the group on in which the two ways part.
 #[inline(always)]
 pub(crate) fn cell_near(way: &Descent, i: u32, j: u32, level: u8) -> CellId
     requires place { way.now.place < 6 * 2 ^ 60 }

@@ -55,7 +55,7 @@ pub fn from_face_ij(face: u8, i: u32, j: u32, level: u8) -> Option<CellId>
     }
 }
 
-/// The cell of a square that lies in its level's grid: the one that has the leaf at its lowest corner.
+// The cell of a square that lies in its level's grid: the one that has the leaf at its lowest corner.
 pub(crate) fn cell_of_square(face: u8, i: u32, j: u32, level: u8) -> CellId
     requires face { face < 6 }
     requires level { level ≤ 30 }

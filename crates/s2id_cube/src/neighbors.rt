@@ -11,17 +11,17 @@ use crate::descent::{Descent, cell_near, descend};
 use crate::face_ij::cell_of_square;
 use s2id_core::CellId;
 
-/// The face over each side of a face, in the order down, right, up, left, four for each face.
+// The face over each side of a face, in the order down, right, up, left, four for each face.
 const FACES_OVER: [u8; 24] = [
     5, 1, 2, 4, 5, 3, 2, 0, 1, 3, 4, 0, 1, 5, 4, 2, 3, 5, 0, 2, 3, 1, 0, 4,
 ];
 
-/// The side of that face on which the edge lies.
+// The side of that face on which the edge lies.
 const SIDES_OVER: [u8; 24] = [
     2, 3, 3, 2, 1, 0, 0, 1, 2, 3, 3, 2, 1, 0, 0, 1, 2, 3, 3, 2, 1, 0, 0, 1,
 ];
 
-/// 1 where the places along the two sides run against each other, else 0.
+// 1 where the places along the two sides run against each other, else 0.
 const REVERSALS: [u8; 24] = [
     0, 0, 1, 1, 1, 1, 0, 0, 0, 0, 1, 1, 1, 1, 0, 0, 0, 0, 1, 1, 1, 1, 0, 0,
 ];
@@ -80,7 +80,7 @@ fn cell_over(way: &Descent, level: u8, side: u8) -> CellId
     }
 }
 
-/// The cell over one side of a square of a level.
+// The cell over one side of a square of a level.
 pub(crate) fn neighbor(face: u8, i: u32, j: u32, level: u8, side: u8) -> CellId
     requires face { face < 6 }
     requires level { level ≤ 30 }
@@ -151,7 +151,7 @@ fn over_edge(face: u8, side: u8, along: u32, last: u32) -> (u8, u32, u32)
     (FACES_OVER[edge], i, j)
 }
 
-/// The column and the row of a square at a place along a side, in a grid whose last column and row is `last`.
+// The column and the row of a square at a place along a side, in a grid whose last column and row is `last`.
 pub(crate) fn on_side(side: u8, along: u32, last: u32) -> (u32, u32)
     requires side { side < 4 }
     ensures column { result.0 ≡ column_on side along last }

@@ -1,4 +1,4 @@
-// Borders of cells.
+//! Borders of cells.
 use s2id_core::CellId;
 use s2id_cube::{BorderError, border};
 use s2id_samples::{are_cells, cell_of};

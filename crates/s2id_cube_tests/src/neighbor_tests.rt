@@ -1,4 +1,4 @@
-// Cells over the sides of cells.
+//! Cells over the sides of cells.
 use s2id_cube::edge_neighbors;
 use s2id_samples::{are_cells, cell_of};
 

@@ -1,4 +1,4 @@
-// Squares of cells, and the cells of squares.
+//! Squares of cells, and the cells of squares.
 use s2id_core::CellId;
 use s2id_cube::{FaceIj, from_face_ij, to_face_ij};
 use s2id_samples::{Random, cell_of};

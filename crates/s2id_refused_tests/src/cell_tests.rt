@@ -1,4 +1,4 @@
-// Borders and unions.
+//! Borders and unions.
 use s2id_cube::border;
 use s2id_samples::{SET_UP, answer, are_cells, cell_of, cells_of};
 use s2id_union::CellUnion;

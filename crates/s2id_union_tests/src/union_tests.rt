@@ -1,4 +1,4 @@
-// Unions of cells, with answers worked out by hand.
+//! Unions of cells, with answers worked out by hand.
 use s2id_core::{CellId, LEAF_END};
 use s2id_samples::{are_cells, cell_of, cells_of};
 use s2id_union::{CellUnion, RangeError};

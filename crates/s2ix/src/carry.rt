@@ -11,10 +11,10 @@ use s2ix_words::Command;
 use std::fs::File;
 use std::io::{BufWriter, Stdout};
 
-/// How many pieces of an input the program reads at most.
+// How many pieces of an input the program reads at most.
 const TURNS: u64 = 4_294_967_296;
 
-/// Carries out a command, and says whether all was accepted. What was written before a fault goes out too.
+// Carries out a command, and says whether all was accepted. What was written before a fault goes out too.
 pub(crate) fn carry_command(rt: &HostRuntime, command: &Command) -> Result<bool, RunFault> {
     match command {
         Command::Run { load, limits, stop } => run(rt, load.as_ref(), *limits, *stop),

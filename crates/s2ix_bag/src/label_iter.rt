@@ -25,7 +25,7 @@ impl<'a> Model for LabelIter<'a> {
 }
 
 impl<'a> LabelIter<'a> {
-    /// Those of the held pairs that have the label.
+    // Those of the held pairs that have the label.
     pub(crate) fn new(label: Label, held: HeldIter<'a>) -> LabelIter<'a>
         ensures { result ≡ held_of label held.entry }
     {

@@ -1,4 +1,4 @@
-// Taking changes back. Costs are for m entries and n pairs held.
+//! Taking changes back. Costs are for m entries and n pairs held.
 ghost use Rattle.std.specs.Prelude.{◌≡◌, ◌==◌, ◌+◌, ◌-◌, nat_lt, None, length, count_by, IfOk};
 ghost use Rattle.std.specs.List.{list_any};
 ghost use Rattle.s2ix_lists.specs.Revert.{revert_refusal};

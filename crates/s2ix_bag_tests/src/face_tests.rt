@@ -1,4 +1,4 @@
-// Bags with pairs on several faces.
+//! Bags with pairs on several faces.
 use s2ix_bag::Bag;
 use s2ix_samples::{LimitRow, are_flat_pairs, bag_of, change_of, held_of, holds_pairs};
 use std::alloc::Global;

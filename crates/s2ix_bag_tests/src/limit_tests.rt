@@ -1,4 +1,4 @@
-// Labels and limits, and their ranges.
+//! Labels and limits, and their ranges.
 use s2ix_bag::{Label, Limits};
 
 #[test]

@@ -1,4 +1,4 @@
-// Bags that are the same, and their clones.
+//! Bags that are the same, and their clones.
 use s2ix_samples::{LimitRow, bag_of};
 
 const LIMITS: LimitRow = (2, 3, 1);

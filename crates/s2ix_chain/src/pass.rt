@@ -1,4 +1,4 @@
-// Where a sweep over the leaves stands, and what it has written.
+//! Where a sweep over the leaves stands, and what it has written.
 ghost use Rattle.std.specs.Prelude.{◌≡◌, ◌<◌, ◌≤◌, length};
 
 // The cells that are open at `at` are the chain from `top` outwards; `top` is no place where none is open. The ranges up to `at` are

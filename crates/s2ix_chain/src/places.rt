@@ -1,4 +1,4 @@
-// Places of pairs, and of ranges, in a table.
+//! Places of pairs, and of ranges, in a table.
 ghost use Rattle.std.specs.Prelude.{◌<◌, ◌≤◌, length, slice_index_or, AllPairs};
 ghost use Rattle.s2ix_walk.specs.Places.{LeadsTo};
 ghost use Rattle.s2ix_chain.specs.Chains.{chain_of};

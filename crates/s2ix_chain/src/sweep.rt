@@ -1,4 +1,4 @@
-// The sweep over the starts and ends of held cells, which makes ranges and chains.
+//! The sweep over the starts and ends of held cells, which makes ranges and chains.
 ghost use Rattle.std.specs.Prelude.{◌≡◌, ◌<◌, ◌≤◌, ◌+◌, length, IfOk};
 ghost use Rattle.s2ix_pairs.specs.Collection.{IsCollection};
 ghost use Rattle.s2ix_chain.specs.Order.{IsSweepOrder, ArePlaces};

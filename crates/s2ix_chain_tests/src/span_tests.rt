@@ -1,4 +1,4 @@
-// A table over the leaves of one face.
+//! A table over the leaves of one face.
 ghost use Rattle.std.specs.Prelude.{◌≡◌, ◌<◌, nat_lt, length, IfSome};
 ghost use Rattle.std.specs.List.{list_any};
 ghost use Rattle.s2id_core.specs.CellId.{first_of, end_of};

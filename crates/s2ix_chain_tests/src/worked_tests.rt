@@ -1,4 +1,4 @@
-// Worked tables, and what they answer.
+//! Worked tables, and what they answer.
 use s2id_samples::cells_of;
 use s2id_union::CellUnion;
 use s2ix_chain::ChainTable;

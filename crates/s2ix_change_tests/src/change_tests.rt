@@ -1,4 +1,4 @@
-// Changes between bags.
+//! Changes between bags.
 use s2ix_bag::{ApplyError, Change, ChangeError, FlatHeld};
 use s2ix_samples::{LimitRow, bag_of, change_of, entries_of, held_of, holds_pairs, lists_entries};
 use std::alloc::Global;

@@ -1,4 +1,4 @@
-// Changes done to a bag in their order, and taken back.
+//! Changes done to a bag in their order, and taken back.
 use s2ix_bag::{Bag, Change};
 use s2ix_replay::{ReplayError, replay, rewind};
 use s2ix_samples::{LimitRow, bag_of, changes_of, holds_pairs, limits_of};

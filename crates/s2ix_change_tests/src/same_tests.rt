@@ -1,4 +1,4 @@
-// Changes that are the same, and their clones.
+//! Changes that are the same, and their clones.
 use s2ix_bag::{Bag, Change};
 use s2ix_samples::{LimitRow, bag_of};
 use std::alloc::Global;

@@ -1,4 +1,4 @@
-// The lines of a script, each carried out as soon as its line feed has come.
+//! The lines of a script, each carried out as soon as its line feed has come.
 ghost use Rattle.std.specs.Prelude.{◌≡◌, ◌+◌, ◌++◌, ◌∷◌, ℕ, Bool, List, [], Some, IfErr, OnOk, IfSome, IfNone};
 ghost use Rattle.s2ix_io.specs.Faults.{CanCount, sink_faults, IsWantOnlyIf};
 ghost use Rattle.s2ix_step.specs.Carry.{Carries, is_refused as is_refused_line};

@@ -1,4 +1,4 @@
-// Runs over an empty store that a device ends.
+//! Runs over an empty store that a device ends.
 ghost use Rattle.s2ix_io.specs.Faults.{CanCount};
 
 use crate::stores::{ALL, empty_store};

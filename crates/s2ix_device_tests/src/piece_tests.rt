@@ -1,4 +1,4 @@
-// Lines that come in pieces: each is carried out once its end has come, and its answer is flushed before more is asked for.
+//! Lines that come in pieces: each is carried out once its end has come, and its answer is flushed before more is asked for.
 use crate::stores::{ALL, empty_store};
 use s2ix_cli::{RunFault, RunOptions, run};
 use s2ix_io::{KeepingSink, SliceSource};

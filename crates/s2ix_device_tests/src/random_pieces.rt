@@ -5,7 +5,7 @@ ghost use Rattle.s2ix_io.specs.Pieces.{Gave};
 use s2id_samples::Random;
 use s2ix_io::{ReadFault, Source};
 
-/// A source of a text that never fails. Its pieces are a byte, a few or many, or end right before or behind a line feed.
+// A source of a text that never fails. Its pieces are a byte, a few or many, or end right before or behind a line feed.
 #[derive(Drop)]
 pub(crate) struct RandomPieces<'a> {
     left: &'a [u8],
@@ -13,7 +13,7 @@ pub(crate) struct RandomPieces<'a> {
 }
 
 impl<'a> RandomPieces<'a> {
-    /// The source of a text whose lengths are those of a seed.
+    // The source of a text whose lengths are those of a seed.
     pub(crate) fn new(text: &'a [u8], seed: u64) -> RandomPieces<'a> {
         RandomPieces {
             left: text,

@@ -1,4 +1,4 @@
-// Random scripts in random pieces: a run over them comes to what a run over the whole input comes to.
+//! Random scripts in random pieces: a run over them comes to what a run over the whole input comes to.
 ghost use Rattle.s2ix_io.specs.Faults.{CanCount};
 
 use crate::random_pieces::RandomPieces;

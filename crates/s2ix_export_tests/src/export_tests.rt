@@ -1,4 +1,4 @@
-// Exports of bags that are read from dumps.
+//! Exports of bags that are read from dumps.
 use s2ix_bag::Limits;
 use s2ix_export::export;
 use s2ix_read_dump::read_dump;

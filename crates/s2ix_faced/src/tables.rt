@@ -1,4 +1,4 @@
-// The tables of single faces, read from what is held.
+//! The tables of single faces, read from what is held.
 ghost use Rattle.std.specs.Prelude.{◌≡◌, ◌<◌, ◌+◌, ◌*◌, length, map, IfOk, OnOk};
 ghost use Rattle.s2ix_pairs.specs.Change.{changed};
 ghost use Rattle.s2ix_reading.specs.Faces.{faces, held_on, changed_count};

@@ -1,4 +1,4 @@
-// Tables of faces: beside copied lists, and built again along histories.
+//! Tables of faces: beside copied lists, and built again along histories.
 ghost use Rattle.std.specs.Prelude.{◌≡◌, IfSome};
 ghost use Rattle.s2ix_pairs.specs.Change.{changed};
 

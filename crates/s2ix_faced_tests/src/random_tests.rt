@@ -1,4 +1,4 @@
-// Tables of random nested cells, with shared chains and with copied lists.
+//! Tables of random nested cells, with shared chains and with copied lists.
 use s2id_samples::Random;
 use s2ix_bag::Bag;
 use s2ix_chain::ChainTable;

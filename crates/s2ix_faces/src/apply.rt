@@ -1,4 +1,4 @@
-// What a change makes of the lists of the faces.
+//! What a change makes of the lists of the faces.
 ghost use Rattle.std.specs.Prelude.{◌≡◌, ◌==◌, ◌<◌, [], not, length, get_or, set, position, OnOk};
 ghost use Rattle.s2ix_faces.specs.Faces.{AreFacesFrom, all_of};
 ghost use Rattle.s2ix_lists.specs.Apply.{AreBefore};
@@ -12,7 +12,7 @@ use s2ix_lists::{FlatHeld, first_mismatch, merge};
 use s2ix_pairs::Entry;
 use std::alloc::Global;
 
-/// How many faces the cube has.
+// How many faces the cube has.
 pub(crate) const FACES: usize = 6;
 
 // The place of the first entry whose count before is not that of the held pairs.

@@ -1,4 +1,4 @@
-// Where the pairs of a face end in a rising list.
+//! Where the pairs of a face end in a rising list.
 ghost use Rattle.std.specs.Prelude.{◌↔◌, ◌<◌, ◌≤◌, ◌+◌, IsTrue, length, take, drop};
 ghost use Rattle.s2ix_faces.specs.Faces.{AreEntriesBelow, face_start};
 ghost use Rattle.s2ix_pairs.specs.Change.{IsChangeList, IsChangeListFrom};

@@ -1,4 +1,4 @@
-// Pairs of the lists of the faces.
+//! Pairs of the lists of the faces.
 ghost use Rattle.std.specs.Prelude.{◌≡◌, ◌++◌, ◌<◌, length, OnOk};
 ghost use Rattle.s2ix_faces.specs.Faces.{AreFacesFrom, IsFaceAt, all_of};
 ghost use Rattle.s2ix_pairs.specs.Collection.{count_in};

@@ -1,4 +1,4 @@
-// Dumps that are checked, over sinks that are sound and that fail.
+//! Dumps that are checked, over sinks that are sound and that fail.
 use s2ix_files::check_text;
 use s2ix_io::{KeepingSink, RunFault};
 use std::alloc::Global;

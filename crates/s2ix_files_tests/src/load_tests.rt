@@ -1,4 +1,4 @@
-// Dumps that are loaded.
+//! Dumps that are loaded.
 use s2ix_bag::Limits;
 use s2ix_files::load_text;
 use s2ix_io::{KeepingSink, Sink};

@@ -1,4 +1,4 @@
-// A dump and a journal, replayed and rewound.
+//! A dump and a journal, replayed and rewound.
 use s2ix_files::{replay_texts, rewind_texts};
 use s2ix_io::{KeepingSink, RunFault};
 use std::alloc::Global;

@@ -1,4 +1,4 @@
-// Tables of faces along random histories: built again after each change, and compared with tables of copied lists and with a filter.
+//! Tables of faces along random histories: built again after each change, and compared with tables of copied lists and with a filter.
 ghost use Rattle.std.specs.Prelude.{◌≡◌};
 
 use s2id_samples::Random;

@@ -1,4 +1,4 @@
-// What is read of a bag when a table is built again.
+//! What is read of a bag when a table is built again.
 ghost use Rattle.std.specs.Prelude.{◌≡◌};
 ghost use Rattle.s2ix_pairs.specs.Change.{changed};
 

@@ -1,4 +1,4 @@
-// What the adapters ask of std's readers and writers: no contract speaks of it, since std's traits have no relation for a call.
+//! What the adapters ask of std's readers and writers: no contract speaks of it, since std's traits have no relation for a call.
 use crate::calls::{Call, Piece, answers, gives_all};
 use s2ix_io::{FromRead, ToWrite, WriteFault};
 use std::io;

@@ -1,4 +1,4 @@
-// Sources in memory, and the adapters of std's readers and writers.
+//! Sources in memory, and the adapters of std's readers and writers.
 use crate::calls::{Call, Piece, answers, gives_all};
 use s2ix_io::{Broken, FromRead, SliceSource, TakesNone, ToWrite, WriteFault};
 

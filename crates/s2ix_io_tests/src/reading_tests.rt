@@ -1,4 +1,4 @@
-// Sources that are read whole.
+//! Sources that are read whole.
 use s2ix_io::{RunFault, SliceSource, Source, read_whole};
 use std::alloc::Global;
 

@@ -1,4 +1,4 @@
-// Texts that are put to a sink in memory, and the texts of faults.
+//! Texts that are put to a sink in memory, and the texts of faults.
 use crate::calls::{Call, answers};
 use s2ix_io::{KeepingSink, ReadFault, RunFault, Sink, WriteFault, put_all, put_parts};
 use std::alloc::Global;

@@ -1,4 +1,4 @@
-// Where the ranges of each face's table stand among the joined ones.
+//! Where the ranges of each face's table stand among the joined ones.
 ghost use Rattle.std.specs.Prelude.{◌≡◌, ◌+◌, ◌-◌, ◌<◌, ◌≤◌, length, slice_index_or};
 ghost use Rattle.s2ix_chain.specs.SpanTable.{IsSpanTable};
 ghost use Rattle.s2ix_chain.specs.Starts.{IsLastStart};
@@ -6,7 +6,7 @@ ghost use Rattle.s2ix_joined.specs.Seats.{seat_after, places_of, AreInOrder};
 
 use crate::face_table::FaceTable;
 
-/// How many faces the cube has.
+// How many faces the cube has.
 pub(crate) const FACES: usize = 6;
 
 // The place of a table's first range, and the leaf number at which that range begins once it is joined to what stands before it.

@@ -40,7 +40,7 @@ pub fn losses(entries: &[Entry]) -> usize
     entries.iter().filter(|e| e.after == 0).count()
 }
 
-/// How many pairs are held once a change is applied that has the right counts before. O(m).
+// How many pairs are held once a change is applied that has the right counts before. O(m).
 pub(crate) fn length_after(held: &[FlatHeld], entries: &[Entry]) -> usize
     requires held_rise { IsCollection held.now }
     requires entries_rise { IsChangeList entries.now }
@@ -57,7 +57,7 @@ pub fn has_count_above(entries: &[Entry], limit: u32) -> bool
     entries.iter().any(|e| limit < e.after)
 }
 
-/// Appends a pair that is held where its count is above 0.
+// Appends a pair that is held where its count is above 0.
 fn push_held(out: &mut Vec<FlatHeld>, pair: Pair, count: u32) -> Result<(), AllocError>
     ensures { OnOk result (out.new.items ≡ out.old.items ++ held_with pair count []) }
 {

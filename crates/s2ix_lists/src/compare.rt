@@ -7,7 +7,7 @@ use crate::search::{count_first, next_from, past_pair};
 use s2ix_pairs::{Entry, Pair};
 use std::alloc::{AllocError, Global};
 
-/// Appends an entry for each held pair, which is held no more.
+// Appends an entry for each held pair, which is held no more.
 fn push_removals(out: &mut Vec<Entry>, held: &[FlatHeld]) -> Result<(), AllocError>
     ensures { OnOk result (out.new.items ≡ out.old.items ++ map removal_of held.now) }
 {
@@ -21,7 +21,7 @@ fn push_removals(out: &mut Vec<Entry>, held: &[FlatHeld]) -> Result<(), AllocErr
     Ok(())
 }
 
-/// Appends an entry for a pair whose two counts differ.
+// Appends an entry for a pair whose two counts differ.
 fn push_difference(
     out: &mut Vec<Entry>,
     pair: Pair,

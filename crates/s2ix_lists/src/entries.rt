@@ -5,7 +5,7 @@ ghost use Rattle.s2ix_lists.specs.Entries.{change_fault, first_unsorted, first_w
 use crate::errors::ChangeError;
 use s2ix_pairs::{Entry, Pair};
 
-/// The place of the first entry that is not above the one before it. O(m).
+// The place of the first entry that is not above the one before it. O(m).
 fn unsorted_place(entries: &[Entry]) -> Option<usize>
     ensures { result ≡ first_unsorted entries.now }
 {
@@ -21,7 +21,7 @@ fn unsorted_place(entries: &[Entry]) -> Option<usize>
     None
 }
 
-/// The place of the first entry whose two counts are equal. O(m).
+// The place of the first entry whose two counts are equal. O(m).
 fn equal_place(entries: &[Entry]) -> Option<usize>
     ensures { result ≡ first_without_difference entries.now }
 {

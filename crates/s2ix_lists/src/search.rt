@@ -5,14 +5,14 @@ ghost use Rattle.s2ix_pairs.specs.Pair.{rank_of};
 use crate::flat::FlatHeld;
 use s2ix_pairs::Pair;
 
-/// Whether two pairs are the same.
+// Whether two pairs are the same.
 pub(crate) fn is_same(one: Pair, other: Pair) -> bool
     ensures { IsTrue result ↔ (rank_of one ≡ rank_of other) }
 {
     one == other
 }
 
-/// How many of the held pairs come before `pair`. O(log n).
+// How many of the held pairs come before `pair`. O(log n).
 pub(crate) fn first_from(held: &[FlatHeld], pair: Pair) -> usize
     requires { IsCollection held.now }
     ensures within { result ≤ length held.now }
@@ -22,8 +22,8 @@ pub(crate) fn first_from(held: &[FlatHeld], pair: Pair) -> usize
     held.partition_point(|h| h.pair().is_before(pair))
 }
 
-/// How many of the held pairs come before `pair`, searched from the front in growing steps: O(log k) for the
-/// answer k.
+// How many of the held pairs come before `pair`, searched from the front in growing steps: O(log k) for the
+// answer k.
 pub(crate) fn next_from(held: &[FlatHeld], pair: Pair) -> usize
     requires { IsCollection held.now }
     ensures within { result ≤ length held.now }
@@ -38,7 +38,7 @@ pub(crate) fn next_from(held: &[FlatHeld], pair: Pair) -> usize
     first_from(front, pair)
 }
 
-/// The count of a pair before which none is held: only the first can be it.
+// The count of a pair before which none is held: only the first can be it.
 pub(crate) fn count_first(held: &[FlatHeld], pair: Pair) -> u32
     requires { IsCollectionFrom (rank_of pair) held.now }
     ensures { result ≡ count_in held.now pair }
@@ -58,7 +58,7 @@ pub fn count_of(held: &[FlatHeld], pair: Pair) -> u32
     count_first(rest, pair)
 }
 
-/// The held pairs past `pair`, where that stands first.
+// The held pairs past `pair`, where that stands first.
 pub(crate) fn past_pair(held: &[FlatHeld], pair: Pair) -> &[FlatHeld]
     ensures { result.now ≡ past held.now (rank_of pair) }
 {

@@ -45,7 +45,7 @@ fn comes_behind(before: &[FlatHeld], pair: Pair) -> bool
     }
 }
 
-/// The held pair of the line that follows those of the pairs before, in a dump of a version, or the fault of that line.
+// The held pair of the line that follows those of the pairs before, in a dump of a version, or the fault of that line.
 pub(crate) fn next_held(
     limits: Limits,
     version: Version,
@@ -92,8 +92,8 @@ fn held_in_front(most: u32, text: &[u8]) -> Option<(Held, &[u8])>
     Some((held, behind))
 }
 
-/// The held pair that follows those of the pairs before, in a dump of a version, and what is behind its line, where that line stands at the
-/// front of a text and has the common shape. Where it answers nothing, no line of the common shape stands there that is the next.
+// The held pair that follows those of the pairs before, in a dump of a version, and what is behind its line, where that line stands at the
+// front of a text and has the common shape. Where it answers nothing, no line of the common shape stands there that is the next.
 #[inline]
 pub(crate) fn next_in_front<'a>(
     limits: Limits,

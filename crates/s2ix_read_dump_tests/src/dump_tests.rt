@@ -1,4 +1,4 @@
-// Dumps of both versions, read back or refused.
+//! Dumps of both versions, read back or refused.
 use s2ix_bag::Limits;
 use s2ix_read_dump::{DumpError, DumpFault, read_dump};
 use std::alloc::Global;

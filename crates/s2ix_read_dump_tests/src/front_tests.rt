@@ -1,4 +1,4 @@
-// What stands at the front of a text.
+//! What stands at the front of a text.
 use s2ix_parts::{number_in_front, token_in_front};
 use std::alloc::Global;
 

@@ -1,4 +1,4 @@
-// Dumps of random bags, read back.
+//! Dumps of random bags, read back.
 use s2id_samples::Random;
 use s2ix_bag::{Bag, Change, Entry, Limits};
 use s2ix_io::KeepingSink;

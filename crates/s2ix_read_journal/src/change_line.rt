@@ -9,7 +9,7 @@ use crate::parts::two_parts;
 use itoa::Buffer;
 use s2ix_bag::Limits;
 
-/// Whether a line with the first part `end` is the end line of so many groups.
+// Whether a line with the first part `end` is the end line of so many groups.
 pub(crate) fn is_end_of(groups: usize, line: &[u8]) -> bool
     requires { is_end line.now ≡ true }
     ensures { IsTrue result ↔ (line.now ≡ end_text groups) }
@@ -21,7 +21,7 @@ pub(crate) fn is_end_of(groups: usize, line: &[u8]) -> bool
     number == digits.format(groups).as_bytes()
 }
 
-/// How many entries the group has that a line begins, below so many groups; or the fault of the line.
+// How many entries the group has that a line begins, below so many groups; or the fault of the line.
 pub(crate) fn next_size(limits: Limits, groups: usize, line: &[u8]) -> Result<u32, JournalFault>
     ensures { result ≡ next_size_that limits groups line.now }
 {

@@ -45,7 +45,7 @@ fn comes_behind(before: &[Entry], pair: Pair) -> bool
     }
 }
 
-/// The entry of the line that follows those of the entries before in its group, with counts up to `most`; or the fault of that line.
+// The entry of the line that follows those of the entries before in its group, with counts up to `most`; or the fault of that line.
 pub(crate) fn next_entry(
     most: u32,
     limits: Limits,

@@ -31,9 +31,9 @@ fn push(entries: &mut Vec<Entry>, next: Entry) -> Result<(), AllocError>
     Ok(())
 }
 
-/// The entries of a group of this size, with counts up to `most`, whose first line has this number, and the text below them; or the first
-/// line of the group with a fault, and the first fault of that line. O(n) for n bytes of the group, and one growth, of at most three bytes
-/// for each byte of the text. This project's own.
+// The entries of a group of this size, with counts up to `most`, whose first line has this number, and the text below them; or the first
+// line of the group with a fault, and the first fault of that line. O(n) for n bytes of the group, and one growth, of at most three bytes
+// for each byte of the text. This project's own.
 pub(crate) fn read_group(
     alloc: Global,
     most: u32,

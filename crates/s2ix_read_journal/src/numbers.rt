@@ -8,7 +8,7 @@ const FEWEST_ENTRIES: u32 = 1;
 
 const MOST_ENTRIES: u32 = 2_000_000;
 
-/// The count before or after a change, from 0 to `most`, which a text writes.
+// The count before or after a change, from 0 to `most`, which a text writes.
 pub(crate) fn side_written(most: u32, text: &[u8]) -> Option<u32>
     ensures { result ≡ side_that most text.now }
 {
@@ -16,7 +16,7 @@ pub(crate) fn side_written(most: u32, text: &[u8]) -> Option<u32>
     if count <= most { Some(count) } else { None }
 }
 
-/// The number of entries of a change, from 1 to 2000000, which a text writes.
+// The number of entries of a change, from 1 to 2000000, which a text writes.
 pub(crate) fn size_written(text: &[u8]) -> Option<u32>
     ensures { result ≡ size_that text.now }
 {

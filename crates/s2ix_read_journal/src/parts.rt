@@ -4,7 +4,7 @@ ghost use Rattle.s2ix_parts.specs.Lines.{has_parts, parts_of};
 
 use s2ix_parts::cut_part;
 
-/// The parts of a line that has exactly two, none of them empty.
+// The parts of a line that has exactly two, none of them empty.
 pub(crate) fn two_parts(line: &[u8]) -> Option<(&[u8], &[u8])>
     ensures none { IfNone result (has_parts 2 line.now ≡ false) }
     ensures some { IfSome result (λ _. has_parts 2 line.now ≡ true) }
@@ -20,7 +20,7 @@ pub(crate) fn two_parts(line: &[u8]) -> Option<(&[u8], &[u8])>
     Some((first, second))
 }
 
-/// The parts of a line that has exactly four, none of them empty.
+// The parts of a line that has exactly four, none of them empty.
 pub(crate) fn four_parts(line: &[u8]) -> Option<(&[u8], &[u8], &[u8], &[u8])>
     ensures none { IfNone result (has_parts 4 line.now ≡ false) }
     ensures some { IfSome result (λ _. has_parts 4 line.now ≡ true) }

@@ -1,4 +1,4 @@
-// What the errors of the reader say.
+//! What the errors of the reader say.
 use s2ix_read_journal::{JournalError, JournalFault};
 use std::alloc::Global;
 

@@ -1,4 +1,4 @@
-// Journals, read back or refused.
+//! Journals, read back or refused.
 use s2ix_bag::{Change, Limits};
 use s2ix_read_journal::{JournalError, JournalFault, read_journal};
 use std::alloc::Global;

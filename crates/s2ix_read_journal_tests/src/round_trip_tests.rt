@@ -1,4 +1,4 @@
-// Journals of random changes, read back below either header.
+//! Journals of random changes, read back below either header.
 use s2id_samples::Random;
 use s2ix_bag::{Change, Entry, Limits};
 use s2ix_io::KeepingSink;

@@ -1,4 +1,4 @@
-// Bags that are read pair by pair, and the faces that changes have entries on.
+//! Bags that are read pair by pair, and the faces that changes have entries on.
 use s2ix_bag::{Bag, Change, FlatHeld, Held};
 use s2ix_reading::{
     BagReader, PairReader, changed_face_count, changed_faces, read_changed, read_face,

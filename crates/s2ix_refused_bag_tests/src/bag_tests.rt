@@ -1,4 +1,4 @@
-// Bags, the changes between them, and what is done with them.
+//! Bags, the changes between them, and what is done with them.
 use s2id_samples::{SET_UP, TOLD, answer, tell};
 use s2ix_bag::{Bag, Change, RevertError};
 use s2ix_replay::{ReplayError, replay, rewind};

@@ -1,4 +1,4 @@
-// Runs of scripts, which stop at the line that memory is refused for.
+//! Runs of scripts, which stop at the line that memory is refused for.
 use s2id_samples::{SET_UP, TOLD, tell};
 use s2ix_bag::Limits;
 use s2ix_cli::{RunEnd, RunFault, RunOptions, run};

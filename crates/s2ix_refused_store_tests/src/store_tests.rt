@@ -1,4 +1,4 @@
-// Stores, step by step.
+//! Stores, step by step.
 use s2id_samples::{SET_UP, TOLD, answer, tell};
 use s2ix_bag::{Bag, Label, Limits};
 use s2ix_edit::{Edit, EditError};

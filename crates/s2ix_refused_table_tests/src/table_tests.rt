@@ -1,4 +1,4 @@
-// Tables, and what meets a target.
+//! Tables, and what meets a target.
 ghost use Rattle.std.specs.Prelude.{◌≡◌};
 ghost use Rattle.s2ix_pairs.specs.Change.{changed};
 

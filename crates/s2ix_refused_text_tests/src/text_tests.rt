@@ -1,4 +1,4 @@
-// Inputs that are read whole, texts that are read, and the calls over whole texts.
+//! Inputs that are read whole, texts that are read, and the calls over whole texts.
 use s2id_samples::{TOLD, answer, tell};
 use s2ix_bag::Limits;
 use s2ix_files::{check_text, load_text, replay_texts, rewind_texts};

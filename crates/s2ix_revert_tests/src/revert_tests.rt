@@ -1,4 +1,4 @@
-// Changes that are taken back from bags that other changes led on to.
+//! Changes that are taken back from bags that other changes led on to.
 use s2ix_bag::{Bag, Change, RevertError};
 use s2ix_samples::{LimitRow, WIDEST, bag_of, change_of, holds_pairs, lists_entries};
 use std::alloc::Global;

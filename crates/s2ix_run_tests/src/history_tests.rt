@@ -1,4 +1,4 @@
-// Worked scripts of edits on whole labels and unions, of undo, redo and forget, and of journals.
+//! Worked scripts of edits on whole labels and unions, of undo, redo and forget, and of journals.
 use crate::scripts::{PLAIN, Script, check_all};
 
 const SCRIPTS: [Script; 10] = [

@@ -1,4 +1,4 @@
-// Worked scripts of regions. Their outputs are worked out by hand from the formats.
+//! Worked scripts of regions. Their outputs are worked out by hand from the formats.
 use crate::scripts::{PLAIN, Script, check_all};
 
 const SCRIPTS: [Script; 7] = [

@@ -1,4 +1,4 @@
-// Worked scripts of changes that are taken back by their numbers. Their outputs are worked out by hand from the formats.
+//! Worked scripts of changes that are taken back by their numbers. Their outputs are worked out by hand from the formats.
 use crate::scripts::{PLAIN, Script, check_all};
 
 const SCRIPTS: [Script; 12] = [

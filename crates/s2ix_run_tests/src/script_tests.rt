@@ -1,4 +1,4 @@
-// Worked scripts of fields, spellings and limits. Their outputs are worked out by hand from the formats.
+//! Worked scripts of fields, spellings and limits. Their outputs are worked out by hand from the formats.
 use crate::scripts::{PLAIN, Script, check_all, check_script};
 use std::alloc::Global;
 use std::process::Abort;

@@ -9,7 +9,7 @@ use std::alloc::Global;
 use std::process::Abort;
 use std::str;
 
-/// The greatest numbers of pairs, of copies of a pair, and of changes that can be undone.
+// The greatest numbers of pairs, of copies of a pair, and of changes that can be undone.
 pub(crate) type LimitRow = [u32; 3];
 
 // The widest limits.
@@ -18,7 +18,7 @@ const WIDEST: LimitRow = [1_000_000, u32::MAX, 100_000];
 // More bytes than any text here has: a device of this length moves all that there is in one call.
 const ALL: usize = 1_000_000;
 
-/// A script, with what a run of it over an empty store prints.
+// A script, with what a run of it over an empty store prints.
 #[derive(Clone, Copy)]
 pub(crate) struct Script<'a> {
     pub name: &'static str,
@@ -28,7 +28,7 @@ pub(crate) struct Script<'a> {
     pub output: &'a [u8],
 }
 
-/// The empty script, under the widest limits; it goes on after a refusal.
+// The empty script, under the widest limits; it goes on after a refusal.
 pub(crate) const PLAIN: Script<'static> = Script {
     name: "",
     limits: WIDEST,
@@ -87,7 +87,7 @@ fn check_pieces(rt: &impl Abort, alloc: Global, script: &Script, piece_len: usiz
     );
 }
 
-/// Runs a script in small and large pieces: what it prints does not depend on how its bytes come and go.
+// Runs a script in small and large pieces: what it prints does not depend on how its bytes come and go.
 pub(crate) fn check_script(rt: &impl Abort, alloc: Global, script: &Script) {
     check_pieces(rt, alloc, script, 1, ALL);
     check_pieces(rt, alloc, script, 7, ALL);
@@ -95,7 +95,7 @@ pub(crate) fn check_script(rt: &impl Abort, alloc: Global, script: &Script) {
     check_pieces(rt, alloc, script, ALL, 1);
 }
 
-/// Runs each script.
+// Runs each script.
 pub(crate) fn check_all(rt: &impl Abort, alloc: Global, scripts: &[Script]) {
     for script in scripts {
         check_script(rt, alloc, script);

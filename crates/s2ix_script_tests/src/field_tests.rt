@@ -1,4 +1,4 @@
-// Lines as fields, and the numbers that these write.
+//! Lines as fields, and the numbers that these write.
 use s2ix_bag::Label;
 use s2ix_fields::{Fields, change_number_spelled, copies_spelled, label_spelled, level_spelled};
 

@@ -1,4 +1,4 @@
-// What lines ask for, and the faults of lines.
+//! What lines ask for, and the faults of lines.
 use s2id_core::CellId;
 use s2ix_bag::Label;
 use s2ix_edit::Edit;

@@ -1,4 +1,4 @@
-// The names that refused lines are answered by, and the texts of faults.
+//! The names that refused lines are answered by, and the texts of faults.
 use s2ix_edit::{EditError, RedoError, UndoError};
 use s2ix_script::{
     LineError, LineFault, edit_error_name, not_leaf_name, redo_error_name, undo_error_name,

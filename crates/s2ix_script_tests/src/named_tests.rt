@@ -1,4 +1,4 @@
-// What fields name.
+//! What fields name.
 use s2id_core::CellId;
 use s2ix_bag::Label;
 use s2ix_edit::Edit;

@@ -1,4 +1,4 @@
-// Lines and instructions carried out one by one, with no run.
+//! Lines and instructions carried out one by one, with no run.
 ghost use Rattle.std.specs.Prelude.{◌≡◌, true};
 ghost use Rattle.s2ix_io.specs.Faults.{CanCount};
 

@@ -17,7 +17,7 @@ use s2ix_reading::BagReader;
 use s2ix_table::RangeTable;
 use std::alloc::Global;
 
-/// The bag that planned entries make of one with this table, with its own table, or why a store refuses them.
+// The bag that planned entries make of one with this table, with its own table, or why a store refuses them.
 pub(crate) fn apply_planned(
     alloc: Global,
     bag: &Bag,
@@ -49,7 +49,7 @@ pub(crate) fn apply_planned(
     }
 }
 
-/// The bag that a recorded change makes of one with this table, with its own table: only memory can be wanting.
+// The bag that a recorded change makes of one with this table, with its own table: only memory can be wanting.
 pub(crate) fn apply_recorded(
     alloc: Global,
     bag: &Bag,
@@ -74,8 +74,8 @@ pub(crate) fn apply_recorded(
     }
 }
 
-/// Shifts the last change of one list to the end of the other, and answers how many pairs it has. Where a growth is
-/// refused both lists stay.
+// Shifts the last change of one list to the end of the other, and answers how many pairs it has. Where a growth is
+// refused both lists stay.
 pub(crate) fn shift_last(from: &mut Vec<Change>, to: &mut Vec<Change>) -> Result<usize, OutOfMemory>
     requires { 0 < vec_len from.old }
     ensures shifted { IfOk result (IsShifted from.old.items to.old.items from.new.items to.new.items) }

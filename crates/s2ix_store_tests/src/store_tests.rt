@@ -1,4 +1,4 @@
-// What a store is asked: its bag, its changes, its faces and its regions.
+//! What a store is asked: its bag, its changes, its faces and its regions.
 use s2id_samples::are_cells;
 use s2ix_bag::Bag;
 use s2ix_samples::{LimitRow, WIDEST, are_changes, holds_pairs, label_of};

@@ -1,4 +1,4 @@
-// The labels of what is met.
+//! The labels of what is met.
 ghost use Rattle.std.specs.Prelude.{IfOk};
 ghost use Rattle.s2ix_ranges.specs.Meeting.{IsLabelList};
 

@@ -1,4 +1,4 @@
-// What a plain filter of all pairs answers: the values that tables are compared with.
+//! What a plain filter of all pairs answers: the values that tables are compared with.
 use s2id_core::{CellId, LEAF_END};
 use s2ix_bag::{Bag, Held, Label};
 use s2ix_table::RangeRow;

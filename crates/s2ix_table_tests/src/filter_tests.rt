@@ -1,4 +1,4 @@
-// Tables of random nested cells, compared with a plain filter of the pairs.
+//! Tables of random nested cells, compared with a plain filter of the pairs.
 use s2id_samples::Random;
 use s2ix_bag::Bag;
 use s2ix_chain::ChainTable;

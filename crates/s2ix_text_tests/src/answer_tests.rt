@@ -1,4 +1,4 @@
-// Answers of one line, by their calls with no script.
+//! Answers of one line, by their calls with no script.
 use crate::texts::{Row, Text, first_wrong};
 use s2id_cube::FaceIj;
 

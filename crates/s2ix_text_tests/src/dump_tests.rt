@@ -1,4 +1,4 @@
-// Dumps by their call, with no script.
+//! Dumps by their call, with no script.
 use crate::texts::{Row, Text, first_wrong};
 
 const DUMPS: [Row; 3] = [

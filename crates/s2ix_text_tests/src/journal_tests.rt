@@ -1,4 +1,4 @@
-// Journals by their call, with no script.
+//! Journals by their call, with no script.
 use crate::texts::{Row, Text, first_wrong};
 
 // Three collections.

@@ -1,4 +1,4 @@
-// Lists of pairs, labels, cells and entries, contents of leaves, what meets targets, and ranges of tables, by their calls with no script.
+//! Lists of pairs, labels, cells and entries, contents of leaves, what meets targets, and ranges of tables, by their calls with no script.
 use crate::texts::{Row, Text, first_wrong};
 
 // A face under label 7, and a cell in it under label 9, twice.

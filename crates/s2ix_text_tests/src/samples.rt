@@ -1,4 +1,4 @@
-// Labels, tables and changes from plain texts, as `s2ix_samples` reads them. What is no such text, and what memory was wanted for, is `None`.
+//! Labels, tables and changes from plain texts, as `s2ix_samples` reads them. What is no such text, and what memory was wanted for, is `None`.
 ghost use Rattle.std.specs.Prelude.{◌≡◌, IfSome};
 ghost use Rattle.s2id_core.specs.CellId.{level_of};
 

@@ -1,4 +1,4 @@
-// The range that has a leaf, found by reading few ranges.
+//! The range that has a leaf, found by reading few ranges.
 ghost use Rattle.std.specs.Prelude.{◌≡◌, ℕ, ◌+◌, ◌-◌, ◌*◌, ◌^◌, ◌%◌, ◌<◌, ◌≤◌, length, max};
 ghost use Rattle.s2id_core.specs.CellId.{first_of, end_of};
 ghost use Rattle.s2ix_ranges.specs.Table.{range_at, IsFound, leaf_end};

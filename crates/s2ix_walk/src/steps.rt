@@ -1,4 +1,4 @@
-// The walk over the ranges that a target meets: it gives each pair of the meeting list once, in order.
+//! The walk over the ranges that a target meets: it gives each pair of the meeting list once, in order.
 ghost use Rattle.std.specs.Prelude.{◌≡◌, ◌<◌, ◌≤◌, ◌+◌, ◌∷◌, ℕ, [], Some, None, IfSome, IsTrue, length, slice_index_or};
 ghost use Rattle.s2id_core.specs.declared.cell_id.CellId.{CellId};
 ghost use Rattle.s2id_core.specs.CellId.{first_of, end_of};

@@ -1,4 +1,4 @@
-// Where a walk over the ranges that a target meets stands.
+//! Where a walk over the ranges that a target meets stands.
 
 // All leaves of the target before `seen` have been seen. `cell` is the target's first cell that may go beyond them,
 // `range` the range that has `seen`, and `place` what is left of the chain at hand: of it those pairs are new whose

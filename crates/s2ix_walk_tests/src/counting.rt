@@ -1,4 +1,4 @@
-// Counted visits and what bounds them.
+//! Counted visits and what bounds them.
 ghost use Rattle.std.specs.Prelude.{◌≡◌, ℕ};
 ghost use Rattle.s2ix_pairs.specs.declared.pair.Held.{Held};
 ghost use Rattle.s2ix_walk.specs.Costs.{no_cost};

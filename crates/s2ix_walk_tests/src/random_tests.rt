@@ -1,4 +1,4 @@
-// Counted visits over tables of random nested cells.
+//! Counted visits over tables of random nested cells.
 use crate::counting::keeps_to_bounds;
 use crate::samples::target_of;
 use s2id_core::CellId;

@@ -1,4 +1,4 @@
-// What a meter reads of each range, beside what its table says of it.
+//! What a meter reads of each range, beside what its table says of it.
 use s2id_samples::Random;
 use s2ix_bag::Bag;
 use s2ix_chain::ChainTable;

@@ -1,4 +1,4 @@
-// Unions and tables from plain texts, as `s2ix_samples` reads them. What is no such text, and what memory was wanted for, is `None`.
+//! Unions and tables from plain texts, as `s2ix_samples` reads them. What is no such text, and what memory was wanted for, is `None`.
 use s2id_core::CellId;
 use s2id_samples::cells_of;
 use s2id_union::CellUnion;

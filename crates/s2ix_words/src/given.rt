@@ -9,19 +9,19 @@ use clap::ArgMatches;
 use s2ix_bag::Limits;
 use std::alloc::{AllocError, Global};
 
-/// What is told of a limit that is no number, or out of its range.
+// What is told of a limit that is no number, or out of its range.
 const BAD_LIMIT: &str =
     "error: a limit is out of its range: --max-pairs takes 1 to 1000000, --max-count 1 to 4294967295, \
     --max-changes 1 to 100000\n\nFor more information, try 's2ix run --help'.\n";
 
-/// What is told where the name of a file is missing.
+// What is told where the name of a file is missing.
 const NO_FILE: &str =
     "error: the name of a file is missing\n\nFor more information, try 's2ix --help'.\n";
 
-/// What is told where no command is named.
+// What is told where no command is named.
 const NO_COMMAND: &str = "error: a command is wanted\n\nFor more information, try 's2ix --help'.\n";
 
-/// The command that was met, of those that clap matched.
+// The command that was met, of those that clap matched.
 pub(crate) fn command_met(alloc: Global, matches: &ArgMatches<'_>) -> Result<Command, WordsFault>
     ensures met { IfOk result (IsMet (subcommand_rows_of matches.now)) }
     ensures refused { IfErr result (Refuses (IsMet (subcommand_rows_of matches.now))) }
