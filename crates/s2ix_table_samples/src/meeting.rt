@@ -1,4 +1,3 @@
-ghost use Rattle.std.specs.Prelude.{◌≡◌};
 ghost use Rattle.s2ix_pairs.specs.declared.pair.Held.{Held};
 
 use crate::pairs::{Pairs, is_at};
