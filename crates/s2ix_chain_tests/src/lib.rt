@@ -1,7 +1,5 @@
-//! Tests of tables with shared chains: worked ones, and those over the leaves of one face.
+//! Tests of tables with shared chains over the leaves of one face.
 #![tactic(auto)]
 
 #[cfg(test)]
 mod span_tests;
-#[cfg(test)]
-mod worked_tests;

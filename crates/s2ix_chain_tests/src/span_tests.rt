@@ -7,8 +7,9 @@ use s2id_core::CellId;
 use s2ix_bag::{FlatHeld, Held};
 use s2ix_chain::SpanTable;
 use s2ix_chain::laws::{ranges_are_those_of_the_span, span_keeps_a_pair_once};
-use s2ix_samples::{WIDEST, bag_of, held_of};
+use s2ix_samples::{WIDEST, bag_of};
 use s2ix_table::RangeRow;
+use s2ix_table_samples::{Pairs, Row};
 use std::alloc::Global;
 
 // The leaf numbers at which face 2 begins and ends.
@@ -16,13 +17,10 @@ const FROM: u64 = 0x4000000000000001;
 
 const TO: u64 = 0x6000000000000001;
 
-// A range over the face: its first leaf number and the one after its last, the innermost pair, and the next one outwards, if any.
-type RangeText = (u64, u64, &'static str, &'static str);
-
-const RANGES: [RangeText; 3] = [
-    (FROM, 0x4800000000000001, "44:6:1", "5:3:1"),
-    (0x4800000000000001, 0x5000000000000001, "4c:1:1", "5:3:1"),
-    (0x5000000000000001, TO, "5:3:1", ""),
+const RANGES: [Row; 3] = [
+    (0x4800000000000001, "44:6:1 5:3:1"),
+    (0x5000000000000001, "4c:1:1 5:3:1"),
+    (TO, "5:3:1"),
 ];
 
 // Whether a held cell begins before a leaf number.
@@ -51,26 +49,27 @@ fn face_table(alloc: Global, pairs: &str) -> Option<SpanTable>
     SpanTable::over(alloc, held, FROM, TO).ok()
 }
 
-// A range's innermost pair, and the next one outwards.
-fn first_two(table: &SpanTable, k: usize) -> (Option<Held>, Option<Held>)
+// A range's innermost pair, the next one outwards, and whether more lie over it.
+fn first_two(table: &SpanTable, k: usize) -> (Option<Held>, Option<Held>, bool)
     requires { k < length table.now.ranges }
 {
     let Some(first) = table.first(k) else {
-        return (None, None);
+        return (None, None, false);
     };
     let inner = table.held_at(first);
     let Some(next) = table.outer(first) else {
-        return (Some(inner), None);
+        return (Some(inner), None, false);
     };
-    (Some(inner), Some(table.held_at(next)))
+    let has_more = table.outer(next).is_some();
+    (Some(inner), Some(table.held_at(next)), has_more)
 }
 
-// Whether the range at a place is this one.
-fn has_range(table: &SpanTable, k: usize, &(start, limit, inner, outer): &RangeText) -> bool {
+// Whether the range at a place is this one, and these pairs, at most two, lie over it.
+fn has_range(table: &SpanTable, k: usize, range: RangeRow, pairs: &'static str) -> bool {
     k < table.range_count()
-        && table.range(k) == RangeRow { start, limit }
-        && table.start(k) == start
-        && first_two(table, k) == (held_of(inner), held_of(outer))
+        && table.range(k) == range
+        && table.start(k) == range.start
+        && first_two(table, k) == (pairs.at(0), pairs.at(1), false)
 }
 
 // Whether a leaf of the face is found in its range.
@@ -84,16 +83,18 @@ fn finds(table: &SpanTable, number: u64, k: usize) -> bool
     }
 }
 
-// Whether a table has the ranges over the face, and the first and the last leaf of each lead to it.
-fn has_ranges(table: &SpanTable) -> bool
+// Whether a table has the rows' ranges over the face, and the first and the last leaf of each lead to it.
+fn has_rows(table: &SpanTable) -> bool
     requires begins { table.now.from ≡ 4611686018427387905 }
     requires ends { table.now.to ≡ 6917529027641081857 }
 {
-    for (k, range) in RANGES.iter().enumerate() {
-        let is_found = finds(table, range.0, k) && finds(table, range.1.wrapping_sub(2), k);
-        if !is_found || !has_range(table, k, range) {
+    let mut start = FROM;
+    for (k, &(limit, pairs)) in RANGES.iter().enumerate() {
+        let is_found = finds(table, start, k) && finds(table, limit.wrapping_sub(2), k);
+        if !is_found || !has_range(table, k, RangeRow { start, limit }, pairs) {
             return false;
         }
+        start = limit;
     }
     table.range_count() == RANGES.len()
 }
@@ -102,7 +103,7 @@ fn has_ranges(table: &SpanTable) -> bool
 fn table_of_a_face(rt: HostRuntime) {
     let table = face_table(rt.alloc(), "44:6:1 4c:1:1 5:3:1").expect(&rt, "a table");
     assert!(rt; table.pair_count() == 3);
-    assert!(rt; has_ranges(&table));
+    assert!(rt; has_rows(&table));
     ranges_are_those_of_the_span(&table);
     span_keeps_a_pair_once(&table);
 }

@@ -8,7 +8,7 @@ use s2ix_faced::FacedTable;
 use s2ix_reading::{BagReader, PairReader};
 use s2ix_samples::{nested_bag, with_more};
 use s2ix_table::RangeTable;
-use s2ix_table_checks::{LABELS, answers_as_filter, is_built_so};
+use s2ix_table_filter::{LABELS, answers_as_filter, is_built_so};
 use std::alloc::Global;
 use std::marker::Model;
 

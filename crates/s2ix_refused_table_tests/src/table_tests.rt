@@ -3,7 +3,7 @@ ghost use Rattle.std.specs.Prelude.{◌≡◌};
 ghost use Rattle.s2ix_pairs.specs.Change.{changed};
 
 use s2id_core::OutOfMemory;
-use s2id_samples::{SET_UP, answer, cells_of};
+use s2id_samples::{SET_UP, answer};
 use s2id_union::CellUnion;
 use s2ix_bag::{Bag, Change};
 use s2ix_chain::ChainTable;
@@ -12,7 +12,7 @@ use s2ix_faced::FacedTable;
 use s2ix_reading::BagReader;
 use s2ix_samples::{WIDEST, are_labels, are_pairs, bag_of, holds_pairs};
 use s2ix_table::RangeTable;
-use s2ix_table_samples::{Row, has_ranges};
+use s2ix_table_samples::{Row, has_ranges, union_of};
 use std::alloc::Global;
 use std::process::Abort;
 
@@ -66,8 +66,7 @@ fn check_table<T: RangeTable + Drop>(
 
 // The cells that the tables are asked for.
 fn target(rt: &impl Abort, alloc: Global) -> CellUnion {
-    let cells = cells_of(alloc, "04 4c").expect(rt, SET_UP);
-    CellUnion::normalise(alloc, &cells).expect(rt, SET_UP)
+    union_of(alloc, "04 4c").expect(rt, SET_UP)
 }
 
 #[test]

@@ -3,12 +3,8 @@ use s2id_samples::Random;
 use s2id_union::CellUnion;
 use s2ix_samples::{all_faces, random_cells};
 use s2ix_table::RangeTable;
+use s2ix_table_samples::target_of;
 use std::alloc::Global;
-
-// The union of some cells.
-fn target_of(alloc: Global, cells: Option<Vec<CellId>>) -> Option<CellUnion> {
-    CellUnion::normalise(alloc, &cells?).ok()
-}
 
 // Whether the same pairs of both tables meet a target.
 fn meet_same<A: RangeTable, B: RangeTable>(

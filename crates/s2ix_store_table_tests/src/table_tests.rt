@@ -1,9 +1,10 @@
 //! The range table of a store, step by step.
 use s2id_union::CellUnion;
-use s2ix_samples::{WIDEST, are_pairs};
-use s2ix_store::{Store, StoreTable};
+use s2ix_samples::WIDEST;
+use s2ix_store::Store;
 use s2ix_store_samples::{answers, store_of, union_of};
-use s2ix_table::{RangeTable, ranges};
+use s2ix_table::RangeTable;
+use s2ix_table_samples::{Row, has_ranges, meets};
 use std::alloc::Global;
 
 // Steps with their answers, and how many ranges the table has behind each.
@@ -41,43 +42,34 @@ fn the_table_follows_the_bag(rt: HostRuntime) {
     assert!(rt; ranges_of_copy(rt.alloc(), &store) == Some(3));
 }
 
-// Whether the ranges of a table end here.
-fn has_ends(table: &StoreTable, ends: &[u64]) -> bool {
-    let mut left = ends.iter();
-    for (_, row) in ranges(table) {
-        if left.next().copied() != Some(row.limit) {
-            return false;
-        }
-    }
-    left.next().is_none()
-}
-
-// Whether these pairs meet a target.
-fn meets(alloc: Global, table: &StoreTable, target: &CellUnion, pairs: &str) -> Option<bool> {
-    let met = table.meeting(alloc, target).ok()?;
-    Some(are_pairs(&met, pairs))
-}
-
-// A step, where the ranges of the table end behind it, and the pairs that meet the first leaf.
-const TABLES: [(&str, &[u64], &str); 3] = [
+// A step, the ranges of the table behind it, and the pairs that meet the first leaf.
+const TABLES: [(&str, &[Row], &str); 3] = [
     (
         "add 1:7:1",
-        &[0x2000000000000001, 0xc000000000000001],
+        &[(0x2000000000000001, "1:7:1"), (0xc000000000000001, "")],
         "1:7:1",
     ),
     (
         "add 04:9:1",
-        &[0x0800000000000001, 0x2000000000000001, 0xc000000000000001],
+        &[
+            (0x0800000000000001, "04:9:1 1:7:1"),
+            (0x2000000000000001, "1:7:1"),
+            (0xc000000000000001, ""),
+        ],
         "04:9:1 1:7:1",
     ),
-    ("undo", &[0x2000000000000001, 0xc000000000000001], "1:7:1"),
+    (
+        "undo",
+        &[(0x2000000000000001, "1:7:1"), (0xc000000000000001, "")],
+        "1:7:1",
+    ),
 ];
 
 // Carries the steps out, and tells behind which the table is first another one.
 fn first_other_table(alloc: Global, store: &mut Store, target: &CellUnion) -> Option<&'static str> {
-    for &(step, ends, pairs) in &TABLES {
-        let holds = answers(alloc, store, step, "1") && has_ends(store.table(), ends);
-        if !holds || meets(alloc, store.table(), target, pairs) != Some(true) {
+    for &(step, rows, pairs) in &TABLES {
+        let holds = answers(alloc, store, step, "1") && has_ranges(store.table(), rows);
+        if !holds || !meets(alloc, store.table(), target, &pairs) {
             return Some(step);
         }
     }

@@ -5,7 +5,7 @@ use s2ix_chain::ChainTable;
 use s2ix_copied::CopiedTable;
 use s2ix_faced::FacedTable;
 use s2ix_samples::{deep_bag, nested_bag};
-use s2ix_table_checks::{LABELS, is_built_so};
+use s2ix_table_filter::{LABELS, is_built_so};
 use std::alloc::Global;
 
 // Whether each kind of table of a bag answers what a filter does.

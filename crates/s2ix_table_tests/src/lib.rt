@@ -4,6 +4,4 @@
 #[cfg(test)]
 mod filter_tests;
 #[cfg(test)]
-mod samples;
-#[cfg(test)]
 mod worked_tests;

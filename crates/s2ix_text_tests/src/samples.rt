@@ -1,13 +1,11 @@
-//! Labels, tables and changes from plain texts, as `s2ix_samples` reads them. What is no such text, and what memory was wanted for, is `None`.
+//! Leaves, labels and changes from plain texts, as `s2ix_samples` reads them. What is no such text, and what memory was wanted for, is `None`.
 ghost use Rattle.std.specs.Prelude.{◌≡◌, IfSome};
 ghost use Rattle.s2id_core.specs.CellId.{level_of};
 
 use s2id_core::CellId;
 use s2id_samples::cell_of;
 use s2ix_bag::{Change, Label};
-use s2ix_copied::CopiedTable;
 use s2ix_samples::{WIDEST, bag_of, label_of};
-use s2ix_table::RangeTable;
 use std::alloc::Global;
 
 // Two collections, the old one and the new one.
@@ -28,12 +26,6 @@ pub(crate) fn labels_of(alloc: Global, numbers: &str) -> Option<Vec<Label>> {
         labels.push(label_of(number)?).ok()?;
     }
     Some(labels)
-}
-
-// The table of pairs that differ.
-pub(crate) fn table_of(alloc: Global, pairs: &str) -> Option<CopiedTable> {
-    let bag = bag_of(alloc, WIDEST, pairs)?;
-    CopiedTable::build(alloc, &bag).ok()
 }
 
 // The change that leads from the old pairs to the new ones.

@@ -1,12 +1,13 @@
 //! Texts as plain data, and their comparison with what a sink keeps of them. The sink fails at a flush: writers leave it to their caller.
 ghost use Rattle.s2ix_io.specs.Faults.{CanCount};
 
-use crate::samples::{Step, change_of, changes_of, labels_of, leaf_of, table_of};
+use crate::samples::{Step, change_of, changes_of, labels_of, leaf_of};
 use s2id_cube::FaceIj;
 use s2id_samples::{cell_of, cells_of};
-use s2id_union::CellUnion;
+use s2ix_copied::CopiedTable;
 use s2ix_io::{KeepingSink, Sink};
 use s2ix_samples::{WIDEST, bag_of, label_of, list_of};
+use s2ix_table_samples::{table_of, union_of};
 use s2ix_text::{
     ListItem, write_contents, write_dump, write_journal, write_list, write_meeting,
     write_neighbors, write_no, write_ok, write_path, write_ranges, write_square,
@@ -107,7 +108,7 @@ fn write_contents_over(
     requires { CanCount (⟦<KeepingSink as Sink>⟧.fault_count sink.old) }
 {
     let leaf = leaf_of(token)?;
-    let table = table_of(alloc, pairs)?;
+    let table: CopiedTable = table_of(alloc, pairs)?;
     Some(write_contents(&table, leaf, sink).is_ok())
 }
 
@@ -119,16 +120,15 @@ fn write_meeting_of(
 ) -> Option<bool>
     requires { CanCount (⟦<KeepingSink as Sink>⟧.fault_count sink.old) }
 {
-    let cells = cells_of(alloc, tokens)?;
-    let target = CellUnion::normalise(alloc, &cells).ok()?;
-    let table = table_of(alloc, pairs)?;
+    let target = union_of(alloc, tokens)?;
+    let table: CopiedTable = table_of(alloc, pairs)?;
     Some(write_meeting(&table, &target, sink).is_ok())
 }
 
 fn write_ranges_of(alloc: Global, pairs: &str, sink: &mut KeepingSink) -> Option<bool>
     requires { CanCount (⟦<KeepingSink as Sink>⟧.fault_count sink.old) }
 {
-    let table = table_of(alloc, pairs)?;
+    let table: CopiedTable = table_of(alloc, pairs)?;
     Some(write_ranges(&table, sink).is_ok())
 }
 

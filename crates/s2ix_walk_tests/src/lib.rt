@@ -8,6 +8,4 @@ mod random_tests;
 #[cfg(test)]
 mod reading_tests;
 #[cfg(test)]
-mod samples;
-#[cfg(test)]
 mod worked_tests;

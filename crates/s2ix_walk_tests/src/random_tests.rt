@@ -1,6 +1,5 @@
 //! Counted visits over tables of random nested cells.
 use crate::counting::keeps_to_bounds;
-use crate::samples::target_of;
 use s2id_core::CellId;
 use s2id_samples::Random;
 use s2ix_bag::Bag;
@@ -8,6 +7,7 @@ use s2ix_chain::ChainTable;
 use s2ix_copied::CopiedTable;
 use s2ix_samples::{all_faces, deep_bag, nested_bag, random_cells};
 use s2ix_table::RangeTable;
+use s2ix_table_samples::target_of;
 use std::alloc::Global;
 
 // Whether visits of the union of some cells call what they should, and keep to the bounds of what they read.

@@ -1,12 +1,12 @@
 //! Worked targets, and what a counted visit of them may read.
 use crate::counting::{keeps_to_bounds, seen_by};
-use crate::samples::{table_of, union_of};
 use s2id_union::CellUnion;
 use s2ix_bag::Held;
 use s2ix_chain::ChainTable;
 use s2ix_copied::CopiedTable;
 use s2ix_faced::FacedTable;
 use s2ix_table::{Cost, RangeTable};
+use s2ix_table_samples::{table_of, union_of};
 use std::alloc::Global;
 
 // Pairs, the cells of a target, the call that answers false, and how many calls a visit makes, with the most that it may read.

@@ -1,4 +1,5 @@
 //! Journals, read back or refused.
+use crate::texts::{Accepted, TextReader, first_not_accepted, first_not_refused};
 use s2ix_bag::{Change, Limits};
 use s2ix_read_journal::{JournalError, JournalFault, read_journal};
 use std::alloc::Global;
@@ -8,11 +9,8 @@ const FIRST: &[u8] = b"s2ix-journal 1\n";
 
 const SECOND: &[u8] = b"s2ix-journal 2\n";
 
-// A text, and how many changes it holds and how many entries in all.
-type Accepted = (&'static [u8], usize, usize);
-
-// A text, its first faulty line and the fault.
-type Refused = (&'static [u8], usize, JournalFault);
+// What is below a header, the text's first faulty line and the fault.
+type Refused = crate::texts::Refused<JournalFault>;
 
 // Below either header.
 const ACCEPTED: [Accepted; 4] = [
@@ -251,109 +249,59 @@ const REFUSED_LIMITED_SECOND: [Refused; 2] = [
 ];
 
 // The number of entries of some changes.
-fn entries_of(changes: &[Change]) -> usize {
-    let mut entries = 0usize;
+fn entries_of(changes: &[Change]) -> u64 {
+    let mut entries = 0u64;
     for change in changes {
-        entries = change.entries().len().saturating_add(entries);
+        entries = entries.saturating_add(change.entries().len() as u64);
     }
     entries
 }
 
-// The text of a header and of what stands below it.
-fn text_of(alloc: Global, header: &[u8], below: &[u8]) -> Option<Vec<u8>> {
-    let mut text = Vec::from_slice(alloc, header).ok()?;
-    text.extend_from_slice(below).ok()?;
-    Some(text)
-}
+// The reader of journals, whose texts hold changes and entries.
+struct Journals;
 
-// Whether a text is read, and holds so many changes and entries.
-fn holds(alloc: Global, limits: Limits, text: &[u8], changes: usize, entries: usize) -> bool {
-    match read_journal(alloc, text, limits) {
-        Ok(read) => read.len() == changes && entries_of(read.as_slice()) == entries,
-        Err(_) => false,
-    }
-}
+impl TextReader for Journals {
+    type Fault = JournalFault;
 
-// Whether this is the first fault of a text.
-fn has_fault(alloc: Global, limits: Limits, text: &[u8], line: usize, fault: JournalFault) -> bool {
-    match read_journal(alloc, text, limits) {
-        Err(
-            JournalError::At {
-                line: at,
-                fault: found,
-            },
-        ) => at == line && found == fault,
-        _ => false,
-    }
-}
-
-// Whether a text below a header is read as it should be.
-fn is_accepted(alloc: Global, limits: Limits, header: &[u8], row: &Accepted) -> bool {
-    match text_of(alloc, header, row.0) {
-        Some(text) => holds(alloc, limits, &text, row.1, row.2),
-        None => false,
-    }
-}
-
-// Whether a text below a header is refused for its first fault.
-fn is_refused(alloc: Global, limits: Limits, header: &[u8], row: &Refused) -> bool {
-    match text_of(alloc, header, row.0) {
-        Some(text) => has_fault(alloc, limits, &text, row.1, row.2),
-        None => false,
-    }
-}
-
-// The place of the first text below a header that is not read as it should be.
-fn first_not_accepted(
-    alloc: Global,
-    limits: Limits,
-    header: &[u8],
-    rows: &[Accepted],
-) -> Option<usize> {
-    for (place, row) in rows.iter().enumerate() {
-        if !is_accepted(alloc, limits, header, row) {
-            return Some(place);
+    fn holds(alloc: Global, limits: Limits, text: &[u8], changes: usize, entries: u64) -> bool {
+        match read_journal(alloc, text, limits) {
+            Ok(read) => read.len() == changes && entries_of(read.as_slice()) == entries,
+            Err(_) => false,
         }
     }
-    None
-}
 
-// The place of the first text below a header that is not refused as it should be.
-fn first_not_refused(
-    alloc: Global,
-    limits: Limits,
-    header: &[u8],
-    rows: &[Refused],
-) -> Option<usize> {
-    for (place, row) in rows.iter().enumerate() {
-        if !is_refused(alloc, limits, header, row) {
-            return Some(place);
-        }
+    fn has_fault(
+        alloc: Global,
+        limits: Limits,
+        text: &[u8],
+        line: usize,
+        fault: JournalFault,
+    ) -> bool {
+        read_journal(alloc, text, limits).err() == Some(JournalError::At { line, fault })
     }
-    None
 }
 
 #[test]
 fn a_journal_is_read_or_its_first_fault_told(rt: HostRuntime) {
     let (alloc, limits) = (rt.alloc(), Limits::default());
     for header in [FIRST, SECOND] {
-        let wrong = first_not_accepted(alloc, limits, header, &ACCEPTED);
+        let wrong = first_not_accepted::<Journals>(alloc, limits, header, &ACCEPTED);
         assert!(rt; wrong.is_none(), "wrong at text {wrong:?}");
-        let wrong = first_not_refused(alloc, limits, header, &REFUSED);
+        let wrong = first_not_refused::<Journals>(alloc, limits, header, &REFUSED);
         assert!(rt; wrong.is_none(), "wrong at faulty text {wrong:?}");
     }
-    let wrong = first_not_refused(alloc, limits, b"", &REFUSED_WHOLE);
+    let wrong = first_not_refused::<Journals>(alloc, limits, b"", &REFUSED_WHOLE);
     assert!(rt; wrong.is_none(), "wrong at faulty whole text {wrong:?}");
 }
 
 #[test]
 fn the_header_tells_the_greatest_count(rt: HostRuntime) {
     let (alloc, limits) = (rt.alloc(), Limits::default());
-    let wrong = first_not_refused(alloc, limits, FIRST, &REFUSED_FIRST);
+    let wrong = first_not_refused::<Journals>(alloc, limits, FIRST, &REFUSED_FIRST);
     assert!(rt; wrong.is_none(), "wrong at faulty first text {wrong:?}");
-    let wrong = first_not_accepted(alloc, limits, SECOND, &ACCEPTED_SECOND);
+    let wrong = first_not_accepted::<Journals>(alloc, limits, SECOND, &ACCEPTED_SECOND);
     assert!(rt; wrong.is_none(), "wrong at second text {wrong:?}");
-    let wrong = first_not_refused(alloc, limits, SECOND, &REFUSED_SECOND);
+    let wrong = first_not_refused::<Journals>(alloc, limits, SECOND, &REFUSED_SECOND);
     assert!(rt; wrong.is_none(), "wrong at faulty second text {wrong:?}");
 }
 
@@ -362,13 +310,13 @@ fn a_journal_keeps_to_limits(rt: HostRuntime) {
     let alloc = rt.alloc();
     let two_changes = Limits::new(1, 3, 2).expect(&rt, "limits");
     for header in [FIRST, SECOND] {
-        let wrong = first_not_accepted(alloc, two_changes, header, &ACCEPTED_LIMITED);
+        let wrong = first_not_accepted::<Journals>(alloc, two_changes, header, &ACCEPTED_LIMITED);
         assert!(rt; wrong.is_none(), "wrong at text {wrong:?}");
-        let wrong = first_not_refused(alloc, two_changes, header, &REFUSED_LIMITED);
+        let wrong = first_not_refused::<Journals>(alloc, two_changes, header, &REFUSED_LIMITED);
         assert!(rt; wrong.is_none(), "wrong at faulty text {wrong:?}");
     }
-    let wrong = first_not_refused(alloc, two_changes, FIRST, &REFUSED_LIMITED_FIRST);
+    let wrong = first_not_refused::<Journals>(alloc, two_changes, FIRST, &REFUSED_LIMITED_FIRST);
     assert!(rt; wrong.is_none(), "wrong at faulty first text {wrong:?}");
-    let wrong = first_not_refused(alloc, two_changes, SECOND, &REFUSED_LIMITED_SECOND);
+    let wrong = first_not_refused::<Journals>(alloc, two_changes, SECOND, &REFUSED_LIMITED_SECOND);
     assert!(rt; wrong.is_none(), "wrong at faulty second text {wrong:?}");
 }

@@ -1,4 +1,5 @@
 //! What stands at the front of a text.
+use crate::texts::text_of;
 use s2ix_parts::{number_in_front, token_in_front};
 use std::alloc::Global;
 
@@ -13,13 +14,6 @@ fn parts_of_a_line_are_read_from_its_front(rt: HostRuntime) {
     assert!(&rt; label == 13597);
     let (count, behind) = number_in_front(behind, b'\n').expect(&rt, "a count");
     assert!(&rt; count == 23 && behind == b"end 1 23\n".as_slice());
-}
-
-// A text with more behind it.
-fn with_more(alloc: Global, front: &[u8]) -> Option<Vec<u8>> {
-    let mut text = Vec::from_slice(alloc, front).ok()?;
-    text.extend_from_slice(MORE).ok()?;
-    Some(text)
 }
 
 // Tokens of another shape.
@@ -39,11 +33,11 @@ const NUMBERS: [&[u8]; 6] = [b"", b"00", b"01", b"+1", b"1x", b"1234567890"];
 #[test]
 fn another_shape_is_not_read_from_the_front(rt: HostRuntime) {
     for token in &TOKENS {
-        let text = with_more(rt.alloc(), token).expect(&rt, "memory");
+        let text = text_of(rt.alloc(), token, MORE).expect(&rt, "memory");
         assert!(&rt; token_in_front(&text).is_none());
     }
     for number in &NUMBERS {
-        let text = with_more(rt.alloc(), number).expect(&rt, "memory");
+        let text = text_of(rt.alloc(), number, MORE).expect(&rt, "memory");
         assert!(&rt; number_in_front(&text, b' ').is_none());
     }
 }

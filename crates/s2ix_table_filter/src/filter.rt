@@ -1,58 +1,38 @@
-use crate::checks::{has_range, has_ranges, meets};
 use crate::plain;
 use s2id_core::CellId;
 use s2id_samples::Random;
 use s2id_union::CellUnion;
-use s2ix_bag::{Bag, Held};
+use s2ix_bag::{Bag, Label};
 use s2ix_samples::{all_faces, random_cells};
-use s2ix_table::{RangeRow, RangeTable};
+use s2ix_table::RangeTable;
+use s2ix_table_samples::{has_ranges, meets};
 use std::alloc::Global;
 
 /// How many labels the pairs of a bag have at most that is compared with a filter: those from 0 on.
 pub const LABELS: u32 = 9;
 
-// Whether a range of a table is this one, and the pairs over it are those that a filter gives.
-fn is_range<T: RangeTable>(
-    alloc: Global,
-    table: &T,
-    bag: &Bag,
-    k: usize,
-    range: RangeRow,
-) -> Option<bool> {
-    let over = plain::chain(alloc, bag, range.start)?;
-    Some(has_range(table, k, range, &over))
-}
-
-// Whether the ranges of a table are these, and the pairs over them those that a filter gives.
-fn are_ranges<T: RangeTable>(alloc: Global, table: &T, bag: &Bag, wanted: &[RangeRow]) -> bool {
-    for (k, &range) in wanted.iter().enumerate() {
-        if is_range(alloc, table, bag, k, range) != Some(true) {
-            return false;
-        }
-    }
-    has_ranges(table, wanted)
-}
-
-// Whether the ranges of a table are those that a filter gives.
+// Whether a table has the ranges that a filter finds, and no others.
 fn has_filtered_ranges<T: RangeTable>(alloc: Global, table: &T, bag: &Bag) -> bool {
     match plain::ranges(alloc, bag) {
-        Some(wanted) => are_ranges(alloc, table, bag, &wanted),
+        Some(rows) => has_ranges(table, &rows),
         None => false,
     }
 }
 
-// Whether these pairs meet a target, and have the labels that a filter gives.
-fn is_met<T: RangeTable>(
+// Whether the pairs that meet a target have these labels.
+fn has_labels<T: RangeTable>(
     alloc: Global,
     table: &T,
     target: &CellUnion,
-    met: &[Held],
-) -> Option<bool> {
-    let labels = plain::labels(alloc, met, LABELS)?;
-    Some(meets(alloc, table, target, met, &labels))
+    labels: &[Label],
+) -> bool {
+    match table.labels(alloc, target) {
+        Ok(met) => met.as_slice() == labels,
+        Err(_) => false,
+    }
 }
 
-// Whether the pairs that meet the union of some cells are those that a filter gives.
+// Whether the pairs that meet the union of some cells, and their labels, are those that a filter finds.
 fn is_filtered<T: RangeTable>(
     alloc: Global,
     table: &T,
@@ -61,8 +41,9 @@ fn is_filtered<T: RangeTable>(
 ) -> Option<bool> {
     let cells = cells?;
     let met = plain::meeting(alloc, bag, &cells)?;
+    let labels = plain::labels(alloc, &met, LABELS)?;
     let target = CellUnion::normalise(alloc, &cells).ok()?;
-    is_met(alloc, table, &target, &met)
+    Some(meets(alloc, table, &target, &met) && has_labels(alloc, table, &target, &labels))
 }
 
 // Whether a table answers as a filter does of a random target.

@@ -1,4 +1,5 @@
 //! Dumps of both versions, read back or refused.
+use crate::texts::{Accepted, TextReader, first_not_accepted, first_not_refused};
 use s2ix_bag::Limits;
 use s2ix_read_dump::{DumpError, DumpFault, read_dump};
 use std::alloc::Global;
@@ -9,14 +10,8 @@ const HEADERS: [&[u8]; 2] = [b"s2ix 1\n", b"s2ix 2\n"];
 // In place of a header, where a row is a whole text.
 const WHOLE: &[u8] = b"";
 
-// Lines behind a text.
-const MORE: &[u8] = b"9555555555555555 12 345\n9557 12 345\n";
-
-// What is below a header, and how many pairs and copies it holds.
-type Accepted = (&'static [u8], usize, u64);
-
 // What is below a header, the text's first faulty line and the fault.
-type Refused = (&'static [u8], usize, DumpFault);
+type Refused = crate::texts::Refused<DumpFault>;
 
 // Below the header of either version.
 const ACCEPTED: [Accepted; 5] = [
@@ -176,112 +171,37 @@ const REFUSED_LIMITED_WHOLE: [Refused; 2] = [
     ),
 ];
 
-// A text of a header, what is below it, and what is behind that.
-fn text_of(alloc: Global, header: &[u8], below: &[u8], behind: &[u8]) -> Option<Vec<u8>> {
-    let mut text = Vec::from_slice(alloc, header).ok()?;
-    text.extend_from_slice(below).ok()?;
-    text.extend_from_slice(behind).ok()?;
-    Some(text)
-}
+// The reader of dumps, whose texts hold pairs and copies.
+struct Dumps;
 
-// Whether a row is read below a header, and holds so many pairs and copies.
-fn is_accepted(
-    alloc: Global,
-    limits: Limits,
-    header: &[u8],
-    &(below, pairs, copies): &Accepted,
-) -> bool {
-    let Some(text) = text_of(alloc, header, below, b"") else {
-        return false;
-    };
-    match read_dump(alloc, &text, limits) {
-        Ok(bag) => bag.len() == pairs && bag.copies() == copies,
-        Err(_) => false,
-    }
-}
+impl TextReader for Dumps {
+    type Fault = DumpFault;
 
-// The place of the first row that is not read as it should be.
-fn first_not_accepted(
-    alloc: Global,
-    limits: Limits,
-    header: &[u8],
-    rows: &[Accepted],
-) -> Option<usize> {
-    for (place, row) in rows.iter().enumerate() {
-        if !is_accepted(alloc, limits, header, row) {
-            return Some(place);
+    fn holds(alloc: Global, limits: Limits, text: &[u8], pairs: usize, copies: u64) -> bool {
+        match read_dump(alloc, text, limits) {
+            Ok(bag) => bag.len() == pairs && bag.copies() == copies,
+            Err(_) => false,
         }
     }
-    None
-}
 
-// Whether this is the first fault of a text.
-fn has_fault(alloc: Global, limits: Limits, text: &[u8], line: usize, fault: DumpFault) -> bool {
-    match read_dump(alloc, text, limits) {
-        Err(
-            DumpError::At {
-                line: at,
-                fault: found,
-            },
-        ) => at == line && found == fault,
-        _ => false,
+    fn has_fault(
+        alloc: Global,
+        limits: Limits,
+        text: &[u8],
+        line: usize,
+        fault: DumpFault,
+    ) -> bool {
+        read_dump(alloc, text, limits).err() == Some(DumpError::At { line, fault })
     }
-}
-
-// Whether a row is refused below a header for its first fault.
-fn is_refused(
-    alloc: Global,
-    limits: Limits,
-    header: &[u8],
-    &(below, line, fault): &Refused,
-) -> bool {
-    match text_of(alloc, header, below, b"") {
-        Some(text) => has_fault(alloc, limits, &text, line, fault),
-        None => false,
-    }
-}
-
-// A fault of a line stands whatever follows the line: so a row is refused alike with more lines behind it, but for those that lack a line
-// feed.
-fn is_refused_followed(
-    alloc: Global,
-    limits: Limits,
-    header: &[u8],
-    &(below, line, fault): &Refused,
-) -> bool {
-    if !below.ends_with(b"\n") || fault == DumpFault::Truncated {
-        return true;
-    }
-    match text_of(alloc, header, below, MORE) {
-        Some(text) => has_fault(alloc, limits, &text, line, fault),
-        None => false,
-    }
-}
-
-// The place of the first row that is not refused as it should be, alone and with more lines behind it.
-fn first_not_refused(
-    alloc: Global,
-    limits: Limits,
-    header: &[u8],
-    rows: &[Refused],
-) -> Option<usize> {
-    for (place, row) in rows.iter().enumerate() {
-        if !is_refused(alloc, limits, header, row)
-            || !is_refused_followed(alloc, limits, header, row)
-        {
-            return Some(place);
-        }
-    }
-    None
 }
 
 #[test]
 fn a_dump_is_read_or_its_first_fault_told(rt: HostRuntime) {
     let limits = Limits::default();
     for header in &HEADERS {
-        let wrong = first_not_accepted(rt.alloc(), limits, header, &ACCEPTED);
+        let wrong = first_not_accepted::<Dumps>(rt.alloc(), limits, header, &ACCEPTED);
         assert!(rt; wrong.is_none(), "wrong at row {wrong:?}");
-        let wrong = first_not_refused(rt.alloc(), limits, header, &REFUSED);
+        let wrong = first_not_refused::<Dumps>(rt.alloc(), limits, header, &REFUSED);
         assert!(rt; wrong.is_none(), "wrong at faulty row {wrong:?}");
     }
 }
@@ -289,9 +209,9 @@ fn a_dump_is_read_or_its_first_fault_told(rt: HostRuntime) {
 #[test]
 fn each_version_has_its_header_and_its_greatest_count(rt: HostRuntime) {
     let limits = Limits::default();
-    let wrong = first_not_accepted(rt.alloc(), limits, WHOLE, &ACCEPTED_GREAT);
+    let wrong = first_not_accepted::<Dumps>(rt.alloc(), limits, WHOLE, &ACCEPTED_GREAT);
     assert!(rt; wrong.is_none(), "wrong at text {wrong:?}");
-    let wrong = first_not_refused(rt.alloc(), limits, WHOLE, &REFUSED_WHOLE);
+    let wrong = first_not_refused::<Dumps>(rt.alloc(), limits, WHOLE, &REFUSED_WHOLE);
     assert!(rt; wrong.is_none(), "wrong at faulty text {wrong:?}");
 }
 
@@ -299,11 +219,11 @@ fn each_version_has_its_header_and_its_greatest_count(rt: HostRuntime) {
 fn a_dump_keeps_to_limits(rt: HostRuntime) {
     let two_pairs = Limits::new(2, 3, 1).expect(&rt, "limits");
     for header in &HEADERS {
-        let wrong = first_not_accepted(rt.alloc(), two_pairs, header, &ACCEPTED_LIMITED);
+        let wrong = first_not_accepted::<Dumps>(rt.alloc(), two_pairs, header, &ACCEPTED_LIMITED);
         assert!(rt; wrong.is_none(), "wrong at limited row {wrong:?}");
-        let wrong = first_not_refused(rt.alloc(), two_pairs, header, &REFUSED_LIMITED);
+        let wrong = first_not_refused::<Dumps>(rt.alloc(), two_pairs, header, &REFUSED_LIMITED);
         assert!(rt; wrong.is_none(), "wrong at faulty limited row {wrong:?}");
     }
-    let wrong = first_not_refused(rt.alloc(), two_pairs, WHOLE, &REFUSED_LIMITED_WHOLE);
+    let wrong = first_not_refused::<Dumps>(rt.alloc(), two_pairs, WHOLE, &REFUSED_LIMITED_WHOLE);
     assert!(rt; wrong.is_none(), "wrong at faulty limited text {wrong:?}");
 }

@@ -1,7 +1,6 @@
 //! What a plain filter of all pairs answers: the values that tables are compared with.
 use s2id_core::{CellId, LEAF_END};
 use s2ix_bag::{Bag, Held, Label};
-use s2ix_table::RangeRow;
 use std::alloc::Global;
 
 // The first leaf that two cells share, and the end of all leaves where they share none.
@@ -79,7 +78,7 @@ fn over(alloc: Global, bag: &Bag, leaf: CellId) -> Option<Vec<Held>> {
 }
 
 // The pairs over the leaf of a number, by falling level, then rising label.
-pub(crate) fn chain(alloc: Global, bag: &Bag, leaf: u64) -> Option<Vec<Held>> {
+fn chain(alloc: Global, bag: &Bag, leaf: u64) -> Option<Vec<Held>> {
     let mut over = over(alloc, bag, CellId::from_raw(leaf)?)?;
     over.sort_unstable_by_key(height_and_label);
     Some(over)
@@ -108,32 +107,28 @@ fn rising_bounds(alloc: Global, bag: &Bag) -> Option<Vec<u64>> {
     Some(bounds)
 }
 
-// Whether the same pairs lie over two leaves.
-fn are_alike(alloc: Global, bag: &Bag, leaf: u64, other: u64) -> Option<bool> {
-    let pairs = chain(alloc, bag, leaf)?;
-    let others = chain(alloc, bag, other)?;
-    Some(pairs.as_slice() == others.as_slice())
-}
+// A maximal span of leaves: where it ends, and the pairs over it.
+type Span = (u64, Vec<Held>);
 
-// Appends a span of leaves, or lets the last one go on over it if its pairs are the same.
-fn push_span(alloc: Global, bag: &Bag, rows: &mut Vec<RangeRow>, span: RangeRow) -> Option<()> {
-    if let Some(last) = rows.last_mut() {
-        if are_alike(alloc, bag, last.start, span.start)? {
-            last.limit = span.limit;
+// Appends a span of leaves that ends here, or lets the last one go on to there if its pairs are the same.
+fn push_span(spans: &mut Vec<Span>, limit: u64, pairs: Vec<Held>) -> Option<()> {
+    if let Some(last) = spans.last_mut() {
+        if last.1.as_slice() == pairs.as_slice() {
+            last.0 = limit;
             return Some(());
         }
     }
-    rows.push(span).ok()
+    spans.push((limit, pairs)).ok()
 }
 
 // The maximal spans of leaves with the same pairs over them: those between bounds, joined where the pairs are the same.
-pub(crate) fn ranges(alloc: Global, bag: &Bag) -> Option<Vec<RangeRow>> {
+pub(crate) fn ranges(alloc: Global, bag: &Bag) -> Option<Vec<Span>> {
     let bounds = rising_bounds(alloc, bag)?;
-    let mut rows = Vec::new(alloc);
+    let mut spans = Vec::new(alloc);
     let mut start = 1;
     for &limit in bounds.iter().skip(1) {
-        push_span(alloc, bag, &mut rows, RangeRow { start, limit })?;
+        push_span(&mut spans, limit, chain(alloc, bag, start)?)?;
         start = limit;
     }
-    Some(rows)
+    Some(spans)
 }

@@ -1,4 +1,5 @@
 //! Dumps of random bags, read back.
+use crate::texts::text_under;
 use s2id_samples::Random;
 use s2ix_bag::{Bag, Change, Entry, Limits};
 use s2ix_io::KeepingSink;
@@ -37,10 +38,7 @@ fn random_bag(alloc: Global, random: &mut Random, greatest: u32) -> Option<Bag> 
 fn dump_under(alloc: Global, bag: &Bag, header: &[u8]) -> Option<Vec<u8>> {
     let mut sink = KeepingSink::new(alloc, 1_000_000, 0, false);
     write_dump(bag, &mut sink).ok()?;
-    let mut text = Vec::from_slice(alloc, header).ok()?;
-    text.extend_from_slice(sink.kept().get(header.len()..)?)
-        .ok()?;
-    Some(text)
+    text_under(alloc, header, sink.kept())
 }
 
 // Whether a bag is read back of its dump under a header.

@@ -1,4 +1,5 @@
 //! Journals of random changes, read back below either header.
+use crate::texts::text_under;
 use s2id_samples::Random;
 use s2ix_bag::{Change, Entry, Limits};
 use s2ix_io::KeepingSink;
@@ -60,10 +61,7 @@ fn are_same(changes: &[Change], others: &[Change]) -> bool {
 fn journal_of(alloc: Global, header: &[u8], changes: &[Change]) -> Option<Vec<u8>> {
     let mut sink = KeepingSink::new(alloc, 1_000_000, 0, false);
     write_journal(changes, &mut sink).ok()?;
-    let mut text = Vec::from_slice(alloc, header).ok()?;
-    text.extend_from_slice(sink.kept().get(header.len()..)?)
-        .ok()?;
-    Some(text)
+    text_under(alloc, header, sink.kept())
 }
 
 // Whether random changes are read back of their journal below a header.
