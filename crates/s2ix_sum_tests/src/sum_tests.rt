@@ -3,8 +3,8 @@ use s2id_samples::Random;
 use s2ix_bag::{Bag, Change, Pair};
 use s2ix_samples::pair_of;
 use s2ix_store::Store;
-use s2ix_store_samples::{answers, store_from};
 use s2ix_store_model::{MOST, PAIRS, Row, Step, Sums, counts_of, model_answer, sums_from};
+use s2ix_store_samples::{answers, store_from};
 use std::alloc::Global;
 
 // Steps as texts, and what they do to the counts of the four pairs.
