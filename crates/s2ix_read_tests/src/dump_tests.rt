@@ -1,5 +1,5 @@
 //! Dumps of both versions, read back or refused.
-use crate::texts::{Accepted, TextReader, first_not_accepted, first_not_refused};
+use crate::texts::{Accepted, Read, TextReader, first_not_accepted, first_not_refused};
 use s2ix_bag::Limits;
 use s2ix_read_dump::{DumpError, DumpFault, read_dump};
 use std::alloc::Global;
@@ -177,21 +177,12 @@ struct Dumps;
 impl TextReader for Dumps {
     type Fault = DumpFault;
 
-    fn holds(alloc: Global, limits: Limits, text: &[u8], pairs: usize, copies: u64) -> bool {
+    fn read(alloc: Global, limits: Limits, text: &[u8]) -> Read<DumpFault> {
         match read_dump(alloc, text, limits) {
-            Ok(bag) => bag.len() == pairs && bag.copies() == copies,
-            Err(_) => false,
+            Ok(bag) => Read::Holds(bag.len(), bag.copies()),
+            Err(DumpError::At { line, fault }) => Read::Faulty(line, fault),
+            Err(DumpError::OutOfMemory) => Read::Nothing,
         }
-    }
-
-    fn has_fault(
-        alloc: Global,
-        limits: Limits,
-        text: &[u8],
-        line: usize,
-        fault: DumpFault,
-    ) -> bool {
-        read_dump(alloc, text, limits).err() == Some(DumpError::At { line, fault })
     }
 }
 

@@ -1,5 +1,5 @@
 //! Journals, read back or refused.
-use crate::texts::{Accepted, TextReader, first_not_accepted, first_not_refused};
+use crate::texts::{Accepted, Read, TextReader, first_not_accepted, first_not_refused};
 use s2ix_bag::{Change, Limits};
 use s2ix_read_journal::{JournalError, JournalFault, read_journal};
 use std::alloc::Global;
@@ -263,21 +263,12 @@ struct Journals;
 impl TextReader for Journals {
     type Fault = JournalFault;
 
-    fn holds(alloc: Global, limits: Limits, text: &[u8], changes: usize, entries: u64) -> bool {
+    fn read(alloc: Global, limits: Limits, text: &[u8]) -> Read<JournalFault> {
         match read_journal(alloc, text, limits) {
-            Ok(read) => read.len() == changes && entries_of(read.as_slice()) == entries,
-            Err(_) => false,
+            Ok(read) => Read::Holds(read.len(), entries_of(read.as_slice())),
+            Err(JournalError::At { line, fault }) => Read::Faulty(line, fault),
+            Err(JournalError::OutOfMemory) => Read::Nothing,
         }
-    }
-
-    fn has_fault(
-        alloc: Global,
-        limits: Limits,
-        text: &[u8],
-        line: usize,
-        fault: JournalFault,
-    ) -> bool {
-        read_journal(alloc, text, limits).err() == Some(JournalError::At { line, fault })
     }
 }
 

@@ -11,22 +11,24 @@ pub(crate) type Refused<F> = (&'static [u8], usize, F);
 // Lines behind a text.
 const MORE: &[u8] = b"9555555555555555 12 345\n9557 12 345\n";
 
+/// What a reader makes of a text.
+#[derive(Clone, Copy)]
+pub(crate) enum Read<F> {
+    /// It is read, and holds so much.
+    Holds(usize, u64),
+    /// Its first faulty line and the fault.
+    Faulty(usize, F),
+    /// Memory was wanted.
+    Nothing,
+}
+
 /// A reader of texts.
 pub(crate) trait TextReader {
     /// What can be wrong with a line.
-    type Fault: Copy;
+    type Fault: Copy + PartialEq;
 
-    /// Whether a text is read, and holds so much.
-    fn holds(alloc: Global, limits: Limits, text: &[u8], things: usize, parts: u64) -> bool;
-
-    /// Whether this is the first fault of a text.
-    fn has_fault(
-        alloc: Global,
-        limits: Limits,
-        text: &[u8],
-        line: usize,
-        fault: Self::Fault,
-    ) -> bool;
+    /// Reads a text.
+    fn read(alloc: Global, limits: Limits, text: &[u8]) -> Read<Self::Fault>;
 }
 
 // A text of a front and of what is behind it, as a header and the lines below it.
@@ -34,6 +36,34 @@ pub(crate) fn text_of(alloc: Global, front: &[u8], behind: &[u8]) -> Option<Vec<
     let mut text = Vec::from_slice(alloc, front).ok()?;
     text.extend_from_slice(behind).ok()?;
     Some(text)
+}
+
+// Whether a text is read, and holds so much.
+fn holds<R: TextReader>(
+    alloc: Global,
+    limits: Limits,
+    text: &[u8],
+    things: usize,
+    parts: u64,
+) -> bool {
+    match R::read(alloc, limits, text) {
+        Read::Holds(own_things, own_parts) => own_things == things && own_parts == parts,
+        _ => false,
+    }
+}
+
+// Whether this is the first fault of a text.
+fn has_fault<R: TextReader>(
+    alloc: Global,
+    limits: Limits,
+    text: &[u8],
+    line: usize,
+    fault: R::Fault,
+) -> bool {
+    match R::read(alloc, limits, text) {
+        Read::Faulty(at, found) => at == line && found == fault,
+        _ => false,
+    }
 }
 
 // Whether a row is read below a header.
@@ -44,7 +74,7 @@ fn is_accepted<R: TextReader>(
     row: &Accepted,
 ) -> bool {
     match text_of(alloc, header, row.0) {
-        Some(text) => R::holds(alloc, limits, &text, row.1, row.2),
+        Some(text) => holds::<R>(alloc, limits, &text, row.1, row.2),
         None => false,
     }
 }
@@ -85,12 +115,12 @@ fn is_refused<R: TextReader>(
     fault: R::Fault,
 ) -> Option<bool> {
     let mut text = text;
-    let is_refused = R::has_fault(alloc, limits, &text, line, fault);
+    let is_refused = has_fault::<R>(alloc, limits, &text, line, fault);
     if !is_refused || ended_lines(&text) < line {
         return Some(is_refused);
     }
     text.extend_from_slice(MORE).ok()?;
-    Some(R::has_fault(alloc, limits, &text, line, fault))
+    Some(has_fault::<R>(alloc, limits, &text, line, fault))
 }
 
 // Whether a row is refused below a header for its first fault.
