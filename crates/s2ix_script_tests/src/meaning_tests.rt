@@ -292,3 +292,11 @@ fn a_line_may_have_65536_bytes(rt: HostRuntime) {
     blank.truncate(65536);
     assert!(rt; asks_for(rt.alloc(), &blank, Word::Nothing, 0, 0));
 }
+
+#[test]
+fn the_clone_of_an_instruction_is_the_same(rt: HostRuntime) {
+    let line = meaning(rt.alloc(), b"meet 04 14").expect(&rt, "a meaning");
+    let instruction = line.expect(&rt, "an instruction");
+    let copy = instruction.clone().expect(&rt, "memory");
+    assert!(rt; copy == instruction);
+}
