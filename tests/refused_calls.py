@@ -14,6 +14,14 @@ TOP = os.path.dirname(os.path.dirname(os.path.realpath(__file__)))
 WELL, NO_SET_UP = "\ntest result: ok\n", "no memory for the set-up"
 # A step of a store tells of which kind its error is; a sink in memory that has no room for a text fails.
 TOLD = re.compile(r"refused: (OutOfMemory|(Edit|Undo|Redo)\(OutOfMemory\)|Write)\n")
+# A crate, a test of what a call needs, the same test with the call, and how many growths the call asks for: a changed face takes two, for its
+# pairs and for their count of sharers.
+COUNTED = [
+    ("s2ix_refused_bag_tests", "growths::nothing", "growths::an_empty_bag", 0),
+    ("s2ix_refused_bag_tests", "growths::a_bag", "growths::a_copied_bag", 0),
+    ("s2ix_refused_bag_tests", "growths::a_bag_and_a_change", "growths::a_changed_bag", 2),
+    ("s2ix_refused_store_tests", "store_tests::refused_regions", "store_tests::refused_regions_behind_a_forget", 0),
+]
 
 
 def crates():
@@ -85,7 +93,23 @@ def refuse_tests(room, crate):
     return refused
 
 
+def growths_of(room, program, name):
+    """How many growths a test asks for if none is refused."""
+    status, output, words, many = run(room, program, name, 0)
+    room.expect(f"{name}: {status} {output!r} {words!r}", (status, output, words) == (0, WELL, "") and many is not None)
+    return many or 0
+
+
+def count_growths(room):
+    """Counts the growths of some calls."""
+    for crate, needed, called, right in COUNTED:
+        program = program_of(f"{TOP}/crates/{crate}")
+        many = growths_of(room, program, called) - growths_of(room, program, needed)
+        room.expect(f"{called}: its call asks for {many} growths, not {right}", many == right)
+
+
 def refuse_calls(room):
-    """Does so with each crate. Says in how many runs a call gave up."""
+    """Counts the growths of some calls, and refuses those of each crate's tests. Says in how many runs a call gave up."""
+    count_growths(room)
     room.expect("no crate has tests of refused calls", crates() != [])
     return sum(refuse_tests(room, crate) for crate in crates())

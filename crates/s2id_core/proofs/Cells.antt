@@ -1,5 +1,6 @@
 -- Cells are told by their numbers.
-use Rattle.std.proofs.Common.{◌≡◌, ℕ, ap, subst}
+use Rattle.std.proofs.Common.{◌≡◌, ℕ, nat_eq, ap, subst, eqb-true, eq-eqb}
+use Rattle.std.specs.Bool.{Decides}
 use Rattle.std.proofs.Math.Bridge.{le_prop}
 use Rattle.std.proofs.Math.Nat.{ℕ_set}
 use Rattle.s2id_core.specs.declared.cell_id.CellId.{CellId}
@@ -20,3 +21,7 @@ same_by m n v e = subst (λ x. (w : IsCellNumber x) → cell m v ≡ cell x w) e
 pub same_cell : (a b : CellId) → raw_of a ≡ raw_of b → a ≡ b
 unfolding cell
 same_cell a b e = same_by a.raw b.raw a.valid e b.valid
+
+-- `==` decides whether two cells are one
+pub cells_decided : (a b : CellId) → Decides (nat_eq (raw_of a) (raw_of b)) (a ≡ b)
+cells_decided a b = (λ t. same_cell a b (eqb-true (raw_of a) (raw_of b) t), λ e. eq-eqb (raw_of a) (raw_of b) (ap raw_of e))

@@ -1,14 +1,21 @@
 //! Laws: functions that do nothing, and whose contracts are facts on the definitions.
 
-ghost use Rattle.std.specs.Prelude.{◌≡◌, ◌↔◌, ℕ, ◌==◌, ◌+◌, ◌-◌, ◌*◌, ◌^◌, ◌<◌, ◌≤◌, List, [], length};
+ghost use Rattle.std.specs.Prelude.{◌≡◌, ◌↔◌, IsTrue, ℕ, ◌==◌, ◌+◌, ◌-◌, ◌*◌, ◌^◌, ◌<◌, ◌≤◌, List, [], length};
 ghost use Rattle.std.specs.Ordering.{nat_cmp};
 ghost use Rattle.s2id_core.specs.declared.cell_id.CellId.{CellId};
+ghost use Rattle.s2id_core.specs.declared.memory.OutOfMemory.{OutOfMemory};
+ghost use Rattle.s2id_core.specs.declared.path.PathText.{PathText};
+ghost use Rattle.s2id_core.specs.declared.token.Token.{Token};
+ghost use Rattle.s2id_core.specs.declared.token.TokenError.{TokenError};
 ghost use Rattle.s2id_core.specs.CellId.{raw_of};
 ghost use Rattle.s2id_core.specs.Path.{Path, IsPath, number_of, path_at, digits_from, last_leaf};
 ghost use Rattle.s2id_core.specs.Cell.{IsCellNumber};
 ghost use Rattle.s2id_core.specs.Token.{Spells, canonical_token, IsCanonicalText};
 
 use crate::cell_id::{CellId, LEAF_END};
+use crate::memory::OutOfMemory;
+use crate::path::PathText;
+use crate::token::{Token, TokenError};
 
 /// A number is a cell's exactly where it is the number of some path.
 pub fn cells_are_paths()
@@ -60,4 +67,44 @@ pub fn leaf_end_follows_last_leaf()
     ensures next { LEAF_END ≡ number_of (last_leaf (record { face = 5; digits = [] })) + 2 }
     ensures value { LEAF_END ≡ 6 * 2 ^ 61 + 1 }
     ensures none { IsCellNumber LEAF_END → ⊥ }
+{}
+
+/// Two cells are equal exactly where they are one.
+pub fn equal_cells_are_one()
+    ensures { (a b : CellId) → IsTrue (⟦<CellId as PartialEq>⟧.eq a b) ↔ (a ≡ b) }
+{}
+
+/// A clone of a cell is the same.
+pub fn cloned_cells_are_the_same()
+    ensures { (a copy : CellId) → ⟦<CellId as Clone>⟧.is_clone a copy ↔ (copy ≡ a) }
+{}
+
+/// Two faults of a token are equal exactly where they are one.
+pub fn equal_token_errors_are_one()
+    ensures { (a b : TokenError) → IsTrue (⟦<TokenError as PartialEq>⟧.eq a b) ↔ (a ≡ b) }
+{}
+
+/// A clone of a fault of a token is the same.
+pub fn cloned_token_errors_are_the_same()
+    ensures { (a copy : TokenError) → ⟦<TokenError as Clone>⟧.is_clone a copy ↔ (copy ≡ a) }
+{}
+
+/// Two refusals of memory are equal exactly where they are one.
+pub fn equal_memory_errors_are_one()
+    ensures { (a b : OutOfMemory) → IsTrue (⟦<OutOfMemory as PartialEq>⟧.eq a b) ↔ (a ≡ b) }
+{}
+
+/// A clone of a refusal of memory is the same.
+pub fn cloned_memory_errors_are_the_same()
+    ensures { (a copy : OutOfMemory) → ⟦<OutOfMemory as Clone>⟧.is_clone a copy ↔ (copy ≡ a) }
+{}
+
+/// A clone of a token is the same.
+pub fn cloned_tokens_are_the_same()
+    ensures { (a copy : Token) → ⟦<Token as Clone>⟧.is_clone a copy ↔ (copy ≡ a) }
+{}
+
+/// A clone of a path's text is the same.
+pub fn cloned_path_texts_are_the_same()
+    ensures { (a copy : PathText) → ⟦<PathText as Clone>⟧.is_clone a copy ↔ (copy ≡ a) }
 {}

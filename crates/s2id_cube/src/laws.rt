@@ -1,14 +1,18 @@
 //! Laws: functions that do nothing, and whose contracts are facts on the definitions.
 
-ghost use Rattle.std.specs.Prelude.{◌≡◌, ℕ, ◌+◌, ◌*◌, ◌/◌, ◌%◌, ◌^◌, ◌<◌, ◌≤◌, length, slice_index};
+ghost use Rattle.std.specs.Prelude.{◌≡◌, ◌↔◌, IsTrue, ℕ, ◌+◌, ◌*◌, ◌/◌, ◌%◌, ◌^◌, ◌<◌, ◌≤◌, length, slice_index};
 ghost use Rattle.s2id_core.specs.declared.cell_id.CellId.{CellId};
 ghost use Rattle.s2id_core.specs.CellId.{path_of};
 ghost use Rattle.s2id_core.specs.Path.{Path, IsPath, place_of};
+ghost use Rattle.s2id_cube.specs.declared.error.BorderError.{BorderError};
+ghost use Rattle.s2id_cube.specs.declared.face_ij.FaceIj.{FaceIj};
 ghost use Rattle.s2id_cube.specs.Edge.{SharesSide, ShareEdge};
 ghost use Rattle.s2id_cube.specs.Square.{square_of};
 ghost use Rattle.s2id_cube.specs.Steps.{AreFourSteps};
 
 use crate::curve::{PLACES, SQUARES};
+use crate::error::BorderError;
+use crate::face_ij::FaceIj;
 
 /// A cell's square is one that `from_face_ij` takes, and its face, column, row and level tell the cell: so
 /// `from_face_ij` of what `to_face_ij` gives is the cell again.
@@ -57,4 +61,24 @@ pub fn entries_are_four_steps()
         → j < 16
         → let entry = slice_index PLACES (256 * orientation + (16 * i + j)) in
         AreFourSteps orientation (entry % 2 ^ 62) i j (entry / 2 ^ 62) }
+{}
+
+/// Two squares are equal exactly where they are one.
+pub fn equal_squares_are_one()
+    ensures { (a b : FaceIj) → IsTrue (⟦<FaceIj as PartialEq>⟧.eq a b) ↔ (a ≡ b) }
+{}
+
+/// A clone of a square is the same.
+pub fn cloned_squares_are_the_same()
+    ensures { (a copy : FaceIj) → ⟦<FaceIj as Clone>⟧.is_clone a copy ↔ (copy ≡ a) }
+{}
+
+/// Two refusals of a border are equal exactly where they are one.
+pub fn equal_border_errors_are_one()
+    ensures { (a b : BorderError) → IsTrue (⟦<BorderError as PartialEq>⟧.eq a b) ↔ (a ≡ b) }
+{}
+
+/// A clone of a refusal of a border is the same.
+pub fn cloned_border_errors_are_the_same()
+    ensures { (a copy : BorderError) → ⟦<BorderError as Clone>⟧.is_clone a copy ↔ (copy ≡ a) }
 {}

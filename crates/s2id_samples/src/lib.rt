@@ -1,12 +1,15 @@
-//! Cells from plain texts, corners of squares on the cube, numbers that look random, and calls that are made once more where they gave up,
-//! for tests. It promises nothing: a test compares what it makes of these with what its rows say.
+//! Cells from plain texts, corners of squares on the cube, numbers that look random, calls that are made once more where they gave up, and
+//! a reader and writers of std's that never do what they are asked, for tests. It promises nothing: a test compares what it makes of these
+//! with what its rows say.
 #![tactic(auto)]
 
+mod broken;
 mod calls;
 mod cells;
 mod cube;
 mod random;
 
+pub use broken::{Broken, TakesNone};
 pub use calls::{SET_UP, TOLD, tell};
 pub use cells::{are_cells, cell_of, cells_of};
 pub use cube::{Point, point_of};

@@ -4,10 +4,12 @@ ghost use Rattle.std.specs.Prelude.{◌≡◌, ◌↔◌, ℕ, ◌+◌, Bool, Is
 ghost use Rattle.s2id_core.specs.declared.cell_id.CellId.{CellId};
 ghost use Rattle.s2id_core.specs.Leaves.{IsLeafPath};
 ghost use Rattle.s2id_core.specs.Path.{Path, number_of};
+ghost use Rattle.s2id_union.specs.declared.error.RangeError.{RangeError};
 ghost use Rattle.s2id_union.specs.NormalForm.{normal_form, cells_where};
 ghost use Rattle.s2id_union.specs.Region.{InRegion, IsNormal, HaveSameRegion};
 
 use crate::cell_union::CellUnion;
+use crate::error::RangeError;
 
 /// Two normal lists with the same region are equal.
 pub fn one_normal_list()
@@ -40,4 +42,19 @@ pub fn equal_unions_are_one()
         → IsNormal xs
         → IsNormal ys
         → IsTrue (⟦<CellUnion as PartialEq>⟧.eq xs ys) ↔ HaveSameRegion xs ys }
+{}
+
+/// A clone of a union is the same.
+pub fn cloned_unions_are_the_same()
+    ensures { (a copy : List CellId) → ⟦<CellUnion as Clone>⟧.is_clone a copy ↔ (copy ≡ a) }
+{}
+
+/// Two refusals of a span are equal exactly where they are one.
+pub fn equal_range_errors_are_one()
+    ensures { (a b : RangeError) → IsTrue (⟦<RangeError as PartialEq>⟧.eq a b) ↔ (a ≡ b) }
+{}
+
+/// A clone of a refusal of a span is the same.
+pub fn cloned_range_errors_are_the_same()
+    ensures { (a copy : RangeError) → ⟦<RangeError as Clone>⟧.is_clone a copy ↔ (copy ≡ a) }
 {}

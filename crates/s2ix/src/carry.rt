@@ -4,15 +4,13 @@ ghost use Rattle.s2ix_io.specs.Adapters.{writer_faults};
 
 use s2ix_bag::Limits;
 use s2ix_cli::{RunOptions, read_whole};
+use s2ix_ending::{first_fault, turns};
 use s2ix_files::{check_text, load_text, replay_texts, rewind_texts};
 use s2ix_io::{FromRead, RunFault, Sink, ToWrite};
 use s2ix_store::Store;
 use s2ix_words::Command;
 use std::fs::File;
 use std::io::{BufWriter, Stdout};
-
-// How many pieces of an input the program reads at most.
-const TURNS: u64 = 4_294_967_296;
 
 // Carries out a command, and says whether all was accepted. What was written before a fault goes out too.
 pub(crate) fn carry_command(rt: &HostRuntime, command: &Command) -> Result<bool, RunFault> {
@@ -52,12 +50,15 @@ fn load_file(rt: &HostRuntime, file: &str, limits: Limits) -> Result<Option<Stor
 fn run_over(rt: &HostRuntime, mut store: Store, stop: bool) -> Result<bool, RunFault> {
     let mut source = FromRead::new(rt.stdin());
     let mut sink = output(rt)?;
-    let options = RunOptions { stop, turns: TURNS };
-    let ended = s2ix_cli::run(rt.alloc(), &mut source, &mut sink, &mut store, options);
-    if ended.is_err() {
-        sink.flush()?;
-    }
-    Ok(ended?.refused == 0)
+    let options = RunOptions {
+        stop,
+        turns: turns(),
+    };
+    let accepted = match s2ix_cli::run(rt.alloc(), &mut source, &mut sink, &mut store, options) {
+        Ok(end) => Ok(end.refused == 0),
+        Err(fault) => Err(fault),
+    };
+    first_fault(accepted, sink.flush())
 }
 
 // Reads a dump.
@@ -88,7 +89,7 @@ fn file_text(rt: &HostRuntime, name: &str) -> Result<Vec<u8>, RunFault> {
     let Ok(file) = File::open(rt, name) else {
         return Err(RunFault::Read);
     };
-    read_whole(rt.alloc(), &mut FromRead::new(file), TURNS)
+    read_whole(rt.alloc(), &mut FromRead::new(file), turns())
 }
 
 // Standard output with a buffer.

@@ -15,3 +15,13 @@ pub fn equal_bags_are_one()
 pub fn equal_changes_are_one()
     ensures { (a b : List Entry) → IsTrue (⟦<Change as PartialEq>⟧.eq a b) ↔ (a ≡ b) }
 {}
+
+/// A bag's clone has the same limits and holds the same.
+pub fn cloned_bags_are_the_same()
+    ensures { (bag copy : LimitedCollection) → ⟦<Bag as Clone>⟧.is_clone bag copy ↔ (copy ≡ bag) }
+{}
+
+/// A change's clone has the same entries.
+pub fn cloned_changes_are_the_same()
+    ensures { (change copy : List Entry) → ⟦<Change as Clone>⟧.is_clone change copy ↔ (copy ≡ change) }
+{}

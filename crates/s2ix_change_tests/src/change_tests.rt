@@ -130,3 +130,24 @@ fn entries_tell_why_they_are_no_change(rt: HostRuntime) {
         );
     }
 }
+
+// Why a change with these entries doesn't fit the empty bag.
+fn misfit_of_empty(alloc: Global, entries: &str) -> Option<ApplyError> {
+    let change = change_of(alloc, entries)?;
+    misfit(alloc, &change, "")
+}
+
+// Whether a change with these entries leads from the empty bag to these pairs.
+fn leads_from_empty(alloc: Global, entries: &str, pairs: &str) -> Option<bool> {
+    let change = change_of(alloc, entries)?;
+    leads(alloc, &change, "", pairs)
+}
+
+#[test]
+fn the_empty_bag_takes_what_it_does_not_hold(rt: HostRuntime) {
+    assert!(rt; leads_from_empty(rt.alloc(), "04:9:0:1", "04:9:1") == Some(true));
+    let held_before = misfit_of_empty(rt.alloc(), "04:9:1:2");
+    assert!(rt; held_before == Some(ApplyError::Mismatch(0)));
+    let second_held_before = misfit_of_empty(rt.alloc(), "04:9:0:1 1:7:2:0");
+    assert!(rt; second_held_before == Some(ApplyError::Mismatch(1)));
+}

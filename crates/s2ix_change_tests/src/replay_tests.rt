@@ -57,7 +57,7 @@ const REWOUND: [Row; 3] = [
     ),
 ];
 
-const NOT_REWOUND: [Refused; 3] = [
+const NOT_REWOUND: [Refused; 5] = [
     (
         "04:9:2",
         JOURNAL,
@@ -75,6 +75,12 @@ const NOT_REWOUND: [Refused; 3] = [
         "",
         "04:7:1:0\n04:3:1:0 04:4:1:0 04:5:1:0",
         ReplayError::TooManyPairs { change: 1 },
+    ),
+    ("", "04:3:4:0", ReplayError::TooManyCopies { change: 1 }),
+    (
+        "04:3:1",
+        "04:4:1:0\n04:5:1:0 04:6:1:0 04:7:1:0",
+        ReplayError::TooManyPairs { change: 2 },
     ),
 ];
 

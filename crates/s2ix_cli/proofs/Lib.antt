@@ -2,4 +2,5 @@ mod Among
 mod Between
 mod Feeds
 mod Holding
+mod Replayed
 mod Steps

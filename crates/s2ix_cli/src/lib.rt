@@ -9,6 +9,7 @@
 
 mod coming;
 mod held_line;
+pub mod laws;
 mod run_end;
 mod script;
 

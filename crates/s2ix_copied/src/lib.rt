@@ -4,6 +4,7 @@
 mod copied;
 mod copied_range;
 mod filter;
+pub mod laws;
 mod pairs;
 
 pub use copied::{CopiedPlace, CopiedTable};

@@ -2,8 +2,9 @@
 ghost use Rattle.s2ix_io.specs.Faults.{CanCount};
 
 use crate::stores::{ALL, empty_store};
+use s2id_samples::TakesNone;
 use s2ix_cli::{RunEnd, RunFault, RunOptions, run};
-use s2ix_io::{KeepingSink, Sink, SliceSource, Source, TakesNone, ToWrite};
+use s2ix_io::{KeepingSink, Sink, SliceSource, Source, ToWrite};
 use std::alloc::Global;
 use std::process::Abort;
 

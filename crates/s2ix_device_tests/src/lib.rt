@@ -1,8 +1,14 @@
-//! Tests of runs over devices: that fail, and whose pieces end anywhere.
+//! Tests of runs over devices: that fail, that never end, and whose pieces end anywhere.
 #![tactic(auto)]
 
 #[cfg(test)]
+mod endless_tests;
+#[cfg(test)]
 mod fault_tests;
+#[cfg(test)]
+mod flush_fault;
+#[cfg(test)]
+mod history_fault_tests;
 #[cfg(test)]
 mod piece_tests;
 #[cfg(test)]

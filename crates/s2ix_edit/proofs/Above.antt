@@ -27,7 +27,7 @@ within_from_counts c n (e ∷ es) rises found = (
       (cases_eq (rank_of e.pair) k)),
 )
 
-count_within : (c : ℕ) (hs : Collection) (k : ℕ) → has_count_above c hs ≡ false → count_at hs k ≤ c
+pub count_within : (c : ℕ) (hs : Collection) (k : ℕ) → has_count_above c hs ≡ false → count_at hs k ≤ c
 count_within c [] k none = omega arith
 count_within c (h ∷ hs) k none =
     let parts = or_parts (ltb c h.count) (has_count_above c hs) none in

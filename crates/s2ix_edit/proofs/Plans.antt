@@ -1,7 +1,7 @@
 -- Entries that carry an edit out.
-use Rattle.std.proofs.Common.{◌≡◌, ◌≢◌, ℕ, ◌+◌, ◌-◌, ◌≤◌, Bool, false, cond, ltb, not, List, [], ◌∷◌, Option, Some, None, Result, IfOk, IfErr, refl, sym, ap, ◌∙◌, subst, ⊎_elim, arith, eq-eqb, ne_eqb, le-ltb}
+use Rattle.std.proofs.Common.{◌≡◌, ◌≢◌, ℕ, ◌+◌, ◌-◌, ◌≤◌, Bool, true, false, cond, ltb, not, List, [], ◌∷◌, Option, Some, None, Result, IfOk, IfErr, refl, sym, ap, ◌∙◌, subst, ⊎_elim, arith, eq-eqb, ne_eqb, le-ltb}
 use Rattle.std.proofs.Common.{◌==◌}
-use Rattle.std.proofs.lemmas.Bool.{cond-true, cond-false, cases_eq}
+use Rattle.std.proofs.lemmas.Bool.{cond-true, cond-false, cases_eq, eqb-true}
 use Rattle.std.proofs.lemmas.Result.{IfErr-weaker, IfOk-weaker}
 use Rattle.std.specs.List.{position}
 use Rattle.s2ix_pairs.specs.declared.pair.Pair.{Pair}
@@ -16,7 +16,7 @@ use Rattle.s2ix_edit.specs.declared.edit.Edit.{Edit}
 use Rattle.s2ix_edit.specs.declared.edit.Edit.TheVariants.{Add, Remove}
 use Rattle.s2ix_edit.specs.Edit.{edited_alone, edited_by}
 use Rattle.s2ix_edit.specs.Plan.{IsPlanRefusal, Plans, one_entry}
-use Rattle.s2ix_edit.specs.Refusals.{asks_too_fine, goes_below_zero, lacks_change, lacks_label, reverts, takes_too_many, plan_refusal}
+use Rattle.s2ix_edit.specs.Refusals.{asks_no_copies, asks_too_fine, goes_below_zero, lacks_change, lacks_label, reverts, takes_too_many, plan_refusal}
 use Rattle.s2ix_edit.proofs.FirstRefusal.{lacks_none, reads_none, same_refusal, stays_above}
 use Rattle.s2ix_lists.proofs.Applied.{before_from_counts, change_between-changed}
 use Rattle.s2ix_pairs.proofs.Collections.{set_count_in}
@@ -143,3 +143,23 @@ refused_after_any bag changes edit same planned is reads refused =
     let Refused : Option EditError → Type 0 = λ refusal. IsEditRefusal (edit_error error) refusal in
     subst Refused (same_refusal bag changes same reads ∙ ap (λ e. plan_refusal bag changes e) (sym is)) why)
     refused
+
+-- ---- edits of no copies
+
+pub copies_added : (edit : Edit) (p : Pair) (copies : ℕ) → edit ≡ Add p copies → asks_no_copies edit ≡ true → copies ≡ 0
+copies_added edit p copies is none =
+    let asks : (copies == 0) ≡ true = sym (ap asks_no_copies is) ∙ none in
+    eqb-true copies 0 asks
+
+pub copies_removed : (edit : Edit) (p : Pair) (copies : ℕ) → edit ≡ Remove p copies → asks_no_copies edit ≡ true → copies ≡ 0
+copies_removed edit p copies is none =
+    let asks : (copies == 0) ≡ true = sym (ap asks_no_copies is) ∙ none in
+    eqb-true copies 0 asks
+
+-- no other edit is one
+pub asks_copies : (edit same : Edit) → edit ≡ same → asks_no_copies same ≡ false → asks_no_copies edit ≡ true → ⊥
+asks_copies edit same is some none = let clash : false ≡ true = sym some ∙ sym (ap asks_no_copies is) ∙ none in cc
+
+-- nor does another than a `Revert` take a change back
+pub reads_no_change : (edit same : Edit) → edit ≡ same → reverts same ≡ false → reverts edit ≡ true → ⊥
+reads_no_change edit same is reads takes = let clash : false ≡ true = sym reads ∙ sym (ap reverts is) ∙ takes in cc

@@ -84,7 +84,7 @@ no_entries [] is = refl
 no_entries (e ∷ es) is = absurd (omega (arith, eqb-true (length (e ∷ es)) 0 is))
 
 -- a collection that the change leaves as it is
-same_where_none : (bag : LimitedCollection) (new : Collection) → IsBag bag → IsCollection new → (length (change_between bag.held new) == 0) ≡ true → bag.held ≡ new
+pub same_where_none : (bag : LimitedCollection) (new : Collection) → IsBag bag → IsCollection new → (length (change_between bag.held new) == 0) ≡ true → bag.held ≡ new
 same_where_none bag new b is none =
     sym (ap (λ es. changed bag.held es) (no_entries (change_between bag.held new) none)) ∙ changed_between bag.held new b.rises is
 

@@ -1,5 +1,5 @@
 -- Taking a change back: what carries it out, and where it is refused.
-use Rattle.std.proofs.Common.{◌≡◌, ℕ, ◌==◌, ◌||◌, Bool, true, false, cond, ltb, nat_lt, is_some, List, [], ◌∷◌, length, Option, Some, None, pos, ◌-ℤ◌, refl, sym, ap, ◌∙◌, subst}
+use Rattle.std.proofs.Common.{◌≡◌, ℕ, ◌==◌, ◌||◌, Bool, true, false, cond, ltb, nat_lt, is_some, ◌⊎◌, inl, inr, List, [], ◌∷◌, length, Option, Some, None, pos, ◌-ℤ◌, refl, sym, ap, ◌∙◌, subst}
 use Rattle.std.proofs.lemmas.Bool.{cond-false, cond-true}
 use Rattle.std.specs.List.{list_any}
 use Rattle.s2ix_pairs.specs.declared.pair.Pair.{Pair}
@@ -17,6 +17,7 @@ use Rattle.s2ix_lists.proofs.Refusals.{no_mismatch}
 use Rattle.s2ix_lists.proofs.Reverts.{back_before}
 use Rattle.s2ix_refusals.specs.declared.errors.EditError.{EditError}
 use Rattle.s2ix_refusals.specs.declared.errors.EditError.TheVariants.{BelowZero, NoChange, TooManyCopies, TooManyPairs}
+use Rattle.s2ix_refusals.specs.declared.errors.PlanError.TheVariants as plan
 use Rattle.s2ix_refusals.specs.Errors.{revert_error, MayWantMemory}
 use Rattle.s2ix_edit.specs.declared.edit.Edit.TheVariants.{Revert}
 use Rattle.s2ix_edit.specs.Edit.{edited_by, numbered, without_change}
@@ -67,6 +68,13 @@ none_by : (high many : Bool) (below : Option ℕ) → refused_at high many below
 unfolding refused_at
 none_by high many (Some found) is = cc
 none_by high many None is = refl
+
+fits_by : (high many : Bool) (below : Option ℕ) → refused_at high many below ≡ None → (below ≡ None) × (high ≡ false) × (many ≡ false)
+unfolding refused_at
+fits_by high many (Some found) is = cc
+fits_by true many None is = cc
+fits_by false true None is = cc
+fits_by false false None is = (refl, refl, refl)
 
 -- ---- the change with a number
 
@@ -166,6 +174,31 @@ refused_back bag changes number es revert.TooManyPairs b rises found is =
     (ap (λ hs. nat_lt (pairs_limit bag.limits) (length hs)) (makes_found bag changes number es found) ∙ parts.2)
 refused_back bag changes number es revert.OutOfMemory b rises found is =
     wanting bag changes number es b rises found (none_by (is_high_back bag es) (is_many_back bag es) (first_below_zero bag.held es) (refused_is bag es ∙ is))
+
+-- one that a bag takes back is refused where it changes nothing, or not at all
+fits_or_same : (same : Bool) → (cond same (Some NoChange) None ≡ None) ⊎ (cond same (Some NoChange) None ≡ Some NoChange)
+fits_or_same true = inr refl
+fits_or_same false = inl refl
+
+pub has_plan_back : (bag : LimitedCollection) (changes : List (List Entry)) (number : ℕ) (es : List Entry) → IsBag bag → IsChangeList es → numbered number changes ≡ Some es → revert_refusal bag es ≡ None → (plan_refusal bag changes (Revert number) ≡ None) ⊎ (plan_refusal bag changes (Revert number) ≡ Some NoChange)
+unfolding is_high_back is_many_back
+has_plan_back bag changes number es b rises found accepted =
+    let parts = fits_by (is_high_back bag es) (is_many_back bag es) (first_below_zero bag.held es) (refused_is bag es ∙ accepted) in
+    let back = change_back bag.held es in
+    let same = length back == 0 in
+    let by : plan_refusal bag changes (Revert number) ≡ cond same (Some NoChange) None =
+    planned_refusal bag changes (Revert number) back b (plans_above bag changes number es rises found parts.0)
+    ∙ ap (λ t. cond same (Some NoChange) (cond t (Some TooManyCopies) (cond (is_many_back bag es) (Some TooManyPairs) None))) (any_back (count_limit bag.limits) bag.held es ∙ parts.1)
+    ∙ ap (λ t. cond same (Some NoChange) (cond t (Some TooManyPairs) None)) parts.2 in
+    let Either : Option EditError → Type 0 = λ refusal. (refusal ≡ None) ⊎ (refusal ≡ Some NoChange) in
+    subst Either (sym by) (fits_or_same same)
+
+-- only want of memory is answered as such
+pub wants_back : (error : RevertError) (refusal : Option RevertError) → IsRevertRefusal error refusal → revert_error error ≡ plan.OutOfMemory → refusal ≡ None
+wants_back (revert.BelowZero place) refusal is wants = cc
+wants_back revert.TooManyCopies refusal is wants = cc
+wants_back revert.TooManyPairs refusal is wants = cc
+wants_back revert.OutOfMemory refusal is wants = is
 
 -- ---- the law
 

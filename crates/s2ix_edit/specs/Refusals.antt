@@ -54,6 +54,17 @@ asks_too_fine (Grow label level) hs = is_too_fine level (cells_of label hs)
 asks_too_fine (Normalise label) hs = false
 asks_too_fine (Revert number) hs = false
 
+-- the edit adds or takes no copies
+abbrev pub asks_no_copies : Edit → Bool
+asks_no_copies (Add pair copies) = copies == 0
+asks_no_copies (AddUnion cells label) = false
+asks_no_copies (Remove pair copies) = copies == 0
+asks_no_copies (DropLabel label) = false
+asks_no_copies (Relabel source target) = false
+asks_no_copies (Grow label level) = false
+asks_no_copies (Normalise label) = false
+asks_no_copies (Revert number) = false
+
 -- the edit takes a change back; the others read no change
 abbrev pub reverts : Edit → Bool
 reverts (Revert number) = true

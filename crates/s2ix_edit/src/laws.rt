@@ -1,6 +1,6 @@
 //! Laws: functions that do nothing, and whose contracts are facts on the definitions.
 
-ghost use Rattle.std.specs.Prelude.{◌≡◌, ◌≢◌, ℕ, ◌+◌, ◌-◌, pos, ◌-ℤ◌, true, false, Some, [], List, Contains};
+ghost use Rattle.std.specs.Prelude.{◌≡◌, ◌≢◌, ◌↔◌, IsTrue, ℕ, ◌+◌, ◌-◌, pos, ◌-ℤ◌, true, false, Some, [], List, Contains};
 ghost use Rattle.s2id_core.specs.declared.cell_id.CellId.{CellId};
 ghost use Rattle.s2id_union.specs.Region.{HaveSameRegion, IsNormal};
 ghost use Rattle.s2ix_pairs.specs.declared.label.Label.{Label};
@@ -18,6 +18,18 @@ ghost use Rattle.s2ix_edit.specs.History.{History, at_cursor};
 ghost use Rattle.s2ix_edit.specs.Refusals.{goes_below_zero, holds_none, reverts};
 ghost use Rattle.s2ix_edit.specs.Region.{cells_of, region_of};
 ghost use Rattle.s2ix_edit.specs.State.{State, history_of};
+
+use crate::edit::Edit;
+
+/// Two edits are equal exactly where they are one.
+pub fn equal_edits_are_one()
+    ensures { (a b : Edit) → IsTrue (⟦<Edit as PartialEq>⟧.eq a b) ↔ (a ≡ b) }
+{}
+
+/// An edit's clone is that edit.
+pub fn cloned_edits_are_the_same()
+    ensures { (edit copy : Edit) → ⟦<Edit as Clone>⟧.is_clone edit copy ↔ (copy ≡ edit) }
+{}
 
 /// What an edit that takes no change back makes of the collection at the cursor of a history is what it makes of that
 /// collection alone; of a store's history, what it makes of the collection that its bag holds.

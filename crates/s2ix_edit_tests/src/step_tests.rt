@@ -39,6 +39,23 @@ fn redo_leads_back_over_two_undos(rt: HostRuntime) {
     check_history(&rt, rt.alloc(), TWO_CHANGES, &TWO_UNDOS);
 }
 
+// The limits under which one change can be undone.
+const ONE_CHANGE: LimitRow = (1_000_000, 4_294_967_295, 1);
+
+// An undo keeps the room of its change, so a redo fills the journal.
+const FULL_AGAIN: [&str; 5] = [
+    "add 04:9:2 = 1 | 04:9:2 | 1 0",
+    "undo = 1 | | 0 1",
+    "redo = 1 | 04:9:2 | 1 0",
+    "redo = NothingToRedo | 04:9:2 | 1 0",
+    "add 04:3:1 = JournalFull | 04:9:2 | 1 0",
+];
+
+#[test]
+fn redo_fills_the_journal(rt: HostRuntime) {
+    check_history(&rt, rt.alloc(), ONE_CHANGE, &FULL_AGAIN);
+}
+
 // Forget keeps the pairs and gives room for two changes again.
 const FORGETS: [&str; 9] = [
     "add 1:1:1 = 1 | 1:1:1 | 1 0",

@@ -5,3 +5,5 @@
 mod faced_tests;
 #[cfg(test)]
 mod random_tests;
+#[cfg(test)]
+mod worked_tests;

@@ -7,6 +7,7 @@
 mod apply;
 mod face_list;
 mod held_iter;
+pub mod laws;
 mod lists;
 mod parts;
 mod read;

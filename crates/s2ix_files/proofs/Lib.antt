@@ -2,5 +2,9 @@ pub mod History
 pub mod Joined
 pub mod One
 pub mod Outcomes
+pub mod Recorded
+pub mod Replayed
 pub mod There
 pub mod Told
+pub mod Widened
+pub mod Widest

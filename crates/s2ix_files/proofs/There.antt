@@ -63,7 +63,7 @@ read_again : (limits : Limits) (text : List ℕ) (bag : LimitedCollection) → I
 read_again limits text bag is_bag limits_are is = (is_bag, limits_are, subst (λ t. IsDump t bag.held) (sym is) (bag_dump bag is_bag))
 
 -- texts that lead to a bag are answered by the dump that is written of it
-leads_home : (Leads : Leading) (limits : Limits) (text journal : List ℕ) (home there : LimitedCollection) (changes : List (List Entry))
+pub leads_home : (Leads : Leading) (limits : Limits) (text journal : List ℕ) (home there : LimitedCollection) (changes : List (List Entry))
     → DumpReads limits text (Ok there) → JournalReads limits journal (Ok changes) → Leads there changes (Ok home)
     → IsAnswerTo dump_of (TextsLead Leads limits text journal) (record { text = dump_text home.held; accepted = true })
 leads_home Leads limits text journal home there changes there_read journal_read leads =

@@ -3,3 +3,4 @@ pub mod Laws
 pub mod Names
 pub mod Reads
 pub mod Refusals
+pub mod Widest

@@ -1,10 +1,9 @@
 ghost use Rattle.std.specs.Prelude.{◌≡◌, ◌+◌, IfErr};
-ghost use Rattle.s2ix_pairs.specs.Limits.{IsWidest};
-ghost use Rattle.s2ix_pairs.specs.declared.limits.Limits.{Limits};
 ghost use Rattle.s2ix_io.specs.Faults.{CanCount, IsWantOnlyIf, sink_faults};
 ghost use Rattle.s2ix_parts.specs.Faults.{IsFromLine};
 ghost use Rattle.s2ix_read_dump.specs.DumpFaults.{dump_fault};
 ghost use Rattle.s2ix_files.specs.Answers.{CheckAnswers, Tells};
+ghost use Rattle.s2ix_files.specs.Widest.{widest};
 
 use crate::reads::dump_read;
 use crate::telling::{tell_refusal, write_counts};
@@ -16,9 +15,8 @@ use std::alloc::Global;
 /// answers whether the dump was accepted. O(n) for n bytes, and one growth. Errors: see the crate. This project's own.
 pub fn check_text<K: Sink>(alloc: Global, text: &[u8], sink: &mut K) -> Result<bool, RunFault>
     requires { CanCount (K.fault_count sink.old) }
-    ensures told { (limits : Limits) × IsWidest limits
-        × Tells K.taken K.flushes (CheckAnswers limits text.now) sink.old sink.new result }
-    ensures memory { IfErr result (IsWantOnlyIf ((limits : Limits) × IsWidest limits × IsFromLine 2 (dump_fault limits text.now))) }
+    ensures told { Tells K.taken K.flushes (CheckAnswers widest text.now) sink.old sink.new result }
+    ensures memory { IfErr result (IsWantOnlyIf (IsFromLine 2 (dump_fault widest text.now))) }
     ensures faults { K.fault_count sink.new ≡ K.fault_count sink.old + sink_faults result }
 {
     match dump_read(alloc, text, Limits::default()) {

@@ -19,4 +19,5 @@ mod telling;
 pub use check::check_text;
 pub use load::load_text;
 pub use names::{dump_fault_name, journal_fault_name};
+pub use refusal::{Refusal, TextsError};
 pub use replay::{replay_texts, rewind_texts};

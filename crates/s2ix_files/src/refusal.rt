@@ -11,25 +11,27 @@ use s2ix_read_dump::{DumpError, DumpFault};
 use s2ix_read_journal::{JournalError, JournalFault};
 use s2ix_replay::ReplayError;
 
-// The first thing in the texts that is refused.
+/// The first thing in the texts that is refused: what the line that a call prints says. This project's own.
 #[derive(Clone, Copy, Debug, PartialEq, Eq)]
-pub(crate) enum Refusal {
-    // A line of the dump, counted from 1.
+pub enum Refusal {
+    /// A line of the dump, counted from 1.
     Dump { line: usize, fault: DumpFault },
-    // A line of the journal, counted from 1.
+    /// A line of the journal, counted from 1.
     Journal { line: usize, fault: JournalFault },
-    // An entry of one of the journal's changes, both counted from 1, whose count is not the bag's.
+    /// An entry of one of the journal's changes, both counted from 1, whose count is not the bag's.
     Mismatch { change: usize, entry: usize },
-    // A change of the journal, counted from 1, that would make a count above the limit.
+    /// A change of the journal, counted from 1, that would make a count above the limit.
     TooManyCopies { change: usize },
-    // A change of the journal, counted from 1, that would make more distinct pairs than the limit.
+    /// A change of the journal, counted from 1, that would make more distinct pairs than the limit.
     TooManyPairs { change: usize },
 }
 
-// Why texts do not come to a bag.
+/// Why texts don't come to a bag. This project's own.
 #[derive(Clone, Copy, Debug, PartialEq, Eq)]
-pub(crate) enum TextsError {
+pub enum TextsError {
+    /// Something in them is refused.
     Refused(Refusal),
+    /// A growth was refused.
     OutOfMemory,
 }
 

@@ -1,10 +1,9 @@
 ghost use Rattle.std.specs.Prelude.{◌≡◌, ◌+◌, IfErr};
-ghost use Rattle.s2ix_pairs.specs.Limits.{IsWidest};
-ghost use Rattle.s2ix_pairs.specs.declared.limits.Limits.{Limits};
 ghost use Rattle.s2ix_io.specs.Faults.{CanCount, IsWantOnlyIf, sink_faults};
 ghost use Rattle.s2ix_parts.specs.Faults.{IsFromLine};
 ghost use Rattle.s2ix_read_dump.specs.DumpFaults.{dump_fault};
 ghost use Rattle.s2ix_files.specs.Answers.{ReplayAnswers, RewindAnswers, Tells};
+ghost use Rattle.s2ix_files.specs.Widest.{widest};
 
 use crate::reads::{texts_replayed, texts_rewound};
 use crate::telling::tell_dump;
@@ -23,9 +22,8 @@ pub fn replay_texts<K: Sink>(
     sink: &mut K,
 ) -> Result<bool, RunFault>
     requires { CanCount (K.fault_count sink.old) }
-    ensures told { (limits : Limits) × IsWidest limits
-        × Tells K.taken K.flushes (ReplayAnswers limits dump.now journal.now) sink.old sink.new result }
-    ensures memory { IfErr result (IsWantOnlyIf ((limits : Limits) × IsWidest limits × IsFromLine 2 (dump_fault limits dump.now))) }
+    ensures told { Tells K.taken K.flushes (ReplayAnswers widest dump.now journal.now) sink.old sink.new result }
+    ensures memory { IfErr result (IsWantOnlyIf (IsFromLine 2 (dump_fault widest dump.now))) }
     ensures faults { K.fault_count sink.new ≡ K.fault_count sink.old + sink_faults result }
 {
     tell_dump(
@@ -44,9 +42,8 @@ pub fn rewind_texts<K: Sink>(
     sink: &mut K,
 ) -> Result<bool, RunFault>
     requires { CanCount (K.fault_count sink.old) }
-    ensures told { (limits : Limits) × IsWidest limits
-        × Tells K.taken K.flushes (RewindAnswers limits dump.now journal.now) sink.old sink.new result }
-    ensures memory { IfErr result (IsWantOnlyIf ((limits : Limits) × IsWidest limits × IsFromLine 2 (dump_fault limits dump.now))) }
+    ensures told { Tells K.taken K.flushes (RewindAnswers widest dump.now journal.now) sink.old sink.new result }
+    ensures memory { IfErr result (IsWantOnlyIf (IsFromLine 2 (dump_fault widest dump.now))) }
     ensures faults { K.fault_count sink.new ≡ K.fault_count sink.old + sink_faults result }
 {
     tell_dump(texts_rewound(alloc, dump, journal, Limits::default()), sink)

@@ -11,9 +11,9 @@ abbrev pub ReadsOn : {S : Type 0} → (S → ℕ → S → Type 0) → ℕ → S
 ReadsOn gives zero old new = old ≡ new
 ReadsOn {S} gives (suc pieces) old new = (mid : S) × ReadsOn gives pieces old mid × (n : ℕ) × (0 < n) × gives mid n new
 
--- from the first state of a source to the second at most `turns` pieces were read, and none was the end
+-- from the first state of a source to the second at least one piece was read and at most `turns`, and none was the end
 abbrev pub ReadsWithin : {S : Type 0} → (S → ℕ → S → Type 0) → ℕ → S → S → Type 0
-ReadsWithin gives turns old new = (pieces : ℕ) × (pieces ≤ turns) × ReadsOn gives pieces old new
+ReadsWithin gives turns old new = (pieces : ℕ) × (0 < pieces) × (pieces ≤ turns) × ReadsOn gives pieces old new
 
 -- from the first state of a source to the second fewer than `turns` pieces were read, each with a byte at least, and then the one
 -- that was the end

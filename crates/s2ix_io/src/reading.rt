@@ -1,5 +1,5 @@
 //! Reading a source whole.
-ghost use Rattle.std.specs.Prelude.{◌≡◌, ◌≢◌, ℕ, ◌+◌, List, Err, IfOk, IfErr, OnOk, OnErr};
+ghost use Rattle.std.specs.Prelude.{◌≡◌, ◌≢◌, ◌↔◌, ℕ, ◌+◌, List, Err, IfOk, IfErr, OnOk, OnErr};
 ghost use Rattle.std.specs.Io.KnownBytes.{Consumes, IsAtEnd};
 ghost use Rattle.s2ix_io.specs.Faults.{CanCount, source_faults, IsPatient, IsWantOnlyIf};
 ghost use Rattle.s2ix_io.specs.Pieces.{ReadsToEnd, ReadsWithin};
@@ -12,8 +12,9 @@ const PIECE: usize = 4096;
 
 /// Reads a source to its end, and gives all that it gave, in its order. O(n) for n bytes, and at most `turns` calls of `piece`.
 ///
-/// It answers `Read` at the first fault of the source, `OutOfMemory` where a growth was refused, and `ReaderTooLong` where `turns`
-/// pieces were read and none was the end. After a fault, what was read is lost. This project's own.
+/// It answers `Read` at the first fault of the source, `OutOfMemory` where a growth was refused, and `ReaderTooLong` if `turns` pieces
+/// were read and none was the end: always at 0 turns, when the source is asked nothing. After a fault, what was read is lost. This
+/// project's own.
 pub fn read_whole<S: Source>(alloc: Global, source: &mut S, turns: u64) -> Result<Vec<u8>, RunFault>
     requires { CanCount (S.fault_count source.old) }
     ensures whole { IfOk result (λ text. Consumes (S.left source.old) (S.left source.new) text.items × IsAtEnd (S.left source.new)) }
@@ -21,6 +22,8 @@ pub fn read_whole<S: Source>(alloc: Global, source: &mut S, turns: u64) -> Resul
     ensures stopped { OnErr result ((input : List ℕ) × Consumes (S.left source.old) (S.left source.new) input) }
     ensures memory { IfErr result (IsWantOnlyIf (ReadsWithin S.gives turns source.old source.new)) }
     ensures too_long { IfErr result (λ fault. IsPatient S.gives fault turns source.old source.new) }
+    ensures no_turn { turns ≡ 0 → result ≡ Err RunFault.ReaderTooLong }
+    ensures failed { result ≡ Err RunFault.Read ↔ S.fault_count source.new ≡ S.fault_count source.old + 1 }
     ensures no_write { result ≢ Err RunFault.Write }
     ensures faults { S.fault_count source.new ≡ S.fault_count source.old + source_faults result }
 {

@@ -1,6 +1,7 @@
 //! Sources in memory, and the adapters of std's readers and writers.
 use crate::calls::{Call, Piece, answers, gives_all};
-use s2ix_io::{Broken, FromRead, SliceSource, TakesNone, ToWrite, WriteFault};
+use s2id_samples::{Broken, TakesNone};
+use s2ix_io::{FromRead, SliceSource, ToWrite, WriteFault};
 
 // The pieces of `hello` where a piece has two bytes at most, and where one has nine and the first call fails.
 const SHORT: [Piece; 4] = [

@@ -1,7 +1,10 @@
 //! What is true of all joined tables. Each function is a law: it does nothing, and its contract is the fact.
+ghost use Rattle.std.specs.Prelude.{◌≡◌, ◌↔◌, IsTrue};
 ghost use Rattle.s2ix_chain.specs.Once.{KeepsOnce};
+ghost use Rattle.s2ix_joined.specs.declared.face_place.FacePlace.{FacePlace};
 ghost use Rattle.s2ix_joined.specs.Places.{chain_from};
 
+use crate::face_place::FacePlace;
 use crate::joined_tables::JoinedTables;
 
 /// A pair has one place: each chain that holds it holds it at a place, and two chains hold it at the same one.
@@ -10,3 +13,13 @@ pub fn keeps_a_pair_once(tables: &JoinedTables)
 {
     tables.keeps_a_pair_once();
 }
+
+/// Two places are equal exactly where they are one.
+pub fn equal_places_are_one()
+    ensures { (a b : FacePlace) → IsTrue (⟦<FacePlace as PartialEq>⟧.eq a b) ↔ (a ≡ b) }
+{}
+
+/// A clone of a place is the same.
+pub fn cloned_places_are_the_same()
+    ensures { (a copy : FacePlace) → ⟦<FacePlace as Clone>⟧.is_clone a copy ↔ (copy ≡ a) }
+{}

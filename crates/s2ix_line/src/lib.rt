@@ -7,6 +7,7 @@
 mod cells;
 mod edits;
 mod fields;
+pub mod laws;
 mod line_fault;
 mod names;
 

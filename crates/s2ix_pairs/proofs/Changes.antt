@@ -68,7 +68,7 @@ entries_tails_same n e f es fs le eq same =
     let le_p : n ≤ rank_of p = omega (arith, above) in
     sym (counts_tail e es (rank_of p) e_ne) ∙ same p le_p ∙ counts_tail f fs (rank_of p) f_ne
 
-same_entry : (e f : Entry) → rank_of e.pair ≡ rank_of f.pair → e.before ≡ f.before → e.after ≡ f.after → e ≡ f
+pub same_entry : (e f : Entry) → rank_of e.pair ≡ rank_of f.pair → e.before ≡ f.before → e.after ≡ f.after → e ≡ f
 same_entry e f ranks befores afters =
     let pairs = same_pair e.pair f.pair ranks in
     let first : e ≡ record { pair = f.pair; before = e.before; after = e.after } =

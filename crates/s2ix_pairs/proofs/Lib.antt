@@ -3,6 +3,7 @@ pub mod Counts
 pub mod Collections
 pub mod Changes
 pub mod Differences
+pub mod Equal
 pub mod Inverse
 pub mod Labels
 pub mod OfLabel

@@ -1,7 +1,6 @@
 -- Words on a label.
 use Rattle.std.specs.Prelude.{◌≡◌, ℕ, ◌≤◌, nat_le, true, false, Option, Some, None, refl}
-use Rattle.std.proofs.Common.{arith}
-use Rattle.std.proofs.lemmas.Bool.Decides.{nat_tests}
+use Rattle.std.proofs.Common.{leb-true}
 use Rattle.s2ix_pairs.specs.declared.label.Label.{Label}
 
 -- the label's number
@@ -9,7 +8,7 @@ abbrev pub value_of : Label → ℕ
 value_of label = label.value
 
 pub in_range-from_test : (n : ℕ) → nat_le n 2147483647 ≡ true → n ≤ 2147483647
-in_range-from_test n h = grind (arith, nat_tests)
+in_range-from_test n h = leb-true n 2147483647 h
 
 -- the label with this number, if it is in range
 abbrev pub label_numbered : ℕ → Option Label

@@ -1,11 +1,17 @@
 //! Laws: functions that do nothing, and whose contracts are facts on the definitions.
-ghost use Rattle.std.specs.Prelude.{◌≡◌, ◌==◌, Some};
+ghost use Rattle.std.specs.Prelude.{◌≡◌, ◌==◌, ◌↔◌, IsTrue, Some};
 ghost use Rattle.std.specs.Ordering.{nat_cmp};
+ghost use Rattle.s2ix_pairs.specs.declared.label.Label.{Label};
+ghost use Rattle.s2ix_pairs.specs.declared.limits.Limits.{Limits};
+ghost use Rattle.s2ix_pairs.specs.declared.pair.Entry.{Entry};
+ghost use Rattle.s2ix_pairs.specs.declared.pair.Held.{Held};
 ghost use Rattle.s2ix_pairs.specs.declared.pair.Pair.{Pair};
 ghost use Rattle.s2ix_pairs.specs.Pair.{rank_of};
 ghost use Rattle.s2ix_pairs.specs.Laws.{RanksOrderPairs, RanksTellPairsApart, HeldAreCounted, CountedAreHeld, CountsTellCollectionsApart, ChangeSetsCounts, ChangeListsDifferences, OnlyChangeListsDifferences, ChangeLeadsThereAndBack, TakingBackSubtracts, ChangeBackListsDifferences, LabelsAreCounted, LabelsRiseByCell};
 
-use crate::pair::Pair;
+use crate::label::Label;
+use crate::limits::Limits;
+use crate::pair::{Entry, Held, Pair};
 
 /// The order by ranks is that by cell, then by label.
 pub fn ranks_order_pairs()
@@ -79,4 +85,54 @@ pub fn labels_are_counted()
 /// What is held with a label rises by cell.
 pub fn labels_rise_by_cell()
     ensures { LabelsRiseByCell }
+{}
+
+/// Two pairs are equal exactly where they are one.
+pub fn equal_pairs_are_one()
+    ensures { (a b : Pair) → IsTrue (⟦<Pair as PartialEq>⟧.eq a b) ↔ (a ≡ b) }
+{}
+
+/// A clone of a pair is the same.
+pub fn cloned_pairs_are_the_same()
+    ensures { (a copy : Pair) → ⟦<Pair as Clone>⟧.is_clone a copy ↔ (copy ≡ a) }
+{}
+
+/// Two held pairs are equal exactly where they are one.
+pub fn equal_held_pairs_are_one()
+    ensures { (a b : Held) → IsTrue (⟦<Held as PartialEq>⟧.eq a b) ↔ (a ≡ b) }
+{}
+
+/// A clone of a held pair is the same.
+pub fn cloned_held_pairs_are_the_same()
+    ensures { (a copy : Held) → ⟦<Held as Clone>⟧.is_clone a copy ↔ (copy ≡ a) }
+{}
+
+/// Two entries are equal exactly where they are one.
+pub fn equal_entries_are_one()
+    ensures { (a b : Entry) → IsTrue (⟦<Entry as PartialEq>⟧.eq a b) ↔ (a ≡ b) }
+{}
+
+/// A clone of an entry is the same.
+pub fn cloned_entries_are_the_same()
+    ensures { (a copy : Entry) → ⟦<Entry as Clone>⟧.is_clone a copy ↔ (copy ≡ a) }
+{}
+
+/// Two labels are equal exactly where they are one.
+pub fn equal_labels_are_one()
+    ensures { (a b : Label) → IsTrue (⟦<Label as PartialEq>⟧.eq a b) ↔ (a ≡ b) }
+{}
+
+/// A clone of a label is the same.
+pub fn cloned_labels_are_the_same()
+    ensures { (a copy : Label) → ⟦<Label as Clone>⟧.is_clone a copy ↔ (copy ≡ a) }
+{}
+
+/// Two limits are equal exactly where they are one.
+pub fn equal_limits_are_one()
+    ensures { (a b : Limits) → IsTrue (⟦<Limits as PartialEq>⟧.eq a b) ↔ (a ≡ b) }
+{}
+
+/// A clone of limits is the same.
+pub fn cloned_limits_are_the_same()
+    ensures { (a copy : Limits) → ⟦<Limits as Clone>⟧.is_clone a copy ↔ (copy ≡ a) }
 {}

@@ -5,4 +5,6 @@ pub mod NoFault
 pub mod Rests
 pub mod Numerals
 pub mod FirstFault
+pub mod Found
+pub mod Places
 pub mod NoFronts

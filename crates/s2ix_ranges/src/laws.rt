@@ -1,5 +1,5 @@
 //! Laws: functions that do nothing, and whose contracts are facts on the definitions.
-ghost use Rattle.std.specs.Prelude.{◌≡◌, ℕ, ◌≤◌, Bool, true, List, length};
+ghost use Rattle.std.specs.Prelude.{◌≡◌, ◌↔◌, ℕ, ◌≤◌, Bool, true, IsTrue, List, length};
 ghost use Rattle.s2id_core.specs.declared.cell_id.CellId.{CellId};
 ghost use Rattle.s2id_union.specs.Region.{HaveSameRegion};
 ghost use Rattle.s2ix_pairs.specs.Collection.{Collection};
@@ -8,7 +8,10 @@ ghost use Rattle.s2ix_ranges.specs.LabelList.{label_list};
 ghost use Rattle.s2ix_ranges.specs.Meeting.{IsLabelList, meeting_of};
 ghost use Rattle.s2ix_ranges.specs.RangeList.{range_table};
 ghost use Rattle.s2ix_ranges.specs.Table.{Range, IsRangeTable};
+ghost use Rattle.s2ix_ranges.specs.declared.row.RangeRow.{RangeRow};
 ghost use Rattle.s2ix_ranges.specs.Laws.{ContentsAreOfTheLeaf, OneListOfContents, OneRangeTable, MeetingListIsTheTargets, OneMeetingList, OneLabelList};
+
+use crate::row::RangeRow;
 
 /// `contents_at` of a leaf's number are the leaf's contents: the held pairs whose cells have the leaf, in order.
 pub fn contents_are_of_the_leaf()
@@ -55,4 +58,14 @@ pub fn label_list_is_the_meetings()
 /// Targets with one region meet the same pairs in the same order.
 pub fn same_region_meets_the_same()
     ensures { (xs ys : List CellId) (held : Collection) → HaveSameRegion xs ys → meeting_of xs held ≡ meeting_of ys held }
+{}
+
+/// Two ranges' spans are equal exactly where they are one.
+pub fn equal_range_rows_are_one()
+    ensures { (a b : RangeRow) → IsTrue (⟦<RangeRow as PartialEq>⟧.eq a b) ↔ (a ≡ b) }
+{}
+
+/// A clone of a range's span is the same.
+pub fn cloned_range_rows_are_the_same()
+    ensures { (a copy : RangeRow) → ⟦<RangeRow as Clone>⟧.is_clone a copy ↔ (copy ≡ a) }
 {}

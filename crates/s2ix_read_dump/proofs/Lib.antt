@@ -3,4 +3,6 @@ pub mod Appended
 pub mod Rows
 pub mod Steps
 pub mod FrontReads
+pub mod Told
+pub mod Counted
 pub mod Whole

@@ -1,3 +1,4 @@
 pub mod DumpFaults
+pub mod Feeds
 pub mod Laws
 pub mod PairLines

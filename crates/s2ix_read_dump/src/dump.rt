@@ -1,12 +1,17 @@
 //! Dumps, read back.
-ghost use Rattle.std.specs.Prelude.{◌≡◌, ◌∷◌, ◌++◌, [], flat_map, IfErr, IfNone, IfOk, IfSome, MatchResult, None, OnOk, IsTrue, ◌↔◌, true};
+ghost use Rattle.std.specs.Prelude.{◌≡◌, ◌≢◌, ◌<◌, ◌≤◌, ◌+◌, ◌-◌, ◌*◌, ◌∷◌, ◌++◌, [], ℕ, Err, false, flat_map, length, vec_capacity, IfErr, IfNone, IfOk, IfSome, IsOk, MatchResult, None, OnOk, IsTrue, ◌↔◌, true};
+ghost use Rattle.std.specs.List.{count_by, list_any};
 ghost use Rattle.s2ix_pairs.specs.Collection.{Collection, IsBag, copies_in};
+ghost use Rattle.s2ix_pairs.specs.Limits.{count_limit, pairs_limit};
 ghost use Rattle.s2ix_text.specs.Dump.{IsDump, end_line, pair_line};
-ghost use Rattle.s2ix_text.specs.Version.{dump_header};
+ghost use Rattle.s2ix_text.specs.Version.{dump_header, dump_version};
 ghost use Rattle.s2ix_read_dump.specs.declared.errors.DumpError.TheVariants.{OutOfMemory};
-ghost use Rattle.s2ix_read_dump.specs.DumpFaults.{IsDumpError, dump_fault, end_text, is_end, line_fault};
+ghost use Rattle.s2ix_read_dump.specs.DumpFaults.{IsDumpError, dump_fault, end_text, greatest_count, is_end, line_fault};
 ghost use Rattle.s2ix_parts.specs.Faults.{fault_below};
-ghost use Rattle.s2ix_parts.specs.Lines.{lines_of};
+ghost use Rattle.s2ix_parts.specs.Lines.{has_parts, lines_of, part};
+ghost use Rattle.s2ix_parts.specs.Places.{line_at, lines_above};
+ghost use Rattle.s2ix_parts.specs.Written.{cell_written, comes_before, count_of_line, count_written, label_written, pair_written};
+ghost use Rattle.s2ix_read_dump.specs.Feeds.{is_feed};
 ghost use Rattle.s2ix_read_dump.specs.PairLines.{IsCut, IsDumped, IsNext, line_text, lines_down_to};
 
 use crate::errors::{DumpError, DumpFault};
@@ -35,19 +40,37 @@ fn is_end_of(pairs: usize, copies: u64, line: &[u8]) -> bool
 // How many bytes are counted at once: no more than a `u8` can count.
 const BLOCK: usize = 128;
 
-// Room for as many pairs as a text has line feeds, within the limit.
+// The bytes of the shortest line of a pair, as `1 0 1`, with its line feed.
+const SHORTEST_LINE: usize = 6;
+
+// Room for as many pairs as a text has line feeds, but no more than the limit, and no more than so many bytes can write.
+#[tactic(auto, using(crate::proofs::Counted::lines_counted))]
 fn room_for(alloc: Global, limits: Limits, text: &[u8]) -> Result<Vec<FlatHeld>, AllocError>
-    ensures { IfOk result (λ room. room.items ≡ []) }
+    ensures empty { IfOk result (λ room. room.items ≡ []) }
+    ensures few { IfOk result (λ room. vec_capacity room ≤ pairs_limit limits) }
+    ensures written { IfOk result (λ room. vec_capacity room * 6 ≤ length text.now) }
+    ensures lines { IfOk result (λ room. vec_capacity room < length (lines_of text.now)) }
+    ensures asked { length text.now < 6 → IsOk result }
+{
+    let lines = feeds_of(text).min(text.len() / SHORTEST_LINE);
+    Vec::with_capacity(alloc, lines.min(limits.pairs() as usize))
+}
+
+// How many line feeds a text has.
+fn feeds_of(text: &[u8]) -> usize
+    ensures { result ≤ count_by is_feed text.now }
 {
     let mut feeds = 0usize;
     for block in text.chunks(BLOCK) {
         feeds = feeds.saturating_add(feeds_in(block));
     }
-    Vec::with_capacity(alloc, feeds.min(limits.pairs() as usize))
+    feeds
 }
 
 // How many line feeds a block has.
-fn feeds_in(block: &[u8]) -> usize {
+fn feeds_in(block: &[u8]) -> usize
+    ensures { result ≤ count_by is_feed block.now }
+{
     let mut feeds = 0u8;
     for byte in block {
         feeds = feeds.wrapping_add(u8::from(*byte == b'\n'));
@@ -141,8 +164,8 @@ fn read_below(
 /// Reads a dump of either version under limits: the bag whose dump the text is, or the first line that has a fault and the first fault of
 /// that line.
 ///
-/// Lines count from 1. Want of memory may be told in place of a fault of line 2 or a later one. O(n) for n bytes.
-/// This project's own.
+/// Lines count from 1. Want of memory may be told in place of a fault of line 2 or a later one. O(n) for n bytes; one growth for all
+/// pairs, of at most three bytes for each byte of the text, and those of the bag. This project's own.
 pub fn read_dump(alloc: Global, text: &[u8], limits: Limits) -> Result<Bag, DumpError>
     ensures limits { IfOk result (λ bag. bag.limits ≡ limits) }
     ensures within { IfOk result IsBag }
@@ -151,6 +174,30 @@ pub fn read_dump(alloc: Global, text: &[u8], limits: Limits) -> Result<Bag, Dump
         → MatchResult result (λ bag. bag.held ≡ hs) (λ error. error ≡ OutOfMemory) }
     ensures accepted { OnOk result (dump_fault limits text.now ≡ None) }
     ensures refused { IfErr result (λ error. IsDumpError error (dump_fault limits text.now)) }
+
+    // Each refusal by itself. Those of the first line are answered wherever they stand.
+    ensures no_feed { (result ≡ Err (DumpError.At 1 DumpFault.Truncated)) ↔ (length (lines_of text.now) ≡ 1) }
+    ensures bad_header { (result ≡ Err (DumpError.At 1 DumpFault.BadHeader))
+        ↔ ((1 < length (lines_of text.now)) × (dump_version (line_at 1 text.now) ≡ None)) }
+
+    // In place of the others `OutOfMemory` may come, but only below a header.
+    ensures memory { result ≡ Err DumpError.OutOfMemory → dump_version (line_at 1 text.now) ≢ None }
+    ensures truncated { (line : ℕ) → result ≡ Err (DumpError.At line DumpFault.Truncated) → line ≡ length (lines_of text.now) }
+    ensures bad_end { (line : ℕ) → result ≡ Err (DumpError.At line DumpFault.BadEnd) → is_end (line_at line text.now) ≡ true }
+    ensures bad_line { (line : ℕ) → result ≡ Err (DumpError.At line DumpFault.BadLine) → has_parts 3 (line_at line text.now) ≡ false }
+    ensures bad_token { (line : ℕ) → result ≡ Err (DumpError.At line DumpFault.BadToken)
+        → cell_written (part 0 (line_at line text.now)) ≡ None }
+    ensures bad_label { (line : ℕ) → result ≡ Err (DumpError.At line DumpFault.BadLabel)
+        → label_written (part 1 (line_at line text.now)) ≡ None }
+    ensures bad_count { (line : ℕ) → result ≡ Err (DumpError.At line DumpFault.BadCount)
+        → count_written (greatest_count (line_at 1 text.now)) (part 2 (line_at line text.now)) ≡ None }
+    ensures unsorted { (line : ℕ) → result ≡ Err (DumpError.At line DumpFault.Unsorted)
+        → comes_before (pair_written (line_at (line - 1) text.now)) (pair_written (line_at line text.now)) ≡ false }
+    ensures too_many_copies { (line : ℕ) → result ≡ Err (DumpError.At line DumpFault.TooManyCopies)
+        → count_limit limits < count_of_line (greatest_count (line_at 1 text.now)) (line_at line text.now) }
+    ensures too_many_pairs { (line : ℕ) → result ≡ Err (DumpError.At line DumpFault.TooManyPairs) → pairs_limit limits + 2 ≤ line }
+    ensures trailing { (line : ℕ) → result ≡ Err (DumpError.At line DumpFault.TrailingBytes)
+        → list_any is_end (lines_above line text.now) ≡ true }
 {
     let Some((header, below)) = cut_line(text) else {
         return Err(DumpError::At {

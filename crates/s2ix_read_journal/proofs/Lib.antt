@@ -8,3 +8,4 @@ pub mod Steps
 pub mod Reading
 pub mod Whole
 pub mod Answered
+pub mod Told

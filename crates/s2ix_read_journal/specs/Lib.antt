@@ -1,5 +1,6 @@
 pub mod Numbers
 pub mod JournalFaults
+pub mod Forms
 pub mod JournalLines
 pub mod Journals
 pub mod Laws

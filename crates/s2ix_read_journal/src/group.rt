@@ -1,5 +1,5 @@
 //! The entries of a group.
-ghost use Rattle.std.specs.Prelude.{◌≡◌, ◌<◌, ◌+◌, ◌^◌, ◌∷◌, ◌++◌, [], ℕ, false, flat_map, length, slice_index_or, List, IfErr, IfOk, OnOk};
+ghost use Rattle.std.specs.Prelude.{◌≡◌, ◌<◌, ◌≤◌, ◌+◌, ◌*◌, ◌^◌, ◌∷◌, ◌++◌, [], ℕ, false, flat_map, length, slice_index_or, vec_capacity, List, IfErr, IfOk, IsOk, OnOk};
 ghost use Rattle.s2ix_text.specs.Journal.{entry_line};
 ghost use Rattle.s2ix_read_journal.specs.JournalFaults.{IsJournalError, behind, greatest_count, line_fault};
 ghost use Rattle.s2ix_read_journal.specs.JournalLines.{at_group};
@@ -16,9 +16,12 @@ use std::alloc::{AllocError, Global};
 // The bytes of the shortest line of an entry, as `1 0 0 1`, with its line feed.
 const SHORTEST_LINE: usize = 8;
 
-// Room for so many entries, but no more than the text has.
+// Room for so many entries, but no more than so many bytes can write.
 fn room_for(alloc: Global, size: usize, text: &[u8]) -> Result<Vec<Entry>, AllocError>
-    ensures { IfOk result (λ room. room.items ≡ []) }
+    ensures empty { IfOk result (λ room. room.items ≡ []) }
+    ensures few { IfOk result (λ room. vec_capacity room ≤ size) }
+    ensures written { IfOk result (λ room. vec_capacity room * 8 ≤ length text.now) }
+    ensures asked { length text.now < 8 → IsOk result }
 {
     Vec::with_capacity(alloc, size.min(text.len() / SHORTEST_LINE))
 }

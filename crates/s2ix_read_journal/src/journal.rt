@@ -1,14 +1,19 @@
 //! Journals, read back.
-ghost use Rattle.std.specs.Prelude.{◌≡◌, ◌∷◌, ◌++◌, [], ℕ, flat_map, All, IfErr, IfOk, List, MatchResult, None, OnOk};
+ghost use Rattle.std.specs.Prelude.{◌≡◌, ◌≢◌, ◌↔◌, ◌<◌, ◌≤◌, ◌∷◌, ◌++◌, [], ℕ, Err, false, true, flat_map, length, max, All, IfErr, IfOk, List, MatchResult, None, OnOk};
 ghost use Rattle.s2ix_pairs.specs.Change.{IsChangeList};
+ghost use Rattle.s2ix_pairs.specs.Limits.{changes_limit, count_limit};
 ghost use Rattle.s2ix_pairs.specs.declared.pair.Entry.{Entry};
 ghost use Rattle.s2ix_text.specs.Journal.{IsJournalText, group_text, last_line};
+ghost use Rattle.s2ix_text.specs.Version.{journal_version};
 ghost use Rattle.s2ix_read_journal.specs.declared.errors.JournalError.TheVariants.{OutOfMemory};
-ghost use Rattle.s2ix_read_journal.specs.JournalFaults.{IsJournalError, greatest_count, journal_fault, line_fault};
+ghost use Rattle.s2ix_read_journal.specs.JournalFaults.{IsJournalError, after_of_line, before_of_line, behind, greatest_count, is_end, journal_fault, line_fault};
+ghost use Rattle.s2ix_read_journal.specs.Forms.{lacks_counts, lacks_form};
 ghost use Rattle.s2ix_read_journal.specs.JournalLines.{lines_down_to};
 ghost use Rattle.s2ix_read_journal.specs.Journals.{AreGroups, AreWithin, IsJournal};
 ghost use Rattle.s2ix_parts.specs.Faults.{fault_below};
-ghost use Rattle.s2ix_parts.specs.Lines.{lines_of};
+ghost use Rattle.s2ix_parts.specs.Lines.{lines_of, part};
+ghost use Rattle.s2ix_parts.specs.Places.{line_at, lines_above, place_at};
+ghost use Rattle.s2ix_parts.specs.Written.{cell_written, comes_before, label_written, pair_written};
 
 use crate::change_line::{is_end_of, next_size};
 use crate::errors::{JournalError, JournalFault};
@@ -89,6 +94,34 @@ pub fn read_journal(alloc: Global, text: &[u8], limits: Limits) -> Result<Vec<Ch
         → MatchResult result (λ changes. changes.items ≡ cs) (λ error. error ≡ OutOfMemory) }
     ensures accepted { OnOk result (journal_fault limits text.now ≡ None) }
     ensures refused { IfErr result (λ error. IsJournalError error (journal_fault limits text.now)) }
+
+    // Each refusal by itself. Those of the first line are answered wherever they stand.
+    ensures no_feed { (result ≡ Err (JournalError.At 1 JournalFault.Truncated)) ↔ (length (lines_of text.now) ≡ 1) }
+    ensures bad_header { (result ≡ Err (JournalError.At 1 JournalFault.BadHeader))
+        ↔ ((1 < length (lines_of text.now)) × (journal_version (line_at 1 text.now) ≡ None)) }
+
+    // In place of the others `OutOfMemory` may come, but only below a header.
+    ensures memory { result ≡ Err JournalError.OutOfMemory → journal_version (line_at 1 text.now) ≢ None }
+    ensures truncated { (line : ℕ) → result ≡ Err (JournalError.At line JournalFault.Truncated) → line ≡ length (lines_of text.now) }
+    ensures bad_end { (line : ℕ) → result ≡ Err (JournalError.At line JournalFault.BadEnd) → is_end (line_at line text.now) ≡ true }
+    ensures bad_line { (line : ℕ) → result ≡ Err (JournalError.At line JournalFault.BadLine)
+        → lacks_form (place_at limits line text.now) ≡ true }
+    ensures bad_token { (line : ℕ) → result ≡ Err (JournalError.At line JournalFault.BadToken)
+        → cell_written (part 0 (line_at line text.now)) ≡ None }
+    ensures bad_label { (line : ℕ) → result ≡ Err (JournalError.At line JournalFault.BadLabel)
+        → label_written (part 1 (line_at line text.now)) ≡ None }
+    ensures bad_count { (line : ℕ) → result ≡ Err (JournalError.At line JournalFault.BadCount)
+        → lacks_counts (place_at limits line text.now) ≡ true }
+    ensures no_difference { (line : ℕ) → result ≡ Err (JournalError.At line JournalFault.NoDifference)
+        → before_of_line (place_at limits line text.now) ≡ after_of_line (place_at limits line text.now) }
+    ensures unsorted { (line : ℕ) → result ≡ Err (JournalError.At line JournalFault.Unsorted)
+        → comes_before (behind (lines_above line text.now)).last (pair_written (line_at line text.now)) ≡ false }
+    ensures too_many_copies { (line : ℕ) → result ≡ Err (JournalError.At line JournalFault.TooManyCopies)
+        → count_limit limits < max (before_of_line (place_at limits line text.now)) (after_of_line (place_at limits line text.now)) }
+    ensures too_many_changes { (line : ℕ) → result ≡ Err (JournalError.At line JournalFault.TooManyChanges)
+        → changes_limit limits ≤ (behind (lines_above line text.now)).groups }
+    ensures trailing { (line : ℕ) → result ≡ Err (JournalError.At line JournalFault.TrailingBytes)
+        → (behind (lines_above line text.now)).over ≡ true }
 {
     let Some((header, below)) = cut_line(text) else {
         return Err(JournalError::At {

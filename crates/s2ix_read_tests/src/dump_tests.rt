@@ -54,7 +54,7 @@ const ACCEPTED_GREAT: [Accepted; 4] = [
 ];
 
 // Below the header of either version.
-const REFUSED: [Refused; 33] = [
+const REFUSED: [Refused; 34] = [
     (b"", 2, DumpFault::Truncated),
     (b"end 0 0", 2, DumpFault::Truncated),
     (b"04 9 1\n", 3, DumpFault::Truncated),
@@ -75,6 +75,7 @@ const REFUSED: [Refused; 33] = [
     (b"1 7 1\n04 9 1\nend 2 2\n", 3, DumpFault::Unsorted),
     (b"04 9 1\n04 9 5\nend 2 6\n", 3, DumpFault::Unsorted),
     (b"end 0 0\nx", 3, DumpFault::TrailingBytes),
+    (b"end 0 0\nx\n", 3, DumpFault::TrailingBytes),
     (b"end 0 0\n\n", 3, DumpFault::TrailingBytes),
     (b"04 9 1\r\nend 1 1\n", 2, DumpFault::BadCount),
     (b"\nend 0 0\n", 2, DumpFault::BadLine),

@@ -5,5 +5,6 @@
 #![tactic(auto)]
 
 mod errors;
+pub mod laws;
 
 pub use errors::{EditError, PlanError, RedoError, UndoError};

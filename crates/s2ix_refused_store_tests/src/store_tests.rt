@@ -107,6 +107,15 @@ static REVERTED: Seen = Seen {
     ranges: FIRST_RANGES,
 };
 
+// The grown store without its changes.
+static FORGOTTEN: Seen = Seen {
+    pairs: ALL_FACES,
+    done: &[],
+    undone: &[],
+    faces: 1,
+    ranges: ALL_RANGES,
+};
+
 // A store that starts with all faces.
 static STARTED: Seen = Seen {
     pairs: ALL_FACES,
@@ -219,17 +228,25 @@ fn refused_reverts(rt: HostRuntime) {
     check_no_revert(&rt, &mut store, 2, EditError::BelowZero, &REVERTED);
 }
 
-fn check_region(rt: &(impl Abort + Print), store: &Store) {
+fn check_region(rt: &(impl Abort + Print), store: &Store, seen: &Seen) {
     let label = label(rt);
     let region = answer!(rt, store.region(label));
     assert!(rt; region.cells().len() == 6);
-    check_seen(rt, store, &GROWN);
+    check_seen(rt, store, seen);
 }
 
 #[test]
 fn refused_regions(rt: HostRuntime) {
     let store = grown(&rt, rt.alloc());
-    check_region(&rt, &store);
+    check_region(&rt, &store, &GROWN);
+}
+
+// A forget before it takes no memory: `tests/hostile` looks that this test asks for as many growths as the one above.
+#[test]
+fn refused_regions_behind_a_forget(rt: HostRuntime) {
+    let mut store = grown(&rt, rt.alloc());
+    store.forget();
+    check_region(&rt, &store, &FORGOTTEN);
 }
 
 fn check_new(rt: &(impl Abort + Print), alloc: Global) {

@@ -9,12 +9,20 @@ use s2ix_samples::{holds_pairs, lists_entries};
 use std::alloc::Global;
 use std::process::Abort;
 
-const EMPTY: &[u8] = b"s2ix 2\nend 0 0\n";
+const EMPTY: &[u8] = b"s2ix 1\nend 0 0\n";
 
-const DUMP: &[u8] = b"s2ix 2\n04 3 3\nend 1 3\n";
+const DUMP: &[u8] = b"s2ix 1\n04 3 3\nend 1 3\n";
 
 // Two pairs added, and the second taken to the first's label.
 const JOURNAL: &[u8] =
+    b"s2ix-journal 1\nchange 1\n04 9 0 2\nchange 1\n04 3 0 1\nchange 2\n04 3 1 3\n04 9 2 0\nend 3\n";
+
+// The same in the second version, in which dumps are written.
+const EMPTY_SECOND: &[u8] = b"s2ix 2\nend 0 0\n";
+
+const DUMP_SECOND: &[u8] = b"s2ix 2\n04 3 3\nend 1 3\n";
+
+const JOURNAL_SECOND: &[u8] =
     b"s2ix-journal 2\nchange 1\n04 9 0 2\nchange 1\n04 3 0 1\nchange 2\n04 3 1 3\n04 9 2 0\nend 3\n";
 
 #[test]
@@ -42,7 +50,7 @@ fn refused_journals(rt: HostRuntime) {
 // Texts that are no dump, with the line of the first fault, and what is told of them.
 const FAULTY: [(&[u8], DumpError, &[u8]); 5] = [
     (
-        b"s2ix 2\n04 9 1\n",
+        b"s2ix 1\n04 9 1\n",
         DumpError::At {
             line: 3,
             fault: DumpFault::Truncated,
@@ -50,7 +58,7 @@ const FAULTY: [(&[u8], DumpError, &[u8]); 5] = [
         b"no Truncated 3\n",
     ),
     (
-        b"s2ix 2\n1 7 1\n04 9 1\nend 2 2\n",
+        b"s2ix 1\n1 7 1\n04 9 1\nend 2 2\n",
         DumpError::At {
             line: 3,
             fault: DumpFault::Unsorted,
@@ -58,7 +66,7 @@ const FAULTY: [(&[u8], DumpError, &[u8]); 5] = [
         b"no Unsorted 3\n",
     ),
     (
-        b"s2ix 2\nend 0 0\nx\n",
+        b"s2ix 1\nend 0 0\nx\n",
         DumpError::At {
             line: 3,
             fault: DumpFault::TrailingBytes,
@@ -66,7 +74,7 @@ const FAULTY: [(&[u8], DumpError, &[u8]); 5] = [
         b"no TrailingBytes 3\n",
     ),
     (
-        b"s2ix 2\n040 9 1\nend 1 1\n",
+        b"s2ix 1\n040 9 1\nend 1 1\n",
         DumpError::At {
             line: 2,
             fault: DumpFault::BadToken,
@@ -154,8 +162,29 @@ fn check_call(
 fn refused_texts(rt: HostRuntime) {
     check_call(&rt, rt.alloc(), Call::Load(DUMP), true, b"");
     check_call(&rt, rt.alloc(), Call::Check(DUMP), true, b"ok 1 3\n");
-    check_call(&rt, rt.alloc(), Call::Replay(EMPTY, JOURNAL), true, DUMP);
-    check_call(&rt, rt.alloc(), Call::Rewind(DUMP, JOURNAL), true, EMPTY);
+    let (replayed, rewound) = (Call::Replay(EMPTY, JOURNAL), Call::Rewind(DUMP, JOURNAL));
+    check_call(&rt, rt.alloc(), replayed, true, DUMP_SECOND);
+    check_call(&rt, rt.alloc(), rewound, true, EMPTY_SECOND);
+}
+
+// A dump and a journal of either version, with what is written of them.
+const VERSIONS: [(&[u8], &[u8], &[u8]); 2] = [
+    (EMPTY_SECOND, JOURNAL_SECOND, DUMP_SECOND),
+    (
+        b"s2ix 1\n04 9 1\nend 1 1\n",
+        b"s2ix-journal 1\nend 0\n",
+        b"s2ix 2\n04 9 1\nend 1 1\n",
+    ),
+];
+
+#[test]
+fn refused_texts_of_both_versions(rt: HostRuntime) {
+    for &(dump, journal, written) in &VERSIONS {
+        let replayed = Call::Replay(dump, journal);
+        check_call(&rt, rt.alloc(), replayed, true, written);
+    }
+    let (sound, told) = (b"s2ix 1\n04 9 1\nend 1 1\n", b"ok 1 1\n");
+    check_call(&rt, rt.alloc(), Call::Check(sound), true, told);
 }
 
 #[test]
@@ -167,4 +196,6 @@ fn refused_faulty_texts(rt: HostRuntime) {
     let (other, faulty) = (Call::Replay(DUMP, JOURNAL), Call::Rewind(DUMP, EMPTY));
     check_call(&rt, rt.alloc(), other, false, b"no Mismatch 2 1\n");
     check_call(&rt, rt.alloc(), faulty, false, b"no journal BadHeader 1\n");
+    let first = Call::Replay(EMPTY_SECOND, b"s2ix-journal 2\nchange 1\n04 9 1 2\nend 1\n");
+    check_call(&rt, rt.alloc(), first, false, b"no Mismatch 1 1\n");
 }

@@ -40,7 +40,7 @@ way_back-way_back (c ∷ rest) =
 
 -- ---- numbers
 
-numbered_push : (n : ℕ) (changes : List (List Entry)) (es : List Entry) → numbered_from n (changes ++ es ∷ []) ≡ numbered_from n changes ++ record { number = n + length changes; change = es } ∷ []
+pub numbered_push : (n : ℕ) (changes : List (List Entry)) (es : List Entry) → numbered_from n (changes ++ es ∷ []) ≡ numbered_from n changes ++ record { number = n + length changes; change = es } ∷ []
 numbered_push n [] es = ap (λ k. let c : Numbered = record { number = k; change = es } in c ∷ []) (omega arith)
 numbered_push n (x ∷ changes) es =
     ap (λ (cs : List Numbered). let c : Numbered = record { number = n; change = x } in c ∷ cs)

@@ -1,2 +1,4 @@
 pub mod Back
 pub mod Forth
+pub mod Inverted
+pub mod Last

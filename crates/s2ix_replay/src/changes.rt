@@ -1,12 +1,29 @@
-ghost use Rattle.std.specs.Prelude.{◌≡◌, ◌+◌, ◌<◌, ◌^◌, None, IfOk, IfErr, OnOk, take};
+ghost use Rattle.std.specs.Prelude.{◌≡◌, ℕ, ◌<◌, Some, None, IfOk, IfErr, OnOk, take};
 ghost use Rattle.std.specs.Option.{option_map};
 ghost use Rattle.s2ix_lists.specs.Apply.{apply_refusal};
 ghost use Rattle.s2ix_replay.specs.declared.errors.ReplayError.TheVariants.{OutOfMemory};
-ghost use Rattle.s2ix_replay.specs.Replay.{IsReplayError, after_change, first_refusal, with_numbers, refusal_numbered, replay_refusal, replayed, rewind_refusal, rewound};
+ghost use Rattle.s2ix_replay.specs.Replay.{IsReplayError, after_change, first_refusal, with_numbers, refusal_numbered, replay_refusal, replayed, rewind_refusal, rewound, way_back};
 
 use crate::errors::ReplayError;
+use crate::refusal::refusal_back;
 use s2ix_bag::{ApplyError, Bag, Change};
 use std::alloc::Global;
+
+// A refusal of the change with this number and so many entries, as it is told.
+fn numbered(number: usize, entries: usize, refusal: ApplyError) -> ReplayError
+    requires { (place : ℕ) → refusal ≡ ApplyError.Mismatch place → place < entries }
+    ensures { result ≡ refusal_numbered number refusal }
+{
+    match refusal {
+        ApplyError::Mismatch(place) => ReplayError::Mismatch {
+            change: number,
+            entry: place + 1,
+        },
+        ApplyError::TooManyCopies => ReplayError::TooManyCopies { change: number },
+        ApplyError::TooManyPairs => ReplayError::TooManyPairs { change: number },
+        ApplyError::OutOfMemory => ReplayError::OutOfMemory,
+    }
+}
 
 // The bag after one more change, or why that is refused under its number.
 fn next_bag(alloc: Global, bag: &Bag, change: &Change, number: usize) -> Result<Bag, ReplayError>
@@ -17,16 +34,7 @@ fn next_bag(alloc: Global, bag: &Bag, change: &Change, number: usize) -> Result<
 {
     match bag.applied(alloc, change) {
         Ok(next) => Ok(next),
-        Err(ApplyError::Mismatch(place)) => {
-            prove!(place < change.entries().len());
-            Err(ReplayError::Mismatch {
-                change: number,
-                entry: place + 1,
-            })
-        }
-        Err(ApplyError::TooManyCopies) => Err(ReplayError::TooManyCopies { change: number }),
-        Err(ApplyError::TooManyPairs) => Err(ReplayError::TooManyPairs { change: number }),
-        Err(ApplyError::OutOfMemory) => Err(ReplayError::OutOfMemory),
+        Err(refusal) => Err(numbered(number, change.entries().len(), refusal)),
     }
 }
 
@@ -53,18 +61,34 @@ pub fn replay(alloc: Global, bag: &Bag, changes: &[Change]) -> Result<Bag, Repla
     Ok(reached)
 }
 
+// Tests whether a bag takes the inverse of the last change, before anything grows. O(m log n) for its m entries and n pairs held.
+fn test_last(bag: &Bag, changes: &[Change]) -> Result<(), ReplayError>
+    ensures taken { OnOk result (first_refusal bag.now (take 1 (way_back (with_numbers changes.now))) ≡ None) }
+    ensures refused { IfErr result (λ error. first_refusal bag.now (take 1 (way_back (with_numbers changes.now))) ≡ Some error) }
+{
+    let Some((last, _)) = changes.split_last() else {
+        return Ok(());
+    };
+    match refusal_back(bag, last) {
+        Some(refusal) => Err(numbered(changes.len(), last.entries().len(), refusal)),
+        None => Ok(()),
+    }
+}
+
 /// The bag before these changes, with the bag's limits: the inverse of each is done, from the last change to the first. The change that is
 /// refused first on this way decides, and is told by its number in the list, counted from 1.
 ///
-/// `OutOfMemory` where a growth is refused; it may come in place of any refusal. O(k n + m) for k changes with m entries in all and at most n
-/// pairs held on the way. This project's own.
+/// `OutOfMemory` where a growth is refused; it may come in place of the refusal of any change but the last. O(k n + m log n) for k changes
+/// with m entries in all and at most n pairs held on the way. This project's own.
 #[tactic(auto, using(crate::proofs::Forth::limits_stay))]
 pub fn rewind(alloc: Global, bag: &Bag, changes: &[Change]) -> Result<Bag, ReplayError>
     ensures limits { IfOk result (λ before. before.limits ≡ bag.now.limits) }
     ensures bag { IfOk result (λ before. before ≡ rewound bag.now changes.now) }
     ensures accepted { OnOk result (rewind_refusal bag.now changes.now ≡ None) }
     ensures refused { IfErr result (λ error. IsReplayError error (rewind_refusal bag.now changes.now)) }
+    ensures last { result ≡ Err OutOfMemory → first_refusal bag.now (take 1 (way_back (with_numbers changes.now))) ≡ None }
 {
+    test_last(bag, changes)?;
     let mut reached = bag.copied(alloc)?;
     for place in (0..changes.len()).rev() {
         let inverse = changes[place].inverse(alloc)?;

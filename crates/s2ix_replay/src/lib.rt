@@ -7,6 +7,7 @@
 mod changes;
 mod errors;
 pub mod laws;
+mod refusal;
 
 pub use changes::{replay, rewind};
 pub use errors::ReplayError;

@@ -1,7 +1,7 @@
 //! Worked scripts of paths, neighbours and squares. Their outputs are worked out by hand from the formats.
 use crate::scripts::{PLAIN, Script, check_all};
 
-const SCRIPTS: [Script; 10] = [
+const SCRIPTS: [Script; 11] = [
     Script {
         name: "a path is the face and the child positions",
         input: b"path 1\npath 3\npath 04\npath 1d\npath bc\npath 94\n",
@@ -54,6 +54,12 @@ const SCRIPTS: [Script; 10] = [
         name: "the squares of leaves",
         input: b"face 0000000000000001\nface 0000000000000003\nface 9555555555555555\nface bfffffffffffffff\n",
         output: b"0 0 0 30 0\n0 1 0 30 1\n4 1073741823 1073741823 30 0\n5 0 1073741823 30 1\n",
+        ..PLAIN
+    },
+    Script {
+        name: "squares and paths four and five levels below a face",
+        input: b"face 1c1\npath 1c1\nface 1c14\npath 1c14\n",
+        output: b"0 11 3 4 3\n0/3200\n0 22 6 5 3\n0/32002\n",
         ..PLAIN
     },
     Script {

@@ -5,6 +5,7 @@
 #![tactic(auto)]
 
 mod instruction;
+pub mod laws;
 mod line_meaning;
 mod names;
 mod plain;

@@ -1,2 +1,4 @@
+pub mod Asked
+pub mod Kept
 mod Told
 mod WantedMemory

@@ -6,6 +6,7 @@
 #![tactic(auto)]
 
 mod carry;
+pub mod laws;
 mod outcome;
 mod queries;
 mod regions;

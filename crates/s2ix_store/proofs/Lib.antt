@@ -1,10 +1,14 @@
 pub mod Along
+mod Answered
 pub mod Followed
+pub mod Kept
 pub mod Led
+mod LimitRefusals
 pub mod Places
 mod Planned
 pub mod Redone
+pub mod Recorded
 mod RevertRefusals
-mod Standing
+pub mod Standing
 pub mod Taken
 pub mod Undone

@@ -1,3 +1,4 @@
+pub mod Recorded
 pub mod Standing
 pub mod Steps
 pub mod Store

@@ -8,6 +8,10 @@ use Rattle.s2ix_pairs.specs.Limits.{changes_limit}
 use Rattle.s2ix_edit.specs.State.{State}
 use Rattle.s2ix_store.specs.Steps.{with_held}
 
+-- one change more can be recorded
+abbrev pub HasRoom : State → Type 0
+HasRoom s = length s.done < changes_limit s.bag.limits
+
 -- changes, the newest first, that can be taken back from a bag one after the other
 abbrev pub CanGoBack : LimitedCollection → List (List Entry) → Type 0
 CanGoBack bag [] = Unit {0}

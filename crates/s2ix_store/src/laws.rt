@@ -1,18 +1,22 @@
 //! Laws: functions that do nothing, and whose contracts are facts on the definitions.
 
 ghost use Rattle.std.specs.Prelude.{◌≡◌, ◌≢◌, ◌↔◌, ◌≤◌, ℕ, ◌+◌, pos, ◌+ℤ◌, Some, None, false, ◌<◌, [], ◌∷◌, ◌++◌, length, reverse, slice_get, take, All, List};
+ghost use Rattle.s2ix_pairs.specs.declared.label.Label.{Label};
+ghost use Rattle.s2ix_pairs.specs.declared.limits.Limits.{Limits};
+ghost use Rattle.s2ix_pairs.specs.declared.pair.Entry.{Entry};
 ghost use Rattle.s2ix_pairs.specs.declared.pair.Pair.{Pair};
 ghost use Rattle.s2ix_pairs.specs.Change.{IsChangeList, counts_at, difference_of};
 ghost use Rattle.s2ix_pairs.specs.Collection.{LimitedCollection, IsBag, count_in};
 ghost use Rattle.s2ix_pairs.specs.Limits.{changes_limit, count_limit, pairs_limit};
 ghost use Rattle.s2ix_pairs.specs.Pair.{rank_of};
-ghost use Rattle.s2ix_refusals.specs.declared.errors.EditError.TheVariants.{NoSuchLabel, NotHeld, TooFine, NoSuchChange, BelowZero, NoChange};
+ghost use Rattle.s2ix_refusals.specs.declared.errors.EditError.TheVariants.{NoSuchLabel, NotHeld, TooFine, NoSuchChange, BelowZero, NoChange, TooManyCopies, TooManyPairs};
 ghost use Rattle.s2ix_edit.specs.declared.edit.Edit.{Edit};
-ghost use Rattle.s2ix_edit.specs.declared.edit.Edit.TheVariants.{Revert};
+ghost use Rattle.s2ix_edit.specs.declared.edit.Edit.TheVariants.{DropLabel, Grow, Normalise, Remove, Revert};
 ghost use Rattle.s2ix_edit.specs.Edit.{edited, edited_by};
 ghost use Rattle.s2ix_edit.specs.History.{changes_along, cursor_alone, one_back, one_on, with_next};
 ghost use Rattle.s2ix_edit.specs.State.{State, change_of, history_of, starting_at};
 ghost use Rattle.s2ix_edit.specs.Refusals.{edit_refusal, goes_below_zero, has_count_above, lacks_change, reverts};
+ghost use Rattle.s2ix_store.specs.Recorded.{IsRecorded};
 ghost use Rattle.s2ix_store.specs.Standing.{first_collection, gain_along, without_numbered};
 ghost use Rattle.s2ix_store.specs.Steps.{after_edit, after_forget, after_redo, after_undo, with_held};
 ghost use Rattle.s2ix_store.specs.Store.{IsStore};
@@ -73,6 +77,17 @@ pub fn steps_keep_limits()
     ensures forget { (s : State) → (after_forget s).bag.limits ≡ s.bag.limits }
 {}
 
+/// Each step of a store leads to a store: an edit that is accepted, an undo and a redo of a change that there is, and forgetting.
+pub fn steps_lead_to_stores()
+    ensures edit { (s : State) (edit : Edit)
+        → IsStore s
+        → edit_refusal s edit ≡ None
+        → IsStore (after_edit s edit) }
+    ensures undo { (s : State) → IsStore s → s.done ≢ [] → IsStore (after_undo s) }
+    ensures redo { (s : State) → IsStore s → s.undone ≢ [] → IsStore (after_redo s) }
+    ensures forget { (s : State) → IsStore s → IsStore (after_forget s) }
+{}
+
 /// A store stands at one place of its history: the bag holds the collection at the cursor, each collection is
 /// within the limits, and the changes between neighbouring collections are those that were done and then,
 /// the last undone first, those that were undone, each of them with entries; so those that were done are the changes
@@ -95,6 +110,20 @@ pub fn store_stands_in_history()
     ensures entries { (s : State)
         → IsStore s
         → All (λ es. 0 < length es) (s.done ++ s.undone) }
+{}
+
+/// Each change that can be undone or redone has an entry and no more of them than two collections within the limits hold pairs, and
+/// its counts are within the limit. There are at most as many changes as the limit on them. No limits are wider than 1,000,000
+/// pairs and counts of a `u32`, so a journal can hold each of the changes.
+pub fn recorded_changes_are_within_the_limits()
+    ensures done { (s : State) → IsStore s → All (IsRecorded s.bag.limits) s.done }
+    ensures undone { (s : State) → IsStore s → All (IsRecorded s.bag.limits) s.undone }
+    ensures number { (s : State)
+        → IsStore s
+        → length s.done + length s.undone ≤ changes_limit s.bag.limits }
+    ensures widest { (limits : Limits) (es : List Entry)
+        → IsRecorded limits es
+        → (length es ≤ 2000000) × All (λ e. e.before ≤ 4294967295) es × All (λ e. e.after ≤ 4294967295) es }
 {}
 
 /// What an edit makes of the collection at the cursor it makes of the one that the bag holds, by the changes that were done.
@@ -164,6 +193,26 @@ pub fn reverts_have_refusals_of_their_own()
     ensures others { (s : State) (edit : Edit)
         → reverts edit ≡ false
         → (edit_refusal s edit ≢ Some NoSuchChange) × (edit_refusal s edit ≢ Some BelowZero) }
+{}
+
+/// A store never refuses a `Remove`, a `DropLabel` or a `Normalise` for a count or a number of pairs above the limit, nor a `Grow` for a
+/// count: the first three leave no more copies or pairs than the limits allow anyway, and `Grow` gives first copies alone.
+pub fn lesser_edits_pass_no_limit()
+    ensures remove { (s : State) (pair : Pair) (copies : ℕ)
+        → IsStore s
+        → let refusal = edit_refusal s (Remove pair copies) in
+        (refusal ≢ Some TooManyCopies) × (refusal ≢ Some TooManyPairs) }
+    ensures drop_label { (s : State) (label : Label)
+        → IsStore s
+        → let refusal = edit_refusal s (DropLabel label) in
+        (refusal ≢ Some TooManyCopies) × (refusal ≢ Some TooManyPairs) }
+    ensures normalise { (s : State) (label : Label)
+        → IsStore s
+        → let refusal = edit_refusal s (Normalise label) in
+        (refusal ≢ Some TooManyCopies) × (refusal ≢ Some TooManyPairs) }
+    ensures grow { (s : State) (label : Label) (level : ℕ)
+        → IsStore s
+        → edit_refusal s (Grow label level) ≢ Some TooManyCopies }
 {}
 
 /// Each step of a store is the step of its history: an edit goes on to the edited collection, undo goes back by one,

@@ -33,6 +33,7 @@ pub(crate) fn apply_planned(
     ensures accepted { OnOk result (entries_refusal bag.now change.now ≡ None) }
     ensures refused { IfErr result (λ error.
         IsEditRefusal error (entries_refusal bag.now change.now)) }
+    ensures memory { result ≡ Err EditError.OutOfMemory → entries_refusal bag.now change.now ≡ None }
 {
     if change.entries().is_empty() {
         return Err(EditError::NoChange);

@@ -1,20 +1,21 @@
-ghost use Rattle.std.specs.Prelude.{◌≡◌, ◌≢◌, ◌↔◌, ◌<◌, [], ◌∷◌, length, None, IfOk, IfErr, OnOk, OnErr};
+ghost use Rattle.std.specs.Prelude.{◌≡◌, ◌≢◌, ◌↔◌, ◌<◌, ◌≤◌, true, false, [], ◌∷◌, length, None, IfOk, IfErr, OnOk, OnErr, All};
 ghost use Rattle.s2id_union.specs.Region.{HaveSameRegion, IsNormal};
 ghost use Rattle.s2ix_lists.specs.Apply.{first_mismatch};
 ghost use Rattle.s2ix_pairs.specs.declared.pair.Pair.{Pair};
 ghost use Rattle.s2ix_pairs.specs.Change.{counts_at, difference_of};
-ghost use Rattle.s2ix_pairs.specs.Collection.{count_in};
-ghost use Rattle.s2ix_pairs.specs.Limits.{changes_limit};
+ghost use Rattle.s2ix_pairs.specs.Collection.{IsBag, count_in};
+ghost use Rattle.s2ix_pairs.specs.Limits.{changes_limit, count_limit, pairs_limit};
 ghost use Rattle.s2ix_pairs.specs.Pair.{rank_of};
 ghost use Rattle.s2ix_refusals.specs.Errors.{IsEditRefusal};
 ghost use Rattle.s2ix_edit.specs.Edit.{edited};
 ghost use Rattle.s2ix_edit.specs.History.{alone, cursor_alone, one_back, one_on, with_next};
 ghost use Rattle.s2ix_edit.specs.Plan.{entries_refusal};
-ghost use Rattle.s2ix_edit.specs.Refusals.{edit_refusal};
+ghost use Rattle.s2ix_edit.specs.Refusals.{asks_no_copies, asks_too_fine, edit_refusal, goes_below_zero, has_count_above, lacks_change, lacks_label, reverts, takes_too_many};
 ghost use Rattle.s2ix_edit.specs.Region.{cells_of, region_of as region_in};
 ghost use Rattle.s2ix_edit.specs.State.{State, change_of, history_of, starting_at};
+ghost use Rattle.s2ix_store.specs.Recorded.{IsRecorded};
 ghost use Rattle.s2ix_store.specs.Steps.{after_edit, after_forget, after_record, after_redo, after_undo, redo_size, undo_size};
-ghost use Rattle.s2ix_store.specs.Store.{IsStore};
+ghost use Rattle.s2ix_store.specs.Store.{HasRoom, IsStore};
 ghost use Rattle.s2ix_ranges.specs.Table.{IsRangeTable};
 
 use crate::steps::{apply_planned, apply_recorded, shift_last};
@@ -89,7 +90,7 @@ impl Store {
 
     /// Carries an edit out, and answers how many pairs changed their counts. An accepted edit records the change
     /// at the end of `done` and empties `undone`; a refused one changes nothing. [`EditError`] says when each
-    /// refusal stands. It takes what [`plan`] takes, what it takes to let the undone changes go, and O(m + p) for m entries of the
+    /// refusal stands. An `Add` or a `Remove` of no copies is `NoChange` without a growth. It takes what [`plan`] takes, what it takes to let the undone changes go, and O(m + p) for m entries of the
     /// change and the p pairs held on their faces, of which alone bag and table are built again.
     pub fn edit(&mut self, edit: &Edit) -> Result<usize, EditError>
         ensures state { OnOk result (self.new ≡ after_edit self.old edit.now) }
@@ -103,6 +104,37 @@ impl Store {
         ensures refused { IfErr result (λ error.
             IsEditRefusal error (edit_refusal self.old edit.now)) }
         ensures unchanged { OnErr result (self.new ≡ self.old) }
+
+        // Each refusal by itself: these are answered wherever they stand.
+        ensures full { (result ≡ Err EditError.JournalFull)
+            ↔ (length self.old.done ≡ changes_limit self.old.bag.limits) }
+        ensures no_such_label { (result ≡ Err EditError.NoSuchLabel)
+            ↔ (HasRoom self.old × (lacks_label edit.now self.old.bag.held ≡ true)) }
+        ensures not_held { (result ≡ Err EditError.NotHeld)
+            ↔ (HasRoom self.old × (takes_too_many edit.now self.old.bag.held ≡ true)) }
+        ensures too_fine { (result ≡ Err EditError.TooFine)
+            ↔ (HasRoom self.old × (lacks_label edit.now self.old.bag.held ≡ false)
+            × (asks_too_fine edit.now self.old.bag.held ≡ true)) }
+        ensures no_such_change { (result ≡ Err EditError.NoSuchChange)
+            ↔ (HasRoom self.old × (lacks_change self.old.done edit.now ≡ true)) }
+        ensures below_zero { (result ≡ Err EditError.BelowZero)
+            ↔ (HasRoom self.old × (goes_below_zero self.old.done edit.now self.old.bag.held ≡ true)) }
+
+        // In place of the others `OutOfMemory` may come.
+        ensures no_change { result ≡ Err EditError.NoChange
+            → edited (history_of self.old) edit.now ≡ self.old.bag.held }
+        ensures too_many_copies { result ≡ Err EditError.TooManyCopies
+            → has_count_above (count_limit self.old.bag.limits) (edited (history_of self.old) edit.now) ≡ true }
+        ensures too_many_pairs { result ≡ Err EditError.TooManyPairs
+            → pairs_limit self.old.bag.limits < length (edited (history_of self.old) edit.now) }
+
+        // But an edit of no copies wants no memory, and a `Revert` only where it isn't refused.
+        ensures nothing { asks_no_copies edit.now ≡ true
+            → HasRoom self.old
+            → result ≡ Err EditError.NoChange }
+        ensures reverting { reverts edit.now ≡ true
+            → result ≡ Err EditError.OutOfMemory
+            → edit_refusal self.old edit.now ≡ None }
     {
         if self.done.len() >= self.bag.limits().changes() as usize {
             return Err(EditError::JournalFull);
@@ -113,13 +145,14 @@ impl Store {
 
     /// Carries planned entries out, whatever edit they come from.
     fn record_change(&mut self, change: Change) -> Result<usize, EditError>
-        requires room { length self.old.done < changes_limit self.old.bag.limits }
+        requires room { HasRoom self.old }
         requires matches { first_mismatch self.old.bag change ≡ None }
         ensures state { OnOk result (self.new ≡ after_record self.old change) }
         ensures number { IfOk result (λ n. n ≡ length change) }
         ensures accepted { OnOk result (entries_refusal self.old.bag change ≡ None) }
         ensures refused { IfErr result (λ error.
             IsEditRefusal error (entries_refusal self.old.bag change)) }
+        ensures memory { result ≡ Err EditError.OutOfMemory → entries_refusal self.old.bag change ≡ None }
         ensures unchanged { OnErr result (self.new ≡ self.old) }
     {
         let number = change.entries().len();
@@ -201,7 +234,7 @@ impl Store {
     /// The collection that the store stands at.
     pub fn bag(&self) -> &Bag
         ensures bag { result.now ≡ self.now.bag }
-        ensures within { IsStore self.now }
+        ensures within { IsBag result.now }
     {
         &self.bag
     }
@@ -210,7 +243,6 @@ impl Store {
     pub fn table(&self) -> &StoreTable
         ensures pairs { ⟦<StoreTable as RangeTable>⟧.pairs result.now ≡ self.now.bag.held }
         ensures table { IsRangeTable self.now.bag.held (⟦<StoreTable as RangeTable>⟧.ranges result.now) }
-        ensures within { IsStore self.now }
     {
         &self.table
     }
@@ -234,16 +266,21 @@ impl Store {
         region_of(self.alloc, &self.bag, label)
     }
 
-    /// The changes that can be undone, the oldest first.
+    /// The changes that can be undone, the oldest first. They lead to the collection that the store stands at, as the laws have it.
     pub fn done(&self) -> &[Change]
-        ensures { result.now ≡ self.now.done }
+        ensures done { result.now ≡ self.now.done }
+        ensures led { IsStore self.now }
+        ensures within { All (IsRecorded self.now.bag.limits) result.now }
+        ensures few { length result.now ≤ changes_limit self.now.bag.limits }
     {
         self.done.as_slice()
     }
 
     /// The changes that can be redone. The one that was undone last stands at the end, and is redone first.
     pub fn undone(&self) -> &[Change]
-        ensures { result.now ≡ self.now.undone }
+        ensures undone { result.now ≡ self.now.undone }
+        ensures within { All (IsRecorded self.now.bag.limits) result.now }
+        ensures few { length result.now ≤ changes_limit self.now.bag.limits }
     {
         self.undone.as_slice()
     }

@@ -11,6 +11,7 @@
 
 mod iter;
 mod labels;
+pub mod laws;
 mod meter;
 mod stretch;
 mod table;
@@ -22,4 +23,4 @@ pub use s2ix_ranges::RangeRow;
 pub use s2ix_walk::{Cost, Meeting, Reader, Window, walk};
 pub use stretch::Stretch;
 pub use table::RangeTable;
-pub use visit::{Visit, visit_counted};
+pub use visit::Visit;

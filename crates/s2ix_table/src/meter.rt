@@ -52,6 +52,7 @@ impl<T: RangeTable> Reader for Meter<'_, T> {
     }
 
     fn window(&mut self, face: u8) -> Window {
+        self.cost.add_probe();
         self.near = self.table.stretch(face);
         self.note = self.near.note;
         self.table.window(face)

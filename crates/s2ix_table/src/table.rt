@@ -1,4 +1,4 @@
-ghost use Rattle.std.specs.Prelude.{◌≡◌, ◌<◌, ◌≤◌, ◌∷◌, IfOk, List, length, drop};
+ghost use Rattle.std.specs.Prelude.{◌≡◌, ◌<◌, ◌≤◌, ◌∷◌, ℕ, IfOk, IsTrue, List, length, drop};
 ghost use Rattle.s2id_core.specs.CellId.{raw_of, level_of};
 ghost use Rattle.s2ix_pairs.specs.Collection.{Collection, IsCollection};
 ghost use Rattle.s2ix_ranges.specs.LabelList.{label_list};
@@ -7,22 +7,24 @@ ghost use Rattle.s2ix_walk.specs.Places.{IsPlace, LeadsTo};
 ghost use Rattle.s2ix_walk.specs.Faces.{HaveFace};
 ghost use Rattle.s2ix_table.specs.Stretches.{IsStretch};
 ghost use Rattle.s2ix_ranges.specs.Meeting.{IsMeetingList, IsLabelList, meeting_of};
-ghost use Rattle.s2ix_walk.specs.Calls.{MayVisit, Visits};
+ghost use Rattle.s2ix_walk.specs.Calls.{MayVisit, CallsOn, Visits};
+ghost use Rattle.s2ix_walk.specs.Costs.{ranges_met, IsWalkCost};
 
 use crate::labels::labels_of;
 use crate::meter::Meter;
 use crate::stretch::Stretch;
+use crate::visit::Visit;
 use s2id_core::{CellId, OutOfMemory};
 use s2id_union::CellUnion;
 use s2ix_bag::{Bag, Held, Label};
 use s2ix_ranges::RangeRow;
-use s2ix_walk::{Meeting, Window, walk};
+use s2ix_walk::{Meeting, Reader, Window, walk};
 use std::alloc::Global;
 
 /// The range table of a collection: the maximal spans of leaves over which the same pairs lie, in order, each with a
 /// chain of these pairs (S2's `S2CellIndex`, its ranges and its contents). The ranges cover all leaves, empty ones too.
 ///
-/// Queries are `visit`, `meeting` and `labels`, at the end. `window`, `stretch` and `read_near` only make a walk quicker: a user needs
+/// Queries are `visit`, `visit_counted`, `meeting` and `labels`, at the end. `window`, `stretch` and `read_near` only make a walk quicker: a user needs
 /// none of them, and a table may keep their default bodies.
 ///
 /// Costs are in n, the number of the table's pairs: there are at most 2 * n + 1 ranges.
@@ -124,6 +126,23 @@ pub trait RangeTable: Sized {
     {
         let mut meter = Meter::new(self);
         walk(&mut meter, target, f)
+    }
+
+    /// Calls `f` as [`visit`](RangeTable::visit) does, and counts what it reads of the table: the cost has the bounds that
+    /// [`walk`](s2ix_walk::walk) states. This project's own.
+    final fn visit_counted<F: FnMut(Held) -> bool>(&self, target: &CellUnion, f: &mut F) -> Visit
+        requires { MayVisit F.pre F.step f.old (meeting_of target.now (pairs self.now)) }
+        ensures visits { (calls : ℕ)
+            × CallsOn F.step f.old (meeting_of target.now (pairs self.now)) calls result.whole f.new
+            × IsWalkCost target.now (pairs self.now) (ranges self.now) calls result.cost }
+        ensures whole_probes { IsTrue result.whole → ranges_met target.now (ranges self.now) ≤ result.cost.probes }
+    {
+        let mut meter = Meter::new(self);
+        let whole = walk(&mut meter, target, f);
+        Visit {
+            whole,
+            cost: meter.cost(),
+        }
     }
 
     /// The target's meeting list: the held pairs that share a leaf with it, each once, by first shared leaf, then falling

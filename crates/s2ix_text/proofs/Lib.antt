@@ -2,4 +2,3 @@ pub mod Versions
 pub mod Dumps
 pub mod Journals
 pub mod Gathered
-pub mod Left

@@ -1,5 +1,9 @@
 //! Laws: functions that do nothing, and whose contracts are facts on the definitions.
+ghost use Rattle.std.specs.Prelude.{◌≡◌, ◌↔◌, IsTrue};
+ghost use Rattle.s2ix_text.specs.declared.version.Version.{Version};
 ghost use Rattle.s2ix_text.specs.Laws.{BagsHaveDumps, DumpsTellBagsApart, DumpsTellCollectionsApart, DumpsTellVersionsApart, JournalsTellListsApart, JournalsTellVersionsApart, WritableChangesHaveJournals};
+
+use crate::Version;
 
 /// A text is a dump of one collection alone, in whichever version; so two bags with one dump hold the same.
 pub fn dumps_tell_collections_apart()
@@ -30,4 +34,14 @@ pub fn journals_tell_versions_apart()
 /// What is written of writable changes is a journal of them.
 pub fn writable_changes_have_journals()
     ensures { WritableChangesHaveJournals }
+{}
+
+/// Two versions are equal exactly where they are one.
+pub fn equal_versions_are_one()
+    ensures { (a b : Version) → IsTrue (⟦<Version as PartialEq>⟧.eq a b) ↔ (a ≡ b) }
+{}
+
+/// A clone of a version is the same.
+pub fn cloned_versions_are_the_same()
+    ensures { (a copy : Version) → ⟦<Version as Clone>⟧.is_clone a copy ↔ (copy ≡ a) }
 {}

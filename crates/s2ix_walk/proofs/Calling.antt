@@ -13,9 +13,9 @@ pub calls_same : {F : Type 0} (step : F → Held → Bool → F → Type 0) (f l
 calls_same {F} step f last xs ys j k whole e n calls =
     subst (λ (zs : Collection). CallsOn step f zs k whole last) e (subst (λ (m : ℕ). CallsOn step f xs m whole last) n calls)
 
-pub cost_same : {P : Type 0} (xs ys : List CellId) (shown other : Shown P) (j k : ℕ) (a b : Cost) → xs ≡ ys → shown ≡ other → j ≡ k → a ≡ b → IsWalkCost xs shown.ranges j a → IsWalkCost ys other.ranges k b
+pub cost_same : {P : Type 0} (xs ys : List CellId) (shown other : Shown P) (j k : ℕ) (a b : Cost) → xs ≡ ys → shown ≡ other → j ≡ k → a ≡ b → IsWalkCost xs shown.pairs shown.ranges j a → IsWalkCost ys other.pairs other.ranges k b
 cost_same {P} xs ys shown other j k a b cells same n cost is =
-    subst (λ (zs : List CellId). IsWalkCost zs other.ranges k b) cells (subst (λ (s : Shown P). IsWalkCost xs s.ranges k b) same (subst (λ (m : ℕ). IsWalkCost xs shown.ranges m b) n (subst (λ (c : Cost). IsWalkCost xs shown.ranges j c) cost is)))
+    subst (λ (zs : List CellId). IsWalkCost zs other.pairs other.ranges k b) cells (subst (λ (s : Shown P). IsWalkCost xs s.pairs s.ranges k b) same (subst (λ (m : ℕ). IsWalkCost xs shown.pairs shown.ranges m b) n (subst (λ (c : Cost). IsWalkCost xs shown.pairs shown.ranges j c) cost is)))
 
 pub meeting_same : {P : Type 0} (xs ys : List CellId) (shown other : Shown P) → xs ≡ ys → shown ≡ other → meeting_of xs shown.pairs ≡ meeting_of ys other.pairs
 meeting_same {P} xs ys shown other cells same =

@@ -3,7 +3,7 @@ use Rattle.std.proofs.Common.{◌≡◌, ℕ, zero, suc, ◌+◌, ◌<◌, ◌�
 use Rattle.std.proofs.lemmas.List.Sums.{sum_by-cons}
 use Rattle.s2id_union.proofs.Lists.{cons_cases, none_in_nil}
 
-count_cons : {X : Type 0} (p : X → Bool) (x : X) (xs : List X) → count_by p (x ∷ xs) ≡ cond (p x) 1 0 + count_by p xs
+pub count_cons : {X : Type 0} (p : X → Bool) (x : X) (xs : List X) → count_by p (x ∷ xs) ≡ cond (p x) 1 0 + count_by p xs
 count_cons p x xs = sum_by-cons (λ y. cond (p y) 1 0) x xs
 
 one_grows : (a b : Bool) → (a ≡ true → b ≡ true) → cond a 1 0 ≤ cond b 1 0
@@ -16,7 +16,7 @@ one_at_most : (a : Bool) → cond a 1 0 ≤ 1
 one_at_most false = omega arith
 one_at_most true = omega arith
 
-none_at : (a : Bool) → (a ≡ true → ⊥) → cond a 1 0 ≤ 0
+pub none_at : (a : Bool) → (a ≡ true → ⊥) → cond a 1 0 ≤ 0
 none_at false h = omega arith
 none_at true h = absurd (h refl)
 

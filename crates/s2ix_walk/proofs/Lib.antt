@@ -6,6 +6,8 @@ pub mod Counts
 pub mod Windows
 pub mod OnFaces
 pub mod WalkSteps
+pub mod Left
+pub mod GivenPairs
 pub mod Paying
 pub mod Calling
 pub mod Meets

@@ -142,7 +142,7 @@ met_before target from h lt = and_left _ _ (lt-leb _ _ lt)
 met_never : (target : List CellId) (from : ℕ) (h : Held) → leaf_end ≤ first_shared target h.pair.cell → is_met_from target from h ≡ false
 met_never target from h le = and_right _ _ (le-ltb _ _ le)
 
-met_from : (target : List CellId) (from : ℕ) (h : Held) → from ≤ first_shared target h.pair.cell → first_shared target h.pair.cell < leaf_end → is_met_from target from h ≡ true
+pub met_from : (target : List CellId) (from : ℕ) (h : Held) → from ≤ first_shared target h.pair.cell → first_shared target h.pair.cell < leaf_end → is_met_from target from h ≡ true
 met_from target from h le lt = and_from _ _ (le-leb _ _ le) (lt-ltb _ _ lt)
 
 kind_over : (target : List CellId) (held : Collection) (seen at next : ℕ) (h : Held) → IsStep target held seen at next → IsOver h at → IsKind target seen at next h

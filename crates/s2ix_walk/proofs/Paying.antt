@@ -1,7 +1,7 @@
 -- What each step of a walk may read.
-use Rattle.std.proofs.Common.{◌≡◌, ℕ, ◌+◌, ◌*◌, ◌<◌, ◌≤◌, true, ◌&&◌, leb, ltb, min, max, Option, Some, None, inl, inr, IfSome, List, [], ◌∷◌, length, suc, ◌-◌, refl, ◌∙◌, ap, subst, arith, Contains, le-leb, lt-ltb, le-ltb}
+use Rattle.std.proofs.Common.{◌≡◌, ℕ, ◌+◌, ◌*◌, ◌<◌, ◌≤◌, true, ◌&&◌, ltb, min, max, Option, Some, None, inl, inr, IfSome, List, [], ◌∷◌, length, drop, suc, ◌-◌, refl, sym, ◌∙◌, ap, subst, arith, Contains, lt-ltb, le-ltb}
 use Rattle.std.proofs.Math.Nat.{mul-le-mul_right, suc-mul}
-use Rattle.std.proofs.lemmas.Bool.{and_parts, and_from, and_right, leb-true, ltb-true, lt-leb, cases_lt}
+use Rattle.std.proofs.lemmas.Bool.{and_parts, and_from, and_right, ltb-true, cases_lt}
 use Rattle.std.proofs.lemmas.List.Elements.{Contains-get_or}
 use Rattle.std.proofs.lemmas.List.Sums.{count_by-le-length}
 use Rattle.std.proofs.lemmas.List.Folds.{Any-from_list_any}
@@ -17,17 +17,19 @@ use Rattle.s2ix_ranges.proofs.InOrder.{length_choice}
 use Rattle.s2ix_ranges.proofs.Tables.{places_fit}
 use Rattle.s2ix_walk.specs.Costs.{no_cost, with_look, binary_digits, is_met, ranges_met, IsWalkCost}
 use Rattle.s2ix_walk.specs.Shown.{Shown, IsShown}
-use Rattle.s2ix_walk.specs.Walking.{left_of, ArePassed, IsPaid, HasPaid, one_if_some, looked_at, cells_begun, ends_passed, ranges_begun}
+use Rattle.s2ix_walk.specs.Walking.{left_of, ArePassed, IsWalk, IsPaid, HasPaid, one_if_some, looked_at, cells_begun, ranges_begun}
 use Rattle.s2ix_walk.specs.declared.cost.Cost.{Cost}
 use Rattle.s2ix_walk.specs.declared.walk_state.WalkState.{WalkState}
 use Rattle.s2ix_walk.proofs.Counts.{count_grows, count_gains, count_grows_once, count_none}
+use Rattle.s2ix_walk.proofs.GivenPairs.{given_reads}
+use Rattle.s2ix_walk.proofs.Left.{left_first}
 use Rattle.s2ix_walk.proofs.Meets.{met_from, leaf_of_met}
 use Rattle.s2ix_walk.proofs.WalkSteps.{range_fits, ranges_follow}
 
 -- ---- what is passed
 
 -- a step over a range that has the first leaf of the target from `seen` on, which is that of a cell: to the nearer end of the two, or beyond
--- it, and not beyond the range
+-- it, and not beyond the range, which begins at `seen` or behind it
 pub record IsPassed (target : List CellId) (ranges : List Range) (x : CellId) (k seen next : ℕ) : Type 0 where
   pub held : Contains target x
   pub beyond : seen < end_of x
@@ -37,37 +39,10 @@ pub record IsPassed (target : List CellId) (ranges : List Range) (x : CellId) (k
   pub goes : min (range_at ranges k).limit (end_of x) ≤ next
   pub stays : next ≤ (range_at ranges k).limit
   pub first : (q : ℕ) → Covers target q → seen ≤ q → first_of x ≤ q
-
-later : (a b s t : ℕ) → s ≤ t → leb a s ≡ true → leb a t ≡ true
-later a b s t le e = let l = leb-true a s e in le-leb a t (omega arith)
-
-ended_later : (target : List CellId) (s t : ℕ) → s ≤ t → (r : Range) → (is_met target r && leb r.limit s) ≡ true → (is_met target r && leb r.limit t) ≡ true
-ended_later target s t le r e = let both = and_parts _ _ e in and_from _ _ both.0 (later r.limit 0 s t le both.1)
+  pub fresh : seen ≤ (range_at ranges k).start
 
 at_held : (ranges : List Range) (k : ℕ) → k < length ranges → Contains ranges (range_at ranges k)
 at_held ranges k lt = Contains-get_or ranges k (record { start = 0; limit = 0; contents = [] }) lt
-
-pub ends_gain : (target : List CellId) (ranges : List Range) (x : CellId) (k seen next : ℕ) → IsPassed target ranges x k seen next → ends_passed target ranges seen + 1 ≤ ends_passed target ranges next
-ends_gain target ranges x k seen next p =
-    let s = span (raw_of x) x.valid in
-    let s1 = s.from in
-    let s2 = s.to in
-    let a = p.beyond in
-    let b = p.start in
-    let c = p.limit in
-    let e = p.goes in
-    let le : seen ≤ next = omega arith in
-    let cells = count_grows (λ (y : CellId). leb (end_of y) seen) (λ y. leb (end_of y) next) target (λ y t. later (end_of y) 0 seen next le t) in
-    let rows = count_grows (λ (r : Range). is_met target r && leb r.limit seen) (λ r. is_met target r && leb r.limit next) ranges (ended_later target seen next le) in
-    elim (cases_lt (end_of x) (range_at ranges k).limit) [
-      | inl less ↦
-          (let more = count_gains (λ (y : CellId). leb (end_of y) seen) (λ y. leb (end_of y) next) target x (λ y t. later (end_of y) 0 seen next le t) p.held (lt-leb (end_of x) seen a) (le-leb (end_of x) next (omega arith)) in
-          omega arith)
-      | inr ge ↦
-          (let r : Range = range_at ranges k in
-          let more = count_gains (λ (r : Range). is_met target r && leb r.limit seen) (λ r. is_met target r && leb r.limit next) ranges r (ended_later target seen next le) (at_held ranges k p.within) (and_right (is_met target r) (leb r.limit seen) (lt-leb r.limit seen (omega arith))) (and_from (is_met target r) (leb r.limit next) (met_from target x r p.held (omega arith) (omega arith)) (le-leb r.limit next (omega arith))) in
-          omega arith)
-    ]
 
 begun_later : (s t : ℕ) → s ≤ t → (y : CellId) → ltb (first_of y) s ≡ true → ltb (first_of y) t ≡ true
 begun_later s t le y e = let l = ltb-true (first_of y) s e in lt-ltb (first_of y) t (omega arith)
@@ -121,6 +96,22 @@ begins_once held target ranges x k seen next t p =
     let before = ltb-true (range_at ranges j).start next both.1 in
     and_from (is_met target (range_at ranges j)) (ltb (range_at ranges j).start seen) both.0 (lt-ltb _ _ (begun_before held target ranges x k seen next j t p lt other both.0 before)))
 
+-- and that one does
+begins_more : (target : List CellId) (ranges : List Range) (x : CellId) (k seen next : ℕ) → IsPassed target ranges x k seen next → ranges_begun target ranges seen + 1 ≤ ranges_begun target ranges next
+begins_more target ranges x k seen next p =
+    let s = span (raw_of x) x.valid in
+    let s1 = s.from in
+    let s2 = s.to in
+    let a = p.beyond in
+    let b = p.start in
+    let c = p.limit in
+    let e = p.goes in
+    let f = p.fresh in
+    let r : Range = range_at ranges k in
+    let met = met_from target x r p.held (omega arith) (omega arith) in
+    let grows : (y : Range) → (is_met target y && ltb y.start seen) ≡ true → (is_met target y && ltb y.start next) ≡ true = λ y t. let both = and_parts _ _ t in let lt = ltb-true y.start seen both.1 in and_from _ _ both.0 (lt-ltb y.start next (omega arith)) in
+    count_gains (λ (y : Range). is_met target y && ltb y.start seen) (λ y. is_met target y && ltb y.start next) ranges r grows (at_held ranges k p.within) (and_right (is_met target r) (ltb r.start seen) (le-ltb _ _ f)) (and_from (is_met target r) (ltb r.start next) met (lt-ltb _ _ (omega arith)))
+
 -- what has begun can be counted
 begun_fits : (held : Collection) (target : List CellId) (ranges : List Range) (seen : ℕ) → IsRangeTable held ranges → ranges_begun target ranges seen ≤ 18446744073709551615
 begun_fits held target ranges seen t =
@@ -149,10 +140,10 @@ one_most : {X : Type 0} (o : Option X) → one_if_some o ≤ 1
 one_most None = omega arith
 one_most (Some x) = omega arith
 
--- a step to the next range: one probe, and a search where a cell begins
-pub step_pays : {P : Type 0} (shown : Shown P) (target : List CellId) (walk next : WalkState P) (x : CellId) (k calls : ℕ) (old new : Cost) → IsPassed target shown.ranges x k walk.seen next.seen → new.looks ≡ old.looks → (first_of x ≤ walk.seen → new.probes ≤ old.probes + 1) → new.probes ≤ old.probes + binary_digits (length shown.ranges + 1) + 1 → min (old.probes + 1) 18446744073709551615 ≤ new.probes → IsShown shown → IsPaid shown target walk calls old → IsPaid shown target next calls new
+-- a step to the next range: one probe, and a search and one probe more where a cell begins
+pub step_pays : {P : Type 0} (shown : Shown P) (target : List CellId) (walk next : WalkState P) (x : CellId) (k calls : ℕ) (old new : Cost) → IsPassed target shown.ranges x k walk.seen next.seen → new.looks ≡ old.looks → (first_of x ≤ walk.seen → new.probes ≤ old.probes + 1) → new.probes ≤ old.probes + binary_digits (length shown.ranges + 1) + 2 → min (old.probes + 1) 18446744073709551615 ≤ new.probes → IsShown shown → IsPaid shown target walk calls old → IsPaid shown target next calls new
 step_pays shown target walk next x k calls old new p looks at_hand searched rises is paid =
-    let d : ℕ = binary_digits (length shown.ranges + 1) in
+    let d : ℕ = binary_digits (length shown.ranges + 1) + 1 in
     let s = span (raw_of x) x.valid in
     let s1 = s.from in
     let s2 = s.to in
@@ -162,7 +153,7 @@ step_pays shown target walk next x k calls old new p looks at_hand searched rise
     let each = paid.each in
     let before = paid.looks in
     let probes = paid.probes in
-    let gain = ends_gain target shown.ranges x k walk.seen next.seen p in
+    let gain = begins_more target shown.ranges x k walk.seen next.seen p in
     record {
       each = omega arith;
       looks = let o = one_most next.place in omega arith;
@@ -188,7 +179,7 @@ looked_some None cost e = absurd (omega arith)
 looked_some (Some p) cost e = refl
 
 -- a look that gave a new pair
-pub look_pays : {P : Type 0} (shown : Shown P) (target : List CellId) (walk : WalkState P) (outer : Option P) (calls : ℕ) (old new : Cost) → calls ≤ 1000000 → one_if_some walk.place ≡ 1 → new ≡ looked_at walk.place old → IsPaid shown target walk calls old → IsPaid shown target (record { cell = walk.cell; range = walk.range; seen = walk.seen; from = walk.from; place = outer }) (calls + 1) new
+pub look_pays : {P : Type 0} (shown : Shown P) (target : List CellId) (walk : WalkState P) (outer : Option P) (calls : ℕ) (old new : Cost) → calls ≤ 1000000 → one_if_some walk.place ≡ 1 → new ≡ looked_at walk.place old → IsPaid shown target walk calls old → IsPaid shown target (record { cell = walk.cell; range = walk.range; seen = walk.seen; from = walk.from; place = outer; known = walk.known }) (calls + 1) new
 look_pays shown target walk outer calls old new few some is paid =
     let same = is ∙ looked_some walk.place old some in
     let looks = ap (λ (c : Cost). c.looks) same in
@@ -204,7 +195,7 @@ closed_by None old = (omega arith, refl, omega arith)
 closed_by (Some p) old = (omega arith, refl, omega arith)
 
 -- a look that gave none, or no look where no place was left
-pub close_pays : {P : Type 0} (shown : Shown P) (target : List CellId) (walk : WalkState P) (calls : ℕ) (old new : Cost) → calls ≤ 1000000 → new ≡ looked_at walk.place old → IsPaid shown target walk calls old → IsPaid shown target (record { cell = walk.cell; range = walk.range; seen = walk.seen; from = walk.from; place = None }) calls new
+pub close_pays : {P : Type 0} (shown : Shown P) (target : List CellId) (walk : WalkState P) (calls : ℕ) (old new : Cost) → calls ≤ 1000000 → new ≡ looked_at walk.place old → IsPaid shown target walk calls old → IsPaid shown target (record { cell = walk.cell; range = walk.range; seen = walk.seen; from = walk.from; place = None; known = walk.known }) calls new
 close_pays shown target walk calls old new few is paid =
     let looks = ap (λ (c : Cost). c.looks) is in
     let probes = ap (λ (c : Cost). c.probes) is in
@@ -236,7 +227,9 @@ none_pays shown target walk cost is first none all unread =
     let probes = ap (λ (c : Cost). c.probes) unread in
     let closed = ap one_if_some none in
     let begun = ap (ranges_begun target shown.ranges) first ∙ none_begun shown.pairs target shown.ranges is.is_table in
-    record { fits = omega arith; paid = record { each = omega arith; looks = omega arith; probes = omega arith; begun = omega arith } }
+    let met : Collection = meeting_of target shown.pairs in
+    let none_given : 0 ≡ length met - length (left_of shown target walk) = omega arith in
+    record { fits = omega arith; rest = all ∙ ap (λ (n : ℕ). drop n met) none_given; paid = record { each = omega arith; looks = omega arith; probes = omega arith; begun = omega arith } }
 
 -- one pair more was given, or the end was reached
 pub next_pays : {P : Type 0} (shown : Shown P) (target : List CellId) (walk next : WalkState P) (old new : Cost) (result : Option Held) → IsShown shown → (result ≡ None → (left_of shown target walk ≡ []) × (left_of shown target next ≡ [])) → IfSome result (λ held. left_of shown target walk ≡ held ∷ left_of shown target next) → ((calls : ℕ) → calls ≤ 1000000 → IsPaid shown target walk calls old → IsPaid shown target next (calls + one_if_some result) new) → HasPaid shown target walk old → HasPaid shown target next new
@@ -247,7 +240,8 @@ next_pays shown target walk next old new None is ends gives pays has =
     let b = ap length (ends refl).1 in
     let calls : ℕ = all - length (left_of shown target walk) in
     let same : calls + 0 ≡ all - length (left_of shown target next) = omega arith in
-    record { fits = omega arith; paid = subst (λ (k : ℕ). IsPaid shown target next k new) same (pays calls (omega arith) has.paid) }
+    let rest = subst (λ (xs : Collection). xs ≡ drop (all - length xs) (meeting_of target shown.pairs)) ((ends refl).0 ∙ sym (ends refl).1) has.rest in
+    record { fits = omega arith; rest = rest; paid = subst (λ (k : ℕ). IsPaid shown target next k new) same (pays calls (omega arith) has.paid) }
 next_pays shown target walk next old new (Some held) is ends gives pays has =
     let all : ℕ = length (meeting_of target shown.pairs) in
     let few = few_meet shown target is in
@@ -255,19 +249,21 @@ next_pays shown target walk next old new (Some held) is ends gives pays has =
     let fits = has.fits in
     let calls : ℕ = all - length (left_of shown target walk) in
     let same : calls + 1 ≡ all - length (left_of shown target next) = omega arith in
-    record { fits = omega arith; paid = subst (λ (k : ℕ). IsPaid shown target next k new) same (pays calls (omega arith) has.paid) }
+    let behind = (left_first (meeting_of target shown.pairs) (left_of shown target walk) (left_of shown target next) calls held has.rest gives).2 in
+    let rest = subst (λ (k : ℕ). left_of shown target next ≡ drop k (meeting_of target shown.pairs)) same behind in
+    record { fits = omega arith; rest = rest; paid = subst (λ (k : ℕ). IsPaid shown target next k new) same (pays calls (omega arith) has.paid) }
 
 -- what has paid for its calls keeps to the bounds
-pub paid_costs : {P : Type 0} (shown : Shown P) (target : List CellId) (walk : WalkState P) (calls : ℕ) (cost : Cost) → IsPaid shown target walk calls cost → IsWalkCost target shown.ranges calls cost
-paid_costs shown target walk calls cost paid =
+pub paid_costs : {P : Type 0} (shown : Shown P) (target : List CellId) (walk : WalkState P) (cost : Cost) → IsWalk shown target walk → HasPaid shown target walk cost → IsWalkCost target shown.pairs shown.ranges (length (meeting_of target shown.pairs) - length (left_of shown target walk)) cost
+paid_costs shown target walk cost is has =
+    let paid = has.paid in
     let d : ℕ = binary_digits (length shown.ranges + 1) in
-    let each = paid.each in
     let looks = paid.looks in
     let probes = paid.probes in
-    let rows = count_grows (λ (r : Range). is_met target r && leb r.limit walk.seen) (is_met target) shown.ranges (λ r e. (and_parts _ _ e).0) in
-    let ends = count_by-le-length (λ (c : CellId). leb (end_of c) walk.seen) target in
-    let times = mul-le-mul_right d (count_by-le-length (λ (c : CellId). ltb (first_of c) walk.seen) target) in
-    record { each = each; looks = omega arith; probes = omega arith }
+    let rows = count_grows (λ (r : Range). is_met target r && ltb r.start walk.seen) (is_met target) shown.ranges (λ r e. (and_parts _ _ e).0) in
+    let times = mul-le-mul_right (d + 1) (count_by-le-length (λ (c : CellId). ltb (first_of c) walk.seen) target) in
+    let one : length target * (d + 1) ≡ length target * d + length target = grind arith in
+    record { each = paid.each; looks = omega arith; probes = omega arith; least = λ h held. given_reads shown target walk cost h is has held }
 
 -- what has passed the whole target has read each range that meets it
 pub passed_costs : {P : Type 0} (shown : Shown P) (target : List CellId) (walk : WalkState P) (calls : ℕ) (cost : Cost) → ArePassed target (length target) walk.seen → IsPaid shown target walk calls cost → ranges_met target shown.ranges ≤ cost.probes

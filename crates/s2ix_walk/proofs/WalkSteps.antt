@@ -13,7 +13,7 @@ use Rattle.s2ix_ranges.specs.Meeting.{meeting_from}
 use Rattle.s2ix_walk.specs.Places.{from_place, LeadsTo}
 use Rattle.s2ix_ranges.specs.Table.{Range, range_at, leaf_end, IsRangeTable, IsFound}
 use Rattle.s2ix_walk.specs.Shown.{Shown}
-use Rattle.s2ix_walk.specs.Walking.{left_of, ArePassed, IsWalk, front_from}
+use Rattle.s2ix_walk.specs.Walking.{left_of, ArePassed, IsKnown, IsWalk, front_from}
 use Rattle.s2ix_walk.specs.declared.walk_state.WalkState.{WalkState}
 use Rattle.s2ix_ranges.proofs.Over.{IsOver, in_contents, contents_has}
 use Rattle.s2ix_ranges.proofs.Tables.{places_fit, limits_rise}
@@ -115,12 +115,13 @@ pub record IsAt (target : List CellId) (hs : Collection) (ranges : List Range) (
   pub beyond : seen < end_of x
   pub found : IsFound ranges range (max seen (first_of x))
 
--- a cell of the target, from the k-th on, that begins before the limit of a range
+-- the last cell of the target, from the k-th on, that begins before the limit of a range
 pub record IsBegun (target : List CellId) (k limit last : ℕ) (y : CellId) : Type 0 where
   pub from : k ≤ last
   pub within : last < length target
   pub is : y ≡ get_or target last y
   pub begins : first_of y < limit
+  pub behind : (d : CellId) → last + 1 < length target → limit ≤ first_of (get_or target (last + 1) d)
 
 -- cells of a target that are not the same follow one another
 pub begun_after : (target : List CellId) (k limit last : ℕ) (x y : CellId) → FollowOneAnother target → x ≡ get_or target k x → IsBegun target k limit last y → (end_of x ≤ first_of y) ⊎ (end_of x ≡ end_of y)
@@ -141,6 +142,61 @@ begun_after target k limit last x y follow is b =
           inr (omega arith))
     ]
 
+-- behind such a cell the target has no leaf before that limit
+behind_last : (target : List CellId) (k limit last : ℕ) (y : CellId) → FollowOneAnother target → IsBegun target k limit last y → (q : ℕ) → Covers target q → end_of y ≤ q → limit ≤ q
+behind_last target k limit last y follow b q v le =
+    let j = v.held.0 in
+    let within = v.held.1 in
+    let from = v.from in
+    let to = v.to in
+    let first = ap (λ (c : CellId). first_of c) v.held.2 in
+    let end = ap (λ (c : CellId). end_of c) v.held.2 in
+    let w = b.within in
+    let e = ap (λ (c : CellId). end_of c) (b.is ∙ get_or_default target last y v.cell w) in
+    let z = ap (λ (c : CellId). first_of c) (b.is ∙ get_or_default target last y v.cell w) in
+    let s = span (raw_of y) y.valid in
+    let s1 = s.from in
+    let s2 = s.to in
+    elim (cases_order j last) [
+      | inl same ↦ absurd (let f = ap (λ i. end_of (get_or target i v.cell)) same in omega arith)
+      | inr other ↦
+          elim other [
+            | inl less ↦ absurd (let f = follow j last v.cell less w in omega arith)
+            | inr more ↦
+                (let next : CellId = get_or target (last + 1) v.cell in
+                let l = b.behind v.cell (omega arith) in
+                let n = span (raw_of next) next.valid in
+                let n1 = n.from in
+                let n2 = n.to in
+                elim (cases_lt (last + 1) j) [
+                  | inl beyond ↦ let f = follow (last + 1) j v.cell beyond within in omega arith
+                  | inr here ↦ let same : last + 1 ≡ j = omega arith in let f = ap (λ i. first_of (get_or target i v.cell)) same in omega arith
+                ])
+          ]
+    ]
+
+-- a range with a leaf behind another range begins behind it
+behind_range : (hs : Collection) (ranges : List Range) → IsRangeTable hs ranges → (k i q : ℕ) → k < length ranges → (range_at ranges k).limit ≤ q → IsFound ranges i q → (range_at ranges k).limit ≤ (range_at ranges i).start
+behind_range hs ranges t k i q within le found =
+    let w = found.within in
+    let a = found.start in
+    let b = found.limit in
+    let r = t.rises k within in
+    elim (cases_order i k) [
+      | inl same ↦ absurd (let f = ap (λ j. (range_at ranges j).limit) same in omega arith)
+      | inr other ↦
+          elim other [
+            | inl less ↦ absurd (let f = ranges_follow hs ranges t i k less within in omega arith)
+            | inr more ↦ ranges_follow hs ranges t k i more w
+          ]
+    ]
+
+-- none begins before the first leaf
+pub fresh_first : (hs : Collection) (ranges : List Range) → IsRangeTable hs ranges → (k q : ℕ) → IsFound ranges k q → 1 ≤ (range_at ranges k).start
+fresh_first hs ranges t k q found =
+    let odd = t.odd k found.within in
+    omega arith
+
 -- where a walk goes on behind a range: at the next one, or where the cell ends before that
 abbrev pub GoesOn : ℕ → ℕ → ℕ → ℕ × ℕ → Type 0
 GoesOn range limit end to = ((limit ≤ end) × (to ≡ (range + 1, limit))) ⊎ ((end < limit) × (to ≡ (range, end)))
@@ -150,8 +206,8 @@ pub record IsPast {P : Type 0} (shown : Shown P) (target : List CellId) (walk : 
   pub left : meeting_from target walk.from shown.pairs ≡ left_of shown target walk
   pub next : IsWalk shown target walk
 
-pub walk_past : {P : Type 0} (shown : Shown P) (target : List CellId) (k range limit end : ℕ) (x y : CellId) (walk : WalkState P) → IsAt target shown.pairs shown.ranges k walk.from range x → IsBegun target k limit walk.cell y → LeadsTo shown.chain walk.place (range_at shown.ranges range).contents → limit ≡ (range_at shown.ranges range).limit → end ≡ end_of y → GoesOn range limit end (walk.range, walk.seen) → IsPast shown target walk
-walk_past {P} shown target k range limit end x y walk a begun leads is_limit is_end on =
+pub walk_past : {P : Type 0} (shown : Shown P) (target : List CellId) (k range limit end : ℕ) (x y : CellId) (walk : WalkState P) → IsAt target shown.pairs shown.ranges k walk.from range x → IsBegun target k limit walk.cell y → LeadsTo shown.chain walk.place (range_at shown.ranges range).contents → limit ≡ (range_at shown.ranges range).limit → end ≡ end_of y → IsKnown shown.ranges walk.known → GoesOn range limit end (walk.range, walk.seen) → IsPast shown target walk
+walk_past {P} shown target k range limit end x y walk a begun leads is_limit is_end known on =
     let hs = shown.pairs in
     let ranges = shown.ranges in
     let r = span (raw_of y) y.valid in
@@ -211,10 +267,22 @@ walk_past {P} shown target k range limit end x y walk a begun leads is_limit is_
           | inr i ↦ subst At (sym i.1) (record { within = a.found.within; start = omega arith; limit = omega (arith, i.0) })
         ];
         place = leads.place;
+        known = known;
+        fresh = λ i q v le found.
+            let late : limit ≤ q = elim on [
+              | inl o ↦ omega (arith, ap (λ to. to.1) o.1)
+              | inr o ↦ behind_last target k limit walk.cell y a.follow begun q v (omega (arith, ap (λ to. to.1) o.1))
+            ] in
+            let f = behind_range hs ranges a.table range i q a.found.within (omega arith) found in
+            omega arith;
       };
     }
 
 -- ---- the chain at hand
+
+-- a walk that leaves the chain at hand
+pub walk_closed : {P : Type 0} (shown : Shown P) (target : List CellId) (walk : WalkState P) → IsWalk shown target walk → IsWalk shown target (record { cell = walk.cell; range = walk.range; seen = walk.seen; from = walk.from; place = None; known = walk.known })
+walk_closed shown target walk w = record { odd = w.odd; within = w.within; tight = w.tight; passed = w.passed; found = w.found; place = λ p e. absurd (cc); fresh = w.fresh; known = w.known }
 
 pub new_none : {P : Type 0} (chain : P → Collection) (from : ℕ) (place : Option P) → place ≡ None → front_from from (from_place chain place) ≡ []
 unfolding front_from

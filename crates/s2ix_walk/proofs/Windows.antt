@@ -5,8 +5,10 @@ use Rattle.std.proofs.lemmas.Bool.{cases_lt}
 use Rattle.s2ix_pairs.specs.Collection.{Collection}
 use Rattle.s2ix_ranges.specs.Table.{Range, range_at, leaf_end, IsRangeTable}
 use Rattle.s2ix_ranges.proofs.Tables.{limits_rise}
+use Rattle.s2ix_walk.specs.Costs.{binary_digits}
 use Rattle.s2ix_walk.specs.Faces.{face_begin, HaveFace}
 use Rattle.s2ix_walk.specs.Searching.{IsWindow}
+use Rattle.s2ix_walk.proofs.Digits.{digits_step}
 
 starts_rise : (hs : Collection) (ranges : List Range) (i j : ℕ) → IsRangeTable hs ranges → i ≤ j → j + 1 < length ranges → (range_at ranges (i + 1)).start ≤ (range_at ranges (j + 1)).start
 starts_rise hs ranges i j t le lt =
@@ -22,19 +24,43 @@ window_to ranges leaf first end some within start limit =
     let f = ap (λ k. (range_at ranges k).start) e in
     record { some = omega arith; within = omega arith; start = start; limit = λ more. let l = limit (omega arith) in omega arith }
 
+-- the first half of a window, and the second
+pub first_half : (ranges : List Range) (leaf first half : ℕ) → IsWindow ranges leaf first (half * 2) → 0 < half → leaf < (range_at ranges (first + half)).start → IsWindow ranges leaf first half
+first_half ranges leaf first half w some lt =
+    let a = w.within in
+    record { some = omega arith; within = omega arith; start = w.start; limit = λ _. lt }
+
+pub second_half : (ranges : List Range) (leaf first half : ℕ) → IsWindow ranges leaf first (half * 2) → 0 < half → (range_at ranges (first + half)).start ≤ leaf → IsWindow ranges leaf (first + half) half
+second_half ranges leaf first half w some le =
+    let a = w.within in
+    let e : first + half + half ≡ first + half * 2 = omega arith in
+    let f = ap (λ k. (range_at ranges k).start) e in
+    record { some = omega arith; within = omega arith; start = le; limit = λ more. let l = w.limit (omega arith) in omega arith }
+
+-- half of a power of two
+pub record IsHalf (size : ℕ) : Type 0 where
+  pub left : ℕ
+  pub power : size / 2 ≡ 2 ^ left
+  pub twice : size ≡ size / 2 * 2
+  pub digits : binary_digits (size - 1) ≡ binary_digits (size / 2 - 1) + 1
+
+pub half_of_power : (k size : ℕ) → size ≡ 2 ^ k → 1 < size → IsHalf size
+half_of_power zero size is some = absurd (omega arith)
+half_of_power (suc j) size is some =
+    let twice = pow-suc 2 j in
+    let e : (size - 1) / 2 ≡ size / 2 - 1 = omega arith in
+    record { left = j; power = omega arith; twice = omega arith; digits = digits_step (size - 1) (omega arith) ∙ ap (λ (n : ℕ). binary_digits n + 1) e }
+
 -- one half of a window, by whether its second half begins by the leaf
 pub half_left : (hs : Collection) (ranges : List Range) (leaf first half one : ℕ) → IsRangeTable hs ranges → IsWindow ranges leaf first (half * 2) → 0 < half → ((range_at ranges (first + half)).start ≤ leaf → one ≡ 1) → (leaf < (range_at ranges (first + half)).start → one ≡ 0) → IsWindow ranges leaf (first + half * one) half
 half_left hs ranges leaf first half one t w some by behind =
-    let a = w.within in
     elim (cases_lt leaf (range_at ranges (first + half)).start) [
       | inl lt ↦
           (let is : first + half * one ≡ first = ap (λ (k : ℕ). first + half * k) (behind lt) ∙ (omega arith) in
-          subst (λ (k : ℕ). IsWindow ranges leaf k half) (sym is) (record { some = omega arith; within = omega arith; start = w.start; limit = λ _. lt }))
+          subst (λ (k : ℕ). IsWindow ranges leaf k half) (sym is) (first_half ranges leaf first half w some lt))
       | inr le ↦
           (let is : first + half * one ≡ first + half = ap (λ (k : ℕ). first + half * k) (by le) ∙ (omega arith) in
-          let e : first + half + half ≡ first + half * 2 = omega arith in
-          let f = ap (λ k. (range_at ranges k).start) e in
-          subst (λ (k : ℕ). IsWindow ranges leaf k half) (sym is) (record { some = omega arith; within = omega arith; start = le; limit = λ more. let l = w.limit (omega arith) in omega arith }))
+          subst (λ (k : ℕ). IsWindow ranges leaf k half) (sym is) (second_half ranges leaf first half w some le))
     ]
 
 -- what is left of a power of two, whose half was looked at

@@ -1,9 +1,12 @@
 -- What reading a table costs.
-use Rattle.std.specs.Prelude.{ℕ, ◌+◌, ◌*◌, ◌≤◌, nat_lt, ◌&&◌, Bool, List, length, min}
+use Rattle.std.specs.Prelude.{ℕ, ◌+◌, ◌*◌, ◌≤◌, nat_le, nat_lt, ◌&&◌, Bool, List, Contains, length, min, take}
 use Rattle.std.specs.Int.Digits.{digits_of}
 use Rattle.std.specs.List.{count_by, list_any}
 use Rattle.s2id_core.specs.declared.cell_id.CellId.{CellId}
 use Rattle.s2id_core.specs.CellId.{first_of, end_of}
+use Rattle.s2ix_pairs.specs.Collection.{Collection}
+use Rattle.s2ix_pairs.specs.declared.pair.Held.{Held}
+use Rattle.s2ix_ranges.specs.Meeting.{first_shared, meeting_of}
 use Rattle.s2ix_ranges.specs.Table.{Range}
 use Rattle.s2ix_walk.specs.declared.cost.Cost.{Cost}
 
@@ -37,8 +40,14 @@ is_met target range = list_any (λ c. nat_lt range.start (end_of c) && nat_lt (f
 abbrev pub ranges_met : List CellId → List Range → ℕ
 ranges_met target ranges = count_by (is_met target) ranges
 
--- what a walk may have read after some calls of its closure
-pub record IsWalkCost (target : List CellId) (ranges : List Range) (calls : ℕ) (cost : Cost) : Type 0 where
+-- how many ranges that share a leaf with a target begin by a leaf
+abbrev pub ranges_met_by : List CellId → List Range → ℕ → ℕ
+ranges_met_by target ranges leaf = count_by (λ r. is_met target r && nat_le r.start leaf) ranges
+
+-- what a walk may have read after some calls of its closure, and what it must have: a pair for each call, and the ranges that the target meets
+-- up to the first leaf which it shares with a pair that was called
+pub record IsWalkCost (target : List CellId) (held : Collection) (ranges : List Range) (calls : ℕ) (cost : Cost) : Type 0 where
   pub each : calls ≤ cost.looks
   pub looks : cost.looks ≤ calls + ranges_met target ranges + length target
   pub probes : cost.probes ≤ length target * binary_digits (length ranges + 1) + ranges_met target ranges + length target
+  pub least : (h : Held) → Contains (take calls (meeting_of target held)) h → ranges_met_by target ranges (first_shared target h.pair.cell) ≤ cost.probes

@@ -1,13 +1,13 @@
-ghost use Rattle.std.specs.Prelude.{◌≡◌, ◌≤◌, None};
+ghost use Rattle.std.specs.Prelude.{◌≡◌, ◌≤◌, None, IfSome};
 ghost use Rattle.std.specs.Iterator.{YieldsFirst, item_count};
 ghost use Rattle.s2id_union.specs.Covers.{FollowOneAnother};
-ghost use Rattle.s2ix_ranges.specs.Meeting.{meeting_of};
-ghost use Rattle.s2ix_walk.specs.Costs.{no_cost, ranges_met};
+ghost use Rattle.s2ix_ranges.specs.Meeting.{first_shared, meeting_of};
+ghost use Rattle.s2ix_walk.specs.Costs.{no_cost, ranges_met, ranges_met_by};
 ghost use Rattle.s2ix_walk.specs.Walking.{IsWalk, HasPaid};
 
 use crate::reader::Reader;
 use crate::steps::next_met;
-use crate::walk_state::WalkState;
+use crate::walk_state::{KnownFace, WalkState};
 use s2id_core::CellId;
 use s2id_union::CellUnion;
 use s2ix_bag::Held;
@@ -18,9 +18,9 @@ pub struct Meeting<'a, R: Reader> {
     reader: &'a mut R,
     cells: &'a [CellId],
     walk: WalkState<R::Place>,
-    pub ghost follow: { FollowOneAnother cells.now },
-    pub ghost walks: { IsWalk (R.shown reader.now) cells.now walk },
-    pub ghost paid: { HasPaid (R.shown reader.now) cells.now walk (R.spent reader.now) },
+    ghost follow: { FollowOneAnother cells.now },
+    ghost walks: { IsWalk (R.shown reader.now) cells.now walk },
+    ghost paid: { HasPaid (R.shown reader.now) cells.now walk (R.spent reader.now) },
 }
 
 impl<'a, R: Reader> Meeting<'a, R> {
@@ -41,6 +41,7 @@ impl<'a, R: Reader> Meeting<'a, R> {
             seen: 1,
             from: 1,
             place: None,
+            known: KnownFace { face: 6, end: 0 },
         };
         Meeting {
             reader,
@@ -49,13 +50,16 @@ impl<'a, R: Reader> Meeting<'a, R> {
         }
     }
 
-    /// The next pair, or `None` behind the last one: then the reader has read at least as many ranges as the target meets.
+    /// The next pair, or `None` behind the last one. Then the reader has read at least as many ranges as the target meets, and at a pair at
+    /// least as many as it meets up to the first leaf that it shares with the pair.
     #[inline(always)]
     pub fn advance(&mut self) -> Option<Held>
         ensures reference { (reader_in self.new).ghost_name ≡ (reader_in self.old).ghost_name }
         ensures shown { R.shown (reader_in self.new).now ≡ R.shown (reader_in self.old).now }
         ensures cells { target_in self.new ≡ target_in self.old }
         ensures yields { YieldsFirst left_in self.old result self.new }
+        ensures least_probes { IfSome result (λ held. ranges_met_by (target_in self.new) (R.shown (reader_in self.new).now).ranges
+            (first_shared (target_in self.new) held.pair.cell) ≤ (R.spent (reader_in self.new).now).probes) }
         ensures whole_probes { result ≡ None
             → ranges_met (target_in self.new) (R.shown (reader_in self.new).now).ranges ≤ (R.spent (reader_in self.new).now).probes }
     {

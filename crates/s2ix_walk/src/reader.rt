@@ -11,8 +11,9 @@ use crate::window::Window;
 use s2ix_bag::Held;
 use s2ix_ranges::RangeRow;
 
-/// Something that reads a range table and counts what it reads: each pair is a look, each range a probe. No other call gives a pair
-/// or the bounds of a range. This project's own.
+/// Something that reads a range table and counts what it reads. [`node`](Reader::node) gives a pair, and is one look. [`row`](Reader::row),
+/// [`start`](Reader::start), [`row_and_first`](Reader::row_and_first) and [`window`](Reader::window) tell where ranges begin or end, and
+/// each is one probe. The other calls count nothing, and tell no pair and no bound of a range. This project's own.
 pub trait Reader {
     /// Where the table keeps a pair of a chain.
     type Place: Copy;
@@ -27,19 +28,13 @@ pub trait Reader {
     fn range_count(&self) -> usize
         ensures { result ≡ length (shown self.now).ranges };
 
-    /// The ranges among which all of those over a face, 0 to 5, are: all that there are, where a reader knows no fewer. It answers places
-    /// alone and counts nothing; where the windows of two neighbouring faces abut, a range begins where the second face does.
+    /// The ranges among which all of those over a face, 0 to 5, are: one probe, since it tells on which side of the face's ends they begin
+    /// and end.
     fn window(&mut self, face: u8) -> Window
         requires { face < 6 }
         ensures window { HaveFace (shown self.old).ranges face result.first result.size }
         ensures same { shown self.new ≡ shown self.old }
-        ensures unread { spent self.new ≡ spent self.old }
-    {
-        Window {
-            first: 0,
-            size: self.range_count(),
-        }
-    }
+        ensures counts { spent self.new ≡ with_probe (spent self.old) };
 
     /// The place of a range's innermost pair, or `None` where nothing lies over it.
     fn first(&self, k: usize) -> Option<Self::Place>

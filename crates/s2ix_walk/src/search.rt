@@ -4,13 +4,15 @@ ghost use Rattle.s2id_core.specs.CellId.{first_of, end_of};
 ghost use Rattle.s2ix_ranges.specs.Table.{range_at, IsFound, leaf_end};
 ghost use Rattle.s2ix_walk.specs.Costs.{binary_digits, NoFewerProbes};
 ghost use Rattle.s2ix_walk.specs.Searching.{IsWindow};
+ghost use Rattle.s2ix_walk.specs.Walking.{IsKnown};
 
 use crate::reader::Reader;
+use crate::walk_state::KnownFace;
 use crate::window::Window;
 use s2id_core::CellId;
 
-// The range that has a leaf, one of some that are known to have it among them: half of those that are left at each probe. No branch depends
-// on what is read.
+// The range that has a leaf, one of some that are known to have it among them: half of those that are left at each probe. Among the last few
+// no branch depends on what is read.
 #[inline(always)]
 fn search<R: Reader>(reader: &mut R, leaf: u64, among: Window) -> usize
     requires within { leaf < leaf_end }
@@ -23,6 +25,7 @@ fn search<R: Reader>(reader: &mut R, leaf: u64, among: Window) -> usize
         ≤ (R.spent reader.old).probes + binary_digits (length (R.shown reader.old).ranges + 1) }
 {
     let window = narrow(reader, leaf, among);
+    let window = jump(reader, leaf, window);
     let mut first = window.first;
     let mut half = window.size / 2;
     while half > 0 {
@@ -51,20 +54,105 @@ fn narrow<R: Reader>(reader: &mut R, leaf: u64, among: Window) -> Window
     Window { first, size }
 }
 
-// The ranges among which is the one with a cell's first leaf: those over the cell's face, from one on that begins by that leaf.
+// How many ranges are so many that a search waits for each that it reads.
+const FAR: usize = 16384;
+
+// Of a power of two of ranges, where they are many, at most eight: half of those that are left at each probe, by a branch, so that the processor
+// reads on before it knows what it read.
 #[inline(always)]
-fn ahead<R: Reader>(reader: &mut R, cell: CellId, from: usize) -> Window
+fn jump<R: Reader>(reader: &mut R, leaf: u64, among: Window) -> Window
+    requires among { IsWindow (R.shown reader.old).ranges leaf among.first among.size }
+    requires power { (k : ℕ) × (among.size ≡ 2 ^ k) }
+    ensures window { IsWindow (R.shown reader.old).ranges leaf result.first result.size }
+    ensures power { (k : ℕ) × (result.size ≡ 2 ^ k) }
+    ensures same { R.shown reader.new ≡ R.shown reader.old }
+    ensures looks { (R.spent reader.new).looks ≡ (R.spent reader.old).looks }
+    ensures kept { NoFewerProbes (R.spent reader.old) (R.spent reader.new) }
+    ensures probes { (R.spent reader.new).probes + binary_digits (result.size - 1)
+        ≤ (R.spent reader.old).probes + binary_digits (among.size - 1) }
+{
+    if among.size <= FAR {
+        return among;
+    }
+    let mut first = among.first;
+    let mut size = among.size;
+    while size > 8 {
+        size /= 2;
+        if reader.start(first + size) <= leaf {
+            first += size;
+        }
+    }
+    Window { first, size }
+}
+
+// Some ranges, and the face that is known once they are.
+#[derive(Clone, Copy)]
+struct Candidates {
+    among: Window,
+    known: KnownFace,
+}
+
+// The ranges among which is the one with a cell's first leaf: those over the cell's face, from one on that begins by that leaf. One probe at
+// most: the reader is asked for the ranges over a face, or one of those over the known face is looked at.
+#[inline(always)]
+fn ahead<R: Reader>(reader: &mut R, cell: CellId, from: usize, known: KnownFace) -> Candidates
+    requires known { IsKnown (R.shown reader.old).ranges known }
     requires from { from < length (R.shown reader.old).ranges }
     requires start { (range_at (R.shown reader.old).ranges from).start ≤ first_of cell }
-    ensures window { IsWindow (R.shown reader.old).ranges (first_of cell) result.first result.size }
+    ensures known { IsKnown (R.shown reader.old).ranges result.known }
+    ensures window { IsWindow (R.shown reader.old).ranges (first_of cell) result.among.first result.among.size }
     ensures same { R.shown reader.new ≡ R.shown reader.old }
-    ensures unread { R.spent reader.new ≡ R.spent reader.old }
+    ensures looks { (R.spent reader.new).looks ≡ (R.spent reader.old).looks }
+    ensures kept { NoFewerProbes (R.spent reader.old) (R.spent reader.new) }
+    ensures probes { (R.spent reader.new).probes ≤ (R.spent reader.old).probes + 1 }
 {
-    let window = reader.window(cell.face());
+    let face = cell.face();
+    if face == known.face {
+        let rest = Window {
+            first: from,
+            size: known.end - from,
+        };
+        let among = near(reader, cell.span_start(), rest);
+        return Candidates { among, known };
+    }
+    let window = reader.window(face);
+    let end = window.first + window.size;
     let first = from.max(window.first);
-    Window {
+    let among = Window {
         first,
-        size: window.first + window.size - first,
+        size: end - first,
+    };
+    let known = KnownFace { face, end };
+    Candidates { among, known }
+}
+
+// How many ranges ahead a walk looks before it searches all of those over a face.
+const NEAR: usize = 16;
+
+// Of some ranges the first few, where the one with a leaf is among these, and else the rest.
+#[inline(always)]
+fn near<R: Reader>(reader: &mut R, leaf: u64, among: Window) -> Window
+    requires among { IsWindow (R.shown reader.old).ranges leaf among.first among.size }
+    ensures window { IsWindow (R.shown reader.old).ranges leaf result.first result.size }
+    ensures same { R.shown reader.new ≡ R.shown reader.old }
+    ensures looks { (R.spent reader.new).looks ≡ (R.spent reader.old).looks }
+    ensures kept { NoFewerProbes (R.spent reader.old) (R.spent reader.new) }
+    ensures probes { (R.spent reader.new).probes ≤ (R.spent reader.old).probes + 1 }
+{
+    if among.size <= NEAR {
+        return among;
+    }
+    let beyond = among.first + NEAR;
+    if reader.start(beyond) <= leaf {
+        Window {
+            first: beyond,
+            size: among.size - NEAR,
+        }
+    } else {
+        Window {
+            first: among.first,
+            size: NEAR,
+        }
     }
 }
 
@@ -89,24 +177,41 @@ fn begun(start: u64, leaf: u64) -> usize
     ((start / 2).wrapping_sub(behind) >> 63) as usize
 }
 
+// A range that a walk has come to, and the face that is known there.
+#[derive(Clone, Copy)]
+pub(crate) struct Reached {
+    pub(crate) range: usize,
+    pub(crate) known: KnownFace,
+}
+
 // The range that has the first leaf of a cell from `seen` on: that at hand, or the one with the cell's first leaf.
 #[inline(always)]
-pub(crate) fn range_from<R: Reader>(reader: &mut R, cell: CellId, range: usize, seen: u64) -> usize
+pub(crate) fn range_from<R: Reader>(
+    reader: &mut R,
+    cell: CellId,
+    range: usize,
+    seen: u64,
+    known: KnownFace,
+) -> Reached
     requires beyond { seen < end_of cell }
     requires at_hand { seen < leaf_end → IsFound (R.shown reader.old).ranges range seen }
-    ensures found { IsFound (R.shown reader.old).ranges result (max seen (first_of cell)) }
+    requires known { IsKnown (R.shown reader.old).ranges known }
+    ensures found { IsFound (R.shown reader.old).ranges result.range (max seen (first_of cell)) }
+    ensures known { IsKnown (R.shown reader.old).ranges result.known }
     ensures same { R.shown reader.new ≡ R.shown reader.old }
     ensures looks { (R.spent reader.new).looks ≡ (R.spent reader.old).looks }
     ensures at_hand { first_of cell ≤ seen → R.spent reader.new ≡ R.spent reader.old }
     ensures kept { NoFewerProbes (R.spent reader.old) (R.spent reader.new) }
     ensures probes { (R.spent reader.new).probes
-        ≤ (R.spent reader.old).probes + binary_digits (length (R.shown reader.old).ranges + 1) }
+        ≤ (R.spent reader.old).probes + binary_digits (length (R.shown reader.old).ranges + 1) + 1 }
 {
     let start = cell.span_start();
     if seen < start {
-        let among = ahead(reader, cell, range);
-        search(reader, start, among)
+        let candidates = ahead(reader, cell, range, known);
+        let range = search(reader, start, candidates.among);
+        let known = candidates.known;
+        Reached { range, known }
     } else {
-        range
+        Reached { range, known }
     }
 }

@@ -1,14 +1,14 @@
 //! The walk over the ranges that a target meets: it gives each pair of the meeting list once, in order.
-ghost use Rattle.std.specs.Prelude.{◌≡◌, ◌<◌, ◌≤◌, ◌+◌, ◌∷◌, ℕ, [], Some, None, IfSome, IsTrue, length, slice_index_or};
+ghost use Rattle.std.specs.Prelude.{◌≡◌, ◌<◌, ◌≤◌, ◌+◌, ◌∷◌, ℕ, [], Some, None, IfSome, IsTrue, IsFalse, length, slice_index_or};
 ghost use Rattle.s2id_core.specs.declared.cell_id.CellId.{CellId};
-ghost use Rattle.s2id_core.specs.CellId.{first_of, end_of};
+ghost use Rattle.s2id_core.specs.CellId.{raw_of, first_of, end_of};
 ghost use Rattle.s2id_union.specs.Covers.{FollowOneAnother};
 ghost use Rattle.s2ix_ranges.specs.Meeting.{meeting_from};
 ghost use Rattle.s2ix_walk.specs.Places.{IsPlace, from_place};
 ghost use Rattle.s2ix_walk.specs.Walking.{front_from, left_of, ArePassed, IsWalk, IsPaid, looked_at, one_if_some};
 
 use crate::reader::Reader;
-use crate::search::range_from;
+use crate::search::{Reached, range_from};
 use crate::walk_state::WalkState;
 use s2id_core::CellId;
 use s2ix_bag::Held;
@@ -102,7 +102,7 @@ fn advance<R: Reader>(
         return None;
     }
     let target = cells[cell];
-    let range = range_from(reader, target, walk.range, walk.seen);
+    let Reached { range, known } = range_from(reader, target, walk.range, walk.seen, walk.known);
     let (row, place) = reader.row_and_first(range);
     let last = last_begun(cells, cell, row.limit);
     let last_cell = cells[last];
@@ -119,6 +119,7 @@ fn advance<R: Reader>(
         seen,
         from,
         place,
+        known,
     })
 }
 
@@ -144,11 +145,13 @@ fn first_beyond(cells: &[CellId], k: usize, seen: u64) -> usize
 // is the m-th.
 #[inline(always)]
 fn last_begun(cells: &[CellId], k: usize, limit: u64) -> usize
+    requires follow { FollowOneAnother cells.now }
     requires within { k < length cells.now }
     requires begins { (d : CellId) → first_of (slice_index_or cells.now k d) < limit }
     ensures from { k ≤ result }
     ensures within { result < length cells.now }
     ensures begins { (d : CellId) → first_of (slice_index_or cells.now result d) < limit }
+    ensures last { (d : CellId) → result + 1 < length cells.now → limit ≤ first_of (slice_index_or cells.now (result + 1) d) }
 {
     if limit <= cells[k].span_end() {
         return k;
@@ -177,6 +180,7 @@ fn is_before(cells: &[CellId], k: usize, step: usize, limit: u64) -> bool
     requires { k < length cells.now }
     ensures within { IsTrue result → k + step < length cells.now }
     ensures begins { (d : CellId) → IsTrue result → first_of (slice_index_or cells.now (k + step) d) < limit }
+    ensures behind { (d : CellId) → IsFalse result → k + step < length cells.now → limit ≤ raw_of (slice_index_or cells.now (k + step) d) }
 {
     step < cells.len() - k && cells[k + step].raw() < limit
 }

@@ -13,7 +13,8 @@ use s2ix_bag::Held;
 ///
 /// The reader must have read nothing. Let k be the number of calls, t that of the target's cells, n that of the table's ranges, r that of
 /// those which the target meets, and d the number of binary digits of n + 1. Then the reader has read at least k and at most k + r + t
-/// pairs, and at most t * d + r + t ranges; where every call answered true it has read at least r ranges.
+/// pairs, and at most t * d + r + t ranges. It has read at least those of the r ranges that begin by the first leaf which the target shares
+/// with the last pair called, and at least r where every call answered true.
 pub fn walk<R: Reader, F: FnMut(Held) -> bool>(
     reader: &mut R,
     target: &CellUnion,
@@ -24,7 +25,7 @@ pub fn walk<R: Reader, F: FnMut(Held) -> bool>(
     ensures same { R.shown reader.new ≡ R.shown reader.old }
     ensures visits { (calls : ℕ)
         × CallsOn F.step f.old (meeting_of target.now (R.shown reader.old).pairs) calls result f.new
-        × IsWalkCost target.now (R.shown reader.old).ranges calls (R.spent reader.new) }
+        × IsWalkCost target.now (R.shown reader.old).pairs (R.shown reader.old).ranges calls (R.spent reader.new) }
     ensures whole_probes { IsTrue result → ranges_met target.now (R.shown reader.old).ranges ≤ (R.spent reader.new).probes }
 {
     let mut meeting = Meeting::new(reader, target);

@@ -1,5 +1,4 @@
 //! Where a walk over the ranges that a target meets stands.
-
 // All leaves of the target before `seen` have been seen. `cell` is the target's first cell that may go beyond them,
 // `range` the range that has `seen`, and `place` what is left of the chain at hand: of it those pairs are new whose
 // cells begin at `from` or later.
@@ -10,4 +9,12 @@ pub(crate) struct WalkState<P> {
     pub(crate) seen: u64,
     pub(crate) from: u64,
     pub(crate) place: Option<P>,
+    pub(crate) known: KnownFace,
+}
+
+// The face of which a walk last asked the reader for its ranges, and where these end; 6 where it has asked for none.
+#[derive(Clone, Copy)]
+pub(crate) struct KnownFace {
+    pub(crate) face: u8,
+    pub(crate) end: usize,
 }

@@ -5,9 +5,7 @@ ghost use Rattle.s2ix_walk.specs.Costs.{no_cost};
 
 use s2id_union::CellUnion;
 use s2ix_bag::Held;
-use s2ix_table::{
-    Cost, Meeting, Meter, RangeRow, RangeTable, Reader, Visit, ranges, visit_counted,
-};
+use s2ix_table::{Cost, Meeting, Meter, RangeRow, RangeTable, Reader, Visit, ranges};
 
 // A visit by a closure that may always be called.
 fn visit_all<T: RangeTable, F: FnMut(Held) -> bool>(
@@ -17,7 +15,7 @@ fn visit_all<T: RangeTable, F: FnMut(Held) -> bool>(
 ) -> Visit
     requires { (state : F) (held : Held) → F.pre state held }
 {
-    visit_counted(table, target, f)
+    table.visit_counted(target, f)
 }
 
 // What a visit by a closure that answers false at its call number `stop` alone called and read.

@@ -52,7 +52,7 @@ where
         }
 }
 
-// Whether a meter that looks at a face first reads each range as the table says, at one probe for each call.
+// Whether a meter that looks at a face first reads each range as the table says, at one probe for each call, and one for the face.
 fn reads_all<T: RangeTable>(table: &T, face: u8) -> bool
 where
     T::Place: PartialEq,
@@ -67,7 +67,8 @@ where
         }
     }
     let count = table.range_count() as u64;
-    meter.cost().probes == count.wrapping_mul(3) && meter.cost().looks == 0
+    let asked = u64::from(face < 6);
+    meter.cost().probes == count.wrapping_mul(3).wrapping_add(asked) && meter.cost().looks == 0
 }
 
 // Whether meters of a kind of table of a bag read each range as the table says, whichever face they look at first, or none.

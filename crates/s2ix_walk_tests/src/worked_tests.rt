@@ -19,7 +19,7 @@ struct Worked {
     most: Cost,
 }
 
-const VISITS: [Worked; 4] = [
+const VISITS: [Worked; 5] = [
     Worked {
         name: "cells on both sides of a gap",
         pairs: "1:7:1 04:9:1 1c:2:1",
@@ -57,6 +57,17 @@ const VISITS: [Worked; 4] = [
         name: "no pair",
         pairs: "",
         cells: "5",
+        stop: usize::MAX,
+        calls: 0,
+        most: Cost {
+            looks: 2,
+            probes: 4,
+        },
+    },
+    Worked {
+        name: "no probe to spare",
+        pairs: "1:7:1",
+        cells: "3",
         stop: usize::MAX,
         calls: 0,
         most: Cost {

@@ -1,4 +1,4 @@
-ghost use Rattle.std.specs.Prelude.{◌≡◌, ◌↔◌, ◌⊎◌, ◌+◌, ◌≤◌, [], false, not, map, IfOk, IfErr, All, Any, Contains as HasElement};
+ghost use Rattle.std.specs.Prelude.{◌≡◌, ◌≢◌, ◌↔◌, ◌⊎◌, ◌+◌, ◌≤◌, [], false, not, map, IfOk, IfErr, All, Any, Contains as HasElement};
 ghost use Rattle.s2id_core.specs.declared.cell_id.CellId.{CellId};
 ghost use Rattle.s2id_core.specs.CellId.{level_of};
 ghost use Rattle.s2ix_edit.specs.Grow.{IsNextTo, grown_cells as cells_grown, is_too_fine as is_level_too_fine, overlaps_one};
@@ -21,6 +21,7 @@ use std::alloc::{AllocError, Global};
 pub(crate) fn plan(alloc: Global, bag: &Bag, label: Label, level: u8) -> Result<Change, PlanError>
     ensures plan { IfOk result (Plans bag.now [] (Edit.Grow label level)) }
     ensures refused { IfErr result (IsPlanRefusal bag.now [] (Edit.Grow label level)) }
+    ensures pairs { result ≢ Err PlanError.TooManyPairs }
 {
     if lacks_label(bag, label) {
         return Err(PlanError::NoSuchLabel);

@@ -11,8 +11,10 @@ mod relabel;
 mod remove;
 mod revert;
 
-ghost use Rattle.std.specs.Prelude.{IfOk, IfErr};
+ghost use Rattle.std.specs.Prelude.{◌≡◌, ◌≢◌, ◌⊎◌, true, false, Some, None, IsOk, IfOk, IfErr};
+ghost use Rattle.s2ix_refusals.specs.declared.errors.EditError.TheVariants.{NoChange};
 ghost use Rattle.s2ix_edit.specs.Plan.{IsPlanRefusal, Plans};
+ghost use Rattle.s2ix_edit.specs.Refusals.{asks_no_copies, plan_refusal, reverts};
 
 use crate::edit::Edit;
 use s2ix_bag::{Bag, Change};
@@ -26,7 +28,7 @@ use std::alloc::Global;
 /// Of the errors of [`PlanError`] the first that stands is answered. Whether the counts and the pairs fit the bag is found when
 /// the change is applied; but the plan of `Revert` has tested it, and answers `TooManyCopies` and `TooManyPairs` itself, and a
 /// sum that no `u32` holds is above every limit and `TooManyCopies` here. `OutOfMemory` comes in place of no other error of
-/// `Revert`, and of no error but `TooManyCopies` of the others.
+/// `Revert`, and of no error but `TooManyCopies` of the others; an `Add` or a `Remove` of no copies wants no memory.
 ///
 /// For n pairs held, `Add` and `Remove` take O(log n), `AddUnion` O(m log n) for m cells, `DropLabel` O(n), `Relabel`
 /// O(n + m log n) and `Normalise` O(n + m log m) for m pairs of the label, and `Grow` O(n + b log b) for b cells beside those of
@@ -35,6 +37,15 @@ use std::alloc::Global;
 pub fn plan(alloc: Global, bag: &Bag, changes: &[Change], edit: &Edit) -> Result<Change, PlanError>
     ensures plan { IfOk result (Plans bag.now changes.now edit.now) }
     ensures refused { IfErr result (IsPlanRefusal bag.now changes.now edit.now) }
+
+    // An edit of no copies has its plan without memory, and a `Revert` wants memory only where nothing here refuses it. No other edit
+    // is refused for its pairs here.
+    ensures nothing { asks_no_copies edit.now ≡ true → IsOk result }
+    ensures reverting { reverts edit.now ≡ true
+        → result ≡ Err PlanError.OutOfMemory
+        → let refusal = plan_refusal bag.now changes.now edit.now in
+        (refusal ≡ None) ⊎ (refusal ≡ Some NoChange) }
+    ensures pairs { reverts edit.now ≡ false → result ≢ Err PlanError.TooManyPairs }
 {
     match edit {
         Edit::Add { pair, copies } => add::plan(alloc, bag, *pair, *copies),

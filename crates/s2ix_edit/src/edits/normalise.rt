@@ -1,4 +1,4 @@
-ghost use Rattle.std.specs.Prelude.{◌≡◌, ◌++◌, [], map, IfOk, IfErr, OnOk};
+ghost use Rattle.std.specs.Prelude.{◌≡◌, ◌≢◌, ◌++◌, [], map, IfOk, IfErr, OnOk};
 ghost use Rattle.s2ix_pairs.specs.OfLabel.{held_of};
 ghost use Rattle.s2ix_edit.specs.Plan.{IsPlanRefusal, Plans, one_copy};
 
@@ -15,6 +15,7 @@ use std::alloc::{AllocError, Global};
 pub(crate) fn plan(alloc: Global, bag: &Bag, label: Label) -> Result<Change, PlanError>
     ensures plan { IfOk result (Plans bag.now [] (Edit.Normalise label)) }
     ensures refused { IfErr result (IsPlanRefusal bag.now [] (Edit.Normalise label)) }
+    ensures pairs { result ≢ Err PlanError.TooManyPairs }
 {
     if lacks_label(bag, label) {
         return Err(PlanError::NoSuchLabel);

@@ -1,6 +1,6 @@
 //! What several edits are made of.
 
-ghost use Rattle.std.specs.Prelude.{◌≡◌, ◌∷◌, ◌++◌, [], IfOk, OnOk};
+ghost use Rattle.std.specs.Prelude.{◌≡◌, ◌∷◌, ◌++◌, [], IsOk, IfOk, OnOk};
 ghost use Rattle.s2ix_pairs.specs.Change.{removal_of};
 ghost use Rattle.s2ix_pairs.specs.Collection.{IsBag};
 ghost use Rattle.s2ix_edit.specs.Plan.{one_entry};
@@ -9,14 +9,15 @@ ghost use Rattle.s2ix_edit.specs.Refusals.{holds_none};
 use s2ix_bag::{Bag, Change, Entry, Held, Label, Pair};
 use std::alloc::{AllocError, Global};
 
-// The change of one pair's count: no entry where the count stays.
+// The change of one pair's count: no entry, and no growth, where the count stays.
 pub(crate) fn one_pair(
     alloc: Global,
     pair: Pair,
     before: u32,
     after: u32,
 ) -> Result<Change, AllocError>
-    ensures { IfOk result (λ change. change ≡ one_entry pair before after) }
+    ensures change { IfOk result (λ change. change ≡ one_entry pair before after) }
+    ensures nothing { before ≡ after → IsOk result }
 {
     let mut entries = Vec::new(alloc);
     if before != after {

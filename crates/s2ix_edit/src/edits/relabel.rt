@@ -19,6 +19,7 @@ pub(crate) fn plan(
 ) -> Result<Change, PlanError>
     ensures plan { IfOk result (Plans bag.now [] (Edit.Relabel source target)) }
     ensures refused { IfErr result (IsPlanRefusal bag.now [] (Edit.Relabel source target)) }
+    ensures pairs { result ≢ Err PlanError.TooManyPairs }
 {
     if lacks_label(bag, source) {
         return Err(PlanError::NoSuchLabel);
@@ -36,6 +37,7 @@ fn plan_moves(alloc: Global, bag: &Bag, source: Label, target: Label) -> Result<
     requires apart { value_of source ≢ value_of target }
     ensures plan { IfOk result (Plans bag.now [] (Edit.Relabel source target)) }
     ensures refused { IfErr result (IsPlanRefusal bag.now [] (Edit.Relabel source target)) }
+    ensures pairs { result ≢ Err PlanError.TooManyPairs }
 {
     let mut entries = Vec::new(alloc);
     for held in bag.of_label(source) {

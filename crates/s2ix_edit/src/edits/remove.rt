@@ -1,4 +1,4 @@
-ghost use Rattle.std.specs.Prelude.{[], IfOk, IfErr};
+ghost use Rattle.std.specs.Prelude.{◌≡◌, ◌≢◌, [], IsOk, IfOk, IfErr};
 ghost use Rattle.s2ix_edit.specs.Plan.{IsPlanRefusal, Plans};
 
 use crate::edit::Edit;
@@ -11,6 +11,8 @@ use std::alloc::Global;
 pub(crate) fn plan(alloc: Global, bag: &Bag, pair: Pair, copies: u32) -> Result<Change, PlanError>
     ensures plan { IfOk result (Plans bag.now [] (Edit.Remove pair copies)) }
     ensures refused { IfErr result (IsPlanRefusal bag.now [] (Edit.Remove pair copies)) }
+    ensures pairs { result ≢ Err PlanError.TooManyPairs }
+    ensures nothing { copies ≡ 0 → IsOk result }
 {
     let before = bag.count(pair);
     let Some(after) = before.checked_sub(copies) else {

@@ -1,6 +1,8 @@
-ghost use Rattle.std.specs.Prelude.{◌≡◌, Some, None, IfOk, IfErr, IfSome, IfNone};
+ghost use Rattle.std.specs.Prelude.{◌≡◌, ◌⊎◌, Some, None, IfOk, IfErr, IfSome, IfNone};
 ghost use Rattle.s2ix_edit.specs.Edit.{numbered};
+ghost use Rattle.s2ix_refusals.specs.declared.errors.EditError.TheVariants.{NoChange};
 ghost use Rattle.s2ix_edit.specs.Plan.{IsPlanRefusal, Plans};
+ghost use Rattle.s2ix_edit.specs.Refusals.{plan_refusal};
 
 use crate::edit::Edit;
 use s2ix_bag::{Bag, Change};
@@ -17,6 +19,9 @@ pub(crate) fn plan(
 ) -> Result<Change, PlanError>
     ensures plan { IfOk result (Plans bag.now changes.now (Edit.Revert number)) }
     ensures refused { IfErr result (IsPlanRefusal bag.now changes.now (Edit.Revert number)) }
+    ensures memory { result ≡ Err PlanError.OutOfMemory
+        → let refusal = plan_refusal bag.now changes.now (Edit.Revert number) in
+        (refusal ≡ None) ⊎ (refusal ≡ Some NoChange) }
 {
     let Some(change) = change_of_number(changes, number) else {
         return Err(PlanError::NoSuchChange);

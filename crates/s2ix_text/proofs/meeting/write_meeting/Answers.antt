@@ -6,7 +6,7 @@ use Rattle.s2ix_walk.specs.Shown.{Shown}
 use Rattle.s2ix_walk.proofs.Paying.{few_meet}
 use Rattle.s2ix_text.specs.Queries.{end_of_list, held_line, list_text}
 use Rattle.s2ix_io.proofs.Writing.{Writes-all, Writes-cut, Writes-item, Writes-item_fault, Writes-then}
-use Rattle.s2ix_text.proofs.Left.{left_first, left_none}
+use Rattle.s2ix_walk.proofs.Left.{left_first, left_none}
 use Rattle.s2ix_text.proofs.meeting.write_meeting.Goals as goal
 
 pub overflow_add-count : goal.overflow_add-count

@@ -3,8 +3,8 @@ use Rattle.s2id_core.specs.CellId.{raw_of, first_of}
 use Rattle.s2id_core.proofs.Nested.{span}
 use Rattle.s2ix_walk.proofs.search.range_from.Goals as goal
 
-pub search-requires-clause-within : goal.search-requires-clause-within
-search-requires-clause-within g c =
+pub search-range-requires-clause-within : goal.search-range-requires-clause-within
+search-range-requires-clause-within g c =
     let s = span (raw_of c.args.cell) c.args.cell.valid in
     omega (arith, s.ends, s.from, s.to, c.span_start-start.ensures)
 
@@ -20,15 +20,15 @@ returns-else-seen-start-clause-found g c =
     let le = c.if-seen-start.false in
     record { within = f.within; start = omega arith; limit = omega arith }
 
-pub ahead-among-requires-clause-from : goal.ahead-among-requires-clause-from
-ahead-among-requires-clause-from g c =
+pub ahead-candidates-requires-clause-from : goal.ahead-candidates-requires-clause-from
+ahead-candidates-requires-clause-from g c =
     let s = span (raw_of c.args.cell) c.args.cell.valid in
     let test = c.if-seen-start.true in
     let f = c.requires.at_hand (omega (arith, s.ends, s.from, s.to, c.span_start-start.ensures)) in
     f.within
 
-pub ahead-among-requires-clause-start : goal.ahead-among-requires-clause-start
-ahead-among-requires-clause-start g c =
+pub ahead-candidates-requires-clause-start : goal.ahead-candidates-requires-clause-start
+ahead-candidates-requires-clause-start g c =
     let s = span (raw_of c.args.cell) c.args.cell.valid in
     let test = c.if-seen-start.true in
     let f = c.requires.at_hand (omega (arith, s.ends, s.from, s.to, c.span_start-start.ensures)) in

@@ -14,15 +14,18 @@ use Rattle.s2ix_walk.proofs.search.search.Goals.{After-begun}
 pub loop-half-init : goal.loop-half-init
 loop-half-init g c =
     let n = c.narrow-window.ensures in
+    let j = c.jump-window.ensures in
     let ranges = (g.R.Reader.shown c.args.reader.now).ranges in
-    let k = n.power.0 in
-    let is = n.power.1 in
+    let k = j.power.0 in
+    let is = j.power.1 in
     let paid = n.probes in
-    let same = ap (λ (size : ℕ). binary_digits (size - 1)) is in (
-      (k, ap (λ (size : ℕ). size / 2) is, subst (λ (size : ℕ). IsWindow ranges c.args.leaf c.narrow-window.result.first size) is n.window, omega (arith, digits_below k)),
-      n.same,
-      n.looks,
-      n.kept,
+    let jumped = j.probes in
+    let same = ap (λ (size : ℕ). binary_digits (size - 1)) is in
+    let window = subst (λ (z : Shown g.row.R-Place.Denot). IsWindow z.ranges c.args.leaf c.jump-window.result.first c.jump-window.result.size) n.same j.window in (
+      (k, ap (λ (size : ℕ). size / 2) is, subst (λ (size : ℕ). IsWindow ranges c.args.leaf c.jump-window.result.first size) is window, omega (arith, digits_below k)),
+      j.same ∙ n.same,
+      j.looks ∙ n.looks,
+      let kept = n.kept in let still = j.kept in omega arith,
     )
 
 -- the half that is left

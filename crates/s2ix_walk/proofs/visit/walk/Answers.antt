@@ -58,7 +58,7 @@ returns-then-not-f-clause-visits g c =
     let calls : ℕ = length all - length before + 1 in (
       calls,
       i.4 1 false c.f.new.self (last_call (λ p x r q. goal.F-step g p x r q) c.loop-held.f c.f.new.self c.in-Some.held before rest e.yields called),
-      cost_same new.cells.now target (g.R.Reader.shown new.reader.now) s (length (meeting_of new.cells.now (g.R.Reader.shown new.reader.now).pairs) - length rest) calls (g.R.Reader.spent new.reader.now) _ (e.cells ∙ i.2) (e.shown ∙ i.1) (omega (arith, ap length e.yields, ap length same, ap length after, fits)) (search rules) (paid_costs _ _ new.walk _ _ new.paid.paid),
+      cost_same new.cells.now target (g.R.Reader.shown new.reader.now) s (length (meeting_of new.cells.now (g.R.Reader.shown new.reader.now).pairs) - length rest) calls (g.R.Reader.spent new.reader.now) _ (e.cells ∙ i.2) (e.shown ∙ i.1) (omega (arith, ap length e.yields, ap length same, ap length after, fits)) (search rules) (paid_costs _ _ new.walk _ new.walks new.paid),
     )
 
 pub returns-clause-visits : goal.returns-clause-visits
@@ -77,7 +77,7 @@ returns-clause-visits g c =
     let calls : ℕ = length all - length before + 0 in (
       calls,
       i.4 0 true c.loop-held.f (no_call (λ p x r q. goal.F-step g p x r q) c.loop-held.f before ends.0),
-      cost_same new.cells.now target (g.R.Reader.shown new.reader.now) s (length (meeting_of new.cells.now (g.R.Reader.shown new.reader.now).pairs) - length rest) calls (g.R.Reader.spent new.reader.now) _ (e.cells ∙ i.2) (e.shown ∙ i.1) (omega (arith, ap length ends.0, ap length ends.1, ap length after)) (search rules) (paid_costs _ _ new.walk _ _ new.paid.paid),
+      cost_same new.cells.now target (g.R.Reader.shown new.reader.now) s (length (meeting_of new.cells.now (g.R.Reader.shown new.reader.now).pairs) - length rest) calls (g.R.Reader.spent new.reader.now) _ (e.cells ∙ i.2) (e.shown ∙ i.1) (omega (arith, ap length ends.0, ap length ends.1, ap length after)) (search rules) (paid_costs _ _ new.walk _ new.walks new.paid),
     )
 
 pub returns-clause-whole_probes : goal.returns-clause-whole_probes

@@ -11,4 +11,11 @@ returns-in_default-clause-refused c =
 
 pub returns-clause-plan : goal.returns-clause-plan
 returns-clause-plan c =
-    add_plans c.args.bag.now c.args.pair c.args.copies _ _ _ c.count-before.ensures.within c.count-before.ensures.count (omega (arith, c.in-Some.ensures)) c.in_ok-one_pair.ensures
+    add_plans c.args.bag.now c.args.pair c.args.copies _ _ _ c.count-before.ensures.within c.count-before.ensures.count (omega (arith, c.in-Some.ensures)) c.in_ok-one_pair.ensures.change
+
+pub returns-in_default-clause-nothing : goal.returns-in_default-clause-nothing
+returns-in_default-clause-nothing c =
+    λ none.
+    let h = c.in_default.ensures in
+    let r = c.count-before.type_inv in
+    absurd (omega (arith, h, r, none))

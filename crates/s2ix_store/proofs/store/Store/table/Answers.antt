@@ -6,6 +6,3 @@ returns-clause-pairs c = search rules
 
 pub returns-clause-table : goal.returns-clause-table
 returns-clause-table c = search rules
-
-pub returns-clause-within : goal.returns-clause-within
-returns-clause-within c = search rules

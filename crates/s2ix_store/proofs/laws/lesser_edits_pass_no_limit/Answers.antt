@@ -1,0 +1,10 @@
+use Rattle.s2ix_store.proofs.LimitRefusals.{drop_passes_none, grow_passes_no_count, normalise_passes_none, remove_passes_none}
+use Rattle.s2ix_store.proofs.laws.lesser_edits_pass_no_limit.Goals as goal
+
+pub returns : goal.returns
+returns c = record {
+  remove = remove_passes_none;
+  drop_label = drop_passes_none;
+  normalise = normalise_passes_none;
+  grow = grow_passes_no_count;
+}

@@ -1,0 +1,127 @@
+"""A workspace: a copy of some crates and of those below them, for rt ci to prove and build there.
+
+rt ci proves all that crates.txt names. In a workspace it finds the crates that are wanted and no other, without their wrong bodies, and
+proves as many side by side as there are processors. What it proves is kept on this machine by the checksums of all that it read, so that
+neither another workspace nor ./test proves it again.
+"""
+import contextlib
+import os
+import re
+import shutil
+import subprocess
+import tempfile
+import time
+
+TOP = os.path.dirname(os.path.dirname(os.path.realpath(__file__)))
+PARTS = ("src", "specs", "proofs")
+# What rt ci runs a program on.
+RUN_FILES = ("args", "stdin", "stdout", "status")
+
+
+class NotProved(Exception):
+    """A crate is not proved; the text is what rt said of it."""
+
+
+def read_crates():
+    """The lines of crates.txt by the crate that each is of, with the libraries that it uses, the lowest first."""
+    with open(f"{TOP}/crates.txt", encoding="utf-8") as file:
+        lines = [line.strip() for line in file if ":" in line and not line.startswith("#")]
+    return {line.split(":")[0]: line.split(":")[1].split() for line in lines}
+
+
+CRATES = read_crates()
+
+
+def with_below(names):
+    """These crates and all that they are built on, the lowest first."""
+    wanted = set(names)
+    for crate in reversed(list(CRATES)):
+        if crate in wanted:
+            wanted |= {used for used in CRATES[crate] if used in CRATES}
+    return [crate for crate in CRATES if crate in wanted]
+
+
+def sources(names):
+    """The folders that a proof of these crates reads."""
+    return [path for path in (f"crates/{crate}/{part}" for crate in names for part in PARTS) if os.path.isdir(f"{TOP}/{path}")]
+
+
+def copy_crates(names, folder):
+    """Lays these crates into a folder as a repository of their own."""
+    # (rt ci runs at the top of a repository)
+    os.makedirs(f"{folder}/.git")
+    shutil.copy(f"{TOP}/HANDLES", folder)
+    with open(f"{folder}/crates.txt", "w", encoding="utf-8") as file:
+        file.writelines(f"{crate}: {' '.join(CRATES[crate])}\n" for crate in names)
+    for path in sources(names):
+        shutil.copytree(f"{TOP}/{path}", f"{folder}/{path}")
+    for crate in names:
+        for name in RUN_FILES:
+            if os.path.isfile(f"{TOP}/crates/{crate}/{name}"):
+                shutil.copy(f"{TOP}/crates/{crate}/{name}", f"{folder}/crates/{crate}")
+
+
+class Progress:
+    """How far the proofs of some crates are. Crates wait for those below them, so what is left takes as long as the longest chain of crates
+    that are left, or as all of these on all processors if that is longer."""
+
+    def __init__(self, names):
+        self.work = {crate: 25 + lines_of(crate) / 80 + 2 * len(with_below([crate])) for crate in names}
+        self.of, self.left, self.started = len(names), list(names), time.monotonic()
+
+    def length(self, names):
+        """How long these crates take, in a unit of its own."""
+        chains = {}
+        for crate in names:
+            chains[crate] = self.work[crate] + max((chains[used] for used in CRATES[crate] if used in chains), default=0)
+        return max(sum(self.work[crate] for crate in names) / len(os.sched_getaffinity(0)), *chains.values(), 0)
+
+    def done(self, crate, was_kept):
+        """Notes that a crate is proved, and returns how far the proofs are, in words."""
+        self.left.remove(crate)
+        if was_kept:
+            self.work[crate] = 0
+        left = self.length(self.left)
+        done = self.length(self.work) - left
+        told = f"proved {self.of - len(self.left)} of {self.of}: {crate}"
+        if not self.left or done <= 0:
+            return told
+        minutes = (time.monotonic() - self.started) * left / done / 60
+        return f"{told}, {'about %.0f min' % minutes if minutes >= 1.5 else 'about a minute'} left"
+
+
+def lines_of(crate):
+    """How many lines of code, definitions and proofs a crate has."""
+    found = 0
+    for path in sources([crate]):
+        for at, _, names in os.walk(f"{TOP}/{path}"):
+            for name in names:
+                with open(f"{at}/{name}", "rb") as file:
+                    found += file.read().count(b"\n")
+    return found
+
+
+def prove(folder, names, tell):
+    """Proves and builds the crates of a workspace; tell is called with each line on how far that is."""
+    progress, said, refused = Progress(names), [], []
+    with subprocess.Popen(["rt", "ci"], cwd=folder, stdin=subprocess.DEVNULL, stdout=subprocess.PIPE, stderr=subprocess.STDOUT, text=True, errors="replace") as rt:
+        for line in rt.stdout:
+            # (what rt says of a crate begins with a line of its own)
+            said = [line] if line.startswith("== ") else [*said, line]
+            proved = re.match(r"rt: (\w+) (proved$|is kept)", line)
+            if proved and proved[1] in progress.left:
+                tell(progress.done(proved[1], proved[2] != "proved"))
+            if re.match(r"rt: \w+ NOT PROVED", line):
+                refused += said
+    if rt.returncode:
+        raise NotProved("".join(refused or said).replace(folder, TOP))
+
+
+@contextlib.contextmanager
+def proved(names, tell):
+    """A workspace with these crates and those below them, proved and built; it lasts as long as the context."""
+    wanted = with_below(names)
+    with tempfile.TemporaryDirectory(prefix="s2ix-workspace-") as folder:
+        copy_crates(wanted, folder)
+        prove(folder, wanted, tell)
+        yield folder
