@@ -102,7 +102,7 @@ def lines_of(crate):
 
 
 def prove(folder, names, tell):
-    """Proves and builds the crates of a workspace; tell is called with each line on how far that is."""
+    """Proves and builds the crates of a workspace, and calls tell with a line for each crate that is proved."""
     progress, said, refused = Progress(names), [], []
     with subprocess.Popen(["rt", "ci"], cwd=folder, stdin=subprocess.DEVNULL, stdout=subprocess.PIPE, stderr=subprocess.STDOUT, text=True, errors="replace") as rt:
         for line in rt.stdout:
@@ -119,7 +119,7 @@ def prove(folder, names, tell):
 
 @contextlib.contextmanager
 def proved(names, tell):
-    """A workspace with these crates and those below them, proved and built; it lasts as long as the context."""
+    """Proves and builds these crates and those below them in a workspace, which lasts as long as the context."""
     wanted = with_below(names)
     with tempfile.TemporaryDirectory(prefix="s2ix-workspace-") as folder:
         copy_crates(wanted, folder)

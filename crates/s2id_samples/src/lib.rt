@@ -1,6 +1,6 @@
-//! Cells from plain texts, corners of squares on the cube, numbers that look random, calls that are made once more where they gave up, and
-//! a reader and writers of std's that never do what they are asked, for tests. It promises nothing: a test compares what it makes of these
-//! with what its rows say.
+//! For tests: cells from plain texts, corners of squares on the cube, numbers that look random, calls that are made again after they gave
+//! up, and a reader and writers, as std's traits have them, that never do what they are asked. It promises nothing: a test compares what
+//! it makes of these with what its rows say.
 #![tactic(auto)]
 
 mod broken;

@@ -13,8 +13,8 @@ pub fn undo_restores_what_is_printed()
     ensures questions { UndoRestoresWhatIsPrinted }
 {}
 
-/// The dump that a script prints at its start, before anything is done, and the journal that it prints at its end are replayed to the dump
-/// that it prints there, and that dump and the journal are rewound to the first, byte for byte, unless a line between forgets what was done.
+/// A script prints a dump before anything is done, and a journal and a second dump at its end. If no line between forgets what was done, a
+/// replay of the journal leads from the first dump to the second, and a rewind from the second to the first, byte for byte.
 pub fn journal_leads_from_dump_to_dump()
     ensures replay { JournalLeadsOn }
     ensures rewind { JournalLeadsBack }

@@ -11,7 +11,7 @@ use s2ix_read_dump::{DumpError, DumpFault};
 use s2ix_read_journal::{JournalError, JournalFault};
 use s2ix_replay::ReplayError;
 
-/// The first thing in the texts that is refused: what the line that a call prints says. This project's own.
+/// What is refused first in the texts. A call prints it as a line. This project's own.
 #[derive(Clone, Copy, Debug, PartialEq, Eq)]
 pub enum Refusal {
     /// A line of the dump, counted from 1.
@@ -26,7 +26,7 @@ pub enum Refusal {
     TooManyPairs { change: usize },
 }
 
-/// Why texts don't come to a bag. This project's own.
+/// Why texts lead to no bag. No public call answers it: a call prints the refusal. This project's own.
 #[derive(Clone, Copy, Debug, PartialEq, Eq)]
 pub enum TextsError {
     /// Something in them is refused.

@@ -5,9 +5,9 @@ ghost use Rattle.s2ix_io.specs.Faults.{CanCount, write_faults};
 use crate::{Sink, WriteFault};
 use std::alloc::Global;
 
-/// A sink that keeps what it takes. A call of `put` fails too where memory is wanted to keep it. A caller who wants in memory what a run or
-/// a file answers hands it this, and reads [`KeepingSink::kept`]; with short puts and calls that fail it shows how code bears such a sink.
-/// This project's own.
+/// A sink that keeps what it takes; a call of `put` fails too if there is no memory to keep it. Hand it to a run, or to a call over texts,
+/// to have what that prints in memory: [`KeepingSink::kept`] gives it. With short puts and calls that fail it tests how code bears such a
+/// sink. This project's own.
 #[derive(Debug, Drop)]
 pub struct KeepingSink {
     kept: Vec<u8>,

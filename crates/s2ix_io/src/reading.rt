@@ -10,11 +10,11 @@ use std::alloc::Global;
 // How many bytes are asked for at once.
 const PIECE: usize = 4096;
 
-/// Reads a source to its end, and gives all that it gave, in its order. O(n) for n bytes, and at most `turns` calls of `piece`.
+/// Reads a source to its end, and answers all its bytes in order. O(n) for n bytes, and at most `turns` calls of `piece`.
 ///
-/// It answers `Read` at the first fault of the source, `OutOfMemory` where a growth was refused, and `ReaderTooLong` if `turns` pieces
-/// were read and none was the end: always at 0 turns, when the source is asked nothing. After a fault, what was read is lost. This
-/// project's own.
+/// It answers `Read` at the first fault of the source, `OutOfMemory` if a growth was refused, and `ReaderTooLong` if `turns` pieces were
+/// read and none was the end. At 0 turns it asks the source nothing, and always answers `ReaderTooLong`. After a fault, what was read is
+/// lost. This project's own.
 pub fn read_whole<S: Source>(alloc: Global, source: &mut S, turns: u64) -> Result<Vec<u8>, RunFault>
     requires { CanCount (S.fault_count source.old) }
     ensures whole { IfOk result (λ text. Consumes (S.left source.old) (S.left source.new) text.items × IsAtEnd (S.left source.new)) }

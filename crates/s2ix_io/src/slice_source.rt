@@ -5,8 +5,8 @@ ghost use Rattle.s2ix_io.specs.Pieces.{Gave};
 
 use crate::{ReadFault, Source};
 
-/// A source over a slice. It takes no memory. A caller who has a script or a file in memory runs or reads it from this; with short pieces
-/// and a call that fails it shows how code bears such a source. This project's own.
+/// A source over a slice. It takes no memory. Use it to run a script, or to read a file, that is in memory already. With short pieces and
+/// a call that fails it tests how code bears such a source. This project's own.
 #[derive(Debug, Drop)]
 pub struct SliceSource<'a> {
     left: &'a [u8],

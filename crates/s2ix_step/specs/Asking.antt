@@ -11,7 +11,7 @@ use Rattle.s2ix_step.specs.Step.{step_of}
 abbrev pub AsksFor : List ℕ → Instruction → Type 0
 AsksFor line instruction = meaning_of line ≡ Ok (Some instruction)
 
--- whether an instruction is a question, which changes nothing
+-- whether an instruction is a query: it changes nothing
 abbrev pub is_question : Instruction → Bool
 is_question (asks.Edit edit) = false
 is_question asks.Undo = false

@@ -24,8 +24,8 @@ use std::alloc::Global;
 /// The range table of a collection: the maximal spans of leaves over which the same pairs lie, in order, each with a
 /// chain of these pairs (S2's `S2CellIndex`, its ranges and its contents). The ranges cover all leaves, empty ones too.
 ///
-/// Queries are `visit`, `visit_counted`, `meeting` and `labels`, at the end. `window`, `stretch` and `read_near` only make a walk quicker: a user needs
-/// none of them, and a table may keep their default bodies.
+/// Queries are `visit`, `visit_counted`, `meeting` and `labels`, at the end. `window`, `stretch` and `read_near` only make a walk quicker:
+/// a user needs none of them, and a table may keep their default bodies.
 ///
 /// Costs are in n, the number of the table's pairs: there are at most 2 * n + 1 ranges.
 pub trait RangeTable: Sized {

@@ -14,15 +14,15 @@ use Rattle.s2ix_walk.specs.declared.cost.Cost.{Cost}
 abbrev pub no_cost : Cost
 no_cost = record { looks = 0; probes = 0 }
 
--- one pair more was read; counts stop at 2 ^ 64 - 1
+-- one look more; counts stop at 2 ^ 64 - 1
 abbrev pub with_look : Cost → Cost
 with_look cost = record { looks = min (cost.looks + 1) 18446744073709551615; probes = cost.probes }
 
--- one range more was read
+-- one probe more
 abbrev pub with_probe : Cost → Cost
 with_probe cost = record { looks = cost.looks; probes = min (cost.probes + 1) 18446744073709551615 }
 
--- no fewer ranges were read than before, in a count that stops at 2 ^ 64 - 1
+-- no fewer probes than before, in a count that stops at 2 ^ 64 - 1
 abbrev pub NoFewerProbes : Cost → Cost → Type 0
 NoFewerProbes before after = min before.probes 18446744073709551615 ≤ after.probes
 
@@ -44,8 +44,8 @@ ranges_met target ranges = count_by (is_met target) ranges
 abbrev pub ranges_met_by : List CellId → List Range → ℕ → ℕ
 ranges_met_by target ranges leaf = count_by (λ r. is_met target r && nat_le r.start leaf) ranges
 
--- what a walk may have read after some calls of its closure, and what it must have: a pair for each call, and the ranges that the target meets
--- up to the first leaf which it shares with a pair that was called
+-- how many looks and probes a walk may have taken after some calls of its closure, and how many it must have: a look for each call, and a probe
+-- for each range that the target meets up to the first leaf which it shares with a pair that was called
 pub record IsWalkCost (target : List CellId) (held : Collection) (ranges : List Range) (calls : ℕ) (cost : Cost) : Type 0 where
   pub each : calls ≤ cost.looks
   pub looks : cost.looks ≤ calls + ranges_met target ranges + length target

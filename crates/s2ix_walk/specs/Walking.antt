@@ -66,9 +66,9 @@ cells_begun target seen = count_by (λ c. nat_lt (first_of c) seen) target
 abbrev pub ranges_begun : List CellId → List Range → ℕ → ℕ
 ranges_begun target ranges seen = count_by (λ r. is_met target r && nat_lt r.start seen) ranges
 
--- what a walk may have read after some calls: for each range begun that is met one probe and one look that gave no new pair, and for each
--- cell begun a search and a look for the ranges of its face; for a chain at hand that look is still to come; and at least one probe for each
--- range begun that is met
+-- how many looks and probes a walk may have taken after some calls: for each range begun that is met one probe, and one look that gave no new
+-- pair; for each cell begun the probes of a search, and one more for the window of its face or for a range near at hand. For a chain at hand
+-- that look is still to come. And how many it must have taken: one probe for each range begun that is met
 pub record IsPaid {P : Type 0} (shown : Shown P) (target : List CellId) (walk : WalkState P) (calls : ℕ) (cost : Cost) : Type 0 where
   pub each : calls ≤ cost.looks
   pub looks : cost.looks + one_if_some walk.place ≤ calls + ranges_begun target shown.ranges walk.seen

@@ -1,9 +1,9 @@
 /// What reading a table has cost, in counts that stop at 2^64 - 1. This project's own.
 #[derive(Clone, Copy, Debug, PartialEq, Eq, Hash)]
 pub struct Cost {
-    /// How many pairs were read.
+    /// How many looks there were: pairs that were read.
     pub looks: u64,
-    /// How many ranges were read.
+    /// How many probes there were: ranges that were read, and windows of a face that were asked for.
     pub probes: u64,
 }
 
@@ -21,14 +21,14 @@ impl Cost {
         }
     }
 
-    /// Counts one pair more.
+    /// Counts one look more.
     pub fn add_look(&mut self)
         ensures { self.new ≡ with_look self.old }
     {
         self.looks = self.looks.saturating_add(1);
     }
 
-    /// Counts one range more.
+    /// Counts one probe more.
     pub fn add_probe(&mut self)
         ensures { self.new ≡ with_probe self.old }
     {

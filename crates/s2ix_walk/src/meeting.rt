@@ -50,8 +50,8 @@ impl<'a, R: Reader> Meeting<'a, R> {
         }
     }
 
-    /// The next pair, or `None` behind the last one. Then the reader has read at least as many ranges as the target meets, and at a pair at
-    /// least as many as it meets up to the first leaf that it shares with the pair.
+    /// The next pair, or `None` behind the last one. At a pair, the reader has counted at least as many probes as the target meets ranges up
+    /// to the first leaf that it shares with the pair; at `None`, at least as many as the target meets ranges at all.
     #[inline(always)]
     pub fn advance(&mut self) -> Option<Held>
         ensures reference { (reader_in self.new).ghost_name ≡ (reader_in self.old).ghost_name }

@@ -11,7 +11,7 @@ use crate::walk_state::KnownFace;
 use crate::window::Window;
 use s2id_core::CellId;
 
-// The range that has a leaf, one of some that are known to have it among them: half of those that are left at each probe. Among the last few
+// The range that has a leaf, one of some that are known to have it among them: each probe halves those that are left. Among the last few
 // no branch depends on what is read.
 #[inline(always)]
 fn search<R: Reader>(reader: &mut R, leaf: u64, among: Window) -> usize
@@ -54,11 +54,11 @@ fn narrow<R: Reader>(reader: &mut R, leaf: u64, among: Window) -> Window
     Window { first, size }
 }
 
-// How many ranges are so many that a search waits for each that it reads.
+// Among more ranges than this a search waits for memory at each probe.
 const FAR: usize = 16384;
 
-// Of a power of two of ranges, where they are many, at most eight: half of those that are left at each probe, by a branch, so that the processor
-// reads on before it knows what it read.
+// Of a power of two of ranges, if they are many, at most eight: each probe halves those that are left, by a branch, so that the processor
+// asks for the next range before it knows this one.
 #[inline(always)]
 fn jump<R: Reader>(reader: &mut R, leaf: u64, among: Window) -> Window
     requires among { IsWindow (R.shown reader.old).ranges leaf among.first among.size }
@@ -92,8 +92,8 @@ struct Candidates {
     known: KnownFace,
 }
 
-// The ranges among which is the one with a cell's first leaf: those over the cell's face, from one on that begins by that leaf. One probe at
-// most: the reader is asked for the ranges over a face, or one of those over the known face is looked at.
+// The ranges among which the one with a cell's first leaf is: those over the cell's face, from one on that begins by that leaf. It takes one
+// probe at most: on the known face a range near at hand, on another the window of that face.
 #[inline(always)]
 fn ahead<R: Reader>(reader: &mut R, cell: CellId, from: usize, known: KnownFace) -> Candidates
     requires known { IsKnown (R.shown reader.old).ranges known }
@@ -126,7 +126,7 @@ fn ahead<R: Reader>(reader: &mut R, cell: CellId, from: usize, known: KnownFace)
     Candidates { among, known }
 }
 
-// How many ranges ahead a walk looks before it searches all of those over a face.
+// How many ranges ahead a search probes before it takes all of those over a face.
 const NEAR: usize = 16;
 
 // Of some ranges the first few, where the one with a leaf is among these, and else the rest.

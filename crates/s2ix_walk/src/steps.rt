@@ -141,7 +141,7 @@ fn first_beyond(cells: &[CellId], k: usize, seen: u64) -> usize
 }
 
 // The last cell, from the k-th on, that begins before a leaf: in steps that double, then halve, by the cells' numbers, which are cheaper to
-// tell than where they begin, and one look at the next cell, which may begin before the leaf though its number is behind. O(log m) where it
+// tell than where they begin. Then the next cell is tested, which may begin before the leaf though its number is behind it. O(log m) if it
 // is the m-th.
 #[inline(always)]
 fn last_begun(cells: &[CellId], k: usize, limit: u64) -> usize

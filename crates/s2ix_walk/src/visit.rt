@@ -12,9 +12,9 @@ use s2ix_bag::Held;
 /// answered true (S2's `VisitIntersectingCells()`). Takes no memory. O(k + r + t log n).
 ///
 /// The reader must have read nothing. Let k be the number of calls, t that of the target's cells, n that of the table's ranges, r that of
-/// those which the target meets, and d the number of binary digits of n + 1. Then the reader has read at least k and at most k + r + t
-/// pairs, and at most t * d + r + t ranges. It has read at least those of the r ranges that begin by the first leaf which the target shares
-/// with the last pair called, and at least r where every call answered true.
+/// those which the target meets, and d the number of binary digits of n + 1. Then the reader has counted at least k and at most k + r + t
+/// looks, and at most t * d + r + t probes. The probes are at least as many as those of the r ranges that begin by the first leaf which the
+/// target shares with the last pair called, and at least r if every call answered true.
 pub fn walk<R: Reader, F: FnMut(Held) -> bool>(
     reader: &mut R,
     target: &CellUnion,
