@@ -8,15 +8,15 @@ use std::process::Abort;
 type Row = (&'static [u8], &'static [u8], bool);
 
 const CHECKED: [Row; 15] = [
-    (b"s2ix 2\n04 9 1\n", b"no Truncated 3\n", false),
+    (b"s2ix 1\n04 9 1\n", b"no Truncated 3\n", false),
     (
-        b"s2ix 2\n1 7 1\n04 9 1\nend 2 2\n",
+        b"s2ix 1\n1 7 1\n04 9 1\nend 2 2\n",
         b"no Unsorted 3\n",
         false,
     ),
-    (b"s2ix 2\nend 0 0\nx\n", b"no TrailingBytes 3\n", false),
-    (b"s2ix 2\n04 9 1\nend 1 1\n", b"ok 1 1\n", true),
-    (b"s2ix 2\n040 9 1\nend 1 1\n", b"no BadToken 2\n", false),
+    (b"s2ix 1\nend 0 0\nx\n", b"no TrailingBytes 3\n", false),
+    (b"s2ix 1\n04 9 1\nend 1 1\n", b"ok 1 1\n", true),
+    (b"s2ix 1\n040 9 1\nend 1 1\n", b"no BadToken 2\n", false),
     (b"", b"no Truncated 1\n", false),
     (b"s2ix 1\n04 9 65535\nend 1 65535\n", b"ok 1 65535\n", true),
     (

@@ -41,7 +41,7 @@ const REPLAYED: [Row; 13] = [
         false,
     ),
     (EMPTY, JOURNAL, MERGED, true),
-    (MERGED, JOURNAL, b"no Mismatch 2 1\n", false),
+    (MERGED_FIRST, JOURNAL, b"no Mismatch 2 1\n", false),
     (MERGED, b"s2ix-journal 2\nend 0\n", MERGED, true),
     (b"s2ix 2\n", b"x\n", b"no Truncated 2\n", false),
     (EMPTY, b"x\n", b"no journal BadHeader 1\n", false),
