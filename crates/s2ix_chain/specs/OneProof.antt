@@ -1,5 +1,5 @@
 -- That a table keeps a pair once has one proof: what a type keeps of it in a ghost field tells no two of its values apart.
-use Rattle.std.specs.Prelude.{◌≡◌, ℕ, ◌+◌, ◌<◌, List, [], ◌∷◌, drop, length, Contains}
+use Rattle.std.specs.Prelude.{◌≡◌, ℕ, ◌+◌, ◌<◌, [], ◌∷◌, drop, length, Contains}
 use Rattle.std.specs.Coded.{Coded-set, coded_ℕ}
 use Rattle.std.proofs.Common.{zero, suc, ap, arith}
 use Rattle.std.proofs.Props.{props}

@@ -1,5 +1,5 @@
 -- That joined tables keep a pair once has one proof: what a type keeps of it in a ghost field tells no two of its values apart.
-use Rattle.std.specs.Prelude.{◌≡◌, ℕ, List}
+use Rattle.std.specs.Prelude.{List}
 use Rattle.std.specs.Coded.{Coded-set, coded_ℕ}
 use Rattle.std.proofs.Common.{ap}
 use Rattle.s2ix_chain.specs.Once.{KeepsOnce}

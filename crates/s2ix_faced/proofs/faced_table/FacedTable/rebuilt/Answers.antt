@@ -15,6 +15,7 @@ invariant_of-result g c =
       rises = c.together.ensures.rises;
       few = let len = ap length held in omega (arith, few, len);
       table = c.together.ensures.table;
+      once = c.keeps_a_pair_once.ensures;
     }
 
 pub returns-clause-pairs : goal.returns-clause-pairs

@@ -10,6 +10,7 @@ invariant_of-result c =
       rises = c.together.ensures.rises;
       few = let len = ap length held in let read = ap length c.new-reader.ensures.shown in omega (arith, few, read, len);
       table = c.together.ensures.table;
+      once = c.keeps_a_pair_once.ensures;
     }
 
 pub returns : goal.returns
