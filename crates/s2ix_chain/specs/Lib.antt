@@ -6,3 +6,4 @@ pub mod Order
 pub mod Pass
 pub mod Sweep
 pub mod Once
+pub mod OneProof

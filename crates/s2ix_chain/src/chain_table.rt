@@ -3,7 +3,11 @@ ghost use Rattle.s2ix_pairs.specs.Collection.{IsCollection};
 ghost use Rattle.s2ix_pairs.specs.OneProof.{IsCollection-prop};
 ghost use Rattle.s2ix_ranges.specs.Table.{IsRangeTable, leaf_end};
 ghost use Rattle.s2ix_chain.specs.Chains.{chain_of};
+ghost use Rattle.s2ix_chain.specs.Once.{KeepsOnce};
+ghost use Rattle.s2ix_chain.specs.OneProof.{chains_once-prop};
 
+use crate::laws::span_keeps_a_pair_once;
+use crate::shares_chains::SharesChains;
 use crate::span_table::SpanTable;
 use s2id_core::{CellId, LEAF_END, OutOfMemory};
 use s2ix_bag::{Bag, FlatHeld, Held};
@@ -20,6 +24,7 @@ pub struct ChainTable {
     ghost begins: { span.from ≡ 1 },
     ghost ends: { span.to ≡ leaf_end },
     ghost table: { IsRangeTable span.held span.ranges },
+    ghost once: { KeepsOnce (chain_of span.held) } by { chains_once-prop span.held },
 }
 
 // What a bag holds, in its order. O(n) for n pairs.
@@ -49,6 +54,7 @@ impl RangeTable for ChainTable {
     fn build(alloc: Global, bag: &Bag) -> Result<Self, OutOfMemory> {
         let held = flat_pairs(alloc, bag)?;
         let span = SpanTable::over(alloc, held, 1, LEAF_END)?;
+        span_keeps_a_pair_once(&span);
         Ok(ChainTable { span })
     }
 
@@ -81,4 +87,8 @@ impl RangeTable for ChainTable {
     fn find(&self, leaf: CellId) -> usize {
         self.span.find(leaf)
     }
+}
+
+impl SharesChains for ChainTable {
+    ghost keeps_once = { λ t. t.once };
 }

@@ -5,6 +5,7 @@ ghost use Rattle.s2ix_chain.specs.Once.{KeepsOnce};
 ghost use Rattle.s2ix_chain.specs.SpanTable.{IsSpanTable};
 
 use crate::chain_table::ChainTable;
+use crate::shares_chains::SharesChains;
 use crate::span_table::SpanTable;
 use s2ix_table::RangeTable;
 
@@ -22,12 +23,10 @@ pub fn span_keeps_a_pair_once(table: &SpanTable)
     let _ = &table.held;
 }
 
-/// A pair has one place: each chain that holds it holds it at a place, and two chains hold it at the same one.
-pub fn keeps_a_pair_once(table: &ChainTable)
-    ensures { KeepsOnce (⟦<ChainTable as RangeTable>⟧.chain table.now) }
-{
-    span_keeps_a_pair_once(&table.span);
-}
+/// A pair has one place in such a table: each chain that holds it holds it at a place, and two chains hold it at the same one.
+pub fn keeps_a_pair_once<T: SharesChains>(table: &T)
+    ensures { KeepsOnce (T.chain table.now) }
+{}
 
 /// A table of n pairs has at most 2 * n + 1 ranges.
 pub fn has_few_ranges(table: &ChainTable)

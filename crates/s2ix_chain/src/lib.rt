@@ -1,6 +1,7 @@
 //! Range tables whose chains are shared: one node for each held pair, which all ranges over its cell use.
 //!
-//! A [`SpanTable`] has the ranges over one span of leaves, a [`ChainTable`] those over all leaves.
+//! A [`SpanTable`] has the ranges over one span of leaves, a [`ChainTable`] those over all leaves. That a pair has one place in such a table is
+//! the law of [`SharesChains`].
 #![tactic(auto)]
 
 mod chain_table;
@@ -8,8 +9,10 @@ pub mod laws;
 mod order;
 mod pass;
 mod places;
+mod shares_chains;
 mod span_table;
 mod sweep;
 
 pub use chain_table::ChainTable;
+pub use shares_chains::SharesChains;
 pub use span_table::SpanTable;

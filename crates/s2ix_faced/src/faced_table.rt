@@ -7,11 +7,13 @@ ghost use Rattle.s2ix_walk.specs.Costs.{binary_digits};
 ghost use Rattle.s2ix_reading.specs.Faces.{changed_count};
 ghost use Rattle.s2ix_joined.specs.Joined.{held_in, joined_ranges};
 ghost use Rattle.s2ix_chain.specs.Once.{KeepsOnce};
+ghost use Rattle.s2ix_joined.specs.OneProof.{joined_once-prop};
 ghost use Rattle.s2ix_joined.specs.Places.{chain_from};
 
 use crate::tables::{read_tables, tables_after};
 use s2id_core::{CellId, OutOfMemory};
 use s2ix_bag::{Bag, Change, Held};
+use s2ix_chain::SharesChains;
 use s2ix_joined::laws::keeps_a_pair_once;
 use s2ix_joined::{FacePlace, JoinedTables};
 use s2ix_reading::{BagReader, PairReader};
@@ -27,6 +29,7 @@ pub struct FacedTable {
     ghost rises: { IsCollection (held_in tables) } by { IsCollection-prop 0 (held_in tables) },
     ghost few: { length (held_in tables) ≤ 1000000 },
     ghost table: { IsRangeTable (held_in tables) (joined_ranges tables) },
+    ghost once: { KeepsOnce (chain_from tables) } by { joined_once-prop tables },
 }
 
 impl RangeTable for FacedTable {
@@ -47,9 +50,9 @@ impl RangeTable for FacedTable {
     fn build(alloc: Global, bag: &Bag) -> Result<Self, OutOfMemory> {
         let mut reader = BagReader::new(bag);
         let tables = read_tables(alloc, &mut reader)?;
-        Ok(FacedTable {
-            tables: JoinedTables::together(tables),
-        })
+        let tables = JoinedTables::together(tables);
+        keeps_a_pair_once(&tables);
+        Ok(FacedTable { tables })
     }
 
     #[inline]
@@ -98,6 +101,10 @@ impl RangeTable for FacedTable {
     }
 }
 
+impl SharesChains for FacedTable {
+    ghost keeps_once = { λ t. t.once };
+}
+
 impl FacedTable {
     /// The table of what a reader shows, which a change has made of this table's pairs: the tables of the faces that the change has
     /// entries on are built again, the others are shared. With p pairs on those faces and n in all it reads p to p + 12 * digits(n + 1)
@@ -118,15 +125,8 @@ impl FacedTable {
         ensures reads_few { B.spent bag.new ≤ changed_count change.now (B.shown bag.old) + 12 * binary_digits (length (B.shown bag.old) + 1) }
     {
         let tables = tables_after(alloc, &self.tables, bag, change)?;
-        Ok(FacedTable {
-            tables: JoinedTables::together(tables),
-        })
-    }
-
-    // A law: a pair has one place.
-    pub(crate) fn keeps_its_places(&self)
-        ensures { KeepsOnce (⟦<FacedTable as RangeTable>⟧.chain self.now) }
-    {
-        keeps_a_pair_once(&self.tables);
+        let tables = JoinedTables::together(tables);
+        keeps_a_pair_once(&tables);
+        Ok(FacedTable { tables })
     }
 }

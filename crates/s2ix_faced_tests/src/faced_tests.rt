@@ -4,9 +4,10 @@ ghost use Rattle.s2ix_pairs.specs.Change.{changed};
 
 use s2id_samples::Random;
 use s2ix_bag::{Bag, Change};
+use s2ix_chain::laws::keeps_a_pair_once;
 use s2ix_copied::CopiedTable;
 use s2ix_faced::FacedTable;
-use s2ix_faced::laws::{has_few_ranges, keeps_a_pair_once};
+use s2ix_faced::laws::has_few_ranges;
 use s2ix_reading::BagReader;
 use s2ix_same_tables::{
     answer_all_the_same, answers_for_faces, answers_for_notes, have_same_ranges,

@@ -2,6 +2,7 @@
 use s2id_samples::Random;
 use s2ix_bag::Bag;
 use s2ix_chain::ChainTable;
+use s2ix_chain::laws::keeps_a_pair_once;
 use s2ix_copied::CopiedTable;
 use s2ix_same_tables::{answer_all_the_same, have_same_ranges};
 use s2ix_samples::{deep_bag, nested_bag};
@@ -12,6 +13,7 @@ use std::alloc::Global;
 fn are_same(alloc: Global, random: &mut Random, bag: Option<Bag>) -> Option<bool> {
     let bag = bag?;
     let chains = ChainTable::build(alloc, &bag).ok()?;
+    keeps_a_pair_once(&chains);
     let copies = CopiedTable::build(alloc, &bag).ok()?;
     Some(have_same_ranges(&chains, &copies) && answer_all_the_same(alloc, random, &chains, &copies))
 }

@@ -3,3 +3,4 @@ pub mod Seats
 pub mod Faces
 pub mod Places
 pub mod Whole
+pub mod OneProof

@@ -9,20 +9,21 @@ use Rattle.s2ix_faced.proofs.faced_table.FacedTable.rebuilt.Goals as goal
 
 pub invariant_of-result : goal.invariant_of-result
 invariant_of-result g c =
-    let held = ap held_in c.together.ensures.same ∙ c.in_ok-tables.ensures.tables.pairs in
+    let held = ap held_in c.together-tables.ensures.same ∙ c.in_ok-tables.ensures.tables.pairs in
     let few = (g.met.B.PairReader.is_read c.args.bag.now).few in
     record {
-      rises = c.together.ensures.rises;
+      rises = c.together-tables.ensures.rises;
       few = let len = ap length held in omega (arith, few, len);
-      table = c.together.ensures.table;
+      table = c.together-tables.ensures.table;
+      once = c.keeps_a_pair_once.ensures;
     }
 
 pub returns-clause-pairs : goal.returns-clause-pairs
-returns-clause-pairs g c = ap held_in c.together.ensures.same ∙ c.in_ok-tables.ensures.tables.pairs
+returns-clause-pairs g c = ap held_in c.together-tables.ensures.same ∙ c.in_ok-tables.ensures.tables.pairs
 
 pub returns-clause-table : goal.returns-clause-table
 returns-clause-table g c =
-    subst (λ (hs : Collection). IsRangeTable hs (joined_ranges c.together.result)) (ap held_in c.together.ensures.same ∙ c.in_ok-tables.ensures.tables.pairs) c.together.ensures.table
+    subst (λ (hs : Collection). IsRangeTable hs (joined_ranges c.together-tables.result)) (ap held_in c.together-tables.ensures.same ∙ c.in_ok-tables.ensures.tables.pairs) c.together-tables.ensures.table
 
 pub returns-clause-reads_all : goal.returns-clause-reads_all
 returns-clause-reads_all g c =
