@@ -2,7 +2,7 @@
 ghost use Rattle.s2ix_words.specs.Words.{IsUsage};
 
 use crate::WordsFault;
-use crate::shown::error_text;
+use crate::shown::{error_text, on_one_line};
 use s2ix_clap::limit_error;
 use std::alloc::{AllocError, Global};
 
@@ -17,10 +17,18 @@ pub(crate) fn usage(alloc: Global, text: &str) -> WordsFault
 pub(crate) fn limit_usage(alloc: Global, option: &str, value: &str, greatest: u32) -> WordsFault
     ensures { IsUsage result }
 {
-    match limit_error(alloc, option, value, greatest) {
-        Ok(error) => told(error_text(alloc, &error)),
-        Err(_) => WordsFault::OutOfMemory,
-    }
+    told(limit_text(alloc, option, value, greatest))
+}
+
+// What clap says of a value that is no number in the range of its option.
+fn limit_text(
+    alloc: Global,
+    option: &str,
+    value: &str,
+    greatest: u32,
+) -> Result<String, AllocError> {
+    let value = on_one_line(alloc, value)?;
+    error_text(alloc, &limit_error(alloc, option, value.as_str(), greatest)?)
 }
 
 /// What is told of a word that is no UTF-8: usage that names it, with escapes for its bytes, or want of memory. O(n) for a word of n bytes.

@@ -3,7 +3,7 @@ ghost use Rattle.clap.specs.Words.{kind_of};
 ghost use Rattle.s2ix_words.specs.Words.{AreRefused, AskFor, IsToldAs};
 
 use crate::given::command_met;
-use crate::shown::error_text;
+use crate::shown::words_text;
 use crate::{Command, WordsFault};
 use clap::Error;
 use clap::error::ErrorKind;
@@ -16,6 +16,8 @@ use std::alloc::Global;
 /// behind `--` each word is a file. A limit is read as Rust reads a `u32`, and one that is not given is as wide as it may be.
 /// O(n) for words of n bytes. This project's own.
 ///
+/// What is told of a word has an escape for each of its control characters.
+///
 /// It answers `HelpAsked` and `VersionAsked` where the words ask for these, `Usage` where they ask for no command, a limit out of its range
 /// too, and `OutOfMemory` where a growth was refused.
 pub fn command_of(alloc: Global, words: &[String]) -> Result<Command, WordsFault>
@@ -25,15 +27,15 @@ pub fn command_of(alloc: Global, words: &[String]) -> Result<Command, WordsFault
     let limits = LimitHelp::new(alloc)?;
     match program(alloc, &limits)?.try_get_matches_from(words) {
         Ok(matches) => command_met(alloc, &matches),
-        Err(error) => Err(refusal(alloc, &error)),
+        Err(error) => Err(refusal(alloc, words, &error)),
     }
 }
 
 // What clap says of words that it refuses, or its help or version.
-fn refusal(alloc: Global, error: &Error) -> WordsFault
+fn refusal(alloc: Global, words: &[String], error: &Error) -> WordsFault
     ensures { IsToldAs (kind_of error.now) result }
 {
-    let Ok(text) = error_text(alloc, error) else {
+    let Ok(text) = words_text(alloc, words, error) else {
         return WordsFault::OutOfMemory;
     };
     match error.kind() {

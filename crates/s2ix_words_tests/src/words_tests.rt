@@ -149,13 +149,16 @@ const HELP: [(&str, &str); 16] = [
 const VERSION: [&str; 3] = ["s2ix|--version", "s2ix|-V", "s2ix|-V|run"];
 
 // Words with control characters, and the part of the usage that tells them.
-const CONTROLS: [(&str, &str); 6] = [
+const CONTROLS: [(&str, &str); 9] = [
     ("s2ix|\u{1b}[31m", "'\\u{1b}[31m'"),
     ("s2ix|run|a\tb\r", "'a\\tb\\r'"),
     ("s2ix|run|--\u{7}=1", "'--\\u{7}'"),
     ("s2ix|check|a|\u{7f}\u{9b}é", "'\\u{7f}\\u{9b}é'"),
     ("s2ix|run|--max-pairs|\u{1b}c", "'\\u{1b}c' for '--max-pairs <N>'"),
     ("s2ix|run|--stop=\u{0}", "'\\u{0}'"),
+    ("s2ix|fly\nerror: no\u{1b}", "'fly\\nerror: no\\u{1b}'"),
+    ("s2ix|check|a|--b\n\n=c", "'--b\\n\\n'"),
+    ("s2ix|run|--max-count|1\n2", "'1\\n2' for '--max-count <N>'"),
 ];
 
 fn wrong(line: &str, answer: &str) -> Result<(), Fail> {
