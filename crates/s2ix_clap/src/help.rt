@@ -21,7 +21,7 @@ pub(crate) const DUMP: &str = "The dump: a file, or /dev/stdin for standard inpu
 pub(crate) const JOURNAL: &str = "The journal: a file, or /dev/stdin for standard input";
 
 /// What the help of `run` tells behind its options: each instruction of a script.
-pub(crate) const AFTER_RUN: &str = "Instructions, one on a line; '#' begins a comment:
+pub(crate) const AFTER_RUN: &str = "Instructions, one on a line:
   add TOKEN LABEL [COPIES]     Adds copies of a pair, 1 where none are named
   remove TOKEN LABEL [COPIES]  Takes copies of a pair away
   addunion LABEL TOKEN..       Adds a copy for each cell of the normal union of the cells
@@ -47,5 +47,6 @@ pub(crate) const AFTER_RUN: &str = "Instructions, one on a line; '#' begins a co
   journal                      Prints the journal of the changes that can be undone
   export                       Prints the collection as JSON
 
-A line that is refused prints 'no' and the reason, and changes nothing. A script in a file is run
-by 's2ix run < FILE'.";
+A line that begins with '#' is a comment. One that changes pairs prints 'ok' and their number. One
+that is refused prints 'no' and the reason, and changes nothing. 's2ix run < FILE' runs the script
+in FILE.";
