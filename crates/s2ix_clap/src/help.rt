@@ -1,7 +1,7 @@
 //! What help tells beside the words themselves.
 
 /// The version of the program, as `--version` tells it.
-pub const VERSION: &str = "1.0.0";
+pub(crate) const VERSION: &str = "1.0.0";
 
 /// What the help of the program tells behind its commands: where the instructions are, what names a file, and each exit status.
 pub(crate) const AFTER_PROGRAM: &str = "'s2ix run --help' lists the instructions of a script.

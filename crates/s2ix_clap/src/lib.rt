@@ -10,6 +10,5 @@ mod help;
 mod limits;
 mod tree;
 
-pub use help::VERSION;
 pub use limits::{LimitHelp, range_text};
 pub use tree::{limit_error, program};
