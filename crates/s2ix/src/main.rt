@@ -20,15 +20,21 @@ fn end(rt: &HostRuntime) -> Ending {
             Ok(false) => Ending::Refused,
             Err(fault) => Ending::Fault(fault),
         },
-        Err(WordsFault::HelpAsked(text) | WordsFault::VersionAsked(text)) => match print!(rt; "{text}") {
-            Ok(()) => Ending::Accepted,
-            Err(_) => Ending::Fault(RunFault::Write),
-        },
+        Err(WordsFault::HelpAsked(text)) => print(rt, text.as_str()),
+        Err(WordsFault::VersionAsked(text)) => print(rt, text.as_str()),
         Err(WordsFault::Usage(text)) => {
             let _ = eprint!(rt; "{text}");
             Ending::Usage
         }
         Err(WordsFault::OutOfMemory) => Ending::Fault(RunFault::OutOfMemory),
+    }
+}
+
+// Prints help or the version.
+fn print(rt: &HostRuntime, text: &str) -> Ending {
+    match print!(rt; "{text}") {
+        Ok(()) => Ending::Accepted,
+        Err(_) => Ending::Fault(RunFault::Write),
     }
 }
 

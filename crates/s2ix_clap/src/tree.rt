@@ -67,7 +67,12 @@ fn run<'a>(alloc: Global, limits: &'a LimitHelp) -> Result<Command<'a>, AllocErr
     Command::new(alloc, "run")
         .about("Carries out the script on standard input")
         .after_help(AFTER_RUN)
-        .arg(option(alloc, "load", "FILE", "Begins with the dump in FILE [default: with no pair]"))?
+        .arg(option(
+            alloc,
+            "load",
+            "FILE",
+            "Begins with the dump in FILE [default: empty]",
+        ))?
         .arg(option(alloc, "max-pairs", "N", limits.pairs.as_str()))?
         .arg(option(alloc, "max-count", "N", limits.count.as_str()))?
         .arg(option(alloc, "max-changes", "N", limits.changes.as_str()))?

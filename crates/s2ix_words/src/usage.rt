@@ -28,7 +28,10 @@ fn limit_text(
     greatest: u32,
 ) -> Result<String, AllocError> {
     let value = on_one_line(alloc, value)?;
-    error_text(alloc, &limit_error(alloc, option, value.as_str(), greatest)?)
+    error_text(
+        alloc,
+        &limit_error(alloc, option, value.as_str(), greatest)?,
+    )
 }
 
 /// What is told of a word that is no UTF-8: usage that names it, with escapes for its bytes, or want of memory. O(n) for a word of n bytes.
@@ -37,9 +40,9 @@ pub fn not_utf8(alloc: Global, word: &[u8]) -> WordsFault
     ensures usage { IsUsage result }
 {
     let word = word.escape_ascii();
-    told(
-        format!(in alloc; "error: the word '{word}' is no UTF-8\n\nFor more information, try '--help'.\n"),
-    )
+    told(format!(in alloc;
+        "error: the word '{word}' is no UTF-8\n\nFor more information, try '--help'.\n"
+    ))
 }
 
 // Usage with this text, where there was room for it.

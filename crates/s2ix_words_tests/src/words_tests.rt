@@ -78,19 +78,37 @@ const LIMITS: [(&str, &str); 9] = [
 
 // Limits out of their ranges, and texts that are no numbers, each with the option and the value that are told.
 const WRONG_LIMITS: [(&str, &str); 13] = [
-    ("s2ix|run|--max-pairs|1000001", "'1000001' for '--max-pairs <N>'"),
+    (
+        "s2ix|run|--max-pairs|1000001",
+        "'1000001' for '--max-pairs <N>'",
+    ),
     ("s2ix|run|--max-pairs|0", "'0' for '--max-pairs <N>'"),
-    ("s2ix|run|--max-count|4294967296", "'4294967296' for '--max-count <N>'"),
+    (
+        "s2ix|run|--max-count|4294967296",
+        "'4294967296' for '--max-count <N>'",
+    ),
     ("s2ix|run|--max-count|0", "'0' for '--max-count <N>'"),
-    ("s2ix|run|--max-changes|100001", "'100001' for '--max-changes <N>'"),
+    (
+        "s2ix|run|--max-changes|100001",
+        "'100001' for '--max-changes <N>'",
+    ),
     ("s2ix|run|--max-changes|0", "'0' for '--max-changes <N>'"),
     ("s2ix|run|--max-pairs=", "'' for '--max-pairs <N>'"),
     ("s2ix|run|--max-pairs|7 ", "'7 ' for '--max-pairs <N>'"),
     ("s2ix|run|--max-pairs|0x7", "'0x7' for '--max-pairs <N>'"),
-    ("s2ix|run|--max-pairs|4294967297", "'4294967297' for '--max-pairs <N>'"),
-    ("s2ix|run|--max-pairs|18446744073709551617", "'18446744073709551617' for '--max-pairs <N>'"),
+    (
+        "s2ix|run|--max-pairs|4294967297",
+        "'4294967297' for '--max-pairs <N>'",
+    ),
+    (
+        "s2ix|run|--max-pairs|18446744073709551617",
+        "'18446744073709551617' for '--max-pairs <N>'",
+    ),
     ("s2ix|run|--max-pairs=-7", "'-7' for '--max-pairs <N>'"),
-    ("s2ix|run|--max-changes|0|--max-count|x|--max-pairs|1", "'x' for '--max-count <N>'"),
+    (
+        "s2ix|run|--max-changes|0|--max-count|x|--max-pairs|1",
+        "'x' for '--max-count <N>'",
+    ),
 ];
 
 // Other words that ask for nothing.
@@ -154,7 +172,10 @@ const CONTROLS: [(&str, &str); 9] = [
     ("s2ix|run|a\tb\r", "'a\\tb\\r'"),
     ("s2ix|run|--\u{7}=1", "'--\\u{7}'"),
     ("s2ix|check|a|\u{7f}\u{9b}é", "'\\u{7f}\\u{9b}é'"),
-    ("s2ix|run|--max-pairs|\u{1b}c", "'\\u{1b}c' for '--max-pairs <N>'"),
+    (
+        "s2ix|run|--max-pairs|\u{1b}c",
+        "'\\u{1b}c' for '--max-pairs <N>'",
+    ),
     ("s2ix|run|--stop=\u{0}", "'\\u{0}'"),
     ("s2ix|fly\nerror: no\u{1b}", "'fly\\nerror: no\\u{1b}'"),
     ("s2ix|check|a|--b\n\n=c", "'--b\\n\\n'"),
@@ -270,7 +291,10 @@ fn the_version_is_told(rt: HostRuntime) -> Result<(), Fail> {
 fn control_characters_of_words_are_told_as_escapes(rt: HostRuntime) -> Result<(), Fail> {
     for (line, part) in CONTROLS {
         let answer = told(rt.alloc(), line)?;
-        if !answer.starts_with("usage: error: ") || !answer.contains(part) || has_controls(&answer) {
+        if !answer.starts_with("usage: error: ")
+            || !answer.contains(part)
+            || has_controls(&answer)
+        {
             return wrong(line, &answer);
         }
     }
