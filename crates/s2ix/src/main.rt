@@ -2,33 +2,17 @@
 //! ends with its status.
 #![tactic(auto)]
 
+mod asked;
 mod carry;
 
+use asked::asked;
 use carry::carry_command;
 use s2ix_ending::{Ending, status};
 use s2ix_io::RunFault;
-use s2ix_words::{Command, WordsFault, command_of};
-use std::env;
-use std::io::ErrorKind;
+use s2ix_words::WordsFault;
 use std::process::ExitCode;
 
-// What the program's words ask for.
-fn asked(rt: &HostRuntime) -> Result<Command, WordsFault> {
-    let words = match env::args(rt) {
-        Ok(mut all) => {
-            let _program = all.next();
-            all.collect::<Vec<String>>(rt.alloc())?
-        }
-        Err(error) if error.kind() == ErrorKind::OutOfMemory => return Err(WordsFault::OutOfMemory),
-        Err(_) => {
-            let text = String::from_str(rt.alloc(), "error: a word is no UTF-8\n")?;
-            return Err(WordsFault::Usage(text));
-        }
-    };
-    command_of(rt.alloc(), words.as_slice())
-}
-
-// Does what the words ask for. Help goes to standard output, and usage to standard error.
+// Does what the words ask for. Help and the version go to standard output, and usage to standard error.
 fn end(rt: &HostRuntime) -> Ending {
     match asked(rt) {
         Ok(command) => match carry_command(rt, &command) {
@@ -36,15 +20,21 @@ fn end(rt: &HostRuntime) -> Ending {
             Ok(false) => Ending::Refused,
             Err(fault) => Ending::Fault(fault),
         },
-        Err(WordsFault::HelpAsked(text)) => match print!(rt; "{text}") {
-            Ok(()) => Ending::Accepted,
-            Err(_) => Ending::Fault(RunFault::Write),
-        },
+        Err(WordsFault::HelpAsked(text)) => print(rt, text.as_str()),
+        Err(WordsFault::VersionAsked(text)) => print(rt, text.as_str()),
         Err(WordsFault::Usage(text)) => {
             let _ = eprint!(rt; "{text}");
             Ending::Usage
         }
         Err(WordsFault::OutOfMemory) => Ending::Fault(RunFault::OutOfMemory),
+    }
+}
+
+// Prints help or the version.
+fn print(rt: &HostRuntime, text: &str) -> Ending {
+    match print!(rt; "{text}") {
+        Ok(()) => Ending::Accepted,
+        Err(_) => Ending::Fault(RunFault::Write),
     }
 }
 

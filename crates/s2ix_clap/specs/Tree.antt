@@ -38,16 +38,20 @@ check_words = with_words (codes "check") (file_rule (codes "FILE") ∷ [])
 abbrev pub texts_words : Text → Shape
 texts_words name = with_words name (file_rule (codes "DUMP") ∷ file_rule (codes "JOURNAL") ∷ [])
 
--- all the words: one of the subcommands must be named, and the program's own name is not among the words
+-- all the words: one of the subcommands must be named unless help or the version is asked, and the program's own name is not among the
+-- words
 abbrev pub program : App
 program = record {
-  top = record (new_app (codes "s2ix")).top { no_binary_name = true; subcommand_required = true; is_leaf = false };
+  top = record (new_app (codes "s2ix")).top { no_binary_name = true; has_version = true; subcommand_required = true; is_leaf = false };
   subs = run_words ∷ check_words ∷ texts_words (codes "replay") ∷ texts_words (codes "rewind") ∷ [];
 }
 
 -- the program's own words, without its subcommands
 abbrev pub own_words : App
-own_words = record { top = record (new_app (codes "s2ix")).top { no_binary_name = true; subcommand_required = true }; subs = [] }
+own_words = record {
+  top = record (new_app (codes "s2ix")).top { no_binary_name = true; has_version = true; subcommand_required = true };
+  subs = [];
+}
 
 -- clap was told of a command with these words
 abbrev pub IsCommand : App → Command → Type 0

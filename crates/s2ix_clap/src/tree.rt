@@ -1,6 +1,7 @@
 //! The words that the program knows, as clap is told of them.
 ghost use Rattle.std.specs.Prelude.{◌≡◌, IfOk, false};
-ghost use Rattle.clap.specs.Words.{App, Shape, app_of, rule_of, with_subcommand};
+ghost use Rattle.clap.specs.Words.{App, Shape, app_of, kind_of, rule_of, with_subcommand};
+ghost use Rattle.clap.specs.declared.error.ErrorKind.TheVariants.{ValueValidation};
 ghost use Rattle.s2ix_clap.specs.Tree.{
   IsSubcommand,
   IsCommand,
@@ -15,16 +16,20 @@ ghost use Rattle.s2ix_clap.specs.Tree.{
   texts_words,
 };
 
-use clap::{Arg, ArgAction, Command};
+use crate::help::{AFTER_PROGRAM, AFTER_RUN, DUMP, JOURNAL, VERSION};
+use crate::limits::{LimitHelp, range_text};
+use clap::error::ErrorKind;
+use clap::{Arg, ArgAction, Command, Error};
 use std::alloc::{AllocError, Global};
 
-/// All the words that the program knows: `run`, `check`, `replay` and `rewind` with their options and files, one of which must be named.
-/// They are read without the program's own name before them. An error says that memory was wanted. This project's own.
-pub fn program<'a>(alloc: Global) -> Result<Command<'a>, AllocError>
+/// All the words that the program knows: `run`, `check`, `replay` and `rewind` with their options and files, one of which must be named,
+/// and those that ask for help or the version. They are read without the program's own name before them. An error says that memory was
+/// wanted. This project's own.
+pub fn program<'a>(alloc: Global, limits: &'a LimitHelp) -> Result<Command<'a>, AllocError>
     ensures { IfOk result (λ command. app_of command ≡ program) }
 {
     let command = name(alloc)?;
-    let command = with(command, run(alloc))?;
+    let command = with(command, run(alloc, limits))?;
     let command = with(command, check(alloc))?;
     let replay = "Prints the dump after the changes of the journal";
     let command = with(command, texts(alloc, "replay", replay))?;
@@ -38,6 +43,8 @@ fn name<'a>(alloc: Global) -> Result<Command<'a>, AllocError>
 {
     Command::new(alloc, "s2ix")
         .about("An editable index of labelled cells of the S2 curve")
+        .after_help(AFTER_PROGRAM)
+        .version(VERSION)
         .no_binary_name(true)
         .subcommand_required(true)
         .bin_name("s2ix")
@@ -54,31 +61,39 @@ fn with<'a>(
 }
 
 // `run` with its options.
-fn run<'a>(alloc: Global) -> Result<Command<'a>, AllocError>
+fn run<'a>(alloc: Global, limits: &'a LimitHelp) -> Result<Command<'a>, AllocError>
     ensures { IfOk result (IsSubcommand run_words) }
 {
     Command::new(alloc, "run")
         .about("Carries out the script on standard input")
-        .arg(option(alloc, "load", "FILE", "Begins with the dump in FILE"))?
+        .after_help(AFTER_RUN)
         .arg(option(
             alloc,
-            "max-pairs",
-            "N",
-            "Holds N pairs at most, 1 to 1000000",
+            "load",
+            "FILE",
+            "Begins with the dump in FILE [default: empty]",
         ))?
-        .arg(option(
-            alloc,
-            "max-count",
-            "N",
-            "Holds N copies of a pair at most, 1 to 4294967295",
-        ))?
-        .arg(option(
-            alloc,
-            "max-changes",
-            "N",
-            "Keeps N changes to undo at most, 1 to 100000",
-        ))?
+        .arg(option(alloc, "max-pairs", "N", limits.pairs.as_str()))?
+        .arg(option(alloc, "max-count", "N", limits.count.as_str()))?
+        .arg(option(alloc, "max-changes", "N", limits.changes.as_str()))?
         .arg(flag(alloc, "stop", "Ends after the first refused line"))
+}
+
+/// What clap says of a value that is no number in the range of its option, a limit of `run`. An error says that memory was wanted.
+/// This project's own.
+pub fn limit_error(
+    alloc: Global,
+    option: &str,
+    value: &str,
+    greatest: u32,
+) -> Result<Error, AllocError>
+    ensures { IfOk result (λ error. kind_of error ≡ ValueValidation) }
+{
+    let range = range_text(alloc, greatest)?;
+    let message = format!(in alloc; "invalid value '{value}' for '--{option} <N>': {range}")?;
+    let limits = LimitHelp::new(alloc)?;
+    let mut run = run(alloc, &limits)?.bin_name("s2ix run")?;
+    run.error(ErrorKind::ValueValidation, message.as_str())
 }
 
 // `check` with its file.
@@ -87,7 +102,7 @@ fn check<'a>(alloc: Global) -> Result<Command<'a>, AllocError>
 {
     Command::new(alloc, "check")
         .about("Reads the dump in FILE, and prints how many pairs and copies it has")
-        .arg(file(alloc, "FILE", "The dump"))
+        .arg(file(alloc, "FILE", DUMP))
 }
 
 // A subcommand with a dump and a journal.
@@ -96,8 +111,8 @@ fn texts<'a>(alloc: Global, name: &'a str, about: &'a str) -> Result<Command<'a>
 {
     Command::new(alloc, name)
         .about(about)
-        .arg(file(alloc, "DUMP", "The dump"))?
-        .arg(file(alloc, "JOURNAL", "The journal"))
+        .arg(file(alloc, "DUMP", DUMP))?
+        .arg(file(alloc, "JOURNAL", JOURNAL))
 }
 
 // `--NAME VALUE`, which may be left out.

@@ -10,7 +10,7 @@ use Rattle.s2ix_clap.specs.Tree.{program}
 use Rattle.s2ix_words.specs.Words.{AreRefused, IsMet, IsToldAs, Refuses, asked, without_fault}
 use Rattle.s2ix_words.specs.declared.command.Command.{Command}
 use Rattle.s2ix_words.specs.declared.words_fault.WordsFault.{WordsFault}
-use Rattle.s2ix_words.specs.declared.words_fault.WordsFault.TheVariants.{Usage, HelpAsked, OutOfMemory}
+use Rattle.s2ix_words.specs.declared.words_fault.WordsFault.TheVariants.{Usage, HelpAsked, VersionAsked, OutOfMemory}
 
 is_program_simple : is_simple program ≡ true
 unfolding clap_on_literals
@@ -48,13 +48,19 @@ pub met_refused : (words : List Text) (met : Option (Text × List Row)) (fault :
 met_refused words met (Usage text) is none refuses = (
   subst (λ m. (command : Command) → IsMet m command → ⊥) is refuses,
   λ help. not_alone (fault_of program words) kind.DisplayHelp none help,
+  λ version. not_alone (fault_of program words) kind.DisplayVersion none version,
 )
 met_refused words met (HelpAsked text) is none refuses = absurd refuses
+met_refused words met (VersionAsked text) is none refuses = absurd refuses
 met_refused words met OutOfMemory is none refuses = tt
 
 is_help : ErrorKind → Bool
 is_help kind.DisplayHelp = true
 is_help _ = false
+
+is_version : ErrorKind → Bool
+is_version kind.DisplayVersion = true
+is_version _ = false
 
 alone : (k l : ErrorKind) → IsAmong k (l ∷ []) → k ≡ l
 alone k l (inl same) = same
@@ -62,12 +68,15 @@ alone k l (inr none) = elim none [ ]
 
 pub told_refused : (words : List Text) (why : ErrorKind) (fault : WordsFault) → IsToldAs why fault
     → (why ≡ kind.OutOfMemory) ⊎ IsAmong why (fault_of program words) → AreRefused words fault
-unfolding is_help
-told_refused words why (Usage text) told (inl memory) = absurd (told.1 memory)
+unfolding is_help is_version
+told_refused words why (Usage text) told (inl memory) = absurd (told.2 memory)
 told_refused words why (Usage text) told (inr among) = (
   λ command asks. subst (λ m. IsMet m command) (has_fault why (fault_of program words) (subcommand_of program words) among) asks,
   λ help. told.0 (alone why kind.DisplayHelp (subst (IsAmong why) help among)),
+  λ version. told.1 (alone why kind.DisplayVersion (subst (IsAmong why) version among)),
 )
 told_refused words why (HelpAsked text) told (inl memory) = absurd (true≢false (ap is_help (sym told ∙ memory)))
 told_refused words why (HelpAsked text) told (inr among) = subst (λ k. IsAmong k (fault_of program words)) told among
+told_refused words why (VersionAsked text) told (inl memory) = absurd (true≢false (ap is_version (sym told ∙ memory)))
+told_refused words why (VersionAsked text) told (inr among) = subst (λ k. IsAmong k (fault_of program words)) told among
 told_refused words why OutOfMemory told has = tt

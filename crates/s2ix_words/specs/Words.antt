@@ -13,7 +13,7 @@ use Rattle.s2ix_clap.specs.Tree.{program}
 use Rattle.s2ix_words.specs.declared.command.Command.{Command}
 use Rattle.s2ix_words.specs.declared.command.Command.TheVariants.{Run, Check, Replay, Rewind}
 use Rattle.s2ix_words.specs.declared.words_fault.WordsFault.{WordsFault}
-use Rattle.s2ix_words.specs.declared.words_fault.WordsFault.TheVariants.{Usage, HelpAsked, OutOfMemory}
+use Rattle.s2ix_words.specs.declared.words_fault.WordsFault.TheVariants.{Usage, HelpAsked, VersionAsked, OutOfMemory}
 
 -- ---- what was given
 
@@ -63,7 +63,7 @@ abbrev pub without_fault : {X : Type 0} → Kinds → Option X → Option X
 without_fault [] met = met
 without_fault (fault ∷ faults) met = None
 
--- the subcommand that the words name, with what they give it; none where clap refuses the words or is asked for help
+-- the subcommand that the words name, with what they give it; none where clap refuses the words or is asked for help or the version
 abbrev pub asked : List Text → Option (Text × List Row)
 asked words = without_fault (fault_of program words) (subcommand_of program words)
 
@@ -77,32 +77,39 @@ AskFor words command = IsMet (asked words) command
 
 -- ---- refusals
 
--- the fault is usage only where no command is asked for, and never help; it may always be want of memory
+-- the fault is usage only where no command is asked for, and never help or the version; it may always be want of memory
 abbrev pub Refuses : (Command → Type 0) → WordsFault → Type 0
 Refuses Asks (Usage text) = (command : Command) → Asks command → ⊥
 Refuses Asks (HelpAsked text) = ⊥
+Refuses Asks (VersionAsked text) = ⊥
 Refuses Asks OutOfMemory = ⊤
 
--- the fault is usage only where no file of this name was given, and never help; it may always be want of memory
+-- the fault is usage only where no file of this name was given, and never help or the version; it may always be want of memory
 abbrev pub Lacks : Text → List Row → WordsFault → Type 0
 Lacks name given (Usage text) = first_of name given ≡ None
 Lacks name given (HelpAsked text) = ⊥
+Lacks name given (VersionAsked text) = ⊥
 Lacks name given OutOfMemory = ⊤
 
 -- the fault is usage or want of memory
 abbrev pub IsUsage : WordsFault → Type 0
 IsUsage (HelpAsked text) = ⊥
+IsUsage (VersionAsked text) = ⊥
 IsUsage _ = ⊤
 
 -- clap's refusals as the program's
 abbrev pub IsToldAs : ErrorKind → WordsFault → Type 0
-IsToldAs why (Usage text) = (why ≢ kind.DisplayHelp) × (why ≢ kind.OutOfMemory)
+IsToldAs why (Usage text) = (why ≢ kind.DisplayHelp) × (why ≢ kind.DisplayVersion) × (why ≢ kind.OutOfMemory)
 IsToldAs why (HelpAsked text) = why ≡ kind.DisplayHelp
+IsToldAs why (VersionAsked text) = why ≡ kind.DisplayVersion
 IsToldAs why OutOfMemory = ⊤
 
--- the fault is usage only where the words ask for no command and not for help alone, and help only where they ask for it; it may always
--- be want of memory
+-- the fault is usage only where the words ask for no command and not for help or the version alone, and help or the version only where
+-- they ask for it; it may always be want of memory
 abbrev pub AreRefused : List Text → WordsFault → Type 0
-AreRefused words (Usage text) = ((command : Command) → AskFor words command → ⊥) × (fault_of program words ≢ kind.DisplayHelp ∷ [])
+AreRefused words (Usage text) = ((command : Command) → AskFor words command → ⊥)
+    × (fault_of program words ≢ kind.DisplayHelp ∷ [])
+    × (fault_of program words ≢ kind.DisplayVersion ∷ [])
 AreRefused words (HelpAsked text) = IsAmong kind.DisplayHelp (fault_of program words)
+AreRefused words (VersionAsked text) = IsAmong kind.DisplayVersion (fault_of program words)
 AreRefused words OutOfMemory = ⊤

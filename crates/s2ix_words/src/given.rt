@@ -4,22 +4,18 @@ ghost use Rattle.clap.specs.Words.{first_of, found_of, rows_of, subcommand_rows_
 ghost use Rattle.s2ix_pairs.specs.declared.limits.Limits.{Limits as OfLimits};
 ghost use Rattle.s2ix_words.specs.Words.{AreGiven, IsFile, IsGiven, IsMet, IsOf, IsUsage, Lacks, Refuses};
 
+use crate::usage::{limit_usage, usage};
 use crate::{Command, WordsFault};
 use clap::ArgMatches;
 use s2ix_bag::Limits;
 use std::alloc::{AllocError, Global};
 
-// What is told of a limit that is no number, or out of its range.
-const BAD_LIMIT: &str =
-    "error: a limit is out of its range: --max-pairs takes 1 to 1000000, --max-count 1 to 4294967295, \
-    --max-changes 1 to 100000\n\nFor more information, try 's2ix run --help'.\n";
-
 // What is told where the name of a file is missing.
 const NO_FILE: &str =
-    "error: the name of a file is missing\n\nFor more information, try 's2ix --help'.\n";
+    "error: the name of a file is missing\n\nFor more information, try '--help'.\n";
 
 // What is told where no command is named.
-const NO_COMMAND: &str = "error: a command is wanted\n\nFor more information, try 's2ix --help'.\n";
+const NO_COMMAND: &str = "error: a command is wanted\n\nFor more information, try '--help'.\n";
 
 // The command that was met, of those that clap matched.
 pub(crate) fn command_met(alloc: Global, matches: &ArgMatches<'_>) -> Result<Command, WordsFault>
@@ -63,7 +59,7 @@ fn run_given(alloc: Global, given: &ArgMatches<'_>) -> Result<Command, WordsFaul
     ensures refused { IfErr result (Refuses (IsOf (codes "run") (rows_of (found_of given.now)))) }
 {
     let Some(limits) = limits_given(given) else {
-        return Err(usage(alloc, BAD_LIMIT));
+        return Err(limits_fault(alloc, given));
     };
     let load = load_given(alloc, given)?;
     let stop = has_flag(given, "stop");
@@ -80,6 +76,39 @@ fn limits_given(given: &ArgMatches<'_>) -> Option<Limits>
     let count = number_given(given, "max-count", widest.count())?;
     let changes = number_given(given, "max-changes", widest.changes())?;
     Limits::new(pairs, count, changes)
+}
+
+// What is told of the first limit that is no number in its range.
+fn limits_fault(alloc: Global, given: &ArgMatches<'_>) -> WordsFault
+    ensures { IsUsage result }
+{
+    let widest = Limits::default();
+    if let Some(fault) = limit_fault(alloc, given, "max-pairs", widest.pairs()) {
+        return fault;
+    }
+    if let Some(fault) = limit_fault(alloc, given, "max-count", widest.count()) {
+        return fault;
+    }
+    match limit_fault(alloc, given, "max-changes", widest.changes()) {
+        Some(fault) => fault,
+        None => usage(alloc, NO_COMMAND),
+    }
+}
+
+// What is told of the limit given to an option, or `None` where it is a number from 1 to `greatest`, or none was given.
+fn limit_fault(
+    alloc: Global,
+    given: &ArgMatches<'_>,
+    option: &str,
+    greatest: u32,
+) -> Option<WordsFault>
+    ensures { IfSome result IsUsage }
+{
+    let text = text_given(given, option)?;
+    match text.parse::<u32>() {
+        Ok(number) if number >= 1 && number <= greatest => None,
+        _ => Some(limit_usage(alloc, option, text, greatest)),
+    }
 }
 
 // The number given to an option, `default` where none was, or `None` where it is no number.
@@ -129,14 +158,4 @@ fn text_given<'a>(given: &ArgMatches<'a>, name: &str) -> Option<&'a str>
     ensures { option_map (λ text. text.now) result ≡ first_of name.now (rows_of (found_of given.now)) }
 {
     given.get_str(name)
-}
-
-// Usage with this text.
-fn usage(alloc: Global, text: &str) -> WordsFault
-    ensures { IsUsage result }
-{
-    match String::from_str(alloc, text) {
-        Ok(text) => WordsFault::Usage(text),
-        Err(_) => WordsFault::OutOfMemory,
-    }
 }

@@ -13,6 +13,9 @@ pub enum WordsFault {
     /// The words ask for help. This is it.
     #[error("{0}")]
     HelpAsked(String),
+    /// The words ask for the version. This is it, on a line.
+    #[error("{0}")]
+    VersionAsked(String),
     /// A growth was refused.
     #[error("out of memory")]
     OutOfMemory,

@@ -3,4 +3,4 @@
 
 mod telling;
 
-pub use telling::told;
+pub use telling::{told, told_of_bytes};

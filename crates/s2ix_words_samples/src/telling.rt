@@ -1,6 +1,6 @@
 //! Commands and faults of the program's words as texts.
 use s2ix_bag::Limits;
-use s2ix_words::{Command, WordsFault, command_of};
+use s2ix_words::{Command, WordsFault, command_of, not_utf8};
 use std::alloc::{AllocError, Global};
 
 // The words of a line, which stand between bars behind the program's own name.
@@ -41,14 +41,27 @@ fn command_told(alloc: Global, command: &Command) -> Result<String, AllocError> 
     }
 }
 
-/// What the words of a line ask for, as a text: a command with its files and limits, `help:` with the help, or `usage:` with the usage.
-/// The words stand between bars behind the program's own name, as in `s2ix|check|FILE`.
+// A fault with its text.
+fn fault_told(alloc: Global, fault: WordsFault) -> Result<String, AllocError> {
+    match fault {
+        WordsFault::HelpAsked(text) => format!(in alloc; "help: {text}"),
+        WordsFault::VersionAsked(text) => format!(in alloc; "version: {text}"),
+        WordsFault::Usage(text) => format!(in alloc; "usage: {text}"),
+        WordsFault::OutOfMemory => Err(AllocError),
+    }
+}
+
+/// What the words of a line ask for, as a text: a command with its files and limits, `help:` with the help, `version:` with the version, or
+/// `usage:` with the usage. The words stand between bars behind the program's own name, as in `s2ix|check|FILE`.
 pub fn told(alloc: Global, line: &str) -> Result<String, AllocError> {
     let words = words_in(alloc, line)?;
     match command_of(alloc, words.as_slice()) {
         Ok(command) => command_told(alloc, &command),
-        Err(WordsFault::HelpAsked(text)) => format!(in alloc; "help: {text}"),
-        Err(WordsFault::Usage(text)) => format!(in alloc; "usage: {text}"),
-        Err(WordsFault::OutOfMemory) => Err(AllocError),
+        Err(fault) => fault_told(alloc, fault),
     }
+}
+
+/// What is told of a word that is no UTF-8, as [`told`] tells it.
+pub fn told_of_bytes(alloc: Global, word: &[u8]) -> Result<String, AllocError> {
+    fault_told(alloc, not_utf8(alloc, word))
 }

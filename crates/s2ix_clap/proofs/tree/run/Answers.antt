@@ -7,7 +7,7 @@ use Rattle.s2ix_clap.proofs.tree.run.Goals as goal
 
 pub returns : goal.returns
 returns c =
-    let bare : IsCommand (new_app (codes "run")) c.about.result = search rules in
+    let bare : IsCommand (new_app (codes "run")) c.after_help.result = search rules in
     let one = with_argument _ _ _ _ _ bare c.option.ensures.rule c.option.ensures.local c.in_ok-arg.ensures in
     let two = with_argument _ _ _ _ _ one c.option-2.ensures.rule c.option-2.ensures.local c.in_ok-arg-2.ensures in
     let three = with_argument _ _ _ _ _ two c.option-3.ensures.rule c.option-3.ensures.local c.in_ok-arg-3.ensures in

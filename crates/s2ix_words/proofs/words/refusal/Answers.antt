@@ -10,5 +10,8 @@ returns-in-OutOfMemory c = search rules
 pub returns-in-DisplayHelp : goal.returns-in-DisplayHelp
 returns-in-DisplayHelp c = search rules
 
+pub returns-in-DisplayVersion : goal.returns-in-DisplayVersion
+returns-in-DisplayVersion c = search rules
+
 pub returns-in_default-kind : goal.returns-in_default-kind
 returns-in_default-kind c = search rules

@@ -1,0 +1,52 @@
+//! What help tells beside the words themselves.
+
+/// The version of the program, as `--version` tells it.
+pub(crate) const VERSION: &str = "1.0.0";
+
+/// What the help of the program tells behind its commands: where the instructions are, what names a file, and each exit status.
+pub(crate) const AFTER_PROGRAM: &str = "'s2ix run --help' lists the instructions of a script.
+FILE, DUMP and JOURNAL name files: '-' is one like any other, and standard input is /dev/stdin.
+
+Exit status:
+  0  All was accepted, or help or the version was asked
+  1  A refusal was printed
+  2  The words ask for nothing that the program does
+  3  A device failed, a file can't be opened, or an input had more pieces than are read
+  4  Memory was wanted";
+
+/// What help tells of a dump that is to be read.
+pub(crate) const DUMP: &str = "The dump: a file, or /dev/stdin for standard input";
+
+/// What help tells of a journal that is to be read.
+pub(crate) const JOURNAL: &str = "The journal: a file, or /dev/stdin for standard input";
+
+/// What the help of `run` tells behind its options: each instruction of a script.
+pub(crate) const AFTER_RUN: &str = "Instructions, one on a line:
+  add TOKEN LABEL [COPIES]     Adds copies of a pair, 1 where none are named
+  remove TOKEN LABEL [COPIES]  Takes copies of a pair away
+  addunion LABEL TOKEN..       Adds a copy for each cell of the normal union of the cells
+  drop LABEL                   Takes the label's pairs away
+  relabel SOURCE TARGET        Moves each count of one label to the other
+  grow LABEL LEVEL             Adds a copy for each cell of the level that borders on the label's
+  normal LABEL                 Makes the label's pairs the fewest cells with the same leaves
+  revert NUMBER                Takes one change back, and keeps those that followed it
+  undo                         Takes the last change back
+  redo                         Does the change again that was taken back
+  forget                       Keeps the collection, and nothing to undo or redo
+  at TOKEN                     Prints the pairs over a leaf
+  meet TOKEN..                 Prints the pairs that share a leaf with the cells
+  labels TOKEN..               Prints the labels of these pairs
+  ranges                       Prints each range of leaves that have the same pairs
+  region LABEL                 Prints the normal union of the label's cells
+  common A B                   Prints the cells of the leaves that both labels have
+  only A B                     Prints the cells of the leaves that A has and B has not
+  path TOKEN                   Prints the face and the child positions of the cell
+  neighbors TOKEN              Prints the cells over the sides of the cell
+  face TOKEN                   Prints the square of the cell on its face
+  dump                         Prints the dump of the collection
+  journal                      Prints the journal of the changes that can be undone
+  export                       Prints the collection as JSON
+
+A line that begins with '#' is a comment. One that changes pairs prints 'ok' and their number. One
+that is refused prints 'no' and the reason, and changes nothing. 's2ix run < FILE' runs the script
+in FILE.";
