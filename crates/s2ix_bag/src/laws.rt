@@ -1,10 +1,11 @@
 //! Laws: functions that do nothing, and whose contracts are facts on the definitions.
 ghost use Rattle.std.specs.Prelude.{◌≡◌, ◌↔◌, IsTrue, List};
 ghost use Rattle.s2ix_pairs.specs.declared.pair.Entry.{Entry};
-ghost use Rattle.s2ix_pairs.specs.Collection.{LimitedCollection};
+ghost use Rattle.s2ix_pairs.specs.Collection.{Collection, LimitedCollection};
 
 use crate::bag::Bag;
 use crate::change::Change;
+use crate::label_iter::LabelIter;
 
 /// Two bags are equal exactly where their limits are, and what they hold.
 pub fn equal_bags_are_one()
@@ -24,4 +25,9 @@ pub fn cloned_bags_are_the_same()
 /// A change's clone has the same entries.
 pub fn cloned_changes_are_the_same()
     ensures { (change copy : List Entry) → ⟦<Change as Clone>⟧.is_clone change copy ↔ (copy ≡ change) }
+{}
+
+/// A clone of an iterator over the pairs of a label has the same still to come.
+pub fn cloned_label_iterators_have_the_same_rest<'a>()
+    ensures { (it copy : Collection) → ⟦<LabelIter<'a> as Clone>⟧.is_clone it copy → copy ≡ it }
 {}

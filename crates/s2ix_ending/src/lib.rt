@@ -7,6 +7,7 @@
 mod ending;
 mod flushing;
 mod input;
+pub mod laws;
 
 pub use ending::{Ending, status};
 pub use flushing::first_fault;

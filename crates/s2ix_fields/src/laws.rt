@@ -1,6 +1,8 @@
 //! What holds of the fields of a line, whatever code runs.
-ghost use Rattle.std.specs.Prelude.{◌≢◌, ℕ, List, [], All};
+ghost use Rattle.std.specs.Prelude.{◌≡◌, ◌≢◌, ◌↔◌, ℕ, List, [], All};
 ghost use Rattle.s2ix_fields.specs.Fields.{HasNoWhiteSpace, StandInOrder, fields_of};
+
+use crate::fields::Fields;
 
 /// No field is empty.
 pub fn no_field_is_empty()
@@ -16,4 +18,9 @@ pub fn no_field_has_white_space()
 /// else.
 pub fn fields_stand_in_order()
     ensures { (line : List ℕ) → StandInOrder (fields_of line) line }
+{}
+
+/// A clone of a line's fields has the same still to come.
+pub fn cloned_fields_have_the_same_rest<'a>()
+    ensures { (fields copy : List (List ℕ)) → ⟦<Fields<'a> as Clone>⟧.is_clone fields copy ↔ (copy ≡ fields) }
 {}

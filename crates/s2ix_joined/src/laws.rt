@@ -1,10 +1,12 @@
 //! What is true of all joined tables. Each function is a law: it does nothing, and its contract is the fact.
 ghost use Rattle.std.specs.Prelude.{◌≡◌, ◌↔◌, IsTrue};
 ghost use Rattle.s2ix_chain.specs.Once.{KeepsOnce};
+ghost use Rattle.s2ix_chain.specs.SpanTable.{SpanRanges};
 ghost use Rattle.s2ix_joined.specs.declared.face_place.FacePlace.{FacePlace};
 ghost use Rattle.s2ix_joined.specs.Places.{chain_from};
 
 use crate::face_place::FacePlace;
+use crate::face_table::FaceTable;
 use crate::joined_tables::JoinedTables;
 
 /// A pair has one place: each chain that holds it holds it at a place, and two chains hold it at the same one.
@@ -22,4 +24,9 @@ pub fn equal_places_are_one()
 /// A clone of a place is the same.
 pub fn cloned_places_are_the_same()
     ensures { (a copy : FacePlace) → ⟦<FacePlace as Clone>⟧.is_clone a copy ↔ (copy ≡ a) }
+{}
+
+/// A clone of a face's table is the same.
+pub fn cloned_face_tables_are_the_same()
+    ensures { (table copy : SpanRanges) → ⟦<FaceTable as Clone>⟧.is_clone table copy ↔ (copy ≡ table) }
 {}

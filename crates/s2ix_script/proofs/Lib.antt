@@ -1,2 +1,3 @@
 mod Comments
+mod Equal
 mod WantedMemory

@@ -3,6 +3,7 @@ ghost use Rattle.std.specs.Prelude.{◌≡◌, ◌↔◌, IsTrue};
 ghost use Rattle.s2ix_table.specs.declared.visit.Visit.{Visit};
 
 use crate::iter::RangeIter;
+use crate::stretch::Stretch;
 use crate::table::RangeTable;
 use crate::visit::Visit;
 
@@ -19,4 +20,9 @@ pub fn cloned_visits_are_the_same()
 /// A clone of an iterator over ranges is the same: over the same table, from the same range on.
 pub fn cloned_range_iterators_are_the_same<'a, T: RangeTable + 'a>()
     ensures { (it copy : _) → ⟦<RangeIter<'a, T> as Clone>⟧.is_clone it copy ↔ (copy ≡ it) }
+{}
+
+/// A clone of a stretch of ranges is the same.
+pub fn cloned_stretches_are_the_same<'a>()
+    ensures { (stretch copy : _) → ⟦<Stretch<'a> as Clone>⟧.is_clone stretch copy ↔ (copy ≡ stretch) }
 {}
