@@ -19,7 +19,8 @@ use s2ix_text::{
 use std::alloc::Global;
 
 /// Carries a line out over a store, and prints its answer. The line comes without its line feed. A line that is refused prints `no`
-/// with the refusal's name, and changes nothing. It takes what the line's instruction takes, and O(n) for a line of n bytes.
+/// with the refusal's name, and changes nothing. Nothing is flushed. It takes what the line's instruction takes, and O(n) for a line of n
+/// bytes.
 ///
 /// `OutOfMemory` where a growth was refused: nothing has changed then, and nothing was printed. `Write` where the sink failed: what
 /// the line does is done, and a front of its answer went out. This project's own.
@@ -33,6 +34,7 @@ pub fn carry_out<K: Sink>(
     requires { CanCount (K.fault_count sink.old) }
     ensures carries { Carries (step_of store.old line.now) store.old store.new (K.taken sink.old) (K.taken sink.new) result }
     ensures memory { IfErr result (IsWantOnlyIf (LineWants store.old line.now)) }
+    ensures unflushed { K.flush_mark sink.new ≡ K.flush_mark sink.old }
     ensures faults { K.fault_count sink.new ≡ K.fault_count sink.old + sink_faults result }
 {
     match meaning(alloc, line) {
@@ -62,6 +64,7 @@ pub fn carry_instruction<K: Sink>(
     requires { CanCount (K.fault_count sink.old) }
     ensures carries { Carries (instruction_step store.old instruction) store.old store.new (K.taken sink.old) (K.taken sink.new) result }
     ensures memory { IfErr result (IsWantOnlyIf (InstructionWants store.old instruction)) }
+    ensures unflushed { K.flush_mark sink.new ≡ K.flush_mark sink.old }
     ensures faults { K.fault_count sink.new ≡ K.fault_count sink.old + sink_faults result }
 {
     match instruction {

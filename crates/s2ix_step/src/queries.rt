@@ -29,6 +29,7 @@ pub(crate) fn carry_at<K: Sink>(
     requires { CanCount (K.fault_count sink.old) }
     ensures carries { Carries (at_step store.now cell) store.now store.now (K.taken sink.old) (K.taken sink.new) result }
     ensures memory { result ≢ Err RunFault.OutOfMemory }
+    ensures unflushed { K.flush_mark sink.new ≡ K.flush_mark sink.old }
     ensures faults { K.fault_count sink.new ≡ K.fault_count sink.old + sink_faults result }
 {
     if !cell.is_leaf() {
@@ -48,6 +49,7 @@ pub(crate) fn print_meeting<K: Sink>(
     requires { CanCount (K.fault_count sink.old) }
     ensures carries { Carries (text_step store.now (list_text held_line (meeting_of target.now store.now.bag.held))) store.now store.now (K.taken sink.old) (K.taken sink.new) result }
     ensures memory { result ≢ Err RunFault.OutOfMemory }
+    ensures unflushed { K.flush_mark sink.new ≡ K.flush_mark sink.old }
     ensures faults { K.fault_count sink.new ≡ K.fault_count sink.old + sink_faults result }
 {
     write_meeting(store.table(), target, sink)?;
@@ -63,6 +65,7 @@ pub(crate) fn print_labels<K: Sink>(
 ) -> Result<LineOutcome, RunFault>
     requires { CanCount (K.fault_count sink.old) }
     ensures carries { Carries (text_step store.now (list_text label_line (label_list (meeting_of target.now store.now.bag.held)))) store.now store.now (K.taken sink.old) (K.taken sink.new) result }
+    ensures unflushed { K.flush_mark sink.new ≡ K.flush_mark sink.old }
     ensures faults { K.fault_count sink.new ≡ K.fault_count sink.old + sink_faults result }
 {
     write_list(&store.table().labels(alloc, target)?, sink)?;
@@ -74,6 +77,7 @@ pub(crate) fn print_ranges<K: Sink>(store: &Store, sink: &mut K) -> Result<LineO
     requires { CanCount (K.fault_count sink.old) }
     ensures carries { Carries (text_step store.now (list_text range_line (range_table store.now.bag.held))) store.now store.now (K.taken sink.old) (K.taken sink.new) result }
     ensures memory { result ≢ Err RunFault.OutOfMemory }
+    ensures unflushed { K.flush_mark sink.new ≡ K.flush_mark sink.old }
     ensures faults { K.fault_count sink.new ≡ K.fault_count sink.old + sink_faults result }
 {
     write_ranges(store.table(), sink)?;
@@ -88,6 +92,7 @@ pub(crate) fn print_export<K: Sink>(
 ) -> Result<LineOutcome, RunFault>
     requires { CanCount (K.fault_count sink.old) }
     ensures carries { Carries (text_step store.now (export_line store.now.bag.held)) store.now store.now (K.taken sink.old) (K.taken sink.new) result }
+    ensures unflushed { K.flush_mark sink.new ≡ K.flush_mark sink.old }
     ensures faults { K.fault_count sink.new ≡ K.fault_count sink.old + sink_faults result }
 {
     let text = export(alloc, store.bag())?;

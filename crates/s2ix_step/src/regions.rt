@@ -55,6 +55,7 @@ pub(crate) fn print_region<K: Sink>(
         → IfOk region (λ union. union ≡ cells)
         → Carries (text_step s (list_text token_line cells)) s s (K.taken sink.old) (K.taken sink.new) result }
     ensures memory { IfErr result (IsWantOnlyIf (IsErr region)) }
+    ensures unflushed { K.flush_mark sink.new ≡ K.flush_mark sink.old }
     ensures faults { K.fault_count sink.new ≡ K.fault_count sink.old + sink_faults result }
 {
     write_list(region?.cells(), sink)?;

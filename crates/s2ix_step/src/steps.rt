@@ -78,6 +78,7 @@ pub(crate) fn tell_step<E: StepError, K: Sink>(
         → IsTold E.printed E.want step old new told
         → Carries step old new (K.taken sink.old) (K.taken sink.new) result }
     ensures memory { IfErr result (IsWantOnlyIf (told ≡ Err E.want)) }
+    ensures unflushed { K.flush_mark sink.new ≡ K.flush_mark sink.old }
     ensures faults { K.fault_count sink.new ≡ K.fault_count sink.old + sink_faults result }
 {
     match told {
