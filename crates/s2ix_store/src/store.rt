@@ -90,8 +90,9 @@ impl Store {
 
     /// Carries an edit out, and answers how many pairs changed their counts. An accepted edit records the change
     /// at the end of `done` and empties `undone`; a refused one changes nothing. [`EditError`] says when each
-    /// refusal stands. An `Add` or a `Remove` of no copies is `NoChange` without a growth. It takes what [`plan`] takes, what it takes to let the undone changes go, and O(m + p) for m entries of the
-    /// change and the p pairs held on their faces, of which alone bag and table are built again.
+    /// refusal stands. With room in the journal an `Add` or a `Remove` of no copies, or an `AddUnion` of no cells, is `NoChange` and takes
+    /// no memory. An edit takes what [`plan`] takes, what it takes to let the undone changes go, and O(m + p) for m entries of the change
+    /// and the p pairs held on their faces, of which alone bag and table are built again.
     pub fn edit(&mut self, edit: &Edit) -> Result<usize, EditError>
         ensures state { OnOk result (self.new ≡ after_edit self.old edit.now) }
         ensures history { OnOk result (history_of self.new
