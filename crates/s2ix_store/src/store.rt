@@ -1,4 +1,4 @@
-ghost use Rattle.std.specs.Prelude.{◌≡◌, ◌≢◌, ◌↔◌, ◌<◌, ◌≤◌, true, false, [], ◌∷◌, length, None, IfOk, IfErr, OnOk, OnErr, All};
+ghost use Rattle.std.specs.Prelude.{◌≡◌, ◌≢◌, ◌↔◌, ◌<◌, ◌≤◌, true, false, [], ◌∷◌, length, reverse, None, IfOk, IfErr, OnOk, OnErr, All};
 ghost use Rattle.s2id_union.specs.Region.{HaveSameRegion, IsNormal};
 ghost use Rattle.s2ix_lists.specs.Apply.{first_mismatch};
 ghost use Rattle.s2ix_pairs.specs.declared.pair.Pair.{Pair};
@@ -15,7 +15,7 @@ ghost use Rattle.s2ix_edit.specs.Region.{cells_of, region_of as region_in};
 ghost use Rattle.s2ix_edit.specs.State.{State, change_of, history_of, starting_at};
 ghost use Rattle.s2ix_store.specs.Recorded.{IsRecorded};
 ghost use Rattle.s2ix_store.specs.Steps.{after_edit, after_forget, after_record, after_redo, after_undo, redo_size, undo_size};
-ghost use Rattle.s2ix_store.specs.Store.{HasRoom, IsStore};
+ghost use Rattle.s2ix_store.specs.Store.{CanGoBack, CanGoOn, HasRoom, IsStore};
 ghost use Rattle.s2ix_ranges.specs.Table.{IsRangeTable};
 
 use crate::steps::{apply_planned, apply_recorded, shift_last};
@@ -267,19 +267,23 @@ impl Store {
         region_of(self.alloc, &self.bag, label)
     }
 
-    /// The changes that can be undone, the oldest first. They lead to the collection that the store stands at, as the laws have it.
+    /// The changes that can be undone, the oldest first. They lead to the collection that the store stands at: from the last on, each can
+    /// be taken back.
     pub fn done(&self) -> &[Change]
         ensures done { result.now ≡ self.now.done }
-        ensures led { IsStore self.now }
+        ensures led { CanGoBack self.now.bag (reverse result.now) }
+        ensures stands { IsStore self.now }
         ensures within { All (IsRecorded self.now.bag.limits) result.now }
         ensures few { length result.now ≤ changes_limit self.now.bag.limits }
     {
         self.done.as_slice()
     }
 
-    /// The changes that can be redone. The one that was undone last stands at the end, and is redone first.
+    /// The changes that can be redone. The one that was undone last stands at the end, and is redone first; they lead on from the
+    /// collection that the store stands at.
     pub fn undone(&self) -> &[Change]
         ensures undone { result.now ≡ self.now.undone }
+        ensures led { CanGoOn self.now.bag (reverse result.now) }
         ensures within { All (IsRecorded self.now.bag.limits) result.now }
         ensures few { length result.now ≤ changes_limit self.now.bag.limits }
     {
