@@ -1,5 +1,6 @@
--- Edits that pass no limit: a removal, a label that is dropped, one that is normalised, and the copies of one that grows.
-use Rattle.std.proofs.Common.{◌≡◌, ℕ, suc, ◌+◌, ◌-◌, ◌≤◌, ◌||◌, ltb, nat_lt, if◌then◌else◌, Bool, false, not, List, [], ◌∷◌, Contains, filter, length, refl, sym, ap, ◌∙◌, ⊎_elim, arith, le-ltb, lt-ltb}
+-- Edits that pass no limit: a removal, a label that is dropped, one that is normalised, the copies of one that grows, and the pairs of one
+-- that is moved.
+use Rattle.std.proofs.Common.{◌≡◌, ◌≢◌, ℕ, suc, ◌+◌, ◌-◌, ◌*◌, ◌≤◌, ◌||◌, ltb, nat_lt, if◌then◌else◌, Bool, true, false, not, List, [], ◌∷◌, Contains, filter, length, refl, sym, ap, ◌∙◌, ⊎_elim, arith, le-ltb, lt-ltb}
 use Rattle.std.proofs.lemmas.Bool.{cases_Bool, cases_eq, cases_lt, cond-false, cond-true, or_parts}
 use Rattle.std.proofs.Common.{◌==◌, eq-eqb, ne_eqb}
 use Rattle.std.proofs.lemmas.List.{length-map}
@@ -10,14 +11,15 @@ use Rattle.s2ix_pairs.specs.declared.label.Label.{Label}
 use Rattle.s2ix_pairs.specs.declared.pair.Held.{Held}
 use Rattle.s2ix_pairs.specs.declared.pair.Pair.{Pair}
 use Rattle.s2ix_pairs.specs.Collection.{Collection, LimitedCollection, IsBag, IsCollection, IsCollectionFrom, count_at, count_in, held_with, set_count}
+use Rattle.s2ix_pairs.specs.Label.{value_of}
 use Rattle.s2ix_pairs.specs.Limits.{count_limit}
 use Rattle.s2ix_pairs.specs.OfLabel.{held_of}
 use Rattle.s2ix_pairs.specs.Pair.{rank_of}
 use Rattle.s2ix_pairs.proofs.Collections.{count_set_other, count_set_same, set_keeps}
 use Rattle.s2ix_pairs.proofs.Counts.{count_below, count_head, count_tail}
-use Rattle.s2ix_edit.specs.Edit.{is_of, pair_of, with_each, with_more, without}
+use Rattle.s2ix_edit.specs.Edit.{is_of, pair_of, with_all_moved, with_each, with_more, with_moved, without}
 use Rattle.s2ix_edit.specs.Grow.{grown_cells}
-use Rattle.s2ix_edit.specs.Refusals.{has_count_above}
+use Rattle.s2ix_edit.specs.Refusals.{has_count_above, holds_none}
 use Rattle.s2ix_edit.specs.Region.{cell_of, cells_of, region_of}
 use Rattle.s2ix_edit.proofs.Above.{count_within, none_above}
 use Rattle.s2ix_edit.proofs.AddUnion.{RiseFrom, rise_contains, rises_from_zero, with_each_keeps}
@@ -25,7 +27,8 @@ use Rattle.s2ix_edit.proofs.DropLabel.{without_keeps, without_own}
 use Rattle.s2ix_edit.proofs.Fewest.{fewest_cells}
 use Rattle.s2ix_edit.proofs.Grow.{grown_is_new, grown_rise, in_grown}
 use Rattle.s2ix_edit.proofs.LabelCells.{region_normal}
-use Rattle.s2ix_edit.proofs.Sizes.{length_each, length_held}
+use Rattle.s2ix_edit.proofs.Relabel.{ArePart, part_of, with_moved_keeps, with_moved_other}
+use Rattle.s2ix_edit.proofs.Sizes.{length_each, length_held, length_set}
 
 -- ---- counts within a limit
 
@@ -123,6 +126,57 @@ drop_small bag label b = above_part (count_limit bag.limits) (λ h. not (is_of l
 
 pub drop_few : (bag : LimitedCollection) (label : Label) → length (without label bag.held) ≤ length bag.held
 drop_few bag label = omega (arith, two_parts label bag.held)
+
+-- where that leaves the collection as it is, no pair of the label is held
+pub drop_changes : (label : Label) (hs : Collection) → without label hs ≡ hs → holds_none label hs ≡ true
+drop_changes label hs same =
+    let parts = two_parts label hs in
+    let left = ap length same in
+    eq-eqb (length (held_of label hs)) 0 (omega (arith, parts, left))
+
+-- ---- one that is moved to another
+
+-- a pair that is held goes where its count is set to 0
+one_gone : (m : ℕ) (p : Pair) (hs : Collection) → IsCollectionFrom m hs → count_in hs p ≢ 0 → length (set_count p 0 hs) + 1 ≤ length hs
+one_gone m p [] is some = absurd (some refl)
+one_gone m p (h ∷ hs) is some =
+    let behind : Collection = if rank_of p == rank_of h.pair then hs else h ∷ set_count p 0 hs in
+    ⊎_elim
+    (λ lt.
+    let absent = count_tail h hs (rank_of p) (λ e. omega (arith, e, lt)) ∙ count_below (rank_of h.pair + 1) hs (rank_of p) is.2 (omega (arith, lt)) in
+    absurd (some absent))
+    (λ le.
+    let past = ap length (cond-false (nat_lt (rank_of p) (rank_of h.pair)) (h ∷ hs) behind (le-ltb (rank_of p) (rank_of h.pair) le)) in
+    ⊎_elim
+    (λ same.
+    let here = ap length (cond-true (rank_of p == rank_of h.pair) hs (h ∷ set_count p 0 hs) (eq-eqb (rank_of p) (rank_of h.pair) same)) in
+    omega (arith, past, here))
+    (λ other.
+    let rest = ap length (cond-false (rank_of p == rank_of h.pair) hs (h ∷ set_count p 0 hs) (ne_eqb (rank_of p) (rank_of h.pair) other)) in
+    let fewer = one_gone (rank_of h.pair + 1) p hs is.2 (λ e. some (count_tail h hs (rank_of p) (λ same. other (sym same)) ∙ e)) in
+    omega (arith, past, rest, fewer))
+    (cases_eq (rank_of p) (rank_of h.pair)))
+    (cases_lt (rank_of p) (rank_of h.pair))
+
+-- each held pair of the label goes, and at most one comes in its place
+all_moved_few : (hs ks : Collection) (v m : ℕ) (target : Label) (rest : List Held) → ArePart hs v m rest → IsCollection ks → ((k : ℕ) → m * 2147483648 ≤ k → count_at hs k ≡ count_at ks k) → length (with_all_moved target rest ks) ≤ length ks
+all_moved_few hs ks v m target [] part is same = omega arith
+all_moved_few hs ks v m target (h ∷ rest) part is same =
+    let own_range = h.pair.label.in_range in
+    let range = target.in_range in
+    let p = h.pair in
+    let q = pair_of h.pair.cell target in
+    let less = set_count p 0 ks in
+    let here : count_in ks p ≡ h.count = sym (same (rank_of p) (omega (arith, part.0))) ∙ part.3 in
+    let gone = one_gone 0 p ks is (λ e. omega (arith, e, here, part.2)) in
+    let come = length_set q (count_in less q + h.count) less in
+    let later = all_moved_few hs (with_moved target h ks) v (raw_of h.pair.cell + 1) target rest part.4 (with_moved_keeps target h ks is)
+    (λ k le. same k (omega (arith, le, part.0)) ∙ sym (with_moved_other target h ks k (λ e. omega (arith, e, le, own_range)) (λ e. omega (arith, e, le, range)))) in
+    omega (arith, gone, come, later)
+
+pub moved_few : (bag : LimitedCollection) (source target : Label) → IsBag bag → length (with_all_moved target (held_of source bag.held) bag.held) ≤ length bag.held
+moved_few bag source target b =
+    all_moved_few bag.held bag.held (value_of source) 0 target (held_of source bag.held) (part_of bag.held source b.rises) b.rises (λ k le. refl)
 
 -- ---- one that is normalised
 

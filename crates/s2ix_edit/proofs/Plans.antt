@@ -1,9 +1,11 @@
 -- Entries that carry an edit out.
-use Rattle.std.proofs.Common.{◌≡◌, ◌≢◌, ℕ, ◌+◌, ◌-◌, ◌≤◌, Bool, true, false, cond, ltb, not, List, [], ◌∷◌, Option, Some, None, Result, IfOk, IfErr, refl, sym, ap, ◌∙◌, subst, ⊎_elim, arith, eq-eqb, ne_eqb, le-ltb}
+use Rattle.std.proofs.Common.{◌≡◌, ◌≢◌, ℕ, ◌+◌, ◌-◌, ◌≤◌, Bool, true, false, cond, ltb, not, List, [], ◌∷◌, length, Option, Some, None, Result, IfOk, IfErr, refl, sym, ap, ◌∙◌, subst, ⊎_elim, arith, eq-eqb, ne_eqb, le-ltb}
 use Rattle.std.proofs.Common.{◌==◌}
 use Rattle.std.proofs.lemmas.Bool.{cond-true, cond-false, cases_eq, eqb-true}
 use Rattle.std.proofs.lemmas.Result.{IfErr-weaker, IfOk-weaker}
 use Rattle.std.specs.List.{position}
+use Rattle.s2id_core.specs.declared.cell_id.CellId.{CellId}
+use Rattle.s2ix_pairs.specs.declared.label.Label.{Label}
 use Rattle.s2ix_pairs.specs.declared.pair.Pair.{Pair}
 use Rattle.s2ix_pairs.specs.declared.pair.Entry.{Entry}
 use Rattle.s2ix_lists.specs.Apply.{first_mismatch}
@@ -13,7 +15,7 @@ use Rattle.s2ix_refusals.specs.declared.errors.EditError.{EditError}
 use Rattle.s2ix_refusals.specs.declared.errors.PlanError.{PlanError}
 use Rattle.s2ix_refusals.specs.Errors.{edit_error, IsEditRefusal}
 use Rattle.s2ix_edit.specs.declared.edit.Edit.{Edit}
-use Rattle.s2ix_edit.specs.declared.edit.Edit.TheVariants.{Add, Remove}
+use Rattle.s2ix_edit.specs.declared.edit.Edit.TheVariants.{Add, AddUnion, Remove}
 use Rattle.s2ix_edit.specs.Edit.{edited_alone, edited_by}
 use Rattle.s2ix_edit.specs.Plan.{IsPlanRefusal, Plans, one_entry}
 use Rattle.s2ix_edit.specs.Refusals.{asks_no_copies, asks_too_fine, goes_below_zero, lacks_change, lacks_label, reverts, takes_too_many, plan_refusal}
@@ -155,6 +157,11 @@ pub copies_removed : (edit : Edit) (p : Pair) (copies : ℕ) → edit ≡ Remove
 copies_removed edit p copies is none =
     let asks : (copies == 0) ≡ true = sym (ap asks_no_copies is) ∙ none in
     eqb-true copies 0 asks
+
+pub cells_added : (edit : Edit) (cells : List CellId) (label : Label) → edit ≡ AddUnion cells label → asks_no_copies edit ≡ true → length cells ≡ 0
+cells_added edit cells label is none =
+    let asks : (length cells == 0) ≡ true = sym (ap asks_no_copies is) ∙ none in
+    eqb-true (length cells) 0 asks
 
 -- no other edit is one
 pub asks_copies : (edit same : Edit) → edit ≡ same → asks_no_copies same ≡ false → asks_no_copies edit ≡ true → ⊥

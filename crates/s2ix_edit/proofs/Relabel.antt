@@ -153,13 +153,13 @@ moves_before hs v target m (h ∷ rest) part =
     (λ le. subst Right (sym (target_first hs target h le)) (refl, (sym part.3, later)))
     (cases_lt (value_of h.pair.label) (value_of target))
 
-with_moved_keeps : (target : Label) (h : Held) (hs : Collection) → IsCollection hs → IsCollection (with_moved target h hs)
+pub with_moved_keeps : (target : Label) (h : Held) (hs : Collection) → IsCollection hs → IsCollection (with_moved target h hs)
 with_moved_keeps target h hs is =
     set_keeps (pair_of h.pair.cell target) (count_in (set_count h.pair 0 hs) (pair_of h.pair.cell target) + h.count) (set_count h.pair 0 hs)
     (set_keeps h.pair 0 hs is)
 
 -- a pair that is neither the one nor the other keeps its count
-with_moved_other : (target : Label) (h : Held) (hs : Collection) (k : ℕ) → rank_of h.pair ≢ k → rank_of (pair_of h.pair.cell target) ≢ k → count_at (with_moved target h hs) k ≡ count_at hs k
+pub with_moved_other : (target : Label) (h : Held) (hs : Collection) (k : ℕ) → rank_of h.pair ≢ k → rank_of (pair_of h.pair.cell target) ≢ k → count_at (with_moved target h hs) k ≡ count_at hs k
 with_moved_other target h hs k not_source not_target =
     count_set_other (pair_of h.pair.cell target) (count_in (set_count h.pair 0 hs) (pair_of h.pair.cell target) + h.count) (set_count h.pair 0 hs) k not_target
     ∙ count_set_other h.pair 0 hs k not_source

@@ -57,7 +57,7 @@ asks_too_fine (Revert number) hs = false
 -- the edit adds or takes no copies
 abbrev pub asks_no_copies : Edit → Bool
 asks_no_copies (Add pair copies) = copies == 0
-asks_no_copies (AddUnion cells label) = false
+asks_no_copies (AddUnion cells label) = length cells == 0
 asks_no_copies (Remove pair copies) = copies == 0
 asks_no_copies (DropLabel label) = false
 asks_no_copies (Relabel source target) = false

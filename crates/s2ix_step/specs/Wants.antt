@@ -1,17 +1,24 @@
 -- Where a line may want memory.
-use Rattle.std.specs.Prelude.{◌≡◌, ◌≢◌, ◌⊎◌, ℕ, true, Option, Some, None, Result, Ok, Err, List, []}
+use Rattle.std.specs.Prelude.{◌≡◌, ◌≢◌, ◌⊎◌, ℕ, true, false, Option, Some, None, Result, Ok, Err, List, []}
 use Rattle.s2ix_refusals.specs.Errors.{MayWantMemory}
+use Rattle.s2ix_edit.specs.declared.edit.Edit.{Edit}
 use Rattle.s2ix_edit.specs.State.{State}
-use Rattle.s2ix_edit.specs.Refusals.{edit_refusal}
+use Rattle.s2ix_edit.specs.Refusals.{asks_no_copies, edit_refusal, reverts}
 use Rattle.s2ix_script.specs.declared.instruction.Instruction.{Instruction}
 use Rattle.s2ix_script.specs.declared.instruction.Instruction.TheVariants as asks
 use Rattle.s2ix_line.specs.declared.line_fault.LineFault.{LineFault}
 use Rattle.s2ix_script.specs.Meaning.{is_on_union, meaning_of}
 
--- an instruction: an edit unless it is refused before its change is made, an undo or a redo of a change that there is, and what gathers
--- the labels or cells that it prints, or the text of an export
+-- an edit: it isn't refused before its change is made, nor of no copies, and a `Revert` isn't refused at all
+pub record EditWants (s : State) (edit : Edit) : Type 0 where
+  pub stage : MayWantMemory (edit_refusal s edit)
+  pub copies : asks_no_copies edit ≡ false
+  pub reverting : reverts edit ≡ true → edit_refusal s edit ≡ None
+
+-- an instruction: an edit that may, an undo or a redo of a change that there is, and what gathers the labels or cells that it prints, or
+-- the text of an export
 abbrev pub InstructionWants : State → Instruction → Type 0
-InstructionWants s (asks.Edit edit) = MayWantMemory (edit_refusal s edit)
+InstructionWants s (asks.Edit edit) = EditWants s edit
 InstructionWants s asks.Undo = s.done ≢ []
 InstructionWants s asks.Redo = s.undone ≢ []
 InstructionWants s asks.Forget = ⊥

@@ -1,5 +1,5 @@
 -- What a store answers to an edit, by where it refuses it.
-use Rattle.std.proofs.Common.{◌≡◌, ◌≢◌, ◌↔◌, ℕ, ◌+◌, ◌-◌, ◌<◌, ◌==◌, true, false, List, [], length, Option, Some, None, ◌⊎◌, Result, Ok, Err, OnOk, IfErr, refl, sym, ap, ◌∙◌, subst, ⊎_elim, arith, eq-eqb, le-ltb}
+use Rattle.std.proofs.Common.{◌≡◌, ◌≢◌, ◌↔◌, ℕ, ◌+◌, ◌-◌, ◌<◌, ◌==◌, true, false, List, [], ◌∷◌, length, Option, Some, None, ◌⊎◌, Result, Ok, Err, OnOk, IfErr, refl, sym, ap, ◌∙◌, subst, ⊎_elim, arith, eq-eqb, le-ltb}
 use Rattle.std.proofs.lemmas.Bool.{cond-false, cond-true, eqb-true, lt-leb}
 use Rattle.s2ix_pairs.specs.declared.pair.Entry.{Entry}
 use Rattle.s2ix_pairs.specs.declared.pair.Pair.{Pair}
@@ -132,7 +132,9 @@ no_copies_refused s (Remove pair copies) st none room =
     let zero = eqb-true copies 0 none in
     let same = edited_held s (Remove pair copies) (stand s st) ∙ same_count s pair (count_in s.bag.held pair - copies) st (omega (arith, zero)) in
     cond-false _ _ _ (lt-leb _ _ room) ∙ cond-false _ _ _ (le-ltb (count_in s.bag.held pair) copies (omega (arith, zero))) ∙ cond-true _ _ _ (same_where s (Remove pair copies) st same)
-no_copies_refused s (AddUnion cells label) st none room = cc
+no_copies_refused s (AddUnion [] label) st none room =
+    cond-false _ _ _ (lt-leb _ _ room) ∙ cond-true _ _ _ (same_where s (AddUnion [] label) st (edited_held s (AddUnion [] label) (stand s st)))
+no_copies_refused s (AddUnion (cell ∷ cells) label) st none room = absurd (omega (arith, eqb-true (length (cell ∷ cells)) 0 none))
 no_copies_refused s (DropLabel label) st none room = cc
 no_copies_refused s (Relabel source target) st none room = cc
 no_copies_refused s (Grow label level) st none room = cc

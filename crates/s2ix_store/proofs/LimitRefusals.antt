@@ -1,18 +1,20 @@
--- Edits that a store never refuses for a limit on counts or pairs.
-use Rattle.std.proofs.Common.{◌≡◌, ◌≢◌, ℕ, ◌≤◌, false, length, Some, ap, arith}
+-- Edits that a store never refuses for a limit on counts or pairs, and one that always changes something.
+use Rattle.std.proofs.Common.{◌≡◌, ◌≢◌, ℕ, ◌≤◌, true, false, length, Some, sym, ap, ◌∙◌, ⊎_elim, arith}
+use Rattle.std.proofs.lemmas.Bool.{cases_lt}
 use Rattle.s2ix_pairs.specs.declared.label.Label.{Label}
 use Rattle.s2ix_pairs.specs.declared.pair.Pair.{Pair}
 use Rattle.s2ix_pairs.specs.Collection.{Collection}
-use Rattle.s2ix_pairs.specs.Limits.{count_limit}
-use Rattle.s2ix_refusals.specs.declared.errors.EditError.TheVariants.{TooManyCopies, TooManyPairs}
+use Rattle.s2ix_pairs.specs.Limits.{changes_limit, count_limit}
+use Rattle.s2ix_refusals.specs.declared.errors.EditError.{EditError}
+use Rattle.s2ix_refusals.specs.declared.errors.EditError.TheVariants.{JournalFull, NoSuchLabel, NoChange, TooManyCopies, TooManyPairs}
 use Rattle.s2ix_edit.specs.declared.edit.Edit.{Edit}
-use Rattle.s2ix_edit.specs.declared.edit.Edit.TheVariants.{DropLabel, Grow, Normalise, Remove}
+use Rattle.s2ix_edit.specs.declared.edit.Edit.TheVariants.{DropLabel, Grow, Normalise, Relabel, Remove}
 use Rattle.s2ix_edit.specs.Edit.{edited_by}
-use Rattle.s2ix_edit.specs.Refusals.{edit_refusal, has_count_above}
+use Rattle.s2ix_edit.specs.Refusals.{edit_refusal, has_count_above, lacks_label}
 use Rattle.s2ix_edit.specs.State.{State}
-use Rattle.s2ix_edit.proofs.EachRefusal.{high_from_refusal, many_from_refusal}
+use Rattle.s2ix_edit.proofs.EachRefusal.{full_where, high_from_refusal, label_where, many_from_refusal, same_from_refusal}
 use Rattle.s2ix_edit.proofs.Edited.{edited_held}
-use Rattle.s2ix_edit.proofs.Lesser.{drop_few, drop_small, grown_small, normal_few, normal_small, removal_few, removal_small}
+use Rattle.s2ix_edit.proofs.Lesser.{drop_changes, drop_few, drop_small, grown_small, moved_few, normal_few, normal_small, removal_few, removal_small}
 use Rattle.s2ix_store.specs.Store.{IsStore}
 use Rattle.s2ix_store.proofs.Planned.{stand}
 
@@ -39,5 +41,23 @@ pub normalise_passes_none : (s : State) (label : Label) → IsStore s → (edit_
 normalise_passes_none s label st =
     (never_high s (Normalise label) st (normal_small s.bag label st.bag), never_many s (Normalise label) st (normal_few s.bag label))
 
+pub relabel_passes_no_pairs : (s : State) (source target : Label) → IsStore s → edit_refusal s (Relabel source target) ≢ Some TooManyPairs
+relabel_passes_no_pairs s source target st = never_many s (Relabel source target) st (moved_few s.bag source target st.bag)
+
 pub grow_passes_no_count : (s : State) (label : Label) (level : ℕ) → IsStore s → edit_refusal s (Grow label level) ≢ Some TooManyCopies
 grow_passes_no_count s label level st = never_high s (Grow label level) st (grown_small s.bag label level st.bag)
+
+-- ---- a label that is dropped is held, and its pairs go
+
+-- a refusal but that of a full journal or of a label comes where the label is held
+label_is_held : (s : State) (edit : Edit) (e : EditError) → e ≢ JournalFull → e ≢ NoSuchLabel → edit_refusal s edit ≡ Some e → lacks_label edit s.bag.held ≡ true → ⊥
+label_is_held s edit e not_full not_label is lacks =
+    ⊎_elim
+    (λ room. let other = sym is ∙ (label_where s edit).1 (room, lacks) in not_label (cc))
+    (λ full. let other = sym is ∙ (full_where s edit).1 full in not_full (cc))
+    (cases_lt (length s.done) (changes_limit s.bag.limits))
+
+pub drop_changes_something : (s : State) (label : Label) → IsStore s → edit_refusal s (DropLabel label) ≢ Some NoChange
+drop_changes_something s label st = λ is.
+    let same = sym (edited_held s (DropLabel label) (stand s st)) ∙ same_from_refusal s (DropLabel label) st.bag is in
+    label_is_held s (DropLabel label) NoChange (λ e. cc) (λ e. cc) is (drop_changes label s.bag.held same)

@@ -11,7 +11,7 @@ ghost use Rattle.s2ix_pairs.specs.Limits.{changes_limit, count_limit, pairs_limi
 ghost use Rattle.s2ix_pairs.specs.Pair.{rank_of};
 ghost use Rattle.s2ix_refusals.specs.declared.errors.EditError.TheVariants.{NoSuchLabel, NotHeld, TooFine, NoSuchChange, BelowZero, NoChange, TooManyCopies, TooManyPairs};
 ghost use Rattle.s2ix_edit.specs.declared.edit.Edit.{Edit};
-ghost use Rattle.s2ix_edit.specs.declared.edit.Edit.TheVariants.{DropLabel, Grow, Normalise, Remove, Revert};
+ghost use Rattle.s2ix_edit.specs.declared.edit.Edit.TheVariants.{DropLabel, Grow, Normalise, Relabel, Remove, Revert};
 ghost use Rattle.s2ix_edit.specs.Edit.{edited, edited_by};
 ghost use Rattle.s2ix_edit.specs.History.{changes_along, cursor_alone, one_back, one_on, with_next};
 ghost use Rattle.s2ix_edit.specs.State.{State, change_of, history_of, starting_at};
@@ -195,8 +195,9 @@ pub fn reverts_have_refusals_of_their_own()
         → (edit_refusal s edit ≢ Some NoSuchChange) × (edit_refusal s edit ≢ Some BelowZero) }
 {}
 
-/// A store never refuses a `Remove`, a `DropLabel` or a `Normalise` for a count or a number of pairs above the limit, nor a `Grow` for a
-/// count: the first three leave no more copies or pairs than the limits allow anyway, and `Grow` gives first copies alone.
+/// A store never refuses a `Remove`, a `DropLabel` or a `Normalise` for a count or a number of pairs above the limit, nor a `Relabel` for a
+/// number of pairs, nor a `Grow` for a count: the first three leave no more copies or pairs than the limits allow anyway, `Relabel` no
+/// more pairs, and `Grow` gives first copies alone.
 pub fn lesser_edits_pass_no_limit()
     ensures remove { (s : State) (pair : Pair) (copies : ℕ)
         → IsStore s
@@ -210,9 +211,19 @@ pub fn lesser_edits_pass_no_limit()
         → IsStore s
         → let refusal = edit_refusal s (Normalise label) in
         (refusal ≢ Some TooManyCopies) × (refusal ≢ Some TooManyPairs) }
+    ensures relabel { (s : State) (source target : Label)
+        → IsStore s
+        → edit_refusal s (Relabel source target) ≢ Some TooManyPairs }
     ensures grow { (s : State) (label : Label) (level : ℕ)
         → IsStore s
         → edit_refusal s (Grow label level) ≢ Some TooManyCopies }
+{}
+
+/// A store never refuses a `DropLabel` because nothing would change: the label is held, or that is why it is refused.
+pub fn dropped_labels_change_something()
+    ensures { (s : State) (label : Label)
+        → IsStore s
+        → edit_refusal s (DropLabel label) ≢ Some NoChange }
 {}
 
 /// Each step of a store is the step of its history: an edit goes on to the edited collection, undo goes back by one,

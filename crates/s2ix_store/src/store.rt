@@ -1,4 +1,4 @@
-ghost use Rattle.std.specs.Prelude.{◌≡◌, ◌≢◌, ◌↔◌, ◌<◌, ◌≤◌, true, false, [], ◌∷◌, length, None, IfOk, IfErr, OnOk, OnErr, All};
+ghost use Rattle.std.specs.Prelude.{◌≡◌, ◌≢◌, ◌↔◌, ◌<◌, ◌≤◌, true, false, [], ◌∷◌, length, reverse, None, IfOk, IfErr, OnOk, OnErr, All};
 ghost use Rattle.s2id_union.specs.Region.{HaveSameRegion, IsNormal};
 ghost use Rattle.s2ix_lists.specs.Apply.{first_mismatch};
 ghost use Rattle.s2ix_pairs.specs.declared.pair.Pair.{Pair};
@@ -15,7 +15,7 @@ ghost use Rattle.s2ix_edit.specs.Region.{cells_of, region_of as region_in};
 ghost use Rattle.s2ix_edit.specs.State.{State, change_of, history_of, starting_at};
 ghost use Rattle.s2ix_store.specs.Recorded.{IsRecorded};
 ghost use Rattle.s2ix_store.specs.Steps.{after_edit, after_forget, after_record, after_redo, after_undo, redo_size, undo_size};
-ghost use Rattle.s2ix_store.specs.Store.{HasRoom, IsStore};
+ghost use Rattle.s2ix_store.specs.Store.{CanGoBack, CanGoOn, HasRoom, IsStore};
 ghost use Rattle.s2ix_ranges.specs.Table.{IsRangeTable};
 
 use crate::steps::{apply_planned, apply_recorded, shift_last};
@@ -90,8 +90,9 @@ impl Store {
 
     /// Carries an edit out, and answers how many pairs changed their counts. An accepted edit records the change
     /// at the end of `done` and empties `undone`; a refused one changes nothing. [`EditError`] says when each
-    /// refusal stands. An `Add` or a `Remove` of no copies is `NoChange` without a growth. It takes what [`plan`] takes, what it takes to let the undone changes go, and O(m + p) for m entries of the
-    /// change and the p pairs held on their faces, of which alone bag and table are built again.
+    /// refusal stands. With room in the journal an `Add` or a `Remove` of no copies, or an `AddUnion` of no cells, is `NoChange` and takes
+    /// no memory. An edit takes what [`plan`] takes, what it takes to let the undone changes go, and O(m + p) for m entries of the change
+    /// and the p pairs held on their faces, of which alone bag and table are built again.
     pub fn edit(&mut self, edit: &Edit) -> Result<usize, EditError>
         ensures state { OnOk result (self.new ≡ after_edit self.old edit.now) }
         ensures history { OnOk result (history_of self.new
@@ -266,19 +267,23 @@ impl Store {
         region_of(self.alloc, &self.bag, label)
     }
 
-    /// The changes that can be undone, the oldest first. They lead to the collection that the store stands at, as the laws have it.
+    /// The changes that can be undone, the oldest first. They lead to the collection that the store stands at: from the last on, each can
+    /// be taken back.
     pub fn done(&self) -> &[Change]
         ensures done { result.now ≡ self.now.done }
-        ensures led { IsStore self.now }
+        ensures led { CanGoBack self.now.bag (reverse result.now) }
+        ensures stands { IsStore self.now }
         ensures within { All (IsRecorded self.now.bag.limits) result.now }
         ensures few { length result.now ≤ changes_limit self.now.bag.limits }
     {
         self.done.as_slice()
     }
 
-    /// The changes that can be redone. The one that was undone last stands at the end, and is redone first.
+    /// The changes that can be redone. The one that was undone last stands at the end, and is redone first; they lead on from the
+    /// collection that the store stands at.
     pub fn undone(&self) -> &[Change]
         ensures undone { result.now ≡ self.now.undone }
+        ensures led { CanGoOn self.now.bag (reverse result.now) }
         ensures within { All (IsRecorded self.now.bag.limits) result.now }
         ensures few { length result.now ≤ changes_limit self.now.bag.limits }
     {

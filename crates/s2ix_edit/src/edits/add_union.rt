@@ -1,4 +1,4 @@
-ghost use Rattle.std.specs.Prelude.{◌≢◌, [], IfOk, IfErr};
+ghost use Rattle.std.specs.Prelude.{◌≡◌, ◌≢◌, [], length, IsOk, IfOk, IfErr};
 ghost use Rattle.s2ix_edit.specs.Plan.{IsPlanRefusal, Plans};
 
 use crate::edit::Edit;
@@ -19,6 +19,7 @@ pub(crate) fn plan(
     ensures plan { IfOk result (Plans bag.now [] (Edit.AddUnion union.now label)) }
     ensures refused { IfErr result (IsPlanRefusal bag.now [] (Edit.AddUnion union.now label)) }
     ensures pairs { result ≢ Err PlanError.TooManyPairs }
+    ensures nothing { length union.now ≡ 0 → IsOk result }
 {
     let mut entries = Vec::new(alloc);
     for cell in union.cells() {

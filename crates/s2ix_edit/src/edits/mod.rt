@@ -28,7 +28,8 @@ use std::alloc::Global;
 /// Of the errors of [`PlanError`] the first that stands is answered. Whether the counts and the pairs fit the bag is found when
 /// the change is applied; but the plan of `Revert` has tested it, and answers `TooManyCopies` and `TooManyPairs` itself, and a
 /// sum that no `u32` holds is above every limit and `TooManyCopies` here. `OutOfMemory` comes in place of no other error of
-/// `Revert`, and of no error but `TooManyCopies` of the others; an `Add` or a `Remove` of no copies wants no memory.
+/// `Revert`, and of no error but `TooManyCopies` of the others; an `Add` or a `Remove` of no copies wants no memory, nor does an
+/// `AddUnion` of no cells.
 ///
 /// For n pairs held, `Add` and `Remove` take O(log n), `AddUnion` O(m log n) for m cells, `DropLabel` O(n), `Relabel`
 /// O(n + m log n) and `Normalise` O(n + m log m) for m pairs of the label, and `Grow` O(n + b log b) for b cells beside those of

@@ -1,6 +1,6 @@
 use Rattle.std.proofs.Common.{rules, refl, ap}
 use Rattle.s2ix_edit.specs.Refusals.{reverts}
-use Rattle.s2ix_edit.proofs.Plans.{asks_copies, copies_added, copies_removed, planned_after_any, reads_no_change, refused_after_any}
+use Rattle.s2ix_edit.proofs.Plans.{asks_copies, cells_added, copies_added, copies_removed, planned_after_any, reads_no_change, refused_after_any}
 use Rattle.s2ix_edit.proofs.edits.plan.Goals as goal
 
 pub returns-in-Add-clause-plan : goal.returns-in-Add-clause-plan
@@ -58,7 +58,7 @@ pub returns-in-Add-clause-reverting : goal.returns-in-Add-clause-reverting
 returns-in-Add-clause-reverting c = λ takes. absurd (reads_no_change c.args.edit.now _ c.in-Add.is refl takes)
 
 pub returns-in-AddUnion-clause-nothing : goal.returns-in-AddUnion-clause-nothing
-returns-in-AddUnion-clause-nothing c = λ none. absurd (asks_copies c.args.edit.now _ c.in-AddUnion.is refl none)
+returns-in-AddUnion-clause-nothing c = λ none. c.plan-in-AddUnion.ensures.nothing (cells_added c.args.edit.now _ _ c.in-AddUnion.is none)
 
 pub returns-in-AddUnion-clause-reverting : goal.returns-in-AddUnion-clause-reverting
 returns-in-AddUnion-clause-reverting c = λ takes. absurd (reads_no_change c.args.edit.now _ c.in-AddUnion.is refl takes)

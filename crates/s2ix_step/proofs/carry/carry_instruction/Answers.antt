@@ -1,12 +1,19 @@
--- A step is what the store's answer tells. A `meet` is what its own call tells.
+-- A step is what the store's answer tells, and memory is wanted where that says so. A `meet` is what its own call tells.
 use Rattle.std.proofs.Common.{rules}
+use Rattle.std.proofs.lemmas.Result.{IfErr-weaker}
 use Rattle.s2ix_step.proofs.Told.{edit_is_told, redo_is_told, undo_is_told}
+use Rattle.s2ix_step.proofs.WantedMemory.{edit_wants}
 use Rattle.s2ix_step.proofs.carry.carry_instruction.Goals as goal
 
 pub returns-in-Edit-clause-carries : goal.returns-in-Edit-clause-carries
 returns-in-Edit-clause-carries g c =
     let told = c.edit.ensures in
     rw c.in-Edit.is (c.tell_step.ensures.carries _ _ _ (edit_is_told _ _ _ _ told.accepted told.state told.number told.refused told.unchanged))
+
+pub returns-in-Edit-clause-memory : goal.returns-in-Edit-clause-memory
+returns-in-Edit-clause-memory g c =
+    let told = c.edit.ensures in
+    rw c.in-Edit.is (IfErr-weaker c.tell_step.result _ _ (λ fault wants is. edit_wants _ _ _ told.refused told.nothing told.reverting (wants is)) c.tell_step.ensures.memory)
 
 pub returns-in-Undo-clause-carries : goal.returns-in-Undo-clause-carries
 returns-in-Undo-clause-carries g c =

@@ -1,4 +1,4 @@
-use Rattle.s2ix_store.proofs.LimitRefusals.{drop_passes_none, grow_passes_no_count, normalise_passes_none, remove_passes_none}
+use Rattle.s2ix_store.proofs.LimitRefusals.{drop_passes_none, grow_passes_no_count, normalise_passes_none, relabel_passes_no_pairs, remove_passes_none}
 use Rattle.s2ix_store.proofs.laws.lesser_edits_pass_no_limit.Goals as goal
 
 pub returns : goal.returns
@@ -6,5 +6,6 @@ returns c = record {
   remove = remove_passes_none;
   drop_label = drop_passes_none;
   normalise = normalise_passes_none;
+  relabel = relabel_passes_no_pairs;
   grow = grow_passes_no_count;
 }

@@ -1,4 +1,4 @@
-use Rattle.std.proofs.Common.{◌≡◌, ◌<◌, List, [], Some, AllPairs, map, refl, sym, ap, ◌∙◌, subst, arith}
+use Rattle.std.proofs.Common.{◌≡◌, ◌<◌, List, [], Some, AllPairs, length, map, refl, sym, ap, ◌∙◌, subst, arith}
 use Rattle.std.proofs.lemmas.List.{take_all}
 use Rattle.s2id_core.specs.declared.cell_id.CellId.{CellId}
 use Rattle.s2id_core.specs.CellId.{raw_of}
@@ -42,3 +42,15 @@ returns-clause-plan c =
     let all = c.loop-cell.invariant ∙ ap (λ cs. map (addition c.args.bag.now.held c.args.label) cs) (take_all c.loop-cell.cell-index cells (omega arith) ∙ listed.list) in
     subst Planned (sym (c.from_vec.ensures ∙ all))
     (plans_from_makes c.args.bag.now [] (AddUnion c.args.union.now c.args.label) _ refl refl refl refl refl (additions_make c.args.bag.now c.args.label c.args.union.now listed.normal.rises))
+
+pub returns-in_default-clause-nothing : goal.returns-in_default-clause-nothing
+returns-in_default-clause-nothing c =
+    λ none.
+    let all = ap length c.cells-cell-items.ensures.list in
+    absurd (omega (arith, all, none))
+
+pub returns-in_err-push_entry-clause-nothing : goal.returns-in_err-push_entry-clause-nothing
+returns-in_err-push_entry-clause-nothing c =
+    λ none.
+    let all = ap length c.cells-cell-items.ensures.list in
+    absurd (omega (arith, all, none))
