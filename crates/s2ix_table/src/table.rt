@@ -166,7 +166,10 @@ pub trait RangeTable: Sized {
         ensures labels { IfOk result (λ labels. IsLabelList (meeting_of target.now (pairs self.now)) labels.items) }
         ensures list { IfOk result (λ labels. labels.items ≡ label_list (meeting_of target.now (pairs self.now))) }
     {
-        let mut labels = gather(alloc, self, target)?;
+        let mut labels = Vec::new(alloc);
+        if !gather(self, target, &mut labels) {
+            return Err(OutOfMemory);
+        }
         labels.sort_unstable();
         labels.dedup();
         Ok(labels)
