@@ -8,7 +8,7 @@ use crate::visit::visit_all;
 use s2id_union::CellUnion;
 use s2ix_bag::Label;
 
-// Pushes the labels of the target's meeting list, in its order, as one visit: whether memory was there for all of them.
+// Pushes the labels of the target's meeting list, in its order, and returns whether there was memory for all of them.
 pub(crate) fn gather<T: RangeTable>(
     table: &T,
     target: &CellUnion,

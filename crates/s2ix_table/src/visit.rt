@@ -17,7 +17,7 @@ pub struct Visit {
     pub cost: Cost,
 }
 
-// Visits with a closure that may always be called. Whether every call answered true: then it was called on each pair, in order.
+// A visit with a closure that may always be called. If it answers true, each call did, and there was one for each pair, in order.
 pub(crate) fn visit_all<T: RangeTable, F: FnMut(Held) -> bool>(
     table: &T,
     target: &CellUnion,

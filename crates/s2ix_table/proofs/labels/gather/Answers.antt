@@ -1,5 +1,5 @@
 -- Each call pushes a label behind those before it, into the same list.
-use Rattle.std.proofs.Common.{◌≡◌, ◌++◌, List, [], ◌∷◌, map, true, refl, ◌∙◌, sym, ap, rules}
+use Rattle.std.proofs.Common.{◌≡◌, ◌++◌, List, [], ◌∷◌, map, ◌∙◌, sym, ap, rules}
 use Rattle.std.proofs.lemmas.List.{append-nil, append_assoc}
 use Rattle.std.specs.List.{FoldsTo}
 use Rattle.s2ix_pairs.specs.Collection.{Collection}
@@ -19,5 +19,5 @@ gathers step items name each f (h ∷ hs) last on =
 pub returns : goal.returns
 returns g c =
     λ all.
-      let gathered = gathers _ (λ k. (closure.captures k).labels.now.items) (λ k. (closure.captures k).labels.ghost_name) (λ p h q s. (search rules, search (rules, s.met.1.1, refl))) _ _ _ (c.visit_all.ensures all) in
+      let gathered = gathers _ (λ k. (closure.captures k).labels.now.items) (λ k. (closure.captures k).labels.ghost_name) (λ p h q s. (search rules, search (rules, s.met.1.1))) _ _ _ (c.visit_all.ensures all) in
       search (rules, gathered)

@@ -1,4 +1,4 @@
-use Rattle.std.proofs.Common.{◌≡◌, ℕ, Bool, true, true≢false, inl, inr, [], ◌∷◌, IsTrue, sym, ◌∙◌}
+use Rattle.std.proofs.Common.{◌≡◌, ℕ, Bool, true, true≢false, inl, inr, [], ◌∷◌, sym, ◌∙◌}
 use Rattle.std.specs.List.{FoldsTo}
 use Rattle.s2ix_pairs.specs.Collection.{Collection}
 use Rattle.s2ix_pairs.specs.declared.pair.Held.{Held}
