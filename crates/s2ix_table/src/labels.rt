@@ -9,13 +9,13 @@ use s2id_union::CellUnion;
 use s2ix_bag::Label;
 
 // Pushes the labels of the target's meeting list, in its order, and returns whether there was memory for all of them.
-pub(crate) fn gather<T: RangeTable>(
-    table: &T,
-    target: &CellUnion,
-    labels: &mut Vec<Label>,
-) -> bool
+pub(crate) fn gather<T: RangeTable>(table: &T, target: &CellUnion, labels: &mut Vec<Label>) -> bool
     ensures { IsTrue result
         → labels.new.items ≡ labels.old.items ++ map (λ (held : Held). held.pair.label) (meeting_of target.now (T.pairs table.now)) }
 {
-    visit_all(table, target, &mut |held| labels.push(held.pair.label).is_ok())
+    visit_all(
+        table,
+        target,
+        &mut |held| labels.push(held.pair.label).is_ok(),
+    )
 }

@@ -19,5 +19,5 @@ gathers step items name each f (h ∷ hs) last on =
 pub returns : goal.returns
 returns g c =
     λ all.
-      let gathered = gathers _ (λ k. (closure.captures k).labels.now.items) (λ k. (closure.captures k).labels.ghost_name) (λ p h q s. (search rules, search (rules, s.met.1.1))) _ _ _ (c.visit_all.ensures all) in
-      search (rules, gathered)
+    let gathered = gathers _ (λ k. (closure.captures k).labels.now.items) (λ k. (closure.captures k).labels.ghost_name) (λ p h q s. (search rules, search (rules, s.met.1.1))) _ _ _ (c.visit_all.ensures all) in
+    search (rules, gathered)
