@@ -1,20 +1,21 @@
 //! The labels of what is met.
-ghost use Rattle.std.specs.Prelude.{IfOk};
-ghost use Rattle.s2ix_ranges.specs.Meeting.{IsLabelList};
+ghost use Rattle.std.specs.Prelude.{◌≡◌, ◌++◌, IsTrue, map};
+ghost use Rattle.s2ix_pairs.specs.declared.pair.Held.{Held};
+ghost use Rattle.s2ix_ranges.specs.Meeting.{meeting_of};
 
-use s2id_core::OutOfMemory;
-use s2ix_bag::{Held, Label};
-use std::alloc::Global;
+use crate::table::RangeTable;
+use crate::visit::visit_all;
+use s2id_union::CellUnion;
+use s2ix_bag::Label;
 
-// The labels of pairs, once each and rising. O(n log n).
-pub(crate) fn labels_of(alloc: Global, meeting: &[Held]) -> Result<Vec<Label>, OutOfMemory>
-    ensures { IfOk result (λ labels. IsLabelList meeting.now labels.items) }
+// Pushes the labels of the target's meeting list, in its order, and returns whether there was memory for all of them.
+pub(crate) fn gather<T: RangeTable>(table: &T, target: &CellUnion, labels: &mut Vec<Label>) -> bool
+    ensures { IsTrue result
+        → labels.new.items ≡ labels.old.items ++ map (λ (held : Held). held.pair.label) (meeting_of target.now (T.pairs table.now)) }
 {
-    let mut labels = Vec::with_capacity(alloc, meeting.len())?;
-    for held in meeting {
-        labels.push(held.pair.label)?;
-    }
-    labels.sort_unstable();
-    labels.dedup();
-    Ok(labels)
+    visit_all(
+        table,
+        target,
+        &mut |held| labels.push(held.pair.label).is_ok(),
+    )
 }

@@ -10,7 +10,7 @@ ghost use Rattle.s2ix_ranges.specs.Meeting.{IsMeetingList, IsLabelList, meeting_
 ghost use Rattle.s2ix_walk.specs.Calls.{MayVisit, CallsOn, Visits};
 ghost use Rattle.s2ix_walk.specs.Costs.{ranges_met, IsWalkCost};
 
-use crate::labels::labels_of;
+use crate::labels::gather;
 use crate::meter::Meter;
 use crate::stretch::Stretch;
 use crate::visit::Visit;
@@ -166,7 +166,12 @@ pub trait RangeTable: Sized {
         ensures labels { IfOk result (λ labels. IsLabelList (meeting_of target.now (pairs self.now)) labels.items) }
         ensures list { IfOk result (λ labels. labels.items ≡ label_list (meeting_of target.now (pairs self.now))) }
     {
-        let meeting = self.meeting(alloc, target)?;
-        labels_of(alloc, meeting.as_slice())
+        let mut labels = Vec::new(alloc);
+        if !gather(self, target, &mut labels) {
+            return Err(OutOfMemory);
+        }
+        labels.sort_unstable();
+        labels.dedup();
+        Ok(labels)
     }
 }
