@@ -26,7 +26,7 @@ fn holds_a_face(alloc: Global, store: &mut Store, sink: &mut KeepingSink) -> boo
     matches!(line, Ok(LineOutcome::Accepted))
 }
 
-// Carries out a comment, a line that holds a face, and an instruction, and compares how each ends and what they print.
+// Carries out a comment, a line that holds a face, and an instruction, and compares how each ends and what they print. Nothing is flushed.
 fn check_instruction(
     rt: &impl Abort,
     alloc: Global,
@@ -40,7 +40,7 @@ fn check_instruction(
     assert!(rt; is_held);
     let step = carry_instruction(alloc, &mut store, &mut sink, instruction);
     assert!(rt;
-        step == Ok(outcome) && sink.kept() == printed,
+        step == Ok(outcome) && sink.kept() == printed && sink.flushed_len() == 0,
         "{step:?}, {:?}",
         sink.kept()
     );
