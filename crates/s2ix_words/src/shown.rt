@@ -15,10 +15,27 @@ pub(crate) fn words_text(
     }
     let words = on_one_line_each(alloc, words)?;
     let limits = LimitHelp::new(alloc)?;
-    match program(alloc, &limits)?.try_get_matches_from(words.as_slice()) {
-        Err(again) if again.kind() == ErrorKind::OutOfMemory => Err(AllocError),
-        Err(again) => error_text(alloc, &again),
-        Ok(_) => error_text(alloc, error),
+    text_among(alloc, &limits, words.as_slice(), error)
+}
+
+// What clap says of words that have no line feed, or what it said of them before where it refuses them no more.
+fn text_among<'a>(
+    alloc: Global,
+    limits: &'a LimitHelp,
+    words: &'a [String],
+    error: &Error,
+) -> Result<String, AllocError> {
+    match program(alloc, limits)?.try_get_matches_from(words) {
+        Ok(_matches) => error_text(alloc, error),
+        Err(again) => text_again(alloc, &again),
+    }
+}
+
+// What clap says, unless that is want of memory.
+fn text_again(alloc: Global, error: &Error) -> Result<String, AllocError> {
+    match error.kind() {
+        ErrorKind::OutOfMemory => Err(AllocError),
+        _ => error_text(alloc, error),
     }
 }
 

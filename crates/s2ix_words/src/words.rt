@@ -25,7 +25,19 @@ pub fn command_of(alloc: Global, words: &[String]) -> Result<Command, WordsFault
     ensures refused { IfErr result (AreRefused (map string_bytes words.now)) }
 {
     let limits = LimitHelp::new(alloc)?;
-    match program(alloc, &limits)?.try_get_matches_from(words) {
+    command_among(alloc, &limits, words)
+}
+
+// The command that the words ask for, where help tells this of the limits.
+fn command_among<'a>(
+    alloc: Global,
+    limits: &'a LimitHelp,
+    words: &'a [String],
+) -> Result<Command, WordsFault>
+    ensures asked { IfOk result (AskFor (map string_bytes words.now)) }
+    ensures refused { IfErr result (AreRefused (map string_bytes words.now)) }
+{
+    match program(alloc, limits)?.try_get_matches_from(words) {
         Ok(matches) => command_met(alloc, &matches),
         Err(error) => Err(refusal(alloc, words, &error)),
     }
