@@ -5,7 +5,7 @@ use std::env;
 use std::env::Env;
 use std::io::ErrorKind;
 
-// How many bytes a word has at most, where a page of memory has 4 KiB.
+// How many bytes a word has at most on Linux: 32 pages of 4 KiB.
 const LONGEST_WORD: usize = 131_072;
 
 // The command that the words ask for.
@@ -33,5 +33,8 @@ fn strange_word(rt: &HostRuntime) -> Result<WordsFault, AllocError> {
             return Ok(not_utf8(rt.alloc(), word));
         }
     }
-    Ok(WordsFault::Usage(String::from_str(rt.alloc(), "error: a word is no UTF-8\n")?))
+    Ok(WordsFault::Usage(String::from_str(
+        rt.alloc(),
+        "error: a word is no UTF-8\n\nFor more information, try '--help'.\n",
+    )?))
 }

@@ -10,9 +10,9 @@ FILE, DUMP and JOURNAL name files: '-' is one like any other, and standard input
 Exit status:
   0  All was accepted, or help or the version was asked
   1  A refusal was printed
-  2  The words ask for nothing that the program does
-  3  A device failed, a file can't be opened, or an input had more pieces than are read
-  4  Memory was wanted";
+  2  Bad usage
+  3  A device failed, a file can't be opened, or an input is too long
+  4  Out of memory";
 
 /// What help tells of a dump that is to be read.
 pub(crate) const DUMP: &str = "The dump: a file, or /dev/stdin for standard input";
@@ -22,8 +22,8 @@ pub(crate) const JOURNAL: &str = "The journal: a file, or /dev/stdin for standar
 
 /// What the help of `run` tells behind its options: each instruction of a script.
 pub(crate) const AFTER_RUN: &str = "Instructions, one on a line:
-  add TOKEN LABEL [COPIES]     Adds copies of a pair, 1 where none are named
-  remove TOKEN LABEL [COPIES]  Takes copies of a pair away
+  add TOKEN LABEL [COPIES]     Adds copies of a pair, 1 if COPIES is left out
+  remove TOKEN LABEL [COPIES]  Takes copies of a pair away, 1 if COPIES is left out
   addunion LABEL TOKEN..       Adds a copy for each cell of the normal union of the cells
   drop LABEL                   Takes the label's pairs away
   relabel SOURCE TARGET        Moves each count of one label to the other
@@ -31,22 +31,22 @@ pub(crate) const AFTER_RUN: &str = "Instructions, one on a line:
   normal LABEL                 Makes the label's pairs the fewest cells with the same leaves
   revert NUMBER                Takes one change back, and keeps those that followed it
   undo                         Takes the last change back
-  redo                         Does the change again that was taken back
-  forget                       Keeps the collection, and nothing to undo or redo
+  redo                         Does the last undone change again
+  forget                       Drops the history: nothing can be undone or redone
   at TOKEN                     Prints the pairs over a leaf
   meet TOKEN..                 Prints the pairs that share a leaf with the cells
   labels TOKEN..               Prints the labels of these pairs
   ranges                       Prints each range of leaves that have the same pairs
   region LABEL                 Prints the normal union of the label's cells
-  common A B                   Prints the cells of the leaves that both labels have
-  only A B                     Prints the cells of the leaves that A has and B has not
+  common A B                   Prints the cells of the leaves that labels A and B have
+  only A B                     Prints the cells of the leaves that A has and B hasn't
   path TOKEN                   Prints the face and the child positions of the cell
-  neighbors TOKEN              Prints the cells over the sides of the cell
+  neighbors TOKEN              Prints the four neighbors over the cell's sides
   face TOKEN                   Prints the square of the cell on its face
   dump                         Prints the dump of the collection
   journal                      Prints the journal of the changes that can be undone
   export                       Prints the collection as JSON
 
-A line that begins with '#' is a comment. One that changes pairs prints 'ok' and their number. One
-that is refused prints 'no' and the reason, and changes nothing. 's2ix run < FILE' runs the script
-in FILE.";
+A line that begins with '#' is a comment. An instruction that changes pairs prints 'ok' and
+how many; one that is refused prints 'no' and the reason, and changes nothing.
+'s2ix run < FILE' runs the script in FILE.";

@@ -71,7 +71,7 @@ fn run<'a>(alloc: Global, limits: &'a LimitHelp) -> Result<Command<'a>, AllocErr
             alloc,
             "load",
             "FILE",
-            "Begins with the dump in FILE [default: empty]",
+            "Begins with the dump in FILE, else with no pairs",
         ))?
         .arg(option(alloc, "max-pairs", "N", limits.pairs.as_str()))?
         .arg(option(alloc, "max-count", "N", limits.count.as_str()))?

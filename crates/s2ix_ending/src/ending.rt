@@ -8,7 +8,7 @@ use std::process::ExitCode;
 /// What the program came to; this project's own.
 #[derive(Clone, Copy, Debug, PartialEq, Eq)]
 pub enum Ending {
-    /// All was accepted, or help was asked and told.
+    /// All was accepted, or help or the version was asked and told.
     Accepted,
     /// A refusal was printed.
     Refused,

@@ -91,6 +91,7 @@ fn limits_fault(alloc: Global, given: &ArgMatches<'_>) -> WordsFault
     }
     match limit_fault(alloc, given, "max-changes", widest.changes()) {
         Some(fault) => fault,
+        // (not reached: limits that are all in their ranges are not told of)
         None => usage(alloc, NO_COMMAND),
     }
 }

@@ -15,11 +15,11 @@ pub(crate) fn words_text(
     }
     let words = on_one_line_each(alloc, words)?;
     let limits = LimitHelp::new(alloc)?;
-    text_among(alloc, &limits, words.as_slice(), error)
+    text_with_limits(alloc, &limits, words.as_slice(), error)
 }
 
-// What clap says of words that have no line feed, or what it said of them before where it refuses them no more.
-fn text_among<'a>(
+// What clap says of words that have no line feed, with this help on limits; what it said before if it refuses them no more.
+fn text_with_limits<'a>(
     alloc: Global,
     limits: &'a LimitHelp,
     words: &'a [String],

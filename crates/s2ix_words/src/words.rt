@@ -25,11 +25,11 @@ pub fn command_of(alloc: Global, words: &[String]) -> Result<Command, WordsFault
     ensures refused { IfErr result (AreRefused (map string_bytes words.now)) }
 {
     let limits = LimitHelp::new(alloc)?;
-    command_among(alloc, &limits, words)
+    command_with_limits(alloc, &limits, words)
 }
 
-// The command that the words ask for, where help tells this of the limits.
-fn command_among<'a>(
+// The command that the words ask for, with this help on limits.
+fn command_with_limits<'a>(
     alloc: Global,
     limits: &'a LimitHelp,
     words: &'a [String],

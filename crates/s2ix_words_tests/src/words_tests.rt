@@ -147,7 +147,7 @@ const HELP: [(&str, &str); 16] = [
     ("s2ix|help", "Usage: s2ix <COMMAND>"),
     ("s2ix|--help", "-V, --version"),
     ("s2ix|--help", "Exit status:\n  0  All was accepted"),
-    ("s2ix|--help", "\n  4  Memory was wanted\n"),
+    ("s2ix|--help", "\n  4  Out of memory\n"),
     ("s2ix|--help", "'s2ix run --help'"),
     ("s2ix|--help", "/dev/stdin"),
     ("s2ix|run|--help", "Usage: s2ix run [OPTIONS]"),

@@ -3,7 +3,7 @@ use Rattle.std.proofs.lemmas.Result.{IfErr-weaker, IfOk-weaker}
 use Rattle.clap.specs.Words.{Text, app_of, fault_of, kind_of, subcommand_rows_of, is_simple_and_free, HasKind}
 use Rattle.s2ix_words.specs.Words.{IsMet}
 use Rattle.s2ix_words.proofs.Matched.{is_asked, is_free, met_refused, told_refused, without_faults}
-use Rattle.s2ix_words.proofs.words.command_among.Goals as goal
+use Rattle.s2ix_words.proofs.words.command_with_limits.Goals as goal
 
 pub returns-in-Ok-clause-asked : goal.returns-in-Ok-clause-asked
 returns-in-Ok-clause-asked c =
