@@ -39,9 +39,9 @@ IsHeldAt-prop chain start h place x y =
 pub KeepsOnce-prop : {P : Type 0} → IsSet P → (chain : P → Collection) → IsProp (KeepsOnce chain)
 KeepsOnce-prop {P} set chain x y =
     let place : (start : P) (h : Held) (is : Contains (chain start) h) → x.place start h is ≡ y.place start h is = λ start h is.
-      let one = x.place start h is in
-      let two = y.place start h is in
-      Σ_prop_path (λ p. IsHeldAt-prop chain start h p) (x.same start start one.0 two.0 h one.1 two.1) in
+    let one = x.place start h is in
+    let two = y.place start h is in
+    Σ_prop_path (λ p. IsHeldAt-prop chain start h p) (x.same start start one.0 two.0 h one.1 two.1) in
     λ i. record {
       place = λ start h is. place start h is i;
       same = λ start other p q h one two. set p q (x.same start other p q h one two) (y.same start other p q h one two) i;
