@@ -23,7 +23,7 @@ pub fn span_keeps_a_pair_once(table: &SpanTable)
     let _ = &table.held;
 }
 
-/// A pair has one place in such a table: each chain that holds it holds it at a place, and two chains hold it at the same one.
+/// A pair has one place in a table with shared chains: each chain that holds it holds it at a place, and two chains hold it at the same one.
 pub fn keeps_a_pair_once<T: SharesChains>(table: &T)
     ensures { KeepsOnce (T.chain table.now) }
 {}

@@ -47,6 +47,6 @@ pub(crate) const AFTER_RUN: &str = "Instructions, one on a line:
   journal                      Prints the journal of the changes that can be undone
   export                       Prints the collection as JSON
 
-A line that begins with '#' is a comment. An instruction that changes pairs prints 'ok' and
-how many; one that is refused prints 'no' and the reason, and changes nothing.
+A line whose first word begins with '#' is a comment. An instruction that changes pairs prints 'ok'
+and how many; one that is refused prints 'no' and the reason, and changes nothing.
 's2ix run < FILE' runs the script in FILE.";

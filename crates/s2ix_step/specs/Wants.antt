@@ -9,7 +9,7 @@ use Rattle.s2ix_script.specs.declared.instruction.Instruction.TheVariants as ask
 use Rattle.s2ix_line.specs.declared.line_fault.LineFault.{LineFault}
 use Rattle.s2ix_script.specs.Meaning.{is_on_union, meaning_of}
 
--- an edit: it isn't refused before its change is made, nor of no copies, and a `Revert` isn't refused at all
+-- an edit that is neither refused before its change is made nor of no copies; a `Revert` only if it isn't refused at all
 pub record EditWants (s : State) (edit : Edit) : Type 0 where
   pub stage : MayWantMemory (edit_refusal s edit)
   pub copies : asks_no_copies edit ≡ false

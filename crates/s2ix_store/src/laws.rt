@@ -219,7 +219,8 @@ pub fn lesser_edits_pass_no_limit()
         → edit_refusal s (Grow label level) ≢ Some TooManyCopies }
 {}
 
-/// A store never refuses a `DropLabel` because nothing would change: the label is held, or that is why it is refused.
+/// A store never refuses a `DropLabel` because nothing would change: with room in the journal the label is held, or `NoSuchLabel` says that it
+/// isn't.
 pub fn dropped_labels_change_something()
     ensures { (s : State) (label : Label)
         → IsStore s
