@@ -14,7 +14,7 @@ use Rattle.s2ix_cli.specs.declared.run_end.RunEnd.{RunEnd}
 use Rattle.s2ix_cli.specs.declared.coming.PieceEnd.{PieceEnd}
 use Rattle.s2ix_cli.specs.declared.coming.PieceEnd.TheVariants.{GoesOn, Stops}
 use Rattle.s2ix_cli.specs.Coming.{ended_behind, unended_behind, ended_lines, kept_of}
-use Rattle.s2ix_cli.specs.Piece.{CarriesPiece, CountsMore, Reached, Stopped, FaultAmong}
+use Rattle.s2ix_cli.specs.Piece.{CarriesPiece, CarriesLast, CountsMore, Reached, Stopped, FaultAmong}
 use Rattle.s2ix_cli.specs.Run.{AreRead, Flushes, Ran, KeepsOn, StandsAfter, Finishes, line_left}
 use Rattle.s2ix_cli.specs.Script.{MOST, after, carried_lines, counted_in, output_of, refused_in}
 use Rattle.s2ix_cli.proofs.Feeds.{ended_behind-append, unended_behind-append, script_lines-ended}
@@ -60,21 +60,6 @@ Reached-kept stop lines old new before between behind told more r kept =
 ended-more : (input piece : List ℕ) → ended_lines (input ++ piece) ≡ ended_lines input ++ ended_behind (unended_behind [] input) piece
 ended-more input piece = ended_behind-append [] input piece
 
--- a piece more, and what was written is flushed
-pub Between-more : (left mid left' : Option (List ℕ)) (stop : Bool) (old now new : State) (held held' : Option (List ℕ)) (before between behind flushed : Option (List ℕ)) (told more : RunEnd) (piece : List ℕ)
-    → (b : Between left mid stop old now held before between told) → Consumes mid left' piece
-    → Reached stop (ended_behind (unended_behind [] b.input) piece) now new between behind told more × (held' ≡ kept_of (unended_behind (unended_behind [] b.input) piece))
-    → Keeps behind flushed → Between left left' stop old new held' before flushed more
-Between-more left mid left' stop old now new held held' before between behind flushed told more piece b consumed carried kept =
-    record {
-      input = b.input ++ piece;
-      consumed = Consumes-trans left mid left' b.input piece b.consumed consumed;
-      is_held = carried.1 ∙ ap kept_of (sym (unended_behind-append [] b.input piece));
-      reached = subst (λ l. Reached stop l old new before flushed none_told more) (sym (ended-more b.input piece))
-          (Reached-kept stop _ old new before behind flushed none_told more
-          (Reached-append stop (ended_lines b.input) (ended_behind (unended_behind [] b.input) piece) old now new before between behind none_told told more b.reached carried.0) kept);
-    }
-
 -- the piece at the end has no byte
 pub Between-last : (left mid left' : Option (List ℕ)) (stop : Bool) (old now : State) (held : Option (List ℕ)) (before behind : Option (List ℕ)) (told : RunEnd) (piece : List ℕ)
     → Between left mid stop old now held before behind told → Consumes mid left' piece → piece ≡ [] → Between left left' stop old now held before behind told
@@ -118,23 +103,6 @@ pub Between-ended : (End : Type 0) (IsLast : List ℕ → List ℕ → Type 0) (
     → Between left mid stop old now held before behind told → (input : List ℕ) × Consumes left mid input × Ran (Err ReaderTooLong) End IsLast stop input old now before behind
 unfolding Ran
 Between-ended End IsLast left mid stop old now held before behind told b = (b.input, b.consumed, record { keeps_on = b.reached.keeps_on; stands = b.reached.stands })
-
--- the sink fails at the flush behind lines of which none ends the run
-Between-flushing : (End : Type 0) (IsLast : List ℕ → List ℕ → Type 0) (left mid left' : Option (List ℕ)) (stop : Bool) (old now new : State) (held held' : Option (List ℕ)) (before between behind flushed : Option (List ℕ)) (told more : RunEnd) (piece : List ℕ)
-    → (b : Between left mid stop old now held before between told) → Consumes mid left' piece
-    → Reached stop (ended_behind (unended_behind [] b.input) piece) now new between behind told more × (held' ≡ kept_of (unended_behind (unended_behind [] b.input) piece))
-    → Keeps behind flushed → (input : List ℕ) × Consumes left left' input × Ran (Err Write) End IsLast stop input old new before flushed
-unfolding Ran
-Between-flushing End IsLast left mid left' stop old now new held held' before between behind flushed told more piece b consumed carried kept =
-    let b' = Between-more left mid left' stop old now new held held' before between behind flushed told more piece b consumed carried kept in (
-      b'.input,
-      b'.consumed,
-      (
-        ended_lines b'.input,
-        inl refl,
-        inr (subst (λ l. StandsAfter l old new before flushed) (sym (carried_lines-all stop old (ended_lines b'.input) b'.reached.keeps_on)) b'.reached.stands),
-      ),
-    )
 
 -- ---- a fault among lines
 
@@ -181,60 +149,11 @@ FaultAmong-ran OutOfMemory End IsLast stop input lines done more old mid new bef
       },
     )
 
--- a fault among the lines of a piece
-pub Between-fault : (fault : RunFault) (End : Type 0) (IsLast : List ℕ → List ℕ → Type 0) (left mid left' : Option (List ℕ)) (stop : Bool) (old now new : State) (held : Option (List ℕ)) (before between behind : Option (List ℕ)) (told : RunEnd) (piece : List ℕ)
-    → (b : Between left mid stop old now held before between told) → Consumes mid left' piece → FaultAmong fault stop (ended_behind (unended_behind [] b.input) piece) now new between behind
-    → (input : List ℕ) × Consumes left left' input × Ran (Err fault) End IsLast stop input old new before behind
-Between-fault fault End IsLast left mid left' stop old now new held before between behind told piece b consumed f = (
-  b.input ++ piece,
-  Consumes-trans left mid left' b.input piece b.consumed consumed,
-  FaultAmong-ran fault End IsLast stop (b.input ++ piece) (ended_lines (b.input ++ piece)) (ended_lines b.input) (ended_behind (unended_behind [] b.input) piece) old now new before between behind told
-      (inl refl) (ended-more b.input piece) b.reached f,
-)
-
--- one in the last line
-pub Between-fault_last : (fault : RunFault) (End : Type 0) (IsLast : List ℕ → List ℕ → Type 0) (left left' : Option (List ℕ)) (stop : Bool) (old now new : State) (held : Option (List ℕ)) (before between behind : Option (List ℕ)) (told : RunEnd)
-    → End → (b : Between left left' stop old now held before between told) → FaultAmong fault stop (line_left (unended_behind [] b.input)) now new between behind
-    → (input : List ℕ) × Consumes left left' input × Ran (Err fault) End IsLast stop input old new before behind
-Between-fault_last fault End IsLast left left' stop old now new held before between behind told end b f = (
-  b.input,
-  b.consumed,
-  FaultAmong-ran fault End IsLast stop b.input (script_lines b.input) (ended_lines b.input) (line_left (unended_behind [] b.input)) old now new before between behind told
-      (inr (end, refl)) (script_lines-ended b.input) b.reached f,
-)
-
 -- ---- the end of the input
 
 carried_last : (stop : Bool) (s : State) (front : List ℕ) → carried_lines stop s (line_left front) ≡ line_left front
 carried_last stop s [] = refl
 carried_last stop s (byte ∷ front) = ap (λ l. (byte ∷ front) ∷ l) (either_way (stop && (step_of s (byte ∷ front)).is_refused) [])
-
-pub Between-finishes : (left left' : Option (List ℕ)) (stop : Bool) (old now new : State) (held : Option (List ℕ)) (before between behind flushed : Option (List ℕ)) (told more : RunEnd)
-    → (b : Between left left' stop old now held before between told) → StandsAfter (line_left (unended_behind [] b.input)) now new between behind
-    → CountsMore (line_left (unended_behind [] b.input)) now told more → Keeps behind flushed → Finishes stop b.input old new before flushed more
-Between-finishes left left' stop old now new held before between behind flushed told more b stands counts kept =
-    let last = line_left (unended_behind [] b.input) in
-    Finishes-of stop b.input (ended_lines b.input ++ last) old new before behind flushed more
-    (ap (carried_lines stop old) (script_lines-ended b.input) ∙ carried_lines-append stop old (ended_lines b.input) last b.reached.keeps_on
-    ∙ ap (λ l. ended_lines b.input ++ l) (carried_last stop (after old (ended_lines b.input)) (unended_behind [] b.input)))
-    (StandsAfter-append (ended_lines b.input) last old now new before between behind b.reached.stands stands)
-    (CountsMore-append (ended_lines b.input) last old now none_told told more b.reached.stands.store b.reached.counts counts)
-    kept
-
-pub Between-ends : (End : Type 0) (IsLast : List ℕ → List ℕ → Type 0) (left left' : Option (List ℕ)) (stop : Bool) (old now new : State) (held : Option (List ℕ)) (before between behind flushed : Option (List ℕ)) (told more : RunEnd)
-    → End → (b : Between left left' stop old now held before between told) → StandsAfter (line_left (unended_behind [] b.input)) now new between behind × CountsMore (line_left (unended_behind [] b.input)) now told more
-    → Keeps behind flushed → (input : List ℕ) × Consumes left left' input × Ran (Ok more) End IsLast stop input old new before flushed
-unfolding Ran
-Between-ends End IsLast left left' stop old now new held before between behind flushed told more end b last kept =
-    (b.input, b.consumed, (inl end, Between-finishes left left' stop old now new held before between behind flushed told more b last.0 last.1 kept))
-
-pub Between-ends_flushing : (End : Type 0) (IsLast : List ℕ → List ℕ → Type 0) (left left' : Option (List ℕ)) (stop : Bool) (old now new : State) (held : Option (List ℕ)) (before between behind flushed : Option (List ℕ)) (told more : RunEnd)
-    → End → (b : Between left left' stop old now held before between told) → StandsAfter (line_left (unended_behind [] b.input)) now new between behind × CountsMore (line_left (unended_behind [] b.input)) now told more
-    → Keeps behind flushed → (input : List ℕ) × Consumes left left' input × Ran (Err Write) End IsLast stop input old new before flushed
-unfolding Ran
-Between-ends_flushing End IsLast left left' stop old now new held before between behind flushed told more end b last kept =
-    let f = Between-finishes left left' stop old now new held before between behind flushed told more b last.0 last.1 kept in
-    (b.input, b.consumed, (script_lines b.input, inr (end, refl), inr (record { store = f.store; output = f.output })))
 
 -- ---- a refused line ends the run
 
@@ -276,55 +195,6 @@ Halts-of stop lines done more old mid new before between behind told told' is a 
       ended = subst (λ l. length (full ++ s.line ∷ []) ≤ length l) (sym are) (halted_at full s.rest s.line);
     }
 
-Between-halts : (left mid : Option (List ℕ)) (stop : Bool) (old now new : State) (held : Option (List ℕ)) (before between behind : Option (List ℕ)) (told more : RunEnd) (piece : List ℕ)
-    → (b : Between left mid stop old now held before between told) → Stopped stop (ended_behind (unended_behind [] b.input) piece) now new between behind told more
-    → Halts stop (ended_lines (b.input ++ piece)) old new before behind more
-Between-halts left mid stop old now new held before between behind told more piece b s =
-    Halts-of stop (ended_lines (b.input ++ piece)) (ended_lines b.input) (ended_behind (unended_behind [] b.input) piece) old now new before between behind told more (ended-more b.input piece) b.reached s
-
-pub Between-stops : (End : Type 0) (IsLast : List ℕ → List ℕ → Type 0) (left mid left' : Option (List ℕ)) (stop : Bool) (old now new : State) (held : Option (List ℕ)) (before between behind flushed : Option (List ℕ)) (told more : RunEnd) (piece : List ℕ)
-    → (b : Between left mid stop old now held before between told) → Consumes mid left' piece → Stopped stop (ended_behind (unended_behind [] b.input) piece) now new between behind told more
-    → IsLast b.input piece → Keeps behind flushed → (input : List ℕ) × Consumes left left' input × Ran (Ok more) End IsLast stop input old new before flushed
-unfolding Ran
-Between-stops End IsLast left mid left' stop old now new held before between behind flushed told more piece b consumed s last kept =
-    let h = Between-halts left mid stop old now new held before between behind told more piece b s in
-    let input = b.input ++ piece in
-    let is : carried_lines stop old (script_lines input) ≡ h.carried = ap (carried_lines stop old) (script_lines-ended input) ∙ h.are_carried (line_left (unended_behind [] input)) in (
-      input,
-      Consumes-trans left mid left' b.input piece b.consumed consumed,
-      (
-        inr (record {
-          stops = h.stops;
-          front = b.input;
-          piece = piece;
-          are = refl;
-          is_last = last;
-          keeps_on = b.reached.keeps_on h.stops;
-          refused = subst (λ l. 0 < refused_in old l) (sym is) h.refused;
-          ended = subst (λ l. length l ≤ length (ended_lines input)) (sym is) h.ended;
-        }),
-        Finishes-of stop input h.carried old new before behind flushed more is h.stands h.counts kept,
-      ),
-    )
-
-Between-stops_flushing : (End : Type 0) (IsLast : List ℕ → List ℕ → Type 0) (left mid left' : Option (List ℕ)) (stop : Bool) (old now new : State) (held : Option (List ℕ)) (before between behind flushed : Option (List ℕ)) (told more : RunEnd) (piece : List ℕ)
-    → (b : Between left mid stop old now held before between told) → Consumes mid left' piece → Stopped stop (ended_behind (unended_behind [] b.input) piece) now new between behind told more
-    → Keeps behind flushed → (input : List ℕ) × Consumes left left' input × Ran (Err Write) End IsLast stop input old new before flushed
-unfolding Ran
-Between-stops_flushing End IsLast left mid left' stop old now new held before between behind flushed told more piece b consumed s kept =
-    let h = Between-halts left mid stop old now new held before between behind told more piece b s in
-    let input = b.input ++ piece in
-    let is : carried_lines stop old (ended_lines input) ≡ h.carried = ap (carried_lines stop old) (sym (append-nil (ended_lines input))) ∙ h.are_carried [] in (
-      input,
-      Consumes-trans left mid left' b.input piece b.consumed consumed,
-      (
-        ended_lines input,
-        inl refl,
-        inr (subst (λ l. StandsAfter l old new before flushed) (sym is)
-            (record { store = h.stands.store; output = Appends-kept before behind flushed (output_of old h.carried) h.stands.output kept })),
-      ),
-    )
-
 -- ---- how a piece ended
 
 pub goes_on : (end : PieceEnd) (more : RunEnd) (stop : Bool) (front piece : List ℕ) (old new : State) (held before behind : Option (List ℕ)) (told : RunEnd) → end ≡ GoesOn more
@@ -335,14 +205,129 @@ pub stops_at : (end : PieceEnd) (more : RunEnd) (stop : Bool) (front piece : Lis
     → CarriesPiece (Ok end) stop front piece old new held before behind told → CarriesPiece (Ok (Stops more)) stop front piece old new held before behind told
 stops_at end more stop front piece old new held before behind told is c = subst (λ e. CarriesPiece (Ok e) stop front piece old new held before behind told) is c
 
--- the sink fails at the flush behind a piece
-pub Between-piece_flushing : (End : Type 0) (IsLast : List ℕ → List ℕ → Type 0) (left mid left' : Option (List ℕ)) (stop : Bool) (old now new : State) (held held' : Option (List ℕ)) (before between behind flushed : Option (List ℕ)) (told : RunEnd) (piece : List ℕ) (end : PieceEnd)
-    → (b : Between left mid stop old now held before between told) → Consumes mid left' piece → CarriesPiece (Ok end) stop (unended_behind [] b.input) piece now new held' between behind told
-    → Keeps behind flushed → (input : List ℕ) × Consumes left left' input × Ran (Err Write) End IsLast stop input old new before flushed
-Between-piece_flushing End IsLast left mid left' stop old now new held held' before between behind flushed told piece (GoesOn more) b consumed carried kept =
-    Between-flushing End IsLast left mid left' stop old now new held held' before between behind flushed told more piece b consumed carried kept
-Between-piece_flushing End IsLast left mid left' stop old now new held held' before between behind flushed told piece (Stops more) b consumed carried kept =
-    Between-stops_flushing End IsLast left mid left' stop old now new held before between behind flushed told more piece b consumed carried kept
+-- ---- one piece more is read behind others
+
+module _ (left mid left' : Option (List ℕ)) (stop : Bool) (old now : State) (held before between : Option (List ℕ)) (told : RunEnd) (piece : List ℕ)
+    (b : Between left mid stop old now held before between told) (consumed : Consumes mid left' piece) where
+  -- a fault among its lines
+  pub Between-fault : (fault : RunFault) (End : Type 0) (IsLast : List ℕ → List ℕ → Type 0) (new : State) (behind : Option (List ℕ))
+      → FaultAmong fault stop (ended_behind (unended_behind [] b.input) piece) now new between behind
+      → (input : List ℕ) × Consumes left left' input × Ran (Err fault) End IsLast stop input old new before behind
+  Between-fault fault End IsLast new behind f = (
+    b.input ++ piece,
+    Consumes-trans left mid left' b.input piece b.consumed consumed,
+    FaultAmong-ran fault End IsLast stop (b.input ++ piece) (ended_lines (b.input ++ piece)) (ended_lines b.input) (ended_behind (unended_behind [] b.input) piece) old now new before between behind told
+        (inl refl) (ended-more b.input piece) b.reached f,
+  )
+
+  -- a refused line of it ends the run
+  Between-halts : (new : State) (behind : Option (List ℕ)) (more : RunEnd) → Stopped stop (ended_behind (unended_behind [] b.input) piece) now new between behind told more
+      → Halts stop (ended_lines (b.input ++ piece)) old new before behind more
+  Between-halts new behind more s =
+      Halts-of stop (ended_lines (b.input ++ piece)) (ended_lines b.input) (ended_behind (unended_behind [] b.input) piece) old now new before between behind told more (ended-more b.input piece) b.reached s
+
+  -- what was written is flushed behind it, or the sink fails at the flush
+  module _ (behind flushed : Option (List ℕ)) (kept : Keeps behind flushed) where
+    pub Between-more : (new : State) (held' : Option (List ℕ)) (more : RunEnd) → CarriesPiece (Ok (GoesOn more)) stop (unended_behind [] b.input) piece now new held' between behind told
+        → Between left left' stop old new held' before flushed more
+    Between-more new held' more carried =
+        record {
+          input = b.input ++ piece;
+          consumed = Consumes-trans left mid left' b.input piece b.consumed consumed;
+          is_held = carried.1 ∙ ap kept_of (sym (unended_behind-append [] b.input piece));
+          reached = subst (λ l. Reached stop l old new before flushed none_told more) (sym (ended-more b.input piece))
+              (Reached-kept stop _ old new before behind flushed none_told more
+              (Reached-append stop (ended_lines b.input) (ended_behind (unended_behind [] b.input) piece) old now new before between behind none_told told more b.reached carried.0) kept);
+        }
+
+    pub Between-stops : (End : Type 0) (IsLast : List ℕ → List ℕ → Type 0) (new : State) (more : RunEnd)
+        → Stopped stop (ended_behind (unended_behind [] b.input) piece) now new between behind told more → IsLast b.input piece
+        → (input : List ℕ) × Consumes left left' input × Ran (Ok more) End IsLast stop input old new before flushed
+    unfolding Ran
+    Between-stops End IsLast new more s last =
+        let h = Between-halts new behind more s in
+        let input = b.input ++ piece in
+        let is : carried_lines stop old (script_lines input) ≡ h.carried = ap (carried_lines stop old) (script_lines-ended input) ∙ h.are_carried (line_left (unended_behind [] input)) in (
+          input,
+          Consumes-trans left mid left' b.input piece b.consumed consumed,
+          (
+            inr (record {
+              stops = h.stops;
+              front = b.input;
+              piece = piece;
+              are = refl;
+              is_last = last;
+              keeps_on = b.reached.keeps_on h.stops;
+              refused = subst (λ l. 0 < refused_in old l) (sym is) h.refused;
+              ended = subst (λ l. length l ≤ length (ended_lines input)) (sym is) h.ended;
+            }),
+            Finishes-of stop input h.carried old new before behind flushed more is h.stands h.counts kept,
+          ),
+        )
+
+    pub Between-flushing : (end : PieceEnd) (End : Type 0) (IsLast : List ℕ → List ℕ → Type 0) (new : State) (held' : Option (List ℕ))
+        → CarriesPiece (Ok end) stop (unended_behind [] b.input) piece now new held' between behind told
+        → (input : List ℕ) × Consumes left left' input × Ran (Err Write) End IsLast stop input old new before flushed
+    unfolding Ran
+    Between-flushing (GoesOn more) End IsLast new held' carried =
+        let b' = Between-more new held' more carried in (
+          b'.input,
+          b'.consumed,
+          (
+            ended_lines b'.input,
+            inl refl,
+            inr (subst (λ l. StandsAfter l old new before flushed) (sym (carried_lines-all stop old (ended_lines b'.input) b'.reached.keeps_on)) b'.reached.stands),
+          ),
+        )
+    Between-flushing (Stops more) End IsLast new held' carried =
+        let h = Between-halts new behind more carried in
+        let input = b.input ++ piece in
+        let is : carried_lines stop old (ended_lines input) ≡ h.carried = ap (carried_lines stop old) (sym (append-nil (ended_lines input))) ∙ h.are_carried [] in (
+          input,
+          Consumes-trans left mid left' b.input piece b.consumed consumed,
+          (
+            ended_lines input,
+            inl refl,
+            inr (subst (λ l. StandsAfter l old new before flushed) (sym is)
+                (record { store = h.stands.store; output = Appends-kept before behind flushed (output_of old h.carried) h.stands.output kept })),
+          ),
+        )
+
+-- ---- the last line is carried out at the end of the input
+
+module _ (left left' : Option (List ℕ)) (stop : Bool) (old now : State) (held before between : Option (List ℕ)) (told : RunEnd) (b : Between left left' stop old now held before between told) where
+  -- a fault in it
+  pub Between-fault_last : (fault : RunFault) (End : Type 0) (IsLast : List ℕ → List ℕ → Type 0) (new : State) (behind : Option (List ℕ))
+      → End → FaultAmong fault stop (line_left (unended_behind [] b.input)) now new between behind
+      → (input : List ℕ) × Consumes left left' input × Ran (Err fault) End IsLast stop input old new before behind
+  Between-fault_last fault End IsLast new behind end f = (
+    b.input,
+    b.consumed,
+    FaultAmong-ran fault End IsLast stop b.input (script_lines b.input) (ended_lines b.input) (line_left (unended_behind [] b.input)) old now new before between behind told
+        (inr (end, refl)) (script_lines-ended b.input) b.reached f,
+  )
+
+  -- what was written is flushed behind it, or the sink fails at the flush
+  module _ (new : State) (behind flushed : Option (List ℕ)) (more : RunEnd) (carried : CarriesLast (Ok more) stop (unended_behind [] b.input) now new between behind told) (kept : Keeps behind flushed) where
+    Between-finishes : Finishes stop b.input old new before flushed more
+    Between-finishes =
+        let last = line_left (unended_behind [] b.input) in
+        Finishes-of stop b.input (ended_lines b.input ++ last) old new before behind flushed more
+        (ap (carried_lines stop old) (script_lines-ended b.input) ∙ carried_lines-append stop old (ended_lines b.input) last b.reached.keeps_on
+        ∙ ap (λ l. ended_lines b.input ++ l) (carried_last stop (after old (ended_lines b.input)) (unended_behind [] b.input)))
+        (StandsAfter-append (ended_lines b.input) last old now new before between behind b.reached.stands carried.0)
+        (CountsMore-append (ended_lines b.input) last old now none_told told more b.reached.stands.store b.reached.counts carried.1)
+        kept
+
+    pub Between-ends : (End : Type 0) (IsLast : List ℕ → List ℕ → Type 0) → End → (input : List ℕ) × Consumes left left' input × Ran (Ok more) End IsLast stop input old new before flushed
+    unfolding Ran
+    Between-ends End IsLast end = (b.input, b.consumed, (inl end, Between-finishes))
+
+    pub Between-ends_flushing : (End : Type 0) (IsLast : List ℕ → List ℕ → Type 0) → End → (input : List ℕ) × Consumes left left' input × Ran (Err Write) End IsLast stop input old new before flushed
+    unfolding Ran
+    Between-ends_flushing End IsLast end =
+        let f = Between-finishes in
+        (b.input, b.consumed, (script_lines b.input, inr (end, refl), inr (record { store = f.store; output = f.output })))
 
 -- ---- one piece more
 

@@ -3,7 +3,7 @@ use Rattle.std.proofs.Common.{◌+◌, [], take, sym, ap, ◌∙◌, inr, subst,
 use Rattle.std.proofs.lemmas.Result.{err_from_is_err_and}
 use Rattle.s2ix_cli.specs.Coming.{unended_behind}
 use Rattle.s2ix_cli.specs.Run.{BringsLast, EndWasRead}
-use Rattle.s2ix_cli.proofs.Between.{Between-last, Between-more, Between-piece_flushing, Between-fault, Between-fault_last, Between-ends, Between-reading, Between-ended, Between-ends_flushing, Between-stops, FaultAmong-flushes, FaultAmong-reads, FaultAmong-source, ReadsOn-more, goes_on, stops_at}
+use Rattle.s2ix_cli.proofs.Between.{Between-last, Between-more, Between-flushing, Between-fault, Between-fault_last, Between-ends, Between-reading, Between-ended, Between-ends_flushing, Between-stops, FaultAmong-flushes, FaultAmong-reads, FaultAmong-source, ReadsOn-more, goes_on, stops_at}
 use Rattle.s2ix_cli.proofs.Steps.{plus_none}
 use Rattle.s2ix_cli.proofs.script.run.Goals as goal
 
@@ -28,7 +28,7 @@ returns-in_err-told-clause-ran g c =
       c.in_ok-count.ensures.end c.if-count-eq0.true,
       (c.pieces._turn, omega (arith, c.pieces-test.true), c.pieces.source, c.pieces.invariant.1, subst (λ n. g.S.Source.gives c.pieces.source n c.piece.new.self) c.if-count-eq0.true c.in_ok-count.ensures.call),
     ) in
-    rw (p.1, p.2) (Between-fault_last _ _ _ _ _ _ _ _ _ _ _ _ _ _ end b (c.in_err-told.ensures.carries c.args.options.stop (unended_behind [] b.input) b.is_held))
+    rw (p.1, p.2) (Between-fault_last _ _ _ _ _ _ _ _ _ b _ _ _ _ _ end (c.in_err-told.ensures.carries c.args.options.stop (unended_behind [] b.input) b.is_held))
 
 pub returns-in_err-told-clause-flushed : goal.returns-in_err-told-clause-flushed
 returns-in_err-told-clause-flushed g c =
@@ -61,7 +61,7 @@ returns-in_err-flush-clause-ran g c =
       c.in_ok-count.ensures.end c.if-count-eq0.true,
       (c.pieces._turn, omega (arith, c.pieces-test.true), c.pieces.source, c.pieces.invariant.1, subst (λ n. g.S.Source.gives c.pieces.source n c.piece.new.self) c.if-count-eq0.true c.in_ok-count.ensures.call),
     ) in
-    rw (p.1, p.2) (Between-ends_flushing _ _ _ _ _ _ _ _ _ _ _ _ _ _ _ end b (c.in_ok-told.ensures.carries c.args.options.stop (unended_behind [] b.input) b.is_held) c.in_err-flush.ensures.bytes)
+    rw (p.1, p.2) (Between-ends_flushing _ _ _ _ _ _ _ _ _ b _ _ _ _ (c.in_ok-told.ensures.carries c.args.options.stop (unended_behind [] b.input) b.is_held) c.in_err-flush.ensures.bytes _ _ end)
 
 pub returns-then-count-eq0-clause-ran : goal.returns-then-count-eq0-clause-ran
 returns-then-count-eq0-clause-ran g c =
@@ -70,7 +70,7 @@ returns-then-count-eq0-clause-ran g c =
       c.in_ok-count.ensures.end c.if-count-eq0.true,
       (c.pieces._turn, omega (arith, c.pieces-test.true), c.pieces.source, c.pieces.invariant.1, subst (λ n. g.S.Source.gives c.pieces.source n c.piece.new.self) c.if-count-eq0.true c.in_ok-count.ensures.call),
     ) in
-    Between-ends _ _ _ _ _ _ _ _ _ _ _ _ _ _ _ end b (c.in_ok-told.ensures.carries c.args.options.stop (unended_behind [] b.input) b.is_held) c.in_ok-flush.ensures.bytes
+    Between-ends _ _ _ _ _ _ _ _ _ b _ _ _ _ (c.in_ok-told.ensures.carries c.args.options.stop (unended_behind [] b.input) b.is_held) c.in_ok-flush.ensures.bytes _ _ end
 
 -- ---- a piece
 
@@ -79,14 +79,14 @@ returns-in_err-end-clause-ran g c =
     let exit = c.from_residual-in_err-end in
     let p = err_from_is_err_and exit.result exit.ensures.1 in
     let b = c.pieces.invariant.0 in
-    rw (p.1, p.2) (Between-fault _ _ _ _ _ _ _ _ _ _ _ _ _ _ _ _ b c.in_ok-count.ensures.bytes (c.in_err-end.ensures.carries (unended_behind [] b.input) b.is_held))
+    rw (p.1, p.2) (Between-fault _ _ _ _ _ _ _ _ _ _ _ b c.in_ok-count.ensures.bytes _ _ _ _ _ (c.in_err-end.ensures.carries (unended_behind [] b.input) b.is_held))
 
 pub returns-in_err-flush-2-clause-ran : goal.returns-in_err-flush-2-clause-ran
 returns-in_err-flush-2-clause-ran g c =
     let exit = c.from_residual-in_err-flush-2 in
     let p = err_from_is_err_and exit.result exit.ensures.1 in
     let b = c.pieces.invariant.0 in
-    rw (p.1, p.2) (Between-piece_flushing _ _ _ _ _ _ _ _ _ _ _ _ _ _ _ _ _ _ b c.in_ok-count.ensures.bytes (c.in_ok-end.ensures.carries (unended_behind [] b.input) b.is_held) c.in_err-flush-2.ensures.bytes)
+    rw (p.1, p.2) (Between-flushing _ _ _ _ _ _ _ _ _ _ _ b c.in_ok-count.ensures.bytes _ _ c.in_err-flush-2.ensures.bytes _ _ _ _ _ (c.in_ok-end.ensures.carries (unended_behind [] b.input) b.is_held))
 
 pub returns-in-Stops-clause-ran : goal.returns-in-Stops-clause-ran
 returns-in-Stops-clause-ran g c =
@@ -103,15 +103,15 @@ returns-in-Stops-clause-ran g c =
       gives_last = c.in_ok-count.ensures.call;
       last = c.in_ok-count.ensures.bytes;
     } in
-    Between-stops _ _ _ _ _ _ _ _ _ _ _ _ _ _ _ _ _ b c.in_ok-count.ensures.bytes
-    (stops_at _ _ c.args.options.stop front _ _ _ _ _ _ _ c.in-Stops.is (c.in_ok-end.ensures.carries front b.is_held)) last c.in_ok-flush-2.ensures.bytes
+    Between-stops _ _ _ _ _ _ _ _ _ _ _ b c.in_ok-count.ensures.bytes _ _ c.in_ok-flush-2.ensures.bytes _ _ _ _
+    (stops_at _ _ c.args.options.stop front _ _ _ _ _ _ _ c.in-Stops.is (c.in_ok-end.ensures.carries front b.is_held)) last
 
 pub pieces-preserved : goal.pieces-preserved
 pieces-preserved g c =
     let b = c.pieces.invariant.0 in
     let front = unended_behind [] b.input in (
-      Between-more _ _ _ _ _ _ _ _ _ _ _ _ _ _ _ _ b c.in_ok-count.ensures.bytes
-          (goes_on _ _ c.args.options.stop front _ _ _ _ _ _ _ c.in-GoesOn.is (c.in_ok-end.ensures.carries front b.is_held)) c.in_ok-flush-2.ensures.bytes,
+      Between-more _ _ _ _ _ _ _ _ _ _ _ b c.in_ok-count.ensures.bytes _ _ c.in_ok-flush-2.ensures.bytes _ _ _
+          (goes_on _ _ c.args.options.stop front _ _ _ _ _ _ _ c.in-GoesOn.is (c.in_ok-end.ensures.carries front b.is_held)),
       ReadsOn-more g.S.Source.gives _ _ _ _ _ c.pieces.invariant.1 (let some = c.if-count-eq0.false in omega arith) c.in_ok-count.ensures.call,
       inr (_, c.in_ok-flush-2.ensures.call),
       c.in_ok-count.ensures.faults ∙ plus_none _ ∙ c.pieces.invariant.3,
