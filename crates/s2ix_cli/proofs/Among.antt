@@ -18,7 +18,7 @@ use Rattle.s2ix_cli.specs.Run.{KeepsOn, StandsAfter, line_left}
 use Rattle.s2ix_cli.specs.Script.{MOST, output_of}
 use Rattle.s2ix_cli.proofs.Feeds.{ended_behind-line, unended_behind-line, ended_behind-none, unended_behind-none}
 use Rattle.s2ix_cli.proofs.Holding.{held_more-of}
-use Rattle.s2ix_cli.proofs.Steps.{StandsAfter-none, StandsAfter-append, CountsMore-none, CountsMore-append, Reached-append, counted_one, plus_none}
+use Rattle.s2ix_cli.proofs.Steps.{over, StandsAfter-none, StandsAfter-append, CountsMore-none, CountsMore-append, Reached-append, counted_one, plus_none}
 
 -- a line that is not refused with `stop` lets the run go on
 keeps_one : (stop : Bool) (s : State) (line : List ℕ) → stop && (step_of s line).is_refused ≡ false → KeepsOn stop s (line ∷ [])
@@ -31,7 +31,7 @@ pub record Among (stop : Bool) (front piece rest : List ℕ) (old now : State) (
   pub is_held : held ≡ kept_of come
   pub ended : ended_behind front piece ≡ done ++ ended_behind come rest
   pub unended : unended_behind front piece ≡ unended_behind come rest
-  pub reached : Reached stop done old now before behind start told
+  pub reached : Reached done (over stop old now before behind) start told
 
 -- nothing of the piece is done
 pub Among-none : (stop : Bool) (front piece : List ℕ) (s : State) (held : Option (List ℕ)) (out : Option (List ℕ)) (told : RunEnd) → held ≡ kept_of front
@@ -43,12 +43,12 @@ Among-none stop front piece s held out told is =
       is_held = is;
       ended = refl;
       unended = refl;
-      reached = record { keeps_on = λ e. refl; stands = StandsAfter-none s out; counts = CountsMore-none s told };
+      reached = record { keeps_on = λ e. refl; stands = StandsAfter-none stop s out; counts = CountsMore-none s told };
     }
 
 -- one line
-Takes-stands : (line : List ℕ) (s new : State) (before behind : Option (List ℕ)) (outcome : LineOutcome) → Takes (step_of s line) new before behind outcome → StandsAfter (line ∷ []) s new before behind
-Takes-stands line s new before behind outcome taken = record { store = taken.store; output = subst (Appends before behind) (sym (append-nil (step_of s line).answer)) taken.output }
+Takes-stands : (stop : Bool) (line : List ℕ) (s new : State) (before behind : Option (List ℕ)) (outcome : LineOutcome) → Takes (step_of s line) new before behind outcome → StandsAfter (line ∷ []) (over stop s new before behind)
+Takes-stands stop line s new before behind outcome taken = record { store = taken.store; output = subst (Appends before behind) (sym (append-nil (step_of s line).answer)) taken.output }
 
 with_one : (s : State) (line : List ℕ) (told more : RunEnd) (new : State) (before behind : Option (List ℕ)) (outcome : LineOutcome) → Takes (step_of s line) new before behind outcome
     → more.lines ≡ min (told.lines + (if is_counted outcome then 1 else 0)) MOST → more.refused ≡ min (told.refused + (if is_refused outcome then 1 else 0)) MOST
@@ -66,10 +66,10 @@ pub Among-on : (stop : Bool) (front piece rest end behind_it : List ℕ) (old no
     → stop && is_refused outcome ≡ false → (held' : Option (List ℕ)) → held' ≡ kept_of [] → Among stop front piece behind_it old new held' before behind start more
 Among-on stop front piece rest end behind_it old now new held before mid behind start told more outcome a cut none taken lines refused on held' is =
     let line = a.come ++ end in
-    let one : Reached stop (line ∷ []) now new mid behind told more =
+    let one : Reached (line ∷ []) (over stop now new mid behind) told more =
     record {
       keeps_on = keeps_one stop now line (ap (λ b. stop && b) (sym taken.refused) ∙ on);
-      stands = Takes-stands line now new mid behind outcome taken;
+      stands = Takes-stands stop line now new mid behind outcome taken;
       counts = with_one now line told more new mid behind outcome taken lines refused;
     } in
     record {
@@ -85,7 +85,7 @@ Among-on stop front piece rest end behind_it old now new held before mid behind 
 pub Among-stopped : (stop : Bool) (front piece rest end behind_it : List ℕ) (old now new : State) (held : Option (List ℕ)) (before mid behind : Option (List ℕ)) (start told more : RunEnd) (outcome : LineOutcome)
     → (a : Among stop front piece rest old now held before mid start told) → rest ≡ end ++ 10 ∷ behind_it → HasNoFeed end → Takes (step_of now (a.come ++ end)) new mid behind outcome
     → more.lines ≡ min (told.lines + (if is_counted outcome then 1 else 0)) MOST → more.refused ≡ min (told.refused + (if is_refused outcome then 1 else 0)) MOST
-    → stop ≡ true → is_refused outcome ≡ true → Stopped stop (ended_behind front piece) old new before behind start more
+    → stop ≡ true → is_refused outcome ≡ true → Stopped (ended_behind front piece) (over stop old new before behind) start more
 Among-stopped stop front piece rest end behind_it old now new held before mid behind start told more outcome a cut none taken lines refused stops is =
     let line = a.come ++ end in
     record {
@@ -96,14 +96,14 @@ Among-stopped stop front piece rest end behind_it old now new held before mid be
       keeps_on = a.reached.keeps_on;
       stops = stops;
       refused = ap (λ s. (step_of s line).is_refused) (sym a.reached.stands.store) ∙ sym taken.refused ∙ is;
-      stands = StandsAfter-append a.done (line ∷ []) old now new before mid behind a.reached.stands (Takes-stands line now new mid behind outcome taken);
+      stands = StandsAfter-append stop a.done (line ∷ []) old now new before mid behind a.reached.stands (Takes-stands stop line now new mid behind outcome taken);
       counts = CountsMore-append a.done (line ∷ []) old now start told more a.reached.stands.store a.reached.counts (with_one now line told more new mid behind outcome taken lines refused);
     }
 
 -- a fault ends a line of some
 FaultAmong-line : (fault : RunFault) (stop : Bool) (lines done rest : List (List ℕ)) (line : List ℕ) (old now new : State) (before mid behind : Option (List ℕ)) → lines ≡ done ++ line ∷ rest
-    → KeepsOn stop old done → StandsAfter done old now before mid → StopsAt (step_of now line) now new mid behind fault → IsWantOnlyIf (LineWants now line) fault
-    → FaultAmong fault stop lines old new before behind
+    → KeepsOn stop old done → StandsAfter done (over stop old now before mid) → StopsAt (step_of now line) now new mid behind fault → IsWantOnlyIf (LineWants now line) fault
+    → FaultAmong fault lines (over stop old new before behind)
 FaultAmong-line Read stop lines done rest line old now new before mid behind are on stands at wants = absurd at
 FaultAmong-line ReaderTooLong stop lines done rest line old now new before mid behind are on stands at wants = absurd at
 FaultAmong-line OutOfMemory stop lines done rest line old now new before mid behind are on stands at wants =
@@ -131,7 +131,7 @@ FaultAmong-line Write stop lines done rest line old now new before mid behind ar
 
 pub Among-fault : (fault : RunFault) (stop : Bool) (front piece rest end behind_it : List ℕ) (old now new : State) (held : Option (List ℕ)) (before mid behind : Option (List ℕ)) (start told : RunEnd)
     → (a : Among stop front piece rest old now held before mid start told) → rest ≡ end ++ 10 ∷ behind_it → HasNoFeed end → StopsAt (step_of now (a.come ++ end)) now new mid behind fault
-    → IsWantOnlyIf (LineWants now (a.come ++ end)) fault → FaultAmong fault stop (ended_behind front piece) old new before behind
+    → IsWantOnlyIf (LineWants now (a.come ++ end)) fault → FaultAmong fault (ended_behind front piece) (over stop old new before behind)
 Among-fault fault stop front piece rest end behind_it old now new held before mid behind start told a cut none at wants =
     FaultAmong-line fault stop (ended_behind front piece) a.done (ended_behind [] behind_it) (a.come ++ end) old now new before mid behind
     (a.ended ∙ ap (λ l. a.done ++ l) (ap (ended_behind a.come) cut ∙ ended_behind-line a.come end behind_it none))
@@ -140,9 +140,9 @@ Among-fault fault stop front piece rest end behind_it old now new held before mi
 -- no line ends in the rest, which is held
 pub Among-end : (stop : Bool) (front piece rest : List ℕ) (old now : State) (held held' : Option (List ℕ)) (before behind : Option (List ℕ)) (start told : RunEnd)
     → Among stop front piece rest old now held before behind start told → HasNoFeed rest → held' ≡ held_more held rest
-    → Reached stop (ended_behind front piece) old now before behind start told × (held' ≡ kept_of (unended_behind front piece))
+    → Reached (ended_behind front piece) (over stop old now before behind) start told × (held' ≡ kept_of (unended_behind front piece))
 Among-end stop front piece rest old now held held' before behind start told a none is = (
-  subst (λ l. Reached stop l old now before behind start told) (sym (a.ended ∙ ap (λ l. a.done ++ l) (ended_behind-none a.come rest none) ∙ append-nil a.done)) a.reached,
+  subst (λ l. Reached l (over stop old now before behind) start told) (sym (a.ended ∙ ap (λ l. a.done ++ l) (ended_behind-none a.come rest none) ∙ append-nil a.done)) a.reached,
   is ∙ ap (λ h. held_more h rest) a.is_held ∙ held_more-of a.come rest ∙ ap kept_of (sym (a.unended ∙ unended_behind-none a.come rest none)),
 )
 
@@ -154,7 +154,7 @@ last_is [] some = absurd (some refl)
 last_is (byte ∷ front) some = refl
 
 pub CarriesLast-fault : (fault : RunFault) (stop : Bool) (front : List ℕ) (s new : State) (before behind : Option (List ℕ)) → (Some [] ≡ kept_of front → ⊥)
-    → StopsAt (step_of s (front ++ [])) s new before behind fault → IsWantOnlyIf (LineWants s (front ++ [])) fault → FaultAmong fault stop (line_left front) s new before behind
+    → StopsAt (step_of s (front ++ [])) s new before behind fault → IsWantOnlyIf (LineWants s (front ++ [])) fault → FaultAmong fault (line_left front) (over stop s new before behind)
 CarriesLast-fault fault stop front s new before behind some at wants =
-    FaultAmong-line fault stop (line_left front) [] [] front s s new before before behind (last_is front some) (λ e. refl) (StandsAfter-none s before)
+    FaultAmong-line fault stop (line_left front) [] [] front s s new before before behind (last_is front some) (λ e. refl) (StandsAfter-none stop s before)
     (subst (λ l. StopsAt (step_of s l) s new before behind fault) (append-nil front) at) (subst (λ l. IsWantOnlyIf (LineWants s l) fault) (append-nil front) wants)

@@ -15,10 +15,10 @@ use Rattle.s2ix_cli.specs.declared.coming.PieceEnd.{PieceEnd}
 use Rattle.s2ix_cli.specs.declared.coming.PieceEnd.TheVariants.{GoesOn, Stops}
 use Rattle.s2ix_cli.specs.Coming.{ended_behind, unended_behind, ended_lines, kept_of}
 use Rattle.s2ix_cli.specs.Piece.{CarriesPiece, CarriesLast, CountsMore, Reached, Stopped, FaultAmong}
-use Rattle.s2ix_cli.specs.Run.{AreRead, Flushes, Ran, KeepsOn, StandsAfter, Finishes, line_left}
+use Rattle.s2ix_cli.specs.Run.{SourceEnd, AreRead, Flushes, Ran, KeepsOn, StandsAfter, Finishes, line_left}
 use Rattle.s2ix_cli.specs.Script.{MOST, after, carried_lines, counted_in, output_of, refused_in}
 use Rattle.s2ix_cli.proofs.Feeds.{ended_behind-append, unended_behind-append, script_lines-ended}
-use Rattle.s2ix_cli.proofs.Steps.{after-append, KeepsOn-append, StandsAfter-append, CountsMore-append, Reached-append, carried_lines-append, carried_lines-all, carried_lines-stop, refused_in-append}
+use Rattle.s2ix_cli.proofs.Steps.{over, after-append, KeepsOn-append, StandsAfter-append, CountsMore-append, Reached-append, carried_lines-append, carried_lines-all, carried_lines-stop, refused_in-append}
 
 -- the counts before the first line
 abbrev pub none_told : RunEnd
@@ -36,11 +36,13 @@ either_way false lines = refl
 
 -- lines that are carried out to the end of a run
 Finishes-of : (stop : Bool) (input : List ℕ) (carried : List (List ℕ)) (old new : State) (before behind flushed : Option (List ℕ)) (more : RunEnd) → carried_lines stop old (script_lines input) ≡ carried
-    → StandsAfter carried old new before behind → CountsMore carried old none_told more → Keeps behind flushed → Finishes stop input old new before flushed more
+    → StandsAfter carried (over stop old new before behind) → CountsMore carried old none_told more → Keeps behind flushed → Finishes input (over stop old new before flushed) more
 Finishes-of stop input carried old new before behind flushed more is stands counts kept =
     record {
-      store = stands.store ∙ ap (after old) (sym is);
-      output = subst (λ l. Appends before flushed (output_of old l)) (sym is) (Appends-kept before behind flushed (output_of old carried) stands.output kept);
+      stands = record {
+        store = stands.store ∙ ap (after old) (sym is);
+        output = subst (λ l. Appends before flushed (output_of old l)) (sym is) (Appends-kept before behind flushed (output_of old carried) stands.output kept);
+      };
       lines = counts.lines 0 refl ∙ ap (λ n. min n MOST) (none_more (counted_in old carried)) ∙ ap (λ l. min (counted_in old l) MOST) (sym is);
       refused = counts.refused 0 refl ∙ ap (λ n. min n MOST) (none_more (refused_in old carried)) ∙ ap (λ l. min (refused_in old l) MOST) (sym is);
     }
@@ -50,10 +52,10 @@ pub record Between (left left' : Option (List ℕ)) (stop : Bool) (old now : Sta
   pub input : List ℕ
   pub consumed : Consumes left left' input
   pub is_held : held ≡ kept_of (unended_behind [] input)
-  pub reached : Reached stop (ended_lines input) old now before behind none_told told
+  pub reached : Reached (ended_lines input) (over stop old now before behind) none_told told
 
-Reached-kept : (stop : Bool) (lines : List (List ℕ)) (old new : State) (before between behind : Option (List ℕ)) (told more : RunEnd) → Reached stop lines old new before between told more → Keeps between behind
-    → Reached stop lines old new before behind told more
+Reached-kept : (stop : Bool) (lines : List (List ℕ)) (old new : State) (before between behind : Option (List ℕ)) (told more : RunEnd) → Reached lines (over stop old new before between) told more → Keeps between behind
+    → Reached lines (over stop old new before behind) told more
 Reached-kept stop lines old new before between behind told more r kept =
     record { keeps_on = r.keeps_on; stands = record { store = r.stands.store; output = Appends-kept before between behind (output_of old lines) r.stands.output kept }; counts = r.counts }
 
@@ -74,18 +76,18 @@ Between-last left mid left' stop old now held before behind told piece b consume
 -- ---- a fault among lines is none of the source
 
 pub FaultAmong-flushes : {K : Type 0} (flushes : K → K → Type 0) (s s' : K) (fault : RunFault) (stop : Bool) (lines : List (List ℕ)) (old new : State) (before behind : Option (List ℕ))
-    → FaultAmong fault stop lines old new before behind → Flushes flushes (Err fault) s s'
+    → FaultAmong fault lines (over stop old new before behind) → Flushes flushes (Err fault) s s'
 FaultAmong-flushes flushes s s' Read stop lines old new before behind f = absurd f
 FaultAmong-flushes flushes s s' ReaderTooLong stop lines old new before behind f = absurd f
 FaultAmong-flushes flushes s s' Write stop lines old new before behind f = tt
 FaultAmong-flushes flushes s s' OutOfMemory stop lines old new before behind f = tt
 
 pub FaultAmong-reads : {P : Type 0} (fault : RunFault) (stop : Bool) (lines : List (List ℕ)) (old new : State) (before behind : Option (List ℕ))
-    → FaultAmong fault stop lines old new before behind → fault ≡ ReaderTooLong → P
-FaultAmong-reads fault stop lines old new before behind f e = absurd (subst (λ x. FaultAmong x stop lines old new before behind) e f)
+    → FaultAmong fault lines (over stop old new before behind) → fault ≡ ReaderTooLong → P
+FaultAmong-reads fault stop lines old new before behind f e = absurd (subst (λ x. FaultAmong x lines (over stop old new before behind)) e f)
 
 pub FaultAmong-source : (fault : RunFault) (stop : Bool) (lines : List (List ℕ)) (old new : State) (before behind : Option (List ℕ))
-    → FaultAmong fault stop lines old new before behind → source_faults {A = RunEnd} (Err fault) ≡ 0
+    → FaultAmong fault lines (over stop old new before behind) → source_faults {A = RunEnd} (Err fault) ≡ 0
 FaultAmong-source Read stop lines old new before behind f = absurd f
 FaultAmong-source ReaderTooLong stop lines old new before behind f = absurd f
 FaultAmong-source Write stop lines old new before behind f = refl
@@ -93,16 +95,16 @@ FaultAmong-source OutOfMemory stop lines old new before behind f = refl
 
 -- ---- no more can be read
 
-pub Between-reading : (End : Type 0) (IsLast : List ℕ → List ℕ → Type 0) (left mid left' : Option (List ℕ)) (stop : Bool) (old now : State) (held : Option (List ℕ)) (before behind : Option (List ℕ)) (told : RunEnd)
-    → Between left mid stop old now held before behind told → Keeps mid left' → (input : List ℕ) × Consumes left left' input × Ran (Err Read) End IsLast stop input old now before behind
+pub Between-reading : (end : SourceEnd) (left mid left' : Option (List ℕ)) (stop : Bool) (old now : State) (held : Option (List ℕ)) (before behind : Option (List ℕ)) (told : RunEnd)
+    → Between left mid stop old now held before behind told → Keeps mid left' → (input : List ℕ) × Consumes left left' input × Ran (Err Read) end input (over stop old now before behind)
 unfolding Ran
-Between-reading End IsLast left mid left' stop old now held before behind told b kept =
+Between-reading end left mid left' stop old now held before behind told b kept =
     (b.input, Consumes-kept left mid left' b.input b.consumed kept, record { keeps_on = b.reached.keeps_on; stands = b.reached.stands })
 
-pub Between-ended : (End : Type 0) (IsLast : List ℕ → List ℕ → Type 0) (left mid : Option (List ℕ)) (stop : Bool) (old now : State) (held : Option (List ℕ)) (before behind : Option (List ℕ)) (told : RunEnd)
-    → Between left mid stop old now held before behind told → (input : List ℕ) × Consumes left mid input × Ran (Err ReaderTooLong) End IsLast stop input old now before behind
+pub Between-ended : (end : SourceEnd) (left mid : Option (List ℕ)) (stop : Bool) (old now : State) (held : Option (List ℕ)) (before behind : Option (List ℕ)) (told : RunEnd)
+    → Between left mid stop old now held before behind told → (input : List ℕ) × Consumes left mid input × Ran (Err ReaderTooLong) end input (over stop old now before behind)
 unfolding Ran
-Between-ended End IsLast left mid stop old now held before behind told b = (b.input, b.consumed, record { keeps_on = b.reached.keeps_on; stands = b.reached.stands })
+Between-ended end left mid stop old now held before behind told b = (b.input, b.consumed, record { keeps_on = b.reached.keeps_on; stands = b.reached.stands })
 
 -- ---- a fault among lines
 
@@ -113,14 +115,14 @@ carried_cut stop old mid lines done more done' rest line is are on stands on' =
     ap (carried_lines stop old) (is ∙ ap (λ l. done ++ l) are ∙ sym (append_assoc done done' (line ∷ rest)))
     ∙ carried_lines-append stop old (done ++ done') (line ∷ rest) (KeepsOn-append stop old done done' on (subst (λ s. KeepsOn stop s done') stands on'))
 
-pub FaultAmong-ran : (fault : RunFault) (End : Type 0) (IsLast : List ℕ → List ℕ → Type 0) (stop : Bool) (input : List ℕ) (lines done more : List (List ℕ)) (old mid new : State) (before between behind : Option (List ℕ)) (told : RunEnd)
-    → AreRead End input lines → lines ≡ done ++ more → Reached stop done old mid before between none_told told → FaultAmong fault stop more mid new between behind
-    → Ran (Err fault) End IsLast stop input old new before behind
+pub FaultAmong-ran : (fault : RunFault) (end : SourceEnd) (stop : Bool) (input : List ℕ) (lines done more : List (List ℕ)) (old mid new : State) (before between behind : Option (List ℕ)) (told : RunEnd)
+    → AreRead end input lines → lines ≡ done ++ more → Reached done (over stop old mid before between) none_told told → FaultAmong fault more (over stop mid new between behind)
+    → Ran (Err fault) end input (over stop old new before behind)
 unfolding Ran
-FaultAmong-ran Read End IsLast stop input lines done more old mid new before between behind told read is a f = absurd f
-FaultAmong-ran ReaderTooLong End IsLast stop input lines done more old mid new before between behind told read is a f = absurd f
-FaultAmong-ran Write End IsLast stop input lines done more old mid new before between behind told read is a f =
-    let stands = StandsAfter-append done f.done old mid (after mid f.done) before between f.mid a.stands (record { store = refl; output = f.output }) in (
+FaultAmong-ran Read end stop input lines done more old mid new before between behind told read is a f = absurd f
+FaultAmong-ran ReaderTooLong end stop input lines done more old mid new before between behind told read is a f = absurd f
+FaultAmong-ran Write end stop input lines done more old mid new before between behind told read is a f =
+    let stands = StandsAfter-append stop done f.done old mid (after mid f.done) before between f.mid a.stands (record { store = refl; output = f.output }) in (
       lines,
       read,
       inl (record {
@@ -134,8 +136,8 @@ FaultAmong-ran Write End IsLast stop input lines done more old mid new before be
         cut = subst (λ s. AppendsFront f.mid behind (step_of s f.line).answer) stands.store f.cut;
       }),
     )
-FaultAmong-ran OutOfMemory End IsLast stop input lines done more old mid new before between behind told read is a f =
-    let stands = StandsAfter-append done f.done old mid new before between behind a.stands f.stands in (
+FaultAmong-ran OutOfMemory end stop input lines done more old mid new before between behind told read is a f =
+    let stands = StandsAfter-append stop done f.done old mid new before between behind a.stands f.stands in (
       lines,
       read,
       record {
@@ -161,7 +163,7 @@ carried_last stop s (byte ∷ front) = ap (λ l. (byte ∷ front) ∷ l) (either
 record Halts (stop : Bool) (lines : List (List ℕ)) (old new : State) (before behind : Option (List ℕ)) (more : RunEnd) : Type 0 where
   pub carried : List (List ℕ)
   pub are_carried : (tail : List (List ℕ)) → carried_lines stop old (lines ++ tail) ≡ carried
-  pub stands : StandsAfter carried old new before behind
+  pub stands : StandsAfter carried (over stop old new before behind)
   pub counts : CountsMore carried old none_told more
   pub stops : stop ≡ true
   pub refused : 0 < refused_in old carried
@@ -174,7 +176,7 @@ refused_last : (s : State) (done : List (List ℕ)) (line : List ℕ) → (step_
 refused_last s done line is = omega (arith, refused_in-append s done (line ∷ []), ap (λ b. (if b then 1 else 0) + 0) is)
 
 Halts-of : (stop : Bool) (lines done more : List (List ℕ)) (old mid new : State) (before between behind : Option (List ℕ)) (told told' : RunEnd) → lines ≡ done ++ more
-    → Reached stop done old mid before between none_told told → Stopped stop more mid new between behind told told' → Halts stop lines old new before behind told'
+    → Reached done (over stop old mid before between) none_told told → Stopped more (over stop mid new between behind) told told' → Halts stop lines old new before behind told'
 Halts-of stop lines done more old mid new before between behind told told' is a s =
     let full = done ++ s.done in
     let same : done ++ (s.done ++ s.line ∷ []) ≡ full ++ s.line ∷ [] = sym (append_assoc done s.done (s.line ∷ [])) in
@@ -188,7 +190,7 @@ Halts-of stop lines done more old mid new before between behind told told' is a 
           ap (λ l. carried_lines stop old (l ++ tail)) are ∙ ap (carried_lines stop old) (append_assoc full (s.line ∷ s.rest) tail)
           ∙ carried_lines-append stop old full (s.line ∷ (s.rest ++ tail)) on
           ∙ ap (λ l. full ++ l) (carried_lines-stop stop (after old full) s.line (s.rest ++ tail) s.stops refused);
-      stands = subst (λ l. StandsAfter l old new before behind) same (StandsAfter-append done (s.done ++ s.line ∷ []) old mid new before between behind a.stands s.stands);
+      stands = subst (λ l. StandsAfter l (over stop old new before behind)) same (StandsAfter-append stop done (s.done ++ s.line ∷ []) old mid new before between behind a.stands s.stands);
       counts = subst (λ l. CountsMore l old none_told told') same (CountsMore-append done (s.done ++ s.line ∷ []) old mid none_told told told' a.stands.store a.counts s.counts);
       stops = s.stops;
       refused = refused_last old full s.line refused;
@@ -198,53 +200,53 @@ Halts-of stop lines done more old mid new before between behind told told' is a 
 -- ---- how a piece ended
 
 pub goes_on : (end : PieceEnd) (more : RunEnd) (stop : Bool) (front piece : List ℕ) (old new : State) (held before behind : Option (List ℕ)) (told : RunEnd) → end ≡ GoesOn more
-    → CarriesPiece (Ok end) stop front piece old new held before behind told → CarriesPiece (Ok (GoesOn more)) stop front piece old new held before behind told
-goes_on end more stop front piece old new held before behind told is c = subst (λ e. CarriesPiece (Ok e) stop front piece old new held before behind told) is c
+    → CarriesPiece (Ok end) front piece (over stop old new before behind) held told → CarriesPiece (Ok (GoesOn more)) front piece (over stop old new before behind) held told
+goes_on end more stop front piece old new held before behind told is c = subst (λ e. CarriesPiece (Ok e) front piece (over stop old new before behind) held told) is c
 
 pub stops_at : (end : PieceEnd) (more : RunEnd) (stop : Bool) (front piece : List ℕ) (old new : State) (held before behind : Option (List ℕ)) (told : RunEnd) → end ≡ Stops more
-    → CarriesPiece (Ok end) stop front piece old new held before behind told → CarriesPiece (Ok (Stops more)) stop front piece old new held before behind told
-stops_at end more stop front piece old new held before behind told is c = subst (λ e. CarriesPiece (Ok e) stop front piece old new held before behind told) is c
+    → CarriesPiece (Ok end) front piece (over stop old new before behind) held told → CarriesPiece (Ok (Stops more)) front piece (over stop old new before behind) held told
+stops_at end more stop front piece old new held before behind told is c = subst (λ e. CarriesPiece (Ok e) front piece (over stop old new before behind) held told) is c
 
 -- ---- one piece more is read behind others
 
 module _ (left mid left' : Option (List ℕ)) (stop : Bool) (old now : State) (held before between : Option (List ℕ)) (told : RunEnd) (piece : List ℕ)
     (b : Between left mid stop old now held before between told) (consumed : Consumes mid left' piece) where
   -- a fault among its lines
-  pub Between-fault : (fault : RunFault) (End : Type 0) (IsLast : List ℕ → List ℕ → Type 0) (new : State) (behind : Option (List ℕ))
-      → FaultAmong fault stop (ended_behind (unended_behind [] b.input) piece) now new between behind
-      → (input : List ℕ) × Consumes left left' input × Ran (Err fault) End IsLast stop input old new before behind
-  Between-fault fault End IsLast new behind f = (
+  pub Between-fault : (fault : RunFault) (end : SourceEnd) (new : State) (behind : Option (List ℕ))
+      → FaultAmong fault (ended_behind (unended_behind [] b.input) piece) (over stop now new between behind)
+      → (input : List ℕ) × Consumes left left' input × Ran (Err fault) end input (over stop old new before behind)
+  Between-fault fault end new behind f = (
     b.input ++ piece,
     Consumes-trans left mid left' b.input piece b.consumed consumed,
-    FaultAmong-ran fault End IsLast stop (b.input ++ piece) (ended_lines (b.input ++ piece)) (ended_lines b.input) (ended_behind (unended_behind [] b.input) piece) old now new before between behind told
+    FaultAmong-ran fault end stop (b.input ++ piece) (ended_lines (b.input ++ piece)) (ended_lines b.input) (ended_behind (unended_behind [] b.input) piece) old now new before between behind told
         (inl refl) (ended-more b.input piece) b.reached f,
   )
 
   -- a refused line of it ends the run
-  Between-halts : (new : State) (behind : Option (List ℕ)) (more : RunEnd) → Stopped stop (ended_behind (unended_behind [] b.input) piece) now new between behind told more
+  Between-halts : (new : State) (behind : Option (List ℕ)) (more : RunEnd) → Stopped (ended_behind (unended_behind [] b.input) piece) (over stop now new between behind) told more
       → Halts stop (ended_lines (b.input ++ piece)) old new before behind more
   Between-halts new behind more s =
       Halts-of stop (ended_lines (b.input ++ piece)) (ended_lines b.input) (ended_behind (unended_behind [] b.input) piece) old now new before between behind told more (ended-more b.input piece) b.reached s
 
   -- what was written is flushed behind it, or the sink fails at the flush
   module _ (behind flushed : Option (List ℕ)) (kept : Keeps behind flushed) where
-    pub Between-more : (new : State) (held' : Option (List ℕ)) (more : RunEnd) → CarriesPiece (Ok (GoesOn more)) stop (unended_behind [] b.input) piece now new held' between behind told
+    pub Between-more : (new : State) (held' : Option (List ℕ)) (more : RunEnd) → CarriesPiece (Ok (GoesOn more)) (unended_behind [] b.input) piece (over stop now new between behind) held' told
         → Between left left' stop old new held' before flushed more
     Between-more new held' more carried =
         record {
           input = b.input ++ piece;
           consumed = Consumes-trans left mid left' b.input piece b.consumed consumed;
           is_held = carried.1 ∙ ap kept_of (sym (unended_behind-append [] b.input piece));
-          reached = subst (λ l. Reached stop l old new before flushed none_told more) (sym (ended-more b.input piece))
+          reached = subst (λ l. Reached l (over stop old new before flushed) none_told more) (sym (ended-more b.input piece))
               (Reached-kept stop _ old new before behind flushed none_told more
               (Reached-append stop (ended_lines b.input) (ended_behind (unended_behind [] b.input) piece) old now new before between behind none_told told more b.reached carried.0) kept);
         }
 
-    pub Between-stops : (End : Type 0) (IsLast : List ℕ → List ℕ → Type 0) (new : State) (more : RunEnd)
-        → Stopped stop (ended_behind (unended_behind [] b.input) piece) now new between behind told more → IsLast b.input piece
-        → (input : List ℕ) × Consumes left left' input × Ran (Ok more) End IsLast stop input old new before flushed
+    pub Between-stops : (end : SourceEnd) (new : State) (more : RunEnd)
+        → Stopped (ended_behind (unended_behind [] b.input) piece) (over stop now new between behind) told more → end.IsLast b.input piece
+        → (input : List ℕ) × Consumes left left' input × Ran (Ok more) end input (over stop old new before flushed)
     unfolding Ran
-    Between-stops End IsLast new more s last =
+    Between-stops end new more s last =
         let h = Between-halts new behind more s in
         let input = b.input ++ piece in
         let is : carried_lines stop old (script_lines input) ≡ h.carried = ap (carried_lines stop old) (script_lines-ended input) ∙ h.are_carried (line_left (unended_behind [] input)) in (
@@ -265,21 +267,21 @@ module _ (left mid left' : Option (List ℕ)) (stop : Bool) (old now : State) (h
           ),
         )
 
-    pub Between-flushing : (end : PieceEnd) (End : Type 0) (IsLast : List ℕ → List ℕ → Type 0) (new : State) (held' : Option (List ℕ))
-        → CarriesPiece (Ok end) stop (unended_behind [] b.input) piece now new held' between behind told
-        → (input : List ℕ) × Consumes left left' input × Ran (Err Write) End IsLast stop input old new before flushed
+    pub Between-flushing : (piece_end : PieceEnd) (end : SourceEnd) (new : State) (held' : Option (List ℕ))
+        → CarriesPiece (Ok piece_end) (unended_behind [] b.input) piece (over stop now new between behind) held' told
+        → (input : List ℕ) × Consumes left left' input × Ran (Err Write) end input (over stop old new before flushed)
     unfolding Ran
-    Between-flushing (GoesOn more) End IsLast new held' carried =
+    Between-flushing (GoesOn more) end new held' carried =
         let b' = Between-more new held' more carried in (
           b'.input,
           b'.consumed,
           (
             ended_lines b'.input,
             inl refl,
-            inr (subst (λ l. StandsAfter l old new before flushed) (sym (carried_lines-all stop old (ended_lines b'.input) b'.reached.keeps_on)) b'.reached.stands),
+            inr (subst (λ l. StandsAfter l (over stop old new before flushed)) (sym (carried_lines-all stop old (ended_lines b'.input) b'.reached.keeps_on)) b'.reached.stands),
           ),
         )
-    Between-flushing (Stops more) End IsLast new held' carried =
+    Between-flushing (Stops more) end new held' carried =
         let h = Between-halts new behind more carried in
         let input = b.input ++ piece in
         let is : carried_lines stop old (ended_lines input) ≡ h.carried = ap (carried_lines stop old) (sym (append-nil (ended_lines input))) ∙ h.are_carried [] in (
@@ -288,7 +290,7 @@ module _ (left mid left' : Option (List ℕ)) (stop : Bool) (old now : State) (h
           (
             ended_lines input,
             inl refl,
-            inr (subst (λ l. StandsAfter l old new before flushed) (sym is)
+            inr (subst (λ l. StandsAfter l (over stop old new before flushed)) (sym is)
                 (record { store = h.stands.store; output = Appends-kept before behind flushed (output_of old h.carried) h.stands.output kept })),
           ),
         )
@@ -297,37 +299,37 @@ module _ (left mid left' : Option (List ℕ)) (stop : Bool) (old now : State) (h
 
 module _ (left left' : Option (List ℕ)) (stop : Bool) (old now : State) (held before between : Option (List ℕ)) (told : RunEnd) (b : Between left left' stop old now held before between told) where
   -- a fault in it
-  pub Between-fault_last : (fault : RunFault) (End : Type 0) (IsLast : List ℕ → List ℕ → Type 0) (new : State) (behind : Option (List ℕ))
-      → End → FaultAmong fault stop (line_left (unended_behind [] b.input)) now new between behind
-      → (input : List ℕ) × Consumes left left' input × Ran (Err fault) End IsLast stop input old new before behind
-  Between-fault_last fault End IsLast new behind end f = (
+  pub Between-fault_last : (fault : RunFault) (end : SourceEnd) (new : State) (behind : Option (List ℕ))
+      → end.IsRead → FaultAmong fault (line_left (unended_behind [] b.input)) (over stop now new between behind)
+      → (input : List ℕ) × Consumes left left' input × Ran (Err fault) end input (over stop old new before behind)
+  Between-fault_last fault end new behind read f = (
     b.input,
     b.consumed,
-    FaultAmong-ran fault End IsLast stop b.input (script_lines b.input) (ended_lines b.input) (line_left (unended_behind [] b.input)) old now new before between behind told
-        (inr (end, refl)) (script_lines-ended b.input) b.reached f,
+    FaultAmong-ran fault end stop b.input (script_lines b.input) (ended_lines b.input) (line_left (unended_behind [] b.input)) old now new before between behind told
+        (inr (read, refl)) (script_lines-ended b.input) b.reached f,
   )
 
   -- what was written is flushed behind it, or the sink fails at the flush
-  module _ (new : State) (behind flushed : Option (List ℕ)) (more : RunEnd) (carried : CarriesLast (Ok more) stop (unended_behind [] b.input) now new between behind told) (kept : Keeps behind flushed) where
-    Between-finishes : Finishes stop b.input old new before flushed more
+  module _ (new : State) (behind flushed : Option (List ℕ)) (more : RunEnd) (carried : CarriesLast (Ok more) (unended_behind [] b.input) (over stop now new between behind) told) (kept : Keeps behind flushed) where
+    Between-finishes : Finishes b.input (over stop old new before flushed) more
     Between-finishes =
         let last = line_left (unended_behind [] b.input) in
         Finishes-of stop b.input (ended_lines b.input ++ last) old new before behind flushed more
         (ap (carried_lines stop old) (script_lines-ended b.input) ∙ carried_lines-append stop old (ended_lines b.input) last b.reached.keeps_on
         ∙ ap (λ l. ended_lines b.input ++ l) (carried_last stop (after old (ended_lines b.input)) (unended_behind [] b.input)))
-        (StandsAfter-append (ended_lines b.input) last old now new before between behind b.reached.stands carried.0)
+        (StandsAfter-append stop (ended_lines b.input) last old now new before between behind b.reached.stands carried.0)
         (CountsMore-append (ended_lines b.input) last old now none_told told more b.reached.stands.store b.reached.counts carried.1)
         kept
 
-    pub Between-ends : (End : Type 0) (IsLast : List ℕ → List ℕ → Type 0) → End → (input : List ℕ) × Consumes left left' input × Ran (Ok more) End IsLast stop input old new before flushed
+    pub Between-ends : (end : SourceEnd) → end.IsRead → (input : List ℕ) × Consumes left left' input × Ran (Ok more) end input (over stop old new before flushed)
     unfolding Ran
-    Between-ends End IsLast end = (b.input, b.consumed, (inl end, Between-finishes))
+    Between-ends end read = (b.input, b.consumed, (inl read, Between-finishes))
 
-    pub Between-ends_flushing : (End : Type 0) (IsLast : List ℕ → List ℕ → Type 0) → End → (input : List ℕ) × Consumes left left' input × Ran (Err Write) End IsLast stop input old new before flushed
+    pub Between-ends_flushing : (end : SourceEnd) → end.IsRead → (input : List ℕ) × Consumes left left' input × Ran (Err Write) end input (over stop old new before flushed)
     unfolding Ran
-    Between-ends_flushing End IsLast end =
+    Between-ends_flushing end read =
         let f = Between-finishes in
-        (b.input, b.consumed, (script_lines b.input, inr (end, refl), inr (record { store = f.store; output = f.output })))
+        (b.input, b.consumed, (script_lines b.input, inr (read, refl), inr f.stands))
 
 -- ---- one piece more
 

@@ -7,7 +7,11 @@ use Rattle.s2ix_step.specs.Step.{step_of}
 use Rattle.s2ix_cli.specs.declared.run_end.RunEnd.{RunEnd}
 use Rattle.s2ix_cli.specs.Piece.{CountsMore, Reached}
 use Rattle.s2ix_cli.specs.Run.{KeepsOn, StandsAfter}
-use Rattle.s2ix_cli.specs.Script.{MOST, after, carried_lines, counted_in, output_of, refused_in}
+use Rattle.s2ix_cli.specs.Script.{MOST, Run, after, carried_lines, counted_in, output_of, refused_in}
+
+-- what lines are carried out over
+abbrev pub over : Bool → State → State → Option (List ℕ) → Option (List ℕ) → Run
+over stop old new before behind = record { stop = stop; store_before = old; store_after = new; taken_before = before; taken_after = behind }
 
 pub after-append : (s : State) (done more : List (List ℕ)) → after s (done ++ more) ≡ after (after s done) more
 after-append s [] more = refl
@@ -56,12 +60,12 @@ KeepsOn-append stop s done more on on' = λ e. (let a = on e in let b = on' e in
 
 -- ---- where the store stands
 
-pub StandsAfter-none : (s : State) (out : Option (List ℕ)) → StandsAfter [] s s out out
-StandsAfter-none s out = record { store = refl; output = Appends-nil out }
+pub StandsAfter-none : (stop : Bool) (s : State) (out : Option (List ℕ)) → StandsAfter [] (over stop s s out out)
+StandsAfter-none stop s out = record { store = refl; output = Appends-nil out }
 
-pub StandsAfter-append : (done more : List (List ℕ)) (old mid new : State) (before between behind : Option (List ℕ))
-    → StandsAfter done old mid before between → StandsAfter more mid new between behind → StandsAfter (done ++ more) old new before behind
-StandsAfter-append done more old mid new before between behind a b =
+pub StandsAfter-append : (stop : Bool) (done more : List (List ℕ)) (old mid new : State) (before between behind : Option (List ℕ))
+    → StandsAfter done (over stop old mid before between) → StandsAfter more (over stop mid new between behind) → StandsAfter (done ++ more) (over stop old new before behind)
+StandsAfter-append stop done more old mid new before between behind a b =
     record {
       store = b.store ∙ ap (λ s. after s more) a.store ∙ sym (after-append old done more);
       output = subst (Appends before behind) (ap (λ s. output_of old done ++ output_of s more) a.store ∙ sym (output_of-append old done more)) (Appends-trans before between behind _ _ a.output b.output);
@@ -97,10 +101,10 @@ counted_one n told more one e e' = omega arith
 -- ---- lines and then more of which none ends the run
 
 pub Reached-append : (stop : Bool) (done more : List (List ℕ)) (old mid new : State) (before between behind : Option (List ℕ)) (told told' told'' : RunEnd)
-    → Reached stop done old mid before between told told' → Reached stop more mid new between behind told' told'' → Reached stop (done ++ more) old new before behind told told''
+    → Reached done (over stop old mid before between) told told' → Reached more (over stop mid new between behind) told' told'' → Reached (done ++ more) (over stop old new before behind) told told''
 Reached-append stop done more old mid new before between behind told told' told'' a b =
     record {
       keeps_on = KeepsOn-append stop old done more a.keeps_on (subst (λ s. KeepsOn stop s more) a.stands.store b.keeps_on);
-      stands = StandsAfter-append done more old mid new before between behind a.stands b.stands;
+      stands = StandsAfter-append stop done more old mid new before between behind a.stands b.stands;
       counts = CountsMore-append done more old mid told told' told'' a.stands.store a.counts b.counts;
     }

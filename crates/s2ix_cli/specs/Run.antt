@@ -10,7 +10,7 @@ use Rattle.s2ix_script.specs.Lines.{script_lines}
 use Rattle.s2ix_step.specs.Step.{step_of}
 use Rattle.s2ix_cli.specs.declared.run_end.RunEnd.{RunEnd}
 use Rattle.s2ix_cli.specs.Coming.{ended_lines}
-use Rattle.s2ix_cli.specs.Script.{MOST, after, carried_lines, counted_in, output_of, refused_in}
+use Rattle.s2ix_cli.specs.Script.{MOST, Run, after, carried_lines, counted_in, output_of, refused_in}
 use Rattle.s2ix_cli.specs.Wants.{WantsAmong}
 
 -- the end of the input was read, by at most `turns` pieces
@@ -28,9 +28,19 @@ pub record BringsLast {S : Type 0} (left : S → Option (List ℕ)) (gives : S �
   pub gives_last : gives mid count new
   pub last : Consumes (left mid) (left new) piece
 
+-- how a source stands at the end of a run: whether its end was read, and whether a piece was the last one that was read, behind what was
+-- read before it
+pub record SourceEnd : Type 1 where
+  pub IsRead : Type 0
+  pub IsLast : List ℕ → List ℕ → Type 0
+
+-- that of a source of which at most `turns` pieces were read
+abbrev pub source_end : {S : Type 0} → (S → Option (List ℕ)) → (S → ℕ → S → Type 0) → ℕ → S → S → SourceEnd
+source_end left gives turns old new = record { IsRead = EndWasRead left gives turns old new; IsLast = BringsLast left gives turns old new }
+
 -- the lines of an input that a run can carry out: those that are ended, and where the end of the input was read its last line too
-abbrev pub AreRead : Type 0 → List ℕ → List (List ℕ) → Type 0
-AreRead End input lines = (lines ≡ ended_lines input) ⊎ (End × (lines ≡ script_lines input))
+abbrev pub AreRead : SourceEnd → List ℕ → List (List ℕ) → Type 0
+AreRead end input lines = (lines ≡ ended_lines input) ⊎ (end.IsRead × (lines ≡ script_lines input))
 
 -- the last line of a script, where no line feed ends it: if it has a byte
 abbrev pub line_left : List ℕ → List (List ℕ)
@@ -42,56 +52,55 @@ abbrev pub KeepsOn : Bool → State → List (List ℕ) → Type 0
 KeepsOn stop old lines = stop ≡ true → refused_in old lines ≡ 0
 
 -- the store stands after lines, and their whole output went out
-pub record StandsAfter (lines : List (List ℕ)) (old new : State) (before behind : Option (List ℕ)) : Type 0 where
-  pub store : new ≡ after old lines
-  pub output : Appends before behind (output_of old lines)
+pub record StandsAfter (lines : List (List ℕ)) (run : Run) : Type 0 where
+  pub store : run.store_after ≡ after run.store_before lines
+  pub output : Appends run.taken_before run.taken_after (output_of run.store_before lines)
+
+-- the lines of a script that a run carries out
+abbrev pub carried : Run → List (List ℕ) → List (List ℕ)
+carried run lines = carried_lines run.stop run.store_before lines
 
 -- a run carried the lines of `input` out and wrote exactly their output
-pub record Finishes (stop : Bool) (input : List ℕ) (old new : State) (before behind : Option (List ℕ)) (told : RunEnd) : Type 0 where
-  pub store : new ≡ after old (carried_lines stop old (script_lines input))
-  pub output : Appends before behind (output_of old (carried_lines stop old (script_lines input)))
-  pub lines : told.lines ≡ min (counted_in old (carried_lines stop old (script_lines input))) MOST
-  pub refused : told.refused ≡ min (refused_in old (carried_lines stop old (script_lines input))) MOST
+pub record Finishes (input : List ℕ) (run : Run) (told : RunEnd) : Type 0 where
+  pub stands : StandsAfter (carried run (script_lines input)) run
+  pub lines : told.lines ≡ min (counted_in run.store_before (carried run (script_lines input))) MOST
+  pub refused : told.refused ≡ min (refused_in run.store_before (carried run (script_lines input))) MOST
 
--- with `stop` a run was ended by a refused line, whose line feed the last piece brought; `IsLast` says which piece was the last one, and
--- what was read before it
-pub record IsStopped (IsLast : List ℕ → List ℕ → Type 0) (stop : Bool) (input : List ℕ) (old : State) : Type 0 where
-  pub stops : stop ≡ true
+-- with `stop` a run was ended by a refused line, whose line feed the last piece brought
+pub record IsStopped (end : SourceEnd) (input : List ℕ) (run : Run) : Type 0 where
+  pub stops : run.stop ≡ true
   pub front : List ℕ
   pub piece : List ℕ
   pub are : input ≡ front ++ piece
-  pub is_last : IsLast front piece
-  pub keeps_on : refused_in old (ended_lines front) ≡ 0
-  pub refused : 0 < refused_in old (carried_lines stop old (script_lines input))
-  pub ended : length (carried_lines stop old (script_lines input)) ≤ length (ended_lines input)
+  pub is_last : end.IsLast front piece
+  pub keeps_on : refused_in run.store_before (ended_lines front) ≡ 0
+  pub refused : 0 < refused_in run.store_before (carried run (script_lines input))
+  pub ended : length (carried run (script_lines input)) ≤ length (ended_lines input)
 
 -- no more could be read: the store stands after all lines whose ends were read, and their whole output went out
-pub record StopsReading (stop : Bool) (input : List ℕ) (old new : State) (before behind : Option (List ℕ)) : Type 0 where
-  pub keeps_on : KeepsOn stop old (ended_lines input)
-  pub stands : StandsAfter (ended_lines input) old new before behind
+pub record StopsReading (input : List ℕ) (run : Run) : Type 0 where
+  pub keeps_on : KeepsOn run.stop run.store_before (ended_lines input)
+  pub stands : StandsAfter (ended_lines input) run
 
 -- the sink failed in the answer of a line: the store stands after that line, and what went out is the output of those before it and a
 -- front of its answer
-pub record StopsWriting (stop : Bool) (lines : List (List ℕ)) (old new : State) (before behind : Option (List ℕ)) : Type 0 where
+pub record StopsWriting (lines : List (List ℕ)) (run : Run) : Type 0 where
   pub done : List (List ℕ)
   pub line : List ℕ
   pub rest : List (List ℕ)
-  pub are_carried : carried_lines stop old lines ≡ done ++ line ∷ rest
-  pub store : new ≡ (step_of (after old done) line).after
+  pub are_carried : carried run lines ≡ done ++ line ∷ rest
+  pub store : run.store_after ≡ (step_of (after run.store_before done) line).after
   pub mid : Option (List ℕ)
-  pub output : Appends before mid (output_of old done)
-  pub cut : AppendsFront mid behind (step_of (after old done) line).answer
+  pub output : Appends run.taken_before mid (output_of run.store_before done)
+  pub cut : AppendsFront mid run.taken_after (step_of (after run.store_before done) line).answer
 
--- a run that ended so, over an input of which it read this, comes to this; `End` says that its end was read, `IsLast` which piece was
--- the last one that was read
-unfoldable pub Ran : Result RunEnd RunFault → Type 0 → (List ℕ → List ℕ → Type 0) → Bool → List ℕ → State → State → Option (List ℕ) → Option (List ℕ) → Type 0
-Ran (Ok told) End IsLast stop input old new before behind = (End ⊎ IsStopped IsLast stop input old) × Finishes stop input old new before behind told
-Ran (Err Read) End IsLast stop input old new before behind = StopsReading stop input old new before behind
-Ran (Err ReaderTooLong) End IsLast stop input old new before behind = StopsReading stop input old new before behind
-Ran (Err Write) End IsLast stop input old new before behind =
-    (lines : List (List ℕ)) × AreRead End input lines
-    × (StopsWriting stop lines old new before behind ⊎ StandsAfter (carried_lines stop old lines) old new before behind)
-Ran (Err OutOfMemory) End IsLast stop input old new before behind = (lines : List (List ℕ)) × AreRead End input lines × WantsAmong stop lines old new before behind
+-- a run that ended so, where its source ended so and it read this input, comes to this
+unfoldable pub Ran : Result RunEnd RunFault → SourceEnd → List ℕ → Run → Type 0
+Ran (Ok told) end input run = (end.IsRead ⊎ IsStopped end input run) × Finishes input run told
+Ran (Err Read) end input run = StopsReading input run
+Ran (Err ReaderTooLong) end input run = StopsReading input run
+Ran (Err Write) end input run = (lines : List (List ℕ)) × AreRead end input lines × (StopsWriting lines run ⊎ StandsAfter (carried run lines) run)
+Ran (Err OutOfMemory) end input run = (lines : List (List ℕ)) × AreRead end input lines × WantsAmong lines run
 
 -- a flush was the last thing that the sink was asked for
 abbrev pub IsFlushed : {K : Type 0} → (K → K → Type 0) → K → Type 0

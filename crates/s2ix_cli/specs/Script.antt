@@ -1,7 +1,16 @@
 -- What a script comes to: its lines one after the other.
-use Rattle.std.specs.Prelude.{ℕ, ◌+◌, ◌-◌, ◌^◌, ◌&&◌, if◌then◌else◌, Bool, List, [], ◌∷◌, ◌++◌}
+use Rattle.std.specs.Prelude.{ℕ, ◌+◌, ◌-◌, ◌^◌, ◌&&◌, if◌then◌else◌, Bool, Option, List, [], ◌∷◌, ◌++◌}
 use Rattle.s2ix_edit.specs.State.{State}
 use Rattle.s2ix_step.specs.Step.{step_of}
+
+-- what lines are carried out over: whether the first that is refused is the last one, the store before and after, and what the sink had
+-- taken before and after
+pub record Run : Type 0 where
+  pub stop : Bool
+  pub store_before : State
+  pub store_after : State
+  pub taken_before : Option (List ℕ)
+  pub taken_after : Option (List ℕ)
 
 -- the store after lines
 abbrev pub after : State → List (List ℕ) → State

@@ -38,7 +38,8 @@ pub(crate) fn carry_piece<K: Sink>(
 ) -> Result<PieceEnd, RunFault>
     requires { CanCount (K.fault_count sink.old) }
     ensures carries { (front : List ℕ) → held.old ≡ kept_of front
-        → CarriesPiece result stop front piece.now store.old store.new held.new (K.taken sink.old) (K.taken sink.new) told }
+        → CarriesPiece result front piece.now
+        (record { stop = stop; store_before = store.old; store_after = store.new; taken_before = K.taken sink.old; taken_after = K.taken sink.new }) held.new told }
     ensures faults { K.fault_count sink.new ≡ K.fault_count sink.old + sink_faults result }
 {
     let mut told = told;
@@ -65,7 +66,8 @@ pub(crate) fn carry_last<K: Sink>(
 ) -> Result<RunEnd, RunFault>
     requires { CanCount (K.fault_count sink.old) }
     ensures carries { (stop : Bool) (front : List ℕ) → held.old ≡ kept_of front
-        → CarriesLast result stop front store.old store.new (K.taken sink.old) (K.taken sink.new) told }
+        → CarriesLast result front
+        (record { stop = stop; store_before = store.old; store_after = store.new; taken_before = K.taken sink.old; taken_after = K.taken sink.new }) told }
     ensures faults { K.fault_count sink.new ≡ K.fault_count sink.old + sink_faults result }
 {
     if held.is_empty() {

@@ -2,7 +2,7 @@
 ghost use Rattle.std.specs.Prelude.{◌≡◌, ◌+◌, ℕ, List, IfErr};
 ghost use Rattle.std.specs.Io.KnownBytes.{Consumes};
 ghost use Rattle.s2ix_io.specs.Faults.{CanCount, source_faults, sink_faults, IsPatient};
-ghost use Rattle.s2ix_cli.specs.Run.{BringsLast, EndWasRead, Ran, Flushes};
+ghost use Rattle.s2ix_cli.specs.Run.{Ran, Flushes, source_end};
 
 use crate::coming::{PieceEnd, carry_last, carry_piece};
 use crate::held_line::HeldLine;
@@ -36,9 +36,8 @@ pub fn run<S: Source, K: Sink>(
     requires source_counts { CanCount (S.fault_count source.old) }
     requires sink_counts { CanCount (K.fault_count sink.old) }
     ensures ran { (input : List ℕ) × Consumes (S.left source.old) (S.left source.new) input
-        × Ran result (EndWasRead S.left S.gives options.turns source.old source.new)
-        (BringsLast S.left S.gives options.turns source.old source.new) options.stop input
-        store.old store.new (K.taken sink.old) (K.taken sink.new) }
+        × Ran result (source_end S.left S.gives options.turns source.old source.new) input
+        (record { stop = options.stop; store_before = store.old; store_after = store.new; taken_before = K.taken sink.old; taken_after = K.taken sink.new }) }
     ensures flushed { Flushes K.flushes result sink.old sink.new }
     ensures too_long { IfErr result (λ fault. IsPatient S.gives fault options.turns source.old source.new) }
     ensures source_faults { S.fault_count source.new ≡ S.fault_count source.old + source_faults result }

@@ -12,10 +12,10 @@ use Rattle.s2ix_cli.proofs.script.run.Goals as goal
 pub returns-in_err-count-clause-ran : goal.returns-in_err-count-clause-ran
 returns-in_err-count-clause-ran g c =
     let p = err_from_is_err_and c.from_residual.result c.from_residual.ensures.1 in
-    rw (p.1, p.2) (Between-reading _ _ _ _ _ _ _ _ _ _ _ _ c.pieces.invariant.0 c.in_err-count.ensures.bytes)
+    rw (p.1, p.2) (Between-reading _ _ _ _ _ _ _ _ _ _ _ c.pieces.invariant.0 c.in_err-count.ensures.bytes)
 
 pub returns-clause-ran : goal.returns-clause-ran
-returns-clause-ran g c = Between-ended _ _ _ _ _ _ _ _ _ _ _ c.pieces.invariant.0
+returns-clause-ran g c = Between-ended _ _ _ _ _ _ _ _ _ _ c.pieces.invariant.0
 
 -- ---- the end of the input
 
@@ -28,7 +28,7 @@ returns-in_err-told-clause-ran g c =
       c.in_ok-count.ensures.end c.if-count-eq0.true,
       (c.pieces._turn, omega (arith, c.pieces-test.true), c.pieces.source, c.pieces.invariant.1, subst (λ n. g.S.Source.gives c.pieces.source n c.piece.new.self) c.if-count-eq0.true c.in_ok-count.ensures.call),
     ) in
-    rw (p.1, p.2) (Between-fault_last _ _ _ _ _ _ _ _ _ b _ _ _ _ _ end (c.in_err-told.ensures.carries c.args.options.stop (unended_behind [] b.input) b.is_held))
+    rw (p.1, p.2) (Between-fault_last _ _ _ _ _ _ _ _ _ b _ _ _ _ end (c.in_err-told.ensures.carries c.args.options.stop (unended_behind [] b.input) b.is_held))
 
 pub returns-in_err-told-clause-flushed : goal.returns-in_err-told-clause-flushed
 returns-in_err-told-clause-flushed g c =
@@ -61,7 +61,7 @@ returns-in_err-flush-clause-ran g c =
       c.in_ok-count.ensures.end c.if-count-eq0.true,
       (c.pieces._turn, omega (arith, c.pieces-test.true), c.pieces.source, c.pieces.invariant.1, subst (λ n. g.S.Source.gives c.pieces.source n c.piece.new.self) c.if-count-eq0.true c.in_ok-count.ensures.call),
     ) in
-    rw (p.1, p.2) (Between-ends_flushing _ _ _ _ _ _ _ _ _ b _ _ _ _ (c.in_ok-told.ensures.carries c.args.options.stop (unended_behind [] b.input) b.is_held) c.in_err-flush.ensures.bytes _ _ end)
+    rw (p.1, p.2) (Between-ends_flushing _ _ _ _ _ _ _ _ _ b _ _ _ _ (c.in_ok-told.ensures.carries c.args.options.stop (unended_behind [] b.input) b.is_held) c.in_err-flush.ensures.bytes _ end)
 
 pub returns-then-count-eq0-clause-ran : goal.returns-then-count-eq0-clause-ran
 returns-then-count-eq0-clause-ran g c =
@@ -70,7 +70,7 @@ returns-then-count-eq0-clause-ran g c =
       c.in_ok-count.ensures.end c.if-count-eq0.true,
       (c.pieces._turn, omega (arith, c.pieces-test.true), c.pieces.source, c.pieces.invariant.1, subst (λ n. g.S.Source.gives c.pieces.source n c.piece.new.self) c.if-count-eq0.true c.in_ok-count.ensures.call),
     ) in
-    Between-ends _ _ _ _ _ _ _ _ _ b _ _ _ _ (c.in_ok-told.ensures.carries c.args.options.stop (unended_behind [] b.input) b.is_held) c.in_ok-flush.ensures.bytes _ _ end
+    Between-ends _ _ _ _ _ _ _ _ _ b _ _ _ _ (c.in_ok-told.ensures.carries c.args.options.stop (unended_behind [] b.input) b.is_held) c.in_ok-flush.ensures.bytes _ end
 
 -- ---- a piece
 
@@ -79,14 +79,14 @@ returns-in_err-end-clause-ran g c =
     let exit = c.from_residual-in_err-end in
     let p = err_from_is_err_and exit.result exit.ensures.1 in
     let b = c.pieces.invariant.0 in
-    rw (p.1, p.2) (Between-fault _ _ _ _ _ _ _ _ _ _ _ b c.in_ok-count.ensures.bytes _ _ _ _ _ (c.in_err-end.ensures.carries (unended_behind [] b.input) b.is_held))
+    rw (p.1, p.2) (Between-fault _ _ _ _ _ _ _ _ _ _ _ b c.in_ok-count.ensures.bytes _ _ _ _ (c.in_err-end.ensures.carries (unended_behind [] b.input) b.is_held))
 
 pub returns-in_err-flush-2-clause-ran : goal.returns-in_err-flush-2-clause-ran
 returns-in_err-flush-2-clause-ran g c =
     let exit = c.from_residual-in_err-flush-2 in
     let p = err_from_is_err_and exit.result exit.ensures.1 in
     let b = c.pieces.invariant.0 in
-    rw (p.1, p.2) (Between-flushing _ _ _ _ _ _ _ _ _ _ _ b c.in_ok-count.ensures.bytes _ _ c.in_err-flush-2.ensures.bytes _ _ _ _ _ (c.in_ok-end.ensures.carries (unended_behind [] b.input) b.is_held))
+    rw (p.1, p.2) (Between-flushing _ _ _ _ _ _ _ _ _ _ _ b c.in_ok-count.ensures.bytes _ _ c.in_err-flush-2.ensures.bytes _ _ _ _ (c.in_ok-end.ensures.carries (unended_behind [] b.input) b.is_held))
 
 pub returns-in-Stops-clause-ran : goal.returns-in-Stops-clause-ran
 returns-in-Stops-clause-ran g c =
@@ -103,7 +103,7 @@ returns-in-Stops-clause-ran g c =
       gives_last = c.in_ok-count.ensures.call;
       last = c.in_ok-count.ensures.bytes;
     } in
-    Between-stops _ _ _ _ _ _ _ _ _ _ _ b c.in_ok-count.ensures.bytes _ _ c.in_ok-flush-2.ensures.bytes _ _ _ _
+    Between-stops _ _ _ _ _ _ _ _ _ _ _ b c.in_ok-count.ensures.bytes _ _ c.in_ok-flush-2.ensures.bytes _ _ _
     (stops_at _ _ c.args.options.stop front _ _ _ _ _ _ _ c.in-Stops.is (c.in_ok-end.ensures.carries front b.is_held)) last
 
 pub pieces-preserved : goal.pieces-preserved
