@@ -16,7 +16,7 @@ use Rattle.s2ix_cli.specs.declared.coming.PieceEnd.TheVariants.{GoesOn, Stops}
 use Rattle.s2ix_cli.specs.Coming.{ended_behind, unended_behind, ended_lines, kept_of}
 use Rattle.s2ix_cli.specs.Piece.{CarriesPiece, CarriesLast, CountsMore, Reached, Stopped, FaultAmong}
 use Rattle.s2ix_cli.specs.Run.{SourceEnd, AreRead, Flushes, Ran, KeepsOn, StandsAfter, Finishes, line_left}
-use Rattle.s2ix_cli.specs.Script.{MOST, after, carried_lines, counted_in, output_of, refused_in}
+use Rattle.s2ix_cli.specs.Script.{MOST, Run, after, carried_lines, counted_in, output_of, refused_in}
 use Rattle.s2ix_cli.proofs.Feeds.{ended_behind-append, unended_behind-append, script_lines-ended}
 use Rattle.s2ix_cli.proofs.Steps.{over, after-append, KeepsOn-append, StandsAfter-append, CountsMore-append, Reached-append, carried_lines-append, carried_lines-all, carried_lines-stop, refused_in-append}
 
@@ -48,11 +48,11 @@ Finishes-of stop input carried old new before behind flushed more is stands coun
     }
 
 -- this was read; the lines that end in it are carried out, and what is left behind them is held
-pub record Between (left left' : Option (List ℕ)) (stop : Bool) (old now : State) (held : Option (List ℕ)) (before behind : Option (List ℕ)) (told : RunEnd) : Type 0 where
+pub record Between (left left' held : Option (List ℕ)) (run : Run) (told : RunEnd) : Type 0 where
   pub input : List ℕ
   pub consumed : Consumes left left' input
   pub is_held : held ≡ kept_of (unended_behind [] input)
-  pub reached : Reached (ended_lines input) (over stop old now before behind) none_told told
+  pub reached : Reached (ended_lines input) run none_told told
 
 Reached-kept : (stop : Bool) (lines : List (List ℕ)) (old new : State) (before between behind : Option (List ℕ)) (told more : RunEnd) → Reached lines (over stop old new before between) told more → Keeps between behind
     → Reached lines (over stop old new before behind) told more
@@ -63,9 +63,9 @@ ended-more : (input piece : List ℕ) → ended_lines (input ++ piece) ≡ ended
 ended-more input piece = ended_behind-append [] input piece
 
 -- the piece at the end has no byte
-pub Between-last : (left mid left' : Option (List ℕ)) (stop : Bool) (old now : State) (held : Option (List ℕ)) (before behind : Option (List ℕ)) (told : RunEnd) (piece : List ℕ)
-    → Between left mid stop old now held before behind told → Consumes mid left' piece → piece ≡ [] → Between left left' stop old now held before behind told
-Between-last left mid left' stop old now held before behind told piece b consumed none =
+pub Between-last : (left mid left' held : Option (List ℕ)) (run : Run) (told : RunEnd) (piece : List ℕ)
+    → Between left mid held run told → Consumes mid left' piece → piece ≡ [] → Between left left' held run told
+Between-last left mid left' held run told piece b consumed none =
     record {
       input = b.input;
       consumed = subst (Consumes left left') (ap (λ l. b.input ++ l) none ∙ append-nil b.input) (Consumes-trans left mid left' b.input piece b.consumed consumed);
@@ -75,36 +75,36 @@ Between-last left mid left' stop old now held before behind told piece b consume
 
 -- ---- a fault among lines is none of the source
 
-pub FaultAmong-flushes : {K : Type 0} (flushes : K → K → Type 0) (s s' : K) (fault : RunFault) (stop : Bool) (lines : List (List ℕ)) (old new : State) (before behind : Option (List ℕ))
-    → FaultAmong fault lines (over stop old new before behind) → Flushes flushes (Err fault) s s'
-FaultAmong-flushes flushes s s' Read stop lines old new before behind f = absurd f
-FaultAmong-flushes flushes s s' ReaderTooLong stop lines old new before behind f = absurd f
-FaultAmong-flushes flushes s s' Write stop lines old new before behind f = tt
-FaultAmong-flushes flushes s s' OutOfMemory stop lines old new before behind f = tt
+pub FaultAmong-flushes : {K : Type 0} (flushes : K → K → Type 0) (s s' : K) (fault : RunFault) (lines : List (List ℕ)) (run : Run)
+    → FaultAmong fault lines run → Flushes flushes (Err fault) s s'
+FaultAmong-flushes flushes s s' Read lines run f = absurd f
+FaultAmong-flushes flushes s s' ReaderTooLong lines run f = absurd f
+FaultAmong-flushes flushes s s' Write lines run f = tt
+FaultAmong-flushes flushes s s' OutOfMemory lines run f = tt
 
-pub FaultAmong-reads : {P : Type 0} (fault : RunFault) (stop : Bool) (lines : List (List ℕ)) (old new : State) (before behind : Option (List ℕ))
-    → FaultAmong fault lines (over stop old new before behind) → fault ≡ ReaderTooLong → P
-FaultAmong-reads fault stop lines old new before behind f e = absurd (subst (λ x. FaultAmong x lines (over stop old new before behind)) e f)
+pub FaultAmong-reads : {P : Type 0} (fault : RunFault) (lines : List (List ℕ)) (run : Run)
+    → FaultAmong fault lines run → fault ≡ ReaderTooLong → P
+FaultAmong-reads fault lines run f e = absurd (subst (λ x. FaultAmong x lines run) e f)
 
-pub FaultAmong-source : (fault : RunFault) (stop : Bool) (lines : List (List ℕ)) (old new : State) (before behind : Option (List ℕ))
-    → FaultAmong fault lines (over stop old new before behind) → source_faults {A = RunEnd} (Err fault) ≡ 0
-FaultAmong-source Read stop lines old new before behind f = absurd f
-FaultAmong-source ReaderTooLong stop lines old new before behind f = absurd f
-FaultAmong-source Write stop lines old new before behind f = refl
-FaultAmong-source OutOfMemory stop lines old new before behind f = refl
+pub FaultAmong-source : (fault : RunFault) (lines : List (List ℕ)) (run : Run)
+    → FaultAmong fault lines run → source_faults {A = RunEnd} (Err fault) ≡ 0
+FaultAmong-source Read lines run f = absurd f
+FaultAmong-source ReaderTooLong lines run f = absurd f
+FaultAmong-source Write lines run f = refl
+FaultAmong-source OutOfMemory lines run f = refl
 
 -- ---- no more can be read
 
-pub Between-reading : (end : SourceEnd) (left mid left' : Option (List ℕ)) (stop : Bool) (old now : State) (held : Option (List ℕ)) (before behind : Option (List ℕ)) (told : RunEnd)
-    → Between left mid stop old now held before behind told → Keeps mid left' → (input : List ℕ) × Consumes left left' input × Ran (Err Read) end input (over stop old now before behind)
+pub Between-reading : (end : SourceEnd) (left mid left' held : Option (List ℕ)) (run : Run) (told : RunEnd)
+    → Between left mid held run told → Keeps mid left' → (input : List ℕ) × Consumes left left' input × Ran (Err Read) end input run
 unfolding Ran
-Between-reading end left mid left' stop old now held before behind told b kept =
+Between-reading end left mid left' held run told b kept =
     (b.input, Consumes-kept left mid left' b.input b.consumed kept, record { keeps_on = b.reached.keeps_on; stands = b.reached.stands })
 
-pub Between-ended : (end : SourceEnd) (left mid : Option (List ℕ)) (stop : Bool) (old now : State) (held : Option (List ℕ)) (before behind : Option (List ℕ)) (told : RunEnd)
-    → Between left mid stop old now held before behind told → (input : List ℕ) × Consumes left mid input × Ran (Err ReaderTooLong) end input (over stop old now before behind)
+pub Between-ended : (end : SourceEnd) (left mid held : Option (List ℕ)) (run : Run) (told : RunEnd)
+    → Between left mid held run told → (input : List ℕ) × Consumes left mid input × Ran (Err ReaderTooLong) end input run
 unfolding Ran
-Between-ended end left mid stop old now held before behind told b = (b.input, b.consumed, record { keeps_on = b.reached.keeps_on; stands = b.reached.stands })
+Between-ended end left mid held run told b = (b.input, b.consumed, record { keeps_on = b.reached.keeps_on; stands = b.reached.stands })
 
 -- ---- a fault among lines
 
@@ -199,18 +199,18 @@ Halts-of stop lines done more old mid new before between behind told told' is a 
 
 -- ---- how a piece ended
 
-pub goes_on : (end : PieceEnd) (more : RunEnd) (stop : Bool) (front piece : List ℕ) (old new : State) (held before behind : Option (List ℕ)) (told : RunEnd) → end ≡ GoesOn more
-    → CarriesPiece (Ok end) front piece (over stop old new before behind) held told → CarriesPiece (Ok (GoesOn more)) front piece (over stop old new before behind) held told
-goes_on end more stop front piece old new held before behind told is c = subst (λ e. CarriesPiece (Ok e) front piece (over stop old new before behind) held told) is c
+pub goes_on : (end : PieceEnd) (more : RunEnd) (front piece : List ℕ) (run : Run) (held : Option (List ℕ)) (told : RunEnd) → end ≡ GoesOn more
+    → CarriesPiece (Ok end) front piece run held told → CarriesPiece (Ok (GoesOn more)) front piece run held told
+goes_on end more front piece run held told is c = subst (λ e. CarriesPiece (Ok e) front piece run held told) is c
 
-pub stops_at : (end : PieceEnd) (more : RunEnd) (stop : Bool) (front piece : List ℕ) (old new : State) (held before behind : Option (List ℕ)) (told : RunEnd) → end ≡ Stops more
-    → CarriesPiece (Ok end) front piece (over stop old new before behind) held told → CarriesPiece (Ok (Stops more)) front piece (over stop old new before behind) held told
-stops_at end more stop front piece old new held before behind told is c = subst (λ e. CarriesPiece (Ok e) front piece (over stop old new before behind) held told) is c
+pub stops_at : (end : PieceEnd) (more : RunEnd) (front piece : List ℕ) (run : Run) (held : Option (List ℕ)) (told : RunEnd) → end ≡ Stops more
+    → CarriesPiece (Ok end) front piece run held told → CarriesPiece (Ok (Stops more)) front piece run held told
+stops_at end more front piece run held told is c = subst (λ e. CarriesPiece (Ok e) front piece run held told) is c
 
 -- ---- one piece more is read behind others
 
 module _ (left mid left' : Option (List ℕ)) (stop : Bool) (old now : State) (held before between : Option (List ℕ)) (told : RunEnd) (piece : List ℕ)
-    (b : Between left mid stop old now held before between told) (consumed : Consumes mid left' piece) where
+    (b : Between left mid held (over stop old now before between) told) (consumed : Consumes mid left' piece) where
   -- a fault among its lines
   pub Between-fault : (fault : RunFault) (end : SourceEnd) (new : State) (behind : Option (List ℕ))
       → FaultAmong fault (ended_behind (unended_behind [] b.input) piece) (over stop now new between behind)
@@ -231,7 +231,7 @@ module _ (left mid left' : Option (List ℕ)) (stop : Bool) (old now : State) (h
   -- what was written is flushed behind it, or the sink fails at the flush
   module _ (behind flushed : Option (List ℕ)) (kept : Keeps behind flushed) where
     pub Between-more : (new : State) (held' : Option (List ℕ)) (more : RunEnd) → CarriesPiece (Ok (GoesOn more)) (unended_behind [] b.input) piece (over stop now new between behind) held' told
-        → Between left left' stop old new held' before flushed more
+        → Between left left' held' (over stop old new before flushed) more
     Between-more new held' more carried =
         record {
           input = b.input ++ piece;
@@ -297,7 +297,7 @@ module _ (left mid left' : Option (List ℕ)) (stop : Bool) (old now : State) (h
 
 -- ---- the last line is carried out at the end of the input
 
-module _ (left left' : Option (List ℕ)) (stop : Bool) (old now : State) (held before between : Option (List ℕ)) (told : RunEnd) (b : Between left left' stop old now held before between told) where
+module _ (left left' : Option (List ℕ)) (stop : Bool) (old now : State) (held before between : Option (List ℕ)) (told : RunEnd) (b : Between left left' held (over stop old now before between) told) where
   -- a fault in it
   pub Between-fault_last : (fault : RunFault) (end : SourceEnd) (new : State) (behind : Option (List ℕ))
       → end.IsRead → FaultAmong fault (line_left (unended_behind [] b.input)) (over stop now new between behind)
@@ -331,7 +331,7 @@ module _ (left left' : Option (List ℕ)) (stop : Bool) (old now : State) (held 
         let f = Between-finishes in
         (b.input, b.consumed, (script_lines b.input, inr (read, refl), inr f.stands))
 
--- ---- one piece more
+-- ---- a step more of the source
 
 pub ReadsOn-more : {S : Type 0} (gives : S → ℕ → S → Type 0) (pieces n : ℕ) (old mid new : S) → ReadsOn gives pieces old mid → 0 < n → gives mid n new → ReadsOn gives (pieces + 1) old new
 ReadsOn-more gives pieces n old mid new on some call =

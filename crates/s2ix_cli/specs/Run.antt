@@ -28,13 +28,13 @@ pub record BringsLast {S : Type 0} (left : S → Option (List ℕ)) (gives : S �
   pub gives_last : gives mid count new
   pub last : Consumes (left mid) (left new) piece
 
--- how a source stands at the end of a run: whether its end was read, and whether a piece was the last one that was read, behind what was
--- read before it
+-- how the source of a run ended: `IsRead` says that its end was read, and `IsLast front piece` that `piece` was the last one that was read,
+-- behind `front`
 pub record SourceEnd : Type 1 where
   pub IsRead : Type 0
   pub IsLast : List ℕ → List ℕ → Type 0
 
--- that of a source of which at most `turns` pieces were read
+-- how a source ended that led from `old` to `new`, where at most `turns` pieces may be read
 abbrev pub source_end : {S : Type 0} → (S → Option (List ℕ)) → (S → ℕ → S → Type 0) → ℕ → S → S → SourceEnd
 source_end left gives turns old new = record { IsRead = EndWasRead left gives turns old new; IsLast = BringsLast left gives turns old new }
 
@@ -94,7 +94,7 @@ pub record StopsWriting (lines : List (List ℕ)) (run : Run) : Type 0 where
   pub output : Appends run.taken_before mid (output_of run.store_before done)
   pub cut : AppendsFront mid run.taken_after (step_of (after run.store_before done) line).answer
 
--- a run that ended so, where its source ended so and it read this input, comes to this
+-- what a run comes to by its result, over how its source ended, the input that it read, and its store and sink
 unfoldable pub Ran : Result RunEnd RunFault → SourceEnd → List ℕ → Run → Type 0
 Ran (Ok told) end input run = (end.IsRead ⊎ IsStopped end input run) × Finishes input run told
 Ran (Err Read) end input run = StopsReading input run
