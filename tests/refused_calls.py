@@ -17,16 +17,16 @@ TOLD = re.compile(r"refused: (OutOfMemory|(Edit|Undo|Redo)\(OutOfMemory\)|Write)
 # A crate, a test of what a call needs, the same test with the call, and how many growths the call asks for: a changed face takes two, for its
 # pairs and for their count of sharers.
 COUNTED = [
-    ("s2ix_refused_bag_tests", "growths::nothing", "growths::an_empty_bag", 0),
-    ("s2ix_refused_bag_tests", "growths::a_bag", "growths::a_copied_bag", 0),
-    ("s2ix_refused_bag_tests", "growths::a_bag_and_a_change", "growths::a_changed_bag", 2),
-    ("s2ix_refused_store_tests", "store_tests::refused_regions", "store_tests::refused_regions_behind_a_forget", 0),
+    ("s2ix_bag_tests", "refused_growths::nothing", "refused_growths::an_empty_bag", 0),
+    ("s2ix_bag_tests", "refused_growths::a_bag", "refused_growths::a_copied_bag", 0),
+    ("s2ix_bag_tests", "refused_growths::a_bag_and_a_change", "refused_growths::a_changed_bag", 2),
+    ("s2ix_edit_history_tests", "refused_tests::refused_regions", "refused_tests::refused_regions_behind_a_forget", 0),
 ]
 
 
 def crates():
-    """The crates of these tests, which are named for it."""
-    return sorted(glob.glob(f"{TOP}/crates/*_refused_*tests"))
+    """The crates that have such tests, in modules that are named for it."""
+    return sorted({os.path.dirname(os.path.dirname(path)) for path in glob.glob(f"{TOP}/crates/*/src/refused*_tests.rt")})
 
 
 def program_of(crate):
@@ -35,8 +35,8 @@ def program_of(crate):
 
 
 def names(crate):
-    """Each test of a crate by its module and name, from the sources."""
-    for path in sorted(glob.glob(f"{crate}/src/*_tests.rt")):
+    """Each such test of a crate by its module and name, from the sources."""
+    for path in sorted(glob.glob(f"{crate}/src/refused*_tests.rt")):
         with open(path, encoding="utf-8") as file:
             found = re.findall(r"#\[test\]\nfn (\w+)\(", file.read())
         yield from (f"{os.path.basename(path)[:-3]}::{name}" for name in found)

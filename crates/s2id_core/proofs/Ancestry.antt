@@ -23,7 +23,8 @@ one_digit : (d : ℕ) → base_four (d ∷ []) ≡ d
 unfolding base_four
 one_digit d = omega arith
 
-pub place_with : (f : ℕ) (ds : List ℕ) (d : ℕ) → place_of (record { face = f; digits = ds ++ d ∷ [] }) ≡ 4 * place_of (record { face = f; digits = ds }) + d
+pub place_with : (f : ℕ) (ds : List ℕ) (d : ℕ)
+    → place_of (record { face = f; digits = ds ++ d ∷ [] }) ≡ 4 * place_of (record { face = f; digits = ds }) + d
 place_with f ds d =
     place_of-more f ds (d ∷ []) ∙ ap (λ x. place_of (record { face = f; digits = ds }) * 4 + x) (one_digit d) ∙ turn (place_of (record { face = f; digits = ds })) d
   where
@@ -48,7 +49,8 @@ IsPath-child d p h finer small = record {
 
 -- ---- what the code makes of places
 
-pub ancestor_by_place : (r n k : ℕ) → IsCellNumber r → IsCellNumber n → k ≤ length (path_at n).digits → length (path_at r).digits ≡ k → place_of (path_at r) ≡ place_of (ancestor k (path_at n)) → path_at r ≡ ancestor k (path_at n)
+pub ancestor_by_place : (r n k : ℕ) → IsCellNumber r → IsCellNumber n → k ≤ length (path_at n).digits → length (path_at r).digits ≡ k
+    → place_of (path_at r) ≡ place_of (ancestor k (path_at n)) → path_at r ≡ ancestor k (path_at n)
 ancestor_by_place r n k cell_r cell_n h level place =
     let p = path_at n in
     same_place (path_at r) (ancestor k p) (path_of_cell r cell_r) (IsPath-ancestor k p (path_of_cell n cell_n) h) (level ∙ sym (length-ancestor k p h)) place
@@ -56,7 +58,9 @@ ancestor_by_place r n k cell_r cell_n h level place =
 pub own_place : (n k m : ℕ) → k ≡ length (path_at n).digits → m ≡ place_of (ancestor k (path_at n)) → m ≡ place_of (path_at n)
 own_place n k m level e = e ∙ ap (λ j. place_of (ancestor j (path_at n))) level ∙ ap place_of (ancestor_itself (path_at n))
 
-pub child_by_place : (r n d : ℕ) → IsCellNumber r → IsCellNumber n → length (path_at n).digits < 30 → d < 4 → length (path_at r).digits ≡ length (path_at n).digits + 1 → place_of (path_at r) ≡ 4 * place_of (path_at n) + d → path_at r ≡ child d (path_at n)
+pub child_by_place : (r n d : ℕ) → IsCellNumber r → IsCellNumber n → length (path_at n).digits < 30 → d < 4
+    → length (path_at r).digits ≡ length (path_at n).digits + 1 → place_of (path_at r) ≡ 4 * place_of (path_at n) + d
+    → path_at r ≡ child d (path_at n)
 child_by_place r n d cell_r cell_n finer small level place =
     let p = path_at n in
     same_place (path_at r) (child d p) (path_of_cell r cell_r) (IsPath-child d p (path_of_cell n cell_n) finer small) (level ∙ sym (length-child d p)) (place ∙ sym (place_of-child d p))
@@ -66,7 +70,8 @@ child_place_below k m d h small = let step : 4 ^ (k + 1) ≡ 4 * 4 ^ k = ap (λ 
 
 -- ---- a digit, and the child position
 
-pub digit_by_place : (k : ℕ) (p : Path) → 0 < k → k ≤ length p.digits → IsPath p → bit_and (place_of (ancestor k p)) 3 ≡ get_or p.digits (k - 1) 0
+pub digit_by_place : (k : ℕ) (p : Path) → 0 < k → k ≤ length p.digits → IsPath p
+    → bit_and (place_of (ancestor k p)) 3 ≡ get_or p.digits (k - 1) 0
 unfolding ancestor
 digit_by_place k p pos h path =
     let j = k - 1 in
@@ -116,7 +121,8 @@ differ_below a b fits =
       apart = λ j h. disagree a b long.0 j long.3 (omega arith);
     }
 
-place_above : (p : Path) (j k : ℕ) → IsPath p → j ≤ k → k ≤ length p.digits → place_of (ancestor j p) ≡ place_of (ancestor k p) / 4 ^ (k - j)
+place_above : (p : Path) (j k : ℕ) → IsPath p → j ≤ k → k ≤ length p.digits
+    → place_of (ancestor j p) ≡ place_of (ancestor k p) / 4 ^ (k - j)
 place_above p j k path h g =
     let level = length-ancestor k p g in
     ap place_of (sym (ancestor-ancestor j k p h)) ∙ place_of-ancestor j (ancestor k p) (IsPath-ancestor k p path g) (omega arith) ∙ ap (λ x. place_of (ancestor k p) / 4 ^ (x - j)) level
@@ -126,14 +132,17 @@ unfolding ancestor place_of base_four
 place_of_face p = omega arith
 
 -- the levels differ by no more than the code takes off
-pub enough_levels : (p q : Path) (k h : ℕ) → IsPath p → IsPath q → k ≤ length p.digits → k ≤ length q.digits → p.face ≡ q.face → DifferBelow (place_of (ancestor k p)) (place_of (ancestor k q)) h → h ≤ k
+pub enough_levels : (p q : Path) (k h : ℕ) → IsPath p → IsPath q → k ≤ length p.digits → k ≤ length q.digits → p.face ≡ q.face
+    → DifferBelow (place_of (ancestor k p)) (place_of (ancestor k q)) h → h ≤ k
 enough_levels p q k h hp hq at_p at_q face d =
     let top_less : place_of (ancestor k p) / 4 ^ (k - 0) ≡ place_of (ancestor k q) / 4 ^ (k - 0) = sym (place_above p 0 k hp (omega arith) at_p) ∙ place_of_face p ∙ face ∙ sym (place_of_face q) ∙ place_above q 0 k hq (omega arith) at_q in
     let none : k - 0 ≡ k = omega arith in
     let top = subst (λ x. place_of (ancestor k p) / 4 ^ x ≡ place_of (ancestor k q) / 4 ^ x) none top_less in
     elim (cases_lt k h) [ inl lt ↦ absurd (d.apart k lt top) | inr le ↦ le ]
 
-pub common_by_places : (p q : Path) (k h : ℕ) → IsPath p → IsPath q → k ≤ length p.digits → k ≤ length q.digits → ((j : ℕ) → j ≤ length p.digits → j ≤ length q.digits → j ≤ k) → h ≤ k → DifferBelow (place_of (ancestor k p)) (place_of (ancestor k q)) h → IsCommonLevel p q (k - h)
+pub common_by_places : (p q : Path) (k h : ℕ) → IsPath p → IsPath q → k ≤ length p.digits → k ≤ length q.digits
+    → ((j : ℕ) → j ≤ length p.digits → j ≤ length q.digits → j ≤ k) → h ≤ k
+    → DifferBelow (place_of (ancestor k p)) (place_of (ancestor k q)) h → IsCommonLevel p q (k - h)
 common_by_places p q k h hp hq at_p at_q most enough d =
     let j = k - h in
     let at_j : j ≤ length p.digits = omega arith in
@@ -155,7 +164,8 @@ pub place_of_face_alone : (f : ℕ) → f ≡ place_of (record { face = f; digit
 unfolding place_of base_four
 place_of_face_alone f = omega arith
 
-pub digits_fit : (f place d i : ℕ) (ds : List ℕ) → f ≤ 5 → i < length ds → length ds ≤ 30 → All (λ d. d < 4) (take i ds) → place ≡ place_of (record { face = f; digits = take i ds }) → d < 4 → 4 * place + d < 2 ^ 64
+pub digits_fit : (f place d i : ℕ) (ds : List ℕ) → f ≤ 5 → i < length ds → length ds ≤ 30 → All (λ d. d < 4) (take i ds)
+    → place ≡ place_of (record { face = f; digits = take i ds }) → d < 4 → 4 * place + d < 2 ^ 64
 digits_fit f place d i ds face within most small is digit =
     let long : length (take i ds) ≡ i = length-take-le i ds (omega arith) in
     let path : IsPath (record { face = f; digits = take i ds }) = record { face_below = omega arith; at_most = omega arith; digits_below = small } in
@@ -164,9 +174,12 @@ digits_fit f place d i ds face within most small is digit =
     let fits = places_fit (i + 1) (4 * place + d) (omega arith) more in
     omega arith
 
-pub digits_more : (f place d i : ℕ) (ds : List ℕ) → i < length ds → place ≡ place_of (record { face = f; digits = take i ds }) → d ≡ get_or ds i 0 → 4 * place + d ≡ place_of (record { face = f; digits = take (i + 1) ds })
+pub digits_more : (f place d i : ℕ) (ds : List ℕ) → i < length ds → place ≡ place_of (record { face = f; digits = take i ds })
+    → d ≡ get_or ds i 0 → 4 * place + d ≡ place_of (record { face = f; digits = take (i + 1) ds })
 digits_more f place d i ds within is digit =
     ap₂ (λ x y. 4 * x + y) is digit ∙ sym (ap (λ x. place_of (record { face = f; digits = x })) (take_more ds i 0 within) ∙ place_with f (take i ds) (get_or ds i 0))
 
-pub path_by_digits : (r f : ℕ) (ds : List ℕ) → IsCellNumber r → IsPath (record { face = f; digits = ds }) → length (path_at r).digits ≡ length ds → place_of (path_at r) ≡ place_of (record { face = f; digits = ds }) → path_at r ≡ record { face = f; digits = ds }
+pub path_by_digits : (r f : ℕ) (ds : List ℕ) → IsCellNumber r → IsPath (record { face = f; digits = ds })
+    → length (path_at r).digits ≡ length ds → place_of (path_at r) ≡ place_of (record { face = f; digits = ds })
+    → path_at r ≡ record { face = f; digits = ds }
 path_by_digits r f ds cell path level place = same_place (path_at r) (record { face = f; digits = ds }) (path_of_cell r cell) path level place

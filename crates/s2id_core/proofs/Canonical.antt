@@ -37,7 +37,8 @@ all_digits_from_lower [] h = tt
 all_digits_from_lower (x ∷ xs) h = (value_below x (All-head IsLowerHex x xs h), all_digits_from_lower xs (All-tail IsLowerHex x xs h))
 
 -- two texts of one length and one value are one
-pub same_digits : (xs ys : List ℕ) (m n : ℕ) → length xs ≡ length ys → All IsLowerHex xs → All IsLowerHex ys → digits_value_after 16 m xs ≡ digits_value_after 16 n ys → (m ≡ n) × (xs ≡ ys)
+pub same_digits : (xs ys : List ℕ) (m n : ℕ) → length xs ≡ length ys → All IsLowerHex xs → All IsLowerHex ys
+    → digits_value_after 16 m xs ≡ digits_value_after 16 n ys → (m ≡ n) × (xs ≡ ys)
 same_digits [] [] m n l a b e = (e, refl)
 same_digits [] (y ∷ ys) m n l a b e = absurd (omega arith)
 same_digits (x ∷ xs) [] m n l a b e = absurd (omega arith)
@@ -69,7 +70,8 @@ next_digit n j =
     whole : (q : ℕ) → q / 16 * 16 + q % 16 ≡ q
     whole q = omega arith
 
-value_from : (n j a : ℕ) → a + j ≡ 16 → digits_value_after 16 (n / 16 ^ j) (map (λ place. digit_char (n / 16 ^ (15 - place) % 16)) (range_with_len a j)) ≡ n
+value_from : (n j a : ℕ) → a + j ≡ 16
+    → digits_value_after 16 (n / 16 ^ j) (map (λ place. digit_char (n / 16 ^ (15 - place) % 16)) (range_with_len a j)) ≡ n
 value_from n zero a e = omega arith
 value_from n (suc j) a e =
     let digit : digit_value (digit_char (n / 16 ^ (15 - a) % 16)) ≡ n / 16 ^ j % 16 = value_of_sign (n / 16 ^ (15 - a) % 16) (omega arith) ∙ ap (λ x. n / 16 ^ x % 16) (let s : 15 - a ≡ j = omega arith in s) in
@@ -105,7 +107,8 @@ zeros_at_end-le text =
     omega arith
 
 -- a byte among the zeros at the end
-at_end : (text : List ℕ) (i : ℕ) → i < zeros_at_end text → get_or (drop (length text - zeros_at_end text) text) i 0 ≡ get_or (replicate (zeros_at_end text) 48) i 0
+at_end : (text : List ℕ) (i : ℕ) → i < zeros_at_end text
+    → get_or (drop (length text - zeros_at_end text) text) i 0 ≡ get_or (replicate (zeros_at_end text) 48) i 0
 at_end text i h =
     let s = zeros_at_end text in
     let k = length text - s in
@@ -132,7 +135,8 @@ padded_last text k some =
     let at : length padded - 1 - k ≡ length text - 1 = omega arith in
     get_or-reverse padded k 0 (omega arith) ∙ ap (λ x. get_or padded x 0) at ∙ get_or_append_left text (replicate k 48) 0 (length text - 1) (omega arith)
 
-pub zeros_off : (text : List ℕ) (k : ℕ) → 0 < length text → get_or text (length text - 1) 0 ≢ 48 → without_last_zeros (text ++ replicate k 48) ≡ text
+pub zeros_off : (text : List ℕ) (k : ℕ) → 0 < length text → get_or text (length text - 1) 0 ≢ 48
+    → without_last_zeros (text ++ replicate k 48) ≡ text
 unfolding without_last_zeros
 zeros_off text k some last =
     let zeros = replicate k 48 in
@@ -147,7 +151,8 @@ zeros_off text k some last =
     ap (λ x. take (length padded - x) padded) count ∙ take_at text zeros (length padded - k) (let e : length text ≡ length padded - k = omega arith in e)
 
 -- the last byte that is kept is no zero
-last_kept : (text : List ℕ) → zeros_at_end text < length text → get_or (without_last_zeros text) (length (without_last_zeros text) - 1) 0 ≢ 48
+last_kept : (text : List ℕ) → zeros_at_end text < length text
+    → get_or (without_last_zeros text) (length (without_last_zeros text) - 1) 0 ≢ 48
 unfolding without_last_zeros
 last_kept text h =
     let s = zeros_at_end text in
@@ -164,7 +169,8 @@ pub canonical_back : (n : ℕ) → 0 < n → n < 2 ^ 64 → canonical_token n ++
 unfolding canonical_token
 canonical_back n pos below = ap (λ x. without_last_zeros (sixteen_digits n) ++ replicate x 48) (sym (last_zeros n pos below)) ∙ zeros_back (sixteen_digits n)
 
-pub length-canonical_token : (n : ℕ) → 0 < n → n < 2 ^ 64 → (length (canonical_token n) ≡ 16 - trailing_zeros w64 n / 4) × (0 < length (canonical_token n)) × (length (canonical_token n) ≤ 16)
+pub length-canonical_token : (n : ℕ) → 0 < n → n < 2 ^ 64
+    → (length (canonical_token n) ≡ 16 - trailing_zeros w64 n / 4) × (0 < length (canonical_token n)) × (length (canonical_token n) ≤ 16)
 length-canonical_token n pos below =
     let whole = ap length (canonical_back n pos below) in
     let parts = length-append (canonical_token n) (replicate (trailing_zeros w64 n / 4) 48) in

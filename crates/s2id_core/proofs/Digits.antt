@@ -53,7 +53,8 @@ sixteen_pow (suc k) =
     ap (λ x. 2 ^ x) e ∙ pow-add 2 4 (4 * k) ∙ ap (λ x. 16 * x) (sixteen_pow k) ∙ (let m : 16 * 16 ^ k ≡ 16 ^ suc k = omega arith in m)
 
 -- one more digit at the end fits 64 bits
-pub digit_fits : (text : List ℕ) (place number d : ℕ) → place < 16 → place < length text → AllDigits 16 (take place text) → number ≡ digits_value 16 (take place text) → d < 16 → number * 16 + d < 2 ^ 64
+pub digit_fits : (text : List ℕ) (place number d : ℕ) → place < 16 → place < length text → AllDigits 16 (take place text)
+    → number ≡ digits_value 16 (take place text) → d < 16 → number * 16 + d < 2 ^ 64
 digit_fits text place number d h within all is small =
     let below = digits_value-lt 16 (take place text) all in
     let long : length (take place text) ≡ place = length-take-le place text (omega arith) in
@@ -61,7 +62,8 @@ digit_fits text place number d h within all is small =
     let most : 16 ^ place ≤ 16 ^ 15 = pow-le-pow_right {n = 16} (omega arith) {i = place} {j = 15} (omega arith) in
     omega arith
 
-pub value_after-append : (n : ℕ) (xs ys : List ℕ) → digits_value_after 16 n (xs ++ ys) ≡ digits_value_after 16 (digits_value_after 16 n xs) ys
+pub value_after-append : (n : ℕ) (xs ys : List ℕ)
+    → digits_value_after 16 n (xs ++ ys) ≡ digits_value_after 16 (digits_value_after 16 n xs) ys
 value_after-append n [] ys = refl
 value_after-append n (x ∷ xs) ys = value_after-append (n * 16 + digit_value x) xs ys
 
@@ -73,7 +75,8 @@ value_after-zeros n (suc k) = value_after-zeros (n * 16 + 0) k ∙ step n (16 ^ 
     step n b = omega arith
 
 -- what the code's shift makes of the digits' number: the number with zeros on the right
-pub shifted_value : (text : List ℕ) (n : ℕ) → length text ≤ 16 → AllDigits 16 text → n ≡ digits_value 16 text → n * 2 ^ (64 - 4 * length text) % 2 ^ 64 ≡ digits_value 16 (text ++ replicate (16 - length text) 48)
+pub shifted_value : (text : List ℕ) (n : ℕ) → length text ≤ 16 → AllDigits 16 text → n ≡ digits_value 16 text
+    → n * 2 ^ (64 - 4 * length text) % 2 ^ 64 ≡ digits_value 16 (text ++ replicate (16 - length text) 48)
 shifted_value text n fits all is =
     let k = 16 - length text in
     let shift : 64 - 4 * length text ≡ 4 * k = omega arith in

@@ -36,7 +36,8 @@ base_four-threes (suc k) =
     omega arith
 
 -- the place of a path with more digits behind
-pub place_of-more : (f : ℕ) (xs ys : List ℕ) → place_of (record { face = f; digits = xs ++ ys }) ≡ place_of (record { face = f; digits = xs }) * 4 ^ length ys + base_four ys
+pub place_of-more : (f : ℕ) (xs ys : List ℕ)
+    → place_of (record { face = f; digits = xs ++ ys }) ≡ place_of (record { face = f; digits = xs }) * 4 ^ length ys + base_four ys
 unfolding place_of
 place_of-more f xs ys =
     ap₂ (λ a b. f * a + b) (ap (λ k. 4 ^ k) (length-append xs ys) ∙ four_add (length xs) (length ys)) (base_four-append xs ys) ∙ regroup f (4 ^ length xs) (4 ^ length ys) (base_four xs) (base_four ys)
@@ -79,7 +80,8 @@ below k p path h =
       small = subst (λ x. base_four (drop k ds) < 4 ^ x) long (base_four_below (drop k ds) (All-drop (λ d. d < 4) k ds path.digits_below));
     }
 
-pub place_of-ancestor : (k : ℕ) (p : Path) → IsPath p → k ≤ length p.digits → place_of (ancestor k p) ≡ place_of p / 4 ^ (length p.digits - k)
+pub place_of-ancestor : (k : ℕ) (p : Path) → IsPath p → k ≤ length p.digits
+    → place_of (ancestor k p) ≡ place_of p / 4 ^ (length p.digits - k)
 place_of-ancestor k p path h =
     let b = below k p path h in
     sym (ap (λ x. x / 4 ^ (length p.digits - k)) b.is ∙ div-mul-add (place_of (ancestor k p)) (4 ^ (length p.digits - k)) b.rest b.small)

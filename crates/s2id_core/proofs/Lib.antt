@@ -16,3 +16,5 @@ mod Reading
 pub mod Canonical
 pub mod Spelled
 pub mod Sorted
+pub mod Lists
+pub mod BinaryDigits

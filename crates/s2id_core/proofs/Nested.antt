@@ -104,7 +104,8 @@ nested_from_within a b cell_a cell_b w =
     record { from = omega arith; to = omega arith }
 
 -- of two cells whose spans cross, one is nested in the other
-pub nested_from_crossing_spans : (a b : ℕ) → IsCellNumber a → IsCellNumber b → first_at a < end_at b → first_at b < end_at a → IsNested a b ⊎ IsNested b a
+pub nested_from_crossing_spans : (a b : ℕ) → IsCellNumber a → IsCellNumber b → first_at a < end_at b → first_at b < end_at a
+    → IsNested a b ⊎ IsNested b a
 nested_from_crossing_spans a b cell_a cell_b low high =
     let e1 = (by_width a cell_a).first in
     let e2 = (by_width a cell_a).last in
@@ -124,7 +125,8 @@ pub level_from_nested : (a b : ℕ) → IsCellNumber a → IsCellNumber b → Is
 level_from_nested a b cell_a cell_b h = (below_from_within (path_at a) (path_at b) (path_of_cell a cell_a) (within_from_nested a b cell_a cell_b h)).level
 
 -- of two cells that cross, the one of the finer level, or of the same, is nested in the other
-pub nested_by_level : (a b : ℕ) → IsCellNumber a → IsCellNumber b → first_at a < end_at b → first_at b < end_at a → length (path_at b).digits ≤ length (path_at a).digits → IsNested a b
+pub nested_by_level : (a b : ℕ) → IsCellNumber a → IsCellNumber b → first_at a < end_at b → first_at b < end_at a
+    → length (path_at b).digits ≤ length (path_at a).digits → IsNested a b
 nested_by_level a b cell_a cell_b low high level =
     let e1 = (by_width a cell_a).first in
     let e2 = (by_width a cell_a).last in
@@ -132,7 +134,8 @@ nested_by_level a b cell_a cell_b low high level =
     let e4 = (by_width b cell_b).last in
     nested_from_within a b cell_a cell_b (finer_within (path_at a) (path_at b) (path_of_cell a cell_a) (path_of_cell b cell_b) level (omega arith) (omega arith))
 
-pub same_from_level : (a b : ℕ) → IsCellNumber a → IsCellNumber b → IsNested a b → length (path_at a).digits ≡ length (path_at b).digits → a ≡ b
+pub same_from_level : (a b : ℕ) → IsCellNumber a → IsCellNumber b → IsNested a b → length (path_at a).digits ≡ length (path_at b).digits
+    → a ≡ b
 same_from_level a b cell_a cell_b h level =
     let from = h.from in
     let to = h.to in
@@ -158,7 +161,8 @@ span_from_leaf l n cell h =
     let last = (by_width n cell).last in
     (omega arith, omega arith)
 
-pub leaf_from_span : (l : Path) (n : ℕ) → IsCellNumber n → IsLeafPath l → first_at n ≤ number_of l → number_of l < end_at n → IsLeafOf l (path_at n)
+pub leaf_from_span : (l : Path) (n : ℕ) → IsCellNumber n → IsLeafPath l → first_at n ≤ number_of l → number_of l < end_at n
+    → IsLeafOf l (path_at n)
 leaf_from_span l n cell deep from to =
     let number = number_of_leaf l deep in
     let first = (by_width n cell).first in
@@ -175,7 +179,8 @@ leaf_of_odd n odd below =
     (cell, record { path = path_of_cell n cell; deep = ap (λ (p : Path). length p.digits) path ∙ length-last_digits 30 (n / 2) })
 
 -- the middle of a coarser cell's span lies between two cells of a finer level
-middle_between : (a b : ℕ) → IsCellNumber a → IsCellNumber b → length (path_at a).digits < length (path_at b).digits → first_at b ≤ a → a + 2 ≤ end_at b → ⊥
+middle_between : (a b : ℕ) → IsCellNumber a → IsCellNumber b → length (path_at a).digits < length (path_at b).digits → first_at b ≤ a
+    → a + 2 ≤ end_at b → ⊥
 middle_between a b cell_a cell_b level from to =
     let p = path_at a in
     let q = path_at b in
@@ -210,7 +215,8 @@ pub record IsContaining (a b : ℕ) (r : Bool) : Type 0 where
   pub within : IsTrue r ↔ IsWithin (path_at b) (path_at a)
   pub nested : IsTrue r ↔ IsNested b a
 
-pub containing : (a b : ℕ) (r : Bool) → IsCellNumber a → IsCellNumber b → IsTrue r ↔ ((first_at a ≤ b) × (b + 2 ≤ end_at a)) → IsContaining a b r
+pub containing : (a b : ℕ) (r : Bool) → IsCellNumber a → IsCellNumber b → IsTrue r ↔ ((first_at a ≤ b) × (b + 2 ≤ end_at a))
+    → IsContaining a b r
 containing a b r cell_a cell_b by =
     let path_a = path_of_cell a cell_a in
     let path_b = path_of_cell b cell_b in
@@ -245,15 +251,18 @@ nested_from_shared : (a b : ℕ) → IsCellNumber a → IsCellNumber b → Overl
 nested_from_shared a b cell_a cell_b o =
     elim (nested_from_overlap (path_at a) (path_at b) (path_of_cell a cell_a) (path_of_cell b cell_b) o) [ inl w ↦ inr (nested_from_within a b cell_a cell_b w) | inr w ↦ inl (nested_from_within b a cell_b cell_a w) ]
 
-crossing_from_either : (a b : ℕ) → IsCellNumber a → IsCellNumber b → IsNested b a ⊎ IsNested a b → (first_at a < end_at b) × (first_at b < end_at a)
+crossing_from_either : (a b : ℕ) → IsCellNumber a → IsCellNumber b → IsNested b a ⊎ IsNested a b
+    → (first_at a < end_at b) × (first_at b < end_at a)
 crossing_from_either a b cell_a cell_b (inl h) = let x = crossing_from_nested b a cell_b cell_a h in (x.1, x.0)
 crossing_from_either a b cell_a cell_b (inr h) = crossing_from_nested a b cell_a cell_b h
 
-either_from_crossing : (a b : ℕ) → IsCellNumber a → IsCellNumber b → (first_at a < end_at b) × (first_at b < end_at a) → IsNested b a ⊎ IsNested a b
+either_from_crossing : (a b : ℕ) → IsCellNumber a → IsCellNumber b → (first_at a < end_at b) × (first_at b < end_at a)
+    → IsNested b a ⊎ IsNested a b
 either_from_crossing a b cell_a cell_b h =
     elim (nested_from_crossing_spans a b cell_a cell_b h.0 h.1) [ inl x ↦ inr x | inr x ↦ inl x ]
 
-pub crossing : (a b : ℕ) (r : Bool) → IsCellNumber a → IsCellNumber b → IsTrue r ↔ ((first_at a < end_at b) × (first_at b < end_at a)) → IsCrossing a b r
+pub crossing : (a b : ℕ) (r : Bool) → IsCellNumber a → IsCellNumber b → IsTrue r ↔ ((first_at a < end_at b) × (first_at b < end_at a))
+    → IsCrossing a b r
 crossing a b r cell_a cell_b by =
     let to_nested : IsTrue r → IsNested b a ⊎ IsNested a b = λ is. either_from_crossing a b cell_a cell_b (by.0 is) in
     let from_nested : IsNested b a ⊎ IsNested a b → IsTrue r = λ h. by.1 (crossing_from_either a b cell_a cell_b h) in
@@ -270,12 +279,14 @@ first_place n cell = (by_width n cell).first
 pub last_place : (n : ℕ) → IsCellNumber n → end_at n ≡ 2 * (start (path_at n) + width (path_at n)) + 1
 last_place n cell = let last = (by_width n cell).last in omega arith
 
-pub leaf_at_first : (r n : ℕ) → IsCellNumber r → IsCellNumber n → length (path_at r).digits ≡ 30 → place_of (path_at r) ≡ start (path_at n) → path_at r ≡ first_leaf (path_at n)
+pub leaf_at_first : (r n : ℕ) → IsCellNumber r → IsCellNumber n → length (path_at r).digits ≡ 30 → place_of (path_at r) ≡ start (path_at n)
+    → path_at r ≡ first_leaf (path_at n)
 leaf_at_first r n cell_r cell_n deep place =
     let leaf = (leaf_of_first (path_at n) (path_of_cell n cell_n)).deep in
     same_place (path_at r) (first_leaf (path_at n)) (path_of_cell r cell_r) leaf.path (deep ∙ sym leaf.deep) (place ∙ sym (place_of-first_leaf (path_at n)))
 
-pub leaf_at_last : (r n : ℕ) → IsCellNumber r → IsCellNumber n → length (path_at r).digits ≡ 30 → place_of (path_at r) + 1 ≡ start (path_at n) + width (path_at n) → path_at r ≡ last_leaf (path_at n)
+pub leaf_at_last : (r n : ℕ) → IsCellNumber r → IsCellNumber n → length (path_at r).digits ≡ 30
+    → place_of (path_at r) + 1 ≡ start (path_at n) + width (path_at n) → path_at r ≡ last_leaf (path_at n)
 leaf_at_last r n cell_r cell_n deep place =
     let leaf = (leaf_of_last (path_at n) (path_of_cell n cell_n)).deep in
     let at_last = place_of-last_leaf (path_at n) in

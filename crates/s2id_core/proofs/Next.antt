@@ -12,7 +12,8 @@ use Rattle.s2id_core.proofs.Powers.{four_pos, four_split, odd_below}
 step : (m b : ℕ) → (2 * m + 1) * b + 2 * b ≡ (2 * (m + 1) + 1) * b
 step m b = omega arith
 
-pub stays : (a b m : ℕ) → m < 6 * a → 0 < b → (2 * m + 1) * b + 2 * b < 12 * (a * b) → (2 * m + 1) * b + 2 * b ≡ (2 * ((m + 1) % (6 * a)) + 1) * b
+pub stays : (a b m : ℕ) → m < 6 * a → 0 < b → (2 * m + 1) * b + 2 * b < 12 * (a * b)
+    → (2 * m + 1) * b + 2 * b ≡ (2 * ((m + 1) % (6 * a)) + 1) * b
 stays a b m below pos less =
     elim (cases_lt (m + 1) (6 * a)) [
       | inl lt ↦ step m b ∙ ap (λ x. (2 * x + 1) * b) (sym (mod-eq_of_lt lt))
@@ -24,7 +25,8 @@ stays a b m below pos less =
     turn : (a b : ℕ) → (2 * (6 * a) + 1) * b ≡ 12 * (a * b) + b
     turn a b = omega arith
 
-pub wraps : (a b m : ℕ) → m < 6 * a → 0 < b → 12 * (a * b) ≤ (2 * m + 1) * b + 2 * b → (2 * m + 1) * b + 2 * b - 12 * (a * b) ≡ (2 * ((m + 1) % (6 * a)) + 1) * b
+pub wraps : (a b m : ℕ) → m < 6 * a → 0 < b → 12 * (a * b) ≤ (2 * m + 1) * b + 2 * b
+    → (2 * m + 1) * b + 2 * b - 12 * (a * b) ≡ (2 * ((m + 1) % (6 * a)) + 1) * b
 wraps a b m below pos over =
     elim (cases_lt (m + 1) (6 * a)) [
       | inl lt ↦ absurd (omega (arith, step m b, odd_below (m + 1) a b lt pos, over))
@@ -44,7 +46,8 @@ abbrev pub next_form : ℕ → ℕ
 next_form n =
     (2 * ((place_of (path_at n) + 1) % (6 * 4 ^ length (path_at n).digits)) + 1) * 4 ^ (30 - length (path_at n).digits)
 
-pub next_stays : (n lowest : ℕ) → IsCellNumber n → lowest ≡ 4 ^ (30 - length (path_at n).digits) → n + 2 * lowest < 6 * 2 ^ 61 → n + 2 * lowest ≡ next_form n
+pub next_stays : (n lowest : ℕ) → IsCellNumber n → lowest ≡ 4 ^ (30 - length (path_at n).digits) → n + 2 * lowest < 6 * 2 ^ 61
+    → n + 2 * lowest ≡ next_form n
 next_stays n lowest cell low less =
     let k = length (path_at n).digits in
     let path = path_of_cell n cell in
@@ -52,7 +55,8 @@ next_stays n lowest cell low less =
     let split = four_split 30 k path.at_most in
     moved ∙ stays (4 ^ k) (4 ^ (30 - k)) (place_of (path_at n)) (place_below (path_at n) path) (four_pos (30 - k)) (omega (arith, moved, split, less))
 
-pub next_wraps : (n lowest : ℕ) → IsCellNumber n → lowest ≡ 4 ^ (30 - length (path_at n).digits) → 6 * 2 ^ 61 ≤ n + 2 * lowest → n + 2 * lowest - 6 * 2 ^ 61 ≡ next_form n
+pub next_wraps : (n lowest : ℕ) → IsCellNumber n → lowest ≡ 4 ^ (30 - length (path_at n).digits) → 6 * 2 ^ 61 ≤ n + 2 * lowest
+    → n + 2 * lowest - 6 * 2 ^ 61 ≡ next_form n
 next_wraps n lowest cell low over =
     let k = length (path_at n).digits in
     let path = path_of_cell n cell in
@@ -62,5 +66,6 @@ next_wraps n lowest cell low over =
     ap₂ (λ x y. x - y) moved whole ∙ wraps (4 ^ k) (4 ^ (30 - k)) (place_of (path_at n)) (place_below (path_at n) path) (four_pos (30 - k)) (omega (arith, moved, whole, over))
 
 -- the place behind a cell's own is one of its level
-pub next_below : (n : ℕ) → IsCellNumber n → (place_of (path_at n) + 1) % (6 * 4 ^ length (path_at n).digits) < 6 * 4 ^ length (path_at n).digits
+pub next_below : (n : ℕ) → IsCellNumber n
+    → (place_of (path_at n) + 1) % (6 * 4 ^ length (path_at n).digits) < 6 * 4 ^ length (path_at n).digits
 next_below n cell = let pos = four_pos (length (path_at n).digits) in mod-lt (place_of (path_at n) + 1) (omega arith)

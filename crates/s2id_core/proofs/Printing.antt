@@ -52,7 +52,8 @@ pub sixteen_digits_at : (n place : ℕ) → place < 16 → get_or (sixteen_digit
 unfolding sixteen_digits
 sixteen_digits_at n place h = get_or-map-range_with_len (λ place. digit_char (n / 16 ^ (15 - place) % 16)) 0 16 place place 0 h (omega arith)
 
-pub sixteen_digits_by : (n : ℕ) (bytes : List ℕ) → length bytes ≡ 16 → ((k : ℕ) → k < 16 → get_or bytes k 0 ≡ digit_char (n / 16 ^ (15 - k) % 16)) → bytes ≡ sixteen_digits n
+pub sixteen_digits_by : (n : ℕ) (bytes : List ℕ) → length bytes ≡ 16
+    → ((k : ℕ) → k < 16 → get_or bytes k 0 ≡ digit_char (n / 16 ^ (15 - k) % 16)) → bytes ≡ sixteen_digits n
 unfolding sixteen_digits
 sixteen_digits_by n bytes long each = fill_by_all (λ place. digit_char (n / 16 ^ (15 - place) % 16)) bytes 16 0 long each
 
@@ -83,7 +84,8 @@ unfolding canonical_token without_last_zeros
 canonical_by_zeros n pos below = ap₂ (λ x y. take (x - y) (sixteen_digits n)) (length-sixteen_digits n) (last_zeros n pos below)
 
 -- the digits of the byte that the code shifts out
-pub high_of_byte : (n pair byte d : ℕ) → pair < 8 → byte ≡ bit_and (n / 2 ^ (56 - 8 * pair)) 255 → d ≡ digit_char (byte / 16) → d ≡ digit_char (n / 16 ^ (15 - 2 * pair) % 16)
+pub high_of_byte : (n pair byte d : ℕ) → pair < 8 → byte ≡ bit_and (n / 2 ^ (56 - 8 * pair)) 255 → d ≡ digit_char (byte / 16)
+    → d ≡ digit_char (n / 16 ^ (15 - 2 * pair) % 16)
 high_of_byte n pair byte d h is digit =
     let m = n / 2 ^ (56 - 8 * pair) in
     let own : byte ≡ m % 256 = is ∙ and_mask m 8 in
@@ -91,7 +93,8 @@ high_of_byte n pair byte d h is digit =
     let up : 56 - 8 * pair + 4 ≡ 4 * (15 - 2 * pair) = omega arith in
     digit ∙ ap digit_char (half ∙ ap (λ x. x % 16) (shr-shr n (56 - 8 * pair) 4 ∙ ap (λ k. n / 2 ^ k) up ∙ ap (λ x. n / x) (sixteen_pow (15 - 2 * pair))))
 
-pub low_of_byte : (n pair byte d : ℕ) → pair < 8 → byte ≡ bit_and (n / 2 ^ (56 - 8 * pair)) 255 → d ≡ digit_char (byte % 16) → d ≡ digit_char (n / 16 ^ (15 - (2 * pair + 1)) % 16)
+pub low_of_byte : (n pair byte d : ℕ) → pair < 8 → byte ≡ bit_and (n / 2 ^ (56 - 8 * pair)) 255 → d ≡ digit_char (byte % 16)
+    → d ≡ digit_char (n / 16 ^ (15 - (2 * pair + 1)) % 16)
 low_of_byte n pair byte d h is digit =
     let m = n / 2 ^ (56 - 8 * pair) in
     let own : byte ≡ m % 256 = is ∙ and_mask m 8 in
@@ -100,7 +103,8 @@ low_of_byte n pair byte d h is digit =
     digit ∙ ap digit_char (half ∙ ap (λ x. x % 16) (ap (λ k. n / 2 ^ k) same ∙ ap (λ x. n / x) (sixteen_pow (15 - (2 * pair + 1)))))
 
 -- two digits more
-pub two_digits_more : (n pair high low : ℕ) (bytes : List ℕ) → pair < 8 → length bytes ≡ 16 → high ≡ digit_char (n / 16 ^ (15 - 2 * pair) % 16) → low ≡ digit_char (n / 16 ^ (15 - (2 * pair + 1)) % 16)
+pub two_digits_more : (n pair high low : ℕ) (bytes : List ℕ) → pair < 8 → length bytes ≡ 16
+    → high ≡ digit_char (n / 16 ^ (15 - 2 * pair) % 16) → low ≡ digit_char (n / 16 ^ (15 - (2 * pair + 1)) % 16)
     → ((k : ℕ) → k < 2 * pair → get_or bytes k 0 ≡ digit_char (n / 16 ^ (15 - k) % 16))
     → (length (set (set bytes (2 * pair) high) (2 * pair + 1) low) ≡ 16) × ((k : ℕ) → k < 2 * (pair + 1) → get_or (set (set bytes (2 * pair) high) (2 * pair + 1) low) k 0 ≡ digit_char (n / 16 ^ (15 - k) % 16))
 two_digits_more n pair high low bytes h long first second each =

@@ -41,7 +41,8 @@ pub record IsAnswer (text : List ℕ) (r : Result CellId TokenError) : Type 0 wh
   pub not_a_cell : IsErrOf r NotACell ↔ ((n : ℕ) × Spells text n × ¬ IsCellNumber n)
 
 -- the text spells the number n, and r is the cell of n if there is one
-pub answered : (text : List ℕ) (n : ℕ) (r : Option CellId) → Spells text n → IsSome r ↔ IsCellNumber n → IfSome r (λ c. raw_of c ≡ n) → IsAnswer text (ok_or r NotACell)
+pub answered : (text : List ℕ) (n : ℕ) (r : Option CellId) → Spells text n → IsSome r ↔ IsCellNumber n → IfSome r (λ c. raw_of c ≡ n)
+    → IsAnswer text (ok_or r NotACell)
 answered text n (Some d) spells found number = record {
   accepted = λ c s. ap Ok (same_cell d c (number ∙ one_number text n (raw_of c) spells s));
   not_hex = λ place. (λ e. absurd (cc), λ f. absurd (no_fault text n place spells f.1));

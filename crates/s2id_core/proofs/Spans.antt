@@ -44,19 +44,22 @@ span_from_within p q hp hq w =
     let b = below_from_within p q hp w in
     span_inside (place_of q) (place_of p) (4 ^ (length p.digits - length q.digits)) (width p) (width q) (width_split (length q.digits) (length p.digits) b.level hp.at_most) b.from b.to
 
-pub finer_within : (p q : Path) → IsPath p → IsPath q → length q.digits ≤ length p.digits → start p < start q + width q → start q < start p + width p → IsWithin p q
+pub finer_within : (p q : Path) → IsPath p → IsPath q → length q.digits ≤ length p.digits → start p < start q + width q
+    → start q < start p + width p → IsWithin p q
 finer_within p q hp hq level low high =
     let at = inside_from_crossing (place_of q) (place_of p) (4 ^ (length p.digits - length q.digits)) (width p) (width q) (width_split (length q.digits) (length p.digits) level hp.at_most) low high in
     within_from_below p q hp hq (record { level = level; from = at.0; to = at.1 })
 
 -- of two cells whose spans cross, one lies within the other
-pub nested_from_crossing : (p q : Path) → IsPath p → IsPath q → start p < start q + width q → start q < start p + width p → IsWithin p q ⊎ IsWithin q p
+pub nested_from_crossing : (p q : Path) → IsPath p → IsPath q → start p < start q + width q → start q < start p + width p
+    → IsWithin p q ⊎ IsWithin q p
 nested_from_crossing p q hp hq low high =
     elim (cases_lt (length p.digits) (length q.digits)) [ inl h ↦ inr (finer_within q p hq hp (omega arith) high low) | inr h ↦ inl (finer_within p q hp hq h low high) ]
 
 -- ---- leaves
 
-padded_path : (p : Path) (d : ℕ) → d < 4 → IsPath p → IsLeafPath (record { face = p.face; digits = p.digits ++ replicate (30 - length p.digits) d })
+padded_path : (p : Path) (d : ℕ) → d < 4 → IsPath p
+    → IsLeafPath (record { face = p.face; digits = p.digits ++ replicate (30 - length p.digits) d })
 padded_path p d small h =
     let k = 30 - length p.digits in
     let most = h.at_most in

@@ -1,10 +1,9 @@
 -- The cell that a text spells is the one whose number it spells.
 use Rattle.std.proofs.Common.{◌≡◌, ℕ, ◌-◌, ◌++◌, Bool, true, false, Option, Some, None, Result, Ok, Err, List, length, refl, ap, sym, ◌∙◌, arith}
-use Rattle.std.specs.Prelude.{replicate, IfOk, ◌&&◌}
+use Rattle.std.specs.Prelude.{replicate, IfOk, ◌&&◌, if◌then◌else◌, nat_lt, nat_le, [], ◌∷◌}
 use Rattle.std.specs.Result.{result_ok}
 use Rattle.std.specs.Str.Parse.{digits_value, AllDigits}
 use Rattle.std.proofs.lemmas.Bool.Decides.{nat_tests}
-use Rattle.std.specs.Prelude.{if◌then◌else◌, nat_lt, nat_le, [], ◌∷◌}
 use Rattle.std.specs.List.{list_all}
 use Rattle.std.specs.Char.{digit_value}
 use Rattle.std.proofs.lemmas.Bool.{both_ways, lt-ltb, ltb-true, le-leb, leb-true}
@@ -78,7 +77,8 @@ pub Spells-from_cell_spelled : (text : List ℕ) (c : CellId) → cell_spelled t
 unfolding cell_spelled
 Spells-from_cell_spelled text c h = spells_at text c (is_hexadecimal text) refl h
 
-none_at : (text : List ℕ) (o : Option CellId) → cell_spelled text ≡ o → ((c : CellId) → Spells text (raw_of c) → ⊥) → cell_spelled text ≡ None
+none_at : (text : List ℕ) (o : Option CellId) → cell_spelled text ≡ o → ((c : CellId) → Spells text (raw_of c) → ⊥)
+    → cell_spelled text ≡ None
 none_at text None h none = h
 none_at text (Some c) h none = absurd (none c (Spells-from_cell_spelled text c h))
 

@@ -7,3 +7,4 @@ pub mod Token
 pub mod TokenText
 pub mod PathTextWords
 pub mod Spelled
+pub mod BinaryDigits

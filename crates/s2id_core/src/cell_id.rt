@@ -2,7 +2,6 @@ ghost use Rattle.std.specs.Prelude.{◌≡◌, ℕ, ◌↔◌, ◌+◌, ◌-◌,
 ghost use Rattle.s2id_core.specs.Cell.{IsCellNumber};
 
 /// The leaf number that would come next after that of the last leaf: an end for spans of leaves, and no cell's number.
-/// This project's own.
 pub const LEAF_END: u64 = 0xc000000000000001;
 
 // The number where face 5 ends.
@@ -70,7 +69,7 @@ impl CellId {
         self.raw % 2 == 1
     }
 
-    /// Which cell of a level, counted from 0 along the whole curve, this cell lies in. This project's own.
+    /// Which cell of a level, counted from 0 along the whole curve, this cell lies in.
     pub fn place_at(self, level: u8) -> u64
         requires { level ≤ level_of self }
         ensures place { result ≡ place_of (ancestor level (path_of self)) }
@@ -80,7 +79,7 @@ impl CellId {
         self.raw >> (61 - 2 * level)
     }
 
-    /// The cell of a level at a place, counted from 0 along the whole curve. This project's own.
+    /// The cell of a level at a place, counted from 0 along the whole curve.
     pub fn at_place(level: u8, place: u64) -> CellId
         requires fine { level ≤ 30 }
         requires within { place < 6 * 4 ^ level }

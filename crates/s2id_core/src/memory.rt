@@ -3,7 +3,7 @@ ghost use Rattle.std.specs.Prelude.{◌≡◌};
 use std::alloc::{AllocError, AllocFailed};
 use thiserror::Error;
 
-/// A growth was refused: the allocator had no memory to give. This project's own.
+/// A growth was refused: the allocator had no memory to give.
 #[derive(Clone, Copy, Debug, PartialEq, Eq, Hash, Error)]
 #[error("out of memory")]
 pub struct OutOfMemory;

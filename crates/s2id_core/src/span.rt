@@ -26,7 +26,7 @@ impl CellId {
         CellId::at_place(30, self.span_end() / 2 - 1)
     }
 
-    /// The number of the cell's first leaf, with which its span begins. This project's own.
+    /// The number of the cell's first leaf, with which its span begins.
     pub fn span_start(self) -> u64
         ensures { result ≡ first_of self }
     {
@@ -34,7 +34,7 @@ impl CellId {
     }
 
     /// The leaf number after that of the cell's last leaf, with which its span ends: `LEAF_END` for the last cells of
-    /// face 5. This project's own.
+    /// face 5.
     pub fn span_end(self) -> u64
         ensures { result ≡ end_of self }
     {

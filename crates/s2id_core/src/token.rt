@@ -7,7 +7,7 @@ use crate::cell_id::CellId;
 use crate::hexadecimal::sixteen_digits;
 use thiserror::Error;
 
-/// Why a text is no token. The faults are tested in this order. This project's own.
+/// Why a text is no token. The faults are tested in this order.
 #[derive(Clone, Copy, Debug, PartialEq, Eq, Error)]
 pub enum TokenError {
     /// The text has no bytes.

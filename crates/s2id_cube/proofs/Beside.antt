@@ -47,7 +47,9 @@ over_edge_is along last h f hf m hm =
     (four (λ m. IsMet along last f m) (six (λ f. Four (IsMet along last f)) (omega arith, omega arith, omega arith, omega arith, omega arith, omega arith) f hf) m hm)
 
 -- a square of the same face, whose side o it is
-turn : {n m f i j a b : ℕ} (o : ℕ) → (f < 6) × (a < n) × (b < n) × (o < 4) × (mid_u m i ≡ mid_u o a) × (mid_v m j ≡ mid_v o b) × ((i ≡ a) × (j ≡ b) → ⊥) → IsBeside n m f i j f a b
+turn : {n m f i j a b : ℕ} (o : ℕ)
+    → (f < 6) × (a < n) × (b < n) × (o < 4) × (mid_u m i ≡ mid_u o a) × (mid_v m j ≡ mid_v o b) × ((i ≡ a) × (j ≡ b) → ⊥)
+    → IsBeside n m f i j f a b
 unfolding middle
 turn {n} {f} o h = record { face = h.0; column = h.1; row = h.2; other = o; is_side = h.3; same = ap₂ (spot (2 * n) f) h.4 h.5; apart = λ e. h.6 (e.1, e.2) }
 
@@ -66,7 +68,8 @@ beside_step {n} {m} {f} {i} {j} {a} {b} h =
     ) m h.0 h.6
 
 -- the same numbers under other names
-pub beside_moved : {n n' m m' f f' i i' j j' g g' a a' b b' : ℕ} → n ≡ n' → m ≡ m' → f ≡ f' → i ≡ i' → j ≡ j' → g ≡ g' → a ≡ a' → b ≡ b' → IsBeside n m f i j g a b → IsBeside n' m' f' i' j' g' a' b'
+pub beside_moved : {n n' m m' f f' i i' j j' g g' a a' b b' : ℕ} → n ≡ n' → m ≡ m' → f ≡ f' → i ≡ i' → j ≡ j' → g ≡ g' → a ≡ a' → b ≡ b'
+    → IsBeside n m f i j g a b → IsBeside n' m' f' i' j' g' a' b'
 beside_moved n m f i j g a b h = transport (λ k. IsBeside (n k) (m k) (f k) (i k) (j k) (g k) (a k) (b k)) h
 
 -- what the code finds over an edge
@@ -80,7 +83,10 @@ unfolding along_over
 along_same zero along last h = refl
 along_same (suc r) along last h = absurd (omega arith)
 
-pub over_edge_at : (along last f m place x y : ℕ) → along ≤ last → f < 6 → m < 4 → place ≡ along_over (get_or reversals (4 * f + m) 0) along last → x ≡ column_on (get_or sides_over (4 * f + m) 0) place last → y ≡ row_on (get_or sides_over (4 * f + m) 0) place last → IsBeside (last + 1) m f (column_on m along last) (row_on m along last) (get_or faces_over (4 * f + m) 0) x y
+pub over_edge_at : (along last f m place x y : ℕ) → along ≤ last → f < 6 → m < 4
+    → place ≡ along_over (get_or reversals (4 * f + m) 0) along last → x ≡ column_on (get_or sides_over (4 * f + m) 0) place last
+    → y ≡ row_on (get_or sides_over (4 * f + m) 0) place last
+    → IsBeside (last + 1) m f (column_on m along last) (row_on m along last) (get_or faces_over (4 * f + m) 0) x y
 over_edge_at along last f m place x y h hf hm ep ex ey =
     let side = get_or sides_over (4 * f + m) 0 in
     beside_moved refl refl refl refl refl refl (ap (λ t. column_on side t last) (sym ep) ∙ sym ex) (ap (λ t. row_on side t last) (sym ep) ∙ sym ey) (over_edge_is along last h f hf m hm)

@@ -50,7 +50,8 @@ tells n u v x y hu hv hx hy f hf a ha =
     f hf a ha
 
 -- two squares have at most one side in common
-pub one_common_side : (n m k f i j o r g a b : ℕ) (p q : Spot) → AtSide n m f i j p → AtSide n o g a b p → AtSide n k f i j q → AtSide n r g a b q → ((f ≡ g) × (i ≡ a) × (j ≡ b) → ⊥) → m ≡ k
+pub one_common_side : (n m k f i j o r g a b : ℕ) (p q : Spot) → AtSide n m f i j p → AtSide n o g a b p → AtSide n k f i j q
+    → AtSide n r g a b q → ((f ≡ g) × (i ≡ a) × (j ≡ b) → ⊥) → m ≡ k
 unfolding middle
 one_common_side n m k f i j o r g a b p q sp tp sq tq apart =
     elim (cases_eq g f) [
@@ -78,7 +79,8 @@ one_shared_side m n p q hm hn hp hq h k =
     one_common_side (2 ^ length p.digits) m n s.face s.i s.j h.other k.other t.face t.i t.j (middle (2 ^ length p.digits) m s.face s.i s.j) (middle (2 ^ length p.digits) n s.face s.i s.j) (at_side_first m p hm hp) (at_side_second m p q hm hp hq h) (at_side_first n p hn hp) (at_side_second n p q hn hp hq k) (λ (x, y, z). h.apart (one_path p q hp hq h.one_level x y z))
 
 -- the cells over the four sides are four
-pub all_distinct : (cell : CellId) (cs : List CellId) → length cs ≡ 4 → ((c : CellId) → IsPath (path_of c)) → ((m : ℕ) → m < 4 → SharesSide m (path_of cell) (path_of (get_or cs m cell))) → AllPairs (λ x y. x ≢ y) cs
+pub all_distinct : (cell : CellId) (cs : List CellId) → length cs ≡ 4 → ((c : CellId) → IsPath (path_of c))
+    → ((m : ℕ) → m < 4 → SharesSide m (path_of cell) (path_of (get_or cs m cell))) → AllPairs (λ x y. x ≢ y) cs
 all_distinct cell cs long paths sides i j d lt within e =
     let at_i = get_or_default cs i d cell (omega arith) in
     let at_j = get_or_default cs j d cell within in

@@ -25,7 +25,8 @@ gained_none old s d m x = (inl, λ h. elim h [ inl c ↦ c | inr o ↦ let e = o
 wider : (s : FaceIj) (d m k : ℕ) (x : CellId) → IsOverFirst s d m k (path_of x) → IsOverFirst s d m (k + 1) (path_of x)
 wider s d m k x o = record { along = o.along; is_along = let e = o.is_along in omega arith; over = o.over }
 
-pub gained_more : (old new : List CellId) (s : FaceIj) (d m k : ℕ) (y : CellId) → s.face < 6 → s.i < 2 ^ s.level → s.j < 2 ^ s.level → m < 4 → k < 2 ^ d → HasGained old new s d m k → IsOverAt s d m k (path_of y) → HasGained old (new ++ y ∷ []) s d m (k + 1)
+pub gained_more : (old new : List CellId) (s : FaceIj) (d m k : ℕ) (y : CellId) → s.face < 6 → s.i < 2 ^ s.level → s.j < 2 ^ s.level → m < 4
+    → k < 2 ^ d → HasGained old new s d m k → IsOverAt s d m k (path_of y) → HasGained old (new ++ y ∷ []) s d m (k + 1)
 gained_more old new s d m k y hf hi hj hm hk h over x = (
   λ c. elim (Contains-push_cases new y x c) [
     | inl before ↦ elim ((h x).0 before) [ inl a ↦ inl a | inr b ↦ inr (wider s d m k x b) ]
@@ -43,7 +44,9 @@ gained_more old new s d m k y hf hi hj hm hk h over x = (
   ],
 )
 
-pub gained_push : (old cells new : List CellId) (s : FaceIj) (d m k : ℕ) (y : CellId) → s.face < 6 → s.i < 2 ^ s.level → s.j < 2 ^ s.level → m < 4 → k < 2 ^ d → HasGained old cells s d m k → IsOverAt s d m k (path_of y) → new ≡ cells ++ y ∷ [] → HasGained old new s d m (k + 1)
+pub gained_push : (old cells new : List CellId) (s : FaceIj) (d m k : ℕ) (y : CellId) → s.face < 6 → s.i < 2 ^ s.level → s.j < 2 ^ s.level
+    → m < 4 → k < 2 ^ d → HasGained old cells s d m k → IsOverAt s d m k (path_of y) → new ≡ cells ++ y ∷ []
+    → HasGained old new s d m (k + 1)
 gained_push old cells new s d m k y hf hi hj hm hk h over e =
     subst (λ xs. HasGained old xs s d m (k + 1)) (sym e) (gained_more old cells s d m k y hf hi hj hm hk h over)
 
@@ -57,7 +60,8 @@ sides_of_nil s d x = (λ c. let e = c.1 in absurd (omega arith), λ o. let e = o
 pub sides_none : (cells : List CellId) (s : FaceIj) (d : ℕ) → cells ≡ [] → HasSides cells s d 0
 sides_none cells s d e = subst (λ xs. HasSides xs s d 0) (sym e) (sides_of_nil s d)
 
-pub sides_more : (old new : List CellId) (s : FaceIj) (d k : ℕ) → HasSides old s d k → HasGained old new s d k (2 ^ d) → HasSides new s d (k + 1)
+pub sides_more : (old new : List CellId) (s : FaceIj) (d k : ℕ) → HasSides old s d k → HasGained old new s d k (2 ^ d)
+    → HasSides new s d (k + 1)
 sides_more old new s d k h gained x = (
   λ c. elim ((gained x).0 c) [
     | inl a ↦ let o = (h x).0 a in record { side = o.side; is_side = let e = o.is_side in omega arith; over = o.over }

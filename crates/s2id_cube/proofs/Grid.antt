@@ -45,7 +45,8 @@ unfolding spot coordinate height
 on_face n u v f h = six (λ f. coordinate (f % 3) (spot n f u v) ≡ height n f) (refl, refl, refl, refl, refl, refl) f h
 
 -- strictly within a face the other two coordinates lie strictly within the cube
-pub strictly : (n u v : ℕ) → 0 < u → u < n → 0 < v → v < n → (f : ℕ) → f < 6 → (a : ℕ) → a < 3 → a ≢ f % 3 → (0 < coordinate a (spot n f u v)) × (coordinate a (spot n f u v) < n)
+pub strictly : (n u v : ℕ) → 0 < u → u < n → 0 < v → v < n → (f : ℕ) → f < 6 → (a : ℕ) → a < 3 → a ≢ f % 3
+    → (0 < coordinate a (spot n f u v)) × (coordinate a (spot n f u v) < n)
 unfolding spot coordinate
 strictly n u v hu hu' hv hv' f hf a ha =
     six (λ f. (a : ℕ) → a < 3 → a ≢ f % 3 → (0 < coordinate a (spot n f u v)) × (coordinate a (spot n f u v) < n)) (
@@ -101,13 +102,15 @@ sided n i j hi hj m hm =
     four (λ m. Sided n m i j) (omega arith) m hm
 
 -- an inner side lies strictly within its face
-pub inner_strictly : (n i j : ℕ) → i < n → j < n → (m : ℕ) → m < 4 → IsInner n m i j → (0 < mid_u m i) × (mid_u m i < 2 * n) × (0 < mid_v m j) × (mid_v m j < 2 * n)
+pub inner_strictly : (n i j : ℕ) → i < n → j < n → (m : ℕ) → m < 4 → IsInner n m i j
+    → (0 < mid_u m i) × (mid_u m i < 2 * n) × (0 < mid_v m j) × (mid_v m j < 2 * n)
 unfolding mid_u mid_v
 inner_strictly n i j hi hj m hm =
     four (λ m. IsInner n m i j → (0 < mid_u m i) × (mid_u m i < 2 * n) × (0 < mid_v m j) × (mid_v m j < 2 * n)) (omega arith) m hm
 
 -- two squares of one face with a side in common are one, or the second is beside the first
-pub same_or_step : (i j a b : ℕ) → ((i ≡ a) × (j ≡ b) → ⊥) → (m : ℕ) → m < 4 → (o : ℕ) → o < 4 → mid_u m i ≡ mid_u o a → mid_v m j ≡ mid_v o b → IsStep m i j a b
+pub same_or_step : (i j a b : ℕ) → ((i ≡ a) × (j ≡ b) → ⊥) → (m : ℕ) → m < 4 → (o : ℕ) → o < 4 → mid_u m i ≡ mid_u o a
+    → mid_v m j ≡ mid_v o b → IsStep m i j a b
 unfolding mid_u mid_v
 same_or_step i j a b apart m hm o ho =
     four (λ m. (o : ℕ) → o < 4 → mid_u m i ≡ mid_u o a → mid_v m j ≡ mid_v o b → IsStep m i j a b) (
@@ -193,7 +196,8 @@ not_along n m f i j p h t odd e =
     let even = ap (λ x. coordinate x p % 2) e ∙ ap (λ x. x % 2) (at_height n m f i j p h) ∙ even_height n f h.face in
     omega arith
 
-four_axes : (t a b c : ℕ) → t < 3 → a < 3 → b < 3 → c < 3 → (t ≡ a → ⊥) → (t ≡ b → ⊥) → (t ≡ c → ⊥) → (a ≡ b → ⊥) → (a ≡ c → ⊥) → (b ≡ c → ⊥) → ⊥
+four_axes : (t a b c : ℕ) → t < 3 → a < 3 → b < 3 → c < 3 → (t ≡ a → ⊥) → (t ≡ b → ⊥) → (t ≡ c → ⊥) → (a ≡ b → ⊥) → (a ≡ c → ⊥)
+    → (b ≡ c → ⊥) → ⊥
 four_axes t a b c ht ha hb hc ta tb tc ab ac bc = omega arith
 
 one_step : (i j a b c d m : ℕ) → m < 4 → IsStep m i j a b → IsStep m i j c d → (a ≡ c) × (b ≡ d)
@@ -216,7 +220,8 @@ pub on_face_of : (n o f g a b : ℕ) (p : Spot) → g ≡ f → AtSide n o g a b
 on_face_of n o f g a b p e h = subst (λ x. AtSide n o x a b p) e h
 
 -- beside a square over a side there is one square
-pub one_beside : (n m f i j o g a b r h c d : ℕ) (p : Spot) → AtSide n m f i j p → AtSide n o g a b p → AtSide n r h c d p → ((f ≡ g) × (i ≡ a) × (j ≡ b) → ⊥) → ((f ≡ h) × (i ≡ c) × (j ≡ d) → ⊥) → (g ≡ h) × (a ≡ c) × (b ≡ d)
+pub one_beside : (n m f i j o g a b r h c d : ℕ) (p : Spot) → AtSide n m f i j p → AtSide n o g a b p → AtSide n r h c d p
+    → ((f ≡ g) × (i ≡ a) × (j ≡ b) → ⊥) → ((f ≡ h) × (i ≡ c) × (j ≡ d) → ⊥) → (g ≡ h) × (a ≡ c) × (b ≡ d)
 one_beside n m f i j o g a b r h c d p s t u st su =
     elim (cases_eq g f) [
       | inl gf ↦

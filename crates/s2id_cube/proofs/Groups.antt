@@ -22,7 +22,8 @@ pub record IsFourBelow (s t : FaceIj) (b : ℕ) : Type 0 where
 abbrev pub deeper : ℕ → ℕ
 deeper k = suc (suc (suc (suc k)))
 
-four_quarters : (s : FaceIj) (b : ℕ) → IsFourBelow s (quarter (b / 1 % 4) (quarter (b / 4 % 4) (quarter (b / 16 % 4) (quarter (b / 64 % 4) s)))) b
+four_quarters : (s : FaceIj) (b : ℕ)
+    → IsFourBelow s (quarter (b / 1 % 4) (quarter (b / 4 % 4) (quarter (b / 16 % 4) (quarter (b / 64 % 4) s)))) b
 unfolding four_steps square_after last_digits quarter
 four_quarters s b = record { at_i = omega arith; at_j = omega arith; at_orientation = refl }
 
@@ -138,7 +139,8 @@ square_in_more f g d b h =
     swap f p = omega arith
 
 -- how far a square of some groups reaches
-pub square_in_narrow : (f g d : ℕ) → f < 6 → g < 8 → 16 * d < 256 ^ (g + 1) → ((square_in f (g + 1) d).i < 2 ^ 30) × ((square_in f (g + 1) d).j < 2 ^ 30)
+pub square_in_narrow : (f g d : ℕ) → f < 6 → g < 8 → 16 * d < 256 ^ (g + 1)
+    → ((square_in f (g + 1) d).i < 2 ^ 30) × ((square_in f (g + 1) d).j < 2 ^ 30)
 unfolding square_in
 square_in_narrow f g d hf hg hd =
     let k = suc (suc (4 * g)) in
@@ -198,19 +200,23 @@ pub record IsStepDown (f d g rest square e : ℕ) : Type 0 where
   pub fits : square * 2 ^ 4 % 2 ^ 64 + e < 2 ^ 64
   pub down : IsDown f d (g + 1) (rest * 2 ^ 8 % 2 ^ 64) (square * 2 ^ 4 % 2 ^ 64 + e) (e / 2 ^ 54 / 256)
 
-packed_more : (square i j ti tj i' j' e : ℕ) → square % 2 ^ 62 ≡ i * 2 ^ 32 + j → i < 2 ^ 28 → j < 2 ^ 28 → e < 2 ^ 64 → ti ≡ e % 2 ^ 62 / 2 ^ 32 → tj ≡ e % 2 ^ 32 → i' ≡ 16 * i + ti → j' ≡ 16 * j + tj → i' < 2 ^ 30 → j' < 2 ^ 30 → (square * 2 ^ 4 % 2 ^ 64 + e < 2 ^ 64) × ((square * 2 ^ 4 % 2 ^ 64 + e) % 2 ^ 62 ≡ i' * 2 ^ 32 + j')
+packed_more : (square i j ti tj i' j' e : ℕ) → square % 2 ^ 62 ≡ i * 2 ^ 32 + j → i < 2 ^ 28 → j < 2 ^ 28 → e < 2 ^ 64
+    → ti ≡ e % 2 ^ 62 / 2 ^ 32 → tj ≡ e % 2 ^ 32 → i' ≡ 16 * i + ti → j' ≡ 16 * j + tj → i' < 2 ^ 30 → j' < 2 ^ 30
+    → (square * 2 ^ 4 % 2 ^ 64 + e < 2 ^ 64) × ((square * 2 ^ 4 % 2 ^ 64 + e) % 2 ^ 62 ≡ i' * 2 ^ 32 + j')
 packed_more square i j ti tj i' j' e is hi hj he ei ej ei' ej' hi' hj' =
     let low : square * 2 ^ 4 % 2 ^ 64 ≡ 16 * (i * 2 ^ 32 + j) = omega arith in
     let whole : e ≡ e / 2 ^ 62 * 2 ^ 62 + ti * 2 ^ 32 + tj = omega arith in
     let sum : square * 2 ^ 4 % 2 ^ 64 + e ≡ e / 2 ^ 62 * 2 ^ 62 + (i' * 2 ^ 32 + j') = omega arith in
     (omega arith, omega arith)
 
-rest_more : (d p rest : ℕ) → rest ≡ d * p % 2 ^ 64 → (rest * 2 ^ 8 % 2 ^ 64 ≡ d * (256 * p) % 2 ^ 64) × (d * p / 2 ^ 64 * 256 + rest / 2 ^ 56 ≡ d * (256 * p) / 2 ^ 64)
+rest_more : (d p rest : ℕ) → rest ≡ d * p % 2 ^ 64
+    → (rest * 2 ^ 8 % 2 ^ 64 ≡ d * (256 * p) % 2 ^ 64) × (d * p / 2 ^ 64 * 256 + rest / 2 ^ 56 ≡ d * (256 * p) / 2 ^ 64)
 rest_more d p rest h =
     let e : d * (256 * p) ≡ 256 * (d * p) = omega arith in
     (omega arith, omega arith)
 
-pub down_more : (f d g rest square orientation e : ℕ) → f < 6 → d < 2 ^ 60 → g < 8 → e < 2 ^ 64 → IsDown f d g rest square orientation → IsSquareEntry orientation (rest / 2 ^ 56) e → IsStepDown f d g rest square e
+pub down_more : (f d g rest square orientation e : ℕ) → f < 6 → d < 2 ^ 60 → g < 8 → e < 2 ^ 64 → IsDown f d g rest square orientation
+    → IsSquareEntry orientation (rest / 2 ^ 56) e → IsStepDown f d g rest square e
 down_more f d g rest square orientation e hf hd hg he h entry =
     let p = 256 ^ g in
     let c = d * p / 2 ^ 64 in
@@ -245,7 +251,8 @@ pub record IsLeafSquare (place i j orientation : ℕ) : Type 0 where
   pub at_j : (square_at 30 place).j ≡ j
   pub at_orientation : (square_at 30 place).orientation ≡ orientation
 
-pub down_all : (place rest square orientation : ℕ) → place < 6 * 2 ^ 60 → IsDown (place / 2 ^ 60) (place % 2 ^ 60) 8 rest square orientation → IsLeafSquare place (square % 2 ^ 62 / 2 ^ 32) (square % 2 ^ 32) orientation
+pub down_all : (place rest square orientation : ℕ) → place < 6 * 2 ^ 60 → IsDown (place / 2 ^ 60) (place % 2 ^ 60) 8 rest square orientation
+    → IsLeafSquare place (square % 2 ^ 62 / 2 ^ 32) (square % 2 ^ 32) orientation
 down_all place rest square orientation hp h =
     let f = place / 2 ^ 60 in
     let d = place % 2 ^ 60 in
@@ -283,7 +290,8 @@ up_orientation f i j g places orientation hf h =
     omega arith
 
 -- four bits more of a coordinate
-bits_more : (x g si ti t : ℕ) → g < 8 → si ≡ x / 2 ^ (32 - 4 * g) → ti ≡ 16 * si + t → t ≡ x / 2 ^ (28 - 4 * g) % 16 → ti ≡ x / 2 ^ (32 - 4 * (g + 1))
+bits_more : (x g si ti t : ℕ) → g < 8 → si ≡ x / 2 ^ (32 - 4 * g) → ti ≡ 16 * si + t → t ≡ x / 2 ^ (28 - 4 * g) % 16
+    → ti ≡ x / 2 ^ (32 - 4 * (g + 1))
 bits_more x g si ti t hg es et eb =
     let e1 : 32 - 4 * g ≡ 28 - 4 * g + 4 = omega arith in
     let e2 : 32 - 4 * (g + 1) ≡ 28 - 4 * g = omega arith in
@@ -296,7 +304,9 @@ first_small : (x : ℕ) → x < 2 ^ 30 → x / 2 ^ 28 % 16 < 4
 first_small x h = omega arith
 
 -- the first group has two positions alone
-few_more : (f i j g d orientation e b : ℕ) → f < 6 → i < 2 ^ 30 → j < 2 ^ 30 → (g ≡ 0 → orientation < 2) → 16 * d < 256 ^ g → b ≡ 16 * (i / 2 ^ (28 - 4 * g) % 16) + j / 2 ^ (28 - 4 * g) % 16 → IsPlaceEntry orientation b e → 16 * (d * 256 + e % 2 ^ 62) < 256 ^ (g + 1)
+few_more : (f i j g d orientation e b : ℕ) → f < 6 → i < 2 ^ 30 → j < 2 ^ 30 → (g ≡ 0 → orientation < 2) → 16 * d < 256 ^ g
+    → b ≡ 16 * (i / 2 ^ (28 - 4 * g) % 16) + j / 2 ^ (28 - 4 * g) % 16 → IsPlaceEntry orientation b e
+    → 16 * (d * 256 + e % 2 ^ 62) < 256 ^ (g + 1)
 few_more f i j zero d orientation e b hf hi hj ho few eb entry =
     let a = first_small i hi in
     let c = first_small j hj in
@@ -315,7 +325,9 @@ start_orientation f i j zero places orientation h _ = let e = h.at_orientation i
 start_orientation f i j (suc g) places orientation h e = absurd (omega arith)
 
 -- one group more: the positions of the entry behind those of the groups before
-pub up_more : (f i j g places orientation e b next : ℕ) → f < 6 → i < 2 ^ 30 → j < 2 ^ 30 → g < 8 → IsUp f i j g places orientation → b ≡ 16 * (i / 2 ^ (28 - 4 * g) % 16) + j / 2 ^ (28 - 4 * g) % 16 → IsPlaceEntry orientation b e → next % 2 ^ 62 ≡ places % 2 ^ 62 * 256 + e % 2 ^ 62 → IsUp f i j (g + 1) next (e / 2 ^ 62)
+pub up_more : (f i j g places orientation e b next : ℕ) → f < 6 → i < 2 ^ 30 → j < 2 ^ 30 → g < 8 → IsUp f i j g places orientation
+    → b ≡ 16 * (i / 2 ^ (28 - 4 * g) % 16) + j / 2 ^ (28 - 4 * g) % 16 → IsPlaceEntry orientation b e
+    → next % 2 ^ 62 ≡ places % 2 ^ 62 * 256 + e % 2 ^ 62 → IsUp f i j (g + 1) next (e / 2 ^ 62)
 up_more f i j g places orientation e b next hf hi hj hg h eb entry en =
     let d = places % 2 ^ 62 in
     let d' = d * 256 + e % 2 ^ 62 in
@@ -338,7 +350,8 @@ pub record IsLeafPlace (f i j place : ℕ) : Type 0 where
   pub at_i : (square_at 30 place).i ≡ i
   pub at_j : (square_at 30 place).j ≡ j
 
-pub up_all : (f i j places orientation place : ℕ) → f < 6 → IsUp f i j 8 places orientation → place ≡ f * 2 ^ 60 + places % 2 ^ 62 → IsLeafPlace f i j place
+pub up_all : (f i j places orientation place : ℕ) → f < 6 → IsUp f i j 8 places orientation → place ≡ f * 2 ^ 60 + places % 2 ^ 62
+    → IsLeafPlace f i j place
 up_all f i j places orientation place hf h ep =
     let d = places % 2 ^ 62 in
     let few = h.few in
@@ -358,7 +371,8 @@ pub record IsPairUp (f i j odd0 even0 pair places orientation odd even : ℕ) : 
   pub at_odd : odd ≡ odd0 * 256 ^ pair % 2 ^ 32
   pub at_even : even ≡ even0 * 256 ^ pair % 2 ^ 32
 
-pub pair_none : (f i j odd0 even0 o : ℕ) → i < 2 ^ 30 → j < 2 ^ 30 → odd0 < 2 ^ 32 → even0 < 2 ^ 32 → o ≡ f % 2 → IsPairUp f i j odd0 even0 0 0 o odd0 even0
+pub pair_none : (f i j odd0 even0 o : ℕ) → i < 2 ^ 30 → j < 2 ^ 30 → odd0 < 2 ^ 32 → even0 < 2 ^ 32 → o ≡ f % 2
+    → IsPairUp f i j odd0 even0 0 0 o odd0 even0
 pair_none f i j odd0 even0 o hi hj ho he eo = record { up = subst (IsUp f i j 0 0) (sym eo) (up_none f i j hi hj); at_odd = omega arith; at_even = omega arith }
 
 pub record IsPairMore (f i j odd0 even0 pair places odd even upper lower : ℕ) : Type 0 where
@@ -375,14 +389,19 @@ next_byte w w0 p e =
     swap : (a b : ℕ) → a * (256 * b) ≡ 256 * (a * b)
     swap a b = omega arith
 
-two_more : (places upper lower d u l : ℕ) → d ≡ places % 2 ^ 62 → d < 2 ^ 44 → u ≡ upper % 2 ^ 62 → u < 256 → l ≡ lower % 2 ^ 62 → l < 256 → lower < 2 ^ 64 → (places * 2 ^ 16 % 2 ^ 64 + upper * 2 ^ 8 % 2 ^ 64 < 2 ^ 64) × (places * 2 ^ 16 % 2 ^ 64 + upper * 2 ^ 8 % 2 ^ 64 + lower < 2 ^ 64) × ((places * 2 ^ 16 % 2 ^ 64 + upper * 2 ^ 8 % 2 ^ 64 + lower) % 2 ^ 62 ≡ (d * 256 + u) * 256 + l)
+two_more : (places upper lower d u l : ℕ) → d ≡ places % 2 ^ 62 → d < 2 ^ 44 → u ≡ upper % 2 ^ 62 → u < 256 → l ≡ lower % 2 ^ 62 → l < 256
+    → lower < 2 ^ 64
+    → (places * 2 ^ 16 % 2 ^ 64 + upper * 2 ^ 8 % 2 ^ 64 < 2 ^ 64) × (places * 2 ^ 16 % 2 ^ 64 + upper * 2 ^ 8 % 2 ^ 64 + lower < 2 ^ 64) × ((places * 2 ^ 16 % 2 ^ 64 + upper * 2 ^ 8 % 2 ^ 64 + lower) % 2 ^ 62 ≡ (d * 256 + u) * 256 + l)
 two_more places upper lower d u l ed hd eu hu el hl h =
     let a : places * 2 ^ 16 % 2 ^ 64 ≡ d * 2 ^ 16 = omega arith in
     let b : upper * 2 ^ 8 % 2 ^ 64 ≡ u * 2 ^ 8 = omega arith in
     let c : lower ≡ lower / 2 ^ 62 * 2 ^ 62 + l = omega arith in
     (omega arith, omega arith, omega arith)
 
-pub pair_more : (f i j odd0 even0 pair places orientation odd even upper lower : ℕ) → f < 6 → i < 2 ^ 30 → j < 2 ^ 30 → pair < 4 → lower < 2 ^ 64 → AreWoven i j odd0 even0 → IsPairUp f i j odd0 even0 pair places orientation odd even → IsPlaceEntry orientation (odd / 2 ^ 24) upper → IsPlaceEntry (upper / 2 ^ 54 / 256) (even / 2 ^ 24) lower → IsPairMore f i j odd0 even0 pair places odd even upper lower
+pub pair_more : (f i j odd0 even0 pair places orientation odd even upper lower : ℕ) → f < 6 → i < 2 ^ 30 → j < 2 ^ 30 → pair < 4
+    → lower < 2 ^ 64 → AreWoven i j odd0 even0 → IsPairUp f i j odd0 even0 pair places orientation odd even
+    → IsPlaceEntry orientation (odd / 2 ^ 24) upper → IsPlaceEntry (upper / 2 ^ 54 / 256) (even / 2 ^ 24) lower
+    → IsPairMore f i j odd0 even0 pair places odd even upper lower
 pair_more f i j odd0 even0 pair places orientation odd even upper lower hf hi hj hp hl woven h first second =
     let g = 2 * pair in
     let d = places % 2 ^ 62 in
@@ -411,15 +430,20 @@ pair_more f i j odd0 even0 pair places orientation odd even upper lower hf hi hj
       };
     }
 
-pub pair_orientation : (f i j odd0 even0 pair places orientation odd even : ℕ) → f < 6 → IsPairUp f i j odd0 even0 pair places orientation odd even → orientation < 4
+pub pair_orientation : (f i j odd0 even0 pair places orientation odd even : ℕ) → f < 6
+    → IsPairUp f i j odd0 even0 pair places orientation odd even → orientation < 4
 pair_orientation f i j odd0 even0 pair places orientation odd even hf h = up_orientation f i j (2 * pair) places orientation hf h.up
 
-pub pairs_all : (f i j odd0 even0 pair places orientation odd even place : ℕ) → f < 6 → pair ≡ 4 → place ≡ f * 2 ^ 60 + places % 2 ^ 62 → IsPairUp f i j odd0 even0 pair places orientation odd even → IsLeafPlace f i j place
+pub pairs_all : (f i j odd0 even0 pair places orientation odd even place : ℕ) → f < 6 → pair ≡ 4 → place ≡ f * 2 ^ 60 + places % 2 ^ 62
+    → IsPairUp f i j odd0 even0 pair places orientation odd even → IsLeafPlace f i j place
 pairs_all f i j odd0 even0 pair places orientation odd even place hf e ep h =
     up_all f i j places orientation place hf (subst (λ n. IsUp f i j n places orientation) (let a : 2 * pair ≡ 8 = omega arith in a) h.up) ep
 
 -- the square of a leaf as the code writes it
-pub leaf_written : (place rest square orientation group : ℕ) → place < 6 * 2 ^ 60 → square < 2 ^ 64 → group ≡ 8 → IsDown (place / 2 ^ 60) (place % 2 ^ 60) group rest square orientation → (s : FaceIj) → s ≡ record { face = place / 2 ^ 60; i = square / 2 ^ 32 % 2 ^ 30; j = square % 2 ^ 32; level = 30; orientation = orientation } → s ≡ square_at 30 place
+pub leaf_written : (place rest square orientation group : ℕ) → place < 6 * 2 ^ 60 → square < 2 ^ 64 → group ≡ 8
+    → IsDown (place / 2 ^ 60) (place % 2 ^ 60) group rest square orientation → (s : FaceIj)
+    → s ≡ record { face = place / 2 ^ 60; i = square / 2 ^ 32 % 2 ^ 30; j = square % 2 ^ 32; level = 30; orientation = orientation }
+    → s ≡ square_at 30 place
 leaf_written place rest square orientation group hp hs hg h s es =
     let a = down_all place rest square orientation hp (subst (λ n. IsDown (place / 2 ^ 60) (place % 2 ^ 60) n rest square orientation) hg h) in
     let t = square_at 30 place in

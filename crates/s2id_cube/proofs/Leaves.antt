@@ -49,7 +49,8 @@ orientation_below (suc d) k p h =
 abbrev pub taken : FaceIj → ℕ → FaceIj
 taken leaf level = record { face = leaf.face; i = leaf.i / 2 ^ (30 - level); j = leaf.j / 2 ^ (30 - level); level = level; orientation = bit_xor leaf.orientation ((30 - level) % 2) }
 
-pub taken_is : (p : Path) → IsPath p → (level place shifted : ℕ) (leaf : FaceIj) → level ≡ length p.digits → place ≡ place_of p → shifted ≡ place * 4 ^ (30 - level) → leaf ≡ square_at 30 shifted → taken leaf level ≡ square_of p
+pub taken_is : (p : Path) → IsPath p → (level place shifted : ℕ) (leaf : FaceIj) → level ≡ length p.digits → place ≡ place_of p
+    → shifted ≡ place * 4 ^ (30 - level) → leaf ≡ square_at 30 shifted → taken leaf level ≡ square_of p
 taken_is p path level place shifted leaf el ep es is =
     let d = 30 - level in
     let fits = cell_fits p path level place el ep in
@@ -76,7 +77,8 @@ taken_is p path level place shifted leaf el ep es is =
     wider m a b c h pos e = let x : m * b < 6 * a * b = mul-lt-mul_of_pos_right h pos in let y : 6 * a * b ≡ 6 * (a * b) = omega arith in omega arith
 
 -- a place of a level that is shifted to the level of leaves
-pub shifted_to_leaf : (level place : ℕ) → level ≤ 30 → place < 6 * 4 ^ level → (place * 2 ^ (2 * (30 - level)) % 2 ^ 64 ≡ place * 4 ^ (30 - level)) × (place * 4 ^ (30 - level) < 6 * 2 ^ 60)
+pub shifted_to_leaf : (level place : ℕ) → level ≤ 30 → place < 6 * 4 ^ level
+    → (place * 2 ^ (2 * (30 - level)) % 2 ^ 64 ≡ place * 4 ^ (30 - level)) × (place * 4 ^ (30 - level) < 6 * 2 ^ 60)
 shifted_to_leaf level place hl hp =
     let d = 30 - level in
     let e = four_pow d in
@@ -89,7 +91,8 @@ shifted_to_leaf level place hl hp =
     by m a b pos h = let x : m * b < 6 * a * b = mul-lt-mul_of_pos_right h pos in let y : 6 * a * b ≡ 6 * (a * b) = omega arith in omega arith
 
 -- a coordinate that is shifted to the level of leaves
-pub shifted_coordinate : (level i : ℕ) → level ≤ 30 → i < 2 ^ level → (i * 2 ^ (30 - level) % 2 ^ 32 ≡ i * 2 ^ (30 - level)) × (i * 2 ^ (30 - level) < 2 ^ 30) × (i * 2 ^ (30 - level) / 2 ^ (30 - level) ≡ i)
+pub shifted_coordinate : (level i : ℕ) → level ≤ 30 → i < 2 ^ level
+    → (i * 2 ^ (30 - level) % 2 ^ 32 ≡ i * 2 ^ (30 - level)) × (i * 2 ^ (30 - level) < 2 ^ 30) × (i * 2 ^ (30 - level) / 2 ^ (30 - level) ≡ i)
 shifted_coordinate level i hl hi =
     let d = 30 - level in
     let pos = pow_pos d in
@@ -100,10 +103,13 @@ shifted_coordinate level i hl hi =
 
 -- ---- from a cell's leaf to the cell's place
 
-pub place_of_leaf : (level place : ℕ) → level ≤ 30 → place < 6 * 4 ^ 30 → (place / 2 ^ (2 * (30 - level)) ≡ place / 4 ^ (30 - level)) × (place / 4 ^ (30 - level) < 6 * 4 ^ level)
+pub place_of_leaf : (level place : ℕ) → level ≤ 30 → place < 6 * 4 ^ 30
+    → (place / 2 ^ (2 * (30 - level)) ≡ place / 4 ^ (30 - level)) × (place / 4 ^ (30 - level) < 6 * 4 ^ level)
 place_of_leaf level place hl hp = (ap (λ x. place / x) (four_pow (30 - level)), place_above place 30 level hl hp)
 
-pub square_from_leaf : (p : Path) → IsPath p → (face i j level place : ℕ) → level ≤ 30 → length p.digits ≡ level → place_of p ≡ place / 4 ^ (30 - level) → i * 2 ^ (30 - level) / 2 ^ (30 - level) ≡ i → j * 2 ^ (30 - level) / 2 ^ (30 - level) ≡ j → IsLeafPlace face (i * 2 ^ (30 - level)) (j * 2 ^ (30 - level)) place → IsSquareOf p face i j level
+pub square_from_leaf : (p : Path) → IsPath p → (face i j level place : ℕ) → level ≤ 30 → length p.digits ≡ level
+    → place_of p ≡ place / 4 ^ (30 - level) → i * 2 ^ (30 - level) / 2 ^ (30 - level) ≡ i → j * 2 ^ (30 - level) / 2 ^ (30 - level) ≡ j
+    → IsLeafPlace face (i * 2 ^ (30 - level)) (j * 2 ^ (30 - level)) place → IsSquareOf p face i j level
 square_from_leaf p path face i j level place hl el ep bi bj leaf =
     let d = 30 - level in
     let deep : d + level ≡ 30 = omega arith in

@@ -191,7 +191,8 @@ last_of_face (suc k) f q e =
     positive f b h = omega arith
 
 -- the face after a face along the curve, and the side by which it is reached
-crossing : (last f : ℕ) → f < 6 → (f % 2 ≡ 0 → IsBeside (last + 1) 1 f last 0 ((f + 1) % 6) 0 0) × (f % 2 ≡ 1 → IsBeside (last + 1) 2 f 0 last ((f + 1) % 6) 0 0)
+crossing : (last f : ℕ) → f < 6
+    → (f % 2 ≡ 0 → IsBeside (last + 1) 1 f last 0 ((f + 1) % 6) 0 0) × (f % 2 ≡ 1 → IsBeside (last + 1) 2 f 0 last ((f + 1) % 6) 0 0)
 unfolding column_on row_on along_over
 crossing last f h =
     six (λ f. (f % 2 ≡ 0 → IsBeside (last + 1) 1 f last 0 ((f + 1) % 6) 0 0) × (f % 2 ≡ 1 → IsBeside (last + 1) 2 f 0 last ((f + 1) % 6) 0 0)) (
@@ -210,7 +211,8 @@ record HasSide (n : ℕ) (s t : FaceIj) : Type 0 where
   is_side : side < 4
   beside : IsBeside n side s.face s.i s.j t.face t.i t.j
 
-from_face_to_face : (k f q r : ℕ) → f < 6 → q + 1 ≡ (f + 1) * 4 ^ k → r ≡ (f + 1) % 6 * 4 ^ k → HasSide (2 ^ k) (square_at k q) (square_at k r)
+from_face_to_face : (k f q r : ℕ) → f < 6 → q + 1 ≡ (f + 1) * 4 ^ k → r ≡ (f + 1) % 6 * 4 ^ k
+    → HasSide (2 ^ k) (square_at k q) (square_at k r)
 from_face_to_face k f q r hf eq er =
     let s = square_at k q in
     let t = square_at k r in
@@ -286,7 +288,8 @@ next_has_side k q r hq er =
     few x b h = lt_of_mul (x + 1) 6 b h
 
 -- a cell and the next cell along the curve share an edge
-pub next_shares : (p q : Path) → IsPath p → IsPath q → length p.digits ≡ length q.digits → place_of q ≡ (place_of p + 1) % (6 * 4 ^ length p.digits) → ShareEdge p q
+pub next_shares : (p q : Path) → IsPath p → IsPath q → length p.digits ≡ length q.digits
+    → place_of q ≡ (place_of p + 1) % (6 * 4 ^ length p.digits) → ShareEdge p q
 next_shares p q hp hq long place =
     let k = length p.digits in
     let h = next_has_side k (place_of p) (place_of q) (place_below p hp) place in

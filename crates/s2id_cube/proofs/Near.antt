@@ -36,7 +36,9 @@ first_groups d g h =
 pub before_none : (place : ℕ) (starts : List ℕ) → length starts ≡ 8 → AreBefore place 0 starts
 before_none place starts long = record { long = long; at = λ g h. absurd (omega arith) }
 
-pub before_more : (place group rest square start : ℕ) (starts : List ℕ) → group < 8 → start % 256 ≡ 0 → IsDown (place / 2 ^ 60) (place % 2 ^ 60) group rest square (start / 256) → AreBefore place group starts → AreBefore place (group + 1) (set starts (7 - group) start)
+pub before_more : (place group rest square start : ℕ) (starts : List ℕ) → group < 8 → start % 256 ≡ 0
+    → IsDown (place / 2 ^ 60) (place % 2 ^ 60) group rest square (start / 256) → AreBefore place group starts
+    → AreBefore place (group + 1) (set starts (7 - group) start)
 before_more place group rest square start starts hg whole down h =
     let f = place / 2 ^ 60 in
     let d = place % 2 ^ 60 in
@@ -80,7 +82,9 @@ leaf_front a i below n h small =
     let right : i * 2 ^ below / 2 ^ n ≡ i / 2 ^ k = ap (λ x. i * 2 ^ below / 2 ^ x) (sym whole) ∙ sym (shr-shr (i * 2 ^ below) below k) ∙ ap (λ x. x / 2 ^ k) (shl-shr i below) in
     left ∙ same_front (a / 2 ^ below) i k less ∙ sym right
 
-pub parted : (a b i j below w changed : ℕ) → below ≤ 30 → w ≡ bit_or (bit_or (bit_xor (a / 2 ^ below) i) (bit_xor (b / 2 ^ below) j)) 1 → changed ≡ w * 2 ^ below → changed < 2 ^ 32 → (leading_zeros w32 changed ≤ 31) × ArePartedFrom a b i j below ((31 - leading_zeros w32 changed) / 4)
+pub parted : (a b i j below w changed : ℕ) → below ≤ 30 → w ≡ bit_or (bit_or (bit_xor (a / 2 ^ below) i) (bit_xor (b / 2 ^ below) j)) 1
+    → changed ≡ w * 2 ^ below → changed < 2 ^ 32
+    → (leading_zeros w32 changed ≤ 31) × ArePartedFrom a b i j below ((31 - leading_zeros w32 changed) / 4)
 parted a b i j below w changed hb ew ec fits =
     let x = bit_xor (a / 2 ^ below) i in
     let y = bit_xor (b / 2 ^ below) j in
@@ -114,7 +118,9 @@ changed_bits leaf i j below = bit_or (bit_or (bit_xor (leaf.i / 2 ^ below) i) (b
 abbrev pub first_zeros : FaceIj → ℕ → ℕ → ℕ → ℕ
 first_zeros leaf i j below = leading_zeros w32 (changed_bits leaf i j below * 2 ^ below % 2 ^ 32)
 
-pub parting_is : (place i j below : ℕ) (leaf : FaceIj) → place < 6 * 2 ^ 60 → leaf ≡ square_at 30 place → below ≤ 30 → i < 2 ^ (30 - below) → j < 2 ^ (30 - below) → (first_zeros leaf i j below ≤ 31) × ArePartedFrom leaf.i leaf.j i j below ((31 - first_zeros leaf i j below) / 4)
+pub parting_is : (place i j below : ℕ) (leaf : FaceIj) → place < 6 * 2 ^ 60 → leaf ≡ square_at 30 place → below ≤ 30 → i < 2 ^ (30 - below)
+    → j < 2 ^ (30 - below)
+    → (first_zeros leaf i j below ≤ 31) × ArePartedFrom leaf.i leaf.j i j below ((31 - first_zeros leaf i j below) / 4)
 parting_is place i j below leaf hp el hb hi hj =
     let is : IsSquare 30 leaf = subst (IsSquare 30) (sym el) (IsSquare-square_at 30 place (omega arith)) in
     let k = 30 - below in
@@ -157,7 +163,10 @@ kept d n =
     shr-shr d (8 * n) 8 ∙ ap (λ x. d / x) bits
 
 -- the positions of the leaf before the group in which the ways part are those of the square
-pub near_start : (place i j below parting positions start : ℕ) (leaf : FaceIj) (starts : List ℕ) → place < 6 * 2 ^ 60 → leaf ≡ square_at 30 place → AreStarts place starts → ArePartedFrom leaf.i leaf.j i j below parting → positions ≡ place % 2 ^ 60 / 2 ^ (8 * parting) / 2 ^ 8 → start ≡ get_or starts parting 0 → IsUp leaf.face (i * 2 ^ below) (j * 2 ^ below) (8 - (parting + 1)) positions (start / 256) × (start % 256 ≡ 0)
+pub near_start : (place i j below parting positions start : ℕ) (leaf : FaceIj) (starts : List ℕ) → place < 6 * 2 ^ 60
+    → leaf ≡ square_at 30 place → AreStarts place starts → ArePartedFrom leaf.i leaf.j i j below parting
+    → positions ≡ place % 2 ^ 60 / 2 ^ (8 * parting) / 2 ^ 8 → start ≡ get_or starts parting 0
+    → IsUp leaf.face (i * 2 ^ below) (j * 2 ^ below) (8 - (parting + 1)) positions (start / 256) × (start % 256 ≡ 0)
 near_start place i j below parting positions start leaf starts hp el kept_are parts ep eo =
     let few_groups_left = parts.few in
     let first = 8 - (parting + 1) in
@@ -188,7 +197,8 @@ near_start place i j below parting positions start leaf starts hp el kept_are pa
     )
 
 -- a coordinate of a leaf
-pub leaf_coordinate : (i below : ℕ) → below ≤ 30 → i < 2 ^ (30 - below) → (i * 2 ^ below % 2 ^ 32 ≡ i * 2 ^ below) × (i * 2 ^ below < 2 ^ 30)
+pub leaf_coordinate : (i below : ℕ) → below ≤ 30 → i < 2 ^ (30 - below)
+    → (i * 2 ^ below % 2 ^ 32 ≡ i * 2 ^ below) × (i * 2 ^ below < 2 ^ 30)
 leaf_coordinate i below hb hi =
     let split : 2 ^ 30 ≡ 2 ^ (30 - below) * 2 ^ below = ap (λ x. 2 ^ x) (let e : 30 ≡ 30 - below + below = omega arith in e) ∙ pow-add 2 (30 - below) below in
     let less : i * 2 ^ below < 2 ^ (30 - below) * 2 ^ below = mul-lt-mul_of_pos_right hi (pow_pos below) in
@@ -200,24 +210,31 @@ pub record IsMore (f i j g positions e : ℕ) : Type 0 where
   pub fits : positions * 2 ^ 8 % 2 ^ 64 + e < 2 ^ 64
   pub up : IsUp f i j (g + 1) (positions * 2 ^ 8 % 2 ^ 64 + e) (e / 2 ^ 54 / 256)
 
-one_more : (positions e d b : ℕ) → d ≡ positions % 2 ^ 62 → d < 2 ^ 52 → b ≡ e % 2 ^ 62 → b < 256 → e < 2 ^ 64 → (positions * 2 ^ 8 % 2 ^ 64 + e < 2 ^ 64) × ((positions * 2 ^ 8 % 2 ^ 64 + e) % 2 ^ 62 ≡ d * 256 + b)
+one_more : (positions e d b : ℕ) → d ≡ positions % 2 ^ 62 → d < 2 ^ 52 → b ≡ e % 2 ^ 62 → b < 256 → e < 2 ^ 64
+    → (positions * 2 ^ 8 % 2 ^ 64 + e < 2 ^ 64) × ((positions * 2 ^ 8 % 2 ^ 64 + e) % 2 ^ 62 ≡ d * 256 + b)
 one_more positions e d b ed hd eb hb he =
     let a : positions * 2 ^ 8 % 2 ^ 64 ≡ d * 2 ^ 8 = omega arith in
     let c : e ≡ e / 2 ^ 62 * 2 ^ 62 + b = omega arith in
     (omega arith, omega arith)
 
-pub near_more : (f i j g positions orientation square e : ℕ) → f < 6 → i < 2 ^ 30 → j < 2 ^ 30 → g < 8 → e < 2 ^ 64 → IsUp f i j g positions orientation → square ≡ 16 * (i / 2 ^ (28 - 4 * g) % 16) + j / 2 ^ (28 - 4 * g) % 16 → IsPlaceEntry orientation square e → IsMore f i j g positions e
+pub near_more : (f i j g positions orientation square e : ℕ) → f < 6 → i < 2 ^ 30 → j < 2 ^ 30 → g < 8 → e < 2 ^ 64
+    → IsUp f i j g positions orientation → square ≡ 16 * (i / 2 ^ (28 - 4 * g) % 16) + j / 2 ^ (28 - 4 * g) % 16
+    → IsPlaceEntry orientation square e → IsMore f i j g positions e
 near_more f i j g positions orientation square e hf hi hj hg he h es entry =
     let few = h.few in
     let most : 256 ^ g ≤ 256 ^ 7 = pow-le-pow_right {n = 256} (omega arith) {i = g} {j = 7} (omega arith) in
     let one = one_more positions e (positions % 2 ^ 62) (e % 2 ^ 62) refl (omega arith) refl entry.steps.below he in
     record { fits = one.0; up = subst (λ x. IsUp f i j (g + 1) (positions * 2 ^ 8 % 2 ^ 64 + e) x) (sym (row_of_entry e)) (up_more f i j g positions orientation e square (positions * 2 ^ 8 % 2 ^ 64 + e) hf hi hj hg h es entry one.1) }
 
-pub near_done : (f i j left groups positions start result : ℕ) → 8 - left ≡ groups → IsUp f i j (8 - left) positions start → result ≡ positions % 2 ^ 62 → AreFirst f i j groups result
+pub near_done : (f i j left groups positions start result : ℕ) → 8 - left ≡ groups → IsUp f i j (8 - left) positions start
+    → result ≡ positions % 2 ^ 62 → AreFirst f i j groups result
 near_done f i j left groups positions start result eg h er =
     subst (λ x. AreFirst f i j groups x) (sym er) (subst (λ g. AreFirst f i j g (positions % 2 ^ 62)) eg (record { few = h.few; column = h.at_i; row = h.at_j }))
 
-pub near_fewer : (f i j left positions orientation square e : ℕ) → f < 6 → i < 2 ^ 30 → j < 2 ^ 30 → 0 < left → left ≤ 8 → e < 2 ^ 64 → IsUp f i j (8 - left) positions orientation → square ≡ 16 * (i / 2 ^ (4 * (left - 1)) % 16) + j / 2 ^ (4 * (left - 1)) % 16 → IsPlaceEntry orientation square e → (positions * 2 ^ 8 % 2 ^ 64 + e < 2 ^ 64) × IsUp f i j (8 - (left - 1)) (positions * 2 ^ 8 % 2 ^ 64 + e) (e / 2 ^ 54 / 256)
+pub near_fewer : (f i j left positions orientation square e : ℕ) → f < 6 → i < 2 ^ 30 → j < 2 ^ 30 → 0 < left → left ≤ 8 → e < 2 ^ 64
+    → IsUp f i j (8 - left) positions orientation → square ≡ 16 * (i / 2 ^ (4 * (left - 1)) % 16) + j / 2 ^ (4 * (left - 1)) % 16
+    → IsPlaceEntry orientation square e
+    → (positions * 2 ^ 8 % 2 ^ 64 + e < 2 ^ 64) × IsUp f i j (8 - (left - 1)) (positions * 2 ^ 8 % 2 ^ 64 + e) (e / 2 ^ 54 / 256)
 near_fewer f i j left positions orientation square e hf hi hj some most he h es entry =
     let bits : 4 * (left - 1) ≡ 28 - 4 * (8 - left) = omega arith in
     let m = near_more f i j (8 - left) positions orientation square e hf hi hj (omega arith) he h (es ∙ ap (λ x. 16 * (i / 2 ^ x % 16) + j / 2 ^ x % 16) bits) entry in
@@ -240,7 +257,9 @@ square_in_at : (f g d : ℕ) → square_in f g d ≡ square_at (4 * g) (f * 256 
 unfolding square_in
 square_in_at f g d = refl
 
-pub near_place : (f i j level positions : ℕ) → f < 6 → level ≤ 30 → AreFirst f (i * 2 ^ (30 - level)) (j * 2 ^ (30 - level)) (8 - (30 - level) / 4) positions → IsNearPlace f i j level (f * 4 ^ level + positions / 4 ^ ((30 - level) % 4))
+pub near_place : (f i j level positions : ℕ) → f < 6 → level ≤ 30
+    → AreFirst f (i * 2 ^ (30 - level)) (j * 2 ^ (30 - level)) (8 - (30 - level) / 4) positions
+    → IsNearPlace f i j level (f * 4 ^ level + positions / 4 ^ ((30 - level) % 4))
 near_place f i j level positions hf hl h =
     let below = 30 - level in
     let pad = below % 4 in
@@ -274,7 +293,8 @@ near_place f i j level positions hf hl h =
     turn : (f w p d : ℕ) → f * (w * p) + d ≡ f * w * p + d
     turn f w p d = omega arith
 
-pub near_cell : (p : Path) → IsPath p → (f i j level place : ℕ) → level ≤ 30 → length p.digits ≡ level → place_of p ≡ place → IsNearPlace f i j level place → IsSquareOf p f i j level
+pub near_cell : (p : Path) → IsPath p → (f i j level place : ℕ) → level ≤ 30 → length p.digits ≡ level → place_of p ≡ place
+    → IsNearPlace f i j level place → IsSquareOf p f i j level
 near_cell p path f i j level place hl el ep h =
     let same : square_of p ≡ square_at level place = square_of_place p path ∙ ap₂ square_at el ep in
     record {
@@ -293,7 +313,9 @@ pub record IsCellNear (f i j level positions : ℕ) : Type 0 where
   pub within : f * 2 ^ (2 * level) % 2 ^ 64 + positions / 2 ^ (2 * ((30 - level) % 4)) < 6 * 4 ^ level
   pub at : IsNearPlace f i j level (f * 2 ^ (2 * level) % 2 ^ 64 + positions / 2 ^ (2 * ((30 - level) % 4)))
 
-pub near_written : (place i j level positions : ℕ) (leaf : FaceIj) → place < 6 * 2 ^ 60 → leaf ≡ square_at 30 place → level ≤ 30 → AreFirst leaf.face (i * 2 ^ (30 - level)) (j * 2 ^ (30 - level)) (8 - (30 - level) / 4) positions → IsCellNear leaf.face i j level positions
+pub near_written : (place i j level positions : ℕ) (leaf : FaceIj) → place < 6 * 2 ^ 60 → leaf ≡ square_at 30 place → level ≤ 30
+    → AreFirst leaf.face (i * 2 ^ (30 - level)) (j * 2 ^ (30 - level)) (8 - (30 - level) / 4) positions
+    → IsCellNear leaf.face i j level positions
 near_written place i j level positions leaf hp el hl h =
     let f = leaf.face in
     let hf = face_below place leaf hp el in

@@ -54,7 +54,8 @@ above_at (suc d) k q h =
     })
 
 -- the square of a cell lies in that of its ancestor
-pub above_ancestor : (k : ℕ) (q : Path) → IsPath q → k ≤ length q.digits → IsAbove (length q.digits - k) (square_of (ancestor k q)) (square_of q)
+pub above_ancestor : (k : ℕ) (q : Path) → IsPath q → k ≤ length q.digits
+    → IsAbove (length q.digits - k) (square_of (ancestor k q)) (square_of q)
 above_ancestor k q path h =
     let d = length q.digits - k in
     let deep : d + k ≡ length q.digits = omega arith in
@@ -64,12 +65,14 @@ above_ancestor k q path h =
     subst (λ t. IsAbove d t (square_of q)) (sym top) (subst (λ s. IsAbove d (square_at k (place_of q / 4 ^ d)) s) here (above_at d k (place_of q) below))
 
 -- a cell lies within another just where its square lies in the other's
-pub nested_path : (p q : Path) (d : ℕ) → IsPath q → length q.digits ≡ length p.digits + d → IsWithin q p → IsAbove d (square_of p) (square_of q)
+pub nested_path : (p q : Path) (d : ℕ) → IsPath q → length q.digits ≡ length p.digits + d → IsWithin q p
+    → IsAbove d (square_of p) (square_of q)
 nested_path p q d path long within =
     let at = subst (λ x. IsAbove (length q.digits - length p.digits) (square_of x) (square_of q)) within (above_ancestor (length p.digits) q path (omega arith)) in
     subst (λ x. IsAbove x (square_of p) (square_of q)) (let e : length q.digits - length p.digits ≡ d = omega arith in e) at
 
-pub within_of_square : (p q : Path) (d : ℕ) → IsPath p → IsPath q → length q.digits ≡ length p.digits + d → IsAbove d (square_of p) (square_of q) → IsWithin q p
+pub within_of_square : (p q : Path) (d : ℕ) → IsPath p → IsPath q → length q.digits ≡ length p.digits + d
+    → IsAbove d (square_of p) (square_of q) → IsWithin q p
 within_of_square p q d hp hq long h =
     let k = length p.digits in
     let deep : k ≤ length q.digits = omega arith in

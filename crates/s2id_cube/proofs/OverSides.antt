@@ -107,7 +107,8 @@ share_edge-decides p q hp hq =
 -- ---- the search
 
 -- where one number passes, it is found
-pub passing_below-only : (test : ℕ → Bool) (n m : ℕ) → m < n → test m ≡ true → ((k : ℕ) → k < n → test k ≡ true → k ≡ m) → passing_below test n ≡ m
+pub passing_below-only : (test : ℕ → Bool) (n m : ℕ) → m < n → test m ≡ true → ((k : ℕ) → k < n → test k ≡ true → k ≡ m)
+    → passing_below test n ≡ m
 unfolding passing_below
 passing_below-only test zero m lt passes only = absurd (omega (arith, lt))
 passing_below-only test (suc n) m lt passes only =
@@ -124,7 +125,8 @@ passing_below-only test (suc n) m lt passes only =
 abbrev IsFound : ℕ → Path → ℕ → Type 0
 IsFound m p place = (¬ (place ≡ place_of p)) × IsSideOf m (square_of p) (square_of (path_at (number_at (length p.digits) place)))
 
-over_place : (m : ℕ) (p q : Path) (place : ℕ) → IsPath p → IsPath q → q ≡ path_at (number_at (length p.digits) place) → place_of q ≡ place → length p.digits ≡ length q.digits → Decides (is_over m p place) (SharesSide m p q)
+over_place : (m : ℕ) (p q : Path) (place : ℕ) → IsPath p → IsPath q → q ≡ path_at (number_at (length p.digits) place) → place_of q ≡ place
+    → length p.digits ≡ length q.digits → Decides (is_over m p place) (SharesSide m p q)
 over_place m p q place hp hq is at long =
     Decides-like (is_over m p place) there back
     (Decides-and _ _ (Decides-not _ (Decides-eqb place (place_of p))) (is_side_of-decides m (square_of p) (square_of (path_at (number_at (length p.digits) place)))))
@@ -141,7 +143,8 @@ over_place m p q place hp hq is at long =
     back : SharesSide m p q → IsFound m p place
     back h = (λ e. h.apart (same_place p q hp hq long (sym e ∙ sym at)), (h.other, h.is_side, subst (λ x. IsSameSide m (square_of p) h.other (square_of x)) is h.one_side))
 
-pub neighbor_number-is : (m : ℕ) (p : Path) (n : ℕ) → m < 4 → IsPath p → IsCellNumber n → SharesSide m p (path_at n) → n ≡ neighbor_number m p
+pub neighbor_number-is : (m : ℕ) (p : Path) (n : ℕ) → m < 4 → IsPath p → IsCellNumber n → SharesSide m p (path_at n)
+    → n ≡ neighbor_number m p
 unfolding neighbor_number
 neighbor_number-is m p n hm hp cell shares =
     is ∙ ap (number_at k) (sym (passing_below-only (is_over m p) (6 * 4 ^ k) place below passes only))

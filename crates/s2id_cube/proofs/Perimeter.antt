@@ -13,7 +13,8 @@ at_second : (n m f i j g a b : ℕ) → (h : IsBeside n m f i j g a b) → AtSid
 at_second n m f i j g a b h = record { is_side = h.is_side; face = h.face; column = h.column; row = h.row; at = sym h.same }
 
 -- the square beside another over a side is one
-pub same_beside : (n m f i j g a b h c d : ℕ) → m < 4 → f < 6 → i < n → j < n → IsBeside n m f i j g a b → IsBeside n m f i j h c d → (g ≡ h) × (a ≡ c) × (b ≡ d)
+pub same_beside : (n m f i j g a b h c d : ℕ) → m < 4 → f < 6 → i < n → j < n → IsBeside n m f i j g a b → IsBeside n m f i j h c d
+    → (g ≡ h) × (a ≡ c) × (b ≡ d)
 same_beside n m f i j g a b h c d hm hf hi hj s t =
     one_beside n m f i j s.other g a b t.other h c d (middle n m f i j) (at_first n m f i j hm hf hi hj) (at_second n m f i j g a b s) (at_second n m f i j h c d t) s.apart t.apart
 
@@ -31,12 +32,14 @@ along_in_block u v w t m ht hm =
     four (λ m. InBlock u v w (u + column_on m t (w - 1)) (v + row_on m t (w - 1))) (omega arith) m hm
 
 -- a step over the side leaves the block
-step_leaves : (u v w t a b m : ℕ) → t < w → m < 4 → IsStep m (u + column_on m t (w - 1)) (v + row_on m t (w - 1)) a b → InBlock u v w a b → ⊥
+step_leaves : (u v w t a b m : ℕ) → t < w → m < 4 → IsStep m (u + column_on m t (w - 1)) (v + row_on m t (w - 1)) a b → InBlock u v w a b
+    → ⊥
 unfolding column_on row_on
 step_leaves u v w t a b m ht hm =
     four (λ m. IsStep m (u + column_on m t (w - 1)) (v + row_on m t (w - 1)) a b → InBlock u v w a b → ⊥) (omega arith) m hm
 
-pub over_is_outside : (n u v w m t f g a b : ℕ) → m < 4 → t < w → f < 6 → u + w ≤ n → v + w ≤ n → IsBeside n m f (u + column_on m t (w - 1)) (v + row_on m t (w - 1)) g a b → g ≡ f → InBlock u v w a b → ⊥
+pub over_is_outside : (n u v w m t f g a b : ℕ) → m < 4 → t < w → f < 6 → u + w ≤ n → v + w ≤ n
+    → IsBeside n m f (u + column_on m t (w - 1)) (v + row_on m t (w - 1)) g a b → g ≡ f → InBlock u v w a b → ⊥
 over_is_outside n u v w m t f g a b hm ht hf hu hv h e =
     let i = u + column_on m t (w - 1) in
     let j = v + row_on m t (w - 1) in
@@ -59,12 +62,14 @@ pub record LiesAlong (u v w m i j : ℕ) : Type 0 where
 abbrev Goes : ℕ → ℕ → ℕ → ℕ → ℕ → ℕ → ℕ → ℕ → ℕ → ℕ → ℕ → Type 0
 Goes n u v w f i j g a b m = IsBeside n m f i j g a b → LiesAlong u v w m i j
 
-inner_step : (n u v w m f i j g a b c d : ℕ) → (g ≡ f → InBlock u v w a b → ⊥) → IsBeside n m f i j g a b → IsNext n m f i j c d → InBlock u v w c d → ⊥
+inner_step : (n u v w m f i j g a b c d : ℕ) → (g ≡ f → InBlock u v w a b → ⊥) → IsBeside n m f i j g a b → IsNext n m f i j c d
+    → InBlock u v w c d → ⊥
 inner_step n u v w m f i j g a b c d out h next inside =
     let e = same_beside n m f i j g a b f c d next.0 next.1 next.2 next.3 h (beside_step next) in
     out e.0 (subst (λ y. InBlock u v w a y) (sym e.2) (subst (λ x. InBlock u v w x d) (sym e.1) inside))
 
-pub outside_is_over : (n u v w m f i j g a b : ℕ) → m < 4 → f < 6 → u + w ≤ n → v + w ≤ n → InBlock u v w i j → (g ≡ f → InBlock u v w a b → ⊥) → IsBeside n m f i j g a b → LiesAlong u v w m i j
+pub outside_is_over : (n u v w m f i j g a b : ℕ) → m < 4 → f < 6 → u + w ≤ n → v + w ≤ n → InBlock u v w i j
+    → (g ≡ f → InBlock u v w a b → ⊥) → IsBeside n m f i j g a b → LiesAlong u v w m i j
 unfolding column_on row_on
 outside_is_over n u v w m f i j g a b hm hf hu hv k out =
     let left = k.left in

@@ -50,7 +50,8 @@ within_from_overlap p q hp hq level o =
 overlap_in : (p q : Path) → IsPath p → IsPath q → IsWithin q p → Overlap p q
 overlap_in p q hp hq w = let o = overlap_from_within q p hq hp w in (o.0, o.2, o.1)
 
-beside_from_shares : (m : ℕ) (p q : Path) → m < 4 → IsPath p → IsPath q → SharesSide m p q → IsBeside (2 ^ length p.digits) m (square_of p).face (square_of p).i (square_of p).j (square_of q).face (square_of q).i (square_of q).j
+beside_from_shares : (m : ℕ) (p q : Path) → m < 4 → IsPath p → IsPath q → SharesSide m p q
+    → IsBeside (2 ^ length p.digits) m (square_of p).face (square_of p).i (square_of p).j (square_of q).face (square_of q).i (square_of q).j
 beside_from_shares m p q hm hp hq h =
     let t = at_side_second m p q hm hp hq h in
     record {
@@ -68,7 +69,8 @@ beside_from_shares m p q hm hp hq h =
 over_level : (p q : Path) (d m t : ℕ) → IsPath p → IsPath q → IsOverAt (square_of p) d m t q → length q.digits ≡ length p.digits + d
 over_level p q d m t hp hq h = sym (IsSquare-square_of q hq).level ∙ h.level_is ∙ ap (λ x. x + d) (IsSquare-square_of p hp).level
 
-pub border_from_over : (p q : Path) (d m t : ℕ) → IsPath p → IsPath q → length p.digits + d ≤ 30 → m < 4 → t < 2 ^ d → IsOverAt (square_of p) d m t q → IsOnBorder p (length p.digits + d) q
+pub border_from_over : (p q : Path) (d m t : ℕ) → IsPath p → IsPath q → length p.digits + d ≤ 30 → m < 4 → t < 2 ^ d
+    → IsOverAt (square_of p) d m t q → IsOnBorder p (length p.digits + d) q
 border_from_over p q d m t hp hq most hm ht h =
     let s = square_of p in
     let g = square_of q in
@@ -152,7 +154,8 @@ over_from_border p q d hp h =
 
 -- ---- one cell lies over each place
 
-pub one_over : (s : FaceIj) (d m t : ℕ) (q r : Path) → s.face < 6 → s.i < 2 ^ s.level → s.j < 2 ^ s.level → m < 4 → t < 2 ^ d → IsPath q → IsPath r → IsOverAt s d m t q → IsOverAt s d m t r → q ≡ r
+pub one_over : (s : FaceIj) (d m t : ℕ) (q r : Path) → s.face < 6 → s.i < 2 ^ s.level → s.j < 2 ^ s.level → m < 4 → t < 2 ^ d → IsPath q
+    → IsPath r → IsOverAt s d m t q → IsOverAt s d m t r → q ≡ r
 one_over s d m t q r hf hi hj hm ht hq hr h k =
     let w = 2 ^ d in
     let n = 2 ^ (s.level + d) in
@@ -177,7 +180,8 @@ pub record IsFinerAt (s : FaceIj) (d m t x y : ℕ) : Type 0 where
   pub row_below : s.j * 2 ^ d % 2 ^ 32 + y < 2 ^ (s.level + d)
   pub small : 2 ^ (s.level + d) ≤ 2 ^ 30
 
-pub finer_at : (s : FaceIj) (d m t x y : ℕ) → s.level + d ≤ 30 → s.i < 2 ^ s.level → s.j < 2 ^ s.level → m < 4 → t < 2 ^ d → x ≡ column_on m t (1 * 2 ^ d % 2 ^ 32 - 1) → y ≡ row_on m t (1 * 2 ^ d % 2 ^ 32 - 1) → IsFinerAt s d m t x y
+pub finer_at : (s : FaceIj) (d m t x y : ℕ) → s.level + d ≤ 30 → s.i < 2 ^ s.level → s.j < 2 ^ s.level → m < 4 → t < 2 ^ d
+    → x ≡ column_on m t (1 * 2 ^ d % 2 ^ 32 - 1) → y ≡ row_on m t (1 * 2 ^ d % 2 ^ 32 - 1) → IsFinerAt s d m t x y
 finer_at s d m t x y most hi hj hm ht ex ey =
     let one = one_shl d 32 (let l = most in omega arith) in
     let small : 2 ^ (s.level + d) ≤ 2 ^ 30 = pow-le-pow_right {n = 2} (omega arith) {i = s.level + d} {j = 30} most in
@@ -197,7 +201,9 @@ finer_at s d m t x y most hi hj hm ht ex ey =
       small = small;
     }
 
-pub over_found : (s : FaceIj) (d m t x y : ℕ) (q : Path) → IsFinerAt s d m t x y → (square_of q).level ≡ s.level + d → IsBeside (2 ^ (s.level + d)) m s.face (s.i * 2 ^ d % 2 ^ 32 + x) (s.j * 2 ^ d % 2 ^ 32 + y) (square_of q).face (square_of q).i (square_of q).j → IsOverAt s d m t q
+pub over_found : (s : FaceIj) (d m t x y : ℕ) (q : Path) → IsFinerAt s d m t x y → (square_of q).level ≡ s.level + d
+    → IsBeside (2 ^ (s.level + d)) m s.face (s.i * 2 ^ d % 2 ^ 32 + x) (s.j * 2 ^ d % 2 ^ 32 + y) (square_of q).face (square_of q).i (square_of q).j
+    → IsOverAt s d m t q
 over_found s d m t x y q at level h = record {
   level_is = level;
   beside = beside_moved refl refl refl at.column at.row refl refl refl h;

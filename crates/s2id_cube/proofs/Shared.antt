@@ -19,7 +19,8 @@ pub IsSquare-square_of : (p : Path) → IsPath p → IsSquare (length p.digits) 
 IsSquare-square_of p path = subst (λ s. IsSquare (length p.digits) s) (sym (square_of_place p path)) (IsSquare-square_at (length p.digits) (place_of p) (place_below p path))
 
 -- the square tells the cell
-pub one_path : (p q : Path) → IsPath p → IsPath q → length p.digits ≡ length q.digits → (square_of p).face ≡ (square_of q).face → (square_of p).i ≡ (square_of q).i → (square_of p).j ≡ (square_of q).j → p ≡ q
+pub one_path : (p q : Path) → IsPath p → IsPath q → length p.digits ≡ length q.digits → (square_of p).face ≡ (square_of q).face
+    → (square_of p).i ≡ (square_of q).i → (square_of p).j ≡ (square_of q).j → p ≡ q
 one_path p q hp hq long face i j =
     let k = length p.digits in
     let sp : square_of p ≡ square_at k (place_of p) = square_of_place p hp in
@@ -51,7 +52,9 @@ one_cell a b face i j level =
 pub square_at_level : (p q : Path) → IsPath q → length p.digits ≡ length q.digits → IsSquare (length p.digits) (square_of q)
 square_at_level p q hq long = subst (λ k. IsSquare k (square_of q)) (sym long) (IsSquare-square_of q hq)
 
-pub shares_from_beside : (m : ℕ) (p q : Path) → m < 4 → IsPath p → IsPath q → length p.digits ≡ length q.digits → IsBeside (2 ^ length p.digits) m (square_of p).face (square_of p).i (square_of p).j (square_of q).face (square_of q).i (square_of q).j → SharesSide m p q
+pub shares_from_beside : (m : ℕ) (p q : Path) → m < 4 → IsPath p → IsPath q → length p.digits ≡ length q.digits
+    → IsBeside (2 ^ length p.digits) m (square_of p).face (square_of p).i (square_of p).j (square_of q).face (square_of q).i (square_of q).j
+    → SharesSide m p q
 shares_from_beside m p q hm hp hq long h = record {
   apart = λ e. h.apart (ap (λ x. (square_of x).face) e, ap (λ x. (square_of x).i) e, ap (λ x. (square_of x).j) e);
   one_level = long;
@@ -60,12 +63,14 @@ shares_from_beside m p q hm hp hq long h = record {
   one_side = side_from_middle (length p.digits) (square_of p) (square_of q) hp.at_most (IsSquare-square_of p hp) (square_at_level p q hq long) m h.other hm h.is_side h.same;
 }
 
-pub at_side_first : (m : ℕ) (p : Path) → m < 4 → IsPath p → AtSide (2 ^ length p.digits) m (square_of p).face (square_of p).i (square_of p).j (middle (2 ^ length p.digits) m (square_of p).face (square_of p).i (square_of p).j)
+pub at_side_first : (m : ℕ) (p : Path) → m < 4 → IsPath p
+    → AtSide (2 ^ length p.digits) m (square_of p).face (square_of p).i (square_of p).j (middle (2 ^ length p.digits) m (square_of p).face (square_of p).i (square_of p).j)
 at_side_first m p hm hp =
     let s = IsSquare-square_of p hp in
     record { is_side = hm; face = s.face; column = s.i; row = s.j; at = refl }
 
-pub at_side_second : (m : ℕ) (p q : Path) → m < 4 → IsPath p → IsPath q → (h : SharesSide m p q) → AtSide (2 ^ length p.digits) h.other (square_of q).face (square_of q).i (square_of q).j (middle (2 ^ length p.digits) m (square_of p).face (square_of p).i (square_of p).j)
+pub at_side_second : (m : ℕ) (p q : Path) → m < 4 → IsPath p → IsPath q → (h : SharesSide m p q)
+    → AtSide (2 ^ length p.digits) h.other (square_of q).face (square_of q).i (square_of q).j (middle (2 ^ length p.digits) m (square_of p).face (square_of p).i (square_of p).j)
 at_side_second m p q hm hp hq h =
     let t = square_at_level p q hq h.one_level in
     record {
@@ -88,14 +93,16 @@ one_neighbor m p q r hm hp hq hr h k =
 
 -- ---- as the code has them
 
-pub square_facts : (p : Path) → IsPath p → (s : FaceIj) → s ≡ square_of p → (s.face < 6) × (s.level ≤ 30) × (s.i < 2 ^ s.level) × (s.j < 2 ^ s.level)
+pub square_facts : (p : Path) → IsPath p → (s : FaceIj) → s ≡ square_of p
+    → (s.face < 6) × (s.level ≤ 30) × (s.i < 2 ^ s.level) × (s.j < 2 ^ s.level)
 square_facts p path s e =
     let is = subst (λ x. IsSquare (length p.digits) x) (sym e) (IsSquare-square_of p path) in
     let most = path.at_most in
     let level = is.level in
     (is.face, omega arith, subst (λ k. s.i < 2 ^ k) (sym level) is.i, subst (λ k. s.j < 2 ^ k) (sym level) is.j)
 
-pub shares_from_square : (m : ℕ) (p q : Path) (s : FaceIj) → m < 4 → IsPath p → IsPath q → s ≡ square_of p → (square_of q).level ≡ s.level → IsBeside (2 ^ s.level) m s.face s.i s.j (square_of q).face (square_of q).i (square_of q).j → SharesSide m p q
+pub shares_from_square : (m : ℕ) (p q : Path) (s : FaceIj) → m < 4 → IsPath p → IsPath q → s ≡ square_of p → (square_of q).level ≡ s.level
+    → IsBeside (2 ^ s.level) m s.face s.i s.j (square_of q).face (square_of q).i (square_of q).j → SharesSide m p q
 shares_from_square m p q s hm hp hq e level h =
     let lp = (IsSquare-square_of p hp).level in
     let lq = (IsSquare-square_of q hq).level in

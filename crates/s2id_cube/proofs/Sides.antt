@@ -116,7 +116,8 @@ end_corner s m h = four (λ m. side_end m s ≡ corner s (end_u m s.i) (end_v m 
 two_split : (k : ℕ) → k ≤ 30 → 2 ^ k * 2 ^ (30 - k) ≡ 2 ^ 30
 two_split k h = sym (pow-add 2 k (30 - k)) ∙ ap (λ x. 2 ^ x) (let e : k + (30 - k) ≡ 30 = omega arith in e)
 
-real_corner : (k : ℕ) (s : FaceIj) → k ≤ 30 → IsSquare k s → (u v : ℕ) → u ≤ 2 ^ k → v ≤ 2 ^ k → corner s u v ≡ real (2 ^ (30 - k)) (spot (2 ^ k) s.face u v)
+real_corner : (k : ℕ) (s : FaceIj) → k ≤ 30 → IsSquare k s → (u v : ℕ) → u ≤ 2 ^ k → v ≤ 2 ^ k
+    → corner s u v ≡ real (2 ^ (30 - k)) (spot (2 ^ k) s.face u v)
 unfolding corner
 real_corner k s h is u v hu hv =
     ap (λ x. point_of s.face (u * 2 ^ (30 - x)) (v * 2 ^ (30 - x))) is.level ∙ real_point (2 ^ k) (2 ^ (30 - k)) u v (two_split k h) hu hv s.face is.face
@@ -142,18 +143,22 @@ plus_turned : (s t : Spot) → plus s t ≡ plus t s
 unfolding plus
 plus_turned s t = spot_is (omega arith)
 
-middle_sum : (n a b c d : ℕ) → a ≤ n → b ≤ n → c ≤ n → d ≤ n → (f : ℕ) → f < 6 → spot (2 * n) f (a + c) (b + d) ≡ plus (spot n f a b) (spot n f c d)
+middle_sum : (n a b c d : ℕ) → a ≤ n → b ≤ n → c ≤ n → d ≤ n → (f : ℕ) → f < 6
+    → spot (2 * n) f (a + c) (b + d) ≡ plus (spot n f a b) (spot n f c d)
 unfolding spot plus
 middle_sum n a b c d ha hb hc hd f hf =
     spot_is (six (λ f. AreOneSpot (spot (2 * n) f (a + c) (b + d)) (plus (spot n f a b) (spot n f c d))) (omega arith) f hf)
 
-middle_of_side : (k : ℕ) (s : FaceIj) → IsSquare k s → (m : ℕ) → m < 4 → middle (2 ^ k) m s.face s.i s.j ≡ plus (start_spot k m s) (end_spot k m s)
+middle_of_side : (k : ℕ) (s : FaceIj) → IsSquare k s → (m : ℕ) → m < 4
+    → middle (2 ^ k) m s.face s.i s.j ≡ plus (start_spot k m s) (end_spot k m s)
 unfolding middle
 middle_of_side k s is m hm =
     let e = ends s.i s.j (2 ^ k) is.i is.j m hm in
     ap₂ (spot (2 * 2 ^ k) s.face) e.mu e.mv ∙ middle_sum (2 ^ k) (start_u m s.i) (start_v m s.j) (end_u m s.i) (end_v m s.j) e.su e.sv e.eu e.ev s.face is.face
 
-pub middle_from_side : (k : ℕ) (s t : FaceIj) → k ≤ 30 → IsSquare k s → IsSquare k t → (m o : ℕ) → m < 4 → o < 4 → AreOneSide (side_start m s) (side_end m s) (side_start o t) (side_end o t) → middle (2 ^ k) m s.face s.i s.j ≡ middle (2 ^ k) o t.face t.i t.j
+pub middle_from_side : (k : ℕ) (s t : FaceIj) → k ≤ 30 → IsSquare k s → IsSquare k t → (m o : ℕ) → m < 4 → o < 4
+    → AreOneSide (side_start m s) (side_end m s) (side_start o t) (side_end o t)
+    → middle (2 ^ k) m s.face s.i s.j ≡ middle (2 ^ k) o t.face t.i t.j
 middle_from_side k s t h is it m o hm ho one =
     let w = 2 ^ (30 - k) in
     let pos_w = pow_pos (30 - k) in
@@ -177,7 +182,8 @@ upper s = record { x = (s.x + 1) / 2; y = (s.y + 1) / 2; z = (s.z + 1) / 2 }
 abbrev AreEnds : Spot → Spot → Spot → Type 0
 AreEnds s t p = ((s ≡ lower p) × (t ≡ upper p)) ⊎ ((s ≡ upper p) × (t ≡ lower p))
 
-ends_in_u : (n a b : ℕ) → a + 1 ≤ n → b ≤ n → (f : ℕ) → f < 6 → AreEnds (spot n f a b) (spot n f (a + 1) b) (spot (2 * n) f (a + (a + 1)) (b + b))
+ends_in_u : (n a b : ℕ) → a + 1 ≤ n → b ≤ n → (f : ℕ) → f < 6
+    → AreEnds (spot n f a b) (spot n f (a + 1) b) (spot (2 * n) f (a + (a + 1)) (b + b))
 unfolding spot lower upper
 ends_in_u n a b ha hb f hf =
     six (λ f. AreEnds (spot n f a b) (spot n f (a + 1) b) (spot (2 * n) f (a + (a + 1)) (b + b))) (
@@ -190,7 +196,8 @@ ends_in_u n a b ha hb f hf =
     )
     f hf
 
-ends_in_v : (n a b : ℕ) → a ≤ n → b + 1 ≤ n → (f : ℕ) → f < 6 → AreEnds (spot n f a b) (spot n f a (b + 1)) (spot (2 * n) f (a + a) (b + (b + 1)))
+ends_in_v : (n a b : ℕ) → a ≤ n → b + 1 ≤ n → (f : ℕ) → f < 6
+    → AreEnds (spot n f a b) (spot n f a (b + 1)) (spot (2 * n) f (a + a) (b + (b + 1)))
 unfolding spot lower upper
 ends_in_v n a b ha hb f hf =
     six (λ f. AreEnds (spot n f a b) (spot n f a (b + 1)) (spot (2 * n) f (a + a) (b + (b + 1)))) (
@@ -222,10 +229,13 @@ ends_of_sum k s is =
       ends_in_v (2 ^ k) s.i s.j (omega arith) (omega arith) s.face is.face,
     )
 
-ends_of_side : (k : ℕ) (s : FaceIj) → IsSquare k s → (m : ℕ) → m < 4 → AreEnds (start_spot k m s) (end_spot k m s) (middle (2 ^ k) m s.face s.i s.j)
+ends_of_side : (k : ℕ) (s : FaceIj) → IsSquare k s → (m : ℕ) → m < 4
+    → AreEnds (start_spot k m s) (end_spot k m s) (middle (2 ^ k) m s.face s.i s.j)
 ends_of_side k s is m hm = subst (λ p. AreEnds (start_spot k m s) (end_spot k m s) p) (sym (to_sum k s is m hm)) (ends_of_sum k s is m hm)
 
-pub side_from_middle : (k : ℕ) (s t : FaceIj) → k ≤ 30 → IsSquare k s → IsSquare k t → (m o : ℕ) → m < 4 → o < 4 → middle (2 ^ k) m s.face s.i s.j ≡ middle (2 ^ k) o t.face t.i t.j → AreOneSide (side_start m s) (side_end m s) (side_start o t) (side_end o t)
+pub side_from_middle : (k : ℕ) (s t : FaceIj) → k ≤ 30 → IsSquare k s → IsSquare k t → (m o : ℕ) → m < 4 → o < 4
+    → middle (2 ^ k) m s.face s.i s.j ≡ middle (2 ^ k) o t.face t.i t.j
+    → AreOneSide (side_start m s) (side_end m s) (side_start o t) (side_end o t)
 side_from_middle k s t h is it m o hm ho e =
     let r = real (2 ^ (30 - k)) in
     let a = start_real k s h is m hm in

@@ -16,7 +16,8 @@ pub square_at_more : (k q d : ℕ) → d < 4 → square_at (suc k) (q * 4 + d) �
 unfolding square_at
 square_at_more k q d h = ap₂ (λ x y. quarter x (square_at k y)) (mod-mul-add q 4 d h) (div-mul-add q 4 d h)
 
-pub square_after_at : (ds : List ℕ) (k q : ℕ) → All (λ d. d < 4) ds → square_after (square_at k q) ds ≡ square_at (length ds + k) (q * 4 ^ length ds + base_four ds)
+pub square_after_at : (ds : List ℕ) (k q : ℕ) → All (λ d. d < 4) ds
+    → square_after (square_at k q) ds ≡ square_at (length ds + k) (q * 4 ^ length ds + base_four ds)
 unfolding square_after base_four
 square_after_at [] k q h = ap₂ square_at (let e : k ≡ 0 + k = omega arith in e) (let e : q ≡ q * 4 ^ 0 + 0 = omega arith in e)
 square_after_at (d ∷ ds) k q h =
@@ -68,7 +69,8 @@ face-square_at zero q = omega arith
 face-square_at (suc k) q = face-square_at k (q / 4) ∙ div-div-eq-div-mul q 4 (4 ^ k) ∙ ap (λ x. q / x) (sym (four_step k))
 
 -- the square tells the place
-pub one_place : (k q r : ℕ) → q < 6 * 4 ^ k → r < 6 * 4 ^ k → (square_at k q).face ≡ (square_at k r).face → (square_at k q).i ≡ (square_at k r).i → (square_at k q).j ≡ (square_at k r).j → q ≡ r
+pub one_place : (k q r : ℕ) → q < 6 * 4 ^ k → r < 6 * 4 ^ k → (square_at k q).face ≡ (square_at k r).face
+    → (square_at k q).i ≡ (square_at k r).i → (square_at k q).j ≡ (square_at k r).j → q ≡ r
 unfolding square_at quarter whole_face
 one_place zero q r hq hr face i j = face
 one_place (suc k) q r hq hr face i j =
@@ -98,7 +100,8 @@ place_above q k t h hq = div_below q (4 ^ (k - t)) (6 * 4 ^ t) (four_pos (k - t)
     turn a b = omega arith
 
 -- the level and the place of a cell, as the code has them
-pub cell_fits : (p : Path) → IsPath p → (level place : ℕ) → level ≡ length p.digits → place ≡ place_of p → (level ≤ 30) × (place < 6 * 4 ^ level)
+pub cell_fits : (p : Path) → IsPath p → (level place : ℕ) → level ≡ length p.digits → place ≡ place_of p
+    → (level ≤ 30) × (place < 6 * 4 ^ level)
 cell_fits p path level place el ep =
     let a = path.at_most in
     (omega arith, subst (λ x. place < 6 * 4 ^ x) (sym el) (subst (λ x. x < 6 * 4 ^ length p.digits) (sym ep) (place_below p path)))

@@ -65,7 +65,8 @@ square_entry_is o b ho hb =
     let column : n % 256 ≡ b = omega arith in
     unpacked o b (get_or SQUARES n 0) ho hb (at ∙ ap₂ (λ x y. packed (four_steps x y)) row column)
 
-pub square_entry_from : (start b : ℕ) → start < 1024 → start % 256 ≡ 0 → b < 256 → IsSquareEntry (start / 256) b (get_or SQUARES (start + b) 0)
+pub square_entry_from : (start b : ℕ) → start < 1024 → start % 256 ≡ 0 → b < 256
+    → IsSquareEntry (start / 256) b (get_or SQUARES (start + b) 0)
 square_entry_from start b hs whole hb =
     subst (λ n. IsSquareEntry (start / 256) b (get_or SQUARES n 0)) (let e : 256 * (start / 256) + b ≡ start + b = omega arith in e) (square_entry_is (start / 256) b (omega arith) hb)
 

@@ -25,7 +25,8 @@ lower_bits x h =
     let b0 = lower_byte x 0x0f0f0f _ b1 in
     b0 ∙ (let e : ((x3 % 16 * 256 + x / 256 / 256 % 16) * 256 + x / 256 % 16) * 256 + x % 16 ≡ lowers x = omega arith in e)
 
-upper_sum : (x x1 x2 x3 h3 h2 h1 h0 l3 l2 l1 l0 : ℕ) → x3 ≡ 16 * h3 + l3 → x2 ≡ 256 * x3 + (16 * h2 + l2) → x1 ≡ 256 * x2 + (16 * h1 + l1) → x ≡ 256 * x1 + (16 * h0 + l0) → x ≡ 16 * (((h3 * 256 + h2) * 256 + h1) * 256 + h0) + (((l3 * 256 + l2) * 256 + l1) * 256 + l0)
+upper_sum : (x x1 x2 x3 h3 h2 h1 h0 l3 l2 l1 l0 : ℕ) → x3 ≡ 16 * h3 + l3 → x2 ≡ 256 * x3 + (16 * h2 + l2) → x1 ≡ 256 * x2 + (16 * h1 + l1)
+    → x ≡ 256 * x1 + (16 * h0 + l0) → x ≡ 16 * (((h3 * 256 + h2) * 256 + h1) * 256 + h0) + (((l3 * 256 + l2) * 256 + l1) * 256 + l0)
 upper_sum x x1 x2 x3 h3 h2 h1 h0 l3 l2 l1 l0 e3 e2 e1 e0 = omega arith
 
 halves : (x : ℕ) → x < 2 ^ 32 → x ≡ 16 * uppers x + lowers x
@@ -37,10 +38,12 @@ halves x h =
     upper_sum x (x / 2 ^ 8) (x / 2 ^ 16) (x / 2 ^ 24) _ _ _ _ _ _ _ _ e3 e2 e1 e0
 
 -- a byte of a word of four
-word_bytes : (a b c d : ℕ) → a < 256 → b < 256 → c < 256 → d < 256 → (w : ℕ) → w ≡ ((a * 256 + b) * 256 + c) * 256 + d → (w * 256 ^ 0 % 2 ^ 32 / 2 ^ 24 ≡ a) × (w * 256 ^ 1 % 2 ^ 32 / 2 ^ 24 ≡ b) × (w * 256 ^ 2 % 2 ^ 32 / 2 ^ 24 ≡ c) × (w * 256 ^ 3 % 2 ^ 32 / 2 ^ 24 ≡ d)
+word_bytes : (a b c d : ℕ) → a < 256 → b < 256 → c < 256 → d < 256 → (w : ℕ) → w ≡ ((a * 256 + b) * 256 + c) * 256 + d
+    → (w * 256 ^ 0 % 2 ^ 32 / 2 ^ 24 ≡ a) × (w * 256 ^ 1 % 2 ^ 32 / 2 ^ 24 ≡ b) × (w * 256 ^ 2 % 2 ^ 32 / 2 ^ 24 ≡ c) × (w * 256 ^ 3 % 2 ^ 32 / 2 ^ 24 ≡ d)
 word_bytes a b c d ha hb hc hd w e = (omega arith, omega arith, omega arith, omega arith)
 
-pair_sum : (a3 a2 a1 a0 b3 b2 b1 b0 : ℕ) → 16 * (((a3 * 256 + a2) * 256 + a1) * 256 + a0) + (((b3 * 256 + b2) * 256 + b1) * 256 + b0) ≡ (((16 * a3 + b3) * 256 + (16 * a2 + b2)) * 256 + (16 * a1 + b1)) * 256 + (16 * a0 + b0)
+pair_sum : (a3 a2 a1 a0 b3 b2 b1 b0 : ℕ)
+    → 16 * (((a3 * 256 + a2) * 256 + a1) * 256 + a0) + (((b3 * 256 + b2) * 256 + b1) * 256 + b0) ≡ (((16 * a3 + b3) * 256 + (16 * a2 + b2)) * 256 + (16 * a1 + b1)) * 256 + (16 * a0 + b0)
 pair_sum a3 a2 a1 a0 b3 b2 b1 b0 = omega arith
 
 fits_word : (a3 a2 a1 a0 : ℕ) → a3 < 16 → a2 < 16 → a1 < 16 → a0 < 16 → (((a3 * 256 + a2) * 256 + a1) * 256 + a0) * 2 ^ 4 < 2 ^ 32
@@ -52,7 +55,8 @@ upper_word i j li lj ui uj upper ei ej e = omega arith
 lower_word : (ai aj li lj lower : ℕ) → ai ≡ li → aj ≡ lj → li * 2 ^ 4 < 2 ^ 32 → lower ≡ ai * 2 ^ 4 % 2 ^ 32 + aj → lower ≡ 16 * li + lj
 lower_word ai aj li lj lower ei ej small e = omega arith
 
-pub woven_is : (i j upper lower : ℕ) → i < 2 ^ 32 → j < 2 ^ 32 → upper ≡ i - bit_and i 0x0f0f0f0f + (j - bit_and j 0x0f0f0f0f) / 2 ^ 4 → lower ≡ bit_and i 0x0f0f0f0f * 2 ^ 4 % 2 ^ 32 + bit_and j 0x0f0f0f0f → AreWoven i j upper lower
+pub woven_is : (i j upper lower : ℕ) → i < 2 ^ 32 → j < 2 ^ 32 → upper ≡ i - bit_and i 0x0f0f0f0f + (j - bit_and j 0x0f0f0f0f) / 2 ^ 4
+    → lower ≡ bit_and i 0x0f0f0f0f * 2 ^ 4 % 2 ^ 32 + bit_and j 0x0f0f0f0f → AreWoven i j upper lower
 woven_is i j upper lower hi hj eu el =
     let li = lower_bits i hi in
     let lj = lower_bits j hj in

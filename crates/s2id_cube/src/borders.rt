@@ -12,8 +12,8 @@ use s2id_core::{CellId, OutOfMemory};
 use std::alloc::Global;
 
 /// The cells of a level outside the cell that share an edge with a cell of that level inside it, each once, in
-/// rising order: at the cell's own level its four edge neighbours (this project's own; S2 has `AppendAllNeighbors`,
-/// which counts corners too). O(n log n) in the `n = 4 * 2^(level - cell's level)` cells along its sides, at most
+/// rising order: at the cell's own level its four edge neighbours (S2 has `AppendAllNeighbors`, which counts
+/// corners too). O(n log n) in the `n = 4 * 2^(level - cell's level)` cells along its sides, at most
 /// 1024. `Coarser` for a level below the cell's; `TooFine` for one above 30, or more than 8 above the cell's;
 /// `OutOfMemory` where a growth is refused.
 pub fn border(alloc: Global, cell: CellId, level: u8) -> Result<Vec<CellId>, BorderError>

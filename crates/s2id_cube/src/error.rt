@@ -3,7 +3,7 @@ ghost use Rattle.std.specs.Prelude.{◌≡◌};
 use s2id_core::OutOfMemory;
 use thiserror::Error;
 
-/// Why there is no border. This project's own; the faults are tested in this order.
+/// Why there is no border. The faults are tested in this order.
 #[derive(Clone, Copy, Debug, PartialEq, Eq, Error)]
 pub enum BorderError {
     /// The level is below the cell's.

@@ -4,7 +4,7 @@ ghost use Rattle.std.specs.Prelude.{◌≡◌, Ok, IsErr};
 use std::io;
 use std::io::{ErrorKind, Read, Write};
 
-/// A writer of std's that takes no byte and never fails. This project's own.
+/// A writer of std's that takes no byte and never fails.
 #[derive(Clone, Copy, Debug)]
 pub struct TakesNone;
 
@@ -22,7 +22,7 @@ impl Write for TakesNone {
     }
 }
 
-/// A reader and writer of std's each of whose calls fails. This project's own.
+/// A reader and writer of std's each of whose calls fails.
 #[derive(Clone, Copy, Debug)]
 pub struct Broken;
 

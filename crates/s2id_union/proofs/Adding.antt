@@ -10,7 +10,7 @@ use Rattle.s2id_core.specs.Span.{first_at, end_at}
 use Rattle.s2id_core.proofs.Nested.{span, nested_from_crossing_spans, same_span}
 use Rattle.s2id_union.specs.Covers.{Covers, FollowOneAnother}
 use Rattle.s2id_union.specs.Loops.{InSpan, IsMaximal, AreMaximalBelow, IsGreatest}
-use Rattle.s2id_union.proofs.Lists.{none_in_nil}
+use Rattle.s2id_core.proofs.Lists.{none_in_nil}
 use Rattle.s2id_union.proofs.Covering.{covers_push_left, covers_push_right, covers_push_cases}
 
 -- as `AreMaximalBelow`, while the span from `start` to `limit` is being added to `old`, up to `at`
@@ -35,7 +35,8 @@ maximal_later cells free more h le = record {
 }
 
 -- it is maximal
-step_maximal : (old cells : List CellId) (start limit at : ℕ) → IsBeingAdded old cells start limit at → start ≤ at → at < limit → (c : ℕ) → IsCellNumber c → IsGreatest c at limit → IsMaximal (λ q. Covers old q ⊎ InSpan start limit q) (limit + 1) c
+step_maximal : (old cells : List CellId) (start limit at : ℕ) → IsBeingAdded old cells start limit at → start ≤ at → at < limit → (c : ℕ)
+    → IsCellNumber c → IsGreatest c at limit → IsMaximal (λ q. Covers old q ⊎ InSpan start limit q) (limit + 1) c
 step_maximal old cells start limit at h from to c cell_c g b cell_b nest all =
     let sc = span c cell_c in
     let sb = span b cell_b in
@@ -77,7 +78,8 @@ step_maximal old cells start limit at h from to c cell_c g b cell_b nest all =
           ]
     ]
 
-pub adding_step : (old cells : List CellId) (start limit at : ℕ) → IsBeingAdded old cells start limit at → start ≤ at → at < limit → (c : CellId) → IsGreatest (raw_of c) at limit → IsBeingAdded old (cells ++ c ∷ []) start limit (end_of c)
+pub adding_step : (old cells : List CellId) (start limit at : ℕ) → IsBeingAdded old cells start limit at → start ≤ at → at < limit
+    → (c : CellId) → IsGreatest (raw_of c) at limit → IsBeingAdded old (cells ++ c ∷ []) start limit (end_of c)
 adding_step old cells start limit at h from to c g =
     let s = span (raw_of c) c.valid in
     let s1 = s.from in
@@ -115,7 +117,9 @@ adding_step old cells start limit at h from to c g =
     }
 
 -- what the loop does with one cell
-pub adding_next : (old cells next : List CellId) (start limit at behind : ℕ) → IsBeingAdded old cells start limit at → start ≤ at → at < limit → (c : CellId) → IsGreatest (raw_of c) at limit → next ≡ cells ++ c ∷ [] → behind ≡ end_of c → IsBeingAdded old next start limit behind × (start ≤ behind) × (behind ≤ limit) × (behind % 2 ≡ 1)
+pub adding_next : (old cells next : List CellId) (start limit at behind : ℕ) → IsBeingAdded old cells start limit at → start ≤ at
+    → at < limit → (c : CellId) → IsGreatest (raw_of c) at limit → next ≡ cells ++ c ∷ [] → behind ≡ end_of c
+    → IsBeingAdded old next start limit behind × (start ≤ behind) × (behind ≤ limit) × (behind % 2 ≡ 1)
 adding_next old cells next start limit at behind h from to c g list place =
     let s = span (raw_of c) c.valid in
     let s1 = s.from in

@@ -14,7 +14,7 @@ use Rattle.s2id_core.proofs.Spans.{number_of_leaf}
 use Rattle.s2id_core.proofs.Nested.{span, leaf_of_odd}
 use Rattle.s2id_union.specs.Region.{IsLeafList}
 use Rattle.s2id_union.specs.Covers.{Covers, FollowOneAnother}
-use Rattle.s2id_union.proofs.Lists.{head_pairs, tail_pairs, cons_cases, in_tail, at_head, none_in_nil}
+use Rattle.s2id_core.proofs.Lists.{head_pairs, tail_pairs, cons_cases, in_tail, at_head, none_in_nil}
 use Rattle.s2id_union.proofs.Covering.{region_from_covers, covers_from_region, covers_nil}
 
 -- n leaves, from the number q on
@@ -60,7 +60,8 @@ unfolding RisesFrom
 weaken n m [] le h = tt
 weaken n m (p ∷ ps) le h = ((let g = h.0 in omega arith), h.1)
 
-row_rises : (m q n : ℕ) (rest : List Path) → m ≤ q → q % 2 ≡ 1 → q + 2 * n ≤ leaf_end → RisesFrom (q + 2 * n) rest → RisesFrom m (leaf_row q n ++ rest)
+row_rises : (m q n : ℕ) (rest : List Path) → m ≤ q → q % 2 ≡ 1 → q + 2 * n ≤ leaf_end → RisesFrom (q + 2 * n) rest
+    → RisesFrom m (leaf_row q n ++ rest)
 unfolding RisesFrom leaf_row
 row_rises m q zero rest le odd below h = weaken (q + 2 * 0) m rest (omega arith) h
 row_rises m q (suc n) rest le odd below h =
@@ -69,7 +70,8 @@ row_rises m q (suc n) rest le odd below h =
     let far : RisesFrom (q + 2 + 2 * n) rest = subst (λ x. RisesFrom x rest) place h in
     (omega arith, row_rises (number_of (path_at q) + 1) (q + 2) n rest (omega arith) (omega arith) (omega arith) far)
 
-leaves_rise : (m : ℕ) (cells : List CellId) → FollowOneAnother cells → ((c : CellId) → Contains cells c → m ≤ first_of c) → RisesFrom m (leaves_of cells)
+leaves_rise : (m : ℕ) (cells : List CellId) → FollowOneAnother cells → ((c : CellId) → Contains cells c → m ≤ first_of c)
+    → RisesFrom m (leaves_of cells)
 unfolding RisesFrom leaves_of count_of
 leaves_rise m [] follow low = tt
 leaves_rise m (c ∷ cs) follow low =
@@ -192,12 +194,14 @@ pub total-none : total [] ≡ 0
 unfolding total
 total-none = refl
 
-pub total_more : (cells : List CellId) (k : ℕ) (x : CellId) → k < length cells → x ≡ get_or cells k x → total (take (k + 1) cells) ≡ total (take k cells) + (end_of x - first_of x) / 2
+pub total_more : (cells : List CellId) (k : ℕ) (x : CellId) → k < length cells → x ≡ get_or cells k x
+    → total (take (k + 1) cells) ≡ total (take k cells) + (end_of x - first_of x) / 2
 unfolding count_of
 total_more cells k x l is =
     ap total (take_more cells k x l ∙ ap (λ y. take k cells ++ y ∷ []) (sym is)) ∙ total-push (take k cells) x
 
-pub counted : (cells : List CellId) (k count : ℕ) → FollowOneAnother cells → length cells ≤ k → count ≡ total (take k cells) → (leaves : List Path) × IsLeafList cells leaves × (length leaves ≡ count)
+pub counted : (cells : List CellId) (k count : ℕ) → FollowOneAnother cells → length cells ≤ k → count ≡ total (take k cells)
+    → (leaves : List Path) × IsLeafList cells leaves × (length leaves ≡ count)
 counted cells k count follow done e =
     (leaves_of cells, leaf_list cells follow, length_leaves cells ∙ ap total (sym (take_all k cells done)) ∙ sym e)
 
@@ -210,7 +214,9 @@ cell_width c =
     (omega arith, s.ends, s.odd, s.odd_end)
 
 -- the bound on the sum goes on to the next cell
-pub next_bound : (cells : List CellId) (k count next : ℕ) → FollowOneAnother cells → (x : CellId) → k < length cells → x ≡ get_or cells k x → 2 * count + 1 ≤ first_of x → next ≡ count + (end_of x - first_of x) / 2 → (j : ℕ) (d : CellId) → k + 1 ≤ j → j < length cells → 2 * next + 1 ≤ first_of (get_or cells j d)
+pub next_bound : (cells : List CellId) (k count next : ℕ) → FollowOneAnother cells → (x : CellId) → k < length cells → x ≡ get_or cells k x
+    → 2 * count + 1 ≤ first_of x → next ≡ count + (end_of x - first_of x) / 2 → (j : ℕ) (d : CellId) → k + 1 ≤ j → j < length cells
+    → 2 * next + 1 ≤ first_of (get_or cells j d)
 next_bound cells k count next follow x l is bound e j d le within =
     let w = cell_width x in
     let w0 = w.0 in

@@ -10,7 +10,7 @@ use Rattle.std.proofs.lemmas.List.Elements.{Contains-append_left, Contains-push,
 use Rattle.s2id_union.specs.Region.{InRegion}
 use Rattle.s2id_union.specs.Covers.{Covers}
 use Rattle.s2id_union.specs.Loops.{InSpan}
-use Rattle.s2id_union.proofs.Lists.{none_in_nil}
+use Rattle.s2id_core.proofs.Lists.{none_in_nil}
 
 pub region_from_covers : (cells : List CellId) (l : Path) → IsLeafPath l → Covers cells (number_of l) → InRegion cells l
 region_from_covers cells l deep h =
@@ -43,7 +43,8 @@ pub covers_push_right : (cells : List CellId) (c : CellId) (q : ℕ) → first_o
 covers_push_right cells c q from to =
     record { cell = c; held = Contains-push cells c; from = from; to = to }
 
-pub covers_push_cases : (cells : List CellId) (c : CellId) (q : ℕ) → Covers (cells ++ c ∷ []) q → Covers cells q ⊎ InSpan (first_of c) (end_of c) q
+pub covers_push_cases : (cells : List CellId) (c : CellId) (q : ℕ) → Covers (cells ++ c ∷ []) q
+    → Covers cells q ⊎ InSpan (first_of c) (end_of c) q
 covers_push_cases cells c q h =
     let from = h.from in
     let to = h.to in

@@ -23,7 +23,8 @@ same_answer a b h =
       | inr f ↦ f ∙ sym (false_from_ne_true b (λ e. both_ways a f (h.1 e)))
     ]
 
-form_by_test : (cells : List CellId) (passes : ℕ → Bool) → IsNormal cells → ((q : ℕ) → Covers cells q ↔ (passes q ≡ true)) → cells ≡ cells_where passes
+form_by_test : (cells : List CellId) (passes : ℕ → Bool) → IsNormal cells → ((q : ℕ) → Covers cells q ↔ (passes q ≡ true))
+    → cells ≡ cells_where passes
 unfolding normal_form
 form_by_test cells passes normal h =
     sym (form_itself cells normal) ∙ ap cells_where (fun_ext λ q. same_answer (is_covered cells q) (passes q) (λ e. (h q).0 (covers_from_test cells q e), λ e. test_from_covers cells q ((h q).1 e)))
@@ -35,14 +36,16 @@ keeps_both Union a b = a || b
 keeps_both Intersection a b = a && b
 keeps_both Difference a b = a && not b
 
-test_from_keeps : (o : Operation) (xs ys : List CellId) (q : ℕ) → Keeps o (Covers xs q) (Covers ys q) → keeps_both o (is_covered xs q) (is_covered ys q) ≡ true
+test_from_keeps : (o : Operation) (xs ys : List CellId) (q : ℕ) → Keeps o (Covers xs q) (Covers ys q)
+    → keeps_both o (is_covered xs q) (is_covered ys q) ≡ true
 test_from_keeps Union xs ys q (inl x) = or_left (is_covered xs q) (is_covered ys q) (test_from_covers xs q x)
 test_from_keeps Union xs ys q (inr y) = or_right (is_covered xs q) (is_covered ys q) (test_from_covers ys q y)
 test_from_keeps Intersection xs ys q (x, y) = and_from (is_covered xs q) (is_covered ys q) (test_from_covers xs q x) (test_from_covers ys q y)
 test_from_keeps Difference xs ys q (x, y) =
     and_from (is_covered xs q) (not (is_covered ys q)) (test_from_covers xs q x) (not_from_false (is_covered ys q) (false_from_ne_true (is_covered ys q) (λ e. y (covers_from_test ys q e))))
 
-keeps_from_test : (o : Operation) (xs ys : List CellId) (q : ℕ) → keeps_both o (is_covered xs q) (is_covered ys q) ≡ true → Keeps o (Covers xs q) (Covers ys q)
+keeps_from_test : (o : Operation) (xs ys : List CellId) (q : ℕ) → keeps_both o (is_covered xs q) (is_covered ys q) ≡ true
+    → Keeps o (Covers xs q) (Covers ys q)
 keeps_from_test Union xs ys q e =
     elim (or_cases (is_covered xs q) (is_covered ys q) e) [ inl x ↦ inl (covers_from_test xs q x) | inr y ↦ inr (covers_from_test ys q y) ]
 keeps_from_test Intersection xs ys q e =
@@ -52,19 +55,24 @@ keeps_from_test Difference xs ys q e =
     let both = and_parts (is_covered xs q) (not (is_covered ys q)) e in
     (covers_from_test xs q both.0, λ y. both_ways (is_covered ys q) (not-true (is_covered ys q) both.1) (test_from_covers ys q y))
 
-operation_form : (o : Operation) (xs ys cells : List CellId) → IsNormal cells → ((q : ℕ) → Covers cells q ↔ Keeps o (Covers xs q) (Covers ys q)) → cells ≡ cells_where (λ q. keeps_both o (is_covered xs q) (is_covered ys q))
+operation_form : (o : Operation) (xs ys cells : List CellId) → IsNormal cells
+    → ((q : ℕ) → Covers cells q ↔ Keeps o (Covers xs q) (Covers ys q))
+    → cells ≡ cells_where (λ q. keeps_both o (is_covered xs q) (is_covered ys q))
 operation_form o xs ys cells normal h =
     form_by_test cells (λ q. keeps_both o (is_covered xs q) (is_covered ys q)) normal (λ q.
     (λ c. test_from_keeps o xs ys q ((h q).0 c), λ e. (h q).1 (keeps_from_test o xs ys q e)))
 
 -- the same where the two lists are known under other names
-pub swept_form : (o : Operation) (as_first as_second xs ys cells : List CellId) → xs ≡ as_first → ys ≡ as_second → IsNormal cells → ((q : ℕ) → Covers cells q ↔ Keeps o (Covers xs q) (Covers ys q)) → cells ≡ cells_where (λ q. keeps_both o (is_covered as_first q) (is_covered as_second q))
+pub swept_form : (o : Operation) (as_first as_second xs ys cells : List CellId) → xs ≡ as_first → ys ≡ as_second → IsNormal cells
+    → ((q : ℕ) → Covers cells q ↔ Keeps o (Covers xs q) (Covers ys q))
+    → cells ≡ cells_where (λ q. keeps_both o (is_covered as_first q) (is_covered as_second q))
 swept_form o as_first as_second xs ys cells e f normal h =
     subst (λ x. cells ≡ cells_where (λ q. keeps_both o (is_covered x q) (is_covered as_second q))) e (subst (λ y. cells ≡ cells_where (λ q. keeps_both o (is_covered xs q) (is_covered y q))) f (operation_form o xs ys cells normal h))
 
 -- ---- a span of leaves
 
-pub span_form : (old cells : List CellId) (start limit : ℕ) → old ≡ [] → IsAdded old cells start limit → cells ≡ cells_where (λ q. nat_le start q && nat_lt q limit)
+pub span_form : (old cells : List CellId) (start limit : ℕ) → old ≡ [] → IsAdded old cells start limit
+    → cells ≡ cells_where (λ q. nat_le start q && nat_lt q limit)
 span_form old cells start limit none h =
     form_by_test cells (λ q. nat_le start q && nat_lt q limit) (normal_from_added old cells start limit h) (λ q. (
       λ c. elim ((h.covers q).0 c) [

@@ -81,7 +81,9 @@ placed m h n le below e =
     spread m w = omega arith
 
 -- the level of any cell that begins here and fits
-fits : (at limit zeros wide : ℕ) → at < limit → zeros ≡ trailing_zeros w64 (at - 1) → limit - at < 2 * 2 ^ wide → (b : ℕ) → IsCellNumber b → first_at b ≡ at → end_at b ≤ limit → (2 * (30 - length (path_at b).digits) + 1 ≤ zeros) × (2 * (30 - length (path_at b).digits) + 1 ≤ wide)
+fits : (at limit zeros wide : ℕ) → at < limit → zeros ≡ trailing_zeros w64 (at - 1) → limit - at < 2 * 2 ^ wide → (b : ℕ) → IsCellNumber b
+    → first_at b ≡ at → end_at b ≤ limit
+    → (2 * (30 - length (path_at b).digits) + 1 ≤ zeros) × (2 * (30 - length (path_at b).digits) + 1 ≤ wide)
 fits at limit zeros wide some z w b cell begins ends =
     let r = by_width b cell in
     let k = 30 - length (path_at b).digits in
@@ -111,7 +113,8 @@ least_of a b c m n e f = record {
   greatest = λ x below_a below_b below_c. omega arith;
 }
 
-pub some_fit : (at limit wide fit : ℕ) → at % 2 ≡ 1 → limit % 2 ≡ 1 → at < limit → 2 ^ wide ≤ limit - at → limit - at < 2 * 2 ^ wide → IsLeast fit (trailing_zeros w64 (at - 1)) wide 61 → 1 ≤ fit
+pub some_fit : (at limit wide fit : ℕ) → at % 2 ≡ 1 → limit % 2 ≡ 1 → at < limit → 2 ^ wide ≤ limit - at → limit - at < 2 * 2 ^ wide
+    → IsLeast fit (trailing_zeros w64 (at - 1)) wide 61 → 1 ≤ fit
 some_fit at limit wide fit odd odd_limit some w1 w2 least =
     let one_zero = zeros_least 64 1 ((at - 1) / 2) (at - 1) (omega arith) (let e : at - 1 ≡ (at - 1) / 2 * 2 = omega arith in e) in
     let one_wide : 1 ≤ wide = elim (cases_lt wide 1) [ inl lt ↦ absurd (let e : wide ≡ 0 = omega arith in let f = ap (λ x. 2 ^ x) e in omega arith) | inr le ↦ le ] in
@@ -121,7 +124,9 @@ some_fit at limit wide fit odd odd_limit some w1 w2 least =
 shifted : (fit : ℕ) → fit ≤ 61 → 1 * 2 ^ (2 * ((fit - 1) / 2)) % 18446744073709551616 ≡ 4 ^ ((fit - 1) / 2)
 shifted fit h = one_shl (2 * ((fit - 1) / 2)) 64 (omega arith) ∙ four_pow ((fit - 1) / 2)
 
-greatest_cell : (at limit wide fit : ℕ) → at % 2 ≡ 1 → limit % 2 ≡ 1 → at < limit → limit ≤ leaf_end → 2 ^ wide ≤ limit - at → limit - at < 2 * 2 ^ wide → IsLeast fit (trailing_zeros w64 (at - 1)) wide 61 → IsCellNumber (at - 1 + 4 ^ ((fit - 1) / 2)) × IsGreatest (at - 1 + 4 ^ ((fit - 1) / 2)) at limit
+greatest_cell : (at limit wide fit : ℕ) → at % 2 ≡ 1 → limit % 2 ≡ 1 → at < limit → limit ≤ leaf_end → 2 ^ wide ≤ limit - at
+    → limit - at < 2 * 2 ^ wide → IsLeast fit (trailing_zeros w64 (at - 1)) wide 61
+    → IsCellNumber (at - 1 + 4 ^ ((fit - 1) / 2)) × IsGreatest (at - 1 + 4 ^ ((fit - 1) / 2)) at limit
 greatest_cell at limit wide fit odd odd_limit some on_curve w1 w2 least =
     let h = (fit - 1) / 2 in
     let l1 = least.first in

@@ -22,7 +22,8 @@ pub record IsJoined (sorted cells : List CellId) (k start at : ℕ) : Type 0 whe
   pub ahead : (j : ℕ) (d : CellId) → k ≤ j → j < length sorted → start ≤ first_of (get_or sorted j d)
 
 -- one more cell of the list
-more : (sorted : List CellId) (k : ℕ) (x : CellId) → k < length sorted → x ≡ get_or sorted k x → (q : ℕ) → Covers (take (k + 1) sorted) q ↔ (Covers (take k sorted) q ⊎ InSpan (first_of x) (end_of x) q)
+more : (sorted : List CellId) (k : ℕ) (x : CellId) → k < length sorted → x ≡ get_or sorted k x → (q : ℕ)
+    → Covers (take (k + 1) sorted) q ↔ (Covers (take k sorted) q ⊎ InSpan (first_of x) (end_of x) q)
 more sorted k x l is q =
     let e : take (k + 1) sorted ≡ take k sorted ++ x ∷ [] = take_more sorted k x l ∙ ap (λ y. take k sorted ++ y ∷ []) (sym is) in
     subst (λ xs. Covers xs q ↔ (Covers (take k sorted) q ⊎ InSpan (first_of x) (end_of x) q)) (sym e) (
@@ -40,7 +41,9 @@ joined_start sorted cells e = subst (λ xs. IsJoined sorted xs 0 1 1) (sym e) (r
   ahead = λ j d le l. (span (raw_of (get_or sorted j d)) (get_or sorted j d).valid).begins;
 })
 
-pub joined_gap : (sorted old cells : List CellId) (k start at : ℕ) → IsNonDecreasingBy (λ c. first_of c) sorted → IsJoined sorted old k start at → IsAdded old cells start at → (x : CellId) → k < length sorted → x ≡ get_or sorted k x → at < first_of x → IsJoined sorted cells (k + 1) (first_of x) (end_of x)
+pub joined_gap : (sorted old cells : List CellId) (k start at : ℕ) → IsNonDecreasingBy (λ c. first_of c) sorted
+    → IsJoined sorted old k start at → IsAdded old cells start at → (x : CellId) → k < length sorted → x ≡ get_or sorted k x
+    → at < first_of x → IsJoined sorted cells (k + 1) (first_of x) (end_of x)
 joined_gap sorted old cells k start at rises h added x l is gap = record {
   maximal = maximal_later cells (at + 1) (first_of x) added.maximal (omega arith);
   covers = λ q. (
@@ -59,7 +62,9 @@ joined_gap sorted old cells k start at rises h added x l is gap = record {
       omega arith;
 }
 
-pub joined_no_gap : (sorted cells : List CellId) (k start at behind : ℕ) → IsJoined sorted cells k start at → start ≤ at → (x : CellId) → k < length sorted → x ≡ get_or sorted k x → first_of x ≤ at → at ≤ behind → end_of x ≤ behind → ((at ≡ behind) ⊎ (end_of x ≡ behind)) → IsJoined sorted cells (k + 1) start behind
+pub joined_no_gap : (sorted cells : List CellId) (k start at behind : ℕ) → IsJoined sorted cells k start at → start ≤ at → (x : CellId)
+    → k < length sorted → x ≡ get_or sorted k x → first_of x ≤ at → at ≤ behind → end_of x ≤ behind → ((at ≡ behind) ⊎ (end_of x ≡ behind))
+    → IsJoined sorted cells (k + 1) start behind
 joined_no_gap sorted cells k start at behind h rise x l is near longer whole which =
     let begins = h.ahead k x (omega arith) l in
     let first = ap (λ (c : CellId). first_of c) is in
@@ -97,7 +102,8 @@ pub record IsJoinedWhole (sorted cells : List CellId) : Type 0 where
   pub normal : IsNormal cells
   pub covers : (q : ℕ) → Covers cells q ↔ Covers sorted q
 
-pub joined_end : (sorted old cells : List CellId) (k start at : ℕ) → length sorted ≤ k → IsJoined sorted old k start at → IsAdded old cells start at → IsJoinedWhole sorted cells
+pub joined_end : (sorted old cells : List CellId) (k start at : ℕ) → length sorted ≤ k → IsJoined sorted old k start at
+    → IsAdded old cells start at → IsJoinedWhole sorted cells
 joined_end sorted old cells k start at done h added = record {
   normal = normal_from_maximal cells (at + 1) added.maximal;
   covers = λ q.
@@ -116,7 +122,10 @@ covers_permutation xs ys p q = (
 
 -- ---- the loop's invariant as a whole
 
-pub joined_next_gap : (sorted old cells next : List CellId) (k start at start_next at_next : ℕ) → IsNonDecreasingBy (λ c. first_of c) sorted → IsJoined sorted old k start at → IsAdded old cells start at → (x : CellId) → k < length sorted → x ≡ get_or sorted k x → at < first_of x → next ≡ cells → start_next ≡ first_of x → at_next ≡ end_of x → IsJoined sorted next (k + 1) start_next at_next × (start_next ≤ at_next) × (at_next ≤ leaf_end) × (at_next % 2 ≡ 1) × (start_next % 2 ≡ 1)
+pub joined_next_gap : (sorted old cells next : List CellId) (k start at start_next at_next : ℕ) → IsNonDecreasingBy (λ c. first_of c) sorted
+    → IsJoined sorted old k start at → IsAdded old cells start at → (x : CellId) → k < length sorted → x ≡ get_or sorted k x
+    → at < first_of x → next ≡ cells → start_next ≡ first_of x → at_next ≡ end_of x
+    → IsJoined sorted next (k + 1) start_next at_next × (start_next ≤ at_next) × (at_next ≤ leaf_end) × (at_next % 2 ≡ 1) × (start_next % 2 ≡ 1)
 joined_next_gap sorted old cells next k start at start_next at_next rises h added x l is gap e f g =
     let s = span (raw_of x) x.valid in
     let s1 = s.from in
@@ -132,7 +141,10 @@ joined_next_gap sorted old cells next k start at start_next at_next rises h adde
       omega arith,
     )
 
-pub joined_next_no_gap : (sorted cells next : List CellId) (k start at start_next at_next : ℕ) → IsJoined sorted cells k start at → start ≤ at → at ≤ leaf_end → at % 2 ≡ 1 → start % 2 ≡ 1 → (x : CellId) → k < length sorted → x ≡ get_or sorted k x → first_of x ≤ at → at ≤ at_next → end_of x ≤ at_next → ((at ≡ at_next) ⊎ (end_of x ≡ at_next)) → next ≡ cells → start_next ≡ start → IsJoined sorted next (k + 1) start_next at_next × (start_next ≤ at_next) × (at_next ≤ leaf_end) × (at_next % 2 ≡ 1) × (start_next % 2 ≡ 1)
+pub joined_next_no_gap : (sorted cells next : List CellId) (k start at start_next at_next : ℕ) → IsJoined sorted cells k start at
+    → start ≤ at → at ≤ leaf_end → at % 2 ≡ 1 → start % 2 ≡ 1 → (x : CellId) → k < length sorted → x ≡ get_or sorted k x → first_of x ≤ at
+    → at ≤ at_next → end_of x ≤ at_next → ((at ≡ at_next) ⊎ (end_of x ≡ at_next)) → next ≡ cells → start_next ≡ start
+    → IsJoined sorted next (k + 1) start_next at_next × (start_next ≤ at_next) × (at_next ≤ leaf_end) × (at_next % 2 ≡ 1) × (start_next % 2 ≡ 1)
 joined_next_no_gap sorted cells next k start at start_next at_next h rise most odd odd_start x l is near longer whole which e f =
     let s = span (raw_of x) x.valid in
     let s3 = s.ends in

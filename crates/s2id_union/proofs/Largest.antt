@@ -23,7 +23,7 @@ use Rattle.s2id_union.specs.Loops.{IsMaximal, AreMaximalBelow}
 use Rattle.s2id_union.specs.NormalForm.{lies_whole, parent_of, is_largest, cells_below, cells_where}
 use Rattle.s2id_union.specs.Region.{InRegion, IsNormal}
 use Rattle.s2id_union.proofs.Covering.{region_from_covers, covers_from_region}
-use Rattle.s2id_union.proofs.Lists.{cons_cases, in_tail, at_head}
+use Rattle.s2id_core.proofs.Lists.{cons_cases, in_tail, at_head}
 use Rattle.s2id_union.proofs.Normal.{normal_from_maximal}
 use Rattle.s2id_union.proofs.Unique.{Rises}
 
@@ -76,7 +76,8 @@ in_parent c =
     nested_from_within (raw_of c) (parent_of c) c.valid (parent_cell c) (subst (IsWithin (path_of c)) (sym (parent_path c)) (within_ancestor (level_of c - 1) (path_of c) (omega arith)))
 
 -- a coarser cell round a cell is round its parent too
-parent_within : (c : CellId) (b : ℕ) → IsCellNumber b → IsNested (raw_of c) b → length (path_at b).digits < level_of c → IsNested (parent_of c) b
+parent_within : (c : CellId) (b : ℕ) → IsCellNumber b → IsNested (raw_of c) b → length (path_at b).digits < level_of c
+    → IsNested (parent_of c) b
 parent_within c b cell nest coarser =
     let up : IsWithin (path_of c) (path_at b) = within_from_nested (raw_of c) b c.valid cell nest in
     let k = level_of c - 1 in
@@ -113,7 +114,8 @@ largest_from_test passes c e =
     }
 
 -- a largest cell round each cell that lies in the region whole
-largest_around : (k : ℕ) (passes : ℕ → Bool) (c : CellId) → level_of c ≡ k → lies_whole passes (raw_of c) ≡ true → (m : CellId) × IsNested (raw_of c) (raw_of m) × (is_largest passes m ≡ true)
+largest_around : (k : ℕ) (passes : ℕ → Bool) (c : CellId) → level_of c ≡ k → lies_whole passes (raw_of c) ≡ true
+    → (m : CellId) × IsNested (raw_of c) (raw_of m) × (is_largest passes m ≡ true)
 unfolding is_largest
 largest_around zero passes c level whole =
     let itself : IsNested (raw_of c) (raw_of c) = record { from = omega arith; to = omega arith } in
@@ -134,7 +136,8 @@ largest_around (suc k) passes c level whole =
 
 -- ---- all cells below a limit
 
-from_option : (a : ℕ) (o : Option CellId) (rest : List CellId) → cell_numbered a ≡ o → All (λ c. a < raw_of c) rest → All (λ c. a ≤ raw_of c) (cons_option o rest)
+from_option : (a : ℕ) (o : Option CellId) (rest : List CellId) → cell_numbered a ≡ o → All (λ c. a < raw_of c) rest
+    → All (λ c. a ≤ raw_of c) (cons_option o rest)
 from_option a None rest e h = λ k d l. let less = h k d l in omega arith
 from_option a (Some c) rest e h =
     All-cons (λ c. a ≤ raw_of c) c rest (let number = numbered-raw a c e in omega arith) (λ k d l. let less = h k d l in omega arith)
@@ -144,7 +147,8 @@ numbers_from a zero = All-nil (λ c. a ≤ raw_of c)
 numbers_from a (suc n) =
     from_option a (cell_numbered a) (filter_map cell_numbered (range_with_len (a + 1) n)) refl (λ k d l. let h = numbers_from (a + 1) n k d l in omega arith)
 
-rises_option : (a : ℕ) (o : Option CellId) (rest : List CellId) → cell_numbered a ≡ o → All (λ c. a < raw_of c) rest → Rises rest → Rises (cons_option o rest)
+rises_option : (a : ℕ) (o : Option CellId) (rest : List CellId) → cell_numbered a ≡ o → All (λ c. a < raw_of c) rest → Rises rest
+    → Rises (cons_option o rest)
 rises_option a None rest e h up = up
 rises_option a (Some c) rest e h up =
     AllPairs-cons (λ a b. raw_of a < raw_of b) c rest (λ k d l. let less = h k d l in let number = numbered-raw a c e in omega arith) up
@@ -261,7 +265,8 @@ where_normal passes = normal_from_maximal (cells_where passes) leaf_end (where_m
 -- ---- its leaves
 
 -- a leaf is in the region exactly where both numbers of its span pass
-pub where_region : (passes : ℕ → Bool) (leaf : Path) → IsLeafPath leaf → InRegion (cells_where passes) leaf ↔ ((passes (number_of leaf) ≡ true) × (passes (number_of leaf + 1) ≡ true))
+pub where_region : (passes : ℕ → Bool) (leaf : Path) → IsLeafPath leaf
+    → InRegion (cells_where passes) leaf ↔ ((passes (number_of leaf) ≡ true) × (passes (number_of leaf + 1) ≡ true))
 where_region passes leaf deep =
     let n = number_of leaf in
     let valid : IsCellNumber n = cell_of_path leaf deep.path in

@@ -1,4 +1,3 @@
-pub mod Lists
 pub mod Unique
 pub mod Covering
 mod Adding

@@ -16,7 +16,8 @@ use Rattle.s2id_union.proofs.Normal.{normal_from_maximal}
 pub normal_from_added : (old cells : List CellId) (start limit : ℕ) → IsAdded old cells start limit → IsNormal cells
 normal_from_added old cells start limit h = normal_from_maximal cells (limit + 1) h.maximal
 
-pub span_leaves : (old cells : List CellId) (start limit : ℕ) → old ≡ [] → IsAdded old cells start limit → (leaf : Path) → IsLeafPath leaf → InRegion cells leaf ↔ ((start ≤ number_of leaf) × (number_of leaf < limit))
+pub span_leaves : (old cells : List CellId) (start limit : ℕ) → old ≡ [] → IsAdded old cells start limit → (leaf : Path) → IsLeafPath leaf
+    → InRegion cells leaf ↔ ((start ≤ number_of leaf) × (number_of leaf < limit))
 span_leaves old cells start limit none h leaf deep = (
   λ i. elim ((h.covers (number_of leaf)).0 (covers_from_region cells leaf i)) [
     | inl c ↦ absurd (covers_nil (number_of leaf) (subst (λ xs. Covers xs (number_of leaf)) none c))
@@ -26,28 +27,36 @@ span_leaves old cells start limit none h leaf deep = (
 )
 
 -- lists that cover the same numbers have the same leaves
-pub same_leaves : (xs ys : List CellId) → ((q : ℕ) → Covers xs q ↔ Covers ys q) → (leaf : Path) → IsLeafPath leaf → InRegion xs leaf ↔ InRegion ys leaf
+pub same_leaves : (xs ys : List CellId) → ((q : ℕ) → Covers xs q ↔ Covers ys q) → (leaf : Path) → IsLeafPath leaf
+    → InRegion xs leaf ↔ InRegion ys leaf
 same_leaves xs ys h leaf deep = (
   λ i. region_from_covers ys leaf deep ((h (number_of leaf)).0 (covers_from_region xs leaf i)),
   λ i. region_from_covers xs leaf deep ((h (number_of leaf)).1 (covers_from_region ys leaf i)),
 )
 
 -- the set operations, on leaves
-union_or : (o : Operation) (xs ys cells : List CellId) → ((q : ℕ) → Covers cells q ↔ Keeps o (Covers xs q) (Covers ys q)) → (leaf : Path) → IsLeafPath leaf → InRegion cells leaf ↔ Keeps o (InRegion xs leaf) (InRegion ys leaf)
+union_or : (o : Operation) (xs ys cells : List CellId) → ((q : ℕ) → Covers cells q ↔ Keeps o (Covers xs q) (Covers ys q)) → (leaf : Path)
+    → IsLeafPath leaf → InRegion cells leaf ↔ Keeps o (InRegion xs leaf) (InRegion ys leaf)
 union_or o xs ys cells h leaf deep =
     let q = number_of leaf in (
       λ i. keeps_same o (region_from_covers xs leaf deep, covers_from_region xs leaf) (region_from_covers ys leaf deep, covers_from_region ys leaf) ((h q).0 (covers_from_region cells leaf i)),
       λ k. region_from_covers cells leaf deep ((h q).1 (keeps_same o (covers_from_region xs leaf, region_from_covers xs leaf deep) (covers_from_region ys leaf, region_from_covers ys leaf deep) k)),
     )
 
-pub union_leaves : (as_first as_second xs ys cells : List CellId) → xs ≡ as_first → ys ≡ as_second → ((q : ℕ) → Covers cells q ↔ Keeps Union (Covers xs q) (Covers ys q)) → (leaf : Path) → IsLeafPath leaf → InRegion cells leaf ↔ (InRegion as_first leaf ⊎ InRegion as_second leaf)
+pub union_leaves : (as_first as_second xs ys cells : List CellId) → xs ≡ as_first → ys ≡ as_second
+    → ((q : ℕ) → Covers cells q ↔ Keeps Union (Covers xs q) (Covers ys q)) → (leaf : Path) → IsLeafPath leaf
+    → InRegion cells leaf ↔ (InRegion as_first leaf ⊎ InRegion as_second leaf)
 union_leaves as_first as_second xs ys cells e f h leaf deep =
     subst (λ x. InRegion cells leaf ↔ Keeps Union (InRegion x leaf) (InRegion as_second leaf)) e (subst (λ y. InRegion cells leaf ↔ Keeps Union (InRegion xs leaf) (InRegion y leaf)) f (union_or Union xs ys cells h leaf deep))
 
-pub intersection_leaves : (as_first as_second xs ys cells : List CellId) → xs ≡ as_first → ys ≡ as_second → ((q : ℕ) → Covers cells q ↔ Keeps Intersection (Covers xs q) (Covers ys q)) → (leaf : Path) → IsLeafPath leaf → InRegion cells leaf ↔ (InRegion as_first leaf × InRegion as_second leaf)
+pub intersection_leaves : (as_first as_second xs ys cells : List CellId) → xs ≡ as_first → ys ≡ as_second
+    → ((q : ℕ) → Covers cells q ↔ Keeps Intersection (Covers xs q) (Covers ys q)) → (leaf : Path) → IsLeafPath leaf
+    → InRegion cells leaf ↔ (InRegion as_first leaf × InRegion as_second leaf)
 intersection_leaves as_first as_second xs ys cells e f h leaf deep =
     subst (λ x. InRegion cells leaf ↔ Keeps Intersection (InRegion x leaf) (InRegion as_second leaf)) e (subst (λ y. InRegion cells leaf ↔ Keeps Intersection (InRegion xs leaf) (InRegion y leaf)) f (union_or Intersection xs ys cells h leaf deep))
 
-pub difference_leaves : (as_first as_second xs ys cells : List CellId) → xs ≡ as_first → ys ≡ as_second → ((q : ℕ) → Covers cells q ↔ Keeps Difference (Covers xs q) (Covers ys q)) → (leaf : Path) → IsLeafPath leaf → InRegion cells leaf ↔ (InRegion as_first leaf × (InRegion as_second leaf → ⊥))
+pub difference_leaves : (as_first as_second xs ys cells : List CellId) → xs ≡ as_first → ys ≡ as_second
+    → ((q : ℕ) → Covers cells q ↔ Keeps Difference (Covers xs q) (Covers ys q)) → (leaf : Path) → IsLeafPath leaf
+    → InRegion cells leaf ↔ (InRegion as_first leaf × (InRegion as_second leaf → ⊥))
 difference_leaves as_first as_second xs ys cells e f h leaf deep =
     subst (λ x. InRegion cells leaf ↔ Keeps Difference (InRegion x leaf) (InRegion as_second leaf)) e (subst (λ y. InRegion cells leaf ↔ Keeps Difference (InRegion xs leaf) (InRegion y leaf)) f (union_or Difference xs ys cells h leaf deep))

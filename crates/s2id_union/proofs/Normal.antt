@@ -16,7 +16,7 @@ use Rattle.s2id_core.proofs.Nested.{by_width, span, nested_from_within}
 use Rattle.s2id_union.specs.Region.{IsNormal}
 use Rattle.s2id_union.specs.Covers.{Covers}
 use Rattle.s2id_union.specs.Loops.{AreMaximalBelow}
-use Rattle.s2id_union.proofs.Lists.{pair_cases}
+use Rattle.s2id_core.proofs.Lists.{pair_cases}
 use Rattle.s2id_union.proofs.Unique.{child_within, HasChild}
 
 -- ---- the spans of four children
@@ -38,7 +38,8 @@ record IsQuarter (c b w d : ℕ) : Type 0 where
   first : first_at c ≡ first_at b + d * (2 * w)
   last : end_at c ≡ first_at c + 2 * w
 
-quarter_span : (c b d : ℕ) → IsCellNumber c → IsCellNumber b → length (path_at b).digits < 30 → path_at c ≡ child d (path_at b) → IsQuarter c b (width (child 0 (path_at b))) d
+quarter_span : (c b d : ℕ) → IsCellNumber c → IsCellNumber b → length (path_at b).digits < 30 → path_at c ≡ child d (path_at b)
+    → IsQuarter c b (width (child 0 (path_at b))) d
 quarter_span c b d cell_c cell_b level e =
     let p = path_at b in
     let rc = by_width c cell_c in
@@ -61,14 +62,17 @@ whole_span b cell level =
 
 -- ---- no four
 
-covered_by : (cells : List CellId) (b d q : ℕ) → IsCellNumber b → length (path_at b).digits < 30 → HasChild cells d (path_at b) → first_at b + d * (2 * width (child 0 (path_at b))) ≤ q → q < first_at b + d * (2 * width (child 0 (path_at b))) + 2 * width (child 0 (path_at b)) → Covers cells q
+covered_by : (cells : List CellId) (b d q : ℕ) → IsCellNumber b → length (path_at b).digits < 30 → HasChild cells d (path_at b)
+    → first_at b + d * (2 * width (child 0 (path_at b))) ≤ q
+    → q < first_at b + d * (2 * width (child 0 (path_at b))) + 2 * width (child 0 (path_at b)) → Covers cells q
 covered_by cells b d q cell level has from to =
     let r = quarter_span (raw_of has.1) b d has.1.valid cell level has.4 in
     let f = r.first in
     let l = r.last in
     record { cell = has.1; held = (has.0, has.2, has.3); from = omega arith; to = omega arith }
 
-all_covered : (cells : List CellId) (b : ℕ) → IsCellNumber b → length (path_at b).digits < 30 → ((d : ℕ) → d < 4 → HasChild cells d (path_at b)) → (q : ℕ) → first_at b ≤ q → q < end_at b → Covers cells q
+all_covered : (cells : List CellId) (b : ℕ) → IsCellNumber b → length (path_at b).digits < 30
+    → ((d : ℕ) → d < 4 → HasChild cells d (path_at b)) → (q : ℕ) → first_at b ≤ q → q < end_at b → Covers cells q
 all_covered cells b cell level has q from to =
     let w = width (child 0 (path_at b)) in
     let e = whole_span b cell level in
@@ -96,7 +100,8 @@ path_from_child d p h =
       digits_below = λ k e l. subst (λ x. x < 4) (get_or_append_left p.digits (d ∷ []) e k l) (h.digits_below k e (omega arith));
     }
 
-none_of_four : (cells : List CellId) (free b : ℕ) → AreMaximalBelow cells free → IsCellNumber b → length (path_at b).digits < 30 → ((d : ℕ) → d < 4 → HasChild cells d (path_at b)) → ⊥
+none_of_four : (cells : List CellId) (free b : ℕ) → AreMaximalBelow cells free → IsCellNumber b → length (path_at b).digits < 30
+    → ((d : ℕ) → d < 4 → HasChild cells d (path_at b)) → ⊥
 none_of_four cells free b h cell level has =
     let c = has 0 (omega arith) in
     let within : IsWithin (path_of c.1) (path_at b) = subst (λ (x : Path). IsWithin x (path_at b)) (sym c.4) (child_within 0 (path_at b)) in

@@ -39,7 +39,8 @@ follow_from_normal cells h i j d lt l =
     ]
 
 -- ends rise
-pub ends_rise : (cells : List CellId) → FollowOneAnother cells → (i j : ℕ) (d : CellId) → i ≤ j → j < length cells → end_of (get_or cells i d) ≤ end_of (get_or cells j d)
+pub ends_rise : (cells : List CellId) → FollowOneAnother cells → (i j : ℕ) (d : CellId) → i ≤ j → j < length cells
+    → end_of (get_or cells i d) ≤ end_of (get_or cells j d)
 ends_rise cells follow i j d le l =
     elim (cases_lt i j) [
       | inl lt ↦
@@ -52,23 +53,27 @@ ends_rise cells follow i j d le l =
     ]
 
 -- the same by a cell of the list
-pub ends_from : (cells : List CellId) → FollowOneAnother cells → (k : ℕ) (x : CellId) → k < length cells → x ≡ get_or cells k x → (j : ℕ) (d : CellId) → k ≤ j → j < length cells → end_of x ≤ end_of (get_or cells j d)
+pub ends_from : (cells : List CellId) → FollowOneAnother cells → (k : ℕ) (x : CellId) → k < length cells → x ≡ get_or cells k x
+    → (j : ℕ) (d : CellId) → k ≤ j → j < length cells → end_of x ≤ end_of (get_or cells j d)
 ends_from cells follow k x l is j d le within =
     let e = ap (λ (c : CellId). end_of c) (is ∙ get_or_default cells k x d l) in
     let r = ends_rise cells follow k j d le within in
     omega arith
 
-pub ends_to : (cells : List CellId) → FollowOneAnother cells → (k : ℕ) (x : CellId) → k < length cells → x ≡ get_or cells k x → (j : ℕ) (d : CellId) → j < k + 1 → j < length cells → end_of (get_or cells j d) ≤ end_of x
+pub ends_to : (cells : List CellId) → FollowOneAnother cells → (k : ℕ) (x : CellId) → k < length cells → x ≡ get_or cells k x
+    → (j : ℕ) (d : CellId) → j < k + 1 → j < length cells → end_of (get_or cells j d) ≤ end_of x
 ends_to cells follow k x l is j d lt within =
     let e = ap (λ (c : CellId). end_of c) (is ∙ get_or_default cells k x d l) in
     let r = ends_rise cells follow j k d (omega arith) l in
     omega arith
 
-pub ahead_start : (cells : List CellId) (at : ℕ) → ((j : ℕ) (d : CellId) → 0 ≤ j → j < length cells → at < end_of (get_or cells j d)) → IsAhead cells 0 at
+pub ahead_start : (cells : List CellId) (at : ℕ) → ((j : ℕ) (d : CellId) → 0 ≤ j → j < length cells → at < end_of (get_or cells j d))
+    → IsAhead cells 0 at
 ahead_start cells at h = record { passed = λ j d lt l. absurd (omega arith); ahead = h }
 
 -- a cell that begins at the place and lies within one of the list lies within the first that is not passed
-pub at_ahead : (cells : List CellId) → FollowOneAnother cells → (k at : ℕ) → IsAhead cells k at → (j : ℕ) (d : CellId) → j < length cells → first_of (get_or cells j d) ≤ at → at < end_of (get_or cells j d) → j ≡ k
+pub at_ahead : (cells : List CellId) → FollowOneAnother cells → (k at : ℕ) → IsAhead cells k at → (j : ℕ) (d : CellId) → j < length cells
+    → first_of (get_or cells j d) ≤ at → at < end_of (get_or cells j d) → j ≡ k
 at_ahead cells follow k at h j d l from to =
     elim (cases_lt j k) [
       | inl lt ↦ absurd (let p = h.passed j d lt l in omega arith)
@@ -80,14 +85,16 @@ at_ahead cells follow k at h j d l from to =
     ]
 
 -- what lies within a cell of the list
-pub all_from_within : (cells : List CellId) (x cell : CellId) → Contains cells x → IsNested (raw_of cell) (raw_of x) → HasAllOf cells (path_of cell)
+pub all_from_within : (cells : List CellId) (x cell : CellId) → Contains cells x → IsNested (raw_of cell) (raw_of x)
+    → HasAllOf cells (path_of cell)
 all_from_within cells x cell held nest l i =
     let w = within_from_nested (raw_of cell) (raw_of x) cell.valid x.valid nest in
     let leaves = (leaves_iff_within (path_of cell) (path_of x) (path_of_cell (raw_of cell) cell.valid) (path_of_cell (raw_of x) x.valid)).1 w in
     (held.0, x, held.1, held.2, leaves l i)
 
 -- a cell whose leaves are all in the region lies within the first cell that is not passed
-pub within_ahead : (cells : List CellId) → IsNormal cells → (k at : ℕ) (cell : CellId) → at ≡ first_of cell → IsAhead cells k at → HasAllOf cells (path_of cell) → (k < length cells) × ((x : CellId) → x ≡ get_or cells k x → IsNested (raw_of cell) (raw_of x))
+pub within_ahead : (cells : List CellId) → IsNormal cells → (k at : ℕ) (cell : CellId) → at ≡ first_of cell → IsAhead cells k at
+    → HasAllOf cells (path_of cell) → (k < length cells) × ((x : CellId) → x ≡ get_or cells k x → IsNested (raw_of cell) (raw_of x))
 within_ahead cells normal k at cell begins h all =
     let a = around_from_all cells normal (path_of cell) (path_of_cell (raw_of cell) cell.valid) all in
     let y = a.1 in
@@ -109,7 +116,9 @@ within_ahead cells normal k at cell begins h all =
     )
 
 -- a cell that shares a leaf with the region shares it with the first cell that is not passed
-pub meets_ahead : (cells : List CellId) → IsNormal cells → (k at : ℕ) (cell : CellId) → at ≡ first_of cell → IsAhead cells k at → Meets cells (path_of cell) → (k < length cells) × ((x : CellId) → x ≡ get_or cells k x → (first_of x < end_of cell) × (first_of cell < end_of x))
+pub meets_ahead : (cells : List CellId) → IsNormal cells → (k at : ℕ) (cell : CellId) → at ≡ first_of cell → IsAhead cells k at
+    → Meets cells (path_of cell)
+    → (k < length cells) × ((x : CellId) → x ≡ get_or cells k x → (first_of x < end_of cell) × (first_of cell < end_of x))
 meets_ahead cells normal k at cell begins h m =
     let leaf = m.0 in
     let in_cell = m.1 in

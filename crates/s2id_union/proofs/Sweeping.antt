@@ -65,7 +65,8 @@ pub record IsStretch (cells : List CellId) (k at end : ℕ) (inside : Bool) : Ty
   pub reached : IsReached cells k end
   pub constant : IsConstant cells at end inside
 
-pub before_first : (cells : List CellId) → FollowOneAnother cells → (k at end : ℕ) → IsAhead cells k at → (x : CellId) → k < length cells → x ≡ get_or cells k x → end ≡ first_of x → at < end → IsStretch cells k at end false
+pub before_first : (cells : List CellId) → FollowOneAnother cells → (k at end : ℕ) → IsAhead cells k at → (x : CellId) → k < length cells
+    → x ≡ get_or cells k x → end ≡ first_of x → at < end → IsStretch cells k at end false
 before_first cells follow k at end h x l is here rises =
     let s = span (raw_of x) x.valid in
     let s1 = s.from in
@@ -98,7 +99,9 @@ before_first cells follow k at end h x l is here rises =
       );
     }
 
-pub within_cell : (cells : List CellId) → FollowOneAnother cells → (k at first end : ℕ) → IsAhead cells k at → (x y : CellId) → k < length cells → x ≡ get_or cells k x → y ≡ get_or cells k y → first ≡ first_of x → end ≡ end_of y → first ≤ at → IsStretch cells k at end true
+pub within_cell : (cells : List CellId) → FollowOneAnother cells → (k at first end : ℕ) → IsAhead cells k at → (x y : CellId)
+    → k < length cells → x ≡ get_or cells k x → y ≡ get_or cells k y → first ≡ first_of x → end ≡ end_of y → first ≤ at
+    → IsStretch cells k at end true
 within_cell cells follow k at first end h x y l is is_y begins here le =
     let s = span (raw_of y) y.valid in
     let s3 = s.ends in
@@ -116,7 +119,8 @@ within_cell cells follow k at first end h x y l is is_y begins here le =
 
 -- ---- on to the end of a stretch
 
-pub ahead_passed : (cells : List CellId) → FollowOneAnother cells → (k at end : ℕ) → IsAhead cells k at → at ≤ end → (x : CellId) → k < length cells → x ≡ get_or cells k x → end_of x ≤ end → IsReached cells k end → IsAhead cells (k + 1) end
+pub ahead_passed : (cells : List CellId) → FollowOneAnother cells → (k at end : ℕ) → IsAhead cells k at → at ≤ end → (x : CellId)
+    → k < length cells → x ≡ get_or cells k x → end_of x ≤ end → IsReached cells k end → IsAhead cells (k + 1) end
 ahead_passed cells follow k at end h le x l is done reached = record {
   passed = λ j d lt within. let r = ends_to cells follow k x l is j d lt within in omega arith;
   ahead = λ j d ge within.
@@ -128,7 +132,8 @@ ahead_passed cells follow k at end h le x l is done reached = record {
       omega arith;
 }
 
-pub ahead_stays : (cells : List CellId) → FollowOneAnother cells → (k at end : ℕ) → IsAhead cells k at → at ≤ end → ((d : CellId) → k < length cells → end < end_of (get_or cells k d)) → IsAhead cells k end
+pub ahead_stays : (cells : List CellId) → FollowOneAnother cells → (k at end : ℕ) → IsAhead cells k at → at ≤ end
+    → ((d : CellId) → k < length cells → end < end_of (get_or cells k d)) → IsAhead cells k end
 ahead_stays cells follow k at end h le more = record {
   passed = λ j d lt within. let p = h.passed j d lt within in omega arith;
   ahead = λ j d ge within. let m = more d (omega arith) in let r = ends_rise cells follow k j d ge within in omega arith;
@@ -160,7 +165,8 @@ swept_start o xs ys = record {
 flip : {A B : Type 0} → A ↔ B → B ↔ A
 flip h = (h.1, h.0)
 
-pub swept_on : (o : Operation) (xs ys cells : List CellId) (start at end : ℕ) (x y : Bool) → IsSwept o xs ys cells start at → start ≤ at → at < end → IsConstant xs at end x → IsConstant ys at end y → Keeps o (IsTrue x) (IsTrue y) → IsSwept o xs ys cells start end
+pub swept_on : (o : Operation) (xs ys cells : List CellId) (start at end : ℕ) (x y : Bool) → IsSwept o xs ys cells start at → start ≤ at
+    → at < end → IsConstant xs at end x → IsConstant ys at end y → Keeps o (IsTrue x) (IsTrue y) → IsSwept o xs ys cells start end
 swept_on o xs ys cells start at end x y h rises more cx cy keep = record {
   maximal = h.maximal;
   covers = λ q. (
@@ -183,7 +189,9 @@ swept_on o xs ys cells start at end x y h rises more cx cy keep = record {
   );
 }
 
-pub swept_off : (o : Operation) (xs ys old cells : List CellId) (start at end : ℕ) (x y : Bool) → IsSwept o xs ys old start at → IsAdded old cells start at → at < end → IsConstant xs at end x → IsConstant ys at end y → (Keeps o (IsTrue x) (IsTrue y) → ⊥) → IsSwept o xs ys cells end end
+pub swept_off : (o : Operation) (xs ys old cells : List CellId) (start at end : ℕ) (x y : Bool) → IsSwept o xs ys old start at
+    → IsAdded old cells start at → at < end → IsConstant xs at end x → IsConstant ys at end y → (Keeps o (IsTrue x) (IsTrue y) → ⊥)
+    → IsSwept o xs ys cells end end
 swept_off o xs ys old cells start at end x y h added more cx cy drop = record {
   maximal = maximal_later cells (at + 1) end added.maximal (omega arith);
   covers = λ q. (
@@ -203,7 +211,8 @@ pub record IsWhole (o : Operation) (xs ys cells : List CellId) : Type 0 where
   pub normal : IsNormal cells
   pub covers : (q : ℕ) → Covers cells q ↔ Keeps o (Covers xs q) (Covers ys q)
 
-pub swept_end : (o : Operation) (xs ys old cells : List CellId) (start at : ℕ) → IsSwept o xs ys old start at → leaf_end ≤ at → IsAdded old cells start at → IsWhole o xs ys cells
+pub swept_end : (o : Operation) (xs ys old cells : List CellId) (start at : ℕ) → IsSwept o xs ys old start at → leaf_end ≤ at
+    → IsAdded old cells start at → IsWhole o xs ys cells
 swept_end o xs ys old cells start at h done added = record {
   normal = normal_from_maximal cells (at + 1) added.maximal;
   covers = λ q. (
@@ -214,7 +223,8 @@ swept_end o xs ys old cells start at h done added = record {
 
 -- ---- the loop's invariant as a whole
 
-pub swept_init : (o : Operation) (xs ys cells : List CellId) → cells ≡ [] → IsSwept o xs ys cells 1 1 × IsAhead xs 0 1 × IsAhead ys 0 1 × (1 ≤ 1) × (1 ≤ leaf_end) × (1 % 2 ≡ 1) × (1 % 2 ≡ 1)
+pub swept_init : (o : Operation) (xs ys cells : List CellId) → cells ≡ []
+    → IsSwept o xs ys cells 1 1 × IsAhead xs 0 1 × IsAhead ys 0 1 × (1 ≤ 1) × (1 ≤ leaf_end) × (1 % 2 ≡ 1) × (1 % 2 ≡ 1)
 swept_init o xs ys cells e =
     let ends : (zs : List CellId) (j : ℕ) (d : CellId) → 0 ≤ j → j < length zs → 1 < end_of (get_or zs j d) = λ zs j d le l. let s = span (raw_of (get_or zs j d)) (get_or zs j d).valid in let a = s.begins in let b = s.from in let c = s.to in omega arith in (
       subst (λ zs. IsSwept o xs ys zs 1 1) (sym e) (swept_start o xs ys),
@@ -226,10 +236,16 @@ swept_init o xs ys cells e =
       refl,
     )
 
-pub swept_next_on : (o : Operation) (xs ys cells : List CellId) (start at end ex ey i j : ℕ) (x y : Bool) → IsSwept o xs ys cells start at → start ≤ at → start % 2 ≡ 1 → at < end → end ≤ ex → end ≤ ey → ex ≤ leaf_end → end % 2 ≡ 1 → IsConstant xs at ex x → IsConstant ys at ey y → Keeps o (IsTrue x) (IsTrue y) → IsAhead xs i end → IsAhead ys j end → IsSwept o xs ys cells start end × IsAhead xs i end × IsAhead ys j end × (start ≤ end) × (end ≤ leaf_end) × (end % 2 ≡ 1) × (start % 2 ≡ 1)
+pub swept_next_on : (o : Operation) (xs ys cells : List CellId) (start at end ex ey i j : ℕ) (x y : Bool) → IsSwept o xs ys cells start at
+    → start ≤ at → start % 2 ≡ 1 → at < end → end ≤ ex → end ≤ ey → ex ≤ leaf_end → end % 2 ≡ 1 → IsConstant xs at ex x
+    → IsConstant ys at ey y → Keeps o (IsTrue x) (IsTrue y) → IsAhead xs i end → IsAhead ys j end
+    → IsSwept o xs ys cells start end × IsAhead xs i end × IsAhead ys j end × (start ≤ end) × (end ≤ leaf_end) × (end % 2 ≡ 1) × (start % 2 ≡ 1)
 swept_next_on o xs ys cells start at end ex ey i j x y h rises odd_start lt lx ly most odd cx cy keep ax ay =
     (swept_on o xs ys cells start at end x y h rises lt (λ q a b. cx q a (omega arith)) (λ q a b. cy q a (omega arith)) keep, ax, ay, omega arith, omega arith, odd, odd_start)
 
-pub swept_next_off : (o : Operation) (xs ys old cells : List CellId) (start at end ex ey i j : ℕ) (x y : Bool) → IsSwept o xs ys old start at → IsAdded old cells start at → at < end → end ≤ ex → end ≤ ey → ex ≤ leaf_end → end % 2 ≡ 1 → IsConstant xs at ex x → IsConstant ys at ey y → (Keeps o (IsTrue x) (IsTrue y) → ⊥) → IsAhead xs i end → IsAhead ys j end → IsSwept o xs ys cells end end × IsAhead xs i end × IsAhead ys j end × (end ≤ end) × (end ≤ leaf_end) × (end % 2 ≡ 1) × (end % 2 ≡ 1)
+pub swept_next_off : (o : Operation) (xs ys old cells : List CellId) (start at end ex ey i j : ℕ) (x y : Bool)
+    → IsSwept o xs ys old start at → IsAdded old cells start at → at < end → end ≤ ex → end ≤ ey → ex ≤ leaf_end → end % 2 ≡ 1
+    → IsConstant xs at ex x → IsConstant ys at ey y → (Keeps o (IsTrue x) (IsTrue y) → ⊥) → IsAhead xs i end → IsAhead ys j end
+    → IsSwept o xs ys cells end end × IsAhead xs i end × IsAhead ys j end × (end ≤ end) × (end ≤ leaf_end) × (end % 2 ≡ 1) × (end % 2 ≡ 1)
 swept_next_off o xs ys old cells start at end ex ey i j x y h added lt lx ly most odd cx cy drop ax ay =
     (swept_off o xs ys old cells start at end x y h added lt (λ q a b. cx q a (omega arith)) (λ q a b. cy q a (omega arith)) drop, ax, ay, omega arith, omega arith, odd, odd)

@@ -14,7 +14,7 @@ use Rattle.s2id_core.proofs.Spans.{leaves_from_within}
 use Rattle.s2id_core.proofs.Nested.{nested_from_within, within_from_nested, same_span}
 use Rattle.s2id_core.proofs.Cells.{same_cell}
 use Rattle.s2id_union.specs.Region.{IsNormal, HaveSameRegion, HasAllOf}
-use Rattle.s2id_union.proofs.Lists.{head_pairs, tail_pairs, cons_cases, in_tail, at_head, none_in_nil}
+use Rattle.s2id_core.proofs.Lists.{head_pairs, tail_pairs, cons_cases, in_tail, at_head, none_in_nil}
 
 -- ---- children
 
@@ -47,7 +47,8 @@ around_or_child : (cells : List CellId) (d : ℕ) (p : Path) → HasAround cells
 around_or_child cells d p a =
     elim (within_child d p (path_of a.1) a.4) [ inl w ↦ inl (a.0, a.1, a.2, a.3, w) | inr e ↦ inr (a.0, a.1, a.2, a.3, e) ]
 
-four : (cells : List CellId) (p : Path) → HasChild cells 0 p → HasChild cells 1 p → HasChild cells 2 p → HasChild cells 3 p → (d : ℕ) → d < 4 → HasChild cells d p
+four : (cells : List CellId) (p : Path) → HasChild cells 0 p → HasChild cells 1 p → HasChild cells 2 p → HasChild cells 3 p → (d : ℕ)
+    → d < 4 → HasChild cells d p
 four cells p a b c e zero h = a
 four cells p a b c e (suc zero) h = b
 four cells p a b c e (suc (suc zero)) h = c
@@ -55,7 +56,8 @@ four cells p a b c e (suc (suc (suc zero))) h = e
 four cells p a b c e (suc (suc (suc (suc d)))) h = absurd (omega arith)
 
 -- a cell whose leaves are all in the region of a normal list lies within one of its cells
-pub around_by_height : (h : ℕ) (cells : List CellId) → IsNormal cells → (p : Path) → IsPath p → length p.digits + h ≡ 30 → HasAllOf cells p → HasAround cells p
+pub around_by_height : (h : ℕ) (cells : List CellId) → IsNormal cells → (p : Path) → IsPath p → length p.digits + h ≡ 30 → HasAllOf cells p
+    → HasAround cells p
 around_by_height zero cells normal p path level all =
     let itself : IsLeafOf p p = record { deep = record { path = path; deep = omega arith }; within = ancestor_itself p } in
     let a = all p itself in
@@ -109,7 +111,8 @@ abbrev pub Rises : List CellId → Type 0
 Rises = AllPairs (λ a b. raw_of a < raw_of b)
 
 -- lists that rise strictly and have the same cells are equal
-pub same_rising : (xs ys : List CellId) → Rises xs → Rises ys → ((c : CellId) → Contains xs c → Contains ys c) → ((c : CellId) → Contains ys c → Contains xs c) → xs ≡ ys
+pub same_rising : (xs ys : List CellId) → Rises xs → Rises ys → ((c : CellId) → Contains xs c → Contains ys c)
+    → ((c : CellId) → Contains ys c → Contains xs c) → xs ≡ ys
 same_rising [] [] rx ry to back = refl
 same_rising [] (y ∷ ys) rx ry to back = absurd (none_in_nil y (back y (at_head y ys)))
 same_rising (x ∷ xs) [] rx ry to back = absurd (none_in_nil x (to x (at_head x xs)))

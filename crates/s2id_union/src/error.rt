@@ -3,7 +3,7 @@ ghost use Rattle.std.specs.Prelude.{◌≡◌};
 use s2id_core::OutOfMemory;
 use thiserror::Error;
 
-/// Why there is no union of a span of leaves. This project's own.
+/// Why there is no union of a span of leaves.
 #[derive(Clone, Copy, Debug, PartialEq, Eq, Error)]
 pub enum RangeError {
     /// A bound is even, or not `1 <= start <= limit <= LEAF_END`.

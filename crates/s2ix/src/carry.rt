@@ -1,14 +1,13 @@
 //! Each command carried out, over files, standard input and standard output.
 ghost use Rattle.std.specs.Prelude.{◌≡◌, IfOk};
-ghost use Rattle.s2ix_io.specs.Adapters.{writer_faults};
+ghost use Rattle.s2ix_text.specs.Adapters.{writer_faults};
 
 use s2ix_bag::Limits;
-use s2ix_cli::{RunOptions, read_whole};
-use s2ix_ending::{first_fault, turns};
-use s2ix_files::{check_text, load_text, replay_texts, rewind_texts};
-use s2ix_io::{FromRead, RunFault, Sink, ToWrite};
-use s2ix_store::Store;
-use s2ix_words::Command;
+use s2ix_cli::{
+    Command, RunOptions, check_text, first_fault, load_text, replay_texts, rewind_texts, turns,
+};
+use s2ix_edit::Store;
+use s2ix_text::{FromRead, RunFault, Sink, ToWrite, read_whole};
 use std::fs::File;
 use std::io::{BufWriter, Stdout};
 

@@ -7,9 +7,8 @@ mod carry;
 
 use asked::asked;
 use carry::carry_command;
-use s2ix_ending::{Ending, status};
-use s2ix_io::RunFault;
-use s2ix_words::WordsFault;
+use s2ix_cli::{Ending, WordsFault, status};
+use s2ix_text::RunFault;
 use std::process::ExitCode;
 
 // Does what the words ask for. Help and the version go to standard output, and usage to standard error.

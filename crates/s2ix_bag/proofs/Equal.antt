@@ -3,13 +3,13 @@ use Rattle.std.proofs.Common.{◌≡◌, ◌&&◌, List, ap, ap₂}
 use Rattle.std.specs.Bool.{Decides}
 use Rattle.std.specs.Cmp.{first_so, second_so}
 use Rattle.std.specs.Cmp.Lexicographic.{pointwise, pointwise_decides}
-use Rattle.s2ix_pairs.specs.Collection.{Collection, LimitedCollection}
-use Rattle.s2ix_pairs.specs.declared.limits.Limits.{Limits}
-use Rattle.s2ix_pairs.specs.declared.pair.Entry.{Entry}
-use Rattle.s2ix_pairs.specs.contracts.limits.LimitsPartialEq.TheImpl.{eq-value as limits_test}
-use Rattle.s2ix_pairs.specs.contracts.pair.HeldPartialEq.TheImpl.{eq-value as held_test}
-use Rattle.s2ix_pairs.specs.contracts.pair.EntryPartialEq.TheImpl.{eq-value as entry_test}
-use Rattle.s2ix_pairs.proofs.Equal.{limits_decided, held_decided, entries_decided}
+use Rattle.s2ix_bag_pairs.specs.Collection.{Collection, LimitedCollection}
+use Rattle.s2ix_bag_pairs.specs.declared.limits.Limits.{Limits}
+use Rattle.s2ix_bag_pairs.specs.declared.pair.Entry.{Entry}
+use Rattle.s2ix_bag_pairs.specs.contracts.limits.LimitsPartialEq.TheImpl.{eq-value as limits_test}
+use Rattle.s2ix_bag_pairs.specs.contracts.pair.HeldPartialEq.TheImpl.{eq-value as held_test}
+use Rattle.s2ix_bag_pairs.specs.contracts.pair.EntryPartialEq.TheImpl.{eq-value as entry_test}
+use Rattle.s2ix_bag_pairs.proofs.Equal.{limits_decided, held_decided, entries_decided}
 
 pub changes_decided : (es fs : List Entry) → Decides (pointwise entry_test.it es fs) (es ≡ fs)
 changes_decided = pointwise_decides entries_decided

@@ -1,2 +1,6 @@
 mod Equal
 mod Reverted
+pub mod Back
+pub mod Forth
+pub mod Inverted
+pub mod Last

@@ -1,24 +1,23 @@
 ghost use Rattle.std.specs.Prelude.{◌≡◌, ◌==◌, ℕ, ◌<◌, ◌≤◌, [], length, slice_get, Some, None, IfOk, IfErr, OnOk};
-ghost use Rattle.s2ix_faces.specs.Faces.{IsFaceAt};
-ghost use Rattle.s2ix_lists.specs.Apply.{apply_refusal, IsApplyRefusal};
-ghost use Rattle.s2ix_lists.specs.Revert.{revert_refusal, IsRevertRefusal};
-ghost use Rattle.s2ix_pairs.specs.Change.{changed, IsChangeList};
-ghost use Rattle.s2ix_pairs.specs.Collection.{LimitedCollection, IsBag, copies_in, count_in};
-ghost use Rattle.s2ix_pairs.specs.OfLabel.{held_of};
-ghost use Rattle.s2ix_pairs.specs.TakenBack.{change_back, taken_back};
+ghost use Rattle.s2ix_bag_lists.specs.Faces.{IsFaceAt};
+ghost use Rattle.s2ix_bag_lists.specs.Apply.{apply_refusal, IsApplyRefusal};
+ghost use Rattle.s2ix_bag_lists.specs.Revert.{revert_refusal, IsRevertRefusal};
+ghost use Rattle.s2ix_bag_pairs.specs.Change.{changed, IsChangeList};
+ghost use Rattle.s2ix_bag_pairs.specs.Collection.{LimitedCollection, IsBag, copies_in, count_in};
+ghost use Rattle.s2ix_bag_pairs.specs.OfLabel.{held_of};
+ghost use Rattle.s2ix_bag_pairs.specs.TakenBack.{change_back, taken_back};
 
 use crate::change::Change;
 use crate::label_iter::LabelIter;
 use crate::revert::{entries_back, refusal};
 use s2id_core::OutOfMemory;
-use s2ix_faces::{FaceLists, HeldIter};
-use s2ix_lists::{ApplyError, FlatHeld, RevertError};
-use s2ix_pairs::{Held, Label, Limits, Pair};
+use s2ix_bag_lists::{ApplyError, FaceLists, FlatHeld, HeldIter, RevertError};
+use s2ix_bag_pairs::{Held, Label, Limits, Pair};
 use std::alloc::{AllocError, Global};
 use std::marker::Model;
 
 /// A finite map from pairs to counts above 0, within its limits. Contracts see a bag as its limits and the list
-/// of what it holds, in rising order of pairs. This project's own: S2 keeps a list with repeated pairs.
+/// of what it holds, in rising order of pairs. S2 keeps a list with repeated pairs.
 #[derive(Debug, Drop)]
 pub struct Bag {
     limits: Limits,
@@ -26,7 +25,7 @@ pub struct Bag {
 }
 
 impl Model for Bag {
-    ghost use Rattle.s2ix_pairs.specs.Collection.{LimitedCollection, IsBag};
+    ghost use Rattle.s2ix_bag_pairs.specs.Collection.{LimitedCollection, IsBag};
 
     ghost Value = { LimitedCollection };
 
@@ -197,7 +196,7 @@ impl Bag {
     /// The bag with a change taken back: the count of each pair of the change is less by the change's difference, after less before, and
     /// no other count differs. Refusals are those of [`Bag::reverting`], whose change leads there; `OutOfMemory` where a growth is refused.
     /// The pairs of the faces without an entry are shared, the others copied: O(k + m log n) for m entries, n pairs and the k of them on
-    /// the entries' faces. This project's own.
+    /// the entries' faces.
     pub fn reverted(&self, alloc: Global, change: &Change) -> Result<Bag, RevertError>
         ensures limits { IfOk result (λ bag. bag.limits ≡ self.now.limits) }
         ensures held { IfOk result (λ bag. bag.held ≡ taken_back self.now.held change.now) }

@@ -1,17 +1,17 @@
 ghost use Rattle.std.specs.Prelude.{◌≡◌, IfErr, IfOk, None, OnOk};
-ghost use Rattle.s2ix_pairs.specs.Change.{IsChangeList, change_between, inverse_of};
-ghost use Rattle.s2ix_pairs.specs.Collection.{IsCollection};
-ghost use Rattle.s2ix_lists.specs.Entries.{IsChangeError, change_fault};
+ghost use Rattle.s2ix_bag_pairs.specs.Change.{IsChangeList, change_between, inverse_of};
+ghost use Rattle.s2ix_bag_pairs.specs.Collection.{IsCollection};
+ghost use Rattle.s2ix_bag_lists.specs.Entries.{IsChangeError, change_fault};
 
 use crate::bag::Bag;
 use s2id_core::OutOfMemory;
-use s2ix_lists::{ChangeError, FlatHeld, differences, exchanged_entries, fault};
-use s2ix_pairs::Entry;
+use s2ix_bag_lists::{ChangeError, FlatHeld, differences, exchanged_entries, fault};
+use s2ix_bag_pairs::Entry;
 use std::alloc::{AllocError, Global};
 use std::marker::Model;
 
 /// What differs between two bags: entries in strictly rising order of their pairs, each with two different
-/// counts. Contracts see a change as the list of its entries. This project's own.
+/// counts. Contracts see a change as the list of its entries.
 #[derive(Debug, Drop)]
 pub struct Change {
     entries: Vec<Entry>,
@@ -19,8 +19,8 @@ pub struct Change {
 
 impl Model for Change {
     ghost use Rattle.std.specs.Prelude.{List};
-    ghost use Rattle.s2ix_pairs.specs.declared.pair.Entry.{Entry};
-    ghost use Rattle.s2ix_pairs.specs.Change.{IsChangeList};
+    ghost use Rattle.s2ix_bag_pairs.specs.declared.pair.Entry.{Entry};
+    ghost use Rattle.s2ix_bag_pairs.specs.Change.{IsChangeList};
 
     ghost Value = { List Entry };
 

@@ -1,14 +1,14 @@
 ghost use Rattle.std.specs.Prelude.{◌≡◌};
 ghost use Rattle.std.specs.Iterator.{YieldsFirst, item_count};
-ghost use Rattle.s2ix_pairs.specs.OfLabel.{held_of};
+ghost use Rattle.s2ix_bag_pairs.specs.OfLabel.{held_of};
 
-use s2ix_faces::HeldIter;
-use s2ix_pairs::{Held, Label};
+use s2ix_bag_lists::HeldIter;
+use s2ix_bag_pairs::{Held, Label};
 use std::marker::Model;
 
 /// The pairs that a bag holds with one label, with their counts, by rising cell; made by
 /// [`Bag::of_label`](crate::Bag::of_label). Contracts see the list of those still to come. It goes over all that
-/// the bag holds: O(n) from the first to the end, for n pairs held with any label. This project's own.
+/// the bag holds: O(n) from the first to the end, for n pairs held with any label.
 #[derive(Clone, Debug, Drop)]
 pub struct LabelIter<'a> {
     label: Label,
@@ -16,8 +16,8 @@ pub struct LabelIter<'a> {
 }
 
 impl<'a> Model for LabelIter<'a> {
-    ghost use Rattle.s2ix_pairs.specs.Collection.{Collection};
-    ghost use Rattle.s2ix_pairs.specs.OfLabel.{held_of};
+    ghost use Rattle.s2ix_bag_pairs.specs.Collection.{Collection};
+    ghost use Rattle.s2ix_bag_pairs.specs.OfLabel.{held_of};
 
     ghost Value = { Collection };
 

@@ -1,11 +1,14 @@
 //! Laws: functions that do nothing, and whose contracts are facts on the definitions.
 ghost use Rattle.std.specs.Prelude.{◌≡◌, ◌↔◌, IsTrue, List};
-ghost use Rattle.s2ix_pairs.specs.declared.pair.Entry.{Entry};
-ghost use Rattle.s2ix_pairs.specs.Collection.{Collection, LimitedCollection};
+ghost use Rattle.s2ix_bag_pairs.specs.declared.pair.Entry.{Entry};
+ghost use Rattle.s2ix_bag_pairs.specs.Collection.{Collection, LimitedCollection};
+ghost use Rattle.s2ix_bag.specs.declared.replay_error.ReplayError.{ReplayError};
+ghost use Rattle.s2ix_bag.specs.Laws.{RewindTakesReplayBack, ReplayTakesRewindBack};
 
 use crate::bag::Bag;
 use crate::change::Change;
 use crate::label_iter::LabelIter;
+use crate::replay_error::ReplayError;
 
 /// Two bags are equal exactly where their limits are, and what they hold.
 pub fn equal_bags_are_one()
@@ -30,4 +33,24 @@ pub fn cloned_changes_are_the_same()
 /// A clone of an iterator over the pairs of a label has the same still to come.
 pub fn cloned_label_iterators_have_the_same_rest<'a>()
     ensures { (it copy : Collection) → ⟦<LabelIter<'a> as Clone>⟧.is_clone it copy → copy ≡ it }
+{}
+
+/// Where a bag takes changes, what it becomes takes their way back, and that leads to the bag.
+pub fn rewind_takes_replay_back()
+    ensures { RewindTakesReplayBack }
+{}
+
+/// Where changes can be taken back from a bag, what is before them takes them again, and they lead to the bag.
+pub fn replay_takes_rewind_back()
+    ensures { ReplayTakesRewindBack }
+{}
+
+/// Two refusals of a list of changes are equal exactly where they are one.
+pub fn equal_replay_errors_are_one()
+    ensures { (a b : ReplayError) → IsTrue (⟦<ReplayError as PartialEq>⟧.eq a b) ↔ (a ≡ b) }
+{}
+
+/// A clone of a refusal of a list of changes is the same.
+pub fn cloned_replay_errors_are_the_same()
+    ensures { (a copy : ReplayError) → ⟦<ReplayError as Clone>⟧.is_clone a copy ↔ (copy ≡ a) }
 {}

@@ -1,15 +1,15 @@
 //! Taking changes back. Costs are for m entries and n pairs held.
 ghost use Rattle.std.specs.Prelude.{◌≡◌, ◌==◌, ◌+◌, ◌-◌, nat_lt, None, length, count_by, IfOk};
 ghost use Rattle.std.specs.List.{list_any};
-ghost use Rattle.s2ix_lists.specs.Revert.{revert_refusal};
-ghost use Rattle.s2ix_pairs.specs.Change.{IsChangeList};
-ghost use Rattle.s2ix_pairs.specs.Collection.{count_in};
-ghost use Rattle.s2ix_pairs.specs.Limits.{count_limit};
-ghost use Rattle.s2ix_pairs.specs.TakenBack.{count_back, first_below_zero, change_back, taken_back};
+ghost use Rattle.s2ix_bag_lists.specs.Revert.{revert_refusal};
+ghost use Rattle.s2ix_bag_pairs.specs.Change.{IsChangeList};
+ghost use Rattle.s2ix_bag_pairs.specs.Collection.{count_in};
+ghost use Rattle.s2ix_bag_pairs.specs.Limits.{count_limit};
+ghost use Rattle.s2ix_bag_pairs.specs.TakenBack.{count_back, first_below_zero, change_back, taken_back};
 
 use crate::bag::Bag;
-use s2ix_lists::RevertError;
-use s2ix_pairs::{Entry, Limits};
+use s2ix_bag_lists::RevertError;
+use s2ix_bag_pairs::{Entry, Limits};
 use std::alloc::{AllocError, Global};
 
 // A count with the copies that an entry's pair had before: what the copies after are taken from.

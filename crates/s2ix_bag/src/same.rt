@@ -3,13 +3,13 @@
 ghost use Rattle.std.specs.Ordering.{on, eq_of_both};
 ghost use Rattle.std.specs.Cmp.{and_equiv, on_equiv, partial_equiv_from_equiv};
 ghost use Rattle.std.specs.Cmp.Lexicographic.{lists_equiv, pointwise};
-ghost use Rattle.s2ix_pairs.specs.contracts.limits.LimitsEq.TheImpl.Laws as of_limits;
-ghost use Rattle.s2ix_pairs.specs.contracts.pair.HeldEq.TheImpl.Laws as of_held;
-ghost use Rattle.s2ix_pairs.specs.contracts.pair.EntryEq.TheImpl.Laws as of_entries;
+ghost use Rattle.s2ix_bag_pairs.specs.contracts.limits.LimitsEq.TheImpl.Laws as of_limits;
+ghost use Rattle.s2ix_bag_pairs.specs.contracts.pair.HeldEq.TheImpl.Laws as of_held;
+ghost use Rattle.s2ix_bag_pairs.specs.contracts.pair.EntryEq.TheImpl.Laws as of_entries;
 
 use crate::bag::Bag;
 use crate::change::Change;
-use s2ix_pairs::{Entry, Held, Limits};
+use s2ix_bag_pairs::{Entry, Held, Limits};
 
 /// Bags with the same limits that hold the same pairs with the same counts. O(n).
 impl PartialEq for Bag {

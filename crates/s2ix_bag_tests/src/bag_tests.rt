@@ -1,6 +1,8 @@
 //! Bags, and the pairs of a label.
 use s2ix_bag::{ApplyError, Bag};
-use s2ix_samples::{WIDEST, bag_of, change_of, held_of, holds_pairs, label_of, limits_of, pair_of};
+use s2ix_bag_samples::{
+    WIDEST, bag_of, change_of, held_of, holds_pairs, label_of, limits_of, pair_of,
+};
 use std::alloc::Global;
 use std::process::Abort;
 

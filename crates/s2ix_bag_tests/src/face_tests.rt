@@ -1,6 +1,6 @@
 //! Bags with pairs on several faces.
 use s2ix_bag::Bag;
-use s2ix_samples::{LimitRow, are_flat_pairs, bag_of, change_of, held_of, holds_pairs};
+use s2ix_bag_samples::{LimitRow, are_flat_pairs, bag_of, change_of, held_of, holds_pairs};
 use std::alloc::Global;
 
 const LIMITS: LimitRow = (12, 9, 1);

@@ -1,5 +1,5 @@
 //! Bags that are the same, and their clones.
-use s2ix_samples::{LimitRow, bag_of};
+use s2ix_bag_samples::{LimitRow, bag_of};
 
 const LIMITS: LimitRow = (2, 3, 1);
 

@@ -1,6 +1,11 @@
-pub mod Coming
-pub mod Laws
-pub mod Piece
-pub mod Run
-pub mod Script
-pub mod Wants
+pub use Rattle.s2ix_cli_answers.specs.Answers
+pub use Rattle.s2ix_cli_answers.specs.Ranges
+pub use Rattle.s2ix_cli_fields.specs.Fields
+pub use Rattle.s2ix_cli_script.specs.Meaning
+pub use Rattle.s2ix_cli_step.specs.Carry
+pub use Rattle.s2ix_cli_step.specs.Step
+pub use Rattle.s2ix_cli_run.specs.Run
+pub use Rattle.s2ix_cli_run.specs.Script
+pub use Rattle.s2ix_cli_files.specs.Reads
+pub use Rattle.s2ix_cli_files.specs.Widest
+pub use Rattle.s2ix_cli_words.specs.Words

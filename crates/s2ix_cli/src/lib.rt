@@ -1,18 +1,49 @@
-//! Runs of scripts: their lines carried out over a store as they come, and the answers printed.
+//! Scripts and the program: lines of text in, edits and queries carried out over a store, lines of text out.
 //!
-//! [`run`] reads a script from a source, carries out each line as soon as its line feed has come, writes the answers to a sink, and tells
-//! in a [`RunEnd`] how many lines there were and how many were refused. [`RunOptions`] say whether the first refused line ends it, and how
-//! many pieces it may read.
+//! [`run`] reads a script from a source piece by piece, carries out one line after the other over a store, and writes the answers. What it
+//! writes is a function of what it reads: a refused line prints `no` with its reason and changes nothing, and after a fault the store is as
+//! the last whole line left it. The program around it is [`command_of`], which reads the words, and calls on whole texts.
 //!
-//! A run holds one piece and one line at a time, both on the stack, some 96 KiB. It takes memory for what its lines ask for alone.
+//! ```
+//! let Some(mut store) = load_text(alloc, dump_bytes, limits, &mut sink)? else { return Ok(()) };
+//! let options = RunOptions { stop: false, turns: 1_000_000 };
+//! let end: RunEnd = run(alloc, &mut source, &mut sink, &mut store, options)?;
+//! assert!(end.refused <= end.lines);
+//! let accepted: bool = check_text(alloc, dump_bytes, &mut sink)?;
+//! let replayed: bool = replay_texts(alloc, dump_bytes, journal_bytes, &mut sink)?;
+//! let command: Command = command_of(alloc, &words)?;
+//! ```
+//!
+//! `docs/FORMATS.md` lists the instructions and their answers. A line has at most [`LONGEST_LINE`] bytes; a run asks its source for at
+//! most `turns` pieces. [`RunFault`] says what ended a run early: a read, a write, a refused growth, or a source without an end.
+//!
+//! The rooms of this house: `s2ix_cli_fields` cuts a line into fields; `s2ix_cli_script` says what a line asks for; `s2ix_cli_answers`
+//! writes what queries find; `s2ix_cli_step` carries out one line; `s2ix_cli_run` runs a script; `s2ix_cli_files` checks, loads, replays and
+//! rewinds whole texts; `s2ix_cli_words` reads the program's words and tells its status.
 #![tactic(auto)]
 
-mod coming;
-mod held_line;
 pub mod laws;
-mod run_end;
-mod script;
 
-pub use run_end::{RunEnd, RunOptions};
-pub use s2ix_io::{RunFault, read_whole};
-pub use script::run;
+pub use s2ix_cli_answers::{
+    write_contents, write_meeting, write_neighbors, write_no, write_ok, write_path, write_ranges,
+    write_square,
+};
+pub use s2ix_cli_fields::{
+    Fields, change_number_spelled, copies_spelled, label_spelled, level_spelled,
+};
+pub use s2ix_cli_files::{
+    Refusal, TextsError, check_text, dump_fault_name, journal_fault_name, load_text, replay_texts,
+    rewind_texts,
+};
+pub use s2ix_cli_run::{RunEnd, RunOptions, run};
+pub use s2ix_cli_script::{
+    Instruction, LONGEST_LINE, LineError, LineFault, add_union_named, cell_named, drop_named,
+    edit_error_name, grow_named, label_named, labels_named, meaning, normal_named, not_leaf_name,
+    pair_named, redo_error_name, relabel_named, revert_named, undo_error_name, union_named,
+};
+pub use s2ix_cli_step::{LineOutcome, carry_instruction, carry_out};
+pub use s2ix_cli_words::{
+    Command, Ending, LimitHelp, WordsFault, command_of, first_fault, limit_error, not_utf8,
+    program, range_text, status, turns,
+};
+pub use s2ix_text_io::{RunFault, read_whole};

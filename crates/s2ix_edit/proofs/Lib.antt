@@ -1,18 +1,14 @@
-mod Above
-pub mod AddUnion
-mod Beside
-mod DropLabel
-pub mod EachRefusal
-pub mod Edited
-mod Equal
-mod Fewest
-pub mod FirstRefusal
-mod Grow
-mod LabelCells
-pub mod Lesser
-mod Normalise
-pub mod Plans
-pub mod Refused
-mod Relabel
-pub mod Revert
-pub mod Sizes
+pub mod Along
+mod Answered
+pub mod Followed
+pub mod Kept
+pub mod Led
+mod LimitRefusals
+pub mod Places
+mod Planned
+pub mod Redone
+pub mod Recorded
+mod RevertRefusals
+pub mod Standing
+pub mod Taken
+pub mod Undone

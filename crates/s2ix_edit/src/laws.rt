@@ -1,164 +1,245 @@
 //! Laws: functions that do nothing, and whose contracts are facts on the definitions.
 
-ghost use Rattle.std.specs.Prelude.{◌≡◌, ◌≢◌, ◌↔◌, IsTrue, ℕ, ◌+◌, ◌-◌, pos, ◌-ℤ◌, true, false, Some, [], List, Contains};
-ghost use Rattle.s2id_core.specs.declared.cell_id.CellId.{CellId};
-ghost use Rattle.s2id_union.specs.Region.{HaveSameRegion, IsNormal};
-ghost use Rattle.s2ix_pairs.specs.declared.label.Label.{Label};
-ghost use Rattle.s2ix_pairs.specs.declared.pair.Entry.{Entry};
-ghost use Rattle.s2ix_pairs.specs.declared.pair.Pair.{Pair};
-ghost use Rattle.s2ix_pairs.specs.Change.{IsChangeList, counts_at};
-ghost use Rattle.s2ix_pairs.specs.Collection.{Collection, IsCollection, count_in};
-ghost use Rattle.s2ix_pairs.specs.Pair.{rank_of};
-ghost use Rattle.s2ix_pairs.specs.TakenBack.{gain_of};
-ghost use Rattle.s2ix_edit.specs.declared.edit.Edit.{Edit};
-ghost use Rattle.s2ix_edit.specs.declared.edit.Edit.TheVariants.{Add, AddUnion, Remove, DropLabel, Relabel, Grow, Normalise, Revert};
-ghost use Rattle.s2ix_edit.specs.Edit.{edited, edited_alone, edited_by, numbered, pair_of};
-ghost use Rattle.s2ix_edit.specs.Grow.{IsGrown};
-ghost use Rattle.s2ix_edit.specs.History.{History, at_cursor};
-ghost use Rattle.s2ix_edit.specs.Refusals.{goes_below_zero, holds_none, reverts};
-ghost use Rattle.s2ix_edit.specs.Region.{cells_of, region_of};
-ghost use Rattle.s2ix_edit.specs.State.{State, history_of};
+ghost use Rattle.std.specs.Prelude.{◌≡◌, ◌≢◌, ◌↔◌, ◌≤◌, ℕ, ◌+◌, pos, ◌+ℤ◌, Some, None, false, ◌<◌, [], ◌∷◌, ◌++◌, length, reverse, slice_get, take, All, List};
+ghost use Rattle.s2ix_bag_pairs.specs.declared.label.Label.{Label};
+ghost use Rattle.s2ix_bag_pairs.specs.declared.limits.Limits.{Limits};
+ghost use Rattle.s2ix_bag_pairs.specs.declared.pair.Entry.{Entry};
+ghost use Rattle.s2ix_bag_pairs.specs.declared.pair.Pair.{Pair};
+ghost use Rattle.s2ix_bag_pairs.specs.Change.{IsChangeList, counts_at, difference_of};
+ghost use Rattle.s2ix_bag_pairs.specs.Collection.{LimitedCollection, IsBag, count_in};
+ghost use Rattle.s2ix_bag_pairs.specs.Limits.{changes_limit, count_limit, pairs_limit};
+ghost use Rattle.s2ix_bag_pairs.specs.Pair.{rank_of};
+ghost use Rattle.s2ix_edit_plan.specs.declared.errors.EditError.TheVariants.{NoSuchLabel, NotHeld, TooFine, NoSuchChange, BelowZero, NoChange, TooManyCopies, TooManyPairs};
+ghost use Rattle.s2ix_edit_plan.specs.declared.edit.Edit.{Edit};
+ghost use Rattle.s2ix_edit_plan.specs.declared.edit.Edit.TheVariants.{DropLabel, Grow, Normalise, Relabel, Remove, Revert};
+ghost use Rattle.s2ix_edit_plan.specs.Edit.{edited, edited_by};
+ghost use Rattle.s2ix_edit_plan.specs.History.{changes_along, cursor_alone, one_back, one_on, with_next};
+ghost use Rattle.s2ix_edit_plan.specs.State.{State, change_of, history_of, starting_at};
+ghost use Rattle.s2ix_edit_plan.specs.Refusals.{edit_refusal, goes_below_zero, has_count_above, lacks_change, reverts};
+ghost use Rattle.s2ix_edit.specs.Recorded.{IsRecorded};
+ghost use Rattle.s2ix_edit.specs.Standing.{first_collection, gain_along, without_numbered};
+ghost use Rattle.s2ix_edit.specs.Steps.{after_edit, after_forget, after_redo, after_undo, with_held};
+ghost use Rattle.s2ix_edit.specs.Store.{IsStore};
+ghost use Rattle.s2ix_table_ranges.specs.Table.{Range, IsRangeTable};
 
-use crate::edit::Edit;
-
-/// Two edits are equal exactly where they are one.
-pub fn equal_edits_are_one()
-    ensures { (a b : Edit) → IsTrue (⟦<Edit as PartialEq>⟧.eq a b) ↔ (a ≡ b) }
+/// The change that an edit records has the two counts of exactly the pairs whose counts the edit changes.
+pub fn edit_records_differences()
+    ensures rises { (s : State) (edit : Edit) → IsStore s → IsChangeList (change_of s edit) }
+    ensures counts { (s : State) (edit : Edit) (pair : Pair)
+        → IsStore s
+        → counts_at (change_of s edit) (rank_of pair)
+        ≡ difference_of (count_in s.bag.held pair) (count_in (edited (history_of s) edit) pair) }
 {}
 
-/// An edit's clone is that edit.
-pub fn cloned_edits_are_the_same()
-    ensures { (edit copy : Edit) → ⟦<Edit as Clone>⟧.is_clone edit copy ↔ (copy ≡ edit) }
-{}
-
-/// What an edit that takes no change back makes of the collection at the cursor of a history is what it makes of that
-/// collection alone; of a store's history, what it makes of the collection that its bag holds.
-pub fn edits_read_the_collection()
-    ensures cursor { (h : History) (edit : Edit)
-        → reverts edit ≡ false
-        → edited h edit ≡ edited_alone edit (at_cursor h) }
+/// An edit and then an undo lead back: the bag and the changes that led to it are as they were, and the edit's change
+/// can be done again.
+pub fn undo_takes_edit_back()
     ensures bag { (s : State) (edit : Edit)
+        → IsStore s
+        → (after_undo (after_edit s edit)).bag ≡ s.bag }
+    ensures done { (s : State) (edit : Edit)
+        → IsStore s
+        → (after_undo (after_edit s edit)).done ≡ s.done }
+    ensures undone { (s : State) (edit : Edit)
+        → IsStore s
+        → (after_undo (after_edit s edit)).undone ≡ change_of s edit ∷ [] }
+{}
+
+/// An edit and then an undo restore the range table too, since they restore the bag, and two equal bags have one.
+pub fn undo_restores_the_table()
+    ensures { (s : State) (edit : Edit) (before after : List Range)
+        → IsStore s
+        → IsRangeTable s.bag.held before
+        → IsRangeTable (after_undo (after_edit s edit)).bag.held after
+        → after ≡ before }
+{}
+
+/// An undo and a redo lead back to where the store stood, whichever of them comes first: to its bag, to what was done
+/// and to what was undone.
+pub fn undo_and_redo_lead_back()
+    ensures redo_after_undo { (s : State)
+        → IsStore s
+        → s.done ≢ []
+        → let back = after_redo (after_undo s) in
+        (back.bag ≡ s.bag) × (back.done ≡ s.done) × (back.undone ≡ s.undone) }
+    ensures undo_after_redo { (s : State)
+        → IsStore s
+        → s.undone ≢ []
+        → let back = after_undo (after_redo s) in
+        (back.bag ≡ s.bag) × (back.done ≡ s.done) × (back.undone ≡ s.undone) }
+{}
+
+/// No step changes the limits.
+pub fn steps_keep_limits()
+    ensures edit { (s : State) (edit : Edit) → (after_edit s edit).bag.limits ≡ s.bag.limits }
+    ensures undo { (s : State) → (after_undo s).bag.limits ≡ s.bag.limits }
+    ensures redo { (s : State) → (after_redo s).bag.limits ≡ s.bag.limits }
+    ensures forget { (s : State) → (after_forget s).bag.limits ≡ s.bag.limits }
+{}
+
+/// Each step of a store leads to a store: an edit that is accepted, an undo and a redo of a change that there is, and forgetting.
+pub fn steps_lead_to_stores()
+    ensures edit { (s : State) (edit : Edit)
+        → IsStore s
+        → edit_refusal s edit ≡ None
+        → IsStore (after_edit s edit) }
+    ensures undo { (s : State) → IsStore s → s.done ≢ [] → IsStore (after_undo s) }
+    ensures redo { (s : State) → IsStore s → s.undone ≢ [] → IsStore (after_redo s) }
+    ensures forget { (s : State) → IsStore s → IsStore (after_forget s) }
+{}
+
+/// A store stands at one place of its history: the bag holds the collection at the cursor, each collection is
+/// within the limits, and the changes between neighbouring collections are those that were done and then,
+/// the last undone first, those that were undone, each of them with entries; so those that were done are the changes
+/// up to the cursor. It stands at the history's start where nothing was done, and
+/// at its end where nothing was undone.
+pub fn store_stands_in_history()
+    ensures place { (s : State)
+        → slice_get (history_of s).collections (history_of s).cursor ≡ Some s.bag.held }
+    ensures within { (s : State)
+        → IsStore s
+        → All (λ hs. IsBag (with_held s.bag hs)) (history_of s).collections }
+    ensures number { (s : State)
+        → length (history_of s).collections ≡ (history_of s).cursor + 1 + length s.undone }
+    ensures changes { (s : State)
+        → IsStore s
+        → changes_along (history_of s).collections ≡ s.done ++ reverse s.undone }
+    ensures done { (s : State)
+        → IsStore s
+        → s.done ≡ take (history_of s).cursor (changes_along (history_of s).collections) }
+    ensures entries { (s : State)
+        → IsStore s
+        → All (λ es. 0 < length es) (s.done ++ s.undone) }
+{}
+
+/// Each change that can be undone or redone has an entry and no more of them than two collections within the limits hold pairs, and
+/// its counts are within the limit. There are at most as many changes as the limit on them. No limits are wider than 1,000,000
+/// pairs and counts of a `u32`, so a journal can hold each of the changes.
+pub fn recorded_changes_are_within_the_limits()
+    ensures done { (s : State) → IsStore s → All (IsRecorded s.bag.limits) s.done }
+    ensures undone { (s : State) → IsStore s → All (IsRecorded s.bag.limits) s.undone }
+    ensures number { (s : State)
+        → IsStore s
+        → length s.done + length s.undone ≤ changes_limit s.bag.limits }
+    ensures widest { (limits : Limits) (es : List Entry)
+        → IsRecorded limits es
+        → (length es ≤ 2000000) × All (λ e. e.before ≤ 4294967295) es × All (λ e. e.after ≤ 4294967295) es }
+{}
+
+/// What an edit makes of the collection at the cursor it makes of the one that the bag holds, by the changes that were done.
+pub fn edits_read_what_stands()
+    ensures { (s : State) (edit : Edit)
+        → IsStore s
+        → edited (history_of s) edit ≡ edited_by s.done edit s.bag.held }
+{}
+
+/// Each count is that of the history's first collection and the differences, the count after less the count before, of the
+/// changes that stand, as whole numbers with sign.
+pub fn counts_are_first_and_standing()
+    ensures { (s : State) (pair : Pair)
+        → IsStore s
+        → pos (count_in s.bag.held pair) ≡ pos (count_in (first_collection s) pair) +ℤ gain_along s.done pair }
+{}
+
+/// Edits, undos and redos keep the first collection. It is the one that the bag holds where a store starts, and after its
+/// changes are forgotten.
+pub fn steps_keep_the_first_collection()
+    ensures start { (bag : LimitedCollection) → first_collection (starting_at bag) ≡ bag.held }
+    ensures edit { (s : State) (edit : Edit)
+        → IsStore s
+        → first_collection (after_edit s edit) ≡ first_collection s }
+    ensures undo { (s : State)
+        → IsStore s
+        → s.done ≢ []
+        → first_collection (after_undo s) ≡ first_collection s }
+    ensures redo { (s : State)
+        → IsStore s
+        → s.undone ≢ []
+        → first_collection (after_redo s) ≡ first_collection s }
+    ensures forget { (s : State) → first_collection (after_forget s) ≡ s.bag.held }
+{}
+
+/// After an accepted `Revert` each count is that of the first collection and the differences of the changes that stood, the
+/// reverted one left out.
+pub fn revert_leaves_a_change_out()
+    ensures { (s : State) (number : ℕ) (pair : Pair)
+        → IsStore s
+        → edit_refusal s (Revert number) ≡ None
+        → pos (count_in (edited (history_of s) (Revert number)) pair)
+        ≡ pos (count_in (first_collection s) pair) +ℤ gain_along (without_numbered number s.done) pair }
+{}
+
+/// Memory aside, a store takes a change back exactly where its journal has room, a change with the number stands, no count would
+/// be below 0, and what is left is within the limits.
+pub fn standing_changes_can_be_taken_back()
+    ensures { (s : State) (number : ℕ)
+        → IsStore s
+        → let left = edited (history_of s) (Revert number) in
+        (edit_refusal s (Revert number) ≡ None)
+        ↔ ((length s.done < changes_limit s.bag.limits)
+        × (lacks_change s.done (Revert number) ≡ false)
+        × (goes_below_zero s.done (Revert number) s.bag.held ≡ false)
+        × (has_count_above (count_limit s.bag.limits) left ≡ false)
+        × (length left ≤ pairs_limit s.bag.limits)) }
+{}
+
+/// A store refuses a `Revert` for no label, for no copies that aren't held, for no level, and never because nothing would
+/// change; and no other edit for a change that doesn't stand or a count below 0.
+pub fn reverts_have_refusals_of_their_own()
+    ensures revert { (s : State) (number : ℕ)
+        → IsStore s
+        → let refusal = edit_refusal s (Revert number) in
+        (refusal ≢ Some NoSuchLabel) × (refusal ≢ Some NotHeld) × (refusal ≢ Some TooFine) × (refusal ≢ Some NoChange) }
+    ensures others { (s : State) (edit : Edit)
         → reverts edit ≡ false
-        → edited (history_of s) edit ≡ edited_alone edit s.bag.held }
+        → (edit_refusal s edit ≢ Some NoSuchChange) × (edit_refusal s edit ≢ Some BelowZero) }
 {}
 
-/// `Revert` subtracts the difference, the count after less the count before, that the change with the number has for each
-/// pair, and leaves every other count. The changes are counted from 1, the oldest first.
-pub fn revert_subtracts_a_change()
-    ensures { (hs : Collection) (changes : List (List Entry)) (number : ℕ) (es : List Entry) (pair : Pair)
-        → IsCollection hs
-        → IsChangeList es
-        → numbered number changes ≡ Some es
-        → goes_below_zero changes (Revert number) hs ≡ false
-        → pos (count_in (edited_by changes (Revert number) hs) pair) ≡ pos (count_in hs pair) -ℤ gain_of (counts_at es (rank_of pair)) }
+/// A store never refuses a `Remove`, a `DropLabel` or a `Normalise` for a count or a number of pairs above the limit, nor a `Relabel` for a
+/// number of pairs, nor a `Grow` for a count: the first three leave no more copies or pairs than the limits allow anyway, `Relabel` no
+/// more pairs, and `Grow` gives first copies alone.
+pub fn lesser_edits_pass_no_limit()
+    ensures remove { (s : State) (pair : Pair) (copies : ℕ)
+        → IsStore s
+        → let refusal = edit_refusal s (Remove pair copies) in
+        (refusal ≢ Some TooManyCopies) × (refusal ≢ Some TooManyPairs) }
+    ensures drop_label { (s : State) (label : Label)
+        → IsStore s
+        → let refusal = edit_refusal s (DropLabel label) in
+        (refusal ≢ Some TooManyCopies) × (refusal ≢ Some TooManyPairs) }
+    ensures normalise { (s : State) (label : Label)
+        → IsStore s
+        → let refusal = edit_refusal s (Normalise label) in
+        (refusal ≢ Some TooManyCopies) × (refusal ≢ Some TooManyPairs) }
+    ensures relabel { (s : State) (source target : Label)
+        → IsStore s
+        → edit_refusal s (Relabel source target) ≢ Some TooManyPairs }
+    ensures grow { (s : State) (label : Label) (level : ℕ)
+        → IsStore s
+        → edit_refusal s (Grow label level) ≢ Some TooManyCopies }
 {}
 
-/// `Add` adds the copies to the pair's count, and leaves every other count.
-pub fn add_adds_copies()
-    ensures pair { (hs : Collection) (pair : Pair) (copies : ℕ)
-        → IsCollection hs
-        → count_in (edited_alone (Add pair copies) hs) pair ≡ count_in hs pair + copies }
-    ensures others { (hs : Collection) (pair other : Pair) (copies : ℕ)
-        → pair ≢ other
-        → count_in (edited_alone (Add pair copies) hs) other ≡ count_in hs other }
+/// A store never refuses a `DropLabel` because nothing would change: with room in the journal the label is held, or `NoSuchLabel` says that it
+/// isn't.
+pub fn dropped_labels_change_something()
+    ensures { (s : State) (label : Label)
+        → IsStore s
+        → edit_refusal s (DropLabel label) ≢ Some NoChange }
 {}
 
-/// `Remove` takes the copies from the pair's count, and leaves every other count.
-pub fn remove_takes_copies()
-    ensures pair { (hs : Collection) (pair : Pair) (copies : ℕ)
-        → IsCollection hs
-        → count_in (edited_alone (Remove pair copies) hs) pair ≡ count_in hs pair - copies }
-    ensures others { (hs : Collection) (pair other : Pair) (copies : ℕ)
-        → pair ≢ other
-        → count_in (edited_alone (Remove pair copies) hs) other ≡ count_in hs other }
-{}
-
-/// `AddUnion` adds one copy under the label for each cell, and leaves every other count.
-pub fn add_union_adds_a_copy_each()
-    ensures cells { (hs : Collection) (cells : List CellId) (label : Label) (cell : CellId)
-        → IsCollection hs
-        → IsNormal cells
-        → Contains cells cell
-        → count_in (edited_alone (AddUnion cells label) hs) (pair_of cell label) ≡ count_in hs (pair_of cell label) + 1 }
-    ensures others { (hs : Collection) (cells : List CellId) (label : Label) (other : Pair)
-        → (Contains cells other.cell → other.label ≢ label)
-        → count_in (edited_alone (AddUnion cells label) hs) other ≡ count_in hs other }
-{}
-
-/// `DropLabel` takes all copies of the label's pairs away, and leaves every other count.
-pub fn drop_label_takes_all_copies()
-    ensures label { (hs : Collection) (label : Label) (pair : Pair)
-        → pair.label ≡ label
-        → count_in (edited_alone (DropLabel label) hs) pair ≡ 0 }
-    ensures others { (hs : Collection) (label : Label) (other : Pair)
-        → IsCollection hs
-        → other.label ≢ label
-        → count_in (edited_alone (DropLabel label) hs) other ≡ count_in hs other }
-{}
-
-/// `Relabel` gives the target at each cell the sum of both counts, takes all copies of the source away, and leaves
-/// every other count. A label that is moved to itself stays as it is.
-pub fn relabel_moves_copies()
-    ensures target { (hs : Collection) (source target : Label) (cell : CellId)
-        → IsCollection hs
-        → source ≢ target
-        → count_in (edited_alone (Relabel source target) hs) (pair_of cell target)
-        ≡ count_in hs (pair_of cell target) + count_in hs (pair_of cell source) }
-    ensures source { (hs : Collection) (source target : Label) (cell : CellId)
-        → IsCollection hs
-        → source ≢ target
-        → count_in (edited_alone (Relabel source target) hs) (pair_of cell source) ≡ 0 }
-    ensures others { (hs : Collection) (source target : Label) (other : Pair)
-        → IsCollection hs
-        → other.label ≢ source
-        → other.label ≢ target
-        → count_in (edited_alone (Relabel source target) hs) other ≡ count_in hs other }
-    ensures itself { (hs : Collection) (label : Label)
-        → IsCollection hs
-        → edited_alone (Relabel label label) hs ≡ hs }
-{}
-
-/// `Grow` adds one copy under the label for each cell of the level that overlaps no cell held with the label and shares
-/// an edge with a cell of the level that overlaps one, and leaves every other count.
-pub fn grow_adds_a_copy_each()
-    ensures cells { (hs : Collection) (label : Label) (level : ℕ) (cell : CellId)
-        → IsCollection hs
-        → IsGrown level (cells_of label hs) cell
-        → count_in (edited_alone (Grow label level) hs) (pair_of cell label) ≡ count_in hs (pair_of cell label) + 1 }
-    ensures others { (hs : Collection) (label : Label) (level : ℕ) (other : Pair)
-        → (IsGrown level (cells_of label hs) other.cell → other.label ≢ label)
-        → count_in (edited_alone (Grow label level) hs) other ≡ count_in hs other }
-{}
-
-/// The region of a label is normal and has exactly the leaves of the cells that are held with it, so that a label that
-/// isn't held has the empty region.
-pub fn region_is_the_labels()
-    ensures region { (hs : Collection) (label : Label) → HaveSameRegion (region_of label hs) (cells_of label hs) }
-    ensures normal { (hs : Collection) (label : Label) → IsNormal (region_of label hs) }
-    ensures empty { (hs : Collection) (label : Label)
-        → holds_none label hs ≡ true
-        → region_of label hs ≡ [] }
-{}
-
-/// `Normalise` leaves the label one copy at each cell of its region and none at any other cell, so that its cells are
-/// normal and its region stays, and leaves every other count.
-pub fn normalise_leaves_a_copy_each()
-    ensures cells { (hs : Collection) (label : Label) (cell : CellId)
-        → IsCollection hs
-        → Contains (region_of label hs) cell
-        → count_in (edited_alone (Normalise label) hs) (pair_of cell label) ≡ 1 }
-    ensures elsewhere { (hs : Collection) (label : Label) (cell : CellId)
-        → IsCollection hs
-        → (Contains (region_of label hs) cell → ⊥)
-        → count_in (edited_alone (Normalise label) hs) (pair_of cell label) ≡ 0 }
-    ensures others { (hs : Collection) (label : Label) (other : Pair)
-        → IsCollection hs
-        → other.label ≢ label
-        → count_in (edited_alone (Normalise label) hs) other ≡ count_in hs other }
-    ensures normal { (hs : Collection) (label : Label)
-        → IsCollection hs
-        → cells_of label (edited_alone (Normalise label) hs) ≡ region_of label hs }
-    ensures region { (hs : Collection) (label : Label)
-        → IsCollection hs
-        → region_of label (edited_alone (Normalise label) hs) ≡ region_of label hs }
+/// Each step of a store is the step of its history: an edit goes on to the edited collection, undo goes back by one,
+/// redo on by one, and forget keeps the collection at the cursor alone.
+pub fn steps_follow_the_history()
+    ensures edit { (s : State) (edit : Edit)
+        → IsStore s
+        → history_of (after_edit s edit) ≡ with_next (history_of s) (edited (history_of s) edit) }
+    ensures undo { (s : State)
+        → IsStore s
+        → s.done ≢ []
+        → history_of (after_undo s) ≡ one_back (history_of s) }
+    ensures redo { (s : State)
+        → IsStore s
+        → s.undone ≢ []
+        → history_of (after_redo s) ≡ one_on (history_of s) }
+    ensures forget { (s : State) → history_of (after_forget s) ≡ cursor_alone (history_of s) }
 {}

@@ -1,16 +1,20 @@
-//! Edits of a collection: what each makes of it, where it is refused, and the change that carries it out.
+//! An editable collection: edits that record exactly what they change, undo and redo.
 //!
-//! An [`Edit`] makes the next collection of one. [`plan`] says which counts it changes in a bag, and changes nothing
-//! itself: the planned change is applied by the bag, and recorded by the store that stands above this crate, with its
-//! history. So an edit, and why a step is refused, can be named without a store.
+//! A [`Store`] is at one place of a history of collections. An accepted [`Edit`] makes the next collection
+//! and records the change between the two; `undo` goes back by one, `redo` on by one, and `forget` keeps
+//! only the collection. A refused step leaves the store as it was. The store keeps the range table of its collection
+//! beside it, for queries.
+//!
+//! Each step builds again what the bag and that table have of the faces of its change, in a time that rises with the pairs held there. A
+//! store drops no change by itself: once as many can be undone as its limits allow, edits are refused until one is undone or all are
+//! forgotten.
 #![tactic(auto)]
 
-mod edit;
-mod edits;
 pub mod laws;
-mod region;
+mod steps;
+mod store;
+mod store_table;
 
-pub use edit::Edit;
-pub use edits::plan;
-pub use region::region_of;
-pub use s2ix_refusals::{EditError, PlanError, RedoError, UndoError};
+pub use s2ix_edit_plan::{Edit, EditError, PlanError, RedoError, UndoError, plan, region_of};
+pub use store::Store;
+pub use store_table::StoreTable;

@@ -1,5 +1,5 @@
-use s2ix_samples::LimitRow;
-use s2ix_store_samples::first_other_in;
+use s2ix_bag_samples::LimitRow;
+use s2ix_edit_samples::first_other_in;
 use std::alloc::Global;
 use std::process::Abort;
 

@@ -1,9 +1,9 @@
 //! What the edits of unions and of whole labels do and refuse, on stores with ample memory.
 
 use crate::checks::check_history;
+use s2ix_bag_samples::WIDEST;
 use s2ix_edit::Edit;
-use s2ix_samples::WIDEST;
-use s2ix_store_samples::edit_of;
+use s2ix_edit_samples::edit_of;
 use std::alloc::Global;
 
 // Unions within limits of two pairs and two copies.

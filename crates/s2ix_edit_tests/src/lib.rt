@@ -1,4 +1,4 @@
-//! Tests of histories: what each edit does, its limits and its refusals, and undo, redo and forget.
+//! Tests of stores: what each edit does, its limits and its refusals, undo, redo and forget, and what a store is asked.
 #![tactic(auto)]
 
 #[cfg(test)]
@@ -11,3 +11,5 @@ mod limit_tests;
 mod revert_tests;
 #[cfg(test)]
 mod step_tests;
+#[cfg(test)]
+mod store_tests;

@@ -1,6 +1,6 @@
 //! Copies that are added up to the limits and no further, and taken no further than what is held.
 use crate::checks::check_history;
-use s2ix_samples::WIDEST;
+use s2ix_bag_samples::WIDEST;
 
 // No copies to add, more copies to take than are held, and all copies.
 const REMOVALS: [&str; 5] = [

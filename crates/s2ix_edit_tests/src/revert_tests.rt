@@ -1,6 +1,6 @@
 //! Changes that are taken back by their numbers: what is left, what is refused, and what a refusal leaves.
 use crate::checks::check_history;
-use s2ix_samples::WIDEST;
+use s2ix_bag_samples::WIDEST;
 
 // Two additions and a label that goes to another one; then one of them is taken back after another, and undo and redo go over that.
 const REVERTS: [&str; 17] = [

@@ -1,6 +1,6 @@
 //! Undo, redo and forget.
 use crate::checks::check_history;
-use s2ix_samples::{LimitRow, WIDEST};
+use s2ix_bag_samples::{LimitRow, WIDEST};
 
 // An edit lets go what was undone before it.
 const EDIT_AFTER_UNDO: [&str; 8] = [

@@ -1,2 +1,13 @@
-pub mod Iterators
-pub mod Stretches
+pub use Rattle.s2ix_table_ranges.specs.Contents
+pub use Rattle.s2ix_table_ranges.specs.LabelList
+pub use Rattle.s2ix_table_ranges.specs.Meeting
+pub use Rattle.s2ix_table_ranges.specs.RangeList
+pub use Rattle.s2ix_table_ranges.specs.Table
+pub use Rattle.s2ix_table_walk.specs.Calls
+pub use Rattle.s2ix_table_walk.specs.Costs
+pub use Rattle.s2ix_table_walk.specs.Places
+pub use Rattle.s2ix_table_queries.specs.Iterators
+pub use Rattle.s2ix_table_queries.specs.Stretches
+pub use Rattle.s2ix_table_chain.specs.Once
+pub use Rattle.s2ix_table_reading.specs.Faces
+pub use Rattle.s2ix_table_reading.specs.Reading

@@ -1,26 +1,47 @@
-//! Range tables of labelled cells, and what they answer (S2's `S2CellIndex`).
+//! Range tables: which labelled cells of a collection meet a union of cells (S2's `S2CellIndex`).
 //!
-//! The leaves of the curve fall into maximal spans over which the same pairs lie. A [`RangeTable`] keeps these ranges in
-//! order, and with each of them its contents: the pairs whose cells have its leaves, the innermost cell first. What meets a
-//! target is found by the one walk over what a [`Meter`] reads of a table.
+//! The cells of a bag cut the curve into ranges of leaves over which the same pairs lie. A [`RangeTable`] keeps these ranges in order, and
+//! for each of them a chain of the pairs over it, the innermost cell first. A table is built of a bag and never changes. A query
+//! reads the ranges that its target meets, and O(log n) more for each cell of the target; it allocates only the list that it returns.
 //!
-//! A table is built of a bag and never changed: another bag has another table. `visit`, `meeting` and `labels` answer what meets a union;
-//! [`chain_at`] what lies over a leaf; [`ranges`] and [`contents`] go along the table, as S2's iterators do. `StoreTable` of `s2ix_store`
-//! names the table that a store keeps (`FacedTable`); `CopiedTable` of `s2ix_copied` is a plain and slow one to compare it with.
+//! ```
+//! let table = ChainTable::build(alloc, &bag)?;
+//! let target = CellUnion::normalise(alloc, &[zone])?;
+//! let met: Vec<Held> = table.meeting(alloc, &target)?; // the pairs that share a leaf with the target, each once
+//! let labels: Vec<Label> = table.labels(alloc, &target)?; // their labels, each once, rising
+//! let none_twice = table.visit(&target, &mut |held: Held| held.count < 2); // one call for each pair, until it returns false
+//! let innermost = chain_at(&table, leaf).next(); // the pairs over one leaf
+//! for (k, row) in ranges(&table) { /* contents(&table, k) lie over the leaves from row.start up to row.limit */ }
+//! ```
+//!
+//! | Question | Call | Cost |
+//! |---|---|---|
+//! | Which pairs meet a union? | [`RangeTable::visit`], [`RangeTable::meeting`] | O(k + r + t log n) for k pairs, r ranges and t cells |
+//! | Which labels meet it? | [`RangeTable::labels`] | the same, and the sorting of the labels |
+//! | Which pairs lie over a leaf? | [`chain_at`] | O(log n + k) |
+//! | Which range has a leaf? | [`RangeTable::find`], [`RangeIter::seek`] | O(log n) |
+//! | What lies over each range? | [`ranges`], [`contents`] | O(1) a step |
+//! | What did a query read? | `visit_counted`, or [`walk`] over a [`Meter`]: a [`Cost`] | as `visit` |
+//!
+//! A table of n pairs has at most 2 * n + 1 ranges. [`ChainTable`] shares its chains: each pair has one place in it. [`FacedTable`] has one
+//! such table for each face and rebuilds only the faces of a change ([`FacedTable::rebuilt`], over a [`BagReader`]): a store keeps one.
+//! [`CopiedTable`] has a list for each range, and is slow to build: tests compare the others with it.
+//!
+//! The rooms of this house: `s2ix_table_ranges` defines the ranges of a bag and what meets a target; `s2ix_table_walk` finds what meets a
+//! target and counts what it reads; `s2ix_table_queries` has the trait and its queries; `s2ix_table_chain` builds shared chains;
+//! `s2ix_table_reading` reads a bag and counts that; `s2ix_table_faces` joins the tables of six faces.
 #![tactic(auto)]
 
-mod iter;
-mod labels;
 pub mod laws;
-mod meter;
-mod stretch;
-mod table;
-mod visit;
 
-pub use iter::{ChainIter, RangeIter, chain_at, contents, ranges};
-pub use meter::Meter;
-pub use s2ix_ranges::RangeRow;
-pub use s2ix_walk::{Cost, Meeting, Reader, Window, walk};
-pub use stretch::Stretch;
-pub use table::RangeTable;
-pub use visit::Visit;
+pub use s2ix_table_chain::{ChainTable, SharesChains, SpanTable};
+pub use s2ix_table_faces::{FacePlace, FaceTable, FacedTable, JoinedTables};
+pub use s2ix_table_queries::{
+    ChainIter, CopiedPlace, CopiedTable, Meter, RangeIter, RangeTable, Stretch, Visit, chain_at,
+    contents, ranges,
+};
+pub use s2ix_table_ranges::RangeRow;
+pub use s2ix_table_reading::{
+    BagReader, PairReader, changed_face_count, changed_faces, read_changed, read_face,
+};
+pub use s2ix_table_walk::{Cost, Meeting, Reader, Window, walk};

@@ -1,4 +1,4 @@
-ghost use Rattle.s2ix_pairs.specs.declared.pair.Held.{Held};
+ghost use Rattle.s2ix_bag_pairs.specs.declared.pair.Held.{Held};
 
 use crate::pairs::{Pairs, is_at};
 use s2id_union::CellUnion;

@@ -1,5 +1,5 @@
 use s2ix_bag::Held;
-use s2ix_samples::held_of;
+use s2ix_bag_samples::held_of;
 
 /// Pairs that are wanted, in their order.
 pub trait Pairs {

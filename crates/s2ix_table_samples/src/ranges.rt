@@ -1,6 +1,6 @@
 ghost use Rattle.std.specs.Prelude.{◌≡◌, ℕ, Some};
 ghost use Rattle.s2id_core.specs.CellId.{level_of, raw_of};
-ghost use Rattle.s2ix_ranges.specs.Table.{IsFound, range_at};
+ghost use Rattle.s2ix_table.specs.Table.{IsFound, range_at};
 
 use crate::pairs::{Pairs, is_at};
 use s2id_core::CellId;

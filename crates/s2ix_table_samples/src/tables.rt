@@ -1,7 +1,7 @@
 use s2id_core::CellId;
 use s2id_samples::cells_of;
 use s2id_union::CellUnion;
-use s2ix_samples::{WIDEST, bag_of};
+use s2ix_bag_samples::{WIDEST, bag_of};
 use s2ix_table::RangeTable;
 use std::alloc::Global;
 

@@ -1,11 +1,9 @@
 //! Tables of random nested cells, compared with a plain filter of the pairs.
 use s2id_samples::Random;
 use s2ix_bag::Bag;
-use s2ix_chain::ChainTable;
-use s2ix_copied::CopiedTable;
-use s2ix_faced::FacedTable;
-use s2ix_samples::{deep_bag, nested_bag};
-use s2ix_table_filter::{LABELS, is_built_so};
+use s2ix_bag_samples::{deep_bag, nested_bag};
+use s2ix_table::{ChainTable, CopiedTable, FacedTable};
+use s2ix_table_samples::{LABELS, is_built_so};
 use std::alloc::Global;
 
 // Whether each kind of table of a bag answers what a filter does.

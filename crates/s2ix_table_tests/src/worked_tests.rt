@@ -1,9 +1,6 @@
 //! Worked tables, and what they answer.
-use s2ix_chain::ChainTable;
-use s2ix_copied::CopiedTable;
-use s2ix_faced::FacedTable;
-use s2ix_samples::are_labels;
-use s2ix_table::RangeTable;
+use s2ix_bag_samples::are_labels;
+use s2ix_table::{ChainTable, CopiedTable, FacedTable, RangeTable};
 use s2ix_table_samples::{Row, has_ranges, meets, table_of, union_of};
 use std::alloc::Global;
 

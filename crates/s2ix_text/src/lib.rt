@@ -1,24 +1,43 @@
-//! The texts that go out. A bag has a dump and a list of changes a journal; pairs, labels, cells and ranges, which answer queries, are lists
-//! with an end line; every other answer is one line. Dumps and journals have two [`Version`]s, and the second is the one that is written.
+//! Texts: a bag as a dump, a list of changes as a journal, both read back, and the sources and sinks that bytes go through.
 //!
-//! A call that writes takes no memory and does not flush. At the first fault of the sink it ends, when a front of its text went out.
+//! In each of its two versions a dump is the one text of a bag's pairs, and a journal the one text of a list of changes: a reader accepts
+//! both versions and no other text. What was written can be read back; a journal can be replayed over the bag that it began with, and
+//! rewound from the bag that it led to.
+//!
+//! ```
+//! let mut sink = ToWrite::new(file);
+//! write_dump(&bag, &mut sink)?;
+//! write_journal(store.done(), &mut sink)?;
+//! let before: Bag = read_dump(alloc, dump_bytes, limits)?;
+//! let changes: Vec<Change> = read_journal(alloc, journal_bytes, limits)?;
+//! let after: Bag = replay(alloc, &before, &changes)?;
+//! let line: String = export(alloc, &bag)?; // one line of JSON
+//! ```
+//!
+//! A [`Source`] gives bytes piece by piece, a [`Sink`] takes them, and each counts its faults; [`FromRead`] and [`ToWrite`] make them of
+//! std's readers and writers. Writing doesn't allocate and doesn't flush, and ends at the sink's first fault. Reading answers the first
+//! faulty line and its fault ([`DumpError`], [`JournalError`]). Each call takes O(n) for n bytes, but for the log n of each pair that
+//! [`replay`] and [`rewind`] look up.
+//!
+//! The rooms of this house: `s2ix_text_io` has sources and sinks; `s2ix_text_write` writes dumps, journals and lists; `s2ix_text_parts`
+//! cuts lines and reads cells and numbers; `s2ix_text_read_dump` and `s2ix_text_read_journal` read the two texts; `s2ix_text_export` writes
+//! JSON. [`replay`] and [`rewind`] are of `s2ix_bag`.
 #![tactic(auto)]
 
-mod answers;
-mod dump;
-mod journal;
 pub mod laws;
-mod list;
-mod meeting;
-mod pair;
-mod ranges;
-mod together;
-mod version;
 
-pub use answers::{write_neighbors, write_no, write_ok, write_path, write_square};
-pub use dump::write_dump;
-pub use journal::write_journal;
-pub use list::{ListItem, write_list};
-pub use meeting::write_meeting;
-pub use ranges::{write_contents, write_ranges};
-pub use version::Version;
+pub use s2ix_bag::{ReplayError, replay, rewind};
+pub use s2ix_text_export::export;
+pub use s2ix_text_io::{
+    FromRead, KeepingSink, ReadFault, RunFault, Sink, SliceSource, Source, ToWrite, WriteFault,
+    put_all, put_parts, put_together, read_whole,
+};
+pub use s2ix_text_parts::{
+    cell_written, count_written, cut_line, cut_part, first_part, label_written, number_in_front,
+    number_written, three_parts, token_in_front,
+};
+pub use s2ix_text_read_dump::{DumpError, DumpFault, read_dump};
+pub use s2ix_text_read_journal::{JournalError, JournalFault, read_journal};
+pub use s2ix_text_write::{
+    ListItem, Version, write_dump, write_end_of_list, write_journal, write_list, write_pair_between,
+};

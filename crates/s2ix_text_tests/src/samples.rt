@@ -1,11 +1,11 @@
-//! Leaves, labels and changes from plain texts, as `s2ix_samples` reads them. What is no such text, and what memory was wanted for, is `None`.
+//! Leaves, labels and changes from plain texts, as `s2ix_bag_samples` reads them. What is no such text, and what memory was wanted for, is `None`.
 ghost use Rattle.std.specs.Prelude.{◌≡◌, IfSome};
 ghost use Rattle.s2id_core.specs.CellId.{level_of};
 
 use s2id_core::CellId;
 use s2id_samples::cell_of;
 use s2ix_bag::{Change, Label};
-use s2ix_samples::{WIDEST, bag_of, label_of};
+use s2ix_bag_samples::{WIDEST, bag_of, label_of};
 use std::alloc::Global;
 
 // Two collections, the old one and the new one.

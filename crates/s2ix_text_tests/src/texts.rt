@@ -1,17 +1,17 @@
 //! Texts as plain data, and their comparison with what a sink keeps of them. The sink fails at a flush: writers leave it to their caller.
-ghost use Rattle.s2ix_io.specs.Faults.{CanCount};
+ghost use Rattle.s2ix_text.specs.Faults.{CanCount};
 
 use crate::samples::{Step, change_of, changes_of, labels_of, leaf_of};
 use s2id_cube::FaceIj;
 use s2id_samples::{cell_of, cells_of};
-use s2ix_copied::CopiedTable;
-use s2ix_io::{KeepingSink, Sink};
-use s2ix_samples::{WIDEST, bag_of, label_of, list_of};
-use s2ix_table_samples::{table_of, union_of};
-use s2ix_text::{
-    ListItem, write_contents, write_dump, write_journal, write_list, write_meeting,
-    write_neighbors, write_no, write_ok, write_path, write_ranges, write_square,
+use s2ix_bag_samples::{WIDEST, bag_of, label_of, list_of};
+use s2ix_cli::{
+    write_contents, write_meeting, write_neighbors, write_no, write_ok, write_path, write_ranges,
+    write_square,
 };
+use s2ix_table::CopiedTable;
+use s2ix_table_samples::{table_of, union_of};
+use s2ix_text::{KeepingSink, ListItem, Sink, write_dump, write_journal, write_list};
 use std::alloc::Global;
 
 // A text that goes out.

@@ -14,7 +14,8 @@ square_entry-entry-requires-clause-start c =
     let o = down_orientation (c.args.place / 2 ^ 60) (c.args.place % 2 ^ 60) c.loop-group.group c.loop-group.rest c.loop-group.square (c.loop-group.start / 256) (omega arith) (omega arith) c.loop-group.invariant.0 in
     omega arith
 
-step : (c : After-square_entry-entry) → IsStepDown (c.args.place / 2 ^ 60) (c.args.place % 2 ^ 60) c.loop-group.group c.loop-group.rest c.loop-group.square c.square_entry-entry.result
+step : (c : After-square_entry-entry)
+    → IsStepDown (c.args.place / 2 ^ 60) (c.args.place % 2 ^ 60) c.loop-group.group c.loop-group.rest c.loop-group.square c.square_entry-entry.result
 step c =
     let h = c.requires in
     let e = c.square_entry-entry.ensures in

@@ -27,7 +27,8 @@ place_entry-entry-requires-clause-start c =
     let o = up_orientation c.args.way.now.leaf.face _ _ _ _ _ (face_below c.args.way.now.place c.args.way.now.leaf c.requires.place c.requires.leaf) c.loop-left.invariant.0 in
     omega arith
 
-step : (c : After-place_entry-entry) → (c.loop-left.positions * 2 ^ 8 % 2 ^ 64 + c.place_entry-entry.result < 2 ^ 64) × IsUp c.args.way.now.leaf.face (c.args.i * 2 ^ c.args.below) (c.args.j * 2 ^ c.args.below) (8 - (c.loop-left.left - 1)) (c.loop-left.positions * 2 ^ 8 % 2 ^ 64 + c.place_entry-entry.result) (c.place_entry-entry.result / 2 ^ 54 / 256)
+step : (c : After-place_entry-entry)
+    → (c.loop-left.positions * 2 ^ 8 % 2 ^ 64 + c.place_entry-entry.result < 2 ^ 64) × IsUp c.args.way.now.leaf.face (c.args.i * 2 ^ c.args.below) (c.args.j * 2 ^ c.args.below) (8 - (c.loop-left.left - 1)) (c.loop-left.positions * 2 ^ 8 % 2 ^ 64 + c.place_entry-entry.result) (c.place_entry-entry.result / 2 ^ 54 / 256)
 step c =
     let r = c.requires in
     let e = c.place_entry-entry.ensures in

@@ -10,7 +10,8 @@ loop-pair-init c = (pair_none _ _ _ _ _ _ c.requires.column c.requires.row (omeg
 pub place_entry-upper-requires-clause-start : goal.place_entry-upper-requires-clause-start
 place_entry-upper-requires-clause-start c = let o = pair_orientation _ _ _ _ _ _ _ _ _ _ c.requires.face c.loop-pair.invariant.0 in omega arith
 
-step : (c : After-place_entry-lower) → IsPairMore c.args.face c.args.i c.args.j c.weave-odd.result.0 c.weave-odd.result.1 c.loop-pair.pair c.loop-pair.places c.loop-pair.odd c.loop-pair.even c.place_entry-upper.result c.place_entry-lower.result
+step : (c : After-place_entry-lower)
+    → IsPairMore c.args.face c.args.i c.args.j c.weave-odd.result.0 c.weave-odd.result.1 c.loop-pair.pair c.loop-pair.places c.loop-pair.odd c.loop-pair.even c.place_entry-upper.result c.place_entry-lower.result
 step c =
     let u = c.place_entry-upper.ensures in
     let l = c.place_entry-lower.ensures in

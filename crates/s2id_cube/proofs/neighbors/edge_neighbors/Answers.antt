@@ -20,11 +20,13 @@ use Rattle.s2id_cube.proofs.neighbors.edge_neighbors.Goals as goal
 pathed : (c : CellId) → IsPath (path_of c)
 pathed c = path_of_cell c.raw c.valid
 
-others : (cell : CellId) (cs : List CellId) → ((m : ℕ) → m < 4 → SharesSide m (path_of cell) (path_of (get_or cs m cell))) → (q : Path) → IsPath q → ShareEdge (path_of cell) q → (m : ℕ) × (m < 4) × (path_of (get_or cs m cell) ≡ q)
+others : (cell : CellId) (cs : List CellId) → ((m : ℕ) → m < 4 → SharesSide m (path_of cell) (path_of (get_or cs m cell))) → (q : Path)
+    → IsPath q → ShareEdge (path_of cell) q → (m : ℕ) × (m < 4) × (path_of (get_or cs m cell) ≡ q)
 others cell cs sides q path h =
     (h.side, h.is_side, one_neighbor h.side (path_of cell) (path_of (get_or cs h.side cell)) q h.is_side (pathed cell) (pathed (get_or cs h.side cell)) path (sides h.side h.is_side) h.shares)
 
-numbered : (cell : CellId) (cs : List CellId) → ((m : ℕ) → m < 4 → SharesSide m (path_of cell) (path_of (get_or cs m cell))) → (m : ℕ) → m < 4 → raw_of (get_or cs m cell) ≡ neighbor_number m (path_of cell)
+numbered : (cell : CellId) (cs : List CellId) → ((m : ℕ) → m < 4 → SharesSide m (path_of cell) (path_of (get_or cs m cell))) → (m : ℕ)
+    → m < 4 → raw_of (get_or cs m cell) ≡ neighbor_number m (path_of cell)
 numbered cell cs sides m hm =
     neighbor_number-is m (path_of cell) (get_or cs m cell).raw hm (pathed cell) (get_or cs m cell).valid (sides m hm)
 
@@ -34,11 +36,14 @@ IsOverSide s m q =
     let t = square_of (path_of q) in
     (t.level ≡ s.level) × IsBeside (2 ^ s.level) m s.face s.i s.j t.face t.i t.j
 
-shares_over : (cell : CellId) (s : FaceIj) (q : CellId) (m : ℕ) → m < 4 → s ≡ square_of (path_of cell) → IsOverSide s m q → SharesSide m (path_of cell) (path_of q)
+shares_over : (cell : CellId) (s : FaceIj) (q : CellId) (m : ℕ) → m < 4 → s ≡ square_of (path_of cell) → IsOverSide s m q
+    → SharesSide m (path_of cell) (path_of q)
 shares_over cell s q m hm is over = shares_from_square m (path_of cell) (path_of q) s hm (pathed cell) (pathed q) is over.0 over.1
 
 -- each of the four shares the side of its place
-four_sides : (cell : CellId) (s : FaceIj) (down right up left : CellId) → s ≡ square_of (path_of cell) → IsOverSide s 0 down → IsOverSide s 1 right → IsOverSide s 2 up → IsOverSide s 3 left → (m : ℕ) → m < 4 → SharesSide m (path_of cell) (path_of (get_or (down ∷ right ∷ up ∷ left ∷ []) m cell))
+four_sides : (cell : CellId) (s : FaceIj) (down right up left : CellId) → s ≡ square_of (path_of cell) → IsOverSide s 0 down
+    → IsOverSide s 1 right → IsOverSide s 2 up → IsOverSide s 3 left → (m : ℕ) → m < 4
+    → SharesSide m (path_of cell) (path_of (get_or (down ∷ right ∷ up ∷ left ∷ []) m cell))
 four_sides cell s down right up left is d r u l =
     four (λ m. SharesSide m (path_of cell) (path_of (get_or (down ∷ right ∷ up ∷ left ∷ []) m cell))) (
       shares_over cell s down 0 (omega arith) is d,
@@ -48,7 +53,8 @@ four_sides cell s down right up left is d r u l =
     )
 
 -- the square of the cell, as the code has it from the way to its first leaf
-taken_square : (cell : CellId) (level place : ℕ) (leaf : FaceIj) → level ≡ level_of cell → place ≡ place_of (ancestor level (path_of cell)) → place < 6 * 4 ^ level → leaf ≡ square_at 30 (place * 2 ^ (2 * (30 - level)) % 2 ^ 64) → taken leaf level ≡ square_of (path_of cell)
+taken_square : (cell : CellId) (level place : ℕ) (leaf : FaceIj) → level ≡ level_of cell → place ≡ place_of (ancestor level (path_of cell))
+    → place < 6 * 4 ^ level → leaf ≡ square_at 30 (place * 2 ^ (2 * (30 - level)) % 2 ^ 64) → taken leaf level ≡ square_of (path_of cell)
 taken_square cell level place leaf el ep below is =
     let fine : level ≤ 30 = subst (λ x. x ≤ 30) (sym el) (pathed cell).at_most in
     let shifted = shifted_to_leaf level place fine below in

@@ -3,7 +3,8 @@ use Rattle.s2id_cube.specs.Grid.{column_on, row_on}
 use Rattle.s2id_cube.proofs.neighbors.on_side.Goals as goal
 
 -- a place along a side that goes by two names
-at_side : (along last m side : ℕ) → m ≡ side → record { column : column_on m along last ≡ column_on side along last; row : row_on m along last ≡ row_on side along last }
+at_side : (along last m side : ℕ) → m ≡ side
+    → record { column : column_on m along last ≡ column_on side along last; row : row_on m along last ≡ row_on side along last }
 at_side along last m side e = record { column = ap (λ x. column_on x along last) e; row = ap (λ x. row_on x along last) e }
 
 pub returns-in-0 : goal.returns-in-0

@@ -1,5 +1,5 @@
 use Rattle.std.proofs.Common.{◌≡◌, take}
-use Rattle.s2ix_pairs.specs.TakenBack.{change_back}
+use Rattle.s2ix_bag_pairs.specs.TakenBack.{change_back}
 use Rattle.s2ix_bag.proofs.revert.entries_back.Given as goal
 
 abbrev pub invariant-loop-entry : goal.invariant-loop-entry

@@ -1,6 +1,6 @@
 -- The pairs that are gained and lost.
 use Rattle.std.proofs.Common.{arith}
-use Rattle.s2ix_lists.proofs.Reverts.{length-taken_back}
+use Rattle.s2ix_bag_lists.proofs.Reverts.{length-taken_back}
 use Rattle.s2ix_bag.proofs.revert.length_back.Goals as goal
 
 pub overflow_sub-result : goal.overflow_sub-result

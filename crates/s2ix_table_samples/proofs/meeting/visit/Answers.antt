@@ -1,4 +1,4 @@
-use Rattle.s2ix_walk.proofs.Visits.{may_always}
+use Rattle.s2ix_table_walk.proofs.Visits.{may_always}
 use Rattle.s2ix_table_samples.proofs.meeting.visit.Goals as goal
 
 pub visit-requires : goal.visit-requires

@@ -7,7 +7,8 @@ use Rattle.s2id_core.proofs.Numbers.{path_of_cell}
 use Rattle.s2id_core.proofs.Ancestry.{DifferBelow, differ_below, enough_levels, common_by_places}
 use Rattle.s2id_core.proofs.cell_id.CellId.common_level.Goals as goal
 
-differ : (c : goal.After-place_at-2) → DifferBelow (place_of (ancestor c.min-level.result (path_at c.args.self.raw))) (place_of (ancestor c.min-level.result (path_at c.args.other.raw))) ((65 - leading_zeros w64 (bit_xor c.place_at.result c.place_at-2.result)) / 2)
+differ : (c : goal.After-place_at-2)
+    → DifferBelow (place_of (ancestor c.min-level.result (path_at c.args.self.raw))) (place_of (ancestor c.min-level.result (path_at c.args.other.raw))) ((65 - leading_zeros w64 (bit_xor c.place_at.result c.place_at-2.result)) / 2)
 differ c =
     let a = c.place_at.result in
     let b = c.place_at-2.result in

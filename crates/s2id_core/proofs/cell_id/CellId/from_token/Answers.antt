@@ -1,5 +1,4 @@
-use Rattle.std.proofs.Common.{sym, subst, arith}
-use Rattle.std.proofs.Common.{IfOk, rules}
+use Rattle.std.proofs.Common.{sym, subst, arith, IfOk, rules}
 use Rattle.s2id_core.specs.CellId.{raw_of}
 use Rattle.s2id_core.specs.Token.{Spells}
 use Rattle.s2id_core.proofs.Spelled.{cell_spelled-none, result_ok-cell_spelled}

@@ -1,9 +1,9 @@
 -- A change that is not refused is taken.
 use Rattle.std.proofs.Common.{sym, ◌∙◌, subst, List, arith}
-use Rattle.s2ix_pairs.specs.Change.{IsChangeList}
-use Rattle.s2ix_pairs.specs.Collection.{Collection, LimitedCollection, IsBag}
-use Rattle.s2ix_pairs.specs.declared.pair.Entry.{Entry}
-use Rattle.s2ix_lists.proofs.Refusals.{taken_from_none, made_is_bag}
+use Rattle.s2ix_bag_pairs.specs.Change.{IsChangeList}
+use Rattle.s2ix_bag_pairs.specs.Collection.{Collection, LimitedCollection, IsBag}
+use Rattle.s2ix_bag_pairs.specs.declared.pair.Entry.{Entry}
+use Rattle.s2ix_bag_lists.proofs.Refusals.{taken_from_none, made_is_bag}
 use Rattle.s2ix_bag.proofs.bag.Bag.applied.Goals as goal
 
 pub after-requires-clause-before : goal.after-requires-clause-before

@@ -1,9 +1,9 @@
 -- The sum of all counts fits, and so does each part of it.
 use Rattle.std.proofs.Common.{◌≡◌, ap, ◌∙◌, arith}
 use Rattle.std.proofs.lemmas.List.Sums.{sum_by-cons}
-use Rattle.s2ix_pairs.specs.Collection.{copies_in}
-use Rattle.s2ix_pairs.specs.declared.pair.Held.{Held}
-use Rattle.s2ix_lists.proofs.Refusals.{copies_bound}
+use Rattle.s2ix_bag_pairs.specs.Collection.{copies_in}
+use Rattle.s2ix_bag_pairs.specs.declared.pair.Held.{Held}
+use Rattle.s2ix_bag_lists.proofs.Refusals.{copies_bound}
 use Rattle.s2ix_bag.proofs.bag.Bag.copies.Goals as goal
 
 pub loop-held-init : goal.loop-held-init

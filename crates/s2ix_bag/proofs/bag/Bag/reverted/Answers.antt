@@ -1,7 +1,7 @@
 -- The change that takes another one back is taken.
 use Rattle.std.proofs.Common.{sym, ◌∙◌, subst, List, arith}
-use Rattle.s2ix_pairs.specs.Change.{IsChangeList}
-use Rattle.s2ix_pairs.specs.declared.pair.Entry.{Entry}
+use Rattle.s2ix_bag_pairs.specs.Change.{IsChangeList}
+use Rattle.s2ix_bag_pairs.specs.declared.pair.Entry.{Entry}
 use Rattle.s2ix_bag.proofs.Reverted.{back_taken, back_is_bag}
 use Rattle.s2ix_bag.proofs.bag.Bag.reverted.Goals as goal
 

@@ -1,9 +1,9 @@
 -- The entries that take a change back are a change.
 use Rattle.std.proofs.Common.{List, sym, ◌∙◌, subst}
-use Rattle.s2ix_pairs.specs.Change.{IsChangeList}
-use Rattle.s2ix_pairs.specs.declared.pair.Entry.{Entry}
-use Rattle.s2ix_pairs.proofs.TakenBack.{back_keeps}
-use Rattle.s2ix_lists.proofs.Reverts.{taken_back_from_none}
+use Rattle.s2ix_bag_pairs.specs.Change.{IsChangeList}
+use Rattle.s2ix_bag_pairs.specs.declared.pair.Entry.{Entry}
+use Rattle.s2ix_bag_pairs.proofs.TakenBack.{back_keeps}
+use Rattle.s2ix_bag_lists.proofs.Reverts.{taken_back_from_none}
 use Rattle.s2ix_bag.proofs.bag.Bag.reverting.Goals as goal
 
 pub from_vec-requires : goal.from_vec-requires

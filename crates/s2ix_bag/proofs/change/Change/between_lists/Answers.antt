@@ -1,8 +1,8 @@
 -- The change between two collections is a change.
 use Rattle.std.proofs.Common.{List, sym, subst}
-use Rattle.s2ix_pairs.specs.Change.{IsChangeList}
-use Rattle.s2ix_pairs.specs.declared.pair.Entry.{Entry}
-use Rattle.s2ix_pairs.proofs.Differences.{between_is_change}
+use Rattle.s2ix_bag_pairs.specs.Change.{IsChangeList}
+use Rattle.s2ix_bag_pairs.specs.declared.pair.Entry.{Entry}
+use Rattle.s2ix_bag_pairs.proofs.Differences.{between_is_change}
 use Rattle.s2ix_bag.proofs.change.Change.between_lists.Goals as goal
 
 pub invariant_of-result : goal.invariant_of-result

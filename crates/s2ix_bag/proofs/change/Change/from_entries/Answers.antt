@@ -1,8 +1,8 @@
 -- A list of entries without a fault is a change.
 use Rattle.std.proofs.Common.{List, sym, ◌∙◌, subst}
-use Rattle.s2ix_pairs.specs.Change.{IsChangeList}
-use Rattle.s2ix_pairs.specs.declared.pair.Entry.{Entry}
-use Rattle.s2ix_lists.proofs.Unsorted.{change_without_fault}
+use Rattle.s2ix_bag_pairs.specs.Change.{IsChangeList}
+use Rattle.s2ix_bag_pairs.specs.declared.pair.Entry.{Entry}
+use Rattle.s2ix_bag_lists.proofs.Unsorted.{change_without_fault}
 use Rattle.s2ix_bag.proofs.change.Change.from_entries.Goals as goal
 
 pub invariant_of-result : goal.invariant_of-result

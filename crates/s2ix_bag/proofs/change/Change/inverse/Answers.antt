@@ -1,8 +1,8 @@
 -- The inverse of a change is a change.
 use Rattle.std.proofs.Common.{List, sym, ap, ◌∙◌, subst}
-use Rattle.s2ix_pairs.specs.Change.{IsChangeList, inverse_of}
-use Rattle.s2ix_pairs.specs.declared.pair.Entry.{Entry}
-use Rattle.s2ix_pairs.proofs.Inverse.{inverse_keeps}
+use Rattle.s2ix_bag_pairs.specs.Change.{IsChangeList, inverse_of}
+use Rattle.s2ix_bag_pairs.specs.declared.pair.Entry.{Entry}
+use Rattle.s2ix_bag_pairs.proofs.Inverse.{inverse_keeps}
 use Rattle.s2ix_bag.proofs.change.Change.inverse.Goals as goal
 
 pub invariant_of-result : goal.invariant_of-result

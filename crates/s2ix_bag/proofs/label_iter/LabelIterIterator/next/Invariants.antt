@@ -1,6 +1,6 @@
 -- What is passed over has other labels.
 use Rattle.std.proofs.Common.{◌≡◌, length}
-use Rattle.s2ix_pairs.specs.OfLabel.{held_of}
+use Rattle.s2ix_bag_pairs.specs.OfLabel.{held_of}
 use Rattle.s2ix_bag.proofs.label_iter.LabelIterIterator.next.Given as goal
 
 abbrev pub invariant-loop-held : goal.invariant-loop-held

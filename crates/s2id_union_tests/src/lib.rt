@@ -1,5 +1,0 @@
-//! Tests of unions of cells, by values from outside.
-#![tactic(auto)]
-
-#[cfg(test)]
-mod union_tests;

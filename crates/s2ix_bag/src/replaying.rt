@@ -1,0 +1,100 @@
+ghost use Rattle.std.specs.Prelude.{◌≡◌, ℕ, ◌<◌, Some, None, IfOk, IfErr, OnOk, take};
+ghost use Rattle.std.specs.Option.{option_map};
+ghost use Rattle.s2ix_bag_lists.specs.Apply.{apply_refusal};
+ghost use Rattle.s2ix_bag.specs.declared.replay_error.ReplayError.TheVariants.{OutOfMemory};
+ghost use Rattle.s2ix_bag.specs.Replay.{IsReplayError, after_change, first_refusal, with_numbers, refusal_numbered, replay_refusal, replayed, rewind_refusal, rewound, way_back};
+
+use crate::bag::Bag;
+use crate::change::Change;
+use crate::replay_error::ReplayError;
+use crate::replay_refusal::refusal_back;
+use s2ix_bag_lists::ApplyError;
+use std::alloc::Global;
+
+// A refusal of the change with this number and so many entries, as it is told.
+fn numbered(number: usize, entries: usize, refusal: ApplyError) -> ReplayError
+    requires { (place : ℕ) → refusal ≡ ApplyError.Mismatch place → place < entries }
+    ensures { result ≡ refusal_numbered number refusal }
+{
+    match refusal {
+        ApplyError::Mismatch(place) => ReplayError::Mismatch {
+            change: number,
+            entry: place + 1,
+        },
+        ApplyError::TooManyCopies => ReplayError::TooManyCopies { change: number },
+        ApplyError::TooManyPairs => ReplayError::TooManyPairs { change: number },
+        ApplyError::OutOfMemory => ReplayError::OutOfMemory,
+    }
+}
+
+// The bag after one more change, or why that is refused under its number.
+fn next_bag(alloc: Global, bag: &Bag, change: &Change, number: usize) -> Result<Bag, ReplayError>
+    ensures bag { IfOk result (λ next. next ≡ after_change bag.now change.now) }
+    ensures accepted { OnOk result (apply_refusal bag.now change.now ≡ None) }
+    ensures refused { IfErr result (λ error. IsReplayError error (option_map (refusal_numbered number) (apply_refusal bag.now change.now))) }
+    ensures memory { result ≡ Err OutOfMemory → apply_refusal bag.now change.now ≡ None }
+{
+    match bag.applied(alloc, change) {
+        Ok(next) => Ok(next),
+        Err(refusal) => Err(numbered(number, change.entries().len(), refusal)),
+    }
+}
+
+/// The bag after these changes, with the bag's limits: each is done to what those before it made. The first change that is refused decides,
+/// and is told by its number, counted from 1.
+///
+/// `OutOfMemory` where a growth is refused; it may come in place of the refusal of any change but the first. O(k n + m) for k changes with m
+/// entries in all and at most n pairs held on the way.
+#[tactic(auto, using(crate::proofs::Forth::limits_stay))]
+pub fn replay(alloc: Global, bag: &Bag, changes: &[Change]) -> Result<Bag, ReplayError>
+    ensures limits { IfOk result (λ after. after.limits ≡ bag.now.limits) }
+    ensures bag { IfOk result (λ after. after ≡ replayed bag.now changes.now) }
+    ensures accepted { OnOk result (replay_refusal bag.now changes.now ≡ None) }
+    ensures refused { IfErr result (λ error. IsReplayError error (replay_refusal bag.now changes.now)) }
+    ensures first { result ≡ Err OutOfMemory → first_refusal bag.now (take 1 (with_numbers changes.now)) ≡ None }
+{
+    let Some((first, rest)) = changes.split_first() else {
+        return Ok(bag.copied(alloc)?);
+    };
+    let mut reached = next_bag(alloc, bag, first, 1)?;
+    for (place, change) in rest.iter().enumerate() {
+        reached = next_bag(alloc, &reached, change, place + 2)?;
+    }
+    Ok(reached)
+}
+
+// Tests whether a bag takes the inverse of the last change, before anything grows. O(m log n) for its m entries and n pairs held.
+fn test_last(bag: &Bag, changes: &[Change]) -> Result<(), ReplayError>
+    ensures taken { OnOk result (first_refusal bag.now (take 1 (way_back (with_numbers changes.now))) ≡ None) }
+    ensures refused { IfErr result (λ error. first_refusal bag.now (take 1 (way_back (with_numbers changes.now))) ≡ Some error) }
+{
+    let Some((last, _)) = changes.split_last() else {
+        return Ok(());
+    };
+    match refusal_back(bag, last) {
+        Some(refusal) => Err(numbered(changes.len(), last.entries().len(), refusal)),
+        None => Ok(()),
+    }
+}
+
+/// The bag before these changes, with the bag's limits: the inverse of each is done, from the last change to the first. The change that is
+/// refused first on this way decides, and is told by its number in the list, counted from 1.
+///
+/// `OutOfMemory` where a growth is refused; it may come in place of the refusal of any change but the last. O(k n + m log n) for k changes
+/// with m entries in all and at most n pairs held on the way.
+#[tactic(auto, using(crate::proofs::Forth::limits_stay))]
+pub fn rewind(alloc: Global, bag: &Bag, changes: &[Change]) -> Result<Bag, ReplayError>
+    ensures limits { IfOk result (λ before. before.limits ≡ bag.now.limits) }
+    ensures bag { IfOk result (λ before. before ≡ rewound bag.now changes.now) }
+    ensures accepted { OnOk result (rewind_refusal bag.now changes.now ≡ None) }
+    ensures refused { IfErr result (λ error. IsReplayError error (rewind_refusal bag.now changes.now)) }
+    ensures last { result ≡ Err OutOfMemory → first_refusal bag.now (take 1 (way_back (with_numbers changes.now))) ≡ None }
+{
+    test_last(bag, changes)?;
+    let mut reached = bag.copied(alloc)?;
+    for place in (0..changes.len()).rev() {
+        let inverse = changes[place].inverse(alloc)?;
+        reached = next_bag(alloc, &reached, &inverse, place + 1)?;
+    }
+    Ok(reached)
+}

@@ -1,0 +1,12 @@
+pub mod Applied
+pub mod Lengths
+pub mod Refusals
+pub mod Walks
+pub mod Comparing
+pub mod Unsorted
+pub mod Reverts
+pub mod Joined
+pub mod Faces
+pub mod Ends
+pub mod Steps
+pub mod Places

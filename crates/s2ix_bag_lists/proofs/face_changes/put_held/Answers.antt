@@ -1,0 +1,27 @@
+-- Each face's pairs go into its own list.
+use Rattle.std.proofs.Common.{◌≡◌, ℕ, ◌+◌, set, sym, ◌∙◌, subst, subst₂, arith}
+use Rattle.s2ix_bag_pairs.specs.Collection.{Collection}
+use Rattle.s2ix_bag_pairs.proofs.Counts.{from_lower}
+use Rattle.s2ix_bag_lists.specs.Faces.{face_start}
+use Rattle.s2ix_bag_lists.proofs.Steps.{Putting, putting_start, putting_step, putting_end}
+use Rattle.s2ix_bag_lists.proofs.face_changes.put_held.Goals as goal
+
+pub loop-face-init : goal.loop-face-init
+loop-face-init c = putting_start c.args.held.now _ c.requires.six c.requires.apart c.requires.none c.requires.held_rise
+
+pub held_up_to-requires : goal.held_up_to-requires
+held_up_to-requires c = from_lower 0 (face_start c.loop-face.face) c.loop-face.rest.now (omega arith) c.loop-face.invariant.rises
+
+pub loop-face-preserved : goal.loop-face-preserved
+loop-face-preserved c =
+    let ls = c.loop-face.lists in
+    let face = c.loop-face.face in
+    let next = putting_step c.args.held.now face ls c.loop-face.rest.now c.held_up_to.result (omega arith) c.loop-face.invariant c.held_up_to.ensures.below c.held_up_to.ensures.rest in
+    let own = c.in_ok-lists.ensures ∙ c.in_ok-from_slice.ensures.items ∙ c.split_at.ensures.front in
+    subst₂ (λ (new later : Collection). Putting c.args.held.now (face + 1) (set ls face new) later) (sym own) (sym c.split_at.ensures.back) next
+
+pub returns-clause-made : goal.returns-clause-made
+returns-clause-made c =
+    let last : c.loop-face.face ≡ 6 = omega arith in
+    let was = subst (λ (f : ℕ). Putting c.args.held.now f c.loop-face.lists c.loop-face.rest.now) last c.loop-face.invariant in
+    putting_end c.args.held.now c.loop-face.lists c.loop-face.rest.now was

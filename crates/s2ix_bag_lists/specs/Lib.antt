@@ -1,0 +1,13 @@
+pub mod Apply
+pub mod Entries
+pub mod Laws
+pub mod Revert
+pub use Rattle.s2id_core.specs.CellId
+pub use Rattle.s2ix_bag_pairs.specs.Change
+pub use Rattle.s2ix_bag_pairs.specs.Collection
+pub use Rattle.s2ix_bag_pairs.specs.Label
+pub use Rattle.s2ix_bag_pairs.specs.Limits
+pub use Rattle.s2ix_bag_pairs.specs.Pair
+pub use Rattle.s2ix_bag_pairs.specs.Ranges
+pub use Rattle.s2ix_bag_pairs.specs.TakenBack
+pub mod Faces

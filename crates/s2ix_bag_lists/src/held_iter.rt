@@ -1,0 +1,57 @@
+ghost use Rattle.std.specs.Prelude.{◌≡◌, ◌++◌, []};
+ghost use Rattle.std.specs.Iterator.{YieldsFirst, item_count};
+ghost use Rattle.s2ix_bag_lists.specs.Faces.{all_of};
+
+use crate::face_list::FaceList;
+use crate::flat::FlatHeld;
+use s2ix_bag_pairs::Held;
+use std::marker::Model;
+
+/// The held pairs of a [`FaceLists`](crate::FaceLists) with their counts, in rising order. Contracts see the list of those still to come.
+#[derive(Clone, Debug, Drop)]
+pub struct HeldIter<'a> {
+    rest: &'a [FlatHeld],
+    later: &'a [FaceList],
+}
+
+impl<'a> Model for HeldIter<'a> {
+    ghost use Rattle.std.specs.Prelude.{◌++◌};
+    ghost use Rattle.s2ix_bag_lists.specs.Faces.{all_of};
+    ghost use Rattle.s2ix_bag_pairs.specs.Collection.{Collection};
+
+    ghost Value = { Collection };
+
+    ghost view = { λ s. s.rest.now ++ all_of s.later.now };
+}
+
+impl<'a> HeldIter<'a> {
+    // What some lists hold, one after the other.
+    pub(crate) fn new(lists: &'a [FaceList]) -> HeldIter<'a>
+        ensures { result ≡ all_of lists.now }
+    {
+        HeldIter {
+            rest: &[],
+            later: lists,
+        }
+    }
+}
+
+impl<'a> Iterator for HeldIter<'a> {
+    type Item = Held;
+
+    ghost next_gives = { YieldsFirst (λ rest. rest) };
+
+    ghost remaining = { item_count (λ rest. rest) };
+
+    fn next(&mut self) -> Option<Held> {
+        loop {
+            if let Some((first, rest)) = self.rest.split_first() {
+                self.rest = rest;
+                return Some(first.held());
+            }
+            let (list, later) = self.later.split_first()?;
+            self.rest = list.as_slice();
+            self.later = later;
+        }
+    }
+}

@@ -1,0 +1,62 @@
+//! Laws: functions that do nothing, and whose contracts are facts on the definitions.
+ghost use Rattle.std.specs.Prelude.{◌≡◌, ◌↔◌, IsTrue};
+ghost use Rattle.s2ix_bag_pairs.specs.declared.pair.Held.{Held};
+ghost use Rattle.s2ix_bag_lists.specs.Laws.{ChangesHaveNoFault, InverseTakesBack, InverseTakesBackAtOnce};
+ghost use Rattle.s2ix_bag_lists.specs.declared.errors.ApplyError.{ApplyError};
+ghost use Rattle.s2ix_bag_lists.specs.declared.errors.ChangeError.{ChangeError};
+ghost use Rattle.s2ix_bag_lists.specs.declared.errors.RevertError.{RevertError};
+ghost use Rattle.s2ix_bag_pairs.specs.Collection.{Collection};
+
+use crate::errors::{ApplyError, ChangeError, RevertError};
+use crate::flat::FlatHeld;
+use crate::held_iter::HeldIter;
+use crate::lists::FaceLists;
+
+/// A list of entries is a change exactly where it has no fault.
+pub fn changes_have_no_fault()
+    ensures { ChangesHaveNoFault }
+{}
+
+/// A change that a bag takes can be taken back: the inverse isn't refused, and gives the first bag.
+pub fn inverse_takes_back()
+    ensures { InverseTakesBack }
+{}
+
+/// Right after a change that a bag takes, the change that takes it back is its inverse.
+pub fn inverse_takes_back_at_once()
+    ensures { InverseTakesBackAtOnce }
+{}
+
+/// Two errors of one type are equal exactly where they are one.
+pub fn equal_errors_are_one()
+    ensures apply { (a b : ApplyError) → IsTrue (⟦<ApplyError as PartialEq>⟧.eq a b) ↔ (a ≡ b) }
+    ensures revert { (a b : RevertError) → IsTrue (⟦<RevertError as PartialEq>⟧.eq a b) ↔ (a ≡ b) }
+    ensures change { (a b : ChangeError) → IsTrue (⟦<ChangeError as PartialEq>⟧.eq a b) ↔ (a ≡ b) }
+{}
+
+/// An error's clone is that error.
+pub fn cloned_errors_are_the_same()
+    ensures apply { (error copy : ApplyError) → ⟦<ApplyError as Clone>⟧.is_clone error copy ↔ (copy ≡ error) }
+    ensures revert { (error copy : RevertError) → ⟦<RevertError as Clone>⟧.is_clone error copy ↔ (copy ≡ error) }
+    ensures change { (error copy : ChangeError) → ⟦<ChangeError as Clone>⟧.is_clone error copy ↔ (copy ≡ error) }
+{}
+
+/// The clone of a flat held pair stands for the same held pair.
+pub fn cloned_flat_pairs_are_the_same()
+    ensures { (held copy : Held) → ⟦<FlatHeld as Clone>⟧.is_clone held copy ↔ (copy ≡ held) }
+{}
+
+/// Two lists of held pairs are equal exactly where they hold the same pairs with the same counts.
+pub fn equal_lists_are_one()
+    ensures { (a b : Collection) → IsTrue (⟦<FaceLists as PartialEq>⟧.eq a b) ↔ (a ≡ b) }
+{}
+
+/// A clone of the lists holds the same pairs with the same counts.
+pub fn cloned_lists_are_the_same()
+    ensures { (lists copy : Collection) → ⟦<FaceLists as Clone>⟧.is_clone lists copy ↔ (copy ≡ lists) }
+{}
+
+/// A clone of an iterator over held pairs has the same still to come.
+pub fn cloned_held_iterators_have_the_same_rest<'a>()
+    ensures { (it copy : Collection) → ⟦<HeldIter<'a> as Clone>⟧.is_clone it copy → copy ≡ it }
+{}

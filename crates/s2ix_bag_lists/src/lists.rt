@@ -1,0 +1,177 @@
+ghost use Rattle.std.specs.Prelude.{◌≡◌, ◌<◌, ◌≤◌, [], ◌∷◌, Some, length, slice_get, IfOk};
+ghost use Rattle.s2ix_bag_lists.specs.Faces.{IsFaceAt};
+ghost use Rattle.s2ix_bag_lists.specs.Apply.{AreBefore, apply_refusal};
+ghost use Rattle.s2ix_bag_pairs.specs.Change.{IsChangeList, changed};
+ghost use Rattle.s2ix_bag_pairs.specs.Collection.{IsCollection, count_in};
+
+use crate::apply::{gains, has_count_above, losses};
+use crate::errors::ApplyError;
+use crate::face_changes::{FACES, mismatch, put_all_changed, put_held};
+use crate::face_list::FaceList;
+use crate::flat::FlatHeld;
+use crate::held_iter::HeldIter;
+use crate::read::{count_on, face_at, push_all};
+use s2id_core::OutOfMemory;
+use s2ix_bag_pairs::{Entry, Held, Limits, Pair};
+use std::alloc::{AllocError, Global};
+use std::marker::Model;
+
+/// Held pairs, at most 1,000,000, in one list for each face. Contracts see the one list that they make up, in rising order of pairs.
+#[derive(Debug, Drop)]
+pub struct FaceLists {
+    lists: [FaceList; FACES],
+    len: usize,
+}
+
+impl Model for FaceLists {
+    ghost use Rattle.s2ix_bag_lists.specs.Faces.{AreFaces, all_of};
+    ghost use Rattle.s2ix_bag_pairs.specs.Collection.{Collection};
+
+    ghost Value = { Collection };
+
+    ghost view = { λ s. all_of s.lists };
+
+    ghost invariant = { λ s. AreFaces s.lists s.len };
+}
+
+// Six lists without pairs.
+fn empty_lists() -> [FaceList; FACES]
+    ensures { result ≡ [] ∷ [] ∷ [] ∷ [] ∷ [] ∷ [] ∷ [] }
+{
+    [
+        FaceList::empty(),
+        FaceList::empty(),
+        FaceList::empty(),
+        FaceList::empty(),
+        FaceList::empty(),
+        FaceList::empty(),
+    ]
+}
+
+impl FaceLists {
+    /// The lists that hold no pair. They take no memory.
+    pub fn empty() -> FaceLists
+        ensures { result ≡ [] }
+    {
+        FaceLists {
+            lists: empty_lists(),
+            len: 0,
+        }
+    }
+
+    /// The lists that hold these pairs with these counts. O(n) for n pairs. `OutOfMemory` where a growth is refused.
+    pub fn from_held(alloc: Global, held: &[FlatHeld]) -> Result<FaceLists, OutOfMemory>
+        requires rises { IsCollection held.now }
+        requires few { length held.now ≤ 1000000 }
+        ensures { IfOk result (λ lists. lists ≡ held.now) }
+    {
+        let mut lists = empty_lists();
+        put_held(alloc, &mut lists, held)?;
+        Ok(FaceLists {
+            lists,
+            len: held.len(),
+        })
+    }
+
+    /// The count of a pair: 0 where it is not held. O(log n) for n pairs.
+    pub fn count(&self, pair: Pair) -> u32
+        ensures { result ≡ count_in self.now pair }
+    {
+        count_on(&self.lists, pair)
+    }
+
+    /// How many distinct pairs are held.
+    pub fn len(&self) -> usize
+        ensures number { result ≡ length self.now }
+        ensures rises { IsCollection self.now }
+        ensures few { result ≤ 1000000 }
+    {
+        self.len
+    }
+
+    /// The pair at a place in rising order, counted from 0, with its count. O(1).
+    pub fn held(&self, place: usize) -> Held
+        requires { place < length self.now }
+        ensures { slice_get self.now place ≡ Some result }
+    {
+        let (before, own) = self.face_at(place);
+        own[place - before].held()
+    }
+
+    /// How many pairs stand before the face that the pair at a place is of, counted from 0, and all pairs held on that face. O(1).
+    pub fn face_at(&self, place: usize) -> (usize, &[FlatHeld])
+        requires { place < length self.now }
+        ensures { IsFaceAt place self.now result.0 result.1.now }
+    {
+        face_at(&self.lists, place)
+    }
+
+    /// The held pairs with their counts, in rising order. O(n) from the first to the end, for n pairs.
+    pub fn iter(&self) -> HeldIter<'_>
+        ensures { result ≡ self.now }
+    {
+        HeldIter::new(&self.lists)
+    }
+
+    /// A copy of all pairs in one list. O(n) for n pairs. `OutOfMemory` where a growth is refused.
+    pub fn flat(&self, alloc: Global) -> Result<Vec<FlatHeld>, OutOfMemory>
+        ensures { IfOk result (λ all. all.items ≡ self.now) }
+    {
+        let mut all = Vec::with_capacity(alloc, self.len)?;
+        push_all(&mut all, &self.lists)?;
+        Ok(all)
+    }
+
+    /// Why a change is refused, memory aside: each test goes over all entries, in the order of the errors. O(k + m) for m entries
+    /// and the k pairs held on their faces.
+    pub fn refusal(&self, limits: Limits, entries: &[Entry]) -> Option<ApplyError>
+        requires { IsChangeList entries.now }
+        ensures { result ≡ apply_refusal (record { limits = limits; held = self.now }) entries.now }
+    {
+        if let Some(place) = mismatch(&self.lists, entries) {
+            return Some(ApplyError::Mismatch(place));
+        }
+        if has_count_above(entries, limits.count()) {
+            return Some(ApplyError::TooManyCopies);
+        }
+        if self.len_after(entries) > limits.pairs() as usize {
+            return Some(ApplyError::TooManyPairs);
+        }
+        None
+    }
+
+    // How many pairs are held once a change is applied that has the right counts before. O(m) for m entries.
+    fn len_after(&self, entries: &[Entry]) -> usize
+        requires entries_rise { IsChangeList entries.now }
+        requires before { AreBefore self.now entries.now }
+        ensures { result ≡ length (changed self.now entries.now) }
+    {
+        self.len + gains(entries) - losses(entries)
+    }
+
+    /// What a change that has the right counts before makes of the pairs. The lists of the faces without an entry are shared, the others
+    /// copied: O(k + m) for m entries and the k pairs held on their faces. `OutOfMemory` where a growth is refused.
+    pub fn after(&self, alloc: Global, entries: &[Entry]) -> Result<FaceLists, OutOfMemory>
+        requires entries_rise { IsChangeList entries.now }
+        requires before { AreBefore self.now entries.now }
+        requires few { length (changed self.now entries.now) ≤ 1000000 }
+        ensures { IfOk result (λ lists. lists ≡ changed self.now entries.now) }
+    {
+        let len = self.len_after(entries);
+        let mut lists = self.lists.clone()?;
+        put_all_changed(alloc, &mut lists, entries)?;
+        Ok(FaceLists { lists, len })
+    }
+}
+
+/// The same lists, shared once more. O(1).
+impl Clone for FaceLists {
+    ghost is_clone = { λ lists copy. copy ≡ lists };
+
+    fn clone(&self) -> Result<FaceLists, AllocError> {
+        Ok(FaceLists {
+            lists: self.lists.clone()?,
+            len: self.len,
+        })
+    }
+}

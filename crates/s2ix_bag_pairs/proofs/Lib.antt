@@ -1,0 +1,11 @@
+pub mod Pairs
+pub mod Counts
+pub mod Collections
+pub mod Changes
+pub mod Differences
+pub mod Equal
+pub mod Inverse
+pub mod Labels
+pub mod OfLabel
+pub mod TakenBack
+pub mod Parts

@@ -1,8 +1,0 @@
-use Rattle.s2ix_chain.proofs.Windows.{IsWindow}
-use Rattle.s2ix_chain.proofs.places.last_start.Given as goal
-
-abbrev pub invariant-loop-size : goal.invariant-loop-size
-invariant-loop-size l = IsWindow l.starts l.leaf l.first l.size
-
-abbrev pub decreases-loop-size : goal.decreases-loop-size
-decreases-loop-size l = l.size

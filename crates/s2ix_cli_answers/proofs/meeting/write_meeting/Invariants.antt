@@ -1,0 +1,17 @@
+-- The lines of the pairs so far were written whole, and the other pairs of the meeting list are left.
+use Rattle.std.proofs.Common.{◌≡◌, ◌≤◌, Ok, take, drop, length, flat_map}
+use Rattle.s2ix_text_io.specs.Puts.{Writes}
+use Rattle.s2ix_table_ranges.specs.Meeting.{meeting_of}
+use Rattle.s2ix_table_walk.specs.Meetings.{left_in}
+use Rattle.s2ix_text_write.specs.Lists.{held_line}
+use Rattle.s2ix_cli_answers.proofs.meeting.write_meeting.Given as goal
+
+abbrev pub invariant-loop-held : goal.invariant-loop-held
+invariant-loop-held g l =
+    let all = meeting_of l.target (g.T.RangeTable.pairs l.table) in
+    (left_in l.meeting ≡ drop l.count all)
+    × (l.count ≤ length all)
+    × Writes {A = Unit {0}} g.K.Sink.taken g.K.Sink.flush_mark g.K.Sink.fault_count l.fn.sink l.sink (Ok tt) (flat_map held_line (take l.count all))
+
+abbrev pub decreases-loop-held : goal.decreases-loop-held
+decreases-loop-held g l = length (left_in l.meeting)

@@ -1,0 +1,14 @@
+-- The lines of the pairs so far were written whole, and the pairs counted.
+use Rattle.std.proofs.Common.{◌≡◌, Ok, take, length, flat_map}
+use Rattle.s2id_core.specs.CellId.{raw_of}
+use Rattle.s2ix_text_io.specs.Puts.{Writes}
+use Rattle.s2ix_table_ranges.specs.Contents.{contents_at}
+use Rattle.s2ix_text_write.specs.Lists.{held_line}
+use Rattle.s2ix_cli_answers.proofs.ranges.write_contents.Given as goal
+
+abbrev pub invariant-loop-held : goal.invariant-loop-held
+invariant-loop-held g l =
+    (goal.iterator-loop-held g).can_next l.held-iterator
+    × (goal.iterator-loop-held g).is_finite l.held-iterator
+    × (l.count ≡ length l.yielded)
+    × Writes {A = Unit {0}} g.K.Sink.taken g.K.Sink.flush_mark g.K.Sink.fault_count l.fn.sink l.sink (Ok tt) (flat_map held_line (take (length l.yielded) (contents_at (raw_of l.fn.leaf) (g.T.RangeTable.pairs l.table))))

@@ -1,0 +1,12 @@
+-- The pairs so far were written whole.
+use Rattle.std.proofs.Common.{Ok, take, length, flat_map}
+use Rattle.s2ix_text_io.specs.Puts.{Writes}
+use Rattle.s2ix_table_ranges.specs.Table.{range_at}
+use Rattle.s2ix_cli_answers.specs.Ranges.{spaced_pair}
+use Rattle.s2ix_cli_answers.proofs.ranges.write_range_pairs.Given as goal
+
+abbrev pub invariant-loop-held : goal.invariant-loop-held
+invariant-loop-held g l =
+    (goal.iterator-loop-held g).can_next l.held-iterator
+    × (goal.iterator-loop-held g).is_finite l.held-iterator
+    × Writes {A = Unit {0}} g.K.Sink.taken g.K.Sink.flush_mark g.K.Sink.fault_count l.fn.sink l.sink (Ok tt) (flat_map spaced_pair (take (length l.yielded) (range_at (g.T.RangeTable.ranges l.table) l.k).contents))

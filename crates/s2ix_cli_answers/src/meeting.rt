@@ -1,0 +1,30 @@
+ghost use Rattle.s2ix_text_io.specs.Faults.{CanCount};
+ghost use Rattle.s2ix_text_io.specs.Puts.{Writes};
+ghost use Rattle.s2ix_table_ranges.specs.Meeting.{meeting_of};
+ghost use Rattle.s2ix_text_write.specs.Lists.{held_line, list_text};
+
+use s2id_union::CellUnion;
+use s2ix_table_queries::{Meter, RangeTable};
+use s2ix_table_walk::Meeting;
+use s2ix_text_io::{Sink, WriteFault};
+use s2ix_text_write::{ListItem, write_end_of_list};
+
+/// Writes the pairs that meet a target as a list, each as it is found: by the first leaf that it shares with the target, then falling
+/// level, then rising label. O(k + r + t log n) for the k pairs, over the r ranges of n that the t cells of the target meet.
+pub fn write_meeting<T: RangeTable, K: Sink>(
+    table: &T,
+    target: &CellUnion,
+    sink: &mut K,
+) -> Result<(), WriteFault>
+    requires { CanCount (K.fault_count sink.old) }
+    ensures { Writes K.taken K.flush_mark K.fault_count sink.old sink.new result (list_text held_line (meeting_of target.now (T.pairs table.now))) }
+{
+    let mut meter = Meter::new(table);
+    let mut meeting = Meeting::new(&mut meter, target);
+    let mut count = 0;
+    while let Some(held) = meeting.advance() {
+        held.write_line(sink)?;
+        count += 1;
+    }
+    write_end_of_list(count, sink)
+}

@@ -1,0 +1,166 @@
+//! The fields of a line, one after the other.
+//!
+//! What has no byte above 127 is cut here, by looks at bytes alone. From the first field on that has such a byte, `bstr` cuts the line.
+ghost use Rattle.std.specs.Prelude.{◌≡◌, ◌≤◌, ◌∷◌, ℕ, List, IfSome, ⊤, length, take, true};
+ghost use Rattle.std.specs.List.{list_all};
+ghost use Rattle.std.specs.Iterator.{item_count};
+ghost use Rattle.bstr.specs.Text.{TakesFirstRef};
+ghost use Rattle.s2ix_cli_fields.specs.Fields.{fields_left, fields_of, is_blank as is_blank_byte, is_plain as is_plain_byte};
+
+use bstr::ByteSlice;
+use std::alloc::AllocError;
+use std::marker::Model;
+
+/// The fields of a line that are still to come. Contracts see them as a list.
+#[derive(Debug, Drop)]
+pub struct Fields<'a> {
+    text: &'a [u8],
+    wide: Option<bstr::Fields<'a>>,
+}
+
+impl<'a> Model for Fields<'a> {
+    ghost Value = { List (List ℕ) };
+
+    ghost view = { λ s. fields_left s.text.now s.wide };
+}
+
+impl<'a> Clone for Fields<'a> {
+    ghost is_clone = { λ it copy. copy ≡ it };
+
+    ghost is_infallible = { λ _. ⊤ };
+
+    fn clone(&self) -> Result<Self, AllocError> {
+        Ok(Fields {
+            text: self.text,
+            wide: self.wide.clone()?,
+        })
+    }
+}
+
+impl<'a> Fields<'a> {
+    /// The fields of a line.
+    pub fn new(line: &'a [u8]) -> Fields<'a>
+        ensures { result ≡ fields_of line.now }
+    {
+        Fields {
+            text: line,
+            wide: None,
+        }
+    }
+
+    // The next field of a text which has a byte above 127 in it, and all behind it.
+    #[inline(never)]
+    fn next_wide(&mut self, text: &'a [u8]) -> Option<&'a [u8]>
+        ensures { TakesFirstRef (fields_of text.now) result self.new }
+    {
+        let mut fields = text.fields();
+        let first = fields.next();
+        self.wide = Some(fields);
+        first
+    }
+}
+
+impl<'a> Iterator for Fields<'a> {
+    type Item = &'a [u8];
+
+    ghost next_gives = { TakesFirstRef };
+
+    ghost remaining = { item_count (λ rest. rest) };
+
+    #[inline(always)]
+    fn next(&mut self) -> Option<&'a [u8]> {
+        if let Some(fields) = &mut self.wide {
+            return fields.next();
+        }
+        let text = behind_blank(self.text);
+        if text.is_empty() {
+            return None;
+        }
+        let Some((field, rest)) = cut_plain(text) else {
+            return self.next_wide(text);
+        };
+        self.text = rest;
+        Some(field)
+    }
+}
+
+// A text from its first byte on that is no white space below 128.
+#[inline(always)]
+fn behind_blank(text: &[u8]) -> &[u8]
+    ensures { fields_of result.now ≡ fields_of text.now }
+{
+    let mut start = 0;
+    while start < text.len() && is_blank(text[start]) {
+        start += 1;
+    }
+    &text[start..]
+}
+
+// The field that a text begins with, and what is behind it; nothing where a byte above 127 stands in the field or right behind it.
+#[inline(always)]
+fn cut_plain(text: &[u8]) -> Option<(&[u8], &[u8])>
+    ensures { IfSome result (λ cut. fields_of text.now ≡ cut.0.now ∷ fields_of cut.1.now) }
+{
+    let end = plain_len(text);
+    if end == 0 || end < text.len() && !is_blank(text[end]) {
+        return None;
+    }
+    Some(text.split_at(end))
+}
+
+// How many plain bytes stand in front.
+#[inline(never)]
+fn plain_len(text: &[u8]) -> usize
+    ensures within { result ≤ length text.now }
+    ensures plain { list_all is_plain_byte (take result text.now) ≡ true }
+{
+    let mut end = 0;
+    while text.len() - end >= 16 && are_plain(&text[end..end + 16]) {
+        end += 16;
+    }
+    end = behind_block(text, end, 8);
+    end = behind_block(text, end, 4);
+    while end < text.len() && is_plain(text[end]) {
+        end += 1;
+    }
+    end
+}
+
+// The place behind one more block of plain bytes, or the same place where no such block is there.
+fn behind_block(text: &[u8], end: usize, size: usize) -> usize
+    requires inside { end ≤ length text.now }
+    requires front { list_all is_plain_byte (take end text.now) ≡ true }
+    ensures within { result ≤ length text.now }
+    ensures plain { list_all is_plain_byte (take result text.now) ≡ true }
+{
+    if text.len() - end >= size && are_plain(&text[end..end + size]) {
+        end + size
+    } else {
+        end
+    }
+}
+
+// Whether a block of bytes is of the plain bytes behind the space. Each is looked at, so that the compiler looks at all at once.
+fn are_plain(block: &[u8]) -> bool
+    ensures { result ≡ true → list_all is_plain_byte block.now ≡ true }
+{
+    let mut all = true;
+    for byte in block {
+        all &= byte.wrapping_sub(33) < 95;
+    }
+    all
+}
+
+// Whether a byte belongs to a field, whatever stands around it: it is below 128, and no white space.
+fn is_plain(byte: u8) -> bool
+    ensures { result ≡ is_plain_byte byte }
+{
+    byte < 128 && !is_blank(byte)
+}
+
+// Whether a byte below 128 is white space.
+fn is_blank(byte: u8) -> bool
+    ensures { result ≡ is_blank_byte byte }
+{
+    byte == b' ' || byte.wrapping_sub(b'\t') < 5
+}

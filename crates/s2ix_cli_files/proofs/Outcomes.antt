@@ -1,0 +1,64 @@
+-- From what texts come to, to its answer.
+use Rattle.std.proofs.Common.{◌≡◌, ℕ, ◌<◌, Bool, false, List, length, Option, Result, Ok, Err, refl, ap, sym, subst, arith}
+use Rattle.std.specs.Prelude.{IfErr, IfOk}
+use Rattle.s2ix_bag_pairs.specs.Collection.{LimitedCollection}
+use Rattle.s2ix_text_write.specs.Dump.{dump_in}
+use Rattle.s2ix_text_io.specs.declared.run_fault.RunFault.{RunFault}
+use Rattle.s2ix_text_io.specs.Faults.{IsWantOnlyIf}
+use Rattle.s2ix_cli_files.specs.declared.refusal.Refusal.{Refusal}
+use Rattle.s2ix_cli_files.specs.declared.refusal.TextsError.{TextsError}
+use Rattle.s2ix_cli_files.specs.declared.refusal.TextsError.TheVariants.{Refused, OutOfMemory}
+use Rattle.s2ix_cli_files.specs.Answers.{Answer, IsAnswerTo, IsDumpAnswer, IsRefusalAnswer, Tells, answer_of, counts_line, dump_of}
+use Rattle.s2ix_cli_files.specs.Refusals.{IsRefusedBy, IsWantOf}
+
+-- the answer of a bag that the texts come to
+pub bag_answer : (printed : LimitedCollection → List ℕ) (ComesTo : Result LimitedCollection Refusal → Type 0) (bag : LimitedCollection)
+    → ComesTo (Ok bag) → IsAnswerTo printed ComesTo (answer_of printed (Ok bag))
+bag_answer printed ComesTo bag comes = (Ok bag, comes, refl)
+
+-- the answer that an error tells is the one to the texts
+pub refusal_answer : (printed : LimitedCollection → List ℕ) (ComesTo : Result LimitedCollection Refusal → Type 0) (error : TextsError)
+    → IsRefusedBy ComesTo error → (answer : Answer) → IsRefusalAnswer error answer → IsAnswerTo printed ComesTo answer
+refusal_answer printed ComesTo (Refused refusal) comes answer is = (Err refusal, comes, is)
+refusal_answer printed ComesTo OutOfMemory comes answer is = absurd is
+
+-- what accepts nothing tells so
+pub told_refused : {K : Type 0} (taken : K → Option (List ℕ)) (flushes : K → K → Type 0) (error : TextsError) (old new : K) (accepted : Bool)
+    → Tells taken flushes (IsRefusalAnswer error) old new (Ok accepted) → Tells taken flushes (IsRefusalAnswer error) old new (Ok false)
+told_refused taken flushes (Refused refusal) old new accepted told = (told.0, told.1, told.2, ap (λ (a : Answer). a.accepted) (sym told.1))
+told_refused taken flushes OutOfMemory old new accepted told = absurd told.1
+
+-- memory is wanted only where this holds, and so only where that holds
+pub want_as : {A : Type 0} (result : Result A RunFault) (Wants Others : Type 0) → (Wants → Others) → IfErr result (IsWantOnlyIf Wants)
+    → IfErr result (IsWantOnlyIf Others)
+want_as (Ok x) Wants Others as_others wants = tt
+want_as (Err fault) Wants Others as_others wants = λ is. as_others (wants is)
+
+-- the line of counts is not empty
+pub some_counts : (bag : LimitedCollection) → 0 < length (counts_line bag)
+some_counts bag = omega arith
+
+-- ---- a dump
+
+-- the dump of a bag is the answer of an outcome that is that bag
+pub dumped_so : (outcome : Result LimitedCollection TextsError) (bag : LimitedCollection) → outcome ≡ Ok bag
+    → IsDumpAnswer outcome (answer_of dump_of (Ok bag))
+dumped_so outcome bag is = let Told : Result LimitedCollection TextsError → Type 0 = λ o. IsDumpAnswer o (answer_of dump_of (Ok bag)) in subst Told (sym is) refl
+
+-- a dump is not empty
+pub some_dump : (bag : LimitedCollection) → 0 < length (dump_of bag)
+unfolding dump_in
+some_dump bag = omega arith
+
+-- the answer that the outcome of the texts tells is the one to them
+pub dump_answer : (ComesTo : Result LimitedCollection Refusal → Type 0) (outcome : Result LimitedCollection TextsError)
+    → IfOk outcome (λ bag. ComesTo (Ok bag)) → IfErr outcome (IsRefusedBy ComesTo)
+    → (answer : Answer) → IsDumpAnswer outcome answer → IsAnswerTo dump_of ComesTo answer
+dump_answer ComesTo (Ok bag) comes refused answer is = (Ok bag, comes, is)
+dump_answer ComesTo (Err error) comes refused answer is = refusal_answer dump_of ComesTo error refused answer is
+
+-- want of memory is an error of the outcome
+pub wanted_so : (outcome : Result LimitedCollection TextsError) (Wants : Type 0) → IfErr outcome (IsWantOf Wants)
+    → outcome ≡ Err OutOfMemory → Wants
+wanted_so (Ok bag) Wants wants is = cc
+wanted_so (Err error) Wants wants is = wants (cc)

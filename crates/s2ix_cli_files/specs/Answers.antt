@@ -1,0 +1,91 @@
+-- What a call answers about texts, and what it is to tell an answer.
+use Rattle.std.specs.Prelude.{◌≡◌, ℕ, Bool, true, false, is_some, codes, decimal, Option, Result, Ok, Err, List, [], ◌∷◌, length}
+use Rattle.std.specs.Io.KnownBytes.{Appends, Keeps}
+use Rattle.std.specs.List.{concat}
+use Rattle.s2ix_bag_pairs.specs.Collection.{LimitedCollection, copies_in}
+use Rattle.s2ix_bag_pairs.specs.declared.limits.Limits.{Limits}
+use Rattle.s2ix_text_io.specs.declared.run_fault.RunFault.{RunFault}
+use Rattle.s2ix_text_io.specs.declared.run_fault.RunFault.TheVariants as fault
+use Rattle.s2ix_text_io.specs.Puts.{AppendsFront}
+use Rattle.s2ix_text_write.specs.Dump.{dump_text}
+use Rattle.s2ix_cli_files.specs.declared.refusal.Refusal.{Refusal}
+use Rattle.s2ix_cli_files.specs.declared.refusal.TextsError.{TextsError}
+use Rattle.s2ix_cli_files.specs.declared.refusal.TextsError.TheVariants.{Refused, OutOfMemory}
+use Rattle.s2ix_cli_files.specs.Reads.{DumpReads, TextsReplay, TextsRewind}
+use Rattle.s2ix_cli_files.specs.Refusals.{refusal_line}
+
+-- ---- answers
+
+-- a text that is written, and whether all was accepted
+pub record Answer : Type 0 where
+  pub text : List ℕ
+  pub accepted : Bool
+
+-- what is answered where texts come to a bag, which is printed so, or to a refusal, which prints its line
+abbrev pub answer_of : (LimitedCollection → List ℕ) → Result LimitedCollection Refusal → Answer
+answer_of printed (Ok bag) = record { text = printed bag; accepted = true }
+answer_of printed (Err refusal) = record { text = refusal_line refusal; accepted = false }
+
+-- the answer to texts that come to a bag or a refusal
+abbrev pub IsAnswerTo : (LimitedCollection → List ℕ) → (Result LimitedCollection Refusal → Type 0) → Answer → Type 0
+IsAnswerTo printed ComesTo answer = (outcome : Result LimitedCollection Refusal) × ComesTo outcome × (answer ≡ answer_of printed outcome)
+
+-- the line of a bag that is accepted: ok PAIRS COPIES
+abbrev pub counts_line : LimitedCollection → List ℕ
+counts_line bag = concat (codes "ok " ∷ decimal (length bag.held) ∷ codes " " ∷ decimal (copies_in bag.held) ∷ codes "\n" ∷ [])
+
+-- nothing is printed of a bag that is loaded
+abbrev pub no_text : LimitedCollection → List ℕ
+no_text bag = []
+
+-- the answer to a dump that is loaded under limits
+abbrev pub LoadAnswers : Limits → List ℕ → Answer → Type 0
+LoadAnswers limits text = IsAnswerTo no_text (DumpReads limits text)
+
+-- the answer to a dump that is checked under limits
+abbrev pub CheckAnswers : Limits → List ℕ → Answer → Type 0
+CheckAnswers limits text = IsAnswerTo counts_line (DumpReads limits text)
+
+-- a bag that changes came to is printed as its dump
+abbrev pub dump_of : LimitedCollection → List ℕ
+dump_of bag = dump_text bag.held
+
+-- the answer to a dump and a journal that are replayed under limits
+abbrev pub ReplayAnswers : Limits → List ℕ → List ℕ → Answer → Type 0
+ReplayAnswers limits dump journal = IsAnswerTo dump_of (TextsReplay limits dump journal)
+
+-- the answer to a dump and a journal that are rewound under limits
+abbrev pub RewindAnswers : Limits → List ℕ → List ℕ → Answer → Type 0
+RewindAnswers limits dump journal = IsAnswerTo dump_of (TextsRewind limits dump journal)
+
+-- the answer that an error of the texts tells; want of memory tells none
+abbrev pub IsRefusalAnswer : TextsError → Answer → Type 0
+IsRefusalAnswer (Refused refusal) answer = answer ≡ record { text = refusal_line refusal; accepted = false }
+IsRefusalAnswer OutOfMemory answer = ⊥
+
+-- the answer that a bag or an error of the texts tells
+abbrev pub IsDumpAnswer : Result LimitedCollection TextsError → Answer → Type 0
+IsDumpAnswer (Ok bag) answer = answer ≡ answer_of dump_of (Ok bag)
+IsDumpAnswer (Err error) answer = IsRefusalAnswer error answer
+
+-- ---- telling them
+
+-- a text went out whole, and then a flush, the last thing that the sink was asked; with no text the sink was asked nothing
+abbrev pub Sends : {K : Type 0} → (K → Option (List ℕ)) → (K → K → Type 0) → K → K → List ℕ → Type 0
+Sends taken flushes old new [] = new ≡ old
+Sends {K} taken flushes old new (byte ∷ bytes) =
+    (written : K) × Appends (taken old) (taken written) (byte ∷ bytes) × flushes written new × Keeps (taken written) (taken new)
+
+-- a call tells the answer: it sends its text, and its own answer is whether all was accepted. Where the sink failed, a front of the text
+-- went out; where memory was wanted, nothing did
+abbrev pub Tells : {K : Type 0} → (K → Option (List ℕ)) → (K → K → Type 0) → (Answer → Type 0) → K → K → Result Bool RunFault → Type 0
+Tells taken flushes IsAnswer old new (Ok accepted) = (answer : Answer) × IsAnswer answer × Sends taken flushes old new answer.text × (accepted ≡ answer.accepted)
+Tells taken flushes IsAnswer old new (Err fault.Write) = (answer : Answer) × IsAnswer answer × AppendsFront (taken old) (taken new) answer.text
+Tells taken flushes IsAnswer old new (Err fault.OutOfMemory) = new ≡ old
+Tells taken flushes IsAnswer old new (Err fault.Read) = ⊥
+Tells taken flushes IsAnswer old new (Err fault.ReaderTooLong) = ⊥
+
+-- the answer of a call that loads: whether there is a store
+abbrev pub is_loaded : {A : Type 0} → Result (Option A) RunFault → Result Bool RunFault
+is_loaded (Ok loaded) = Ok (is_some loaded)
+is_loaded (Err fault) = Err fault

@@ -1,0 +1,42 @@
+ghost use Rattle.std.specs.Prelude.{◌≡◌, ◌+◌, IfErr, IfOk, IfSome};
+ghost use Rattle.s2ix_bag_pairs.specs.Collection.{LimitedCollection};
+ghost use Rattle.s2ix_edit_plan.specs.State.{starting_at};
+ghost use Rattle.s2ix_text_io.specs.Faults.{CanCount, IsWantOnlyIf, sink_faults};
+ghost use Rattle.s2ix_text_parts.specs.Faults.{IsFromLine};
+ghost use Rattle.s2ix_text_read_dump.specs.DumpFaults.{dump_fault};
+ghost use Rattle.s2ix_cli_files.specs.Answers.{LoadAnswers, Tells, is_loaded};
+ghost use Rattle.s2ix_cli_files.specs.Reads.{DumpReads};
+
+use crate::reads::dump_read;
+use crate::telling::tell_refusal;
+use s2ix_bag_pairs::Limits;
+use s2ix_edit::Store;
+use s2ix_text_io::{RunFault, Sink};
+use std::alloc::Global;
+
+/// Reads a dump under limits, and gives the store that starts from its bag. Where the dump is refused it tells `no NAME LINE` for the first
+/// faulty line, and gives `None`. O(n) for n bytes, and what [`Store::from_bag`] takes. Errors: see the crate.
+pub fn load_text<K: Sink>(
+    alloc: Global,
+    text: &[u8],
+    limits: Limits,
+    sink: &mut K,
+) -> Result<Option<Store>, RunFault>
+    requires { CanCount (K.fault_count sink.old) }
+    ensures told { Tells K.taken K.flushes (LoadAnswers limits text.now) sink.old sink.new (is_loaded result) }
+    ensures store { IfOk result (λ loaded. IfSome loaded (λ store.
+        (bag : LimitedCollection) × DumpReads limits text.now (Ok bag) × (store ≡ starting_at bag))) }
+    ensures memory { IfErr result (IsWantOnlyIf (IsFromLine 2 (dump_fault limits text.now))) }
+    ensures faults { K.fault_count sink.new ≡ K.fault_count sink.old + sink_faults result }
+{
+    match dump_read(alloc, text, limits) {
+        Ok(bag) => {
+            let store = Store::from_bag(alloc, bag)?;
+            Ok(Some(store))
+        }
+        Err(error) => {
+            tell_refusal(error, sink)?;
+            Ok(None)
+        }
+    }
+}

@@ -1,0 +1,50 @@
+ghost use Rattle.std.specs.Prelude.{◌≡◌, ◌+◌, IfErr};
+ghost use Rattle.s2ix_text_io.specs.Faults.{CanCount, IsWantOnlyIf, sink_faults};
+ghost use Rattle.s2ix_text_parts.specs.Faults.{IsFromLine};
+ghost use Rattle.s2ix_text_read_dump.specs.DumpFaults.{dump_fault};
+ghost use Rattle.s2ix_cli_files.specs.Answers.{ReplayAnswers, RewindAnswers, Tells};
+ghost use Rattle.s2ix_cli_files.specs.Widest.{widest};
+
+use crate::reads::{texts_replayed, texts_rewound};
+use crate::telling::tell_dump;
+use s2ix_bag_pairs::Limits;
+use s2ix_text_io::{RunFault, Sink};
+use std::alloc::Global;
+
+/// Reads a dump and then a journal under the widest limits, does the journal's changes to the dump's bag, and tells the dump of what they
+/// lead to. Else it tells the first thing that is refused: `no NAME LINE` for a line of the dump, `no journal NAME LINE` for one of the
+/// journal, `no Mismatch CHANGE ENTRY`, `no TooManyCopies CHANGE` or `no TooManyPairs CHANGE` for a change, all counted from 1. It answers
+/// whether all was accepted. It takes what the readers and [`replay`](s2ix_bag::replay) take. Errors: see the crate.
+pub fn replay_texts<K: Sink>(
+    alloc: Global,
+    dump: &[u8],
+    journal: &[u8],
+    sink: &mut K,
+) -> Result<bool, RunFault>
+    requires { CanCount (K.fault_count sink.old) }
+    ensures told { Tells K.taken K.flushes (ReplayAnswers widest dump.now journal.now) sink.old sink.new result }
+    ensures memory { IfErr result (IsWantOnlyIf (IsFromLine 2 (dump_fault widest dump.now))) }
+    ensures faults { K.fault_count sink.new ≡ K.fault_count sink.old + sink_faults result }
+{
+    tell_dump(
+        texts_replayed(alloc, dump, journal, Limits::default()),
+        sink,
+    )
+}
+
+/// Reads a dump and then a journal under the widest limits, takes the journal's changes back from the dump's bag, the last first, and tells
+/// the dump of what was before them. Else it tells the first thing that is refused, as [`replay_texts`] does. It answers whether all was
+/// accepted. It takes what the readers and [`rewind`](s2ix_bag::rewind) take. Errors: see the crate.
+pub fn rewind_texts<K: Sink>(
+    alloc: Global,
+    dump: &[u8],
+    journal: &[u8],
+    sink: &mut K,
+) -> Result<bool, RunFault>
+    requires { CanCount (K.fault_count sink.old) }
+    ensures told { Tells K.taken K.flushes (RewindAnswers widest dump.now journal.now) sink.old sink.new result }
+    ensures memory { IfErr result (IsWantOnlyIf (IsFromLine 2 (dump_fault widest dump.now))) }
+    ensures faults { K.fault_count sink.new ≡ K.fault_count sink.old + sink_faults result }
+{
+    tell_dump(texts_rewound(alloc, dump, journal, Limits::default()), sink)
+}

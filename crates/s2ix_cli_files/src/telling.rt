@@ -1,0 +1,67 @@
+//! Telling what texts came to.
+ghost use Rattle.std.specs.Prelude.{◌≡◌, ◌+◌, Err, IfErr};
+ghost use Rattle.s2ix_text_io.specs.Faults.{CanCount, IsWantOnlyIf, sink_faults};
+ghost use Rattle.s2ix_text_io.specs.Puts.{Writes};
+ghost use Rattle.s2ix_cli_files.specs.Answers.{IsDumpAnswer, IsRefusalAnswer, Tells, counts_line};
+
+use crate::refusal::{TextsError, write_refusal};
+use itoa::Buffer;
+use s2ix_bag::Bag;
+use s2ix_text_io::{RunFault, Sink, WriteFault, put_parts};
+use s2ix_text_write::write_dump;
+
+// Writes how many pairs and copies a bag holds.
+pub(crate) fn write_counts<K: Sink>(bag: &Bag, sink: &mut K) -> Result<(), WriteFault>
+    requires { CanCount (K.fault_count sink.old) }
+    ensures { Writes K.taken K.flush_mark K.fault_count sink.old sink.new result (counts_line bag.now) }
+{
+    let mut pairs = Buffer::new();
+    let mut copies = Buffer::new();
+    put_parts(
+        sink,
+        &[
+            b"ok ".as_slice(),
+            pairs.format(bag.len()).as_bytes(),
+            b" ",
+            copies.format(bag.copies()).as_bytes(),
+            b"\n",
+        ],
+    )
+}
+
+// Tells why texts do not come to a bag: the line of what is refused in them goes out, and the sink is flushed.
+pub(crate) fn tell_refusal<K: Sink>(error: TextsError, sink: &mut K) -> Result<bool, RunFault>
+    requires { CanCount (K.fault_count sink.old) }
+    ensures told { Tells K.taken K.flushes (IsRefusalAnswer error) sink.old sink.new result }
+    ensures memory { IfErr result (IsWantOnlyIf (error ≡ TextsError.OutOfMemory)) }
+    ensures faults { K.fault_count sink.new ≡ K.fault_count sink.old + sink_faults result }
+{
+    match error {
+        TextsError::Refused(refusal) => {
+            write_refusal(refusal, sink)?;
+            sink.flush()?;
+            Ok(false)
+        }
+        TextsError::OutOfMemory => Err(RunFault::OutOfMemory),
+    }
+}
+
+// Tells what changes came to: the dump of their bag goes out, or the line of what is refused, and the sink is flushed.
+pub(crate) fn tell_dump<K: Sink>(
+    outcome: Result<Bag, TextsError>,
+    sink: &mut K,
+) -> Result<bool, RunFault>
+    requires { CanCount (K.fault_count sink.old) }
+    ensures told { Tells K.taken K.flushes (IsDumpAnswer outcome) sink.old sink.new result }
+    ensures memory { IfErr result (IsWantOnlyIf (outcome ≡ Err TextsError.OutOfMemory)) }
+    ensures faults { K.fault_count sink.new ≡ K.fault_count sink.old + sink_faults result }
+{
+    match outcome {
+        Ok(bag) => {
+            write_dump(&bag, sink)?;
+            sink.flush()?;
+            Ok(true)
+        }
+        Err(error) => tell_refusal(error, sink),
+    }
+}

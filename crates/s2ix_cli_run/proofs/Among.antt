@@ -1,0 +1,174 @@
+-- Among the lines of a piece: those that have ended are carried out, the rest is to come.
+use Rattle.std.proofs.Common.{◌≡◌, ℕ, ◌+◌, min, Bool, true, false, ◌&&◌, if◌then◌else◌, Option, Some, List, [], ◌∷◌, ◌++◌, refl, sym, ap, ◌∙◌, subst, append_assoc, append-nil}
+use Rattle.std.specs.Io.KnownBytes.{Appends}
+use Rattle.std.proofs.KnownBytes.{Appends-kept}
+use Rattle.s2ix_edit_plan.specs.State.{State}
+use Rattle.s2ix_text_io.specs.Faults.{IsWantOnlyIf}
+use Rattle.s2ix_text_io.specs.Puts.{AppendsFront}
+use Rattle.s2ix_text_io.specs.declared.run_fault.RunFault.{RunFault}
+use Rattle.s2ix_text_io.specs.declared.run_fault.RunFault.TheVariants.{Read, Write, OutOfMemory, ReaderTooLong}
+use Rattle.s2ix_cli_step.specs.Carry.{is_counted, is_refused, Takes, StopsAt}
+use Rattle.s2ix_cli_step.specs.Step.{step_of}
+use Rattle.s2ix_cli_step.specs.Wants.{LineWants}
+use Rattle.s2ix_cli_step.specs.declared.outcome.LineOutcome.{LineOutcome}
+use Rattle.s2ix_cli_run.specs.declared.run_end.RunEnd.{RunEnd}
+use Rattle.s2ix_cli_run.specs.Coming.{ended_behind, unended_behind, kept_of, held_more}
+use Rattle.s2ix_cli_run.specs.Piece.{HasNoFeed, Reached, Stopped, CountsMore, FaultAmong}
+use Rattle.s2ix_cli_run.specs.Run.{KeepsOn, StandsAfter, line_left}
+use Rattle.s2ix_cli_run.specs.Script.{MOST, output_of}
+use Rattle.s2ix_cli_run.proofs.Feeds.{ended_behind-line, unended_behind-line, ended_behind-none, unended_behind-none}
+use Rattle.s2ix_cli_run.proofs.Holding.{held_more-of}
+use Rattle.s2ix_cli_run.proofs.Steps.{over, StandsAfter-none, StandsAfter-append, CountsMore-none, CountsMore-append, Reached-append, counted_one, plus_none}
+
+-- a line that is not refused with `stop` lets the run go on
+keeps_one : (stop : Bool) (s : State) (line : List ℕ) → stop && (step_of s line).is_refused ≡ false → KeepsOn stop s (line ∷ [])
+keeps_one stop s line on = λ e. rw (ap (λ b. b && (step_of s line).is_refused) (sym e) ∙ on) refl
+
+-- of the lines that end in a piece some are done; of the next one `front` has come, and the rest of the piece is left
+pub record Among (stop : Bool) (front piece rest : List ℕ) (old now : State) (held : Option (List ℕ)) (before behind : Option (List ℕ)) (start told : RunEnd) : Type 0 where
+  pub done : List (List ℕ)
+  pub come : List ℕ
+  pub is_held : held ≡ kept_of come
+  pub ended : ended_behind front piece ≡ done ++ ended_behind come rest
+  pub unended : unended_behind front piece ≡ unended_behind come rest
+  pub reached : Reached done (over stop old now before behind) start told
+
+-- nothing of the piece is done
+pub Among-none : (stop : Bool) (front piece : List ℕ) (s : State) (held : Option (List ℕ)) (out : Option (List ℕ)) (told : RunEnd)
+    → held ≡ kept_of front
+    → Among stop front piece piece s s held out out told told
+Among-none stop front piece s held out told is =
+    record {
+      done = [];
+      come = front;
+      is_held = is;
+      ended = refl;
+      unended = refl;
+      reached = record { keeps_on = λ e. refl; stands = StandsAfter-none stop s out; counts = CountsMore-none s told };
+    }
+
+-- one line
+Takes-stands : (stop : Bool) (line : List ℕ) (s new : State) (before behind : Option (List ℕ)) (outcome : LineOutcome)
+    → Takes (step_of s line) new before behind outcome → StandsAfter (line ∷ []) (over stop s new before behind)
+Takes-stands stop line s new before behind outcome taken = record { store = taken.store; output = subst (Appends before behind) (sym (append-nil (step_of s line).answer)) taken.output }
+
+with_one : (s : State) (line : List ℕ) (told more : RunEnd) (new : State) (before behind : Option (List ℕ)) (outcome : LineOutcome)
+    → Takes (step_of s line) new before behind outcome
+    → more.lines ≡ min (told.lines + (if is_counted outcome then 1 else 0)) MOST
+    → more.refused ≡ min (told.refused + (if is_refused outcome then 1 else 0)) MOST
+    → CountsMore (line ∷ []) s told more
+with_one s line told more new before behind outcome taken lines refused =
+    record {
+      lines = λ n e. counted_one n told.lines more.lines _ e lines ∙ ap (λ k. min (n + k) MOST) (ap (λ b. if b then 1 else 0) taken.counted ∙ sym (plus_none _));
+      refused = λ n e. counted_one n told.refused more.refused _ e refused ∙ ap (λ k. min (n + k) MOST) (ap (λ b. if b then 1 else 0) taken.refused ∙ sym (plus_none _));
+    }
+
+-- the loop goes on behind a line
+pub Among-on : (stop : Bool) (front piece rest end behind_it : List ℕ) (old now new : State) (held : Option (List ℕ)) (before mid behind : Option (List ℕ)) (start told more : RunEnd) (outcome : LineOutcome)
+    → (a : Among stop front piece rest old now held before mid start told) → rest ≡ end ++ 10 ∷ behind_it → HasNoFeed end
+    → Takes (step_of now (a.come ++ end)) new mid behind outcome
+    → more.lines ≡ min (told.lines + (if is_counted outcome then 1 else 0)) MOST
+    → more.refused ≡ min (told.refused + (if is_refused outcome then 1 else 0)) MOST
+    → stop && is_refused outcome ≡ false → (held' : Option (List ℕ)) → held' ≡ kept_of []
+    → Among stop front piece behind_it old new held' before behind start more
+Among-on stop front piece rest end behind_it old now new held before mid behind start told more outcome a cut none taken lines refused on held' is =
+    let line = a.come ++ end in
+    let one : Reached (line ∷ []) (over stop now new mid behind) told more =
+    record {
+      keeps_on = keeps_one stop now line (ap (λ b. stop && b) (sym taken.refused) ∙ on);
+      stands = Takes-stands stop line now new mid behind outcome taken;
+      counts = with_one now line told more new mid behind outcome taken lines refused;
+    } in
+    record {
+      done = a.done ++ line ∷ [];
+      come = [];
+      is_held = is;
+      ended = a.ended ∙ ap (λ l. a.done ++ l) (ap (ended_behind a.come) cut ∙ ended_behind-line a.come end behind_it none) ∙ sym (append_assoc a.done (line ∷ []) (ended_behind [] behind_it));
+      unended = a.unended ∙ ap (unended_behind a.come) cut ∙ unended_behind-line a.come end behind_it none;
+      reached = Reached-append stop a.done (line ∷ []) old now new before mid behind start told more a.reached one;
+    }
+
+-- a line that is refused ends the run
+pub Among-stopped : (stop : Bool) (front piece rest end behind_it : List ℕ) (old now new : State) (held : Option (List ℕ)) (before mid behind : Option (List ℕ)) (start told more : RunEnd) (outcome : LineOutcome)
+    → (a : Among stop front piece rest old now held before mid start told) → rest ≡ end ++ 10 ∷ behind_it → HasNoFeed end
+    → Takes (step_of now (a.come ++ end)) new mid behind outcome
+    → more.lines ≡ min (told.lines + (if is_counted outcome then 1 else 0)) MOST
+    → more.refused ≡ min (told.refused + (if is_refused outcome then 1 else 0)) MOST
+    → stop ≡ true → is_refused outcome ≡ true → Stopped (ended_behind front piece) (over stop old new before behind) start more
+Among-stopped stop front piece rest end behind_it old now new held before mid behind start told more outcome a cut none taken lines refused stops is =
+    let line = a.come ++ end in
+    record {
+      done = a.done;
+      line = line;
+      rest = ended_behind [] behind_it;
+      are = a.ended ∙ ap (λ l. a.done ++ l) (ap (ended_behind a.come) cut ∙ ended_behind-line a.come end behind_it none);
+      keeps_on = a.reached.keeps_on;
+      stops = stops;
+      refused = ap (λ s. (step_of s line).is_refused) (sym a.reached.stands.store) ∙ sym taken.refused ∙ is;
+      stands = StandsAfter-append stop a.done (line ∷ []) old now new before mid behind a.reached.stands (Takes-stands stop line now new mid behind outcome taken);
+      counts = CountsMore-append a.done (line ∷ []) old now start told more a.reached.stands.store a.reached.counts (with_one now line told more new mid behind outcome taken lines refused);
+    }
+
+-- a fault ends a line of some
+FaultAmong-line : (fault : RunFault) (stop : Bool) (lines done rest : List (List ℕ)) (line : List ℕ) (old now new : State) (before mid behind : Option (List ℕ))
+    → lines ≡ done ++ line ∷ rest
+    → KeepsOn stop old done → StandsAfter done (over stop old now before mid) → StopsAt (step_of now line) now new mid behind fault
+    → IsWantOnlyIf (LineWants now line) fault
+    → FaultAmong fault lines (over stop old new before behind)
+FaultAmong-line Read stop lines done rest line old now new before mid behind are on stands at wants = absurd at
+FaultAmong-line ReaderTooLong stop lines done rest line old now new before mid behind are on stands at wants = absurd at
+FaultAmong-line OutOfMemory stop lines done rest line old now new before mid behind are on stands at wants =
+    record {
+      done = done;
+      line = line;
+      rest = rest;
+      are = are;
+      keeps_on = on;
+      stands = record { store = at.0 ∙ stands.store; output = Appends-kept before mid behind (output_of old done) stands.output at.1 };
+      wants = subst (λ s. LineWants s line) (sym at.0) (wants refl);
+    }
+FaultAmong-line Write stop lines done rest line old now new before mid behind are on stands at wants =
+    record {
+      done = done;
+      line = line;
+      rest = rest;
+      are = are;
+      keeps_on = on;
+      store = at.0 ∙ ap (λ s. (step_of s line).after) stands.store;
+      mid = mid;
+      output = stands.output;
+      cut = subst (λ s. AppendsFront mid behind (step_of s line).answer) stands.store at.1;
+    }
+
+pub Among-fault : (fault : RunFault) (stop : Bool) (front piece rest end behind_it : List ℕ) (old now new : State) (held : Option (List ℕ)) (before mid behind : Option (List ℕ)) (start told : RunEnd)
+    → (a : Among stop front piece rest old now held before mid start told) → rest ≡ end ++ 10 ∷ behind_it → HasNoFeed end
+    → StopsAt (step_of now (a.come ++ end)) now new mid behind fault
+    → IsWantOnlyIf (LineWants now (a.come ++ end)) fault → FaultAmong fault (ended_behind front piece) (over stop old new before behind)
+Among-fault fault stop front piece rest end behind_it old now new held before mid behind start told a cut none at wants =
+    FaultAmong-line fault stop (ended_behind front piece) a.done (ended_behind [] behind_it) (a.come ++ end) old now new before mid behind
+    (a.ended ∙ ap (λ l. a.done ++ l) (ap (ended_behind a.come) cut ∙ ended_behind-line a.come end behind_it none))
+    a.reached.keeps_on a.reached.stands at wants
+
+-- no line ends in the rest, which is held
+pub Among-end : (stop : Bool) (front piece rest : List ℕ) (old now : State) (held held' : Option (List ℕ)) (before behind : Option (List ℕ)) (start told : RunEnd)
+    → Among stop front piece rest old now held before behind start told → HasNoFeed rest → held' ≡ held_more held rest
+    → Reached (ended_behind front piece) (over stop old now before behind) start told × (held' ≡ kept_of (unended_behind front piece))
+Among-end stop front piece rest old now held held' before behind start told a none is = (
+  subst (λ l. Reached l (over stop old now before behind) start told) (sym (a.ended ∙ ap (λ l. a.done ++ l) (ended_behind-none a.come rest none) ∙ append-nil a.done)) a.reached,
+  is ∙ ap (λ h. held_more h rest) a.is_held ∙ held_more-of a.come rest ∙ ap kept_of (sym (a.unended ∙ unended_behind-none a.come rest none)),
+)
+
+-- ---- the last line
+
+-- a line with a byte
+last_is : (front : List ℕ) → (Some [] ≡ kept_of front → ⊥) → line_left front ≡ front ∷ []
+last_is [] some = absurd (some refl)
+last_is (byte ∷ front) some = refl
+
+pub CarriesLast-fault : (fault : RunFault) (stop : Bool) (front : List ℕ) (s new : State) (before behind : Option (List ℕ))
+    → (Some [] ≡ kept_of front → ⊥)
+    → StopsAt (step_of s (front ++ [])) s new before behind fault → IsWantOnlyIf (LineWants s (front ++ [])) fault
+    → FaultAmong fault (line_left front) (over stop s new before behind)
+CarriesLast-fault fault stop front s new before behind some at wants =
+    FaultAmong-line fault stop (line_left front) [] [] front s s new before before behind (last_is front some) (λ e. refl) (StandsAfter-none stop s before)
+    (subst (λ l. StopsAt (step_of s l) s new before behind fault) (append-nil front) at) (subst (λ l. IsWantOnlyIf (LineWants s l) fault) (append-nil front) wants)

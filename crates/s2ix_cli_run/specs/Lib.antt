@@ -1,0 +1,6 @@
+pub mod Coming
+pub mod Laws
+pub mod Piece
+pub mod Run
+pub mod Script
+pub mod Wants

@@ -1,0 +1,41 @@
+//! Laws: functions that do nothing, and whose contracts are facts on the definitions.
+ghost use Rattle.std.specs.Prelude.{◌≡◌, ◌↔◌, IsTrue};
+ghost use Rattle.s2ix_cli_run.specs.Laws.{JournalLeadsBack, JournalLeadsOn, UndoRestoresTheDump, UndoRestoresWhatIsPrinted};
+ghost use Rattle.s2ix_cli_run.specs.declared.run_end.RunEnd.{RunEnd};
+ghost use Rattle.s2ix_cli_run.specs.declared.run_end.RunOptions.{RunOptions};
+
+use crate::run_end::{RunEnd, RunOptions};
+
+/// Behind a line with an edit that is accepted, and one with an undo, each question prints what it would have printed before the edit: the
+/// same dump, and the same answer to any other.
+pub fn undo_restores_what_is_printed()
+    ensures dump { UndoRestoresTheDump }
+    ensures questions { UndoRestoresWhatIsPrinted }
+{}
+
+/// A script prints a dump before anything is done, and a journal and a second dump at its end. If no line between forgets what was done, a
+/// replay of the journal leads from the first dump to the second, and a rewind from the second to the first, byte for byte.
+pub fn journal_leads_from_dump_to_dump()
+    ensures replay { JournalLeadsOn }
+    ensures rewind { JournalLeadsBack }
+{}
+
+/// Two ends of runs are equal exactly where they are one.
+pub fn equal_run_ends_are_one()
+    ensures { (a b : RunEnd) → IsTrue (⟦<RunEnd as PartialEq>⟧.eq a b) ↔ (a ≡ b) }
+{}
+
+/// A clone of a run's end is the same.
+pub fn cloned_run_ends_are_the_same()
+    ensures { (a copy : RunEnd) → ⟦<RunEnd as Clone>⟧.is_clone a copy ↔ (copy ≡ a) }
+{}
+
+/// Two runs' options are equal exactly where they are one.
+pub fn equal_run_options_are_one()
+    ensures { (a b : RunOptions) → IsTrue (⟦<RunOptions as PartialEq>⟧.eq a b) ↔ (a ≡ b) }
+{}
+
+/// A clone of a run's options is the same.
+pub fn cloned_run_options_are_the_same()
+    ensures { (a copy : RunOptions) → ⟦<RunOptions as Clone>⟧.is_clone a copy ↔ (copy ≡ a) }
+{}

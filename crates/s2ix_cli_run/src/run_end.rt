@@ -1,0 +1,49 @@
+ghost use Rattle.std.specs.Prelude.{◌≡◌, ◌+◌, min, if◌then◌else◌};
+ghost use Rattle.s2ix_cli_step.specs.Carry.{is_counted, is_refused};
+ghost use Rattle.s2ix_cli_run.specs.Script.{MOST};
+
+use s2ix_cli_step::LineOutcome;
+
+/// How a run goes on.
+#[derive(Clone, Copy, Debug, PartialEq, Eq)]
+pub struct RunOptions {
+    /// Whether the first refused line ends the run.
+    pub stop: bool,
+    /// How many pieces may be read, the empty one at the end counted. With 0 none is, and the reader is too long.
+    pub turns: u64,
+}
+
+/// What a run that came to its end tells. Both numbers stay at 2^64 - 1 once there.
+#[derive(Clone, Copy, Debug, PartialEq, Eq)]
+pub struct RunEnd {
+    /// How many lines were carried out or refused; blank lines and comments do not count.
+    pub lines: u64,
+    /// How many of them were refused.
+    pub refused: u64,
+}
+
+impl RunEnd {
+    // The counts before the first line.
+    pub(crate) const NONE: RunEnd = RunEnd {
+        lines: 0,
+        refused: 0,
+    };
+
+    // The counts with one more line.
+    pub(crate) fn with(self, outcome: LineOutcome) -> RunEnd
+        ensures lines { result.lines ≡ min (self.lines + (if is_counted outcome then 1 else 0)) MOST }
+        ensures refused { result.refused ≡ min (self.refused + (if is_refused outcome then 1 else 0)) MOST }
+    {
+        match outcome {
+            LineOutcome::PassedOver => self,
+            LineOutcome::Accepted => RunEnd {
+                lines: self.lines.saturating_add(1),
+                refused: self.refused,
+            },
+            LineOutcome::Refused => RunEnd {
+                lines: self.lines.saturating_add(1),
+                refused: self.refused.saturating_add(1),
+            },
+        }
+    }
+}

@@ -1,0 +1,5 @@
+mod CellFields
+pub mod WantedFields
+mod Comments
+mod Equal
+mod WantedLines

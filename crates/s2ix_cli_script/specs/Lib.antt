@@ -1,0 +1,5 @@
+pub mod Named
+pub mod FaultNames
+pub mod Lines
+pub mod Meaning
+pub mod RefusalNames

@@ -1,0 +1,70 @@
+//! The cells that the fields of a line name, as their normal union. Memory is taken here alone, and only where each of these fields
+//! names a cell.
+ghost use Rattle.std.specs.Prelude.{◌≡◌, Ok, ◌∷◌, true, MatchResult};
+ghost use Rattle.s2ix_cli_script.specs.Named.{IsFault, Means, add_union_named as add_union_of, cells_named, is_add_union, union_named as union_in, union_of as union_that};
+
+use crate::fields::{cell_from_field, label_from_field};
+use crate::line_fault::{LineError, LineFault};
+use s2id_core::CellId;
+use s2id_union::CellUnion;
+use s2ix_cli_fields::Fields;
+use s2ix_edit_plan::Edit;
+use std::alloc::Global;
+
+/// The edit of `addunion`, whose label and cells the fields LABEL TOKEN.. name, of which one token at least stands there.
+///
+/// Errors, the first that applies: `BadArguments` for less than two fields, `BadLabel`, `BadToken`; `OutOfMemory` where room for the cells
+/// was wanted. O(n) for n bytes, and what it takes to normalise the cells.
+#[tactic(auto, using(crate::proofs::WantedFields::wanting))]
+pub fn add_union_named(alloc: Global, mut fields: Fields<'_>) -> Result<Edit, LineError>
+    ensures { Means is_add_union result (add_union_of fields.entry) }
+{
+    let (Some(label), Some(first)) = (fields.next(), fields.next()) else {
+        return Err(LineError::Fault(LineFault::BadArguments));
+    };
+    let label = label_from_field(label)?;
+    let union = union_of(alloc, first, fields)?;
+    Ok(Edit::AddUnion { union, label })
+}
+
+/// The normal union of the cells that the fields TOKEN.. name, of which one at least stands there.
+///
+/// Errors, the first that applies: `BadArguments` for no field, `BadToken`; `OutOfMemory` where room for the cells was wanted. O(n) for n
+/// bytes, and what it takes to normalise the cells.
+pub fn union_named(alloc: Global, mut fields: Fields<'_>) -> Result<CellUnion, LineError>
+    ensures { Means (λ _. true) result (union_in fields.entry) }
+{
+    let Some(token) = fields.next() else {
+        return Err(LineError::Fault(LineFault::BadArguments));
+    };
+    union_of(alloc, token, fields)
+}
+
+// The normal union of the cells that the fields TOKEN.. name, the first of them and the rest.
+#[tactic(auto, using(crate::proofs::WantedFields::wanting))]
+fn union_of(alloc: Global, first: &[u8], rest: Fields<'_>) -> Result<CellUnion, LineError>
+    ensures { Means (λ _. true) result (union_that (first.now ∷ rest.entry)) }
+{
+    let cells = read_cells(alloc, first, rest)?;
+    Ok(CellUnion::normalise(alloc, &cells)?)
+}
+
+// The cells that the fields TOKEN.. name, the first of them and the rest. Where room was refused for one, those behind it are read all the
+// same: only a list without a fault wants memory.
+#[tactic(auto, using(crate::proofs::WantedFields::wanting))]
+fn read_cells(alloc: Global, first: &[u8], rest: Fields<'_>) -> Result<Vec<CellId>, LineError>
+    ensures { MatchResult result
+        (λ cells. cells_named (first.now ∷ rest.entry) ≡ Ok cells.items)
+        (λ error. IsFault (λ _. true) error (cells_named (first.now ∷ rest.entry))) }
+{
+    let mut cells = Vec::new(alloc);
+    let mut has_room = cells.push(cell_from_field(first)?).is_ok();
+    'tokens: for token in rest {
+        let cell = cell_from_field(token)?;
+        has_room = has_room && cells.push(cell).is_ok();
+    }
+    if !has_room {
+        return Err(LineError::OutOfMemory);
+    }
+    Ok(cells)
+}

@@ -1,0 +1,60 @@
+//! The edits that fields name, but for that of a union of cells.
+ghost use Rattle.std.specs.Prelude.{◌≡◌};
+ghost use Rattle.s2ix_cli_script.specs.Named.{drop_named as drop_of, grow_named as grow_of, normal_named as normal_of, relabel_named as relabel_of, revert_named as revert_of};
+
+use crate::fields::{label_from_field, label_named, labels_named, one_field, two_fields};
+use crate::line_fault::LineFault;
+use s2ix_cli_fields::{Fields, change_number_spelled, level_spelled};
+use s2ix_edit_plan::Edit;
+
+/// The edit of `drop`, whose label the one field LABEL names.
+///
+/// Errors, the first that applies: `BadArguments` for another number of fields, `BadLabel`.
+pub fn drop_named(fields: &mut Fields<'_>) -> Result<Edit, LineFault>
+    ensures { result ≡ drop_of fields.old }
+{
+    let label = label_named(fields)?;
+    Ok(Edit::DropLabel { label })
+}
+
+/// The edit of `relabel`, whose labels the two fields SOURCE TARGET name.
+///
+/// Errors, the first that applies: `BadArguments` for another number of fields, `BadLabel`.
+pub fn relabel_named(fields: &mut Fields<'_>) -> Result<Edit, LineFault>
+    ensures { result ≡ relabel_of fields.old }
+{
+    let (source, target) = labels_named(fields)?;
+    Ok(Edit::Relabel { source, target })
+}
+
+/// The edit of `grow`, whose label and level the two fields LABEL LEVEL name.
+///
+/// Errors, the first that applies: `BadArguments` for another number of fields, `BadLabel`, `BadLevel`.
+pub fn grow_named(fields: &mut Fields<'_>) -> Result<Edit, LineFault>
+    ensures { result ≡ grow_of fields.old }
+{
+    let (label, level) = two_fields(fields)?;
+    let label = label_from_field(label)?;
+    let level = level_spelled(level).ok_or(LineFault::BadLevel)?;
+    Ok(Edit::Grow { label, level })
+}
+
+/// The edit of `normal`, whose label the one field LABEL names.
+///
+/// Errors, the first that applies: `BadArguments` for another number of fields, `BadLabel`.
+pub fn normal_named(fields: &mut Fields<'_>) -> Result<Edit, LineFault>
+    ensures { result ≡ normal_of fields.old }
+{
+    let label = label_named(fields)?;
+    Ok(Edit::Normalise { label })
+}
+
+/// The edit of `revert`, whose change the one field NUMBER names.
+///
+/// Errors, the first that applies: `BadArguments` for another number of fields, `BadNumber`.
+pub fn revert_named(fields: &mut Fields<'_>) -> Result<Edit, LineFault>
+    ensures { result ≡ revert_of fields.old }
+{
+    let number = change_number_spelled(one_field(fields)?).ok_or(LineFault::BadNumber)?;
+    Ok(Edit::Revert { number })
+}

@@ -1,0 +1,43 @@
+//! Laws: functions that do nothing, and whose contracts are facts on the definitions.
+ghost use Rattle.std.specs.Prelude.{◌≡◌, ◌↔◌, IsTrue};
+ghost use Rattle.s2ix_cli_script.specs.declared.line_fault.LineError.{LineError};
+ghost use Rattle.s2ix_cli_script.specs.declared.line_fault.LineFault.{LineFault};
+ghost use Rattle.s2ix_cli_script.specs.declared.instruction.Instruction.{Instruction};
+
+use crate::instruction::Instruction;
+use crate::line_fault::{LineError, LineFault};
+use s2id_union::laws::equal_unions_are_one;
+use s2ix_edit_plan::laws::equal_edits_are_one;
+
+/// Two faults of lines are equal exactly where they are one.
+pub fn equal_line_faults_are_one()
+    ensures { (a b : LineFault) → IsTrue (⟦<LineFault as PartialEq>⟧.eq a b) ↔ (a ≡ b) }
+{}
+
+/// A clone of a line's fault is the same.
+pub fn cloned_line_faults_are_the_same()
+    ensures { (a copy : LineFault) → ⟦<LineFault as Clone>⟧.is_clone a copy ↔ (copy ≡ a) }
+{}
+
+/// Two errors of lines are equal exactly where they are one.
+pub fn equal_line_errors_are_one()
+    ensures { (a b : LineError) → IsTrue (⟦<LineError as PartialEq>⟧.eq a b) ↔ (a ≡ b) }
+{}
+
+/// A clone of a line's error is the same.
+pub fn cloned_line_errors_are_the_same()
+    ensures { (a copy : LineError) → ⟦<LineError as Clone>⟧.is_clone a copy ↔ (copy ≡ a) }
+{}
+
+/// Two instructions are equal exactly where they are one.
+pub fn equal_instructions_are_one()
+    ensures { (a b : Instruction) → IsTrue (⟦<Instruction as PartialEq>⟧.eq a b) ↔ (a ≡ b) }
+{
+    equal_edits_are_one();
+    equal_unions_are_one();
+}
+
+/// A clone of an instruction is the same.
+pub fn cloned_instructions_are_the_same()
+    ensures { (a copy : Instruction) → ⟦<Instruction as Clone>⟧.is_clone a copy ↔ (copy ≡ a) }
+{}

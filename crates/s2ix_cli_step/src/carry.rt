@@ -1,0 +1,96 @@
+//! Carrying one line out: from its bytes to what it asks for, to the store's step and the answer.
+ghost use Rattle.std.specs.Prelude.{◌≡◌, ◌+◌, IfErr};
+ghost use Rattle.s2ix_text_io.specs.Faults.{CanCount, sink_faults, IsWantOnlyIf};
+ghost use Rattle.s2ix_cli_step.specs.Carry.{Carries};
+ghost use Rattle.s2ix_cli_step.specs.Step.{instruction_step, step_of};
+ghost use Rattle.s2ix_cli_step.specs.Wants.{InstructionWants, LineWants};
+
+use crate::outcome::LineOutcome;
+use crate::queries::{carry_at, print_export, print_labels, print_meeting, print_ranges};
+use crate::regions::{common, only, print_region};
+use crate::steps::tell_step;
+use s2id_cube::to_face_ij;
+use s2ix_cli_answers::{write_neighbors, write_no, write_ok, write_path, write_square};
+use s2ix_cli_script::{Instruction, LineError, meaning};
+use s2ix_edit::Store;
+use s2ix_text_io::{RunFault, Sink};
+use s2ix_text_write::{write_dump, write_journal};
+use std::alloc::Global;
+
+/// Carries a line out over a store, and prints its answer. The line comes without its line feed. A line that is refused prints `no`
+/// with the refusal's name, and changes nothing. Nothing is flushed. It takes what the line's instruction takes, and O(n) for a line of n
+/// bytes.
+///
+/// `OutOfMemory` where a growth was refused: nothing has changed then, and nothing was printed. `Write` where the sink failed: what
+/// the line does is done, and a front of its answer went out.
+#[tactic(auto, using(crate::proofs::WantedMemory::line_wants), unfolding(crate::specs::Step::step_of))]
+pub fn carry_out<K: Sink>(
+    alloc: Global,
+    store: &mut Store,
+    sink: &mut K,
+    line: &[u8],
+) -> Result<LineOutcome, RunFault>
+    requires { CanCount (K.fault_count sink.old) }
+    ensures carries { Carries (step_of store.old line.now) store.old store.new (K.taken sink.old) (K.taken sink.new) result }
+    ensures memory { IfErr result (IsWantOnlyIf (LineWants store.old line.now)) }
+    ensures unflushed { K.flush_mark sink.new ≡ K.flush_mark sink.old }
+    ensures faults { K.fault_count sink.new ≡ K.fault_count sink.old + sink_faults result }
+{
+    match meaning(alloc, line) {
+        Ok(asked) => match asked {
+            None => Ok(LineOutcome::PassedOver),
+            Some(instruction) => carry_instruction(alloc, store, sink, instruction),
+        },
+        Err(LineError::Fault(fault)) => {
+            write_no(fault.name(), sink)?;
+            Ok(LineOutcome::Refused)
+        }
+        Err(LineError::OutOfMemory) => Err(RunFault::OutOfMemory),
+    }
+}
+
+/// Carries an instruction out over a store, and prints its answer, as [`carry_out`] does for a line that asks for it. It takes what its
+/// edit, step or query takes; `at`, `meet`, `ranges`, `dump` and `journal` print as they go.
+///
+/// `OutOfMemory` where a growth was refused: nothing has changed then, and nothing was printed. `Write` where the sink failed: what
+/// the instruction does is done, and a front of its answer went out.
+pub fn carry_instruction<K: Sink>(
+    alloc: Global,
+    store: &mut Store,
+    sink: &mut K,
+    instruction: Instruction,
+) -> Result<LineOutcome, RunFault>
+    requires { CanCount (K.fault_count sink.old) }
+    ensures carries { Carries (instruction_step store.old instruction) store.old store.new (K.taken sink.old) (K.taken sink.new) result }
+    ensures memory { IfErr result (IsWantOnlyIf (InstructionWants store.old instruction)) }
+    ensures unflushed { K.flush_mark sink.new ≡ K.flush_mark sink.old }
+    ensures faults { K.fault_count sink.new ≡ K.fault_count sink.old + sink_faults result }
+{
+    match instruction {
+        Instruction::Edit(edit) => return tell_step(store.edit(&edit), sink),
+        Instruction::Undo => return tell_step(store.undo(), sink),
+        Instruction::Redo => return tell_step(store.redo(), sink),
+        Instruction::Forget => {
+            store.forget();
+            write_ok(0, sink)?;
+        }
+        Instruction::At(cell) => return carry_at(store, sink, cell),
+        Instruction::Meet(target) => return print_meeting(store, sink, &target),
+        Instruction::Labels(target) => return print_labels(alloc, store, sink, &target),
+        Instruction::Region(label) => return print_region(store.region(label), sink),
+        Instruction::Common(first, second) => {
+            return print_region(common(alloc, store, first, second), sink);
+        }
+        Instruction::Only(first, second) => {
+            return print_region(only(alloc, store, first, second), sink);
+        }
+        Instruction::Ranges => return print_ranges(store, sink),
+        Instruction::Path(cell) => write_path(cell, sink)?,
+        Instruction::Neighbors(cell) => write_neighbors(cell, sink)?,
+        Instruction::Face(cell) => write_square(to_face_ij(cell), sink)?,
+        Instruction::Dump => write_dump(store.bag(), sink)?,
+        Instruction::Journal => write_journal(store.done(), sink)?,
+        Instruction::Export => return print_export(alloc, store, sink),
+    }
+    Ok(LineOutcome::Accepted)
+}

@@ -1,0 +1,97 @@
+//! Telling what a step of the store came to: how many pairs changed, or why it was refused.
+ghost use Rattle.std.specs.Prelude.{◌≡◌, ◌≢◌, ◌↔◌, ◌+◌, ℕ, List, Err, IfErr, IfSome, IsNone};
+ghost use Rattle.s2ix_edit_plan.specs.declared.errors.EditError.{EditError};
+ghost use Rattle.s2ix_edit_plan.specs.declared.errors.RedoError.{RedoError};
+ghost use Rattle.s2ix_edit_plan.specs.declared.errors.UndoError.{UndoError};
+ghost use Rattle.s2ix_edit_plan.specs.State.{State};
+ghost use Rattle.s2ix_text_io.specs.Faults.{CanCount, sink_faults, IsWantOnlyIf};
+ghost use Rattle.s2ix_cli_script.specs.RefusalNames.{edit_error_name as name_of_edit_error, redo_error_name as name_of_redo_error, undo_error_name as name_of_undo_error};
+ghost use Rattle.s2ix_cli_step.specs.Carry.{Carries, IsTold};
+ghost use Rattle.s2ix_cli_step.specs.Step.{Step};
+
+use crate::outcome::LineOutcome;
+use s2ix_cli_answers::{write_no, write_ok};
+use s2ix_cli_script::{edit_error_name, redo_error_name, undo_error_name};
+use s2ix_edit_plan::{EditError, RedoError, UndoError};
+use s2ix_text_io::{RunFault, Sink};
+
+// Why a step of the store was refused.
+pub(crate) trait StepError: Copy {
+    // the name that is printed
+    ghost printed: { Self → List ℕ };
+
+    // the one that is never printed, since it ends the run
+    ghost want: { Self };
+
+    // The name that is printed, or `None` where memory was wanted.
+    fn printed_name(self) -> Option<&'static str>
+        ensures name { IfSome result (λ name. name.now ≡ printed self) }
+        ensures memory { IsNone result ↔ (self ≡ want) };
+}
+
+impl StepError for EditError {
+    ghost printed = { name_of_edit_error };
+
+    ghost want = { EditError.OutOfMemory };
+
+    fn printed_name(self) -> Option<&'static str> {
+        match self {
+            EditError::OutOfMemory => None,
+            _ => Some(edit_error_name(self)),
+        }
+    }
+}
+
+impl StepError for UndoError {
+    ghost printed = { name_of_undo_error };
+
+    ghost want = { UndoError.OutOfMemory };
+
+    fn printed_name(self) -> Option<&'static str> {
+        match self {
+            UndoError::OutOfMemory => None,
+            _ => Some(undo_error_name(self)),
+        }
+    }
+}
+
+impl StepError for RedoError {
+    ghost printed = { name_of_redo_error };
+
+    ghost want = { RedoError.OutOfMemory };
+
+    fn printed_name(self) -> Option<&'static str> {
+        match self {
+            RedoError::OutOfMemory => None,
+            _ => Some(redo_error_name(self)),
+        }
+    }
+}
+
+// Tells what a step of the store came to. Where memory was wanted, the run ends, and nothing is printed.
+pub(crate) fn tell_step<E: StepError, K: Sink>(
+    told: Result<usize, E>,
+    sink: &mut K,
+) -> Result<LineOutcome, RunFault>
+    requires { CanCount (K.fault_count sink.old) }
+    ensures carries { (step : Step) (old new : State)
+        → IsTold E.printed E.want step old new told
+        → Carries step old new (K.taken sink.old) (K.taken sink.new) result }
+    ensures memory { IfErr result (IsWantOnlyIf (told ≡ Err E.want)) }
+    ensures unflushed { K.flush_mark sink.new ≡ K.flush_mark sink.old }
+    ensures faults { K.fault_count sink.new ≡ K.fault_count sink.old + sink_faults result }
+{
+    match told {
+        Ok(pairs) => {
+            write_ok(pairs, sink)?;
+            Ok(LineOutcome::Accepted)
+        }
+        Err(error) => {
+            let Some(name) = error.printed_name() else {
+                return Err(RunFault::OutOfMemory);
+            };
+            write_no(name, sink)?;
+            Ok(LineOutcome::Refused)
+        }
+    }
+}

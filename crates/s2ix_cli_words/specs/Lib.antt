@@ -1,0 +1,5 @@
+pub mod Tree
+pub mod Help
+pub mod Words
+pub mod Flushing
+pub mod Statuses

@@ -1,0 +1,55 @@
+//! What is told where the words ask for no command.
+ghost use Rattle.s2ix_cli_words.specs.Words.{IsUsage};
+
+use crate::WordsFault;
+use crate::shown::{error_text, on_one_line};
+use crate::tree::limit_error;
+use std::alloc::{AllocError, Global};
+
+/// Usage with this text.
+pub(crate) fn usage(alloc: Global, text: &str) -> WordsFault
+    ensures { IsUsage result }
+{
+    told(String::from_str(alloc, text))
+}
+
+/// The usage of a value that is no number in the range of its option, a limit.
+pub(crate) fn limit_usage(alloc: Global, option: &str, value: &str, greatest: u32) -> WordsFault
+    ensures { IsUsage result }
+{
+    told(limit_text(alloc, option, value, greatest))
+}
+
+// What clap says of a value that is no number in the range of its option.
+fn limit_text(
+    alloc: Global,
+    option: &str,
+    value: &str,
+    greatest: u32,
+) -> Result<String, AllocError> {
+    let value = on_one_line(alloc, value)?;
+    error_text(
+        alloc,
+        &limit_error(alloc, option, value.as_str(), greatest)?,
+    )
+}
+
+/// What is told of a word that is no UTF-8: usage that names it, with escapes for its bytes, or want of memory. O(n) for a word of n bytes.
+pub fn not_utf8(alloc: Global, word: &[u8]) -> WordsFault
+    ensures usage { IsUsage result }
+{
+    let word = word.escape_ascii();
+    told(format!(in alloc;
+        "error: the word '{word}' is no UTF-8\n\nFor more information, try '--help'.\n"
+    ))
+}
+
+// Usage with this text, where there was room for it.
+fn told(text: Result<String, AllocError>) -> WordsFault
+    ensures { IsUsage result }
+{
+    match text {
+        Ok(text) => WordsFault::Usage(text),
+        Err(_) => WordsFault::OutOfMemory,
+    }
+}

@@ -1,0 +1,60 @@
+ghost use Rattle.std.specs.Prelude.{◌≡◌, IfErr, IfOk, map, string_bytes};
+ghost use Rattle.clap.specs.Words.{kind_of};
+ghost use Rattle.s2ix_cli_words.specs.Words.{AreRefused, AskFor, IsToldAs};
+
+use crate::given::command_met;
+use crate::limits::LimitHelp;
+use crate::shown::words_text;
+use crate::tree::program;
+use crate::{Command, WordsFault};
+use clap::Error;
+use clap::error::ErrorKind;
+use std::alloc::Global;
+
+/// The command that the program's words ask for. The words are those behind the program's own name.
+///
+/// The words are read by clap: an option is given once at most, as `--max-pairs 5` or `--max-pairs=5`, options come in any order, and
+/// behind `--` each word is a file. A limit is read as Rust reads a `u32`, and one that is not given is as wide as it may be.
+/// O(n) for words of n bytes.
+///
+/// What is told of a word has an escape for each of its control characters.
+///
+/// It answers `HelpAsked` and `VersionAsked` where the words ask for these, `Usage` where they ask for no command, a limit out of its range
+/// too, and `OutOfMemory` where a growth was refused.
+pub fn command_of(alloc: Global, words: &[String]) -> Result<Command, WordsFault>
+    ensures asked { IfOk result (AskFor (map string_bytes words.now)) }
+    ensures refused { IfErr result (AreRefused (map string_bytes words.now)) }
+{
+    let limits = LimitHelp::new(alloc)?;
+    command_with_limits(alloc, &limits, words)
+}
+
+// The command that the words ask for, with this help on limits.
+fn command_with_limits<'a>(
+    alloc: Global,
+    limits: &'a LimitHelp,
+    words: &'a [String],
+) -> Result<Command, WordsFault>
+    ensures asked { IfOk result (AskFor (map string_bytes words.now)) }
+    ensures refused { IfErr result (AreRefused (map string_bytes words.now)) }
+{
+    match program(alloc, limits)?.try_get_matches_from(words) {
+        Ok(matches) => command_met(alloc, &matches),
+        Err(error) => Err(refusal(alloc, words, &error)),
+    }
+}
+
+// What clap says of words that it refuses, or its help or version.
+fn refusal(alloc: Global, words: &[String], error: &Error) -> WordsFault
+    ensures { IsToldAs (kind_of error.now) result }
+{
+    let Ok(text) = words_text(alloc, words, error) else {
+        return WordsFault::OutOfMemory;
+    };
+    match error.kind() {
+        ErrorKind::OutOfMemory => WordsFault::OutOfMemory,
+        ErrorKind::DisplayHelp => WordsFault::HelpAsked(text),
+        ErrorKind::DisplayVersion => WordsFault::VersionAsked(text),
+        _ => WordsFault::Usage(text),
+    }
+}

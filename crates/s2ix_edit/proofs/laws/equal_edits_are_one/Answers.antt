@@ -1,5 +1,0 @@
-use Rattle.s2ix_edit.proofs.Equal.{edits_decided}
-use Rattle.s2ix_edit.proofs.laws.equal_edits_are_one.Goals as goal
-
-pub returns : goal.returns
-returns c = edits_decided

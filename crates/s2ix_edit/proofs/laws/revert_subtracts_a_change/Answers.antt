@@ -1,5 +1,0 @@
-use Rattle.s2ix_edit.proofs.Revert.{subtracts}
-use Rattle.s2ix_edit.proofs.laws.revert_subtracts_a_change.Goals as goal
-
-pub returns : goal.returns
-returns c = subtracts

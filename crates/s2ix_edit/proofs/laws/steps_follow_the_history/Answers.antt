@@ -1,0 +1,10 @@
+use Rattle.s2ix_edit.proofs.Followed.{history_after_forget, history_after_redo, history_after_undo, history_edited}
+use Rattle.s2ix_edit.proofs.laws.steps_follow_the_history.Goals as goal
+
+pub returns : goal.returns
+returns c = record {
+  edit = history_edited;
+  undo = history_after_undo;
+  redo = history_after_redo;
+  forget = history_after_forget;
+}

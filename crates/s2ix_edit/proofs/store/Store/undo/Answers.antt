@@ -1,0 +1,34 @@
+use Rattle.std.proofs.Common.{◌-◌, List, length, ap, ◌∙◌}
+use Rattle.s2ix_bag_pairs.specs.declared.pair.Entry.{Entry}
+use Rattle.std.specs.List.{slice_get}
+use Rattle.s2ix_bag_pairs.specs.Change.{changed}
+use Rattle.s2ix_edit_plan.specs.State.{State, history_of}
+use Rattle.s2ix_edit_plan.specs.History.{one_back}
+use Rattle.s2ix_edit.specs.Steps.{with_held}
+use Rattle.s2ix_edit.proofs.Led.{edit_taken_back}
+use Rattle.s2ix_edit.proofs.Places.{Undoes, history_undone, stands_undone, undoes_shifted}
+use Rattle.s2ix_edit.proofs.store.Store.undo.Goals.{In_ok-number}
+use Rattle.s2ix_edit.proofs.store.Store.undo.Goals as goal
+
+-- the store inside, with its last change taken back
+takes_back : (c : In_ok-number) → Undoes
+    (record { bag = c.self.inside.bag; done = c.self.inside.done.items; undone = c.self.inside.undone.items; faces_rebuilt = c.self.inside.faces_rebuilt })
+    (record { bag = c.in_ok-bag.bag; done = c.shift_last.new.from.items; undone = c.shift_last.new.to.items; faces_rebuilt = c.changed_face_count-faces.result })
+    c.in_ok-number.ensures.shifted.last
+takes_back c =
+    let bag = c.self.inside.bag in
+    undoes_shifted _ _ c.in-Some.last.now _ c.in_ok-number.ensures.shifted
+    (c.in-Some.ensures.value ∙ ap (λ (xs : List (List Entry)). slice_get xs (length xs - 1)) c.deref.ensures.value)
+    (c.in_ok-bag.ensures.made ∙ ap (λ (es : List Entry). with_held bag (changed bag.held es)) c.in_ok-inverse.ensures)
+
+pub invariant_of-self-2 : goal.invariant_of-self-2
+invariant_of-self-2 c =
+    (stands_undone _ _ _ c.self.invariant.0 (takes_back (goal.at.invariant_of-self-2 c).In_ok-number) c.in_ok-bag.ensures.within, c.in_ok-bag.ensures.table)
+
+pub returns-clause-history : goal.returns-clause-history
+returns-clause-history c =
+    history_undone _ _ _ c.self.invariant.0 (takes_back (goal.at.returns-clause-history c).In_ok-number) ∙ ap (λ (s : State). one_back (history_of s)) c.self.view_is
+
+pub returns-clause-restores : goal.returns-clause-restores
+returns-clause-restores c =
+    λ s edit st is. edit_taken_back s _ _ edit _ st (c.self.view_is ∙ is) (takes_back (goal.at.returns-clause-restores c).In_ok-number)

@@ -1,0 +1,88 @@
+-- What each step of a store makes of its state.
+use Rattle.std.specs.Prelude.{◌≡◌, ℕ, ◌-◌, Option, Some, None, List, [], ◌∷◌, ◌++◌, length, take, slice_get, count_by}
+use Rattle.s2ix_bag_pairs.specs.declared.pair.Entry.{Entry}
+use Rattle.s2ix_bag_pairs.specs.Change.{changed, inverse_of}
+use Rattle.s2ix_bag_pairs.specs.Collection.{Collection, LimitedCollection}
+use Rattle.s2ix_table_reading.specs.Faces.{faces, has_entry_on}
+use Rattle.s2ix_edit_plan.specs.declared.edit.Edit.{Edit}
+use Rattle.s2ix_edit_plan.specs.Edit.{edited}
+use Rattle.s2ix_edit_plan.specs.State.{State, change_of, history_of}
+
+-- a bag with another collection
+abbrev pub with_held : LimitedCollection → Collection → LimitedCollection
+with_held bag hs = record { limits = bag.limits; held = hs }
+
+-- on how many faces a change has entries
+abbrev pub faces_of : List Entry → ℕ
+faces_of es = count_by (has_entry_on es) faces
+
+-- the store after an accepted edit
+abbrev pub after_edit : State → Edit → State
+after_edit s edit = record {
+  bag = with_held s.bag (edited (history_of s) edit);
+  done = s.done ++ change_of s edit ∷ [];
+  undone = [];
+  faces_rebuilt = faces_of (change_of s edit);
+}
+
+-- the store after planned entries: its bag has the counts after, and they are the last change that was done
+abbrev pub after_record : State → List Entry → State
+after_record s es = record {
+  bag = with_held s.bag (changed s.bag.held es);
+  done = s.done ++ es ∷ [];
+  undone = [];
+  faces_rebuilt = faces_of es;
+}
+
+-- the change that an undo takes back: the last that was done
+abbrev pub last_done : State → Option (List Entry)
+last_done s = slice_get s.done (length s.done - 1)
+
+-- the store after an undo that takes this change back
+abbrev pub after_undo_of : State → List Entry → State
+after_undo_of s es = record {
+  bag = with_held s.bag (changed s.bag.held (inverse_of es));
+  done = take (length s.done - 1) s.done;
+  undone = s.undone ++ es ∷ [];
+  faces_rebuilt = faces_of es;
+}
+
+-- the store after an undo; with nothing to undo it stays as it is
+abbrev pub after_undo : State → State
+after_undo s = elim (last_done s) [ Some es ↦ after_undo_of s es | None ↦ s ]
+
+-- how many pairs an undo changes
+abbrev pub undo_size : State → ℕ
+undo_size s = elim (last_done s) [ Some es ↦ length es | None ↦ 0 ]
+
+-- the change that a redo does again: the last that was undone
+abbrev pub last_undone : State → Option (List Entry)
+last_undone s = slice_get s.undone (length s.undone - 1)
+
+-- the store after a redo that does this change again
+abbrev pub after_redo_of : State → List Entry → State
+after_redo_of s es = record {
+  bag = with_held s.bag (changed s.bag.held es);
+  done = s.done ++ es ∷ [];
+  undone = take (length s.undone - 1) s.undone;
+  faces_rebuilt = faces_of es;
+}
+
+-- the store after a redo; with nothing to redo it stays as it is
+abbrev pub after_redo : State → State
+after_redo s = elim (last_undone s) [ Some es ↦ after_redo_of s es | None ↦ s ]
+
+-- how many pairs a redo changes
+abbrev pub redo_size : State → ℕ
+redo_size s = elim (last_undone s) [ Some es ↦ length es | None ↦ 0 ]
+
+-- the store after its changes are forgotten
+abbrev pub after_forget : State → State
+after_forget s = record { bag = s.bag; done = []; undone = []; faces_rebuilt = s.faces_rebuilt }
+
+-- the last change of one list is now at the end of the other, and has this many entries
+pub record IsShifted (from to from_after to_after : List (List Entry)) (number : ℕ) : Type 0 where
+  pub last : List Entry
+  pub taken : from ≡ from_after ++ last ∷ []
+  pub put : to_after ≡ to ++ last ∷ []
+  pub size : number ≡ length last

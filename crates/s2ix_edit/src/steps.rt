@@ -1,0 +1,95 @@
+//! What edits, undos and redos are made of: a bag after a change with its range table, of which the faces that the change has
+//! entries on are read again; and a change shifted from one list to the other.
+
+ghost use Rattle.std.specs.Prelude.{◌≡◌, ◌<◌, None, IfOk, IfErr, OnOk, OnErr, vec_len};
+ghost use Rattle.s2ix_bag_lists.specs.Apply.{apply_refusal, first_mismatch};
+ghost use Rattle.s2ix_bag_pairs.specs.Change.{changed};
+ghost use Rattle.s2ix_bag_pairs.specs.Collection.{IsBag};
+ghost use Rattle.s2ix_edit_plan.specs.Errors.{IsEditRefusal};
+ghost use Rattle.s2ix_edit_plan.specs.Plan.{entries_refusal};
+ghost use Rattle.s2ix_edit.specs.Steps.{IsShifted, with_held};
+
+use crate::store_table::StoreTable;
+use s2id_core::OutOfMemory;
+use s2ix_bag::{Bag, Change};
+use s2ix_bag_lists::ApplyError;
+use s2ix_edit_plan::EditError;
+use s2ix_table_queries::RangeTable;
+use s2ix_table_reading::BagReader;
+use std::alloc::Global;
+
+// The bag that planned entries make of one with this table, with its own table, or why a store refuses them.
+pub(crate) fn apply_planned(
+    alloc: Global,
+    bag: &Bag,
+    table: &StoreTable,
+    change: &Change,
+) -> Result<(Bag, StoreTable), EditError>
+    requires matches { first_mismatch bag.now change.now ≡ None }
+    requires of_bag { ⟦<StoreTable as RangeTable>⟧.pairs table.now ≡ bag.now.held }
+    ensures made { IfOk result (λ after. after.0 ≡ with_held bag.now (changed bag.now.held change.now)) }
+    ensures within { IfOk result (λ after. IsBag after.0) }
+    ensures table { IfOk result (λ after. ⟦<StoreTable as RangeTable>⟧.pairs after.1 ≡ after.0.held) }
+    ensures fits { OnOk result (apply_refusal bag.now change.now ≡ None) }
+    ensures accepted { OnOk result (entries_refusal bag.now change.now ≡ None) }
+    ensures refused { IfErr result (λ error.
+        IsEditRefusal error (entries_refusal bag.now change.now)) }
+    ensures memory { result ≡ Err EditError.OutOfMemory → entries_refusal bag.now change.now ≡ None }
+{
+    if change.entries().is_empty() {
+        return Err(EditError::NoChange);
+    }
+    match bag.applied(alloc, change) {
+        Ok(after) => {
+            let table = table.rebuilt(alloc, &mut BagReader::new(&after), change)?;
+            Ok((after, table))
+        }
+        Err(ApplyError::Mismatch(_)) => unreachable!(),
+        Err(ApplyError::TooManyCopies) => Err(EditError::TooManyCopies),
+        Err(ApplyError::TooManyPairs) => Err(EditError::TooManyPairs),
+        Err(ApplyError::OutOfMemory) => Err(EditError::OutOfMemory),
+    }
+}
+
+// The bag that a recorded change makes of one with this table, with its own table: only memory can be wanting.
+pub(crate) fn apply_recorded(
+    alloc: Global,
+    bag: &Bag,
+    table: &StoreTable,
+    change: &Change,
+) -> Result<(Bag, StoreTable), OutOfMemory>
+    requires fits { apply_refusal bag.now change.now ≡ None }
+    requires of_bag { ⟦<StoreTable as RangeTable>⟧.pairs table.now ≡ bag.now.held }
+    ensures made { IfOk result (λ next. next.0 ≡ with_held bag.now (changed bag.now.held change.now)) }
+    ensures within { IfOk result (λ next. IsBag next.0) }
+    ensures table { IfOk result (λ next. ⟦<StoreTable as RangeTable>⟧.pairs next.1 ≡ next.0.held) }
+{
+    match bag.applied(alloc, change) {
+        Ok(next) => {
+            let table = table.rebuilt(alloc, &mut BagReader::new(&next), change)?;
+            Ok((next, table))
+        }
+        Err(ApplyError::Mismatch(_)) => unreachable!(),
+        Err(ApplyError::TooManyCopies) => unreachable!(),
+        Err(ApplyError::TooManyPairs) => unreachable!(),
+        Err(ApplyError::OutOfMemory) => Err(OutOfMemory),
+    }
+}
+
+// Shifts the last change of one list to the end of the other, and answers how many pairs it has. Where a growth is
+// refused both lists stay.
+pub(crate) fn shift_last(from: &mut Vec<Change>, to: &mut Vec<Change>) -> Result<usize, OutOfMemory>
+    requires { 0 < vec_len from.old }
+    ensures shifted { IfOk result (IsShifted from.old.items to.old.items from.new.items to.new.items) }
+    ensures stay { OnErr result ((from.new.items ≡ from.old.items) × (to.new.items ≡ to.old.items)) }
+{
+    to.reserve(1)?;
+    let Some(change) = from.pop() else {
+        unreachable!()
+    };
+    let number = change.entries().len();
+    match to.push(change) {
+        Ok(()) => Ok(number),
+        Err(_) => unreachable!(),
+    }
+}

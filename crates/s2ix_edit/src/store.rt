@@ -1,0 +1,293 @@
+ghost use Rattle.std.specs.Prelude.{◌≡◌, ◌≢◌, ◌↔◌, ◌<◌, ◌≤◌, true, false, [], ◌∷◌, length, reverse, None, IfOk, IfErr, OnOk, OnErr, All};
+ghost use Rattle.s2id_union.specs.Region.{HaveSameRegion, IsNormal};
+ghost use Rattle.s2ix_bag_lists.specs.Apply.{first_mismatch};
+ghost use Rattle.s2ix_bag_pairs.specs.declared.pair.Pair.{Pair};
+ghost use Rattle.s2ix_bag_pairs.specs.Change.{counts_at, difference_of};
+ghost use Rattle.s2ix_bag_pairs.specs.Collection.{IsBag, count_in};
+ghost use Rattle.s2ix_bag_pairs.specs.Limits.{changes_limit, count_limit, pairs_limit};
+ghost use Rattle.s2ix_bag_pairs.specs.Pair.{rank_of};
+ghost use Rattle.s2ix_edit_plan.specs.Errors.{IsEditRefusal};
+ghost use Rattle.s2ix_edit_plan.specs.Edit.{edited};
+ghost use Rattle.s2ix_edit_plan.specs.History.{alone, cursor_alone, one_back, one_on, with_next};
+ghost use Rattle.s2ix_edit_plan.specs.Plan.{entries_refusal};
+ghost use Rattle.s2ix_edit_plan.specs.Refusals.{asks_no_copies, asks_too_fine, edit_refusal, goes_below_zero, has_count_above, lacks_change, lacks_label, reverts, takes_too_many};
+ghost use Rattle.s2ix_edit_plan.specs.Region.{cells_of, region_of as region_in};
+ghost use Rattle.s2ix_edit_plan.specs.State.{State, change_of, history_of, starting_at};
+ghost use Rattle.s2ix_edit.specs.Recorded.{IsRecorded};
+ghost use Rattle.s2ix_edit.specs.Steps.{after_edit, after_forget, after_record, after_redo, after_undo, redo_size, undo_size};
+ghost use Rattle.s2ix_edit.specs.Store.{CanGoBack, CanGoOn, HasRoom, IsStore};
+ghost use Rattle.s2ix_table_ranges.specs.Table.{IsRangeTable};
+
+use crate::steps::{apply_planned, apply_recorded, shift_last};
+use crate::store_table::StoreTable;
+use s2id_core::OutOfMemory;
+use s2id_union::CellUnion;
+use s2ix_bag::{Bag, Change};
+use s2ix_bag_pairs::{Label, Limits};
+use s2ix_edit_plan::{Edit, EditError, RedoError, UndoError, plan, region_of};
+use s2ix_table_queries::RangeTable;
+use s2ix_table_reading::changed_face_count;
+use std::alloc::Global;
+use std::marker::Model;
+
+/// A collection with its history and its range table. Contracts see a store as its bag, the changes that were done and undone, and how
+/// many faces its last step read again; the table is always that of the bag.
+#[derive(Debug, Drop)]
+pub struct Store {
+    alloc: Global,
+    bag: Bag,
+    table: StoreTable,
+    done: Vec<Change>,
+    undone: Vec<Change>,
+    faces_rebuilt: u8,
+}
+
+impl Model for Store {
+    ghost use Rattle.std.specs.Prelude.{◌≡◌};
+    ghost use Rattle.s2ix_edit_plan.specs.State.{State};
+    ghost use Rattle.s2ix_edit.specs.Store.{IsStore};
+
+    ghost Value = { State };
+
+    ghost view = { λ s. record {
+      bag = s.bag;
+      done = s.done.items;
+      undone = s.undone.items;
+      faces_rebuilt = s.faces_rebuilt;
+    } };
+
+    ghost invariant = { λ s.
+        IsStore (record { bag = s.bag; done = s.done.items; undone = s.undone.items; faces_rebuilt = s.faces_rebuilt })
+        × (⟦<StoreTable as RangeTable>⟧.pairs s.table ≡ s.bag.held) };
+}
+
+impl Store {
+    /// A store of the empty collection, with nothing to undo or redo. `OutOfMemory` where a growth of its table is
+    /// refused. O(1).
+    pub fn new(alloc: Global, limits: Limits) -> Result<Store, OutOfMemory>
+        ensures state { IfOk result (λ store.
+            store ≡ starting_at (record { limits = limits; held = [] })) }
+        ensures history { IfOk result (λ store. history_of store ≡ alone []) }
+    {
+        Store::from_bag(alloc, Bag::empty(alloc, limits))
+    }
+
+    /// A store that starts from its bag, with the bag's limits and nothing to undo or redo. `OutOfMemory` where a growth of its table is
+    /// refused; the bag is let go then. O(n) for n pairs.
+    pub fn from_bag(alloc: Global, bag: Bag) -> Result<Store, OutOfMemory>
+        ensures state { IfOk result (λ store. store ≡ starting_at bag) }
+        ensures history { IfOk result (λ store. history_of store ≡ alone bag.held) }
+    {
+        let table = StoreTable::build(alloc, &bag)?;
+        Ok(Store {
+            alloc,
+            bag,
+            table,
+            done: Vec::new(alloc),
+            undone: Vec::new(alloc),
+            faces_rebuilt: 0,
+        })
+    }
+
+    /// Carries an edit out, and answers how many pairs changed their counts. An accepted edit records the change
+    /// at the end of `done` and empties `undone`; a refused one changes nothing. [`EditError`] says when each
+    /// refusal stands. With room in the journal an `Add` or a `Remove` of no copies, or an `AddUnion` of no cells, is `NoChange` and takes
+    /// no memory. An edit takes what [`plan`] takes, what it takes to let the undone changes go, and O(m + p) for m entries of the change
+    /// and the p pairs held on their faces, of which alone bag and table are built again.
+    pub fn edit(&mut self, edit: &Edit) -> Result<usize, EditError>
+        ensures state { OnOk result (self.new ≡ after_edit self.old edit.now) }
+        ensures history { OnOk result (history_of self.new
+            ≡ with_next (history_of self.old) (edited (history_of self.old) edit.now)) }
+        ensures number { IfOk result (λ n. n ≡ length (change_of self.old edit.now)) }
+        ensures records { OnOk result ((pair : Pair)
+            → counts_at (change_of self.old edit.now) (rank_of pair)
+            ≡ difference_of (count_in self.old.bag.held pair) (count_in self.new.bag.held pair)) }
+        ensures accepted { OnOk result (edit_refusal self.old edit.now ≡ None) }
+        ensures refused { IfErr result (λ error.
+            IsEditRefusal error (edit_refusal self.old edit.now)) }
+        ensures unchanged { OnErr result (self.new ≡ self.old) }
+
+        // Each refusal by itself: these are answered wherever they stand.
+        ensures full { (result ≡ Err EditError.JournalFull)
+            ↔ (length self.old.done ≡ changes_limit self.old.bag.limits) }
+        ensures no_such_label { (result ≡ Err EditError.NoSuchLabel)
+            ↔ (HasRoom self.old × (lacks_label edit.now self.old.bag.held ≡ true)) }
+        ensures not_held { (result ≡ Err EditError.NotHeld)
+            ↔ (HasRoom self.old × (takes_too_many edit.now self.old.bag.held ≡ true)) }
+        ensures too_fine { (result ≡ Err EditError.TooFine)
+            ↔ (HasRoom self.old × (lacks_label edit.now self.old.bag.held ≡ false)
+            × (asks_too_fine edit.now self.old.bag.held ≡ true)) }
+        ensures no_such_change { (result ≡ Err EditError.NoSuchChange)
+            ↔ (HasRoom self.old × (lacks_change self.old.done edit.now ≡ true)) }
+        ensures below_zero { (result ≡ Err EditError.BelowZero)
+            ↔ (HasRoom self.old × (goes_below_zero self.old.done edit.now self.old.bag.held ≡ true)) }
+
+        // In place of the others `OutOfMemory` may come.
+        ensures no_change { result ≡ Err EditError.NoChange
+            → edited (history_of self.old) edit.now ≡ self.old.bag.held }
+        ensures too_many_copies { result ≡ Err EditError.TooManyCopies
+            → has_count_above (count_limit self.old.bag.limits) (edited (history_of self.old) edit.now) ≡ true }
+        ensures too_many_pairs { result ≡ Err EditError.TooManyPairs
+            → pairs_limit self.old.bag.limits < length (edited (history_of self.old) edit.now) }
+
+        // But an edit of no copies wants no memory, and a `Revert` only where it isn't refused.
+        ensures nothing { asks_no_copies edit.now ≡ true
+            → HasRoom self.old
+            → result ≡ Err EditError.NoChange }
+        ensures reverting { reverts edit.now ≡ true
+            → result ≡ Err EditError.OutOfMemory
+            → edit_refusal self.old edit.now ≡ None }
+    {
+        if self.done.len() >= self.bag.limits().changes() as usize {
+            return Err(EditError::JournalFull);
+        }
+        let change = plan(self.alloc, &self.bag, self.done.as_slice(), edit)?;
+        self.record_change(change)
+    }
+
+    /// Carries planned entries out, whatever edit they come from.
+    fn record_change(&mut self, change: Change) -> Result<usize, EditError>
+        requires room { HasRoom self.old }
+        requires matches { first_mismatch self.old.bag change ≡ None }
+        ensures state { OnOk result (self.new ≡ after_record self.old change) }
+        ensures number { IfOk result (λ n. n ≡ length change) }
+        ensures accepted { OnOk result (entries_refusal self.old.bag change ≡ None) }
+        ensures refused { IfErr result (λ error.
+            IsEditRefusal error (entries_refusal self.old.bag change)) }
+        ensures memory { result ≡ Err EditError.OutOfMemory → entries_refusal self.old.bag change ≡ None }
+        ensures unchanged { OnErr result (self.new ≡ self.old) }
+    {
+        let number = change.entries().len();
+        let faces = changed_face_count(&change);
+        let (bag, table) = apply_planned(self.alloc, &self.bag, &self.table, &change)?;
+        self.done.push(change)?;
+        self.undone.clear();
+        self.bag = bag;
+        self.table = table;
+        self.faces_rebuilt = faces;
+        Ok(number)
+    }
+
+    /// Takes the last change back, and answers how many pairs it had. The change goes to the end of `undone`.
+    /// `NothingToUndo` is tested first; then `OutOfMemory` where a growth is refused. O(m + p) for m entries of the change and the p pairs held
+    /// on their faces, of which alone bag and table are built again.
+    pub fn undo(&mut self) -> Result<usize, UndoError>
+        ensures state { OnOk result (self.new ≡ after_undo self.old) }
+        ensures history { OnOk result (history_of self.new ≡ one_back (history_of self.old)) }
+        ensures number { IfOk result (λ n. n ≡ undo_size self.old) }
+        ensures restores { OnOk result ((s : State) (edit : Edit)
+            → IsStore s
+            → self.old ≡ after_edit s edit
+            → (self.new.bag ≡ s.bag) × (self.new.done ≡ s.done)
+            × (self.new.undone ≡ change_of s edit ∷ [])) }
+        ensures nothing { (result ≡ Err UndoError.NothingToUndo) ↔ (self.old.done ≡ []) }
+        ensures unchanged { OnErr result (self.new ≡ self.old) }
+    {
+        let Some(last) = self.done.last() else {
+            return Err(UndoError::NothingToUndo);
+        };
+        let faces = changed_face_count(last);
+        let inverse = last.inverse(self.alloc)?;
+        let (bag, table) = apply_recorded(self.alloc, &self.bag, &self.table, &inverse)?;
+        let number = shift_last(&mut self.done, &mut self.undone)?;
+        self.bag = bag;
+        self.table = table;
+        self.faces_rebuilt = faces;
+        Ok(number)
+    }
+
+    /// Does the last undone change again, and answers how many pairs it has. The change goes back to the end of `done`. `NothingToRedo` is
+    /// tested first; then `OutOfMemory` where a growth is refused. The journal is never full: an undo keeps the room of its change.
+    /// O(m + p), as `undo`.
+    pub fn redo(&mut self) -> Result<usize, RedoError>
+        ensures state { OnOk result (self.new ≡ after_redo self.old) }
+        ensures history { OnOk result (history_of self.new ≡ one_on (history_of self.old)) }
+        ensures number { IfOk result (λ n. n ≡ redo_size self.old) }
+        ensures restores { OnOk result ((s : State)
+            → IsStore s
+            → s.done ≢ []
+            → self.old ≡ after_undo s
+            → (self.new.bag ≡ s.bag) × (self.new.done ≡ s.done) × (self.new.undone ≡ s.undone)) }
+        ensures nothing { (result ≡ Err RedoError.NothingToRedo) ↔ (self.old.undone ≡ []) }
+        ensures unchanged { OnErr result (self.new ≡ self.old) }
+    {
+        let Some(last) = self.undone.last() else {
+            return Err(RedoError::NothingToRedo);
+        };
+        let faces = changed_face_count(last);
+        let (bag, table) = apply_recorded(self.alloc, &self.bag, &self.table, last)?;
+        let number = shift_last(&mut self.undone, &mut self.done)?;
+        self.bag = bag;
+        self.table = table;
+        self.faces_rebuilt = faces;
+        Ok(number)
+    }
+
+    /// Keeps the collection and lets all changes go: nothing is left to undo or redo. It takes no memory. O(k) for the k changes
+    /// that are let go.
+    pub fn forget(&mut self)
+        ensures state { self.new ≡ after_forget self.old }
+        ensures history { history_of self.new ≡ cursor_alone (history_of self.old) }
+    {
+        self.done.clear();
+        self.undone.clear();
+    }
+
+    /// The collection that the store stands at.
+    pub fn bag(&self) -> &Bag
+        ensures bag { result.now ≡ self.now.bag }
+        ensures within { IsBag result.now }
+    {
+        &self.bag
+    }
+
+    /// The range table of the collection that the store stands at: what queries read.
+    pub fn table(&self) -> &StoreTable
+        ensures pairs { ⟦<StoreTable as RangeTable>⟧.pairs result.now ≡ self.now.bag.held }
+        ensures table { IsRangeTable self.now.bag.held (⟦<StoreTable as RangeTable>⟧.ranges result.now) }
+    {
+        &self.table
+    }
+
+    /// How many faces, 0 to 6, the last accepted edit, undo or redo read again: those that its change has an entry on. 0 before
+    /// the first; no refusal and no other call changes it. O(1).
+    pub fn faces_rebuilt(&self) -> u8
+        ensures { result ≡ self.now.faces_rebuilt }
+    {
+        self.faces_rebuilt
+    }
+
+    /// The region of a label: the normal union of the cells that are held with it, which is empty where none is.
+    /// `OutOfMemory` where a growth is refused. O(n + m log m) for n pairs held, m of them with the label.
+    pub fn region(&self, label: Label) -> Result<CellUnion, OutOfMemory>
+        ensures region { IfOk result (λ union.
+            HaveSameRegion union (cells_of label self.now.bag.held)) }
+        ensures form { IfOk result (λ union. union ≡ region_in label self.now.bag.held) }
+        ensures normal { IfOk result IsNormal }
+    {
+        region_of(self.alloc, &self.bag, label)
+    }
+
+    /// The changes that can be undone, the oldest first. They lead to the collection that the store stands at: from the last on, each can
+    /// be taken back.
+    pub fn done(&self) -> &[Change]
+        ensures done { result.now ≡ self.now.done }
+        ensures led { CanGoBack self.now.bag (reverse result.now) }
+        ensures stands { IsStore self.now }
+        ensures within { All (IsRecorded self.now.bag.limits) result.now }
+        ensures few { length result.now ≤ changes_limit self.now.bag.limits }
+    {
+        self.done.as_slice()
+    }
+
+    /// The changes that can be redone. The one that was undone last stands at the end, and is redone first; they lead on from the
+    /// collection that the store stands at.
+    pub fn undone(&self) -> &[Change]
+        ensures undone { result.now ≡ self.now.undone }
+        ensures led { CanGoOn self.now.bag (reverse result.now) }
+        ensures within { All (IsRecorded self.now.bag.limits) result.now }
+        ensures few { length result.now ≤ changes_limit self.now.bag.limits }
+    {
+        self.undone.as_slice()
+    }
+}

@@ -1,0 +1,18 @@
+mod Above
+pub mod AddUnion
+mod Beside
+mod DropLabel
+pub mod EachRefusal
+pub mod Edited
+mod Equal
+mod Fewest
+pub mod FirstRefusal
+mod Grow
+mod LabelCells
+pub mod Lesser
+mod Normalise
+pub mod Plans
+pub mod Refused
+mod Relabel
+pub mod Revert
+pub mod Sizes

@@ -1,0 +1,13 @@
+pub mod Edit
+pub mod Grow
+pub mod History
+pub mod Plan
+pub mod Refusals
+pub mod Region
+pub mod State
+pub use Rattle.s2ix_bag_pairs.specs.Change
+pub use Rattle.s2ix_bag_pairs.specs.Collection
+pub use Rattle.s2ix_bag_pairs.specs.Limits
+pub use Rattle.s2ix_bag_pairs.specs.OfLabel
+pub use Rattle.s2ix_edit_plan.specs.Errors
+pub mod Errors

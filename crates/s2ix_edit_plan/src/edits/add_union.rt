@@ -1,0 +1,35 @@
+ghost use Rattle.std.specs.Prelude.{◌≡◌, ◌≢◌, [], length, IsOk, IfOk, IfErr};
+ghost use Rattle.s2ix_edit_plan.specs.Plan.{IsPlanRefusal, Plans};
+
+use crate::edit::Edit;
+use crate::edits::parts::push_entry;
+use crate::errors::PlanError;
+use s2id_union::CellUnion;
+use s2ix_bag::{Bag, Change};
+use s2ix_bag_pairs::{Label, Pair};
+use std::alloc::Global;
+
+// The change that gives each cell of a union one copy more under the label. A sum that no `u32` holds is above
+// every limit. O(m log n) for m cells and n pairs held.
+pub(crate) fn plan(
+    alloc: Global,
+    bag: &Bag,
+    union: &CellUnion,
+    label: Label,
+) -> Result<Change, PlanError>
+    ensures plan { IfOk result (Plans bag.now [] (Edit.AddUnion union.now label)) }
+    ensures refused { IfErr result (IsPlanRefusal bag.now [] (Edit.AddUnion union.now label)) }
+    ensures pairs { result ≢ Err PlanError.TooManyPairs }
+    ensures nothing { length union.now ≡ 0 → IsOk result }
+{
+    let mut entries = Vec::new(alloc);
+    for cell in union.cells() {
+        let pair = Pair { cell: *cell, label };
+        let before = bag.count(pair);
+        let Some(after) = before.checked_add(1) else {
+            return Err(PlanError::TooManyCopies);
+        };
+        push_entry(&mut entries, pair, before, after)?;
+    }
+    Ok(Change::from_vec(entries))
+}

@@ -1,0 +1,61 @@
+//! What each edit changes: the entries that carry it out. Each edit has a file of its own with its `plan`; what several of
+//! them are made of stands in `parts`.
+
+mod add;
+mod add_union;
+mod drop_label;
+mod grow;
+mod normalise;
+mod parts;
+mod relabel;
+mod remove;
+mod revert;
+
+ghost use Rattle.std.specs.Prelude.{◌≡◌, ◌≢◌, ◌⊎◌, true, false, Some, None, IsOk, IfOk, IfErr};
+ghost use Rattle.s2ix_edit_plan.specs.declared.errors.EditError.TheVariants.{NoChange};
+ghost use Rattle.s2ix_edit_plan.specs.Plan.{IsPlanRefusal, Plans};
+ghost use Rattle.s2ix_edit_plan.specs.Refusals.{asks_no_copies, plan_refusal, reverts};
+
+use crate::edit::Edit;
+use crate::errors::PlanError;
+use s2ix_bag::{Bag, Change};
+use std::alloc::Global;
+
+/// The change that carries an edit out on a bag: an entry for each pair whose count the edit changes, and none where nothing
+/// would change. The bag stays as it is; [`Bag::applied`] makes the next one of the change. `changes` are those that led to
+/// the bag, the oldest first, of which `Revert` takes one back; no other edit reads them.
+///
+/// Of the errors of [`PlanError`] the first that stands is answered. Whether the counts and the pairs fit the bag is found when
+/// the change is applied; but the plan of `Revert` has tested it, and answers `TooManyCopies` and `TooManyPairs` itself, and a
+/// sum that no `u32` holds is above every limit and `TooManyCopies` here. `OutOfMemory` comes in place of no other error of
+/// `Revert`, and of no error but `TooManyCopies` of the others; an `Add` or a `Remove` of no copies wants no memory, nor does an
+/// `AddUnion` of no cells.
+///
+/// For n pairs held, `Add` and `Remove` take O(log n), `AddUnion` O(m log n) for m cells, `DropLabel` O(n), `Relabel`
+/// O(n + m log n) and `Normalise` O(n + m log m) for m pairs of the label, and `Grow` O(n + b log b) for b cells beside those of
+/// the label. `Revert` takes O(m log n) for the m entries of the change that it takes back, however many stand. This project's
+/// own.
+pub fn plan(alloc: Global, bag: &Bag, changes: &[Change], edit: &Edit) -> Result<Change, PlanError>
+    ensures plan { IfOk result (Plans bag.now changes.now edit.now) }
+    ensures refused { IfErr result (IsPlanRefusal bag.now changes.now edit.now) }
+
+    // An edit of no copies has its plan without memory, and a `Revert` wants memory only where nothing here refuses it. No other edit
+    // is refused for its pairs here.
+    ensures nothing { asks_no_copies edit.now ≡ true → IsOk result }
+    ensures reverting { reverts edit.now ≡ true
+        → result ≡ Err PlanError.OutOfMemory
+        → let refusal = plan_refusal bag.now changes.now edit.now in
+        (refusal ≡ None) ⊎ (refusal ≡ Some NoChange) }
+    ensures pairs { reverts edit.now ≡ false → result ≢ Err PlanError.TooManyPairs }
+{
+    match edit {
+        Edit::Add { pair, copies } => add::plan(alloc, bag, *pair, *copies),
+        Edit::AddUnion { union, label } => add_union::plan(alloc, bag, union, *label),
+        Edit::Remove { pair, copies } => remove::plan(alloc, bag, *pair, *copies),
+        Edit::DropLabel { label } => drop_label::plan(alloc, bag, *label),
+        Edit::Relabel { source, target } => relabel::plan(alloc, bag, *source, *target),
+        Edit::Grow { label, level } => grow::plan(alloc, bag, *label, *level),
+        Edit::Normalise { label } => normalise::plan(alloc, bag, *label),
+        Edit::Revert { number } => revert::plan(alloc, bag, changes, *number),
+    }
+}

@@ -1,0 +1,76 @@
+ghost use Rattle.std.specs.Prelude.{◌≡◌, ◌≢◌, ◌++◌, [], false, OnOk, IfOk, IfErr};
+ghost use Rattle.s2ix_bag_pairs.specs.Label.{value_of};
+ghost use Rattle.s2ix_edit_plan.specs.Plan.{IsPlanRefusal, Plans, move_entries};
+ghost use Rattle.s2ix_edit_plan.specs.Refusals.{holds_none};
+
+use crate::edit::Edit;
+use crate::edits::parts::{lacks_label, removal};
+use crate::errors::PlanError;
+use s2ix_bag::{Bag, Change};
+use s2ix_bag_pairs::{Entry, Held, Label, Pair};
+use std::alloc::{AllocError, Global};
+
+// The change that moves all copies of `source` to `target`. If the two are one label it is empty, and the store refuses it with `NoChange`.
+// O(n + m log n) for n pairs held, m of them of `source`.
+pub(crate) fn plan(
+    alloc: Global,
+    bag: &Bag,
+    source: Label,
+    target: Label,
+) -> Result<Change, PlanError>
+    ensures plan { IfOk result (Plans bag.now [] (Edit.Relabel source target)) }
+    ensures refused { IfErr result (IsPlanRefusal bag.now [] (Edit.Relabel source target)) }
+    ensures pairs { result ≢ Err PlanError.TooManyPairs }
+{
+    if lacks_label(bag, source) {
+        return Err(PlanError::NoSuchLabel);
+    }
+    if source.get() == target.get() {
+        return Ok(Change::from_vec(Vec::new(alloc)));
+    }
+    plan_moves(alloc, bag, source, target)
+}
+
+// The change that moves all copies of one label that is held to another. A sum that no `u32` holds is above every
+// limit.
+fn plan_moves(alloc: Global, bag: &Bag, source: Label, target: Label) -> Result<Change, PlanError>
+    requires held { holds_none source bag.now.held ≡ false }
+    requires apart { value_of source ≢ value_of target }
+    ensures plan { IfOk result (Plans bag.now [] (Edit.Relabel source target)) }
+    ensures refused { IfErr result (IsPlanRefusal bag.now [] (Edit.Relabel source target)) }
+    ensures pairs { result ≢ Err PlanError.TooManyPairs }
+{
+    let mut entries = Vec::new(alloc);
+    for held in bag.of_label(source) {
+        let pair = Pair {
+            cell: held.pair.cell,
+            label: target,
+        };
+        let before = bag.count(pair);
+        let Some(after) = before.checked_add(held.count) else {
+            return Err(PlanError::TooManyCopies);
+        };
+        let gain = Entry {
+            pair,
+            before,
+            after,
+        };
+        push_move(&mut entries, held, gain)?;
+    }
+    Ok(Change::from_vec(entries))
+}
+
+// Appends, in the order of their pairs, the entry that takes a held pair away and the one that gives its copies to
+// another pair.
+fn push_move(entries: &mut Vec<Entry>, held: Held, gain: Entry) -> Result<(), AllocError>
+    ensures { OnOk result (entries.new.items ≡ entries.old.items ++ move_entries held gain) }
+{
+    let (first, second) = if held.pair.label.get() < gain.pair.label.get() {
+        (removal(held), gain)
+    } else {
+        (gain, removal(held))
+    };
+    entries.push(first)?;
+    entries.push(second)?;
+    Ok(())
+}

@@ -1,2 +1,0 @@
-pub mod Flushing
-pub mod Statuses

@@ -1,2 +1,0 @@
-pub mod AllFaces
-pub mod Few

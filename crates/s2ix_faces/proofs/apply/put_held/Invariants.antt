@@ -1,5 +1,0 @@
-use Rattle.s2ix_faces.proofs.Steps.{Putting}
-use Rattle.s2ix_faces.proofs.apply.put_held.Given as goal
-
-abbrev pub invariant-loop-face : goal.invariant-loop-face
-invariant-loop-face l = Putting l.held l.face l.lists l.rest

@@ -1,6 +1,0 @@
-use Rattle.std.proofs.Common.{◌++◌, sym, ◌∙◌, ap₂}
-use Rattle.s2ix_faces.specs.Faces.{all_of}
-use Rattle.s2ix_faces.proofs.laws.cloned_held_iterators_have_the_same_rest.Goals as goal
-
-pub returns : goal.returns
-returns c it copy h = sym h.3 ∙ ap₂ (λ rest later. rest.now ++ all_of later.now) h.4.0 h.4.1 ∙ h.2

@@ -1,6 +1,0 @@
--- The lists that were passed hold what stands before the list at hand.
-use Rattle.s2ix_faces.proofs.Places.{IsPassed}
-use Rattle.s2ix_faces.proofs.read.face_at.Given as goal
-
-abbrev pub invariant-loop-list : goal.invariant-loop-list
-invariant-loop-list l = IsPassed l.lists l.place l.list-index l.before

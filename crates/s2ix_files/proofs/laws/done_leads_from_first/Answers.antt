@@ -1,5 +1,0 @@
-use Rattle.s2ix_files.proofs.History.{done_leads}
-use Rattle.s2ix_files.proofs.laws.done_leads_from_first.Goals as goal
-
-pub returns : goal.returns
-returns c = done_leads

@@ -1,5 +1,0 @@
-use Rattle.s2ix_files.proofs.Replayed.{done_is_replayed, done_is_rewound}
-use Rattle.s2ix_files.proofs.laws.journals_lead_along_a_history.Goals as goal
-
-pub returns : goal.returns
-returns c = record { replay = done_is_replayed; rewind = done_is_rewound }

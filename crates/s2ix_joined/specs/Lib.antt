@@ -1,6 +1,0 @@
-pub mod Joined
-pub mod Seats
-pub mod Faces
-pub mod Places
-pub mod Whole
-pub mod OneProof

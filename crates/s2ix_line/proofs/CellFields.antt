@@ -1,9 +1,0 @@
--- Cells that fields name, gathered one after the other.
-use Rattle.std.specs.Prelude.{List, ◌++◌, Result, Ok, Err}
-use Rattle.s2id_core.specs.declared.cell_id.CellId.{CellId}
-use Rattle.s2ix_line.specs.declared.line_fault.LineFault.{LineFault}
-
--- cells that were gathered, and then what the fields that are left name
-abbrev pub behind : List CellId → Result (List CellId) LineFault → Result (List CellId) LineFault
-behind cells (Ok rest) = Ok (cells ++ rest)
-behind cells (Err fault) = Err fault

@@ -1,2 +1,0 @@
-mod CellFields
-pub mod WantedMemory

@@ -1,6 +1,0 @@
-use Rattle.std.proofs.Common.{◌≡◌, ◌++◌, map, take}
-use Rattle.s2ix_pairs.specs.Change.{removal_of}
-use Rattle.s2ix_lists.proofs.compare.push_removals.Given as goal
-
-abbrev pub invariant-loop-h : goal.invariant-loop-h
-invariant-loop-h l = l.out.items ≡ l.initial.out.items ++ map removal_of (take l.h-index l.held)

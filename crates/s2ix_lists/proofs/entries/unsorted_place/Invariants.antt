@@ -1,6 +1,0 @@
--- The entries so far rise.
-use Rattle.s2ix_lists.proofs.Unsorted.{RiseSoFar}
-use Rattle.s2ix_lists.proofs.entries.unsorted_place.Given as goal
-
-abbrev pub invariant-loop-place : goal.invariant-loop-place
-invariant-loop-place l = RiseSoFar l.entries l.place l.last

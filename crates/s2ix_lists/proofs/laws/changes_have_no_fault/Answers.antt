@@ -1,5 +1,0 @@
-use Rattle.s2ix_lists.proofs.Unsorted.{changes_have_no_fault}
-use Rattle.s2ix_lists.proofs.laws.changes_have_no_fault.Goals as goal
-
-pub returns : goal.returns
-returns c = changes_have_no_fault

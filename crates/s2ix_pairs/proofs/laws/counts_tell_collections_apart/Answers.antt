@@ -1,5 +1,0 @@
-use Rattle.s2ix_pairs.proofs.Collections.{same_collection}
-use Rattle.s2ix_pairs.proofs.laws.counts_tell_collections_apart.Goals as goal
-
-pub returns : goal.returns
-returns c = same_collection

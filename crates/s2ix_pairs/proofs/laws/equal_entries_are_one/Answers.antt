@@ -1,5 +1,0 @@
-use Rattle.s2ix_pairs.proofs.Equal.{entries_decided}
-use Rattle.s2ix_pairs.proofs.laws.equal_entries_are_one.Goals as goal
-
-pub returns : goal.returns
-returns c = entries_decided

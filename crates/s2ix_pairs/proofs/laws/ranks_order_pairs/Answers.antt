@@ -1,5 +1,0 @@
-use Rattle.s2ix_pairs.proofs.Pairs.{rank_order}
-use Rattle.s2ix_pairs.proofs.laws.ranks_order_pairs.Goals as goal
-
-pub returns : goal.returns
-returns c = rank_order

@@ -1,5 +1,0 @@
-use Rattle.s2ix_pairs.proofs.Pairs.{same_pair}
-use Rattle.s2ix_pairs.proofs.laws.ranks_tell_pairs_apart.Goals as goal
-
-pub returns : goal.returns
-returns c = same_pair

@@ -1,4 +1,0 @@
-pub mod Back
-pub mod Forth
-pub mod Inverted
-pub mod Last

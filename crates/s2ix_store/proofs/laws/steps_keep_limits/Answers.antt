@@ -1,8 +1,0 @@
-use Rattle.s2ix_store.proofs.Redone.{redo_keeps_limits, undo_keeps_limits}
-use Rattle.s2ix_store.proofs.laws.steps_keep_limits.Goals as goal
-
-pub returns-clause-undo : goal.returns-clause-undo
-returns-clause-undo c = undo_keeps_limits
-
-pub returns-clause-redo : goal.returns-clause-redo
-returns-clause-redo c = redo_keeps_limits

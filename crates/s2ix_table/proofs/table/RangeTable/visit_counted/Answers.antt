@@ -1,9 +1,0 @@
-use Rattle.std.proofs.Common.{sym, ap}
-use Rattle.s2ix_ranges.specs.Meeting.{meeting_of}
-use Rattle.s2ix_walk.proofs.Visits.{may_same}
-use Rattle.s2ix_walk.specs.Shown.{Shown}
-use Rattle.s2ix_table.proofs.table.RangeTable.visit_counted.Goals as goal
-
-pub walk-whole-requires-clause-may : goal.walk-whole-requires-clause-may
-walk-whole-requires-clause-may g c =
-    may_same (λ p x. goal.F-pre g p x) (λ p x r q. goal.F-step g p x r q) c.args.f.now _ _ (sym (ap (λ (z : Shown g.row.Self-Place.Denot). meeting_of c.args.target.now z.pairs) c.new-meter.ensures.shown)) c.requires

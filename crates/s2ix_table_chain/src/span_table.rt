@@ -1,0 +1,181 @@
+ghost use Rattle.std.specs.Prelude.{◌≡◌, ◌<◌, ◌≤◌, ◌∷◌, IfOk, length, drop, take, map};
+ghost use Rattle.s2id_core.specs.CellId.{raw_of};
+ghost use Rattle.s2ix_bag_pairs.specs.Collection.{IsCollection};
+ghost use Rattle.s2ix_table_ranges.specs.Table.{Range, range_at, IsFound};
+ghost use Rattle.s2ix_table_walk.specs.Places.{IsPlace, LeadsTo};
+ghost use Rattle.s2ix_table_chain.specs.Chains.{chain_of};
+ghost use Rattle.s2ix_table_chain.specs.SpanTable.{IsInSpan, IsSpanTable};
+
+use crate::order::sweep_order;
+use crate::places::{as_place, last_start};
+use crate::sweep::sweep_span;
+use s2id_core::{CellId, OutOfMemory};
+use s2ix_bag_lists::FlatHeld;
+use s2ix_bag_pairs::Held;
+use s2ix_table_ranges::RangeRow;
+use std::alloc::Global;
+use std::marker::Model;
+
+/// The ranges of held pairs over one span of leaves, from a leaf number up to another, with one node for each pair: the pair, and the place
+/// of the next one outwards. Each range has the place of its innermost pair, so ranges share their chains. A place is the pair's number in
+/// rising order, counted from 0. Contracts see the pairs, the span and the ranges; the chain from a place is `chain_of` the pairs.
+/// It is S2's cell tree, of a part of the sphere.
+///
+/// Costs are in n, the number of the pairs: there are at most 2 * n + 1 ranges.
+#[derive(Debug, Drop)]
+pub struct SpanTable {
+    pub(crate) held: Vec<FlatHeld>,
+    outer: Vec<u32>,
+    starts: Vec<u64>,
+    firsts: Vec<u32>,
+    from: u64,
+    to: u64,
+}
+
+impl Model for SpanTable {
+    ghost use Rattle.s2ix_table_chain.specs.SpanTable.{SpanRanges};
+    ghost use Rattle.s2ix_table_chain.specs.Starts.{ranges_from};
+    ghost use Rattle.s2ix_table_chain.specs.Nodes.{AreNodes};
+
+    ghost Value = { SpanRanges };
+
+    ghost view = { λ t. record { held = t.held.items; from = t.from; to = t.to; ranges = ranges_from t.held.items t.starts.items t.to } };
+
+    ghost invariant = { λ t. AreNodes t.held.items t.from t.to t.outer.items t.starts.items t.firsts.items };
+}
+
+impl SpanTable {
+    /// The table of these pairs over the span of leaves from a leaf number up to another, in which their cells lie. O(n).
+    /// `OutOfMemory` where a growth is refused.
+    pub fn over(
+        alloc: Global,
+        held: Vec<FlatHeld>,
+        from: u64,
+        to: u64,
+    ) -> Result<SpanTable, OutOfMemory>
+        requires rises { IsCollection held.items }
+        requires few { length held.items ≤ 1000000 }
+        requires span { IsInSpan held.items from to }
+        ensures pairs { IfOk result (λ table. table.held ≡ held.items) }
+        ensures begins { IfOk result (λ table. table.from ≡ from) }
+        ensures ends { IfOk result (λ table. table.to ≡ to) }
+        ensures table { IfOk result (λ table. IsSpanTable table) }
+    {
+        let mut stack = Vec::from_elem(alloc, 0, held.len() + 1)?;
+        let order = sweep_order(alloc, held.as_slice(), stack.as_mut_slice())?;
+        let pass = sweep_span(
+            alloc,
+            held.as_slice(),
+            order.as_slice(),
+            stack.as_mut_slice(),
+            from,
+            to,
+        )?;
+        let outer = pass.outer;
+        let starts = trim(pass.starts, pass.stand.count);
+        let firsts = trim(pass.firsts, pass.stand.count);
+        Ok(SpanTable {
+            held,
+            outer,
+            starts,
+            firsts,
+            from,
+            to,
+        })
+    }
+
+    /// How many pairs there are. O(1).
+    #[inline]
+    pub fn pair_count(&self) -> usize
+        ensures { result ≡ length self.now.held }
+    {
+        self.held.len()
+    }
+
+    /// How many ranges there are: at least 1, at most 2 * n + 1. O(1).
+    #[inline]
+    pub fn range_count(&self) -> usize
+        ensures { result ≡ length self.now.ranges }
+    {
+        self.starts.len()
+    }
+
+    /// The number of a range's first leaf. O(1).
+    #[inline]
+    pub fn start(&self, k: usize) -> u64
+        requires { k < length self.now.ranges }
+        ensures { result ≡ (range_at self.now.ranges k).start }
+    {
+        self.starts[k]
+    }
+
+    /// The numbers of the first leaves of all ranges, in order. O(1).
+    #[inline]
+    pub fn starts(&self) -> &[u64]
+        ensures { result.now ≡ map (λ (r : Range). r.start) self.now.ranges }
+    {
+        self.starts.as_slice()
+    }
+
+    /// The leaves of a range. O(1).
+    #[inline]
+    pub fn range(&self, k: usize) -> RangeRow
+        requires { k < length self.now.ranges }
+        ensures start { result.start ≡ (range_at self.now.ranges k).start }
+        ensures limit { result.limit ≡ (range_at self.now.ranges k).limit }
+    {
+        let start = self.starts[k];
+        let limit = if k < self.starts.len() - 1 {
+            self.starts[k + 1]
+        } else {
+            self.to
+        };
+        RangeRow { start, limit }
+    }
+
+    /// The place of a range's innermost pair, or `None` where nothing lies over it. O(1).
+    #[inline]
+    pub fn first(&self, k: usize) -> Option<u32>
+        requires { k < length self.now.ranges }
+        ensures { LeadsTo (chain_of self.now.held) result (range_at self.now.ranges k).contents }
+    {
+        as_place(self.held.as_slice(), self.firsts[k])
+    }
+
+    /// The pair at a place, with its count. O(1).
+    #[inline]
+    pub fn held_at(&self, place: u32) -> Held
+        requires { IsPlace (chain_of self.now.held) place }
+        ensures { chain_of self.now.held place ≡ result ∷ drop 1 (chain_of self.now.held place) }
+    {
+        self.held[place as usize].held()
+    }
+
+    /// The place of the next pair outwards, or `None` at the outermost. O(1).
+    #[inline]
+    pub fn outer(&self, place: u32) -> Option<u32>
+        requires { IsPlace (chain_of self.now.held) place }
+        ensures { LeadsTo (chain_of self.now.held) result (drop 1 (chain_of self.now.held place)) }
+    {
+        as_place(self.held.as_slice(), self.outer[place as usize])
+    }
+
+    /// The range that has a leaf of the span. O(log n).
+    #[inline]
+    pub fn find(&self, leaf: CellId) -> usize
+        requires begins { self.now.from ≤ raw_of leaf }
+        requires ends { raw_of leaf < self.now.to }
+        ensures { IsFound self.now.ranges result (raw_of leaf) }
+    {
+        last_start(self.starts.as_slice(), leaf.raw())
+    }
+}
+
+// The first elements of a list, in no more room than they need; where a smaller block is refused, they stay where they are.
+fn trim<T: Drop>(mut list: Vec<T>, len: usize) -> Vec<T>
+    ensures { result.items ≡ take len list.items }
+{
+    list.truncate(len);
+    list.shrink_to_fit();
+    list
+}

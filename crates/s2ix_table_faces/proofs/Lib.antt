@@ -1,0 +1,15 @@
+pub mod Appended
+pub mod Joining
+pub mod Neighbours
+pub mod Places
+pub mod Seating
+pub mod Seats
+pub mod Faces
+pub mod SeatBy
+pub mod Reading
+pub mod Stretches
+pub mod Counts
+pub mod OnFaces
+pub mod Once
+pub mod AllFaces
+pub mod Few

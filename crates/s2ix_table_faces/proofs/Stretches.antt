@@ -1,0 +1,122 @@
+-- The ranges over a face, read by where they begin.
+use Rattle.std.proofs.Common.{◌≡◌, ℕ, zero, suc, ◌+◌, ◌-◌, ◌<◌, ◌≤◌, List, [], ◌∷◌, length, map, take, drop, get_or, slice_index_or, refl, sym, ◌∙◌, ap, arith, add-one, subst}
+use Rattle.std.proofs.Math.Seq.{take-length}
+use Rattle.std.proofs.lemmas.List.{get_or-map, length-map}
+use Rattle.s2ix_bag_pairs.specs.Collection.{Collection}
+use Rattle.s2ix_table_ranges.specs.Table.{Range, range_at, IsTableOver, leaf_end}
+use Rattle.s2ix_table_walk.specs.Faces.{HaveFace}
+use Rattle.s2ix_table_queries.specs.Stretches.{IsStretch}
+use Rattle.s2ix_table_chain.specs.SpanTable.{SpanRanges, IsSpanTable}
+use Rattle.s2ix_table_faces.specs.declared.seat.Seat.{Seat}
+use Rattle.s2ix_table_faces.specs.Faces.{IsOverFace}
+use Rattle.s2ix_table_faces.specs.Joined.{held_in, joined_ranges, AreNeighbours}
+use Rattle.s2ix_table_faces.specs.Whole.{AreJoined}
+use Rattle.s2ix_table_faces.proofs.Neighbours.{joined_table}
+use Rattle.s2ix_table_faces.proofs.Reading.{no_seat, seated, over_face}
+use Rattle.s2ix_table_faces.proofs.Seating.{IsPart}
+use Rattle.s2ix_table_faces.proofs.Seats.{high_of}
+
+-- each of neighbouring tables has its ranges
+span_known : (from : ℕ) (tables : List SpanRanges) (to i : ℕ) (d : SpanRanges) → AreNeighbours from tables to → i < length tables
+    → IsSpanTable (get_or tables i d)
+span_known from [] to i d are lt = absurd (omega arith)
+span_known from (t ∷ ts) to zero d are lt = are.1
+span_known from (t ∷ ts) to (suc i) d are lt = span_known t.to ts to i d are.2 (omega arith)
+
+-- ---- all ranges over a face
+
+window_part : (whole : List Range) (span : SpanRanges) (seat : Seat) (high face : ℕ) → IsPart whole span.ranges seat high
+    → IsOverFace face span → IsSpanTable span → HaveFace whole face seat.place (length span.ranges)
+window_part whole span seat high face part over is =
+    let some = part.some in
+    let by = part.by in
+    let start = part.start in
+    let from = over.from in
+    let first = is.table.first in
+    record {
+      some = omega arith;
+      within = part.within;
+      begins = omega arith;
+      ends = λ k e.
+          let own : ℕ = k - seat.place in
+          let last : own + 1 ≡ length span.ranges = omega arith in
+          let at : seat.place + own ≡ k = omega arith in
+          let to = part.to own (omega arith) in
+          let end = is.table.last own last in
+          let face_end = over.to in
+          let same = ap (λ n. (range_at whole n).limit) at in
+          omega arith;
+    }
+
+pub face_window : (tables now : List SpanRanges) (seats : List Seat) (count face : ℕ) (d span : SpanRanges) → AreJoined tables seats count
+    → tables ≡ now → face < 6 → span ≡ get_or tables face d
+    → HaveFace (joined_ranges now) face (get_or seats face no_seat).place (length span.ranges)
+face_window tables now seats count face d span are view lt same =
+    let six = are.six in
+    let part = seated tables seats count face d no_seat are lt in
+    let over = over_face 0 face tables d are.faces (omega arith) in
+    let e : 0 + face ≡ face = omega arith in
+    let is = span_known 1 tables leaf_end face d are.neighbours (omega arith) in
+    let have = window_part (joined_ranges tables) (get_or tables face d) (get_or seats face no_seat) (high_of seats face count) face part (subst (λ n. IsOverFace n (get_or tables face d)) e over) is in
+    subst (λ ts. HaveFace (joined_ranges ts) face (get_or seats face no_seat).place (length span.ranges)) view
+    (subst (λ (s : SpanRanges). HaveFace (joined_ranges tables) face (get_or seats face no_seat).place (length s.ranges)) (sym same) have)
+
+-- ---- those between the first and the last one
+
+shifted : (starts : List ℕ) (k : ℕ) → slice_index_or (drop 1 starts) k 0 ≡ slice_index_or starts (suc k) 0
+shifted [] k = refl
+shifted (s ∷ ss) k = refl
+
+start_at : (part : List Range) (starts : List ℕ) (k : ℕ) → starts ≡ map (λ (r : Range). r.start) part → k < length part
+    → (range_at part k).start ≡ slice_index_or starts k 0
+start_at part starts k is lt =
+    sym (get_or-map (λ (r : Range). r.start) part k (record { start = 0; limit = 0; contents = [] }) 0 lt) ∙ ap (λ ss. slice_index_or ss k 0) (sym is)
+
+stretch_part : (hs : Collection) (whole part : List Range) (seat : Seat) (high : ℕ) (starts : List ℕ) → IsTableOver hs 1 leaf_end whole
+    → IsPart whole part seat high → starts ≡ map (λ (r : Range). r.start) part
+    → IsStretch whole (seat.place + 1) (length starts - 2) (drop 1 starts)
+stretch_part hs whole part seat high starts t is same =
+    let some = is.some in
+    let within = is.within in
+    let many : length starts ≡ length part = ap length same ∙ length-map part (λ (r : Range). r.start) in
+    let fewer = length-drop starts (omega arith) in
+    let begins : (k : ℕ) → k + 1 < length part → (range_at whole (seat.place + 1 + k)).start ≡ slice_index_or (drop 1 starts) k 0 = λ k lt.
+    let e : seat.place + 1 + k ≡ seat.place + (k + 1) = omega arith in
+    ap (λ n. (range_at whole n).start) e ∙ is.later (k + 1) (omega arith) lt ∙ start_at part starts (k + 1) same lt ∙ ap (λ n. slice_index_or starts n 0) (add-one k) ∙ sym (shifted starts k) in
+    record {
+      within = omega arith;
+      room = λ more. omega arith;
+      begins = λ k lt. begins k (omega arith);
+      ends = λ k lt.
+          let next : seat.place + 1 + k + 1 ≡ seat.place + 1 + (k + 1) = omega arith in
+          t.next (seat.place + 1 + k) (seat.place + 1 + (k + 1)) next (omega arith) ∙ begins (k + 1) (omega arith);
+    }
+  where
+    length-drop : (xs : List ℕ) → 0 < length xs → length (drop 1 xs) + 1 ≡ length xs
+    length-drop [] more = absurd (omega arith)
+    length-drop (x ∷ xs) more = omega arith
+
+pub face_stretch : (tables now : List SpanRanges) (seats : List Seat) (count face : ℕ) (d span : SpanRanges) (starts : List ℕ)
+    → AreJoined tables seats count → tables ≡ now → face < 6 → span ≡ get_or tables face d
+    → starts ≡ map (λ (r : Range). r.start) span.ranges
+    → IsStretch (joined_ranges now) ((get_or seats face no_seat).place + 1) (length starts - 2) (drop 1 starts)
+face_stretch tables now seats count face d span starts are view lt same is =
+    let part = seated tables seats count face d no_seat are lt in
+    let own = is ∙ ap (λ (s : SpanRanges). map (λ (r : Range). r.start) s.ranges) same in
+    let stretch = stretch_part (held_in tables) (joined_ranges tables) (get_or tables face d).ranges (get_or seats face no_seat) (high_of seats face count) starts (joined_table 1 tables leaf_end (omega arith) are.neighbours) part own in
+    subst (λ ts. IsStretch (joined_ranges ts) ((get_or seats face no_seat).place + 1) (length starts - 2) (drop 1 starts)) view stretch
+
+-- each face has a range
+pub some_starts : (tables : List SpanRanges) (seats : List Seat) (count face : ℕ) (d span : SpanRanges) (starts : List ℕ)
+    → AreJoined tables seats count → face < 6 → span ≡ get_or tables face d → starts ≡ map (λ (r : Range). r.start) span.ranges
+    → 1 ≤ length starts
+some_starts tables seats count face d span starts are lt same is =
+    let some = (seated tables seats count face d no_seat are lt).some in
+    let many = ap length is ∙ length-map span.ranges (λ (r : Range). r.start) in
+    let ranges = ap (λ (s : SpanRanges). length s.ranges) same in
+    omega arith
+
+-- all of a list but its first element, by their number
+pub rest_of : (xs : List ℕ) → take (length xs - 1) (drop 1 xs) ≡ drop 1 xs
+rest_of [] = refl
+rest_of (x ∷ xs) = let e : length (x ∷ xs) - 1 ≡ length xs = omega arith in ap (λ n. take n xs) e ∙ take-length xs

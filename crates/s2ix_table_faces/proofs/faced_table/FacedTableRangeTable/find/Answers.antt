@@ -1,0 +1,11 @@
+use Rattle.std.proofs.Common.{rules}
+use Rattle.s2ix_table_faces.proofs.faced_table.FacedTableRangeTable.find.Goals as goal
+
+pub returns-clause-within : goal.returns-clause-within
+returns-clause-within c = search rules
+
+pub returns-clause-start : goal.returns-clause-start
+returns-clause-start c = search rules
+
+pub returns-clause-limit : goal.returns-clause-limit
+returns-clause-limit c = search rules

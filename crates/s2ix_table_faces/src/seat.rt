@@ -1,0 +1,77 @@
+//! Where the ranges of each face's table stand among the joined ones.
+ghost use Rattle.std.specs.Prelude.{◌≡◌, ◌+◌, ◌-◌, ◌<◌, ◌≤◌, length, slice_index_or};
+ghost use Rattle.s2ix_table_chain.specs.SpanTable.{IsSpanTable};
+ghost use Rattle.s2ix_table_chain.specs.Starts.{IsLastStart};
+ghost use Rattle.s2ix_table_faces.specs.Seats.{seat_after, places_of, AreInOrder};
+
+use crate::face_table::FaceTable;
+
+// How many faces the cube has.
+pub(crate) const FACES: usize = 6;
+
+// The place of a table's first range, and the leaf number at which that range begins once it is joined to what stands before it.
+#[derive(Clone, Copy, Debug)]
+pub(crate) struct Seat {
+    pub(crate) place: usize,
+    pub(crate) start: u64,
+}
+
+impl Seat {
+    // The seat of the next table, where this is that of a table. O(1).
+    pub(crate) fn after(self, table: &FaceTable, next: &FaceTable) -> Seat
+        requires few { self.place ≤ 100000000 }
+        ensures seat { result ≡ seat_after self table.now.ranges next.now.ranges }
+        ensures rises { self.place ≤ result.place }
+        ensures few { result.place ≤ self.place + 2000001 }
+        ensures table { IsSpanTable table.now }
+        ensures next { IsSpanTable next.now }
+    {
+        table.has_its_ranges();
+        next.has_its_ranges();
+        let table = table.span();
+        let next = next.span();
+        let last = table.range_count() - 1;
+        if table.first(last).is_none() && next.first(0).is_none() {
+            let start = if last == 0 {
+                self.start
+            } else {
+                table.start(last)
+            };
+            Seat {
+                place: self.place + last,
+                start,
+            }
+        } else {
+            Seat {
+                place: self.place + last + 1,
+                start: next.start(0),
+            }
+        }
+    }
+}
+
+impl Seat {
+    // How many ranges stand behind this seat's first one, before the last one before the next seat. O(1).
+    #[inline]
+    pub(crate) fn inner_count(self, next: usize) -> usize
+        ensures { result ≡ next - self.place - 2 }
+    {
+        next.saturating_sub(self.place).saturating_sub(2)
+    }
+}
+
+// The last of six seats that is not behind a place. It takes five tests and no branch.
+#[inline]
+pub(crate) fn seat_by(seats: &[Seat; FACES], k: usize) -> usize
+    requires order { AreInOrder seats.now }
+    requires first { slice_index_or (places_of seats.now) 0 0 ≡ 0 }
+    ensures last { IsLastStart (places_of seats.now) k result }
+    ensures within { result < 6 }
+{
+    let [_, second, third, fourth, fifth, sixth] = seats;
+    usize::from(second.place <= k)
+        + usize::from(third.place <= k)
+        + usize::from(fourth.place <= k)
+        + usize::from(fifth.place <= k)
+        + usize::from(sixth.place <= k)
+}

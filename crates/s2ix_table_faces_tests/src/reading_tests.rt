@@ -1,0 +1,182 @@
+//! Bags that are read pair by pair, and the faces that changes have entries on.
+use s2ix_bag::{Bag, Change, FlatHeld, Held};
+use s2ix_bag_samples::{LimitRow, are_flat_pairs, bag_of, change_of, held_of};
+use s2ix_table::{
+    BagReader, PairReader, changed_face_count, changed_faces, read_changed, read_face,
+};
+use std::alloc::Global;
+
+const LIMITS: LimitRow = (12, 9, 1);
+
+// Whether a reader gives a pair at a place.
+fn reads_pair<R: PairReader>(reader: &mut R, place: usize, wanted: Held) -> bool {
+    place < reader.len() && reader.read(place) == wanted
+}
+
+// Whether a reader that has read nothing gives these pairs in their order and no others, and counts each.
+fn reads_pairs<R: PairReader>(reader: &mut R, pairs: &str) -> bool {
+    let mut place = 0usize;
+    let mut reads = 0u64;
+    for text in pairs.split_ascii_whitespace() {
+        let Some(wanted) = held_of(text) else {
+            return false;
+        };
+        if reader.reads() != reads || !reads_pair(reader, place, wanted) {
+            return false;
+        }
+        place = place.wrapping_add(1);
+        reads = reads.wrapping_add(1);
+    }
+    place == reader.len() && reader.reads() == reads
+}
+
+// Whether a reader of the bag of some pairs reads them so.
+fn is_read(alloc: Global, pairs: &str) -> Option<bool> {
+    let bag = bag_of(alloc, LIMITS, pairs)?;
+    Some(reads_pairs(&mut BagReader::new(&bag), pairs))
+}
+
+#[test]
+fn a_bag_is_read_and_counted(rt: HostRuntime) {
+    for &pairs in &["", "04:7:1", "04:7:1 1:7:2 1:9:3 5:7:4 b:7:5"] {
+        assert!(rt;
+            is_read(rt.alloc(), pairs) == Some(true),
+            "wrong at {pairs}"
+        );
+    }
+}
+
+// Places of a bag, to and fro between its faces, each with its pair.
+const MIXED: &str = "04:7:1 1:7:2 1:9:3 5:7:4 b:7:5";
+
+const PLACES: [(usize, &str); 8] = [
+    (4, "b:7:5"),
+    (0, "04:7:1"),
+    (2, "1:9:3"),
+    (3, "5:7:4"),
+    (2, "1:9:3"),
+    (4, "b:7:5"),
+    (1, "1:7:2"),
+    (3, "5:7:4"),
+];
+
+// Whether a reader of a bag gives the pairs at the places, and counts each.
+fn is_read_at_places(bag: &Bag) -> bool {
+    let mut reader = BagReader::new(bag);
+    for &(place, pair) in &PLACES {
+        match held_of(pair) {
+            Some(wanted) if reads_pair(&mut reader, place, wanted) => {}
+            _ => return false,
+        }
+    }
+    reader.reads() == 8
+}
+
+#[test]
+fn a_bag_is_read_to_and_fro(rt: HostRuntime) {
+    let bag = bag_of(rt.alloc(), LIMITS, MIXED).expect(&rt, MIXED);
+    assert!(rt; is_read_at_places(&bag));
+}
+
+// Entries, whether each face has one, and how many faces have.
+const CHANGES: [(&str, [bool; 6], u8); 4] = [
+    ("", [false, false, false, false, false, false], 0),
+    ("5:7:3:0", [false, false, true, false, false, false], 1),
+    (
+        "1:6:0:9 1:7:1:0 b:8:0:9",
+        [true, false, false, false, false, true],
+        2,
+    ),
+    (
+        "1:7:1:0 3:7:2:0 5:7:3:0 7:7:4:0 9:7:5:0 b:7:6:0",
+        [true, true, true, true, true, true],
+        6,
+    ),
+];
+
+// Whether the change with these entries tells these faces, and so many.
+fn tells_faces(alloc: Global, entries: &str, faces: [bool; 6], count: u8) -> Option<bool> {
+    let change = change_of(alloc, entries)?;
+    Some(changed_faces(&change) == faces && changed_face_count(&change) == count)
+}
+
+#[test]
+fn a_change_tells_its_faces(rt: HostRuntime) {
+    for &(entries, faces, count) in &CHANGES {
+        let same = tells_faces(rt.alloc(), entries, faces, count);
+        assert!(rt; same == Some(true), "wrong at {entries}");
+    }
+}
+
+// Whether these pairs are those of the face at a place, and so many stand before them.
+fn stand_on_face(bag: &Bag, place: usize, before: usize, pairs: &str) -> bool {
+    if bag.len() <= place {
+        return false;
+    }
+    let (first, own) = bag.face_at(place);
+    first == before && are_flat_pairs(own, pairs)
+}
+
+#[test]
+fn a_place_has_the_pairs_of_its_face(rt: HostRuntime) {
+    let bag = bag_of(rt.alloc(), LIMITS, MIXED).expect(&rt, MIXED);
+    for place in 0..3 {
+        assert!(rt; stand_on_face(&bag, place, 0, "04:7:1 1:7:2 1:9:3"));
+    }
+    assert!(rt; stand_on_face(&bag, 3, 3, "5:7:4"));
+    assert!(rt; stand_on_face(&bag, 4, 4, "b:7:5"));
+}
+
+// The pairs of a bag, a face, the pairs on it, and what reading it may cost at most: a read for each, and two searches.
+const FACES: [(&str, u8, &str, u64); 8] = [
+    ("", 0, "", 2),
+    ("04:7:1", 0, "04:7:1", 5),
+    ("04:7:1", 5, "", 4),
+    ("04:7:1", 6, "", 4),
+    ("04:7:1 1:7:2 1:9:3 5:7:4 b:7:5", 0, "04:7:1 1:7:2 1:9:3", 9),
+    ("04:7:1 1:7:2 1:9:3 5:7:4 b:7:5", 2, "5:7:4", 7),
+    ("04:7:1 1:7:2 1:9:3 5:7:4 b:7:5", 3, "", 6),
+    ("b:7:1 b:8:2 b:9:3", 5, "b:7:1 b:8:2 b:9:3", 9),
+];
+
+// Whether a face of a bag is read as these pairs, by at least as many reads and at most so many.
+fn reads_face(alloc: Global, bag: &Bag, face: u8, wanted: &str, most: u64) -> Option<bool> {
+    let mut reader = BagReader::new(bag);
+    let held = read_face(alloc, &mut reader, face).ok()?;
+    let is_within = (held.len() as u64) <= reader.reads() && reader.reads() <= most;
+    Some(is_within && are_flat_pairs(held.as_slice(), wanted))
+}
+
+#[test]
+fn a_face_is_read_by_few_reads(rt: HostRuntime) {
+    for &(pairs, face, wanted, most) in &FACES {
+        let bag = bag_of(rt.alloc(), LIMITS, pairs).expect(&rt, pairs);
+        let same = reads_face(rt.alloc(), &bag, face, wanted, most);
+        assert!(rt; same == Some(true), "wrong at {pairs}, face {face}");
+    }
+}
+
+// Whether two faces were read, the one without pairs and the other one with these, and no other face.
+fn are_two_faces(read: &[Option<Vec<FlatHeld>>; 6], pairs: &str) -> bool {
+    match read {
+        [None, Some(second), Some(third), None, None, None] => {
+            second.is_empty() && are_flat_pairs(third.as_slice(), pairs)
+        }
+        _ => false,
+    }
+}
+
+// Whether the faces of a change alone are read, by few reads.
+fn reads_changed(alloc: Global, bag: &Bag, change: &Change) -> Option<bool> {
+    let mut reader = BagReader::new(bag);
+    let read = read_changed(alloc, &mut reader, change).ok()?;
+    let is_few = 1 <= reader.reads() && reader.reads() <= 13;
+    Some(is_few && are_two_faces(&read, "5:7:4"))
+}
+
+#[test]
+fn changed_faces_alone_are_read(rt: HostRuntime) {
+    let bag = bag_of(rt.alloc(), LIMITS, MIXED).expect(&rt, MIXED);
+    let change = change_of(rt.alloc(), "3:7:2:0 5:7:3:4").expect(&rt, "a change");
+    assert!(rt; reads_changed(rt.alloc(), &bag, &change) == Some(true));
+}

@@ -1,0 +1,4 @@
+pub mod Labelling
+pub mod Yielding
+pub mod Stretching
+pub mod Building

@@ -1,0 +1,3 @@
+pub mod Iterators
+pub mod Stretches
+pub mod Copied

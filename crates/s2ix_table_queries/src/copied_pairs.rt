@@ -1,0 +1,21 @@
+ghost use Rattle.std.specs.Prelude.{◌≡◌, ◌≤◌, IfOk, length};
+ghost use Rattle.s2ix_bag_pairs.specs.Collection.{IsCollection};
+
+use s2id_core::OutOfMemory;
+use s2ix_bag::Bag;
+use s2ix_bag_pairs::Held;
+use std::alloc::Global;
+
+// What a bag holds, in its order. O(n) for n pairs.
+pub(crate) fn held_pairs(alloc: Global, bag: &Bag) -> Result<Vec<Held>, OutOfMemory>
+    ensures list { IfOk result (λ held. held.items ≡ bag.now.held) }
+    ensures rises { IfOk result (λ held. IsCollection held.items) }
+    ensures few { IfOk result (λ held. length held.items ≤ 1000000) }
+{
+    let len = bag.len();
+    let mut held = Vec::with_capacity(alloc, len)?;
+    for k in 0..len {
+        held.push(bag.held(k))?;
+    }
+    Ok(held)
+}

@@ -1,0 +1,9 @@
+use s2ix_bag_pairs::Held;
+
+// A range with a list of its own of what lies over it.
+#[derive(Debug, Drop)]
+pub(crate) struct CopiedRange {
+    pub(crate) start: u64,
+    pub(crate) limit: u64,
+    pub(crate) contents: Vec<Held>,
+}

@@ -1,0 +1,40 @@
+//! Laws: functions that do nothing, and whose contracts are facts on the definitions.
+ghost use Rattle.std.specs.Prelude.{◌≡◌, ◌↔◌, IsTrue};
+ghost use Rattle.s2ix_table_queries.specs.declared.visit.Visit.{Visit};
+ghost use Rattle.s2ix_table_queries.specs.declared.copied.CopiedPlace.{CopiedPlace};
+
+use crate::copied::CopiedPlace;
+use crate::iter::RangeIter;
+use crate::stretch::Stretch;
+use crate::table::RangeTable;
+use crate::visit::Visit;
+
+/// Two answers of counted visits are equal exactly where they are one.
+pub fn equal_visits_are_one()
+    ensures { (a b : Visit) → IsTrue (⟦<Visit as PartialEq>⟧.eq a b) ↔ (a ≡ b) }
+{}
+
+/// A clone of a counted visit's answer is the same.
+pub fn cloned_visits_are_the_same()
+    ensures { (a copy : Visit) → ⟦<Visit as Clone>⟧.is_clone a copy ↔ (copy ≡ a) }
+{}
+
+/// A clone of an iterator over ranges is the same: over the same table, from the same range on.
+pub fn cloned_range_iterators_are_the_same<'a, T: RangeTable + 'a>()
+    ensures { (it copy : _) → ⟦<RangeIter<'a, T> as Clone>⟧.is_clone it copy ↔ (copy ≡ it) }
+{}
+
+/// A clone of a stretch of ranges is the same.
+pub fn cloned_stretches_are_the_same<'a>()
+    ensures { (stretch copy : _) → ⟦<Stretch<'a> as Clone>⟧.is_clone stretch copy ↔ (copy ≡ stretch) }
+{}
+
+/// Two places are equal exactly where they are one.
+pub fn equal_places_are_one()
+    ensures { (a b : CopiedPlace) → IsTrue (⟦<CopiedPlace as PartialEq>⟧.eq a b) ↔ (a ≡ b) }
+{}
+
+/// A clone of a place is the same.
+pub fn cloned_places_are_the_same()
+    ensures { (a copy : CopiedPlace) → ⟦<CopiedPlace as Clone>⟧.is_clone a copy ↔ (copy ≡ a) }
+{}

@@ -1,0 +1,98 @@
+ghost use Rattle.std.specs.Prelude.{◌≡◌};
+ghost use Rattle.s2ix_table_walk.specs.Costs.{no_cost};
+ghost use Rattle.s2ix_table_queries.specs.Stretches.{IsStretch};
+
+use crate::stretch::Stretch;
+use crate::table::RangeTable;
+use s2ix_bag_pairs::Held;
+use s2ix_table_ranges::RangeRow;
+use s2ix_table_walk::{Cost, Reader, Window};
+
+/// A reader of a table that counts what is read of it. It keeps the stretch of the face that was last asked for at hand, by which a search
+/// reads where ranges begin, and the note by which the table reads ranges nearby.
+#[derive(Debug, Drop)]
+pub struct Meter<'a, T: RangeTable> {
+    table: &'a T,
+    cost: Cost,
+    near: Stretch<'a>,
+    note: usize,
+    pub ghost near_is: { IsStretch (T.ranges table.now) near.first near.count near.starts.now },
+}
+
+// A number that no table knows a range by: what a search reads so is in no stretch at hand, and what reads it is not compiled into its loop.
+const NO_NOTE: usize = usize::MAX;
+
+impl<'a, T: RangeTable> Meter<'a, T> {
+    /// A reader of a table that has read nothing. O(1).
+    pub fn new(table: &'a T) -> Meter<'a, T>
+        ensures shown { ⟦<Meter<'a, T> as Reader>⟧.shown result
+            ≡ record { pairs = T.pairs table.now; ranges = T.ranges table.now; chain = T.chain table.now } }
+        ensures unread { ⟦<Meter<'a, T> as Reader>⟧.spent result ≡ no_cost }
+    {
+        Meter {
+            table,
+            cost: Cost::none(),
+            near: Stretch::none(),
+            note: 0,
+        }
+    }
+}
+
+impl<T: RangeTable> Reader for Meter<'_, T> {
+    type Place = T::Place;
+
+    ghost shown = { λ meter. record { pairs = T.pairs meter.table.now; ranges = T.ranges meter.table.now; chain = T.chain meter.table.now } };
+
+    ghost spent = { λ meter. meter.cost };
+
+    ghost is_shown = { λ meter. record { is_collection = T.is_collection meter.table.now; is_table = T.is_table meter.table.now; few = T.few meter.table.now } };
+
+    fn range_count(&self) -> usize {
+        self.table.range_count()
+    }
+
+    fn window(&mut self, face: u8) -> Window {
+        self.cost.add_probe();
+        self.near = self.table.stretch(face);
+        self.note = self.near.note;
+        self.table.window(face)
+    }
+
+    fn first(&self, k: usize) -> Option<T::Place> {
+        self.table.first(k)
+    }
+
+    fn outer(&self, place: T::Place) -> Option<T::Place> {
+        self.table.outer(place)
+    }
+
+    fn row(&mut self, k: usize) -> RangeRow {
+        self.cost.add_probe();
+        self.table.range(k)
+    }
+
+    fn start(&mut self, k: usize) -> u64 {
+        self.cost.add_probe();
+        let own = k.wrapping_sub(self.near.first);
+        if own < self.near.count {
+            return self.near.starts[own];
+        }
+        self.table.read_near(k, NO_NOTE).0.start
+    }
+
+    fn row_and_first(&mut self, k: usize) -> (RangeRow, Option<T::Place>) {
+        self.cost.add_probe();
+        let (row, first, note) = self.table.read_near(k, self.note);
+        self.note = note;
+        (row, first)
+    }
+
+    fn node(&mut self, place: T::Place) -> Held {
+        self.cost.add_look();
+        self.table.held_at(place)
+    }
+
+    fn cost(&self) -> Cost {
+        self.cost
+    }
+}

@@ -1,0 +1,31 @@
+ghost use Rattle.std.specs.Prelude.{List};
+ghost use Rattle.s2ix_table_ranges.specs.Table.{Range};
+ghost use Rattle.s2ix_table_queries.specs.Stretches.{IsStretch};
+
+/// Some ranges of a table, one behind the other, read by where they begin: `count` of them, from `first` on. Each begins at its own of the
+/// starts and ends at the next one.
+#[derive(Clone, Copy, Debug)]
+pub struct Stretch<'a> {
+    /// The place of the first one.
+    pub first: usize,
+    /// How many there are.
+    pub count: usize,
+    /// Where each begins, and behind the last one where it ends.
+    pub starts: &'a [u64],
+    /// A number of the table's own, for [`read_near`](crate::RangeTable::read_near).
+    pub note: usize,
+}
+
+impl Stretch<'_> {
+    /// The stretch of no range.
+    pub fn none() -> Stretch<'static>
+        ensures { (ranges : List Range) → IsStretch ranges result.first result.count result.starts.now }
+    {
+        Stretch {
+            first: 0,
+            count: 0,
+            starts: &[],
+            note: 0,
+        }
+    }
+}

@@ -1,0 +1,178 @@
+ghost use Rattle.std.specs.Prelude.{◌≡◌, ◌<◌, ◌≤◌, ◌∷◌, ℕ, IfOk, IsTrue, List, length, drop};
+ghost use Rattle.s2id_core.specs.CellId.{raw_of, level_of};
+ghost use Rattle.s2ix_bag_pairs.specs.Collection.{Collection, IsCollection};
+ghost use Rattle.s2ix_table_ranges.specs.LabelList.{label_list};
+ghost use Rattle.s2ix_table_ranges.specs.Table.{Range, range_at, IsRangeTable};
+ghost use Rattle.s2ix_table_walk.specs.Places.{IsPlace, LeadsTo};
+ghost use Rattle.s2ix_table_walk.specs.Faces.{HaveFace};
+ghost use Rattle.s2ix_table_queries.specs.Stretches.{IsStretch};
+ghost use Rattle.s2ix_table_ranges.specs.Meeting.{IsMeetingList, IsLabelList, meeting_of};
+ghost use Rattle.s2ix_table_walk.specs.Calls.{MayVisit, CallsOn, Visits};
+ghost use Rattle.s2ix_table_walk.specs.Costs.{ranges_met, IsWalkCost};
+
+use crate::labels::gather;
+use crate::meter::Meter;
+use crate::stretch::Stretch;
+use crate::visit::Visit;
+use s2id_core::{CellId, OutOfMemory};
+use s2id_union::CellUnion;
+use s2ix_bag::Bag;
+use s2ix_bag_pairs::{Held, Label};
+use s2ix_table_ranges::RangeRow;
+use s2ix_table_walk::{Meeting, Reader, Window, walk};
+use std::alloc::Global;
+
+/// The range table of a collection: the maximal spans of leaves over which the same pairs lie, in order, each with a
+/// chain of these pairs (S2's `S2CellIndex`, its ranges and its contents). The ranges cover all leaves, empty ones too.
+///
+/// Queries are `visit`, `visit_counted`, `meeting` and `labels`, at the end. `window`, `stretch` and `read_near` only make a walk quicker:
+/// a user needs none of them, and a table may keep their default bodies.
+///
+/// Costs are in n, the number of the table's pairs: there are at most 2 * n + 1 ranges.
+pub trait RangeTable: Sized {
+    /// Where a table keeps a pair of a chain.
+    type Place: Copy;
+
+    // the pairs that the table was built of, with their counts
+    ghost pairs: { Self → Collection };
+
+    // the ranges, each with its contents
+    ghost ranges: { Self → List Range };
+
+    // the pairs from a place on, outwards; none at what is no place of the table
+    ghost chain: { Self → Self.Place → Collection };
+
+    /// The table of a bag, at the cost that the type names. `OutOfMemory` where a growth is refused.
+    fn build(alloc: Global, bag: &Bag) -> Result<Self, OutOfMemory>
+        ensures { IfOk result (λ table. pairs table ≡ bag.now.held) };
+
+    /// How many ranges there are: at least 1, at most 2 * n + 1. O(1).
+    fn range_count(&self) -> usize
+        ensures { result ≡ length (ranges self.now) };
+
+    /// The leaves of a range. O(1).
+    fn range(&self, k: usize) -> RangeRow
+        requires { k < length (ranges self.now) }
+        ensures start { result.start ≡ (range_at (ranges self.now) k).start }
+        ensures limit { result.limit ≡ (range_at (ranges self.now) k).limit };
+
+    /// The ranges among which all of those over a face, 0 to 5, are: all that there are, where a table knows no fewer. O(1).
+    fn window(&self, face: u8) -> Window
+        requires { face < 6 }
+        ensures { HaveFace (ranges self.now) face result.first result.size }
+    {
+        Window {
+            first: 0,
+            size: self.range_count(),
+        }
+    }
+
+    /// Ranges over a face, 0 to 5, that can be read by where they begin: none, where a table keeps no such list. O(1).
+    fn stretch(&self, face: u8) -> Stretch<'_>
+        requires { face < 6 }
+        ensures { IsStretch (ranges self.now) result.first result.count result.starts.now }
+    {
+        Stretch::none()
+    }
+
+    /// The place of a range's innermost pair, or `None` where nothing lies over it. O(1).
+    fn first(&self, k: usize) -> Option<Self::Place>
+        requires { k < length (ranges self.now) }
+        ensures { LeadsTo (chain self.now) result (range_at (ranges self.now) k).contents };
+
+    /// The leaves of a range and the place of its innermost pair, as [`range`](RangeTable::range) and [`first`](RangeTable::first) give
+    /// them, and a number to read ranges nearby by: sooner where `note` is such a number, or that of a stretch in which the range is. Any
+    /// number serves. O(1).
+    fn read_near(&self, k: usize, note: usize) -> (RangeRow, Option<Self::Place>, usize)
+        requires { k < length (ranges self.now) }
+        ensures start { result.0.start ≡ (range_at (ranges self.now) k).start }
+        ensures limit { result.0.limit ≡ (range_at (ranges self.now) k).limit }
+        ensures first { LeadsTo (chain self.now) result.1 (range_at (ranges self.now) k).contents }
+    {
+        (self.range(k), self.first(k), note)
+    }
+
+    /// The pair at a place, with its count. O(1).
+    fn held_at(&self, place: Self::Place) -> Held
+        requires { IsPlace (chain self.now) place }
+        ensures { chain self.now place ≡ result ∷ drop 1 (chain self.now place) };
+
+    /// The place of the next pair outwards, or `None` at the outermost. O(1).
+    fn outer(&self, place: Self::Place) -> Option<Self::Place>
+        requires { IsPlace (chain self.now) place }
+        ensures { LeadsTo (chain self.now) result (drop 1 (chain self.now place)) };
+
+    /// The range that has a leaf. O(log n).
+    fn find(&self, leaf: CellId) -> usize
+        requires { level_of leaf ≡ 30 }
+        ensures within { result < length (ranges self.now) }
+        ensures start { (range_at (ranges self.now) result).start ≤ raw_of leaf }
+        ensures limit { raw_of leaf < (range_at (ranges self.now) result).limit };
+
+    // the pairs rise strictly, each with a count above 0
+    ghost is_collection: { (table : Self) → IsCollection (pairs table) };
+
+    // the ranges are the range table of the pairs
+    ghost is_table: { (table : Self) → IsRangeTable (pairs table) (ranges table) };
+
+    // the pairs are at most as many as the widest limits let a bag hold
+    ghost few: { (table : Self) → length (pairs table) ≤ 1000000 };
+
+    /// Calls `f` on each pair of the target's meeting list, in order, up to and with the first call that answers false;
+    /// whether every call answered true (S2's `VisitIntersectingCells()`). Takes no memory; `f` need only be callable on
+    /// the pairs of the list. O(k + r + t log n) for k pairs over the r ranges that the target meets, and t cells of it.
+    final fn visit<F: FnMut(Held) -> bool>(&self, target: &CellUnion, f: &mut F) -> bool
+        requires { MayVisit F.pre F.step f.old (meeting_of target.now (pairs self.now)) }
+        ensures { Visits F.step f.old (meeting_of target.now (pairs self.now)) result f.new }
+    {
+        let mut meter = Meter::new(self);
+        walk(&mut meter, target, f)
+    }
+
+    /// Calls `f` as [`visit`](RangeTable::visit) does, and counts what it reads of the table: the cost has the bounds that
+    /// [`walk`](s2ix_table_walk::walk) states.
+    final fn visit_counted<F: FnMut(Held) -> bool>(&self, target: &CellUnion, f: &mut F) -> Visit
+        requires { MayVisit F.pre F.step f.old (meeting_of target.now (pairs self.now)) }
+        ensures visits { (calls : ℕ)
+            × CallsOn F.step f.old (meeting_of target.now (pairs self.now)) calls result.whole f.new
+            × IsWalkCost target.now (pairs self.now) (ranges self.now) calls result.cost }
+        ensures whole_probes { IsTrue result.whole → ranges_met target.now (ranges self.now) ≤ result.cost.probes }
+    {
+        let mut meter = Meter::new(self);
+        let whole = walk(&mut meter, target, f);
+        Visit {
+            whole,
+            cost: meter.cost(),
+        }
+    }
+
+    /// The target's meeting list: the held pairs that share a leaf with it, each once, by first shared leaf, then falling
+    /// level, then rising label: what `visit` gives, as a list. `OutOfMemory` if a growth is refused. It takes as long as `visit`.
+    final fn meeting(&self, alloc: Global, target: &CellUnion) -> Result<Vec<Held>, OutOfMemory>
+        ensures list { IfOk result (λ list. list.items ≡ meeting_of target.now (pairs self.now)) }
+        ensures met { IfOk result (λ list. IsMeetingList target.now (pairs self.now) list.items) }
+    {
+        let mut meter = Meter::new(self);
+        let mut meeting = Meeting::new(&mut meter, target);
+        let mut list = Vec::new(alloc);
+        while let Some(held) = meeting.advance() {
+            list.push(held)?;
+        }
+        Ok(list)
+    }
+
+    /// The labels of the target's meeting list, once each and rising (S2's `GetIntersectingLabels()`). `OutOfMemory`
+    /// if a growth is refused. It takes as long as `visit`, and O(m log m) for m pairs met.
+    final fn labels(&self, alloc: Global, target: &CellUnion) -> Result<Vec<Label>, OutOfMemory>
+        ensures labels { IfOk result (λ labels. IsLabelList (meeting_of target.now (pairs self.now)) labels.items) }
+        ensures list { IfOk result (λ labels. labels.items ≡ label_list (meeting_of target.now (pairs self.now))) }
+    {
+        let mut labels = Vec::new(alloc);
+        if !gather(self, target, &mut labels) {
+            return Err(OutOfMemory);
+        }
+        labels.sort_unstable();
+        labels.dedup();
+        Ok(labels)
+    }
+}

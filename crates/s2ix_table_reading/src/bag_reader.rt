@@ -1,0 +1,71 @@
+ghost use Rattle.std.specs.Prelude.{◌≡◌, ◌≤◌, length, take, drop};
+ghost use Rattle.s2ix_bag_pairs.specs.Collection.{IsCollection};
+ghost use Rattle.s2ix_bag_pairs.specs.OneProof.{IsCollection-prop};
+
+use crate::pair_reader::PairReader;
+use s2ix_bag::Bag;
+use s2ix_bag_lists::FlatHeld;
+use s2ix_bag_pairs::Held;
+
+/// A reader of a bag that counts what is read of it.
+#[derive(Debug, Drop)]
+pub struct BagReader<'a> {
+    bag: &'a Bag,
+    len: usize,
+    // how many pairs stand before those of the face that was read last
+    before: usize,
+    // the pairs of that face; none before the first read
+    own: &'a [FlatHeld],
+    reads: u64,
+    ghost counted: { len ≡ length bag.now.held },
+    ghost rises: { IsCollection bag.now.held } by { IsCollection-prop 0 bag.now.held },
+    ghost few: { length bag.now.held ≤ 1000000 },
+    ghost near: { before ≤ 1000000 },
+    ghost part: { take (length own.now) (drop before bag.now.held) ≡ own.now },
+}
+
+impl<'a> BagReader<'a> {
+    /// A reader of a bag that has read nothing. O(1).
+    pub fn new(bag: &'a Bag) -> BagReader<'a>
+        ensures shown { ⟦<BagReader<'a> as PairReader>⟧.shown result ≡ bag.now.held }
+        ensures unread { ⟦<BagReader<'a> as PairReader>⟧.spent result ≡ 0 }
+    {
+        BagReader {
+            bag,
+            len: bag.len(),
+            before: 0,
+            own: &[],
+            reads: 0,
+        }
+    }
+}
+
+impl PairReader for BagReader<'_> {
+    ghost shown = { λ reader. reader.bag.now.held };
+
+    ghost spent = { λ reader. reader.reads };
+
+    ghost is_read = { λ reader. record { is_collection = reader.rises; few = reader.few } };
+
+    fn len(&self) -> usize {
+        self.len
+    }
+
+    // compiled into its callers, so that a face is read by one loop without a call
+    #[inline(always)]
+    fn read(&mut self, k: usize) -> Held {
+        self.reads = self.reads.saturating_add(1);
+        // a place before the face at hand is far behind it too
+        if let Some(held) = self.own.get(k.wrapping_sub(self.before)) {
+            return held.held();
+        }
+        let (before, own) = self.bag.face_at(k);
+        self.before = before;
+        self.own = own;
+        own[k - before].held()
+    }
+
+    fn reads(&self) -> u64 {
+        self.reads
+    }
+}

@@ -1,0 +1,110 @@
+ghost use Rattle.std.specs.Prelude.{◌≡◌, ◌<◌, ◌≤◌, ◌↔◌, ◌+◌, ◌-◌, ◌*◌, IsTrue, length, take, drop, map, option_map, IfOk, OnOk};
+ghost use Rattle.s2ix_bag_lists.specs.Faces.{face_start};
+ghost use Rattle.s2ix_bag_pairs.specs.Collection.{IsCollectionFrom, AreBelow};
+ghost use Rattle.s2ix_bag_pairs.specs.Pair.{rank_of};
+ghost use Rattle.s2id_core.specs.BinaryDigits.{binary_digits};
+ghost use Rattle.s2ix_table_reading.specs.Faces.{faces, held_on, changed_on, changed_count};
+ghost use Rattle.s2ix_table_reading.specs.Reading.{HasRead, IsFaceRead, AreChangedRead, two_searches};
+
+use crate::changes::changed_faces;
+use crate::pair_reader::PairReader;
+use s2id_core::OutOfMemory;
+use s2ix_bag::Change;
+use s2ix_bag_lists::FlatHeld;
+use s2ix_bag_pairs::Pair;
+use std::alloc::Global;
+
+// Whether a pair lies on a face before this one.
+fn is_before_face(pair: Pair, face: usize) -> bool
+    ensures { IsTrue result ↔ (rank_of pair < face_start face) }
+{
+    usize::from(pair.cell.face()) < face
+}
+
+// How many pairs lie on faces before this one: half of those that are left at each read.
+fn first_from<B: PairReader>(reader: &mut B, face: usize) -> usize
+    ensures within { result ≤ length (B.shown reader.old) }
+    ensures below { AreBelow (face_start face) (take result (B.shown reader.old)) }
+    ensures rest { IsCollectionFrom (face_start face) (drop result (B.shown reader.old)) }
+    ensures same { B.shown reader.new ≡ B.shown reader.old }
+    ensures reads { HasRead 0 (binary_digits (length (B.shown reader.old) + 1)) (B.spent reader.old) (B.spent reader.new) }
+{
+    let mut from = 0;
+    let mut to = reader.len();
+    while from < to {
+        let middle = from + (to - from) / 2;
+        if is_before_face(reader.read(middle).pair, face) {
+            from = middle + 1;
+        } else {
+            to = middle;
+        }
+    }
+    from
+}
+
+// The pairs from one place to before another, in one growth and a read for each.
+fn read_between<B: PairReader>(
+    alloc: Global,
+    reader: &mut B,
+    from: usize,
+    to: usize,
+) -> Result<Vec<FlatHeld>, OutOfMemory>
+    requires rises { from ≤ to }
+    requires within { to ≤ length (B.shown reader.old) }
+    ensures pairs { IfOk result (λ held. held.items ≡ take (to - from) (drop from (B.shown reader.old))) }
+    ensures same { B.shown reader.new ≡ B.shown reader.old }
+    ensures reads { OnOk result (HasRead (to - from) (to - from) (B.spent reader.old) (B.spent reader.new)) }
+    ensures refused { HasRead 0 (to - from) (B.spent reader.old) (B.spent reader.new) }
+{
+    let mut held = Vec::with_capacity(alloc, to - from)?;
+    for place in from..to {
+        held.push(FlatHeld::new(reader.read(place)))?;
+    }
+    Ok(held)
+}
+
+/// The pairs held on a face, 0 to 5, in rising order; none on a face above 5. With p pairs there and n in all it reads each of them once
+/// and O(log n) more: p + 2 * digits(n + 1) reads at most, with the binary digits of n + 1. `OutOfMemory` where its one growth is refused;
+/// it may have read then, never more than that.
+pub fn read_face<B: PairReader>(
+    alloc: Global,
+    reader: &mut B,
+    face: u8,
+) -> Result<Vec<FlatHeld>, OutOfMemory>
+    ensures pairs { IfOk result (λ held. held.items ≡ held_on face (B.shown reader.old)) }
+    ensures same { B.shown reader.new ≡ B.shown reader.old }
+    ensures reads { OnOk result (IsFaceRead face (B.shown reader.old) (B.spent reader.old) (B.spent reader.new)) }
+    ensures refused { HasRead 0
+        (length (held_on face (B.shown reader.old)) + two_searches (B.shown reader.old)) (B.spent reader.old) (B.spent reader.new) }
+{
+    let face = usize::from(face);
+    let first = first_from(reader, face);
+    let behind = first_from(reader, face + 1);
+    read_between(alloc, reader, first, behind)
+}
+
+/// For each face, 0 to 5, the pairs held on it where a change has an entry there, in rising order, else `None`. With p pairs on those
+/// faces and n in all it reads each of the p once and O(log n) more: p + 12 * digits(n + 1) reads at most, with the binary digits of
+/// n + 1, so that a caller needs no sum of its own. O(m) besides, for m entries. `OutOfMemory` where a growth is refused; it may have read
+/// then, never more than that.
+pub fn read_changed<B: PairReader>(
+    alloc: Global,
+    reader: &mut B,
+    change: &Change,
+) -> Result<[Option<Vec<FlatHeld>>; 6], OutOfMemory>
+    ensures pairs { IfOk result (λ read.
+        map (option_map (λ held. held.items)) read ≡ map (changed_on change.now (B.shown reader.old)) faces) }
+    ensures same { B.shown reader.new ≡ B.shown reader.old }
+    ensures reads { OnOk result (AreChangedRead change.now (B.shown reader.old) (B.spent reader.old) (B.spent reader.new)) }
+    ensures refused { HasRead 0
+        (changed_count change.now (B.shown reader.old) + 6 * two_searches (B.shown reader.old)) (B.spent reader.old) (B.spent reader.new) }
+{
+    let changed = changed_faces(change);
+    let mut read = [None, None, None, None, None, None];
+    for face in 0..6u8 {
+        if changed[usize::from(face)] {
+            read[usize::from(face)] = Some(read_face(alloc, reader, face)?);
+        }
+    }
+    Ok(read)
+}

@@ -1,0 +1,12 @@
+pub mod Leads
+pub mod Visits
+pub mod Meetings
+pub mod Counts
+pub mod Windows
+pub mod OnFaces
+pub mod WalkSteps
+pub mod Left
+pub mod GivenPairs
+pub mod Paying
+pub mod Calling
+pub mod Meets

@@ -1,0 +1,94 @@
+ghost use Rattle.std.specs.Prelude.{◌≡◌, ◌≤◌, None, IfSome};
+ghost use Rattle.std.specs.Iterator.{YieldsFirst, item_count};
+ghost use Rattle.s2id_union.specs.Covers.{FollowOneAnother};
+ghost use Rattle.s2ix_table_ranges.specs.Meeting.{first_shared, meeting_of};
+ghost use Rattle.s2ix_table_walk.specs.Costs.{no_cost, ranges_met, ranges_met_by};
+ghost use Rattle.s2ix_table_walk.specs.Walking.{IsWalk, HasPaid};
+
+use crate::reader::Reader;
+use crate::steps::next_met;
+use crate::walk_state::{KnownFace, WalkState};
+use s2id_core::CellId;
+use s2id_union::CellUnion;
+use s2ix_bag_pairs::Held;
+
+/// The meeting list of a target, pair by pair in order, read as it is asked for. Takes no memory. O(k + r + t log n) for all of the k
+/// pairs, over the r ranges of n that the t cells of the target meet.
+pub struct Meeting<'a, R: Reader> {
+    reader: &'a mut R,
+    cells: &'a [CellId],
+    walk: WalkState<R::Place>,
+    ghost follow: { FollowOneAnother cells.now },
+    ghost walks: { IsWalk (R.shown reader.now) cells.now walk },
+    ghost paid: { HasPaid (R.shown reader.now) cells.now walk (R.spent reader.now) },
+}
+
+impl<'a, R: Reader> Meeting<'a, R> {
+    ghost use Rattle.s2ix_table_walk.specs.Meetings.{reader_in, target_in, left_in};
+
+    /// The meeting list of a target, over a reader that has read nothing.
+    pub fn new(reader: &'a mut R, target: &'a CellUnion) -> Meeting<'a, R>
+        requires { R.spent reader.old ≡ no_cost }
+        ensures reference { (reader_in result).ghost_name ≡ reader.entry.ghost_name }
+        ensures shown { R.shown (reader_in result).now ≡ R.shown reader.old }
+        ensures cells { target_in result ≡ target.now }
+        ensures left { left_in result ≡ meeting_of target.now (R.shown reader.old).pairs }
+    {
+        let cells = target.cells();
+        let walk = WalkState {
+            cell: 0,
+            range: 0,
+            seen: 1,
+            from: 1,
+            place: None,
+            known: KnownFace { face: 6, end: 0 },
+        };
+        Meeting {
+            reader,
+            cells,
+            walk,
+        }
+    }
+
+    /// The next pair, or `None` behind the last one. At a pair, the reader has counted at least as many probes as the target meets ranges up
+    /// to the first leaf that it shares with the pair; at `None`, at least as many as the target meets ranges at all.
+    #[inline(always)]
+    pub fn advance(&mut self) -> Option<Held>
+        ensures reference { (reader_in self.new).ghost_name ≡ (reader_in self.old).ghost_name }
+        ensures shown { R.shown (reader_in self.new).now ≡ R.shown (reader_in self.old).now }
+        ensures cells { target_in self.new ≡ target_in self.old }
+        ensures yields { YieldsFirst left_in self.old result self.new }
+        ensures least_probes { IfSome result (λ held. ranges_met_by (target_in self.new) (R.shown (reader_in self.new).now).ranges
+            (first_shared (target_in self.new) held.pair.cell) ≤ (R.spent (reader_in self.new).now).probes) }
+        ensures whole_probes { result ≡ None
+            → ranges_met (target_in self.new) (R.shown (reader_in self.new).now).ranges ≤ (R.spent (reader_in self.new).now).probes }
+    {
+        next_met(self.reader, self.cells, &mut self.walk)
+    }
+}
+
+impl<'a, R: Reader> Drop for Meeting<'a, R> {
+    fn drop(self)
+        ensures { self.exit.0.now ≡ self.entry.reader.now }
+    {
+        let Self {
+            reader: _,
+            cells: _,
+            walk: _,
+        } = self;
+    }
+}
+
+impl<R: Reader> Iterator for Meeting<'_, R> {
+    ghost use Rattle.s2ix_table_walk.specs.Meetings.{left_in};
+
+    type Item = Held;
+
+    ghost next_gives = { YieldsFirst left_in };
+
+    ghost remaining = { item_count left_in };
+
+    fn next(&mut self) -> Option<Held> {
+        self.advance()
+    }
+}

@@ -1,0 +1,93 @@
+ghost use Rattle.std.specs.Prelude.{◌≡◌, ◌<◌, ◌∷◌, length, drop};
+ghost use Rattle.s2ix_table_walk.specs.Places.{IsPlace, LeadsTo};
+ghost use Rattle.s2ix_table_ranges.specs.Table.{range_at};
+ghost use Rattle.s2ix_table_walk.specs.Costs.{with_look, with_probe};
+ghost use Rattle.s2ix_table_walk.specs.Faces.{HaveFace};
+ghost use Rattle.s2ix_table_walk.specs.Shown.{Shown, IsShown};
+ghost use Rattle.s2ix_table_walk.specs.declared.cost.Cost.{Cost as CostSpent};
+
+use crate::cost::Cost;
+use crate::window::Window;
+use s2ix_bag_pairs::Held;
+use s2ix_table_ranges::RangeRow;
+
+/// Something that reads a range table and counts what it reads. [`node`](Reader::node) gives a pair, and is one look. [`row`](Reader::row),
+/// [`start`](Reader::start), [`row_and_first`](Reader::row_and_first) and [`window`](Reader::window) tell where ranges begin or end, and
+/// each is one probe. The other calls count nothing, and tell no pair and no bound of a range.
+pub trait Reader {
+    /// Where the table keeps a pair of a chain.
+    type Place: Copy;
+
+    // the table that is read
+    ghost shown: { Self → Shown Self.Place };
+
+    // what was read so far
+    ghost spent: { Self → CostSpent };
+
+    /// How many ranges there are.
+    fn range_count(&self) -> usize
+        ensures { result ≡ length (shown self.now).ranges };
+
+    /// The ranges among which all of those over a face, 0 to 5, are: one probe, since it tells on which side of the face's ends they begin
+    /// and end.
+    fn window(&mut self, face: u8) -> Window
+        requires { face < 6 }
+        ensures window { HaveFace (shown self.old).ranges face result.first result.size }
+        ensures same { shown self.new ≡ shown self.old }
+        ensures counts { spent self.new ≡ with_probe (spent self.old) };
+
+    /// The place of a range's innermost pair, or `None` where nothing lies over it.
+    fn first(&self, k: usize) -> Option<Self::Place>
+        requires { k < length (shown self.now).ranges }
+        ensures { LeadsTo (shown self.now).chain result (range_at (shown self.now).ranges k).contents };
+
+    /// The place of the next pair outwards, or `None` at the outermost.
+    fn outer(&self, place: Self::Place) -> Option<Self::Place>
+        requires { IsPlace (shown self.now).chain place }
+        ensures { LeadsTo (shown self.now).chain result (drop 1 ((shown self.now).chain place)) };
+
+    /// The leaves of a range: one probe.
+    fn row(&mut self, k: usize) -> RangeRow
+        requires { k < length (shown self.old).ranges }
+        ensures start { result.start ≡ (range_at (shown self.old).ranges k).start }
+        ensures limit { result.limit ≡ (range_at (shown self.old).ranges k).limit }
+        ensures same { shown self.new ≡ shown self.old }
+        ensures counts { spent self.new ≡ with_probe (spent self.old) };
+
+    /// Where a range begins, as [`row`](Reader::row) gives it: one probe. A search reads ranges so.
+    fn start(&mut self, k: usize) -> u64
+        requires { k < length (shown self.old).ranges }
+        ensures start { result ≡ (range_at (shown self.old).ranges k).start }
+        ensures same { shown self.new ≡ shown self.old }
+        ensures counts { spent self.new ≡ with_probe (spent self.old) }
+    {
+        self.row(k).start
+    }
+
+    /// The leaves of a range and the place of its innermost pair, as [`row`](Reader::row) and [`first`](Reader::first) give them: one probe.
+    fn row_and_first(&mut self, k: usize) -> (RangeRow, Option<Self::Place>)
+        requires { k < length (shown self.old).ranges }
+        ensures start { result.0.start ≡ (range_at (shown self.old).ranges k).start }
+        ensures limit { result.0.limit ≡ (range_at (shown self.old).ranges k).limit }
+        ensures first { LeadsTo (shown self.old).chain result.1 (range_at (shown self.old).ranges k).contents }
+        ensures same { shown self.new ≡ shown self.old }
+        ensures counts { spent self.new ≡ with_probe (spent self.old) }
+    {
+        let first = self.first(k);
+        (self.row(k), first)
+    }
+
+    /// The pair at a place, with its count: one look.
+    fn node(&mut self, place: Self::Place) -> Held
+        requires { IsPlace (shown self.old).chain place }
+        ensures held { (shown self.old).chain place ≡ result ∷ drop 1 ((shown self.old).chain place) }
+        ensures same { shown self.new ≡ shown self.old }
+        ensures counts { spent self.new ≡ with_look (spent self.old) };
+
+    /// What was read so far.
+    fn cost(&self) -> Cost
+        ensures { result ≡ spent self.now };
+
+    // the ranges are the range table of the pairs
+    ghost is_shown: { (reader : Self) → IsShown (shown reader) };
+}

@@ -1,0 +1,218 @@
+//! The range that has a leaf, found by reading few ranges.
+ghost use Rattle.std.specs.Prelude.{◌≡◌, ℕ, ◌+◌, ◌-◌, ◌*◌, ◌^◌, ◌%◌, ◌<◌, ◌≤◌, length, max};
+ghost use Rattle.s2id_core.specs.CellId.{first_of, end_of};
+ghost use Rattle.s2ix_table_ranges.specs.Table.{range_at, IsFound, leaf_end};
+ghost use Rattle.s2id_core.specs.BinaryDigits.{binary_digits};
+ghost use Rattle.s2ix_table_walk.specs.Costs.{NoFewerProbes};
+ghost use Rattle.s2ix_table_walk.specs.Searching.{IsWindow};
+ghost use Rattle.s2ix_table_walk.specs.Walking.{IsKnown};
+
+use crate::reader::Reader;
+use crate::walk_state::KnownFace;
+use crate::window::Window;
+use s2id_core::CellId;
+
+// The range that has a leaf, one of some that are known to have it among them: each probe halves those that are left. Among the last few
+// no branch depends on what is read.
+#[inline(always)]
+fn search<R: Reader>(reader: &mut R, leaf: u64, among: Window) -> usize
+    requires within { leaf < leaf_end }
+    requires among { IsWindow (R.shown reader.old).ranges leaf among.first among.size }
+    ensures found { IsFound (R.shown reader.old).ranges result leaf }
+    ensures same { R.shown reader.new ≡ R.shown reader.old }
+    ensures looks { (R.spent reader.new).looks ≡ (R.spent reader.old).looks }
+    ensures kept { NoFewerProbes (R.spent reader.old) (R.spent reader.new) }
+    ensures probes { (R.spent reader.new).probes
+        ≤ (R.spent reader.old).probes + binary_digits (length (R.shown reader.old).ranges + 1) }
+{
+    let window = narrow(reader, leaf, among);
+    let window = jump(reader, leaf, window);
+    let mut first = window.first;
+    let mut half = window.size / 2;
+    while half > 0 {
+        first += half * begun(reader.start(first + half), leaf);
+        half /= 2;
+    }
+    first
+}
+
+// Of some ranges the first or the last ones, so many that halving leaves none over: the greatest power of two that there is room for.
+#[inline(always)]
+fn narrow<R: Reader>(reader: &mut R, leaf: u64, among: Window) -> Window
+    requires within { leaf < leaf_end }
+    requires among { IsWindow (R.shown reader.old).ranges leaf among.first among.size }
+    ensures window { IsWindow (R.shown reader.old).ranges leaf result.first result.size }
+    ensures power { (k : ℕ) × (result.size ≡ 2 ^ k) }
+    ensures same { R.shown reader.new ≡ R.shown reader.old }
+    ensures looks { (R.spent reader.new).looks ≡ (R.spent reader.old).looks }
+    ensures kept { NoFewerProbes (R.spent reader.old) (R.spent reader.new) }
+    ensures probes { (R.spent reader.new).probes + binary_digits (result.size - 1)
+        ≤ (R.spent reader.old).probes + binary_digits (length (R.shown reader.old).ranges + 1) }
+{
+    let size = power_within(among.size);
+    let over = among.size - size;
+    let first = among.first + over * begun(reader.start(among.first + over), leaf);
+    Window { first, size }
+}
+
+// Among more ranges than this a search waits for memory at each probe.
+const FAR: usize = 16384;
+
+// Of a power of two of ranges, if they are many, at most eight: each probe halves those that are left, by a branch, so that the processor
+// asks for the next range before it knows this one.
+#[inline(always)]
+fn jump<R: Reader>(reader: &mut R, leaf: u64, among: Window) -> Window
+    requires among { IsWindow (R.shown reader.old).ranges leaf among.first among.size }
+    requires power { (k : ℕ) × (among.size ≡ 2 ^ k) }
+    ensures window { IsWindow (R.shown reader.old).ranges leaf result.first result.size }
+    ensures power { (k : ℕ) × (result.size ≡ 2 ^ k) }
+    ensures same { R.shown reader.new ≡ R.shown reader.old }
+    ensures looks { (R.spent reader.new).looks ≡ (R.spent reader.old).looks }
+    ensures kept { NoFewerProbes (R.spent reader.old) (R.spent reader.new) }
+    ensures probes { (R.spent reader.new).probes + binary_digits (result.size - 1)
+        ≤ (R.spent reader.old).probes + binary_digits (among.size - 1) }
+{
+    if among.size <= FAR {
+        return among;
+    }
+    let mut first = among.first;
+    let mut size = among.size;
+    while size > 8 {
+        size /= 2;
+        if reader.start(first + size) <= leaf {
+            first += size;
+        }
+    }
+    Window { first, size }
+}
+
+// Some ranges, and the face that is known once they are.
+#[derive(Clone, Copy)]
+struct Candidates {
+    among: Window,
+    known: KnownFace,
+}
+
+// The ranges among which the one with a cell's first leaf is: those over the cell's face, from one on that begins by that leaf. It takes one
+// probe at most: on the known face a range near at hand, on another the window of that face.
+#[inline(always)]
+fn ahead<R: Reader>(reader: &mut R, cell: CellId, from: usize, known: KnownFace) -> Candidates
+    requires known { IsKnown (R.shown reader.old).ranges known }
+    requires from { from < length (R.shown reader.old).ranges }
+    requires start { (range_at (R.shown reader.old).ranges from).start ≤ first_of cell }
+    ensures known { IsKnown (R.shown reader.old).ranges result.known }
+    ensures window { IsWindow (R.shown reader.old).ranges (first_of cell) result.among.first result.among.size }
+    ensures same { R.shown reader.new ≡ R.shown reader.old }
+    ensures looks { (R.spent reader.new).looks ≡ (R.spent reader.old).looks }
+    ensures kept { NoFewerProbes (R.spent reader.old) (R.spent reader.new) }
+    ensures probes { (R.spent reader.new).probes ≤ (R.spent reader.old).probes + 1 }
+{
+    let face = cell.face();
+    if face == known.face {
+        let rest = Window {
+            first: from,
+            size: known.end - from,
+        };
+        let among = near(reader, cell.span_start(), rest);
+        return Candidates { among, known };
+    }
+    let window = reader.window(face);
+    let end = window.first + window.size;
+    let first = from.max(window.first);
+    let among = Window {
+        first,
+        size: end - first,
+    };
+    let known = KnownFace { face, end };
+    Candidates { among, known }
+}
+
+// How many ranges ahead a search probes before it takes all of those over a face.
+const NEAR: usize = 16;
+
+// Of some ranges the first few, where the one with a leaf is among these, and else the rest.
+#[inline(always)]
+fn near<R: Reader>(reader: &mut R, leaf: u64, among: Window) -> Window
+    requires among { IsWindow (R.shown reader.old).ranges leaf among.first among.size }
+    ensures window { IsWindow (R.shown reader.old).ranges leaf result.first result.size }
+    ensures same { R.shown reader.new ≡ R.shown reader.old }
+    ensures looks { (R.spent reader.new).looks ≡ (R.spent reader.old).looks }
+    ensures kept { NoFewerProbes (R.spent reader.old) (R.spent reader.new) }
+    ensures probes { (R.spent reader.new).probes ≤ (R.spent reader.old).probes + 1 }
+{
+    if among.size <= NEAR {
+        return among;
+    }
+    let beyond = among.first + NEAR;
+    if reader.start(beyond) <= leaf {
+        Window {
+            first: beyond,
+            size: among.size - NEAR,
+        }
+    } else {
+        Window {
+            first: among.first,
+            size: NEAR,
+        }
+    }
+}
+
+// The greatest power of two that is not above a number.
+#[inline(always)]
+fn power_within(number: usize) -> usize
+    requires { 0 < number }
+    ensures { (k : ℕ) × (result ≡ 2 ^ k) × (2 ^ k ≤ number) × (number < 2 ^ k * 2) }
+{
+    1 << (63 - number.leading_zeros())
+}
+
+// 1 where what begins at a leaf number has begun by a leaf, else 0: the top bit of a difference, so that no branch depends on it.
+#[inline(always)]
+fn begun(start: u64, leaf: u64) -> usize
+    requires odd { start % 2 ≡ 1 }
+    requires leaf { leaf < leaf_end }
+    ensures by { start ≤ leaf → result ≡ 1 }
+    ensures behind { leaf < start → result ≡ 0 }
+{
+    let behind = leaf - leaf / 2;
+    ((start / 2).wrapping_sub(behind) >> 63) as usize
+}
+
+// A range that a walk has come to, and the face that is known there.
+#[derive(Clone, Copy)]
+pub(crate) struct Reached {
+    pub(crate) range: usize,
+    pub(crate) known: KnownFace,
+}
+
+// The range that has the first leaf of a cell from `seen` on: that at hand, or the one with the cell's first leaf.
+#[inline(always)]
+pub(crate) fn range_from<R: Reader>(
+    reader: &mut R,
+    cell: CellId,
+    range: usize,
+    seen: u64,
+    known: KnownFace,
+) -> Reached
+    requires beyond { seen < end_of cell }
+    requires at_hand { seen < leaf_end → IsFound (R.shown reader.old).ranges range seen }
+    requires known { IsKnown (R.shown reader.old).ranges known }
+    ensures found { IsFound (R.shown reader.old).ranges result.range (max seen (first_of cell)) }
+    ensures known { IsKnown (R.shown reader.old).ranges result.known }
+    ensures same { R.shown reader.new ≡ R.shown reader.old }
+    ensures looks { (R.spent reader.new).looks ≡ (R.spent reader.old).looks }
+    ensures at_hand { first_of cell ≤ seen → R.spent reader.new ≡ R.spent reader.old }
+    ensures kept { NoFewerProbes (R.spent reader.old) (R.spent reader.new) }
+    ensures probes { (R.spent reader.new).probes
+        ≤ (R.spent reader.old).probes + binary_digits (length (R.shown reader.old).ranges + 1) + 1 }
+{
+    let start = cell.span_start();
+    if seen < start {
+        let candidates = ahead(reader, cell, range, known);
+        let range = search(reader, start, candidates.among);
+        let known = candidates.known;
+        Reached { range, known }
+    } else {
+        Reached { range, known }
+    }
+}

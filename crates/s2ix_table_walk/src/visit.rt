@@ -1,0 +1,38 @@
+ghost use Rattle.std.specs.Prelude.{◌≡◌, ◌≤◌, ℕ, IsTrue};
+ghost use Rattle.s2ix_table_ranges.specs.Meeting.{meeting_of};
+ghost use Rattle.s2ix_table_walk.specs.Calls.{MayVisit, CallsOn};
+ghost use Rattle.s2ix_table_walk.specs.Costs.{no_cost, ranges_met, IsWalkCost};
+
+use crate::meeting::Meeting;
+use crate::reader::Reader;
+use s2id_union::CellUnion;
+use s2ix_bag_pairs::Held;
+
+/// Calls `f` on each pair of the target's meeting list, in order, up to and with the first call that answers false; whether every call
+/// answered true (S2's `VisitIntersectingCells()`). Takes no memory. O(k + r + t log n).
+///
+/// The reader must have read nothing. Let k be the number of calls, t that of the target's cells, n that of the table's ranges, r that of
+/// those which the target meets, and d the number of binary digits of n + 1. Then the reader has counted at least k and at most k + r + t
+/// looks, and at most t * d + r + t probes. The probes are at least as many as those of the r ranges that begin by the first leaf which the
+/// target shares with the last pair called, and at least r if every call answered true.
+pub fn walk<R: Reader, F: FnMut(Held) -> bool>(
+    reader: &mut R,
+    target: &CellUnion,
+    f: &mut F,
+) -> bool
+    requires unread { R.spent reader.old ≡ no_cost }
+    requires may { MayVisit F.pre F.step f.old (meeting_of target.now (R.shown reader.old).pairs) }
+    ensures same { R.shown reader.new ≡ R.shown reader.old }
+    ensures visits { (calls : ℕ)
+        × CallsOn F.step f.old (meeting_of target.now (R.shown reader.old).pairs) calls result f.new
+        × IsWalkCost target.now (R.shown reader.old).pairs (R.shown reader.old).ranges calls (R.spent reader.new) }
+    ensures whole_probes { IsTrue result → ranges_met target.now (R.shown reader.old).ranges ≤ (R.spent reader.new).probes }
+{
+    let mut meeting = Meeting::new(reader, target);
+    while let Some(held) = meeting.advance() {
+        if !f(held) {
+            return false;
+        }
+    }
+    true
+}

@@ -1,5 +1,0 @@
-use Rattle.s2ix_text.proofs.Dumps.{bag_dump}
-use Rattle.s2ix_text.proofs.laws.bags_have_dumps.Goals as goal
-
-pub returns : goal.returns
-returns c = bag_dump

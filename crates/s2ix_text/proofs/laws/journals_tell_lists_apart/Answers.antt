@@ -1,5 +1,0 @@
-use Rattle.s2ix_text.proofs.Journals.{one_journal}
-use Rattle.s2ix_text.proofs.laws.journals_tell_lists_apart.Goals as goal
-
-pub returns : goal.returns
-returns c = one_journal

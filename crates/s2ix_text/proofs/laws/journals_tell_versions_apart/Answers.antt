@@ -1,5 +1,0 @@
-use Rattle.s2ix_text.proofs.Journals.{one_version}
-use Rattle.s2ix_text.proofs.laws.journals_tell_versions_apart.Goals as goal
-
-pub returns : goal.returns
-returns c = one_version

@@ -1,5 +1,0 @@
-use Rattle.s2ix_text.proofs.Journals.{written_journal}
-use Rattle.s2ix_text.proofs.laws.writable_changes_have_journals.Goals as goal
-
-pub returns : goal.returns
-returns c = written_journal

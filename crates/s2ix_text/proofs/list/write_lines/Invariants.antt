@@ -1,8 +1,0 @@
--- The lines of the items before this one were written whole.
-use Rattle.std.proofs.Common.{Ok, take, flat_map}
-use Rattle.s2ix_io.specs.Puts.{Writes}
-use Rattle.s2ix_text.proofs.list.write_lines.Given as goal
-
-abbrev pub invariant-loop-item : goal.invariant-loop-item
-invariant-loop-item g l =
-    Writes {A = Unit {0}} g.K.Sink.taken g.K.Sink.flush_mark g.K.Sink.fault_count l.fn.sink l.sink (Ok tt) (flat_map g.A.ListItem.line (take l.item-index l.items))

@@ -1,0 +1,37 @@
+//! Laws: functions that do nothing, and whose contracts are facts on the definitions.
+ghost use Rattle.std.specs.Prelude.{◌≡◌, ◌↔◌, IsTrue};
+ghost use Rattle.s2ix_text_io.specs.declared.run_fault.RunFault.{RunFault};
+ghost use Rattle.s2ix_text_io.specs.declared.sink.WriteFault.{WriteFault};
+ghost use Rattle.s2ix_text_io.specs.declared.source.ReadFault.{ReadFault};
+
+use crate::{ReadFault, RunFault, WriteFault};
+
+/// Two faults of runs are equal exactly where they are one.
+pub fn equal_run_faults_are_one()
+    ensures { (a b : RunFault) → IsTrue (⟦<RunFault as PartialEq>⟧.eq a b) ↔ (a ≡ b) }
+{}
+
+/// A clone of a run's fault is the same.
+pub fn cloned_run_faults_are_the_same()
+    ensures { (a copy : RunFault) → ⟦<RunFault as Clone>⟧.is_clone a copy ↔ (copy ≡ a) }
+{}
+
+/// Two read faults are equal exactly where they are one.
+pub fn equal_read_faults_are_one()
+    ensures { (a b : ReadFault) → IsTrue (⟦<ReadFault as PartialEq>⟧.eq a b) ↔ (a ≡ b) }
+{}
+
+/// A clone of a read fault is the same.
+pub fn cloned_read_faults_are_the_same()
+    ensures { (a copy : ReadFault) → ⟦<ReadFault as Clone>⟧.is_clone a copy ↔ (copy ≡ a) }
+{}
+
+/// Two write faults are equal exactly where they are one.
+pub fn equal_write_faults_are_one()
+    ensures { (a b : WriteFault) → IsTrue (⟦<WriteFault as PartialEq>⟧.eq a b) ↔ (a ≡ b) }
+{}
+
+/// A clone of a write fault is the same.
+pub fn cloned_write_faults_are_the_same()
+    ensures { (a copy : WriteFault) → ⟦<WriteFault as Clone>⟧.is_clone a copy ↔ (copy ≡ a) }
+{}

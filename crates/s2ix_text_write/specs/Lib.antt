@@ -1,0 +1,5 @@
+pub mod Version
+pub mod Dump
+pub mod Journal
+pub mod Laws
+pub mod Lists

@@ -1,0 +1,84 @@
+ghost use Rattle.std.specs.Prelude.{flat_map};
+ghost use Rattle.s2ix_text_io.specs.Faults.{CanCount};
+ghost use Rattle.s2ix_text_write.specs.Journal.{change_line, entry_line, group_text, journal_text};
+ghost use Rattle.s2ix_text_io.specs.Puts.{Writes};
+
+use crate::list::{ListItem, write_end_of_list, write_lines};
+use itoa::Buffer;
+use s2ix_bag::Change;
+use s2ix_bag_pairs::Entry;
+use s2ix_text_io::{Sink, WriteFault, put_all, put_together};
+
+impl ListItem for Entry {
+    ghost line = { entry_line };
+
+    #[tactic(auto, unfolding(crate::specs::Journal::entry_line))]
+    fn write_line<K: Sink>(self, sink: &mut K) -> Result<(), WriteFault> {
+        let token = self.pair.cell.token();
+        let mut label = Buffer::new();
+        let mut before = Buffer::new();
+        let mut after = Buffer::new();
+        put_together(
+            sink,
+            &[
+                token.as_bytes(),
+                b" ",
+                label.format(self.pair.label.get()).as_bytes(),
+                b" ",
+                before.format(self.before).as_bytes(),
+                b" ",
+                after.format(self.after).as_bytes(),
+                b"\n",
+            ],
+        )
+    }
+}
+
+// Writes the line above the entries of a change.
+#[tactic(auto, unfolding(crate::specs::Journal::change_line))]
+fn write_change_line<K: Sink>(entries: &[Entry], sink: &mut K) -> Result<(), WriteFault>
+    requires { CanCount (K.fault_count sink.old) }
+    ensures { Writes K.taken K.flush_mark K.fault_count sink.old sink.new result (change_line entries.now) }
+{
+    let mut number = Buffer::new();
+    put_together(
+        sink,
+        &[
+            b"change ".as_slice(),
+            number.format(entries.len()).as_bytes(),
+            b"\n",
+        ],
+    )
+}
+
+// Writes the group of a change.
+fn write_group<K: Sink>(change: &Change, sink: &mut K) -> Result<(), WriteFault>
+    requires { CanCount (K.fault_count sink.old) }
+    ensures { Writes K.taken K.flush_mark K.fault_count sink.old sink.new result (group_text change.now) }
+{
+    let entries = change.entries();
+    write_change_line(entries, sink)?;
+    write_lines(entries, sink)
+}
+
+// Writes the groups of all changes.
+fn write_groups<K: Sink>(changes: &[Change], sink: &mut K) -> Result<(), WriteFault>
+    requires { CanCount (K.fault_count sink.old) }
+    ensures { Writes K.taken K.flush_mark K.fault_count sink.old sink.new result (flat_map group_text changes.now) }
+{
+    for change in changes {
+        write_group(change, sink)?;
+    }
+    Ok(())
+}
+
+/// Writes the journal of a list of changes in the second version: for each change, the oldest first, a line that counts its entries and
+/// one line for each entry, between a header and a line that counts the changes. O(n) for n entries in all.
+pub fn write_journal<K: Sink>(changes: &[Change], sink: &mut K) -> Result<(), WriteFault>
+    requires { CanCount (K.fault_count sink.old) }
+    ensures { Writes K.taken K.flush_mark K.fault_count sink.old sink.new result (journal_text changes.now) }
+{
+    put_all(sink, b"s2ix-journal 2\n")?;
+    write_groups(changes, sink)?;
+    write_end_of_list(changes.len(), sink)
+}

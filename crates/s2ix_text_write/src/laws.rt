@@ -1,0 +1,47 @@
+//! Laws: functions that do nothing, and whose contracts are facts on the definitions.
+ghost use Rattle.std.specs.Prelude.{◌≡◌, ◌↔◌, IsTrue};
+ghost use Rattle.s2ix_text_write.specs.declared.version.Version.{Version};
+ghost use Rattle.s2ix_text_write.specs.Laws.{BagsHaveDumps, DumpsTellBagsApart, DumpsTellCollectionsApart, DumpsTellVersionsApart, JournalsTellListsApart, JournalsTellVersionsApart, WritableChangesHaveJournals};
+
+use crate::Version;
+
+/// A text is a dump of one collection alone, in whichever version; so two bags with one dump hold the same.
+pub fn dumps_tell_collections_apart()
+    ensures collections { DumpsTellCollectionsApart }
+    ensures bags { DumpsTellBagsApart }
+{}
+
+/// A dump is one of one version alone.
+pub fn dumps_tell_versions_apart()
+    ensures { DumpsTellVersionsApart }
+{}
+
+/// The second version can hold each bag, so what is written of a bag is a dump of it.
+pub fn bags_have_dumps()
+    ensures { BagsHaveDumps }
+{}
+
+/// A text is a journal of one list of changes alone, in whichever version.
+pub fn journals_tell_lists_apart()
+    ensures { JournalsTellListsApart }
+{}
+
+/// A journal is one of one version alone.
+pub fn journals_tell_versions_apart()
+    ensures { JournalsTellVersionsApart }
+{}
+
+/// What is written of writable changes is a journal of them.
+pub fn writable_changes_have_journals()
+    ensures { WritableChangesHaveJournals }
+{}
+
+/// Two versions are equal exactly where they are one.
+pub fn equal_versions_are_one()
+    ensures { (a b : Version) → IsTrue (⟦<Version as PartialEq>⟧.eq a b) ↔ (a ≡ b) }
+{}
+
+/// A clone of a version is the same.
+pub fn cloned_versions_are_the_same()
+    ensures { (a copy : Version) → ⟦<Version as Clone>⟧.is_clone a copy ↔ (copy ≡ a) }
+{}

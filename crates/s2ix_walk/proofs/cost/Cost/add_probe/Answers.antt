@@ -1,5 +1,0 @@
-use Rattle.std.proofs.Common.{rules}
-use Rattle.s2ix_walk.proofs.cost.Cost.add_probe.Goals as goal
-
-pub returns : goal.returns
-returns c = search rules

@@ -1,8 +1,0 @@
-/// Some ranges of a table, one behind the other: `size` of them, from `first` on. This project's own.
-#[derive(Clone, Copy, Debug, PartialEq, Eq)]
-pub struct Window {
-    /// The place of the first one.
-    pub first: usize,
-    /// How many there are.
-    pub size: usize,
-}
