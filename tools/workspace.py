@@ -41,9 +41,26 @@ def with_below(names):
     return [crate for crate in CRATES if crate in wanted]
 
 
+def with_above(names):
+    """These crates and all that are built on them, the lowest first."""
+    wanted = set(names)
+    for crate, used in CRATES.items():
+        if wanted & set(used):
+            wanted.add(crate)
+    return [crate for crate in CRATES if crate in wanted]
+
+
 def sources(names):
     """The folders that a proof of these crates reads."""
     return [path for path in (f"crates/{crate}/{part}" for crate in names for part in PARTS) if os.path.isdir(f"{TOP}/{path}")]
+
+
+def add_crates(names, folder):
+    """Adds these crates to a folder, with their lines of crates.txt."""
+    with open(f"{folder}/crates.txt", "a", encoding="utf-8") as file:
+        file.writelines(f"{crate}: {' '.join(CRATES[crate])}\n" for crate in names)
+    for path in sources(names):
+        shutil.copytree(f"{TOP}/{path}", f"{folder}/{path}")
 
 
 def copy_crates(names, folder):
@@ -51,10 +68,7 @@ def copy_crates(names, folder):
     # (rt ci runs at the top of a repository)
     os.makedirs(f"{folder}/.git")
     shutil.copy(f"{TOP}/HANDLES", folder)
-    with open(f"{folder}/crates.txt", "w", encoding="utf-8") as file:
-        file.writelines(f"{crate}: {' '.join(CRATES[crate])}\n" for crate in names)
-    for path in sources(names):
-        shutil.copytree(f"{TOP}/{path}", f"{folder}/{path}")
+    add_crates(names, folder)
     for crate in names:
         for name in RUN_FILES:
             if os.path.isfile(f"{TOP}/crates/{crate}/{name}"):
@@ -123,5 +137,6 @@ def proved(names, tell):
     wanted = with_below(names)
     with tempfile.TemporaryDirectory(prefix="s2ix-workspace-") as folder:
         copy_crates(wanted, folder)
-        prove(folder, wanted, tell)
+        if wanted:
+            prove(folder, wanted, tell)
         yield folder
