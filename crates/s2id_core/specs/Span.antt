@@ -10,6 +10,10 @@ first_at n = number_of (first_leaf (path_at n))
 unfoldable pub end_at : ℕ → ℕ
 end_at n = number_of (last_leaf (path_at n)) + 2
 
+-- how many numbers a face has, those of its cells among them: 2 ^ 61, which the code names `FACE_NUMBERS`
+abbrev pub face_numbers : ℕ
+face_numbers = 2305843009213693952
+
 -- the leaf number after that of the last leaf of face 5, which the code names `LEAF_END`
 abbrev pub leaf_end : ℕ
 leaf_end = 13835058055282163713

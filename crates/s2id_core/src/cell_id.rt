@@ -1,11 +1,17 @@
 ghost use Rattle.std.specs.Prelude.{◌≡◌, ℕ, ◌↔◌, ◌+◌, ◌-◌, ◌*◌, ◌%◌, ◌^◌, ◌<◌, ◌≤◌, IsTrue, IsSome, IfSome};
 ghost use Rattle.s2id_core.specs.Cell.{IsCellNumber};
 
+/// How many faces the cube has (S2's `kNumFaces`).
+pub const FACES: usize = 6;
+
+/// How many numbers a face has: the numbers of its cells begin with its three bits (S2's `kPosBits` is their other 61).
+pub const FACE_NUMBERS: u64 = 1 << 61;
+
 /// The leaf number that would come next after that of the last leaf: an end for spans of leaves, and no cell's number.
 pub const LEAF_END: u64 = 0xc000000000000001;
 
 // The number where face 5 ends.
-const CURVE_END: u64 = 6 << 61;
+const CURVE_END: u64 = 6 * FACE_NUMBERS;
 
 /// A cell of the S2 curve, named by its 64-bit number: three bits of face, two bits for each child position,
 /// a bit 1, then zeros (S2's `S2CellId`). Each value is a cell: there is no invalid `CellId`.

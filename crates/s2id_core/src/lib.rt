@@ -19,7 +19,7 @@ mod relatives;
 mod span;
 mod token;
 
-pub use cell_id::{CellId, LEAF_END};
+pub use cell_id::{CellId, FACE_NUMBERS, FACES, LEAF_END};
 pub use hexadecimal::sixteen_digits;
 pub use memory::OutOfMemory;
 pub use path::PathText;

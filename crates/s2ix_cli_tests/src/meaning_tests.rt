@@ -1,6 +1,7 @@
 //! What lines ask for, and the faults of lines.
 use s2id_core::CellId;
-use s2ix_bag::Label;
+use s2id_union::CellUnion;
+use s2ix_bag::{Label, Pair};
 use s2ix_cli::{Instruction, LineError, LineFault, meaning};
 use s2ix_edit::Edit;
 use std::alloc::Global;
@@ -45,7 +46,7 @@ const REQUESTS: [(&[u8], Word, u32, u32); 29] = [
     (b"add 04 0000000009", Word::Add, 9, 1),
     (b"add 04 9 0000000001", Word::Add, 9, 1),
     (b"add 04 9 65536", Word::Add, 9, 65536),
-    (b"add 04 9 4294967295", Word::Add, 9, 4294967295),
+    (b"add 04 9 4294967295", Word::Add, 9, u32::MAX),
     (b"add 04 2147483647", Word::Add, 2147483647, 1),
     // tokens name a target
     (b"meet 1c 04 14 0C 04", Word::Meet, 0, 0),
@@ -65,63 +66,53 @@ const REQUESTS: [(&[u8], Word, u32, u32); 29] = [
     (b"revert 0000000002", Word::Revert, 2, 0),
 ];
 
-// Whether the one cell of a target has this token.
-fn is_cell(cells: &[CellId], token: &[u8]) -> bool {
-    match CellId::from_token(token) {
-        Ok(cell) => cells == [cell].as_slice(),
-        Err(_) => false,
+// The face 1 as a target.
+fn face_one(alloc: Global) -> Option<CellUnion> {
+    CellUnion::normalise(alloc, &[CellId::from_token(b"1").ok()?]).ok()
+}
+
+// The edit that a word asks for with its numbers.
+fn edit_of(word: Word, one: u32, other: u32) -> Option<Edit> {
+    let label = Label::new(one)?;
+    match word {
+        Word::Add => {
+            let cell = CellId::from_token(b"04").ok()?;
+            let pair = Pair { cell, label };
+            Some(Edit::Add {
+                pair,
+                copies: other,
+            })
+        }
+        Word::Grow => Some(Edit::Grow {
+            label,
+            level: u8::try_from(other).ok()?,
+        }),
+        Word::Normal => Some(Edit::Normalise { label }),
+        Word::Revert => Some(Edit::Revert { number: one }),
+        _ => None,
     }
 }
 
-// Whether two labels have these numbers.
-fn are_labels(first: Label, second: Label, one: u32, other: u32) -> bool {
-    first.get() == one && second.get() == other
-}
-
-// Whether an edit is what is asked for.
-fn is_edit(edit: &Edit, word: Word, one: u32, other: u32) -> bool {
-    match (edit, word) {
-        (Edit::Add { pair, copies }, Word::Add) => {
-            is_cell(&[pair.cell], b"04") && pair.label.get() == one && *copies == other
-        }
-        (Edit::Grow { label, level }, Word::Grow) => {
-            label.get() == one && u32::from(*level) == other
-        }
-        (Edit::Normalise { label }, Word::Normal) => label.get() == one,
-        (Edit::Revert { number }, Word::Revert) => *number == one,
-        _ => false,
-    }
-}
-
-// Whether an instruction is on the regions of labels that are asked for.
-fn is_on_regions(instruction: &Instruction, word: Word, one: u32, other: u32) -> bool {
-    match (instruction, word) {
-        (Instruction::Region(label), Word::Region) => label.get() == one,
-        (Instruction::Common(first, second), Word::Common) => {
-            are_labels(*first, *second, one, other)
-        }
-        (Instruction::Only(first, second), Word::Only) => are_labels(*first, *second, one, other),
-        _ => false,
-    }
-}
-
-// Whether an instruction is what is asked for.
-fn is_asked(instruction: &Instruction, word: Word, one: u32, other: u32) -> bool {
-    match (instruction, word) {
-        (Instruction::Undo, Word::Undo) | (Instruction::Ranges, Word::Ranges) => true,
-        (Instruction::At(cell), Word::At) => is_cell(&[*cell], b"1"),
-        (Instruction::Meet(target), Word::Meet) => is_cell(target.cells(), b"1"),
-        (Instruction::Labels(target), Word::Labels) => is_cell(target.cells(), b"1"),
-        (Instruction::Edit(edit), _) => is_edit(edit, word, one, other),
-        _ => is_on_regions(instruction, word, one, other),
+// The instruction that a word asks for with its numbers.
+fn instruction_of(alloc: Global, word: Word, one: u32, other: u32) -> Option<Instruction> {
+    match word {
+        Word::Nothing => None,
+        Word::Undo => Some(Instruction::Undo),
+        Word::Ranges => Some(Instruction::Ranges),
+        Word::At => Some(Instruction::At(CellId::from_token(b"1").ok()?)),
+        Word::Meet => Some(Instruction::Meet(face_one(alloc)?)),
+        Word::Labels => Some(Instruction::Labels(face_one(alloc)?)),
+        Word::Region => Some(Instruction::Region(Label::new(one)?)),
+        Word::Common => Some(Instruction::Common(Label::new(one)?, Label::new(other)?)),
+        Word::Only => Some(Instruction::Only(Label::new(one)?, Label::new(other)?)),
+        _ => Some(Instruction::Edit(edit_of(word, one, other)?)),
     }
 }
 
 // Whether a line asks for this.
 fn asks_for(alloc: Global, line: &[u8], word: Word, one: u32, other: u32) -> bool {
     match meaning(alloc, line) {
-        Ok(Some(instruction)) => is_asked(&instruction, word, one, other),
-        Ok(None) => matches!(word, Word::Nothing),
+        Ok(instruction) => instruction == instruction_of(alloc, word, one, other),
         Err(_) => false,
     }
 }
