@@ -87,7 +87,8 @@ same_change_from n [] (f ∷ fs) es_is fs_is same =
     let clash : ◌≡◌ {A = Option (ℕ × ℕ)} None (Some (f.before, f.after)) = same f.pair fs_is.0 ∙ counts_head f fs (rank_of f.pair) refl in
     cc
 same_change_from n (e ∷ es) [] es_is fs_is same =
-    let clash : ◌≡◌ {A = Option (ℕ × ℕ)} (Some (e.before, e.after)) None = sym (counts_head e es (rank_of e.pair) refl) ∙ same e.pair es_is.0 in
+    let clash : ◌≡◌ {A = Option (ℕ × ℕ)} (Some (e.before, e.after)) None =
+    sym (counts_head e es (rank_of e.pair) refl) ∙ same e.pair es_is.0 in
     cc
 same_change_from n (e ∷ es) (f ∷ fs) es_is fs_is same =
     let below = first_has_entry n e f es fs fs_is (same e.pair es_is.0) in
@@ -127,7 +128,9 @@ count_changed n hs (e ∷ es) k hs_is es_is =
     let rest = count_changed (rank_of e.pair + 1) (set_count e.pair e.after hs) es k (set_keeps e.pair e.after hs hs_is) es_is.2 in
     ⊎_elim
     (λ same.
-    rest ∙ ap (λ o. count_after o (count_at (set_count e.pair e.after hs) k)) (counts_below (rank_of e.pair + 1) es k es_is.2 (omega (arith, same)))
+    rest
+    ∙ ap (λ o. count_after o (count_at (set_count e.pair e.after hs) k))
+    (counts_below (rank_of e.pair + 1) es k es_is.2 (omega (arith, same)))
     ∙ ap (λ i. count_at (set_count e.pair e.after hs) i) (sym same) ∙ count_set_same 0 e.pair e.after hs hs_is
     ∙ ap (λ o. count_after o (count_at hs k)) (sym (counts_head e es k same)))
     (λ ne.
@@ -148,7 +151,8 @@ pub changed_passes : (h : Held) (hs : Collection) (es : List Entry) → IsChange
 changed_passes h hs [] es_is = refl
 changed_passes h hs (e ∷ es) es_is =
     ap (λ x. changed x es) (set_after e.pair e.after h hs (omega (arith, es_is.0)))
-    ∙ changed_passes h (set_count e.pair e.after hs) es (change_lower (rank_of h.pair + 1) (rank_of e.pair + 1) es (omega (arith, es_is.0)) es_is.2)
+    ∙ changed_passes h (set_count e.pair e.after hs) es
+    (change_lower (rank_of h.pair + 1) (rank_of e.pair + 1) es (omega (arith, es_is.0)) es_is.2)
 
 pub changed-append : (fs hs : Collection) (n : ℕ) (es : List Entry) → AreBelow n fs → IsChangeListFrom n es
     → changed (fs ++ hs) es ≡ fs ++ changed hs es

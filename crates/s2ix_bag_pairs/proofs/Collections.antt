@@ -25,7 +25,8 @@ count_get n [] k d hs_is within = absurd (omega arith)
 count_get n (h ∷ hs) zero d hs_is within = count_head h hs (rank_of h.pair) refl
 count_get n (h ∷ hs) (suc k) d hs_is within =
     let later = rank_of_get (rank_of h.pair + 1) hs k d hs_is.2 (omega arith) in
-    count_tail h hs (rank_of (get_or hs k d).pair) (λ e. omega (arith, e, later)) ∙ count_get (rank_of h.pair + 1) hs k d hs_is.2 (omega arith)
+    count_tail h hs (rank_of (get_or hs k d).pair) (λ e. omega (arith, e, later))
+    ∙ count_get (rank_of h.pair + 1) hs k d hs_is.2 (omega arith)
 
 -- what a collection holds has its count
 pub held_count : (hs : Collection) (h : Held) → IsCollection hs → Contains hs h → count_in hs h.pair ≡ h.count
@@ -56,7 +57,9 @@ first_is_held : (n : ℕ) (h k : Held) (hs ks : Collection) → IsCollectionFrom
 first_is_held n h k hs ks hs_is ks_is same =
     ⊎_elim (λ e. omega arith)
     (λ order. ⊎_elim
-    (λ lt. absurd (omega (arith, same, held_counted n h hs hs_is, count_below (rank_of k.pair) (k ∷ ks) (rank_of h.pair) (omega arith, ks_is.1, ks_is.2) lt)))
+    (λ lt.
+    let none = count_below (rank_of k.pair) (k ∷ ks) (rank_of h.pair) (omega arith, ks_is.1, ks_is.2) lt in
+    absurd (omega (arith, same, held_counted n h hs hs_is, none)))
     (λ lt. omega arith) order)
     (cases_order (rank_of h.pair) (rank_of k.pair))
 
@@ -157,6 +160,7 @@ pub set_count_in : (p : Pair) (hs : Collection) → IsCollection hs → set_coun
 set_count_in p hs c =
     same_collection (set_count p (count_in hs p) hs) hs (set_keeps p (count_in hs p) hs c) c
     (λ q. ⊎_elim
-    (λ e. ap (λ k. count_at (set_count p (count_in hs p) hs) k) (sym e) ∙ count_set_same 0 p (count_in hs p) hs c ∙ ap (λ k. count_at hs k) e)
+    (λ e.
+    ap (λ k. count_at (set_count p (count_in hs p) hs) k) (sym e) ∙ count_set_same 0 p (count_in hs p) hs c ∙ ap (λ k. count_at hs k) e)
     (λ ne. count_set_other p (count_in hs p) hs (rank_of q) ne)
     (cases_eq (rank_of p) (rank_of q)))

@@ -31,7 +31,9 @@ differences_is n old new (h ∷ hs) hs_is =
     let Rises : List Entry → Type 0 = λ es. IsChangeListFrom n es in
     let rest = differences_is (rank_of h.pair + 1) old new hs hs_is.2 in
     ⊎_elim
-    (λ same. subst Rises (sym (differences_same old new h hs same)) (change_lower n (rank_of h.pair + 1) (differences old new hs) (omega (arith, hs_is.0)) rest))
+    (λ same.
+    subst Rises (sym (differences_same old new h hs same))
+    (change_lower n (rank_of h.pair + 1) (differences old new hs) (omega (arith, hs_is.0)) rest))
     (λ ne. subst Rises (sym (cond-false _ _ _ (ne_eqb _ _ ne))) (hs_is.0, ne, rest))
     (cases_eq (count_at old (rank_of h.pair)) (count_at new (rank_of h.pair)))
 
@@ -43,7 +45,8 @@ counts_differences_tail old new h hs k other =
     (λ same. ap (λ es. counts_at es k) (differences_same old new h hs same))
     (λ ne.
     ap (λ es. counts_at es k) (cond-false _ _ _ (ne_eqb _ _ ne))
-    ∙ counts_tail (record { pair = h.pair; before = count_at old (rank_of h.pair); after = count_at new (rank_of h.pair) }) (differences old new hs) k other)
+    ∙ counts_tail (record { pair = h.pair; before = count_at old (rank_of h.pair); after = count_at new (rank_of h.pair) })
+    (differences old new hs) k other)
     (cases_eq (count_at old (rank_of h.pair)) (count_at new (rank_of h.pair)))
 
 counts_differences : (n : ℕ) (old new hs : Collection) (k : ℕ) → IsCollectionFrom n hs → 0 < count_at hs k
@@ -54,12 +57,14 @@ counts_differences n old new (h ∷ hs) k hs_is held =
     (λ here. ⊎_elim
     (λ same.
     ap (λ es. counts_at es k) (differences_same old new h hs same)
-    ∙ counts_below (rank_of h.pair + 1) (differences old new hs) k (differences_is (rank_of h.pair + 1) old new hs hs_is.2) (omega (arith, here))
+    ∙ counts_below (rank_of h.pair + 1) (differences old new hs) k (differences_is (rank_of h.pair + 1) old new hs hs_is.2)
+    (omega (arith, here))
     ∙ sym (no_difference (count_at old (rank_of h.pair)) (count_at new (rank_of h.pair)) same)
     ∙ ap (λ i. difference_of (count_at old i) (count_at new i)) here)
     (λ ne.
     ap (λ es. counts_at es k) (cond-false _ _ _ (ne_eqb _ _ ne))
-    ∙ counts_head (record { pair = h.pair; before = count_at old (rank_of h.pair); after = count_at new (rank_of h.pair) }) (differences old new hs) k here
+    ∙ counts_head (record { pair = h.pair; before = count_at old (rank_of h.pair); after = count_at new (rank_of h.pair) })
+    (differences old new hs) k here
     ∙ sym (some_difference (count_at old (rank_of h.pair)) (count_at new (rank_of h.pair)) ne)
     ∙ ap (λ i. difference_of (count_at old i) (count_at new i)) here)
     (cases_eq (count_at old (rank_of h.pair)) (count_at new (rank_of h.pair))))
@@ -95,7 +100,9 @@ joined_none n hs [] i hs_is ks_is none = (none, refl)
 joined_none n hs (k ∷ ks) i hs_is ks_is none =
     let rest = joined_none (rank_of k.pair + 1) (set_count k.pair k.count hs) ks i (set_keeps k.pair k.count hs hs_is) ks_is.2 none in
     ⊎_elim
-    (λ here. absurd (omega (arith, rest.0, ks_is.1, ap (λ j. count_at (set_count k.pair k.count hs) j) (sym here) ∙ count_set_same 0 k.pair k.count hs hs_is)))
+    (λ here.
+    let own = ap (λ j. count_at (set_count k.pair k.count hs) j) (sym here) ∙ count_set_same 0 k.pair k.count hs hs_is in
+    absurd (omega (arith, rest.0, ks_is.1, own)))
     (λ other. (sym (count_set_other k.pair k.count hs i other) ∙ rest.0, count_tail k ks i other ∙ rest.1))
     (cases_eq (rank_of k.pair) i)
 

@@ -67,7 +67,10 @@ count_of_other label (h ∷ hs) p other =
     let k = rank_of p in
     let rest = count_of_other label hs p other in
     ⊎_elim
-    (λ e. ap (λ x. count_at x k) (held_of_head label h hs e) ∙ count_tail h (held_of label hs) k (λ r. other (sym (same_label_at h.pair p r) ∙ e)) ∙ rest)
+    (λ e.
+    ap (λ x. count_at x k) (held_of_head label h hs e)
+    ∙ count_tail h (held_of label hs) k (λ r. other (sym (same_label_at h.pair p r) ∙ e))
+    ∙ rest)
     (λ ne. ap (λ x. count_at x k) (held_of_tail label h hs ne) ∙ rest)
     (cases_eq (value_of h.pair.label) (value_of label))
 
@@ -92,7 +95,8 @@ cells_above label cell n (h ∷ hs) lt c =
     let rest = cells_above label cell (rank_of h.pair + 1) hs (omega (arith, lt, c.0)) c.2 in
     ⊎_elim
     (λ e. subst (All IsAbove) (sym (held_of_head label h hs e))
-    (All-cons IsAbove h (held_of label hs) (cell_above cell (raw_of h.pair.cell) (value_of label) (value_of h.pair.label) n (sym e) lt c.0) rest))
+    (All-cons IsAbove h (held_of label hs) (cell_above cell (raw_of h.pair.cell) (value_of label) (value_of h.pair.label) n (sym e) lt c.0)
+    rest))
     (λ ne. subst (All IsAbove) (sym (held_of_tail label h hs ne)) rest)
     (cases_eq (value_of h.pair.label) (value_of label))
 

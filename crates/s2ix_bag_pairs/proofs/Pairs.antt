@@ -19,7 +19,9 @@ in_range-prop n = hlevel props
 pub same_label : (l m : Label) → value_of l ≡ value_of m → l ≡ m
 same_label l m e =
     let Same : ℕ → Type 0 = λ n. (r : n ≤ 2147483647) → l ≡ record { value = n; in_range = r } in
-    let at_own : Same (value_of l) = λ r. ap (λ (q : value_of l ≤ 2147483647). let made : Label = record { value = value_of l; in_range = q } in made) (in_range-prop (value_of l) l.in_range r) in
+    let at_own : Same (value_of l) =
+    λ r. ap (λ (q : value_of l ≤ 2147483647). let made : Label = record { value = value_of l; in_range = q } in made)
+    (in_range-prop (value_of l) l.in_range r) in
     subst Same e at_own m.in_range
 
 rank_parts : (a b v w : ℕ) → v ≤ 2147483647 → w ≤ 2147483647 → a * 2147483648 + v ≡ b * 2147483648 + w → (a ≡ b) × (v ≡ w)
@@ -29,7 +31,8 @@ rank_parts a b v w v_small w_small e = (omega arith, omega arith)
 pub same_pair : (p q : Pair) → rank_of p ≡ rank_of q → p ≡ q
 same_pair p q e =
     let parts = rank_parts (raw_of p.cell) (raw_of q.cell) (value_of p.label) (value_of q.label) p.label.in_range q.label.in_range e in
-    ap₂ (λ (c : CellId) (l : Label). let made : Pair = record { cell = c; label = l } in made) (same_cell p.cell q.cell parts.0) (same_label p.label q.label parts.1)
+    ap₂ (λ (c : CellId) (l : Label). let made : Pair = record { cell = c; label = l } in made) (same_cell p.cell q.cell parts.0)
+    (same_label p.label q.label parts.1)
 
 -- held pairs with equal ranks and equal counts are equal
 pub same_held : (h k : Held) → rank_of h.pair ≡ rank_of k.pair → h.count ≡ k.count → h ≡ k

@@ -105,7 +105,8 @@ pub changed_first : (hs : Collection) (e : Entry) (es : List Entry) → IsCollec
 changed_first [] e es hs_is es_is = changed_absent [] e es tt es_is
 changed_first (h ∷ hs) e es hs_is es_is =
     ⊎_elim
-    (λ same. changed_at h hs e es (sym same) es_is ∙ ap (λ x. held_with e.pair e.after (changed x es)) (sym (past_here h hs (rank_of e.pair) same)))
+    (λ same.
+    changed_at h hs e es (sym same) es_is ∙ ap (λ x. held_with e.pair e.after (changed x es)) (sym (past_here h hs (rank_of e.pair) same)))
     (λ ne.
     changed_absent (h ∷ hs) e es (omega (arith, ne, hs_is.0), hs_is.1, hs_is.2) es_is
     ∙ ap (λ x. held_with e.pair e.after (changed x es)) (sym (past_other h hs (rank_of e.pair) ne)))

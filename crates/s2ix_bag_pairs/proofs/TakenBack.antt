@@ -25,8 +25,12 @@ all_above : (hs : Collection) (es : List Entry) → length es ≤ position_or_le
 all_above hs [] le = tt
 all_above hs (e ∷ es) le =
     ⊎_elim
-    (λ below. absurd (omega (arith, le, cond-false (not (is_below_zero hs e)) (1 + position_or_len (is_below_zero hs) es) 0 (ap not (lt-ltb _ _ below)))))
-    (λ above. (above, all_above hs es (omega (arith, le, cond-true (not (is_below_zero hs e)) (1 + position_or_len (is_below_zero hs) es) 0 (ap not (le-ltb _ _ above))))))
+    (λ below.
+    let found = cond-false (not (is_below_zero hs e)) (1 + position_or_len (is_below_zero hs) es) 0 (ap not (lt-ltb _ _ below)) in
+    absurd (omega (arith, le, found)))
+    (λ above.
+    let passed = cond-true (not (is_below_zero hs e)) (1 + position_or_len (is_below_zero hs) es) 0 (ap not (le-ltb _ _ above)) in
+    (above, all_above hs es (omega (arith, le, passed))))
     (cases_lt (count_in hs e.pair + e.before) e.after)
 
 pub above_from_none : (hs : Collection) (es : List Entry) → first_below_zero hs es ≡ None → AreAboveZero hs es
@@ -88,7 +92,8 @@ above_at hs (e ∷ es) k before after above found =
 count_taken : (hs : Collection) (es : List Entry) (k : ℕ) → IsCollection hs → IsChangeList es → AreAboveZero hs es
     → count_at (taken_back hs es) k ≡ count_after (counts_back_of (counts_at es k) (count_at hs k)) (count_at hs k)
 count_taken hs es k hs_is es_is above =
-    count_changed 0 hs (change_back hs es) k hs_is (back_keeps hs es es_is above) ∙ ap (λ found. count_after found (count_at hs k)) (counts_back hs es k)
+    count_changed 0 hs (change_back hs es) k hs_is (back_keeps hs es es_is above)
+    ∙ ap (λ found. count_after found (count_at hs k)) (counts_back hs es k)
 
 gain_by : (count : ℕ) (found : Option (ℕ × ℕ)) → ((before after : ℕ) → found ≡ Some (before, after) → after ≤ count + before)
     → pos (count_after (counts_back_of found count) count) ≡ pos count -ℤ gain_of found
@@ -116,7 +121,8 @@ difference_by count (Some counts) each =
 pub between_taken_back : (hs : Collection) (es : List Entry) → IsCollection hs → IsChangeList es → AreAboveZero hs es
     → change_between hs (taken_back hs es) ≡ change_back hs es
 between_taken_back hs es hs_is es_is above =
-    sym (only_change hs (taken_back hs es) (change_back hs es) hs_is (taken_back_keeps hs es hs_is es_is above) (back_keeps hs es es_is above)
+    sym (only_change hs (taken_back hs es) (change_back hs es) hs_is
+    (taken_back_keeps hs es hs_is es_is above) (back_keeps hs es es_is above)
     (λ p.
     counts_back hs es (rank_of p)
     ∙ difference_by (count_in hs p) (counts_at es (rank_of p))

@@ -43,7 +43,8 @@ ChangeSetsCounts =
 abbrev pub ChangeListsDifferences : Type 0
 ChangeListsDifferences =
     (old new : Collection) → IsCollection old → IsCollection new →
-    IsChangeList (change_between old new) × ((p : Pair) → counts_at (change_between old new) (rank_of p) ≡ difference_of (count_in old p) (count_in new p))
+    IsChangeList (change_between old new)
+    × ((p : Pair) → counts_at (change_between old new) (rank_of p) ≡ difference_of (count_in old p) (count_in new p))
 
 abbrev pub OnlyChangeListsDifferences : Type 0
 OnlyChangeListsDifferences =
@@ -58,7 +59,8 @@ ChangeLeadsThereAndBack =
 abbrev pub TakingBackSubtracts : Type 0
 TakingBackSubtracts =
     (hs : Collection) (es : List Entry) → IsCollection hs → IsChangeList es → first_below_zero hs es ≡ None →
-    IsCollection (taken_back hs es) × ((p : Pair) → pos (count_in (taken_back hs es) p) ≡ pos (count_in hs p) -ℤ gain_of (counts_at es (rank_of p)))
+    IsCollection (taken_back hs es)
+    × ((p : Pair) → pos (count_in (taken_back hs es) p) ≡ pos (count_in hs p) -ℤ gain_of (counts_at es (rank_of p)))
 
 abbrev pub ChangeBackListsDifferences : Type 0
 ChangeBackListsDifferences =
@@ -68,8 +70,10 @@ ChangeBackListsDifferences =
 abbrev pub LabelsAreCounted : Type 0
 LabelsAreCounted =
     (label : Label) (hs : Collection) → IsCollection hs →
-    IsCollection (held_of label hs) × ((p : Pair) → count_in (held_of label hs) p ≡ (if value_of p.label == value_of label then count_in hs p else 0))
+    IsCollection (held_of label hs)
+    × ((p : Pair) → count_in (held_of label hs) p ≡ (if value_of p.label == value_of label then count_in hs p else 0))
 
 abbrev pub LabelsRiseByCell : Type 0
 LabelsRiseByCell =
-    (label : Label) (hs : Collection) → IsCollection hs → AllPairs (λ (g h : Held). raw_of g.pair.cell < raw_of h.pair.cell) (held_of label hs)
+    (label : Label) (hs : Collection) → IsCollection hs
+    → AllPairs (λ (g h : Held). raw_of g.pair.cell < raw_of h.pair.cell) (held_of label hs)
