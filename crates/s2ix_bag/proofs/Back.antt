@@ -56,7 +56,8 @@ change_at place es = record { number = place + 1; change = es }
 pub way_back_from : (changes : List (List Entry)) (place : ℕ) (es : List Entry) → place < length changes → es ≡ get_or changes place es
     → way_back (with_numbers (take (place + 1) changes)) ≡ back_of (change_at place es) ∷ way_back (with_numbers (take place changes))
 way_back_from changes place es lt is =
-    let more : take (place + 1) changes ≡ take place changes ++ es ∷ [] = take_more changes place es lt ∙ ap (λ x. take place changes ++ x ∷ []) (sym is) in
+    let more : take (place + 1) changes ≡ take place changes ++ es ∷ [] =
+    take_more changes place es lt ∙ ap (λ x. take place changes ++ x ∷ []) (sym is) in
     let number : 1 + length (take place changes) ≡ place + 1 = omega (arith, length-take place changes, lt) in
     ap (λ xs. way_back (with_numbers xs)) more
     ∙ ap way_back (numbered_push 1 (take place changes) es)
@@ -116,7 +117,8 @@ AreChanges (c ∷ rest) = IsChangeList c.change × AreChanges rest
 
 pub numbered_are_changes : (n : ℕ) (changes : List (List Entry)) → All IsChangeList changes → AreChanges (numbered_from n changes)
 numbered_are_changes n [] all = tt
-numbered_are_changes n (es ∷ rest) all = (All-head IsChangeList es rest all, numbered_are_changes (n + 1) rest (All-tail IsChangeList es rest all))
+numbered_are_changes n (es ∷ rest) all =
+    (All-head IsChangeList es rest all, numbered_are_changes (n + 1) rest (All-tail IsChangeList es rest all))
 
 pub push_change : (cs : List Numbered) (c : Numbered) → AreChanges cs → IsChangeList c.change → AreChanges (cs ++ c ∷ [])
 push_change [] c cs_are c_is = (c_is, tt)
@@ -142,9 +144,11 @@ there_and_back bag (c ∷ rest) is_bag cs_are none =
     let end = after_changes next rest in
     let taken = taken_from_none bag es (first_taken bag c rest none) in
     let behind = there_and_back next rest (made_is_bag bag es is_bag cs_are.0 taken) cs_are.1 (rest_taken bag c rest none) in
-    let here : apply_refusal next (inverse_of es) ≡ None = refusal_of_taken next (inverse_of es) (inverse_taken bag es is_bag cs_are.0 taken) in
+    let here : apply_refusal next (inverse_of es) ≡ None =
+    refusal_of_taken next (inverse_of es) (inverse_taken bag es is_bag cs_are.0 taken) in
     let home : after_change next (inverse_of es) ≡ bag =
-    ap (λ (hs : Collection). let b : LimitedCollection = record { limits = bag.limits; held = hs } in b) (changed_inverse bag.held es is_bag.rises cs_are.0 taken.before) in
+    ap (λ (hs : Collection). let b : LimitedCollection = record { limits = bag.limits; held = hs } in b)
+    (changed_inverse bag.held es is_bag.rises cs_are.0 taken.before) in
     record {
       taken = ap (first_refusal end) (way_back-cons c rest) ∙ first_refusal-append end (way_back rest) (back_of c ∷ []) behind.taken
           ∙ ap (λ b. first_refusal b (back_of c ∷ [])) behind.back ∙ refusal_behind next (back_of c) [] here;
@@ -172,7 +176,9 @@ pub changes_make_bag : (bag : LimitedCollection) (cs : List Numbered) → IsBag 
     → IsBag (after_changes bag cs)
 changes_make_bag bag [] is_bag cs_are none = is_bag
 changes_make_bag bag (c ∷ rest) is_bag cs_are none =
-    changes_make_bag (after_change bag c.change) rest (made_is_bag bag c.change is_bag cs_are.0 (taken_from_none bag c.change (first_taken bag c rest none))) cs_are.1 (rest_taken bag c rest none)
+    changes_make_bag (after_change bag c.change) rest
+    (made_is_bag bag c.change is_bag cs_are.0 (taken_from_none bag c.change (first_taken bag c rest none))) cs_are.1
+    (rest_taken bag c rest none)
 
 pub replayed_is_bag : (bag : LimitedCollection) (changes : List (List Entry)) → IsBag bag → All IsChangeList changes
     → replay_refusal bag changes ≡ None → IsBag (replayed bag changes)
@@ -181,4 +187,5 @@ replayed_is_bag bag changes is_bag all none = changes_make_bag bag (with_numbers
 pub rewound_is_bag : (bag : LimitedCollection) (changes : List (List Entry)) → IsBag bag → All IsChangeList changes
     → rewind_refusal bag changes ≡ None → IsBag (rewound bag changes)
 rewound_is_bag bag changes is_bag all none =
-    changes_make_bag bag (way_back (with_numbers changes)) is_bag (back_are_changes (with_numbers changes) (numbered_are_changes 1 changes all)) none
+    changes_make_bag bag (way_back (with_numbers changes)) is_bag
+    (back_are_changes (with_numbers changes) (numbered_are_changes 1 changes all)) none

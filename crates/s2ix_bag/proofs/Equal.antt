@@ -18,6 +18,10 @@ pub bags_decided : (a b : LimitedCollection) → Decides (limits_test.it a.limit
 bags_decided a b =
     let limits = limits_decided a.limits b.limits in
     let held = pointwise_decides held_decided a.held b.held in (
-      λ h. ap₂ (λ (l : Limits) (hs : Collection). let made : LimitedCollection = record { limits = l; held = hs } in made) (limits.0 (first_so _ _ h)) (held.0 (second_so _ _ h)),
-      λ e. let l = limits.1 (ap (λ (x : LimitedCollection). x.limits) e) in let hs = held.1 (ap (λ (x : LimitedCollection). x.held) e) in λ i. l i && hs i,
+      λ h.
+          ap₂ (λ (l : Limits) (hs : Collection). let made : LimitedCollection = record { limits = l; held = hs } in made)
+          (limits.0 (first_so _ _ h)) (held.0 (second_so _ _ h)),
+      λ e.
+          let l = limits.1 (ap (λ (x : LimitedCollection). x.limits) e) in
+          let hs = held.1 (ap (λ (x : LimitedCollection). x.held) e) in λ i. l i && hs i,
     )

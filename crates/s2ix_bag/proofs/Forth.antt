@@ -31,7 +31,8 @@ after_changes-append bag (c ∷ rest) ds = after_changes-append (after_change ba
 pub refusal_behind : (bag : LimitedCollection) (c : Numbered) (rest : List Numbered) → apply_refusal bag c.change ≡ None
     → first_refusal bag (c ∷ rest) ≡ first_refusal (after_change bag c.change) rest
 refusal_behind bag c rest taken =
-    ap (λ (r : Option ApplyError). option_or (option_map (refusal_numbered c.number) r) (first_refusal (after_change bag c.change) rest)) taken
+    ap (λ (r : Option ApplyError). option_or (option_map (refusal_numbered c.number) r) (first_refusal (after_change bag c.change) rest))
+    taken
 
 -- one that is refused decides
 pub refusal_here : (bag : LimitedCollection) (c : Numbered) (rest : List Numbered) (refusal : ReplayError)
@@ -51,7 +52,9 @@ refused_here bag c rest told.OutOfMemory is = tt
 taken_at : (bag : LimitedCollection) (c : Numbered) (rest : List Numbered) (refusal : Option ApplyError)
     → apply_refusal bag c.change ≡ refusal → first_refusal bag (c ∷ rest) ≡ None → apply_refusal bag c.change ≡ None
 taken_at bag c rest (Some e) is none =
-    let clash : Some (refusal_numbered c.number e) ≡ None = sym (refusal_here bag c rest (refusal_numbered c.number e) (ap (option_map (refusal_numbered c.number)) is)) ∙ none in cc
+    let clash : Some (refusal_numbered c.number e) ≡ None =
+    sym (refusal_here bag c rest (refusal_numbered c.number e) (ap (option_map (refusal_numbered c.number)) is)) ∙ none in
+    cc
 taken_at bag c rest None is none = is
 
 -- where none is refused, the first is taken
@@ -89,7 +92,8 @@ no_memory_told false false is = cc
 never_told : (bag : LimitedCollection) (es : List Entry) (mismatch : Option ℕ) → refusal_by bag es mismatch ≡ Some OutOfMemory → ⊥
 never_told bag es (Some k) is = cc
 never_told bag es None is =
-    no_memory_told (list_any (λ e. nat_lt (count_limit bag.limits) e.after) es) (nat_lt (pairs_limit bag.limits) (length (changed bag.held es))) is
+    no_memory_told (list_any (λ e. nat_lt (count_limit bag.limits) e.after) es)
+    (nat_lt (pairs_limit bag.limits) (length (changed bag.held es))) is
 
 never_here : (bag : LimitedCollection) (c : Numbered) (rest : List Numbered) (refusal : Option ApplyError)
     → apply_refusal bag c.change ≡ refusal → (first_refusal (after_change bag c.change) rest ≡ Some told.OutOfMemory → ⊥)

@@ -45,9 +45,12 @@ refusal_from bag es above None =
     (cond (nat_lt (pairs_limit bag.limits) (length (changed bag.held (inverse_of es)))) (Some TooManyPairs) None)
 
 pub refusal_of_inverse : (bag : LimitedCollection) (es : List Entry)
-    → apply_refusal bag (inverse_of es) ≡ refusal_from bag es (list_any (λ e. nat_lt (count_limit bag.limits) e.before) es) (position (λ e. not (e.after == count_in bag.held e.pair)) es)
+    → apply_refusal bag (inverse_of es)
+    ≡ refusal_from bag es (list_any (λ e. nat_lt (count_limit bag.limits) e.before) es)
+    (position (λ e. not (e.after == count_in bag.held e.pair)) es)
 refusal_of_inverse bag es =
-    ap₂ (λ (above : Bool) (m : Option ℕ). refusal_from bag es above m) (above_of_inverse (count_limit bag.limits) es) (mismatch_of_inverse bag es)
+    ap₂ (λ (above : Bool) (m : Option ℕ). refusal_from bag es above m) (above_of_inverse (count_limit bag.limits) es)
+    (mismatch_of_inverse bag es)
 
 -- ---- what is gained and lost
 

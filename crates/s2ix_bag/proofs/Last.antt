@@ -27,14 +27,16 @@ refused_behind : (bag : LimitedCollection) (rest : List (List Entry)) (es : List
     → first_refusal bag (take 1 (way_back (with_numbers (rest ++ es ∷ [])))) ≡ Some (refusal_numbered (length (rest ++ es ∷ [])) error)
 refused_behind bag rest es error refused =
     ap (first_refusal bag) (last_back rest es)
-    ∙ refusal_here bag (change_at (length rest) (inverse_of es)) [] (refusal_numbered (length rest + 1) error) (ap (option_map (refusal_numbered (length rest + 1))) refused)
+    ∙ refusal_here bag (change_at (length rest) (inverse_of es)) [] (refusal_numbered (length rest + 1) error)
+    (ap (option_map (refusal_numbered (length rest + 1))) refused)
     ∙ ap (λ n. Some (refusal_numbered n error)) (sym (length_push rest es))
 
 pub last_refused : (bag : LimitedCollection) (changes rest : List (List Entry)) (es : List Entry) (error : ApplyError)
     → changes ≡ rest ++ es ∷ [] → apply_refusal bag (inverse_of es) ≡ Some error
     → first_refusal bag (take 1 (way_back (with_numbers changes))) ≡ Some (refusal_numbered (length changes) error)
 last_refused bag changes rest es error is refused =
-    let Refused : List (List Entry) → Type 0 = λ cs. first_refusal bag (take 1 (way_back (with_numbers cs))) ≡ Some (refusal_numbered (length cs) error) in
+    let Refused : List (List Entry) → Type 0 =
+    λ cs. first_refusal bag (take 1 (way_back (with_numbers cs))) ≡ Some (refusal_numbered (length cs) error) in
     subst Refused (sym is) (refused_behind bag rest es error refused)
 
 -- it is taken

@@ -8,9 +8,10 @@ ghost use Rattle.s2ix_bag_pairs.specs.Limits.{count_limit};
 ghost use Rattle.s2ix_bag_pairs.specs.TakenBack.{count_back, first_below_zero, change_back, taken_back};
 
 use crate::bag::Bag;
+use s2id_core::OutOfMemory;
 use s2ix_bag_lists::RevertError;
 use s2ix_bag_pairs::{Entry, Limits};
-use std::alloc::{AllocError, Global};
+use std::alloc::Global;
 
 // A count with the copies that an entry's pair had before: what the copies after are taken from.
 fn with_before(count: u32, entry: &Entry) -> u64
@@ -95,7 +96,7 @@ pub(crate) fn entries_back(
     alloc: Global,
     bag: &Bag,
     entries: &[Entry],
-) -> Result<Vec<Entry>, AllocError>
+) -> Result<Vec<Entry>, OutOfMemory>
     requires { revert_refusal bag.now entries.now ≡ None }
     ensures { IfOk result (λ back. back.items ≡ change_back bag.now.held entries.now) }
 {

@@ -39,11 +39,14 @@ first_entry p before after old new hs ks old_is new_is hs_is ks_is old_p new_p o
     let hs_all = from_lower 0 (rank_of p + 1) hs (omega arith) hs_is in
     let ks_all = from_lower 0 (rank_of p + 1) ks (omega arith) ks_is in
     let others : (k : ℕ) → (rank_of p ≡ k → ⊥) → counts_at rest k ≡ difference_of (count_at old k) (count_at new k) =
-    λ k ne. counts_between_at hs ks k hs_all ks_all ∙ ap₂ (λ (m n : ℕ). difference_of m n) (sym (old_others k ne)) (sym (new_others k ne)) in
+    λ k ne.
+    counts_between_at hs ks k hs_all ks_all ∙ ap₂ (λ (m n : ℕ). difference_of m n) (sym (old_others k ne)) (sym (new_others k ne)) in
     ⊎_elim
     (λ same.
     let own : (k : ℕ) → rank_of p ≡ k → counts_at rest k ≡ difference_of (count_at old k) (count_at new k) =
-    λ k here. counts_below (rank_of p + 1) rest k rest_is (omega (arith, here)) ∙ sym (no_difference (count_in old p) (count_in new p) (old_p ∙ same ∙ sym new_p))
+    λ k here.
+    counts_below (rank_of p + 1) rest k rest_is (omega (arith, here))
+    ∙ sym (no_difference (count_in old p) (count_in new p) (old_p ∙ same ∙ sym new_p))
     ∙ ap (λ i. difference_of (count_at old i) (count_at new i)) here in
     sym (entry_none p before after rest same
     ∙ only_change old new rest old_is new_is (change_lower 0 (rank_of p + 1) rest (omega arith) rest_is)
@@ -55,14 +58,17 @@ first_entry p before after old new hs ks old_is new_is hs_is ks_is old_p new_p o
     ∙ ap₂ (λ (m n : ℕ). difference_of m n) (sym old_p) (sym new_p) ∙ ap (λ i. difference_of (count_at old i) (count_at new i)) here in
     sym (entry_some p before after rest ne
     ∙ only_change old new (e ∷ rest) old_is new_is (omega arith, ne, rest_is)
-    (λ q. ⊎_elim (own (rank_of q)) (λ other. counts_tail e rest (rank_of q) other ∙ others (rank_of q) other) (cases_eq (rank_of p) (rank_of q)))))
+    (λ q.
+    ⊎_elim (own (rank_of q)) (λ other. counts_tail e rest (rank_of q) other ∙ others (rank_of q) other) (cases_eq (rank_of p) (rank_of q)))))
     (cases_eq before after)
 
 -- a first pair that is held no more
 between_removal : (h : Held) (hs ks : Collection) → IsCollection (h ∷ hs) → IsCollectionFrom (rank_of h.pair + 1) ks
     → change_between (h ∷ hs) ks ≡ removal_of h ∷ change_between hs ks
 between_removal h hs ks hs_is ks_is =
-    first_entry h.pair h.count 0 (h ∷ hs) ks hs ks hs_is (from_lower 0 (rank_of h.pair + 1) ks (omega arith) ks_is) hs_is.2 ks_is (count_head h hs (rank_of h.pair) refl) (count_below (rank_of h.pair + 1) ks (rank_of h.pair) ks_is (omega arith)) (λ k ne. count_tail h hs k ne) (λ k ne. refl)
+    first_entry h.pair h.count 0 (h ∷ hs) ks hs ks hs_is (from_lower 0 (rank_of h.pair + 1) ks (omega arith) ks_is) hs_is.2 ks_is
+    (count_head h hs (rank_of h.pair) refl) (count_below (rank_of h.pair + 1) ks (rank_of h.pair) ks_is (omega arith))
+    (λ k ne. count_tail h hs k ne) (λ k ne. refl)
     ∙ entry_some h.pair h.count 0 (change_between hs ks) (λ none. omega (arith, none, hs_is.1))
 
 between_removal_all : (fs hs ks : Collection) (m n : ℕ) → AreBelow n fs → IsCollectionFrom m (fs ++ hs) → IsCollectionFrom n ks
@@ -76,7 +82,9 @@ between_removal_all (f ∷ fs) hs ks m n below all_is ks_is =
 between_first : (hs : Collection) (k : Held) (ks : Collection) → IsCollectionFrom (rank_of k.pair) hs → IsCollection (k ∷ ks)
     → change_between hs (k ∷ ks) ≡ entry_with k.pair (count_in hs k.pair) k.count (change_between (past hs (rank_of k.pair)) ks)
 between_first hs k ks hs_is ks_is =
-    first_entry k.pair (count_in hs k.pair) k.count hs (k ∷ ks) (past hs (rank_of k.pair)) ks (from_lower 0 (rank_of k.pair) hs (omega arith) hs_is) ks_is (past_rises (rank_of k.pair) hs hs_is) ks_is.2 refl (count_head k ks (rank_of k.pair) refl) (λ i ne. sym (count_past (rank_of k.pair) i hs ne)) (λ i ne. count_tail k ks i ne)
+    first_entry k.pair (count_in hs k.pair) k.count hs (k ∷ ks) (past hs (rank_of k.pair)) ks
+    (from_lower 0 (rank_of k.pair) hs (omega arith) hs_is) ks_is (past_rises (rank_of k.pair) hs hs_is) ks_is.2 refl
+    (count_head k ks (rank_of k.pair) refl) (λ i ne. sym (count_past (rank_of k.pair) i hs ne)) (λ i ne. count_tail k ks i ne)
 
 -- ---- the walk
 
@@ -88,7 +96,8 @@ pub record Comparing (old new : Collection) (out : List Entry) (rest : Collectio
 pub comparing_step : (old new : Collection) (out : List Entry) (rest : Collection) (i n : ℕ) (k : Held) → i < length new
     → k ≡ get_or new i k → IsCollection new → Comparing old new out rest i → AreBelow (rank_of k.pair) (take n rest)
     → IsCollectionFrom (rank_of k.pair) (drop n rest)
-    → Comparing old new ((out ++ map removal_of (take n rest)) ++ entry_with k.pair (count_in (drop n rest) k.pair) k.count []) (past (drop n rest) (rank_of k.pair)) (i + 1)
+    → Comparing old new ((out ++ map removal_of (take n rest)) ++ entry_with k.pair (count_in (drop n rest) k.pair) k.count [])
+    (past (drop n rest) (rank_of k.pair)) (i + 1)
 comparing_step old new out rest i n k within is new_is was below from_pair =
     let split : drop i new ≡ k ∷ drop (i + 1) new = drop_more new i k within ∙ ap (λ x. x ∷ drop (i + 1) new) (sym is) in
     let Rises : Collection → Type 0 = λ xs. IsCollection xs in
@@ -100,19 +109,22 @@ comparing_step old new out rest i n k within is new_is was below from_pair =
     let own_rises : IsCollectionFrom (rank_of k.pair) (k ∷ left) = (omega arith, left_is.1, left_is.2) in
     let this : change_between rest (k ∷ left) ≡ map removal_of front ++ (put ++ change_between tail left) =
     ap (λ x. change_between x (k ∷ left)) (sym (take-append-drop n rest))
-    ∙ between_removal_all front (drop n rest) (k ∷ left) 0 (rank_of k.pair) below (subst Rises (sym (take-append-drop n rest)) was.rises) own_rises
+    ∙ between_removal_all front (drop n rest) (k ∷ left) 0 (rank_of k.pair) below (subst Rises (sym (take-append-drop n rest)) was.rises)
+    own_rises
     ∙ ap (λ x. map removal_of front ++ x) (between_first (drop n rest) k left from_pair left_is
     ∙ entry_with_append k.pair (count_in (drop n rest) k.pair) k.count (change_between tail left)) in
     record {
       rises = from_lower 0 (rank_of k.pair + 1) tail (omega arith) (past_rises (rank_of k.pair) (drop n rest) from_pair);
-      made = append_assoc (out ++ map removal_of front) put (change_between tail left) ∙ append_assoc out (map removal_of front) (put ++ change_between tail left)
+      made = append_assoc (out ++ map removal_of front) put (change_between tail left)
+          ∙ append_assoc out (map removal_of front) (put ++ change_between tail left)
           ∙ ap (λ x. out ++ x) (sym this) ∙ ap (λ xs. out ++ change_between rest xs) (sym split) ∙ was.made;
     }
 
 between_nothing : (hs : Collection) (m : ℕ) → IsCollectionFrom m hs → change_between hs [] ≡ map removal_of hs
 between_nothing [] m hs_is = refl
 between_nothing (h ∷ hs) m hs_is =
-    between_removal h hs [] (omega arith, hs_is.1, hs_is.2) tt ∙ ap (λ x. removal_of h ∷ x) (between_nothing hs (rank_of h.pair + 1) hs_is.2)
+    between_removal h hs [] (omega arith, hs_is.1, hs_is.2) tt
+    ∙ ap (λ x. removal_of h ∷ x) (between_nothing hs (rank_of h.pair + 1) hs_is.2)
 
 pub comparing_end : (old new : Collection) (out : List Entry) (rest : Collection) (i : ℕ) → i ≡ length new → Comparing old new out rest i
     → out ++ map removal_of rest ≡ change_between old new

@@ -39,7 +39,8 @@ one_more rank (suc n) (e ∷ es) d within below lt = (below.0, one_more rank n e
 
 pub entries_below_more : (rank n : ℕ) (es : List Entry) (d : Entry) → n < length es → AreEntriesBelow rank (take n es)
     → rank_of (get_or es n d).pair < rank → AreEntriesBelow rank (take (n + 1) es)
-entries_below_more rank n es d within below lt = subst (λ (m : ℕ). AreEntriesBelow rank (take m es)) (sym (add-one n)) (one_more rank n es d within below lt)
+entries_below_more rank n es d within below lt =
+    subst (λ (m : ℕ). AreEntriesBelow rank (take m es)) (sym (add-one n)) (one_more rank n es d within below lt)
 
 pub entries_from : (rank n m : ℕ) (es : List Entry) (d : Entry) → IsChangeListFrom m es
     → (n < length es → rank ≤ rank_of (get_or es n d).pair) → IsChangeListFrom rank (drop n es)

@@ -15,7 +15,8 @@ start_more m n le = omega arith
 pub all_from : (f : ℕ) (ls : List Collection) → AreFacesFrom f ls → IsCollectionFrom (face_start f) (all_of ls)
 all_from f [] apart = tt
 all_from f (l ∷ ls) apart =
-    from_append (face_start f) (face_start (f + 1)) l (all_of ls) (start_more f (f + 1) (omega arith)) apart.0 apart.1 (all_from (f + 1) ls apart.2)
+    from_append (face_start f) (face_start (f + 1)) l (all_of ls) (start_more f (f + 1) (omega arith)) apart.0 apart.1
+    (all_from (f + 1) ls apart.2)
 
 pub all_rise : (ls : List Collection) → AreFacesFrom 0 ls → IsCollection (all_of ls)
 all_rise ls apart = from_lower 0 (face_start 0) (all_of ls) (omega arith) (all_from 0 ls apart)
@@ -39,7 +40,8 @@ pub front_below : (f i n : ℕ) (ls : List Collection) → n ≡ f + i → AreFa
 front_below f zero n ls is apart = tt
 front_below f (suc i) n [] is apart = tt
 front_below f (suc i) n (l ∷ ls) is apart =
-    below_append (face_start n) l (all_of (take i ls)) (below_more (face_start (f + 1)) (face_start n) l (start_more (f + 1) n (omega arith)) apart.1)
+    below_append (face_start n) l (all_of (take i ls))
+    (below_more (face_start (f + 1)) (face_start n) l (start_more (f + 1) n (omega arith)) apart.1)
     (front_below (f + 1) i n ls (omega arith) apart.2)
 
 pub back_from : (f i n : ℕ) (ls : List Collection) → n ≡ f + i → AreFacesFrom f ls → IsCollectionFrom (face_start n) (all_of (drop i ls))
@@ -56,6 +58,13 @@ own_is f zero n (l ∷ ls) is within apart =
     subst (λ (m : ℕ). IsOnFace m l) same (apart.0, apart.1)
 own_is f (suc i) n (l ∷ ls) is within apart = own_is (f + 1) i n ls (omega arith) (omega arith) apart.2
 
+-- a list that is one of these rises
+pub list_rises : (ls : List Collection) (i : ℕ) (list : Collection) → i < length ls → AreFacesFrom 0 ls → list ≡ get_or ls i []
+    → IsCollection list
+list_rises ls i list within apart is =
+    let on_face = own_is 0 i i ls (omega arith) within apart in
+    subst IsCollection (sym is) (from_lower 0 (face_start i) (get_or ls i []) (omega arith) on_face.0)
+
 pub put_apart : (f i n : ℕ) (ls : List Collection) (new : Collection) → n ≡ f + i → AreFacesFrom f ls → IsOnFace n new
     → AreFacesFrom f (set ls i new)
 put_apart f i n [] new is apart own = tt
@@ -71,7 +80,8 @@ pub count_on_face : (ls : List Collection) (i k : ℕ) → i < length ls → Are
     → count_at (all_of ls) k ≡ count_at (get_or ls i []) k
 count_on_face ls i k within apart le lt =
     ap (λ x. count_at x k) (all_is ls i within)
-    ∙ count_front (face_start i) k (all_of (take i ls)) (get_or ls i [] ++ all_of (drop (suc i) ls)) (front_below 0 i i ls (omega arith) apart) le
+    ∙ count_front (face_start i) k (all_of (take i ls)) (get_or ls i [] ++ all_of (drop (suc i) ls))
+    (front_below 0 i i ls (omega arith) apart) le
     ∙ count_back (face_start (i + 1)) k (get_or ls i []) (all_of (drop (suc i) ls)) (back_from 0 (suc i) (i + 1) ls (omega arith) apart) lt
 
 pub changed_on_face : (ls : List Collection) (i : ℕ) (es : List Entry) → i < length ls → AreFacesFrom 0 ls
@@ -79,5 +89,6 @@ pub changed_on_face : (ls : List Collection) (i : ℕ) (es : List Entry) → i <
     → changed (all_of ls) es ≡ all_of (set ls i (changed (get_or ls i []) es))
 changed_on_face ls i es within apart es_is below =
     ap (λ x. changed x es) (all_is ls i within)
-    ∙ changed_between (face_start i) (face_start (i + 1)) (all_of (take i ls)) (get_or ls i []) (all_of (drop (suc i) ls)) es (front_below 0 i i ls (omega arith) apart) (back_from 0 (suc i) (i + 1) ls (omega arith) apart) es_is below
+    ∙ changed_between (face_start i) (face_start (i + 1)) (all_of (take i ls)) (get_or ls i []) (all_of (drop (suc i) ls)) es
+    (front_below 0 i i ls (omega arith) apart) (back_from 0 (suc i) (i + 1) ls (omega arith) apart) es_is below
     ∙ sym (all_put ls i (changed (get_or ls i []) es) within)

@@ -64,10 +64,19 @@ set_back : (p : Pair) (c n : ℕ) (hs bs : Collection) → rank_of p < n → IsC
 set_back p c n [] bs lt bs_is = set_in_front p c n bs lt bs_is ∙ held_with_append p c bs
 set_back p c n (h ∷ hs) bs lt bs_is =
     ⊎_elim
-    (λ same. set_at p c h (hs ++ bs) same ∙ held_with_append p c (hs ++ bs) ∙ sym (append_held p c hs bs) ∙ ap (λ x. x ++ bs) (sym (set_at p c h hs same)))
+    (λ same.
+    set_at p c h (hs ++ bs) same
+    ∙ held_with_append p c (hs ++ bs)
+    ∙ sym (append_held p c hs bs)
+    ∙ ap (λ x. x ++ bs) (sym (set_at p c h hs same)))
     (λ order. ⊎_elim
-    (λ before. set_before p c h (hs ++ bs) before ∙ held_with_append p c (h ∷ (hs ++ bs)) ∙ sym (append_held p c (h ∷ hs) bs) ∙ ap (λ x. x ++ bs) (sym (set_before p c h hs before)))
-    (λ past. set_after p c h (hs ++ bs) past ∙ ap (λ x. h ∷ x) (set_back p c n hs bs lt bs_is) ∙ ap (λ x. x ++ bs) (sym (set_after p c h hs past)))
+    (λ before.
+    set_before p c h (hs ++ bs) before
+    ∙ held_with_append p c (h ∷ (hs ++ bs))
+    ∙ sym (append_held p c (h ∷ hs) bs)
+    ∙ ap (λ x. x ++ bs) (sym (set_before p c h hs before)))
+    (λ past.
+    set_after p c h (hs ++ bs) past ∙ ap (λ x. h ∷ x) (set_back p c n hs bs lt bs_is) ∙ ap (λ x. x ++ bs) (sym (set_after p c h hs past)))
     order)
     (cases_order (rank_of p) (rank_of h.pair))
 
@@ -76,7 +85,8 @@ pub changed_back : (n : ℕ) (hs bs : Collection) (es : List Entry) → AreEntri
     → changed (hs ++ bs) es ≡ changed hs es ++ bs
 changed_back n hs bs [] below bs_is = refl
 changed_back n hs bs (e ∷ es) below bs_is =
-    ap (λ x. changed x es) (set_back e.pair e.after n hs bs below.0 bs_is) ∙ changed_back n (set_count e.pair e.after hs) bs es below.1 bs_is
+    ap (λ x. changed x es) (set_back e.pair e.after n hs bs below.0 bs_is)
+    ∙ changed_back n (set_count e.pair e.after hs) bs es below.1 bs_is
 
 -- and so does what comes before them
 pub changed_between : (m n : ℕ) (fs hs bs : Collection) (es : List Entry) → AreBelow m fs → IsCollectionFrom n bs → IsChangeListFrom m es

@@ -70,7 +70,9 @@ pub length-changed_from : (n : ℕ) (hs : Collection) (es : List Entry) → IsCo
     → length (changed hs es) + losses es ≡ length hs + gains es
 length-changed_from n hs [] hs_is es_is before = refl
 length-changed_from n hs (e ∷ es) hs_is es_is before =
-    let rest = length-changed_from (rank_of e.pair + 1) (set_count e.pair e.after hs) es (set_keeps e.pair e.after hs hs_is) es_is.2 (before_rest n hs e es es_is before) in
+    let rest =
+    length-changed_from (rank_of e.pair + 1) (set_count e.pair e.after hs) es (set_keeps e.pair e.after hs hs_is) es_is.2
+    (before_rest n hs e es es_is before) in
     let first = length_set 0 e.pair e.after hs hs_is in
     let same_count = ap one_if_held before.0 in
     omega (arith, rest, first, same_count, one_more e.before (gains es), one_more e.after (losses es))

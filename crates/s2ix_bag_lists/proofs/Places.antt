@@ -30,10 +30,17 @@ face_found ls place i before own within is apart was lt =
     let front = all_of (take i ls) in
     let back = all_of (drop (suc i) ls) in
     let all : all_of ls ≡ front ++ (own ++ back) = all_is ls i within ∙ ap (λ (x : Collection). front ++ (x ++ back)) (sym is) in
-    let behind : drop before (all_of ls) ≡ own ++ back = ap (λ (n : ℕ). drop n (all_of ls)) was.counted ∙ ap (λ (x : Collection). drop (length front) x) all ∙ drop_front front (own ++ back) in
-    let ahead : take before (all_of ls) ≡ front = ap (λ (n : ℕ). take n (all_of ls)) was.counted ∙ ap (λ (x : Collection). take (length front) x) all ∙ take_front front (own ++ back) in
+    let behind : drop before (all_of ls) ≡ own ++ back =
+    ap (λ (n : ℕ). drop n (all_of ls)) was.counted
+    ∙ ap (λ (x : Collection). drop (length front) x) all
+    ∙ drop_front front (own ++ back) in
+    let ahead : take before (all_of ls) ≡ front =
+    ap (λ (n : ℕ). take n (all_of ls)) was.counted
+    ∙ ap (λ (x : Collection). take (length front) x) all
+    ∙ take_front front (own ++ back) in
     let counted = was.counted in
-    let rest : drop (before + length own) (all_of ls) ≡ back = ap (λ (x : Collection). drop (before + length own) x) all ∙ drop_both front own back (before + length own) (omega arith) in
+    let rest : drop (before + length own) (all_of ls) ≡ back =
+    ap (λ (x : Collection). drop (before + length own) x) all ∙ drop_both front own back (before + length own) (omega arith) in
     record {
       face = i;
       on_face = subst (λ (x : Collection). IsOnFace i x) (sym is) (own_is 0 i i ls (omega arith) within apart);
@@ -41,5 +48,6 @@ face_found ls place i before own within is apart was lt =
       ends = omega (arith, was.begins, lt);
       part = ap (λ (x : Collection). take (length own) x) behind ∙ take_front own back;
       below = subst (λ (x : Collection). AreBelow (face_start i) x) (sym ahead) (front_below 0 i i ls (omega arith) apart);
-      rest = subst (λ (x : Collection). IsCollectionFrom (face_start (i + 1)) x) (sym rest) (back_from 0 (suc i) (i + 1) ls (omega arith) apart);
+      rest = subst (λ (x : Collection). IsCollectionFrom (face_start (i + 1)) x) (sym rest)
+          (back_from 0 (suc i) (i + 1) ls (omega arith) apart);
     }

@@ -1,7 +1,7 @@
 -- When a bag takes a change.
 use Rattle.std.proofs.Common.{◌≡◌, ℕ, ◌+◌, ◌*◌, ◌<◌, ◌≤◌, ◌==◌, nat_lt, not, ◌||◌, cond, Bool, true, false, List, [], ◌∷◌, length, All, Option, Some, None, position, refl, sym, ap, ◌∙◌, ⊎_elim, inl, inr, ◌⊎◌, arith, eq-eqb, ne_eqb, ltb-false, lt-ltb, le-ltb, mul-le-mul}
 use Rattle.std.specs.List.{list_any, position_or_len}
-use Rattle.std.proofs.lemmas.Bool.{cases_eq, cases_lt, cases_Bool, or_parts, cond-true, cond-false}
+use Rattle.std.proofs.lemmas.Bool.{cases_eq, cases_lt, or_parts, cond-true, cond-false}
 use Rattle.std.proofs.lemmas.List.Elements.{All-head, All-tail}
 use Rattle.std.proofs.lemmas.List.Sums.{sum_by-le}
 use Rattle.s2ix_bag_lists.specs.Apply.{AreBefore, first_mismatch, apply_refusal}
@@ -38,8 +38,12 @@ all_before : (hs : Collection) (es : List Entry) → length es ≤ position_or_l
 all_before hs [] le = tt
 all_before hs (e ∷ es) le =
     ⊎_elim
-    (λ fits. (fits.1, all_before hs es (omega (arith, le, cond-true (not (is_mismatch hs e)) (1 + position_or_len (is_mismatch hs) es) 0 (ap not fits.0)))))
-    (λ differs. absurd (omega (arith, le, cond-false (not (is_mismatch hs e)) (1 + position_or_len (is_mismatch hs) es) 0 (ap not differs.0))))
+    (λ fits.
+    let passed = cond-true (not (is_mismatch hs e)) (1 + position_or_len (is_mismatch hs) es) 0 (ap not fits.0) in
+    (fits.1, all_before hs es (omega (arith, le, passed))))
+    (λ differs.
+    let found = cond-false (not (is_mismatch hs e)) (1 + position_or_len (is_mismatch hs) es) 0 (ap not differs.0) in
+    absurd (omega (arith, le, found)))
     (mismatch_cases hs e)
 
 no_position : (hs : Collection) (es : List Entry) → AreBefore hs es → position_or_len (is_mismatch hs) es ≡ length es
@@ -82,6 +86,16 @@ none_from_within c (e ∷ es) within =
 
 -- ---- a change that is taken
 
+-- where neither limit refuses, no count is above the one, and no more pairs are held than the other
+pub within_both : {E : Type 0} (is_above : Bool) (limit pairs : ℕ) (copies_error pairs_error : E)
+    → cond is_above (Some copies_error) (cond (nat_lt limit pairs) (Some pairs_error) None) ≡ None → (is_above ≡ false) × (pairs ≤ limit)
+within_both true limit pairs copies_error pairs_error none = cc
+within_both false limit pairs copies_error pairs_error none =
+    ⊎_elim
+    (λ lt. let clash : Some pairs_error ≡ None = sym (cond-true _ _ _ (lt-ltb _ _ lt)) ∙ none in cc)
+    (λ le. (refl, le))
+    (cases_lt limit pairs)
+
 -- what a bag takes: each count before is right, and what it makes is within the limits
 pub record IsTaken (bag : LimitedCollection) (es : List Entry) : Type 0 where
   pub before : AreBefore bag.held es
@@ -113,19 +127,12 @@ taken_at : (bag : LimitedCollection) (es : List Entry) (mismatch : Option ℕ) �
 unfolding refusal_at
 taken_at bag es (Some place) is none = cc
 taken_at bag es None is none =
-    ⊎_elim
-    (λ any. let clash : Some TooManyCopies ≡ None = sym (cond-true _ _ _ any) ∙ none in cc)
-    (λ within.
-    let rest = sym (cond-false _ _ _ within) ∙ none in
-    ⊎_elim
-    (λ lt. let clash : Some TooManyPairs ≡ None = sym (cond-true _ _ _ (lt-ltb _ _ lt)) ∙ rest in cc)
-    (λ le. record {
+    let within = within_both _ (pairs_limit bag.limits) (length (changed bag.held es)) TooManyCopies TooManyPairs none in
+    record {
       before = before_from_no_mismatch bag.held es is;
-      within = within_from_none (count_limit bag.limits) es within;
-      few = le;
-    })
-    (cases_lt (pairs_limit bag.limits) (length (changed bag.held es))))
-    (cases_Bool (list_any (λ e. nat_lt (count_limit bag.limits) e.after) es))
+      within = within_from_none (count_limit bag.limits) es within.0;
+      few = within.1;
+    }
 
 -- a bag takes a change that it does not refuse
 pub taken_from_none : (bag : LimitedCollection) (es : List Entry) → apply_refusal bag es ≡ None → IsTaken bag es

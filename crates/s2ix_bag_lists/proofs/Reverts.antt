@@ -1,7 +1,7 @@
 -- When a bag takes a change back.
-use Rattle.std.proofs.Common.{◌≡◌, ℕ, ◌+◌, ◌-◌, ◌==◌, nat_lt, cond, false, List, [], ◌∷◌, length, count_by, arith, Option, Some, None, refl, sym, ap, ap₂, ◌∙◌, ⊎_elim, ltb-false, lt-ltb}
+use Rattle.std.proofs.Common.{◌≡◌, ℕ, ◌+◌, ◌-◌, ◌==◌, nat_lt, cond, false, List, [], ◌∷◌, length, count_by, arith, Option, Some, None, refl, sym, ap, ap₂, ◌∙◌, ltb-false}
 use Rattle.std.specs.List.{list_any}
-use Rattle.std.proofs.lemmas.Bool.{cases_lt, cases_Bool, or_parts, cond-true, cond-false}
+use Rattle.std.proofs.lemmas.Bool.{or_parts}
 use Rattle.std.proofs.lemmas.List.Recursion.{is_count_by}
 use Rattle.s2ix_bag_lists.specs.Apply.{AreBefore}
 use Rattle.s2ix_bag_lists.specs.Revert.{revert_refusal}
@@ -14,7 +14,7 @@ use Rattle.s2ix_bag_pairs.specs.TakenBack.{count_back, first_below_zero, change_
 use Rattle.s2ix_bag_pairs.specs.declared.pair.Entry.{Entry}
 use Rattle.s2ix_bag_pairs.proofs.TakenBack.{AreAboveZero, above_from_none, back_keeps}
 use Rattle.s2ix_bag_lists.proofs.Lengths.{AreAfterWithin, gains, losses, length-changed}
-use Rattle.s2ix_bag_lists.proofs.Refusals.{IsTaken}
+use Rattle.s2ix_bag_lists.proofs.Refusals.{IsTaken, within_both}
 
 -- the change that takes a change back has the right counts before
 pub back_before : (hs : Collection) (es : List Entry) → AreBefore hs (change_back hs es)
@@ -49,7 +49,9 @@ losses_back hs es = is_count_by (λ fs. losses (change_back hs fs)) (λ e. count
 pub length-taken_back : (hs : Collection) (es : List Entry) → IsCollection hs → IsChangeList es → first_below_zero hs es ≡ None
     → length (taken_back hs es) + count_by (λ e. count_back hs e == 0) es ≡ length hs + count_by (λ e. count_in hs e.pair == 0) es
 length-taken_back hs es hs_is es_is none =
-    omega (arith, length-changed hs (change_back hs es) hs_is (back_keeps hs es es_is (above_from_none hs es none)) (back_before hs es), gains_back hs es, losses_back hs es)
+    let back_is = back_keeps hs es es_is (above_from_none hs es none) in
+    let lengths = length-changed hs (change_back hs es) hs_is back_is (back_before hs es) in
+    omega (arith, lengths, gains_back hs es, losses_back hs es)
 
 -- ---- a change that is taken back
 
@@ -75,22 +77,15 @@ taken_back_at : (bag : LimitedCollection) (es : List Entry) (below : Option ℕ)
 unfolding refusal_at
 taken_back_at bag es (Some place) is none = cc
 taken_back_at bag es None is none =
-    ⊎_elim
-    (λ any. let clash : Some TooManyCopies ≡ None = sym (cond-true _ _ _ any) ∙ none in cc)
-    (λ within.
-    let rest = sym (cond-false _ _ _ within) ∙ none in
-    ⊎_elim
-    (λ lt. let clash : Some TooManyPairs ≡ None = sym (cond-true _ _ _ (lt-ltb _ _ lt)) ∙ rest in cc)
-    (λ le. record {
+    let within = within_both _ (pairs_limit bag.limits) (length (taken_back bag.held es)) TooManyCopies TooManyPairs none in
+    record {
       above = above_from_none bag.held es is;
       taken = record {
         before = back_before bag.held es;
-        within = back_within (count_limit bag.limits) bag.held es within;
-        few = le;
+        within = back_within (count_limit bag.limits) bag.held es within.0;
+        few = within.1;
       };
-    })
-    (cases_lt (pairs_limit bag.limits) (length (taken_back bag.held es))))
-    (cases_Bool (list_any (λ e. nat_lt (count_limit bag.limits) (count_back bag.held e)) es))
+    }
 
 -- a bag takes a change back that it doesn't refuse to
 pub taken_back_from_none : (bag : LimitedCollection) (es : List Entry) → revert_refusal bag es ≡ None → IsTakenBack bag es

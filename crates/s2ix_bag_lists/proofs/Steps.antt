@@ -12,7 +12,7 @@ use Rattle.s2ix_bag_pairs.proofs.Changes.{change_lower, changed_keeps_from}
 use Rattle.s2ix_bag_lists.specs.Apply.{AreBefore}
 use Rattle.s2ix_bag_lists.proofs.Refusals.{is_mismatch, position_is, position_none}
 use Rattle.s2ix_bag_lists.specs.Faces.{AreEntriesBelow, AreFacesFrom, all_of, face_start}
-use Rattle.s2ix_bag_lists.proofs.Faces.{all_is, all_put, count_on_face, changed_on_face, own_is, put_apart, back_from, start_more}
+use Rattle.s2ix_bag_lists.proofs.Faces.{all_is, all_put, count_on_face, changed_on_face, list_rises, own_is, put_apart, back_from, start_more}
 use Rattle.s2ix_bag_lists.proofs.Joined.{below_more, before_in_front, before_later, below_append, changed_below, changed_by_parts, none_between, rise_in_front}
 
 -- ---- the last face
@@ -62,7 +62,8 @@ position_behind hs (e ∷ es) fs le =
     ⊎_elim
     (λ same.
     let fits = cond-true (not (is_mismatch hs e)) (1 + position_or_len (is_mismatch hs) es) 0 (ap (λ t. not (not t)) (eq-eqb _ _ same)) in
-    let fits_both = cond-true (not (is_mismatch hs e)) (1 + position_or_len (is_mismatch hs) (es ++ fs)) 0 (ap (λ t. not (not t)) (eq-eqb _ _ same)) in
+    let fits_both =
+    cond-true (not (is_mismatch hs e)) (1 + position_or_len (is_mismatch hs) (es ++ fs)) 0 (ap (λ t. not (not t)) (eq-eqb _ _ same)) in
     omega (arith, fits_both, position_behind hs es fs (omega (arith, le, fits))))
     (λ ne.
     let differs = cond-false (not (is_mismatch hs e)) (1 + position_or_len (is_mismatch hs) es) 0 (ap (λ t. not (not t)) (ne_eqb _ _ ne)) in
@@ -76,11 +77,13 @@ position_inside hs (e ∷ es) fs lt =
     ⊎_elim
     (λ same.
     let fits = cond-true (not (is_mismatch hs e)) (1 + position_or_len (is_mismatch hs) es) 0 (ap (λ t. not (not t)) (eq-eqb _ _ same)) in
-    let fits_both = cond-true (not (is_mismatch hs e)) (1 + position_or_len (is_mismatch hs) (es ++ fs)) 0 (ap (λ t. not (not t)) (eq-eqb _ _ same)) in
+    let fits_both =
+    cond-true (not (is_mismatch hs e)) (1 + position_or_len (is_mismatch hs) (es ++ fs)) 0 (ap (λ t. not (not t)) (eq-eqb _ _ same)) in
     omega (arith, fits, fits_both, position_inside hs es fs (omega (arith, lt, fits))))
     (λ ne.
     let differs = cond-false (not (is_mismatch hs e)) (1 + position_or_len (is_mismatch hs) es) 0 (ap (λ t. not (not t)) (ne_eqb _ _ ne)) in
-    let differs_both = cond-false (not (is_mismatch hs e)) (1 + position_or_len (is_mismatch hs) (es ++ fs)) 0 (ap (λ t. not (not t)) (ne_eqb _ _ ne)) in
+    let differs_both =
+    cond-false (not (is_mismatch hs e)) (1 + position_or_len (is_mismatch hs) (es ++ fs)) 0 (ap (λ t. not (not t)) (ne_eqb _ _ ne)) in
     differs_both ∙ sym differs)
     (cases_eq e.before (count_in hs e.pair))
 
@@ -111,7 +114,8 @@ pub record Compared (ls : List Collection) (es : List Entry) (face : ℕ) (rest 
 pub own_of_face : (face k : ℕ) (rest : List Entry) → IsChangeListFrom (face_start face) rest
     → IsChangeListFrom (face_start face) (take k rest)
 own_of_face face k rest rises =
-    rise_in_front (face_start face) (take k rest) (drop k rest) (subst (λ (es : List Entry). IsChangeListFrom (face_start face) es) (sym (take-append-drop k rest)) rises)
+    rise_in_front (face_start face) (take k rest) (drop k rest)
+    (subst (λ (es : List Entry). IsChangeListFrom (face_start face) es) (sym (take-append-drop k rest)) rises)
 
 pub compared_found : (ls : List Collection) (es : List Entry) (face : ℕ) (rest : List Entry) (passed k place : ℕ) → face < length ls
     → AreFacesFrom 0 ls → Compared ls es face rest passed → AreEntriesBelow (face_start (face + 1)) (take k rest)
@@ -137,17 +141,18 @@ compared_step ls es face rest passed k within apart was below later none =
     let absent = position_absent (get_or ls face []) own none in
     let behind = position_behind (all_of ls) own (drop k rest) (omega (arith, same, absent)) in
     let split = ap (λ xs. position_or_len (is_mismatch (all_of ls)) xs) (take-append-drop k rest) in
-    let lengths : length own + length (drop k rest) ≡ length rest = sym (length-append own (drop k rest)) ∙ ap (λ (xs : List Entry). length xs) (take-append-drop k rest) in
+    let lengths : length own + length (drop k rest) ≡ length rest =
+    sym (length-append own (drop k rest)) ∙ ap (λ (xs : List Entry). length xs) (take-append-drop k rest) in
     record {
       rises = later;
       none = omega (arith, was.none, split, behind);
       long = omega (arith, was.long, lengths);
     }
 
-pub compared_end : (ls : List Collection) (es rest : List Entry) (passed : ℕ) → Compared ls es 6 rest passed
-    → position (is_mismatch (all_of ls)) es ≡ None
-compared_end ls es rest passed was =
-    let none = no_entry_behind rest was.rises in
+pub compared_end : (ls : List Collection) (es : List Entry) (face : ℕ) (rest : List Entry) (passed : ℕ) → face ≡ 6
+    → Compared ls es face rest passed → position (is_mismatch (all_of ls)) es ≡ None
+compared_end ls es face rest passed last was =
+    let none = no_entry_behind rest (subst (λ (f : ℕ). IsChangeListFrom (face_start f) rest) last was.rises) in
     let nothing = ap (λ xs. position_or_len (is_mismatch (all_of ls)) xs) none in
     let empty = ap (λ (xs : List Entry). length xs) none in
     position_none (all_of ls) es (omega (arith, was.none, was.long, nothing, empty))
@@ -162,17 +167,26 @@ pub record Changing (first : Collection) (es : List Entry) (face : ℕ) (ls : Li
   pub before : AreBefore (all_of ls) rest
   pub made : changed (all_of ls) rest ≡ changed first es
 
+-- what the list of this face and its entries have to be for the change of that list
+pub record IsOwnChange (held : Collection) (own : List Entry) : Type 0 where
+  pub held_rise : IsCollection held
+  pub entries_rise : IsChangeList own
+  pub before : AreBefore held own
+
 pub changing_own : (first : Collection) (es : List Entry) (face : ℕ) (ls : List Collection) (rest : List Entry) (k : ℕ) → face < 6
     → Changing first es face ls rest → AreEntriesBelow (face_start (face + 1)) (take k rest)
-    → IsCollection (get_or ls face []) × IsChangeList (take k rest) × AreBefore (get_or ls face []) (take k rest)
+    → IsOwnChange (get_or ls face []) (take k rest)
 changing_own first es face ls rest k within was below =
     let short : face < length ls = omega (arith, was.six, within) in
     let own_rises = own_of_face face k rest was.rises in
-    let befores = before_in_front (all_of ls) (take k rest) (drop k rest) (subst (λ (xs : List Entry). AreBefore (all_of ls) xs) (sym (take-append-drop k rest)) was.before) in (
-      from_lower 0 (face_start face) (get_or ls face []) (omega arith) (own_is 0 face face ls (omega arith) short was.apart).0,
-      change_lower 0 (face_start face) (take k rest) (omega arith) own_rises,
-      before_on_face ls face (face_start face) (take k rest) short was.apart (omega arith) own_rises below befores,
-    )
+    let befores =
+    before_in_front (all_of ls) (take k rest) (drop k rest)
+    (subst (λ (xs : List Entry). AreBefore (all_of ls) xs) (sym (take-append-drop k rest)) was.before) in
+    record {
+      held_rise = list_rises ls face (get_or ls face []) short was.apart refl;
+      entries_rise = change_lower 0 (face_start face) (take k rest) (omega arith) own_rises;
+      before = before_on_face ls face (face_start face) (take k rest) short was.apart (omega arith) own_rises below befores;
+    }
 
 pub changing_step : (first : Collection) (es : List Entry) (face : ℕ) (ls : List Collection) (rest : List Entry) (k : ℕ) → face < 6
     → Changing first es face ls rest → AreEntriesBelow (face_start (face + 1)) (take k rest)
@@ -187,18 +201,28 @@ changing_step first es face ls rest k within was below later =
     let held = own_is 0 face face ls (omega arith) short was.apart in
     let made_own = changed_on_face ls face own short was.apart own_rises below in
     let befores =
-    before_later (face_start face) (all_of ls) own (drop k rest) (subst (λ (xs : List Entry). IsChangeListFrom (face_start face) xs) (sym split) was.rises) (subst (λ (xs : List Entry). AreBefore (all_of ls) xs) (sym split) was.before) in
+    before_later (face_start face) (all_of ls) own (drop k rest)
+    (subst (λ (xs : List Entry). IsChangeListFrom (face_start face) xs) (sym split) was.rises)
+    (subst (λ (xs : List Entry). AreBefore (all_of ls) xs) (sym split) was.before) in
     record {
       six = length-set ls face new ∙ was.six;
-      apart = put_apart 0 face face ls new (omega arith) was.apart (changed_keeps_from (face_start face) (get_or ls face []) own held.0 own_rises, changed_below (face_start (face + 1)) (get_or ls face []) own below held.1);
+      apart = put_apart 0 face face ls new (omega arith) was.apart (
+        changed_keeps_from (face_start face) (get_or ls face []) own held.0 own_rises,
+        changed_below (face_start (face + 1)) (get_or ls face []) own below held.1,
+      );
       rises = later;
       before = subst (λ (hs : Collection). AreBefore hs (drop k rest)) made_own befores;
-      made = ap (λ hs. changed hs (drop k rest)) (sym made_own) ∙ sym (changed_by_parts (all_of ls) own (drop k rest)) ∙ ap (λ xs. changed (all_of ls) xs) split ∙ was.made;
+      made = ap (λ hs. changed hs (drop k rest)) (sym made_own)
+          ∙ sym (changed_by_parts (all_of ls) own (drop k rest))
+          ∙ ap (λ xs. changed (all_of ls) xs) split
+          ∙ was.made;
     }
 
-pub changing_end : (first : Collection) (es : List Entry) (ls : List Collection) (rest : List Entry) → Changing first es 6 ls rest
-    → all_of ls ≡ changed first es
-changing_end first es ls rest was = ap (λ xs. changed (all_of ls) xs) (sym (no_entry_behind rest was.rises)) ∙ was.made
+pub changing_end : (first : Collection) (es : List Entry) (face : ℕ) (ls : List Collection) (rest : List Entry) → face ≡ 6
+    → Changing first es face ls rest → all_of ls ≡ changed first es
+changing_end first es face ls rest last was =
+    let none = no_entry_behind rest (subst (λ (f : ℕ). IsChangeListFrom (face_start f) rest) last was.rises) in
+    ap (λ xs. changed (all_of ls) xs) (sym none) ∙ was.made
 
 -- ---- held pairs, face by face
 
@@ -210,15 +234,18 @@ pub record Putting (hs : Collection) (face : ℕ) (ls : List Collection) (rest :
   pub below : AreBelow (face_start face) (all_of ls)
   pub made : all_of ls ++ rest ≡ hs
 
-pub putting_start : (hs : Collection) (ls : List Collection) → length ls ≡ 6 → AreFacesFrom 0 ls → all_of ls ≡ [] → IsCollection hs
-    → Putting hs 0 ls hs
-putting_start hs ls six apart none hs_is = record {
-  six = six;
-  apart = apart;
+putting_into : (hs : Collection) → IsCollection hs → Putting hs 0 ([] ∷ [] ∷ [] ∷ [] ∷ [] ∷ [] ∷ []) hs
+putting_into hs hs_is = record {
+  six = refl;
+  apart = (tt, tt, (tt, tt, (tt, tt, (tt, tt, (tt, tt, (tt, tt, tt))))));
   rises = from_lower (face_start 0) 0 hs (omega arith) hs_is;
-  below = subst (λ (xs : Collection). AreBelow (face_start 0) xs) (sym none) tt;
-  made = ap (λ xs. xs ++ hs) none;
+  below = tt;
+  made = refl;
 }
+
+pub putting_start : (hs : Collection) (ls : List Collection) → ls ≡ [] ∷ [] ∷ [] ∷ [] ∷ [] ∷ [] ∷ [] → IsCollection hs
+    → Putting hs 0 ls hs
+putting_start hs ls is hs_is = subst (λ (xs : List Collection). Putting hs 0 xs hs) (sym is) (putting_into hs hs_is)
 
 behind_is : (ls : List Collection) (i : ℕ) → i < length ls → all_of (drop i ls) ≡ get_or ls i [] ++ all_of (drop (suc i) ls)
 behind_is [] i within = absurd (omega arith)
@@ -237,7 +264,9 @@ all_in_front ls face within apart below =
     let behind = get_or ls face [] ++ all_of (drop (suc face) ls) in
     let is = all_is ls face within in
     let later = below_behind (face_start face) front behind (subst (λ (xs : Collection). AreBelow (face_start face) xs) is below) in
-    let rises = subst (λ (xs : Collection). IsCollectionFrom (face_start face) xs) (behind_is ls face within) (back_from 0 face face ls (omega arith) apart) in
+    let rises =
+    subst (λ (xs : Collection). IsCollectionFrom (face_start face) xs) (behind_is ls face within)
+    (back_from 0 face face ls (omega arith) apart) in
     is ∙ ap (λ xs. front ++ xs) (none_between (face_start face) behind rises later) ∙ append-nil front
 
 rises_in_front : (n : ℕ) (hs ks : Collection) → IsCollectionFrom n (hs ++ ks) → IsCollectionFrom n hs
@@ -251,23 +280,35 @@ putting_step hs face ls rest k within was below later =
     let own = take k rest in
     let short : face < length ls = omega (arith, was.six, within) in
     let split = take-append-drop k rest in
-    let own_rises = rises_in_front (face_start face) own (drop k rest) (subst (λ (xs : Collection). IsCollectionFrom (face_start face) xs) (sym split) was.rises) in
+    let own_rises =
+    rises_in_front (face_start face) own (drop k rest)
+    (subst (λ (xs : Collection). IsCollectionFrom (face_start face) xs) (sym split) was.rises) in
     let apart = put_apart 0 face face ls own (omega arith) was.apart (own_rises, below) in
     let front = all_in_front ls face short was.apart was.below in
     let ends : all_of (drop (suc face) ls) ≡ [] =
     none_between (face_start (face + 1)) (all_of (drop (suc face) ls)) (back_from 0 (suc face) (face + 1) ls (omega arith) was.apart)
     (below_behind (face_start (face + 1)) (get_or ls face []) (all_of (drop (suc face) ls))
-    (below_more (face_start face) (face_start (face + 1)) (get_or ls face [] ++ all_of (drop (suc face) ls)) (start_more face (face + 1) (omega arith))
+    (below_more (face_start face) (face_start (face + 1)) (get_or ls face [] ++ all_of (drop (suc face) ls))
+    (start_more face (face + 1) (omega arith))
     (below_behind (face_start face) (all_of (take face ls)) (get_or ls face [] ++ all_of (drop (suc face) ls))
     (subst (λ (xs : Collection). AreBelow (face_start face) xs) (all_is ls face short) was.below)))) in
-    let all : all_of (set ls face own) ≡ all_of ls ++ own = all_put ls face own short ∙ ap (λ xs. all_of (take face ls) ++ (own ++ xs)) ends ∙ ap (λ xs. all_of (take face ls) ++ xs) (append-nil own) ∙ ap (λ xs. xs ++ own) (sym front) in
+    let all : all_of (set ls face own) ≡ all_of ls ++ own =
+    all_put ls face own short
+    ∙ ap (λ xs. all_of (take face ls) ++ (own ++ xs)) ends
+    ∙ ap (λ xs. all_of (take face ls) ++ xs) (append-nil own)
+    ∙ ap (λ xs. xs ++ own) (sym front) in
     record {
       six = length-set ls face own ∙ was.six;
       apart = apart;
       rises = later;
-      below = subst (λ (xs : Collection). AreBelow (face_start (face + 1)) xs) (sym all) (below_append (face_start (face + 1)) (all_of ls) own (below_more (face_start face) (face_start (face + 1)) (all_of ls) (start_more face (face + 1) (omega arith)) was.below) below);
+      below = subst (λ (xs : Collection). AreBelow (face_start (face + 1)) xs) (sym all)
+          (below_append (face_start (face + 1)) (all_of ls) own
+          (below_more (face_start face) (face_start (face + 1)) (all_of ls) (start_more face (face + 1) (omega arith)) was.below) below);
       made = ap (λ xs. xs ++ drop k rest) all ∙ append_assoc (all_of ls) own (drop k rest) ∙ ap (λ xs. all_of ls ++ xs) split ∙ was.made;
     }
 
-pub putting_end : (hs : Collection) (ls : List Collection) (rest : Collection) → Putting hs 6 ls rest → all_of ls ≡ hs
-putting_end hs ls rest was = sym (append-nil (all_of ls)) ∙ ap (λ xs. all_of ls ++ xs) (sym (no_pair_behind rest was.rises)) ∙ was.made
+pub putting_end : (hs : Collection) (face : ℕ) (ls : List Collection) (rest : Collection) → face ≡ 6 → Putting hs face ls rest
+    → all_of ls ≡ hs
+putting_end hs face ls rest last was =
+    let none = no_pair_behind rest (subst (λ (f : ℕ). IsCollectionFrom (face_start f) rest) last was.rises) in
+    sym (append-nil (all_of ls)) ∙ ap (λ xs. all_of ls ++ xs) (sym none) ∙ was.made

@@ -63,12 +63,12 @@ change_from k n (e ∷ es) rise differ =
     (λ above.
     let rest = sym (cond-false _ _ _ (le-ltb (rank_of e.pair) n above)) ∙ rise in
     ⊎_elim
-    (λ same. absurd (omega (arith, differ, cond-false (not (e.before == e.after)) (1 + position_or_len (λ f. f.before == f.after) es) 0 (ap not (eq-eqb _ _ same)))))
-    (λ ne. (
-      above,
-      ne,
-      change_from (k + 1) (rank_of e.pair + 1) es rest (omega (arith, differ, cond-true (not (e.before == e.after)) (1 + position_or_len (λ f. f.before == f.after) es) 0 (ap not (ne_eqb _ _ ne)))),
-    ))
+    (λ same.
+    let found = cond-false (not (e.before == e.after)) (1 + position_or_len (λ f. f.before == f.after) es) 0 (ap not (eq-eqb _ _ same)) in
+    absurd (omega (arith, differ, found)))
+    (λ ne.
+    let passed = cond-true (not (e.before == e.after)) (1 + position_or_len (λ f. f.before == f.after) es) 0 (ap not (ne_eqb _ _ ne)) in
+    (above, ne, change_from (k + 1) (rank_of e.pair + 1) es rest (omega (arith, differ, passed))))
     (cases_eq e.before e.after))
     (cases_lt (rank_of e.pair) n)
 
@@ -92,11 +92,13 @@ rises_without_fault k n (e ∷ es) is =
 all_differ : (n : ℕ) (es : List Entry) → IsChangeListFrom n es → length es ≤ position_or_len (λ e. e.before == e.after) es
 all_differ n [] is = omega arith
 all_differ n (e ∷ es) is =
-    omega (arith, all_differ (rank_of e.pair + 1) es is.2, cond-true (not (e.before == e.after)) (1 + position_or_len (λ f. f.before == f.after) es) 0 (ap not (ne_eqb _ _ is.1)))
+    let passed = cond-true (not (e.before == e.after)) (1 + position_or_len (λ f. f.before == f.after) es) 0 (ap not (ne_eqb _ _ is.1)) in
+    omega (arith, all_differ (rank_of e.pair + 1) es is.2, passed)
 
 fault_of_change : (es : List Entry) → IsChangeList es → change_fault es ≡ None
 fault_of_change es is =
-    ap₂ (λ (unsorted same : Option ℕ). option_or (option_map Unsorted unsorted) (option_map NoDifference same)) (rises_without_fault 0 0 es is)
+    ap₂ (λ (unsorted same : Option ℕ). option_or (option_map Unsorted unsorted) (option_map NoDifference same))
+    (rises_without_fault 0 0 es is)
     (cond-false _ _ _ (le-ltb _ _ (all_differ 0 es is)))
 
 pub changes_have_no_fault : (es : List Entry) → IsChangeList es ↔ (change_fault es ≡ None)

@@ -52,7 +52,8 @@ at_entry hs es rest i n e within is es_is was below =
     let Rises : List Entry → Type 0 = λ xs. IsChangeList xs in
     let rises = subst Rises split (change_drop 0 i es es_is) in
     let Still : List Entry → Type 0 = λ xs. StillCounts rest hs xs in
-    still_moves (rank_of e.pair) n (rank_of e.pair) rest hs (e ∷ drop (i + 1) es) (omega arith) (omega arith, rises.1, rises.2) below (subst Still split was.still)
+    still_moves (rank_of e.pair) n (rank_of e.pair) rest hs (e ∷ drop (i + 1) es) (omega arith) (omega arith, rises.1, rises.2) below
+    (subst Still split was.still)
 
 pub compared_step : (hs : Collection) (es : List Entry) (rest : Collection) (i n : ℕ) (e : Entry) → i < length es → e ≡ get_or es i e
     → IsChangeList es → Compared hs es rest i → AreBelow (rank_of e.pair) (take n rest) → count_in (drop n rest) e.pair ≡ e.before
@@ -61,7 +62,9 @@ compared_step hs es rest i n e within is es_is was below same =
     let still = at_entry hs es rest i n e within is es_is was below in
     let split : drop i es ≡ e ∷ drop (i + 1) es = drop_more es i e within ∙ ap (λ x. x ∷ drop (i + 1) es) (sym is) in
     let fits = ap (λ t. not (not t)) (eq-eqb _ _ (sym same ∙ still.0)) in
-    let next = ap (λ xs. position_or_len (is_mismatch hs) xs) split ∙ cond-true (not (is_mismatch hs e)) (1 + position_or_len (is_mismatch hs) (drop (i + 1) es)) 0 fits in
+    let next =
+    ap (λ xs. position_or_len (is_mismatch hs) xs) split
+    ∙ cond-true (not (is_mismatch hs e)) (1 + position_or_len (is_mismatch hs) (drop (i + 1) es)) 0 fits in
     record {
       rises = collection_drop n 0 rest was.rises;
       still = still.1;
@@ -75,7 +78,9 @@ compared_found hs es rest i n e within is es_is was below ne =
     let still = at_entry hs es rest i n e within is es_is was below in
     let split : drop i es ≡ e ∷ drop (i + 1) es = drop_more es i e within ∙ ap (λ x. x ∷ drop (i + 1) es) (sym is) in
     let differs = ap (λ t. not (not t)) (ne_eqb e.before (count_in hs e.pair) (λ eq. ne (still.0 ∙ sym eq))) in
-    let next = ap (λ xs. position_or_len (is_mismatch hs) xs) split ∙ cond-false (not (is_mismatch hs e)) (1 + position_or_len (is_mismatch hs) (drop (i + 1) es)) 0 differs in
+    let next =
+    ap (λ xs. position_or_len (is_mismatch hs) xs) split
+    ∙ cond-false (not (is_mismatch hs e)) (1 + position_or_len (is_mismatch hs) (drop (i + 1) es)) 0 differs in
     let here : position_or_len (is_mismatch hs) es ≡ i = omega (arith, was.none, next) in
     position_is hs es (omega (arith, here, within)) ∙ ap (λ k. Some k) here
 

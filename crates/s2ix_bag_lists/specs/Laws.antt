@@ -13,7 +13,8 @@ ChangesHaveNoFault = (es : List Entry) → IsChangeList es ↔ (change_fault es 
 abbrev pub InverseTakesBack : Type 0
 InverseTakesBack =
     (bag : LimitedCollection) (es : List Entry) → IsBag bag → IsChangeList es → apply_refusal bag es ≡ None →
-    (apply_refusal (record { limits = bag.limits; held = changed bag.held es }) (inverse_of es) ≡ None) × (changed (changed bag.held es) (inverse_of es) ≡ bag.held)
+    (apply_refusal (record { limits = bag.limits; held = changed bag.held es }) (inverse_of es) ≡ None)
+    × (changed (changed bag.held es) (inverse_of es) ≡ bag.held)
 
 abbrev pub InverseTakesBackAtOnce : Type 0
 InverseTakesBackAtOnce =

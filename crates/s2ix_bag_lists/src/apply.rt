@@ -6,8 +6,9 @@ ghost use Rattle.s2ix_bag_pairs.specs.Collection.{IsCollection, count_in, held_w
 
 use crate::flat::FlatHeld;
 use crate::search::{count_first, next_from, past_pair};
+use s2id_core::OutOfMemory;
 use s2ix_bag_pairs::{Entry, Held, Pair};
-use std::alloc::{AllocError, Global};
+use std::alloc::Global;
 
 /// The place of the first entry whose count before is not that of the held pairs. O(n + m).
 pub fn first_mismatch(held: &[FlatHeld], entries: &[Entry]) -> Option<usize>
@@ -58,7 +59,7 @@ pub fn has_count_above(entries: &[Entry], limit: u32) -> bool
 }
 
 // Appends a pair that is held where its count is above 0.
-fn push_held(out: &mut Vec<FlatHeld>, pair: Pair, count: u32) -> Result<(), AllocError>
+fn push_held(out: &mut Vec<FlatHeld>, pair: Pair, count: u32) -> Result<(), OutOfMemory>
     ensures { OnOk result (out.new.items ≡ out.old.items ++ held_with pair count []) }
 {
     if count > 0 {
@@ -67,12 +68,13 @@ fn push_held(out: &mut Vec<FlatHeld>, pair: Pair, count: u32) -> Result<(), Allo
     Ok(())
 }
 
-/// The held pairs once a change is applied that has the right counts before. One growth, whose refusal is the error; O(n + m).
+/// The held pairs once a change is applied that has the right counts before. One growth; `OutOfMemory` if it is refused.
+/// O(n + m).
 pub fn merge(
     alloc: Global,
     held: &[FlatHeld],
     entries: &[Entry],
-) -> Result<Vec<FlatHeld>, AllocError>
+) -> Result<Vec<FlatHeld>, OutOfMemory>
     requires held_rise { IsCollection held.now }
     requires entries_rise { IsChangeList entries.now }
     requires before { AreBefore held.now entries.now }

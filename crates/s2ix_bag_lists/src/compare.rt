@@ -4,11 +4,12 @@ ghost use Rattle.s2ix_bag_pairs.specs.Collection.{IsCollection};
 
 use crate::flat::FlatHeld;
 use crate::search::{count_first, next_from, past_pair};
+use s2id_core::OutOfMemory;
 use s2ix_bag_pairs::{Entry, Pair};
-use std::alloc::{AllocError, Global};
+use std::alloc::Global;
 
 // Appends an entry for each held pair, which is held no more.
-fn push_removals(out: &mut Vec<Entry>, held: &[FlatHeld]) -> Result<(), AllocError>
+fn push_removals(out: &mut Vec<Entry>, held: &[FlatHeld]) -> Result<(), OutOfMemory>
     ensures { OnOk result (out.new.items ≡ out.old.items ++ map removal_of held.now) }
 {
     for h in held {
@@ -27,7 +28,7 @@ fn push_difference(
     pair: Pair,
     before: u32,
     after: u32,
-) -> Result<(), AllocError>
+) -> Result<(), OutOfMemory>
     ensures { OnOk result (out.new.items ≡ out.old.items ++ entry_with pair before after []) }
 {
     if before != after {
@@ -40,13 +41,13 @@ fn push_difference(
     Ok(())
 }
 
-/// The entries of the change that leads from `old` to `new`: the pairs whose counts differ, with both counts, rising. The error is a growth
-/// that was refused. O(k + n) for their k and n pairs.
+/// The entries of the change that leads from `old` to `new`: the pairs whose counts differ, with both counts, rising. `OutOfMemory` if a growth
+/// is refused. O(k + n) for their k and n pairs.
 pub fn differences(
     alloc: Global,
     old: &[FlatHeld],
     new: &[FlatHeld],
-) -> Result<Vec<Entry>, AllocError>
+) -> Result<Vec<Entry>, OutOfMemory>
     requires old_rise { IsCollection old.now }
     requires new_rise { IsCollection new.now }
     ensures { IfOk result (λ v. v.items ≡ change_between old.now new.now) }
@@ -69,8 +70,8 @@ pub fn differences(
     Ok(out)
 }
 
-/// The entries with their two counts exchanged. The error is a growth that was refused. O(m).
-pub fn exchanged_entries(alloc: Global, entries: &[Entry]) -> Result<Vec<Entry>, AllocError>
+/// The entries with their two counts exchanged. `OutOfMemory` if a growth is refused. O(m).
+pub fn exchanged_entries(alloc: Global, entries: &[Entry]) -> Result<Vec<Entry>, OutOfMemory>
     ensures { IfOk result (λ v. v.items ≡ inverse_of entries.now) }
 {
     let exchanged = |e: &Entry| Entry {
@@ -78,5 +79,5 @@ pub fn exchanged_entries(alloc: Global, entries: &[Entry]) -> Result<Vec<Entry>,
         before: e.after,
         after: e.before,
     };
-    entries.iter().map(exchanged).collect(alloc)
+    Ok(entries.iter().map(exchanged).collect(alloc)?)
 }

@@ -24,14 +24,6 @@ pub enum ApplyError {
     OutOfMemory,
 }
 
-impl From<AllocError> for ApplyError {
-    ghost from_gives = { λ _ error. error ≡ apply.OutOfMemory };
-
-    fn from(_: AllocError) -> Self {
-        ApplyError::OutOfMemory
-    }
-}
-
 impl From<OutOfMemory> for ApplyError {
     ghost from_gives = { λ _ error. error ≡ apply.OutOfMemory };
 
@@ -55,14 +47,6 @@ pub enum RevertError {
     /// A growth was refused.
     #[error("out of memory")]
     OutOfMemory,
-}
-
-impl From<AllocError> for RevertError {
-    ghost from_gives = { λ _ error. error ≡ revert.OutOfMemory };
-
-    fn from(_: AllocError) -> Self {
-        RevertError::OutOfMemory
-    }
 }
 
 impl From<OutOfMemory> for RevertError {

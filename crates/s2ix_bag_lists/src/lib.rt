@@ -13,14 +13,12 @@ mod apply;
 mod compare;
 mod entries;
 mod errors;
-mod face_changes;
 mod face_list;
 mod flat;
 mod held_iter;
 pub mod laws;
 mod lists;
 mod parts;
-mod read;
 mod same;
 mod search;
 

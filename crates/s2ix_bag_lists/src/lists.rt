@@ -1,20 +1,23 @@
-ghost use Rattle.std.specs.Prelude.{◌≡◌, ◌<◌, ◌≤◌, [], ◌∷◌, Some, length, slice_get, IfOk};
+ghost use Rattle.std.specs.Prelude.{◌≡◌, ◌==◌, ◌<◌, ◌≤◌, [], ◌∷◌, Some, not, length, slice_get, position, IfOk};
 ghost use Rattle.s2ix_bag_lists.specs.Faces.{IsFaceAt};
 ghost use Rattle.s2ix_bag_lists.specs.Apply.{AreBefore, apply_refusal};
 ghost use Rattle.s2ix_bag_pairs.specs.Change.{IsChangeList, changed};
 ghost use Rattle.s2ix_bag_pairs.specs.Collection.{IsCollection, count_in};
 
-use crate::apply::{gains, has_count_above, losses};
+use crate::apply::{first_mismatch, gains, has_count_above, losses};
 use crate::errors::ApplyError;
-use crate::face_changes::{FACES, mismatch, put_all_changed, put_held};
 use crate::face_list::FaceList;
 use crate::flat::FlatHeld;
 use crate::held_iter::HeldIter;
-use crate::read::{count_on, face_at, push_all};
+use crate::parts::{entries_up_to, held_up_to};
+use crate::search::count_of;
 use s2id_core::OutOfMemory;
 use s2ix_bag_pairs::{Entry, Held, Limits, Pair};
 use std::alloc::{AllocError, Global};
 use std::marker::Model;
+
+// How many faces the cube has.
+const FACES: usize = 6;
 
 /// Held pairs, at most 1,000,000, in one list for each face. Contracts see the one list that they make up, in rising order of pairs.
 #[derive(Debug, Drop)]
@@ -66,7 +69,12 @@ impl FaceLists {
         ensures { IfOk result (λ lists. lists ≡ held.now) }
     {
         let mut lists = empty_lists();
-        put_held(alloc, &mut lists, held)?;
+        let mut rest = held;
+        for face in 0..FACES {
+            let (own, later) = rest.split_at(held_up_to(rest, face));
+            lists[face] = FaceList::new(alloc, Vec::from_slice(alloc, own)?)?;
+            rest = later;
+        }
         Ok(FaceLists {
             lists,
             len: held.len(),
@@ -77,7 +85,8 @@ impl FaceLists {
     pub fn count(&self, pair: Pair) -> u32
         ensures { result ≡ count_in self.now pair }
     {
-        count_on(&self.lists, pair)
+        let own = &self.lists[usize::from(pair.cell.face())];
+        count_of(own.as_slice(), pair)
     }
 
     /// How many distinct pairs are held.
@@ -103,7 +112,15 @@ impl FaceLists {
         requires { place < length self.now }
         ensures { IsFaceAt place self.now result.0 result.1.now }
     {
-        face_at(&self.lists, place)
+        let mut before = 0;
+        for list in &self.lists {
+            let own = list.as_slice();
+            if place - before < own.len() {
+                return (before, own);
+            }
+            before += own.len();
+        }
+        unreachable!()
     }
 
     /// The held pairs with their counts, in rising order. O(n) from the first to the end, for n pairs.
@@ -118,7 +135,9 @@ impl FaceLists {
         ensures { IfOk result (λ all. all.items ≡ self.now) }
     {
         let mut all = Vec::with_capacity(alloc, self.len)?;
-        push_all(&mut all, &self.lists)?;
+        for list in &self.lists {
+            all.extend_from_slice(list.as_slice())?;
+        }
         Ok(all)
     }
 
@@ -128,7 +147,7 @@ impl FaceLists {
         requires { IsChangeList entries.now }
         ensures { result ≡ apply_refusal (record { limits = limits; held = self.now }) entries.now }
     {
-        if let Some(place) = mismatch(&self.lists, entries) {
+        if let Some(place) = self.mismatch(entries) {
             return Some(ApplyError::Mismatch(place));
         }
         if has_count_above(entries, limits.count()) {
@@ -136,6 +155,25 @@ impl FaceLists {
         }
         if self.len_after(entries) > limits.pairs() as usize {
             return Some(ApplyError::TooManyPairs);
+        }
+        None
+    }
+
+    // The place of the first entry whose count before is not that of the held pairs. O(k + m) for m entries and the k pairs held on their
+    // faces.
+    fn mismatch(&self, entries: &[Entry]) -> Option<usize>
+        requires { IsChangeList entries.now }
+        ensures { result ≡ position (λ e. not (e.before == count_in self.now e.pair)) entries.now }
+    {
+        let mut rest = entries;
+        let mut passed = 0;
+        for face in 0..FACES {
+            let (own, later) = rest.split_at(entries_up_to(rest, face));
+            if let Some(place) = first_mismatch(self.lists[face].as_slice(), own) {
+                return Some(passed + place);
+            }
+            passed += own.len();
+            rest = later;
         }
         None
     }
@@ -159,7 +197,12 @@ impl FaceLists {
     {
         let len = self.len_after(entries);
         let mut lists = self.lists.clone()?;
-        put_all_changed(alloc, &mut lists, entries)?;
+        let mut rest = entries;
+        for face in 0..FACES {
+            let (own, later) = rest.split_at(entries_up_to(rest, face));
+            lists[face].apply(alloc, own)?;
+            rest = later;
+        }
         Ok(FaceLists { lists, len })
     }
 }

@@ -9,11 +9,33 @@ use Rattle.s2ix_bag.proofs.replay_refusal.length_back.Goals as goal
 pub overflow_sub-result : goal.overflow_sub-result
 overflow_sub-result c =
     let es = c.args.entries.now in
-    let lengths = length-changed c.args.bag.now.held (inverse_of es) c.len.ensures.within.rises (inverse_keeps es c.requires.rises) c.requires.before in
-    omega (arith, lengths, c.len.ensures.number, gains-inverse es, losses-inverse es, gains-count_by es, losses-count_by es, c.gains.ensures, c.losses.ensures)
+    let lengths =
+    length-changed c.args.bag.now.held (inverse_of es) c.len.ensures.within.rises (inverse_keeps es c.requires.rises) c.requires.before in
+    omega (
+      arith,
+      lengths,
+      c.len.ensures.number,
+      gains-inverse es,
+      losses-inverse es,
+      gains-count_by es,
+      losses-count_by es,
+      c.gains.ensures,
+      c.losses.ensures,
+    )
 
 pub returns : goal.returns
 returns c =
     let es = c.args.entries.now in
-    let lengths = length-changed c.args.bag.now.held (inverse_of es) c.len.ensures.within.rises (inverse_keeps es c.requires.rises) c.requires.before in
-    omega (arith, lengths, c.len.ensures.number, gains-inverse es, losses-inverse es, gains-count_by es, losses-count_by es, c.gains.ensures, c.losses.ensures)
+    let lengths =
+    length-changed c.args.bag.now.held (inverse_of es) c.len.ensures.within.rises (inverse_keeps es c.requires.rises) c.requires.before in
+    omega (
+      arith,
+      lengths,
+      c.len.ensures.number,
+      gains-inverse es,
+      losses-inverse es,
+      gains-count_by es,
+      losses-count_by es,
+      c.gains.ensures,
+      c.losses.ensures,
+    )

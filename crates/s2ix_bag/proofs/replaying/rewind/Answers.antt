@@ -15,7 +15,8 @@ returns-in_err-reached-2-clause-refused c =
       inverse = c.in_ok-inverse.ensures;
     } in
     rw (p.1, p.2, c.loop-place.invariant.0)
-    (refused_back c.loop-place.reached c.args.changes.now c.loop-place.place c.in_ok-inverse.inverse c.in_err-reached-2.field-0.0 before c.in_err-reached-2.ensures.refused)
+    (refused_back c.loop-place.reached c.args.changes.now c.loop-place.place c.in_ok-inverse.inverse c.in_err-reached-2.field-0.0 before
+    c.in_err-reached-2.ensures.refused)
 
 pub loop-place-preserved : goal.loop-place-preserved
 loop-place-preserved c =
@@ -27,6 +28,10 @@ loop-place-preserved c =
       is = c.index-changes-place.is;
       inverse = c.in_ok-inverse.ensures;
     } in (
-      c.loop-place.invariant.0 ∙ taken_back c.loop-place.reached c.in_ok-reached-2.reached c.args.changes.now c.loop-place.place c.in_ok-inverse.inverse before next.accepted next.bag,
-      c.loop-place.invariant.1 ∙ made_back c.loop-place.reached c.in_ok-reached-2.reached c.args.changes.now c.loop-place.place c.in_ok-inverse.inverse before next.bag,
+      c.loop-place.invariant.0
+          ∙ taken_back c.loop-place.reached c.in_ok-reached-2.reached c.args.changes.now c.loop-place.place c.in_ok-inverse.inverse before
+          next.accepted next.bag,
+      c.loop-place.invariant.1
+          ∙ made_back c.loop-place.reached c.in_ok-reached-2.reached c.args.changes.now c.loop-place.place c.in_ok-inverse.inverse before
+          next.bag,
     )

@@ -11,7 +11,9 @@ pub returns-then-count_first-entry : goal.returns-then-count_first-entry
 returns-then-count_first-entry c =
     let e = c.index-entries-place.result in
     let counted = c.count_first.ensures ∙ ap (λ hs. count_in hs e.pair) c.split_at.ensures.back in
-    sym (compared_found c.args.held.now c.args.entries.now c.loop-place.rest.now c.loop-place.place c.next_from.result e (omega arith) c.index-entries-place.is c.requires.entries_rise c.loop-place.invariant c.next_from.ensures.below (λ same. c.if-count_first-entry.true (counted ∙ same)))
+    sym (compared_found c.args.held.now c.args.entries.now c.loop-place.rest.now c.loop-place.place c.next_from.result e (omega arith)
+    c.index-entries-place.is c.requires.entries_rise c.loop-place.invariant c.next_from.ensures.below
+    (λ same. c.if-count_first-entry.true (counted ∙ same)))
 
 pub loop-place-preserved : goal.loop-place-preserved
 loop-place-preserved c =
@@ -19,4 +21,6 @@ loop-place-preserved c =
     let counted = c.count_first.ensures ∙ ap (λ hs. count_in hs e.pair) c.split_at.ensures.back in
     let Next : Collection → Type 0 = λ x. Compared c.args.held.now c.args.entries.now x (c.loop-place.place + 1) in
     subst Next (sym c.split_at.ensures.back)
-    (compared_step c.args.held.now c.args.entries.now c.loop-place.rest.now c.loop-place.place c.next_from.result e (omega arith) c.index-entries-place.is c.requires.entries_rise c.loop-place.invariant c.next_from.ensures.below (sym counted ∙ c.if-count_first-entry.false))
+    (compared_step c.args.held.now c.args.entries.now c.loop-place.rest.now c.loop-place.place c.next_from.result e (omega arith)
+    c.index-entries-place.is c.requires.entries_rise c.loop-place.invariant c.next_from.ensures.below
+    (sym counted ∙ c.if-count_first-entry.false))

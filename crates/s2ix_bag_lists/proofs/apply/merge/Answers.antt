@@ -12,7 +12,8 @@ loop-entry-preserved c =
     let es = c.args.entries.now in
     let Front : Collection → Collection → Type 0 = λ out rest. Merging hs es out rest (c.loop-entry.entry-index + 1) in
     let next =
-    merging_step hs es c.loop-entry.out.items c.loop-entry.rest.now c.loop-entry.entry-index c.next_from.result e (omega arith) c.entry-item.is c.requires.entries_rise c.loop-entry.invariant c.next_from.ensures.below c.next_from.ensures.rest in
+    merging_step hs es c.loop-entry.out.items c.loop-entry.rest.now c.loop-entry.entry-index c.next_from.result e (omega arith)
+    c.entry-item.is c.requires.entries_rise c.loop-entry.invariant c.next_from.ensures.below c.next_from.ensures.rest in
     let extended = c.in_ok-extend_from_slice.ensures.items ∙ ap (λ x. c.loop-entry.out.items ++ x) c.split_at.ensures.front in
     let out_is = c.in_ok-push_held.ensures ∙ ap (λ x. x ++ held_with e.pair e.after []) extended in
     let rest_is = c.past_pair-rest.ensures ∙ ap (λ x. past x (rank_of e.pair)) c.split_at.ensures.back in

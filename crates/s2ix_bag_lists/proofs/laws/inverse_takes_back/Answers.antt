@@ -7,6 +7,7 @@ pub returns : goal.returns
 returns c =
     λ bag es is_bag es_is none.
     let taken = taken_from_none bag es none in (
-      refusal_of_taken (record { limits = bag.limits; held = changed bag.held es }) (inverse_of es) (inverse_taken bag es is_bag es_is taken),
+      refusal_of_taken (record { limits = bag.limits; held = changed bag.held es }) (inverse_of es)
+          (inverse_taken bag es is_bag es_is taken),
       changed_inverse bag.held es is_bag.rises es_is taken.before,
     )

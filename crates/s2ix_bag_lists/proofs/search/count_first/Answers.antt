@@ -13,4 +13,5 @@ returns-in_default c =
     sym (count_first_none (rank_of c.args.pair) c.args.held.now c.requires
     (λ h first same.
     let is_first : c.in-Some.first.now ≡ h = same_Some _ _ (c.in-Some.ensures.value ∙ first) in
-    iff_false c.is_same.ensures c.if-is_same.false (ap (λ (p : Pair). rank_of p) c.pair.ensures ∙ ap (λ (x : Held). rank_of x.pair) is_first ∙ same)))
+    iff_false c.is_same.ensures c.if-is_same.false
+    (ap (λ (p : Pair). rank_of p) c.pair.ensures ∙ ap (λ (x : Held). rank_of x.pair) is_first ∙ same)))

@@ -12,7 +12,8 @@ returns c =
     let hs = c.args.held.now in
     let rank = rank_of c.args.pair in
     let place = c.partition_point.result in
-    let points : IsPartitionPoint (λ (h : Held). ltb (rank_of h.pair) rank ≡ true) (λ (h : Held). ltb (rank_of h.pair) rank ≡ false) hs place =
+    let points : IsPartitionPoint
+    (λ (h : Held). ltb (rank_of h.pair) rank ≡ true) (λ (h : Held). ltb (rank_of h.pair) rank ≡ false) hs place =
     IsPartitionPoint-from_clause (λ (h : Held). ltb (rank_of h.pair) rank) hs place c.partition_point.ensures.partitioned
     (IsPartitionedBy-ltb (λ (h : Held). rank_of h.pair) hs rank (ranks_non_decreasing hs c.requires)) (λ a r q k. search rules) in
     record {

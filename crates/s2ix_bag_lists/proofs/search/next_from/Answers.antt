@@ -19,7 +19,8 @@ returns-clause-rest c =
     let rank = rank_of c.args.pair in
     let Rises : Collection → Type 0 = λ x. IsCollectionFrom rank (drop c.first_from.result x) in
     let front = subst Rises c.split_at.ensures.front c.first_from.ensures.rest in
-    from_front rank c.min.result c.first_from.result 0 hs c.requires (omega (arith, c.first_from.ensures.within, c.split_at.ensures.front_len)) front
+    from_front rank c.min.result c.first_from.result 0 hs c.requires
+    (omega (arith, c.first_from.ensures.within, c.split_at.ensures.front_len)) front
     (elim c.loop-high-test.branch [
       | then-loop-high-test+else-is_before w ↦
           let LastIsPast : ℕ → Type 0 = λ k. (d : Held) → k < length hs → rank ≤ rank_of (get_or hs k d).pair in

@@ -8,11 +8,14 @@ use Rattle.s2ix_bag.proofs.bag.Bag.applied.Goals as goal
 
 pub after-requires-clause-before : goal.after-requires-clause-before
 after-requires-clause-before c =
-    (taken_from_none (record { limits = c.self.inside.limits; held = c.self.inside.lists }) c.entries-entries.result.now (sym c.refusal.ensures ∙ c.in_default.is)).before
+    (taken_from_none (record { limits = c.self.inside.limits; held = c.self.inside.lists }) c.entries-entries.result.now
+    (sym c.refusal.ensures ∙ c.in_default.is)).before
 
 pub after-requires-clause-few : goal.after-requires-clause-few
 after-requires-clause-few c =
-    let taken = taken_from_none (record { limits = c.self.inside.limits; held = c.self.inside.lists }) c.entries-entries.result.now (sym c.refusal.ensures ∙ c.in_default.is) in
+    let taken =
+    taken_from_none (record { limits = c.self.inside.limits; held = c.self.inside.lists }) c.entries-entries.result.now
+    (sym c.refusal.ensures ∙ c.in_default.is) in
     let limits = c.self.inside.limits.in_range in
     omega (arith, taken.few, limits.1)
 

@@ -8,7 +8,8 @@ use Rattle.s2ix_bag.proofs.bag.Bag.copies.Goals as goal
 
 pub loop-held-init : goal.loop-held-init
 loop-held-init c =
-    let whole : copies_in c.into_iter-held-iterator.result ≡ copies_in c.args.self.now.held = ap copies_in (c.into_iter-held-iterator.ensures.into_iter_gives ∙ c.iter-held-items.ensures.list) in
+    let whole : copies_in c.into_iter-held-iterator.result ≡ copies_in c.args.self.now.held =
+    ap copies_in (c.into_iter-held-iterator.ensures.into_iter_gives ∙ c.iter-held-items.ensures.list) in
     omega (arith, whole)
 
 pub overflow_add-copies : goal.overflow_add-copies

@@ -7,4 +7,5 @@ use Rattle.s2ix_bag.proofs.change.Change.between_lists.Goals as goal
 
 pub invariant_of-result : goal.invariant_of-result
 invariant_of-result c =
-    subst (λ (es : List Entry). IsChangeList es) (sym c.in_ok-entries.ensures) (between_is_change c.args.old.now c.args.new.now c.requires.old_rise)
+    subst (λ (es : List Entry). IsChangeList es) (sym c.in_ok-entries.ensures)
+    (between_is_change c.args.old.now c.args.new.now c.requires.old_rise)

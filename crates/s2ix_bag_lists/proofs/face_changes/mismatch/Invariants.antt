@@ -1,5 +1,0 @@
-use Rattle.s2ix_bag_lists.proofs.Steps.{Compared}
-use Rattle.s2ix_bag_lists.proofs.face_changes.mismatch.Given as goal
-
-abbrev pub invariant-loop-face : goal.invariant-loop-face
-invariant-loop-face l = Compared l.lists l.entries l.face l.rest l.passed

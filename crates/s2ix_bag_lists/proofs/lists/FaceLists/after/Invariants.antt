@@ -1,0 +1,5 @@
+use Rattle.s2ix_bag_lists.proofs.Steps.{Changing}
+use Rattle.s2ix_bag_lists.proofs.lists.FaceLists.after.Given as goal
+
+abbrev pub invariant-loop-face : goal.invariant-loop-face
+invariant-loop-face l = Changing l.fn.self l.entries l.face l.lists l.rest

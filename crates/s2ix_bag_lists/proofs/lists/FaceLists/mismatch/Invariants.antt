@@ -1,0 +1,5 @@
+use Rattle.s2ix_bag_lists.proofs.Steps.{Compared}
+use Rattle.s2ix_bag_lists.proofs.lists.FaceLists.mismatch.Given as goal
+
+abbrev pub invariant-loop-face : goal.invariant-loop-face
+invariant-loop-face l = Compared l.self-inside.lists l.entries l.face l.rest l.passed
