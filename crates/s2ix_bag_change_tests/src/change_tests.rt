@@ -1,9 +1,8 @@
 //! Changes between bags.
-use s2ix_bag::{ApplyError, Change, ChangeError, FlatHeld};
-use s2ix_bag_samples::{
-    LimitRow, bag_of, change_of, entries_of, held_of, holds_pairs, lists_entries,
-};
+use s2ix_bag::{ApplyError, Bag, Change, ChangeError, FlatHeld};
+use s2ix_bag_samples::{LimitRow, bag_of, change_of, entries_of, held_of, lists_entries};
 use std::alloc::Global;
+use std::process::Abort;
 
 const LIMITS: LimitRow = (3, 3, 1);
 
@@ -14,53 +13,41 @@ const NEW: &str = "04:7:1 1:7:3";
 // What leads from the old pairs to the new ones.
 const ENTRIES: &str = "04:9:2:0 1:7:0:3";
 
-// The change that leads from some pairs to others.
-fn change_between(alloc: Global, old: &str, new: &str) -> Option<Change> {
-    let old = bag_of(alloc, LIMITS, old)?;
-    let new = bag_of(alloc, LIMITS, new)?;
-    Change::between(alloc, &old, &new).ok()
+fn bag(rt: &impl Abort, alloc: Global, pairs: &str) -> Bag {
+    bag_of(alloc, LIMITS, pairs).expect(rt, "a bag")
 }
 
-// Whether a change leads from some pairs to others.
-fn leads(alloc: Global, change: &Change, old: &str, new: &str) -> Option<bool> {
-    let old = bag_of(alloc, LIMITS, old)?;
-    let led = old.applied(alloc, change).ok()?;
-    Some(holds_pairs(&led, new))
+fn between(rt: &impl Abort, alloc: Global, old: &Bag, new: &Bag) -> Change {
+    Change::between(alloc, old, new).expect(rt, "memory")
 }
 
 #[test]
 fn a_change_leads_there(rt: HostRuntime) {
-    let change = change_between(rt.alloc(), OLD, NEW).expect(&rt, "a change");
+    let (old, new) = (bag(&rt, rt.alloc(), OLD), bag(&rt, rt.alloc(), NEW));
+    let change = between(&rt, rt.alloc(), &old, &new);
     assert!(rt; lists_entries(&change, ENTRIES));
-    assert!(rt; leads(rt.alloc(), &change, OLD, NEW) == Some(true));
+    assert_eq!(rt; old.applied(rt.alloc(), &change), Ok(new));
 }
 
 #[test]
 fn its_inverse_leads_back(rt: HostRuntime) {
-    let change = change_between(rt.alloc(), OLD, NEW).expect(&rt, "a change");
+    let (old, new) = (bag(&rt, rt.alloc(), OLD), bag(&rt, rt.alloc(), NEW));
+    let change = between(&rt, rt.alloc(), &old, &new);
     let inverse = change.inverse(rt.alloc()).expect(&rt, "memory");
-    assert!(rt; leads(rt.alloc(), &inverse, NEW, OLD) == Some(true));
-}
-
-// Two labels of one cell, and what it is when the copies of the one go to the other.
-const TWO_LABELS: &str = "04:3:1 04:9:2";
-
-const ONE_LABEL: &str = "04:3:3";
-
-// Why a change doesn't fit the bag of some pairs.
-fn misfit(alloc: Global, change: &Change, pairs: &str) -> Option<ApplyError> {
-    let bag = bag_of(alloc, LIMITS, pairs)?;
-    bag.applied(alloc, change).err()
+    assert_eq!(rt; new.applied(rt.alloc(), &inverse), Ok(old));
 }
 
 #[test]
 fn a_relabel_is_a_change_between_two_bags(rt: HostRuntime) {
-    let change = change_between(rt.alloc(), TWO_LABELS, ONE_LABEL).expect(&rt, "a change");
+    let two_labels = bag(&rt, rt.alloc(), "04:3:1 04:9:2");
+    let one_label = bag(&rt, rt.alloc(), "04:3:3");
+    let change = between(&rt, rt.alloc(), &two_labels, &one_label);
     assert!(rt; lists_entries(&change, "04:3:1:3 04:9:2:0"));
-    assert!(rt; misfit(rt.alloc(), &change, ONE_LABEL) == Some(ApplyError::Mismatch(0)));
+    let misfit = one_label.applied(rt.alloc(), &change);
+    assert_eq!(rt; misfit, Err(ApplyError::Mismatch(0)));
     let inverse = change.inverse(rt.alloc()).expect(&rt, "memory");
     assert!(rt; lists_entries(&inverse, "04:3:3:1 04:9:0:2"));
-    assert!(rt; leads(rt.alloc(), &inverse, ONE_LABEL, TWO_LABELS) == Some(true));
+    assert_eq!(rt; one_label.applied(rt.alloc(), &inverse), Ok(two_labels));
 }
 
 // The change that leads from one held pair alone to another alone.
@@ -70,12 +57,6 @@ fn change_of_pair(alloc: Global, old: &str, new: &str) -> Option<Change> {
         return None;
     }
     Change::between_lists(alloc, &[FlatHeld::new(old)], &[FlatHeld::new(new)]).ok()
-}
-
-// Whether the change that leads from one held pair alone to another alone has these entries.
-fn leads_by(alloc: Global, old: &str, new: &str, entries: &str) -> Option<bool> {
-    let change = change_of_pair(alloc, old, new)?;
-    Some(lists_entries(&change, entries))
 }
 
 // A held pair, another one, and the entries of what leads there.
@@ -88,21 +69,19 @@ const LISTS: [(&str, &str, &str); 3] = [
 #[test]
 fn a_change_leads_from_list_to_list(rt: HostRuntime) {
     for &(old, new, entries) in &LISTS {
-        let leads = leads_by(rt.alloc(), old, new, entries);
-        assert!(rt; leads == Some(true), "wrong at {new}");
+        let change = change_of_pair(rt.alloc(), old, new).expect(&rt, "a change");
+        assert!(rt; lists_entries(&change, entries), "wrong at {new}");
     }
 }
 
-// Whether the entries of a text make a change that has them.
-fn makes_change(alloc: Global, entries: &str) -> Option<bool> {
-    let change = change_of(alloc, entries)?;
-    Some(lists_entries(&change, entries))
+fn change(rt: &impl Abort, alloc: Global, entries: &str) -> Change {
+    change_of(alloc, entries).expect(rt, "a change")
 }
 
 #[test]
 fn entries_make_a_change(rt: HostRuntime) {
-    assert!(rt; makes_change(rt.alloc(), "") == Some(true));
-    assert!(rt; makes_change(rt.alloc(), ENTRIES) == Some(true));
+    assert!(rt; lists_entries(&change(&rt, rt.alloc(), ""), ""));
+    assert!(rt; lists_entries(&change(&rt, rt.alloc(), ENTRIES), ENTRIES));
 }
 
 // Lists of entries that are no change: each with its fault.
@@ -117,39 +96,25 @@ const FAULTY: [(&str, ChangeError); 5] = [
     ("04:9:1:2 1:7:3:3 1:8:2:2", ChangeError::NoDifference(1)),
 ];
 
-// Why some entries are no change.
-fn fault_of(alloc: Global, entries: &str) -> Option<ChangeError> {
-    let all = entries_of(alloc, entries)?;
-    Change::from_entries(alloc, &all).err()
-}
-
 #[test]
 fn entries_tell_why_they_are_no_change(rt: HostRuntime) {
     for &(list, fault) in &FAULTY {
-        assert!(rt;
-            fault_of(rt.alloc(), list) == Some(fault),
-            "wrong at {list}"
-        );
+        let entries = entries_of(rt.alloc(), list).expect(&rt, "entries");
+        let told = Change::from_entries(rt.alloc(), &entries);
+        assert_eq!(rt; told, Err(fault), "wrong at {list}");
     }
-}
-
-// Why a change with these entries doesn't fit the empty bag.
-fn misfit_of_empty(alloc: Global, entries: &str) -> Option<ApplyError> {
-    let change = change_of(alloc, entries)?;
-    misfit(alloc, &change, "")
-}
-
-// Whether a change with these entries leads from the empty bag to these pairs.
-fn leads_from_empty(alloc: Global, entries: &str, pairs: &str) -> Option<bool> {
-    let change = change_of(alloc, entries)?;
-    leads(alloc, &change, "", pairs)
 }
 
 #[test]
 fn the_empty_bag_takes_what_it_does_not_hold(rt: HostRuntime) {
-    assert!(rt; leads_from_empty(rt.alloc(), "04:9:0:1", "04:9:1") == Some(true));
-    let held_before = misfit_of_empty(rt.alloc(), "04:9:1:2");
-    assert!(rt; held_before == Some(ApplyError::Mismatch(0)));
-    let second_held_before = misfit_of_empty(rt.alloc(), "04:9:0:1 1:7:2:0");
-    assert!(rt; second_held_before == Some(ApplyError::Mismatch(1)));
+    let empty = bag(&rt, rt.alloc(), "");
+    let added = change(&rt, rt.alloc(), "04:9:0:1");
+    let made = bag(&rt, rt.alloc(), "04:9:1");
+    assert_eq!(rt; empty.applied(rt.alloc(), &added), Ok(made));
+    let held_before = change(&rt, rt.alloc(), "04:9:1:2");
+    let misfit = empty.applied(rt.alloc(), &held_before);
+    assert_eq!(rt; misfit, Err(ApplyError::Mismatch(0)));
+    let second_held_before = change(&rt, rt.alloc(), "04:9:0:1 1:7:2:0");
+    let misfit = empty.applied(rt.alloc(), &second_held_before);
+    assert_eq!(rt; misfit, Err(ApplyError::Mismatch(1)));
 }

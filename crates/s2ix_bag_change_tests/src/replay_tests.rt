@@ -1,6 +1,6 @@
 //! Changes done to a bag in their order, and taken back.
 use s2ix_bag::{Bag, Change, ReplayError, replay, rewind};
-use s2ix_bag_samples::{LimitRow, bag_of, changes_of, holds_pairs, limits_of};
+use s2ix_bag_samples::{LimitRow, bag_of, changes_of};
 use std::alloc::Global;
 use std::process::Abort;
 
@@ -104,30 +104,16 @@ fn made_from(
     Some(made_of(alloc, back, &first, changes.as_slice()))
 }
 
-// Whether a row's changes make its bag, under the limits of all bags here.
-fn makes(alloc: Global, back: bool, (held, texts, wanted): &Row) -> Option<bool> {
-    let made = made_from(alloc, back, held, texts)?.ok()?;
-    Some(holds_pairs(&made, wanted) && Some(made.limits()) == limits_of(LIMITS))
-}
-
-// Whether a row's changes are refused for its reason.
-fn is_refused(alloc: Global, back: bool, (held, texts, error): &Refused) -> Option<bool> {
-    Some(made_from(alloc, back, held, texts)?.err() == Some(*error))
-}
-
 // Under limits of three pairs, and of three copies of each.
 fn check_rows(rt: &impl Abort, alloc: Global, back: bool, rows: &[Row], refused: &[Refused]) {
-    for (place, row) in rows.iter().enumerate() {
-        assert!(rt;
-            makes(alloc, back, row) == Some(true),
-            "wrong at row {place}"
-        );
+    for &(held, texts, wanted) in rows {
+        let made = made_from(alloc, back, held, texts).expect(rt, "changes");
+        let wanted = bag_of(alloc, LIMITS, wanted).expect(rt, "a bag");
+        assert_eq!(rt; made, Ok(wanted), "wrong at {texts}");
     }
-    for (place, row) in refused.iter().enumerate() {
-        assert!(rt;
-            is_refused(alloc, back, row) == Some(true),
-            "wrong at refused row {place}"
-        );
+    for &(held, texts, error) in refused {
+        let made = made_from(alloc, back, held, texts).expect(rt, "changes");
+        assert_eq!(rt; made, Err(error), "wrong at {texts}");
     }
 }
 

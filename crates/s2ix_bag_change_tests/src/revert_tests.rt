@@ -1,6 +1,6 @@
 //! Changes that are taken back from bags that other changes led on to.
-use s2ix_bag::{Bag, Change, RevertError};
-use s2ix_bag_samples::{LimitRow, WIDEST, bag_of, change_of, holds_pairs, lists_entries};
+use s2ix_bag::{Change, RevertError};
+use s2ix_bag_samples::{LimitRow, WIDEST, bag_of, change_of, holds_pairs};
 use std::alloc::Global;
 
 // The limits, what is held now, a change, and what is held with it taken back.
@@ -106,48 +106,26 @@ const REFUSED: [Refused; 15] = [
     ),
 ];
 
-// Whether these pairs are left of a bag where a change is taken back, under the same limits.
-fn leaves(alloc: Global, bag: &Bag, change: &Change, pairs: &str) -> Option<bool> {
-    let left = bag.reverted(alloc, change).ok()?;
-    Some(holds_pairs(&left, pairs) && left.limits() == bag.limits())
-}
-
-// Whether a row's change is taken back as it says, and the row's bag stays as it is.
-fn is_reverted(alloc: Global, (limits, held, entries, wanted): &Row) -> Option<bool> {
-    let bag = bag_of(alloc, *limits, held)?;
-    let change = change_of(alloc, entries)?;
-    Some(leaves(alloc, &bag, &change, wanted)? && holds_pairs(&bag, held))
-}
-
-// Whether a row's change isn't taken back for its reason, and the row's bag stays as it is.
-fn is_refused(alloc: Global, (limits, held, entries, error): &Refused) -> Option<bool> {
-    let bag = bag_of(alloc, *limits, held)?;
-    let change = change_of(alloc, entries)?;
-    let told = bag.reverted(alloc, &change).err();
-    Some(told == Some(*error) && holds_pairs(&bag, held))
-}
-
 #[test]
 fn a_change_is_taken_back_after_others(rt: HostRuntime) {
-    for row in &REVERTED {
-        assert!(rt;
-            is_reverted(rt.alloc(), row) == Some(true),
-            "wrong at {} less {}",
-            row.1,
-            row.2
-        );
+    for &(limits, held, entries, wanted) in &REVERTED {
+        let bag = bag_of(rt.alloc(), limits, held).expect(&rt, "a bag");
+        let change = change_of(rt.alloc(), entries).expect(&rt, "a change");
+        let left = bag.reverted(rt.alloc(), &change);
+        let wanted = bag_of(rt.alloc(), limits, wanted).expect(&rt, "a bag");
+        assert_eq!(rt; left, Ok(wanted), "wrong at {held} less {entries}");
+        assert!(rt; holds_pairs(&bag, held), "changed by {entries}");
     }
 }
 
 #[test]
 fn a_change_is_not_taken_back_for_the_first_reason(rt: HostRuntime) {
-    for row in &REFUSED {
-        assert!(rt;
-            is_refused(rt.alloc(), row) == Some(true),
-            "wrong at {} less {}",
-            row.1,
-            row.2
-        );
+    for &(limits, held, entries, error) in &REFUSED {
+        let bag = bag_of(rt.alloc(), limits, held).expect(&rt, "a bag");
+        let change = change_of(rt.alloc(), entries).expect(&rt, "a change");
+        let left = bag.reverted(rt.alloc(), &change);
+        assert_eq!(rt; left, Err(error), "wrong at {held} less {entries}");
+        assert!(rt; holds_pairs(&bag, held), "changed by {entries}");
     }
 }
 
@@ -166,24 +144,19 @@ fn reverting(alloc: Global, held: &str, taken: &str) -> Option<Result<Change, Re
     Some(bag.reverting(alloc, &change))
 }
 
-// Whether the change that takes one back has these entries.
-fn goes_back_by(alloc: Global, held: &str, taken: &str, back: &str) -> Option<bool> {
-    let found = reverting(alloc, held, taken)?.ok()?;
-    Some(lists_entries(&found, back))
-}
-
 #[test]
 fn the_change_that_takes_back_starts_from_what_is_held(rt: HostRuntime) {
     for &(held, taken, back) in &BACK {
-        let found = goes_back_by(rt.alloc(), held, taken, back);
-        assert!(rt; found == Some(true), "wrong at {held}");
+        let found = reverting(rt.alloc(), held, taken).expect(&rt, "a bag");
+        let wanted = change_of(rt.alloc(), back).expect(&rt, "a change");
+        assert_eq!(rt; found, Ok(wanted), "wrong at {held}");
     }
 }
 
 #[test]
 fn a_change_that_is_not_taken_back_has_no_change_back(rt: HostRuntime) {
-    let found = reverting(rt.alloc(), "04:9:2", "04:9:0:3").expect(&rt, "memory");
-    assert!(rt; found.err() == Some(RevertError::BelowZero(0)));
+    let found = reverting(rt.alloc(), "04:9:2", "04:9:0:3").expect(&rt, "a bag");
+    assert_eq!(rt; found, Err(RevertError::BelowZero(0)));
 }
 
 const WORDS: [(RevertError, &str); 4] = [
@@ -203,6 +176,6 @@ const WORDS: [(RevertError, &str); 4] = [
 fn the_refusals_are_told_in_words(rt: HostRuntime) {
     for (error, text) in &WORDS {
         let told = format!(in rt.alloc(); "{error}").expect(&rt, "memory");
-        assert!(rt; told.as_str() == *text, "wrong at {text}");
+        assert_eq!(rt; told.as_str(), *text, "wrong at {text}");
     }
 }

@@ -16,21 +16,18 @@ fn change_to(alloc: Global, pairs: &str) -> Option<Change> {
     Change::between(alloc, &empty, &bag).ok()
 }
 
-// Whether the change that makes these pairs of nothing is this one.
-fn is_change_to(alloc: Global, change: &Change, pairs: &str) -> Option<bool> {
-    Some(*change == change_to(alloc, pairs)?)
-}
-
 #[test]
 fn changes_are_the_same_where_their_entries_are(rt: HostRuntime) {
     let change = change_to(rt.alloc(), TWO).expect(&rt, TWO);
-    assert!(rt; is_change_to(rt.alloc(), &change, TWO) == Some(true));
-    assert!(rt; is_change_to(rt.alloc(), &change, THREE) == Some(false));
+    let same = change_to(rt.alloc(), TWO).expect(&rt, TWO);
+    let other = change_to(rt.alloc(), THREE).expect(&rt, THREE);
+    assert_eq!(rt; change, same);
+    assert_ne!(rt; change, other);
 }
 
 #[test]
 fn the_clone_of_a_change_is_the_same(rt: HostRuntime) {
     let change = change_to(rt.alloc(), TWO).expect(&rt, TWO);
     let copy = change.clone().expect(&rt, "memory");
-    assert!(rt; copy == change);
+    assert_eq!(rt; copy, change);
 }

@@ -7,7 +7,7 @@ use std::alloc::Global;
 pub type LimitRow = (u32, u32, u32);
 
 /// The widest limits.
-pub const WIDEST: LimitRow = (1_000_000, 4_294_967_295, 100_000);
+pub const WIDEST: LimitRow = (1_000_000, u32::MAX, 100_000);
 
 /// The limits with these numbers.
 pub fn limits_of((pairs, count, changes): LimitRow) -> Option<Limits> {

@@ -13,14 +13,11 @@ const NESTED: &str = "04:9:2 1:7:3";
 fn a_bag_counts_its_pairs(rt: HostRuntime) {
     let bag = bag_of(rt.alloc(), (2, 3, 1), NESTED).expect(&rt, NESTED);
     let other = pair_of("04:7").expect(&rt, "a pair");
-    let holds = [
-        !bag.is_empty(),
-        Some(bag.limits()) == limits_of((2, 3, 1)),
-        bag.copies() == 5,
-        bag.count(other) == 0,
-        holds_pairs(&bag, NESTED),
-    ];
-    assert!(rt; holds == [true; 5]);
+    assert!(rt; !bag.is_empty());
+    assert_eq!(rt; Some(bag.limits()), limits_of((2, 3, 1)));
+    assert_eq!(rt; bag.copies(), 5);
+    assert_eq!(rt; bag.count(other), 0);
+    assert!(rt; holds_pairs(&bag, NESTED));
 }
 
 // The greatest counts, whose sum has 33 bits.
@@ -28,22 +25,19 @@ const GREATEST: &str = "04:9:4294967295 1:7:4294967295";
 
 #[test]
 fn the_greatest_counts_are_summed(rt: HostRuntime) {
-    let bag = bag_of(rt.alloc(), (2, 4_294_967_295, 1), GREATEST).expect(&rt, GREATEST);
+    let bag = bag_of(rt.alloc(), (2, u32::MAX, 1), GREATEST).expect(&rt, GREATEST);
     assert!(rt; holds_pairs(&bag, GREATEST));
-    assert!(rt; bag.copies() == 8_589_934_590);
+    assert_eq!(rt; bag.copies(), 8_589_934_590);
 }
 
 #[test]
 fn an_empty_bag_holds_nothing(rt: HostRuntime) {
     let bag = Bag::empty(rt.alloc(), limits_of(WIDEST).expect(&rt, "limits"));
     let other = pair_of("04:9").expect(&rt, "a pair");
-    let holds = [
-        bag.is_empty(),
-        bag.copies() == 0,
-        bag.count(other) == 0,
-        holds_pairs(&bag, ""),
-    ];
-    assert!(rt; holds == [true; 4]);
+    assert!(rt; bag.is_empty());
+    assert_eq!(rt; bag.copies(), 0);
+    assert_eq!(rt; bag.count(other), 0);
+    assert!(rt; holds_pairs(&bag, ""));
 }
 
 #[test]
@@ -69,7 +63,7 @@ const ORDER: [(&str, &str, bool); 4] = [
 #[test]
 fn pairs_come_by_cell_and_then_by_label(rt: HostRuntime) {
     for &(one, other, before) in &ORDER {
-        assert!(rt; comes_before(one, other) == Some(before), "wrong at {one}");
+        assert_eq!(rt; comes_before(one, other), Some(before), "wrong at {one}");
     }
 }
 
@@ -87,20 +81,14 @@ const REFUSED: [(u32, &str, ApplyError); 6] = [
     (3, "1:7:0:3", ApplyError::TooManyPairs),
     (65_535, "04:9:2:65536", ApplyError::TooManyCopies),
     (65_535, "1:7:0:65535", ApplyError::TooManyPairs),
-    (
-        4_294_967_294,
-        "04:9:2:4294967295",
-        ApplyError::TooManyCopies,
-    ),
+    (u32::MAX - 1, "04:9:2:4294967295", ApplyError::TooManyCopies),
 ];
 
 #[test]
 fn a_change_is_refused_with_its_reason(rt: HostRuntime) {
     for &(copies, entry, reason) in &REFUSED {
-        assert!(rt;
-            refusal(rt.alloc(), copies, entry) == Some(reason),
-            "wrong at {entry}"
-        );
+        let told = refusal(rt.alloc(), copies, entry);
+        assert_eq!(rt; told, Some(reason), "wrong at {entry}");
     }
 }
 

@@ -29,32 +29,23 @@ const CHANGES: [(&str, &str); 5] = [
     ),
 ];
 
-// Whether entries make these pairs of one pair on each face, and leave the first bag as it is.
-fn makes(alloc: Global, bag: &Bag, entries: &str, after: &str) -> Option<bool> {
-    let made = changed(alloc, bag, entries)?;
-    Some(holds_pairs(&made, after) && holds_pairs(bag, ALL_FACES))
-}
-
 #[test]
 fn a_change_is_applied_on_its_faces(rt: HostRuntime) {
     let bag = bag_of(rt.alloc(), LIMITS, ALL_FACES).expect(&rt, "a bag");
     for &(entries, after) in &CHANGES {
-        let same = makes(rt.alloc(), &bag, entries, after);
-        assert!(rt; same == Some(true), "wrong at {entries}");
+        let made = changed(rt.alloc(), &bag, entries).expect(&rt, entries);
+        assert!(rt; holds_pairs(&made, after), "wrong at {entries}");
+        assert!(rt; holds_pairs(&bag, ALL_FACES), "changed by {entries}");
     }
-}
-
-// Whether a face that is emptied and filled again makes the same bag, and another one between.
-fn fills_again(alloc: Global, bag: &Bag) -> Option<bool> {
-    let less = changed(alloc, bag, "5:7:3:0")?;
-    let again = changed(alloc, &less, "5:7:0:3")?;
-    Some(again == *bag && less != *bag)
 }
 
 #[test]
 fn a_face_fills_again(rt: HostRuntime) {
     let bag = bag_of(rt.alloc(), LIMITS, ALL_FACES).expect(&rt, "a bag");
-    assert!(rt; fills_again(rt.alloc(), &bag) == Some(true));
+    let less = changed(rt.alloc(), &bag, "5:7:3:0").expect(&rt, "a bag");
+    let again = changed(rt.alloc(), &less, "5:7:0:3").expect(&rt, "a bag");
+    assert_ne!(rt; less, bag);
+    assert_eq!(rt; again, bag);
 }
 
 // Whether the pairs of a bag come one by one as these.
@@ -68,19 +59,17 @@ fn gives_pairs(bag: &Bag, pairs: &str) -> bool {
     left.next().is_none()
 }
 
-// Whether the bag of some pairs has them in order, one by one and in one list.
-fn has_order(alloc: Global, pairs: &str) -> Option<bool> {
-    let bag = bag_of(alloc, LIMITS, pairs)?;
-    let flat = bag.flat(alloc).ok()?;
-    Some(gives_pairs(&bag, pairs) && are_flat_pairs(flat.as_slice(), pairs))
-}
-
 const IN_ORDER: [&str; 4] = ["", "7:7:4", "04:9:2 1:7:3 b:7:6", ALL_FACES];
 
 #[test]
 fn the_pairs_of_all_faces_come_in_order(rt: HostRuntime) {
     for &pairs in &IN_ORDER {
-        let same = has_order(rt.alloc(), pairs);
-        assert!(rt; same == Some(true), "wrong at {pairs}");
+        let bag = bag_of(rt.alloc(), LIMITS, pairs).expect(&rt, "a bag");
+        let flat = bag.flat(rt.alloc()).expect(&rt, "memory");
+        assert!(rt; gives_pairs(&bag, pairs), "wrong one by one at {pairs}");
+        assert!(rt;
+            are_flat_pairs(flat.as_slice(), pairs),
+            "wrong in one list at {pairs}"
+        );
     }
 }

@@ -18,7 +18,7 @@ fn bags_are_the_same_where_limits_and_pairs_are(rt: HostRuntime) {
     let bag = bag_of(rt.alloc(), LIMITS, TWO).expect(&rt, "a bag");
     for &(limits, pairs, same) in &BAGS {
         let other = bag_of(rt.alloc(), limits, pairs).expect(&rt, pairs);
-        assert!(rt; (bag == other) == same, "wrong at {pairs}");
+        assert_eq!(rt; bag == other, same, "wrong at {pairs}");
     }
 }
 
@@ -26,5 +26,5 @@ fn bags_are_the_same_where_limits_and_pairs_are(rt: HostRuntime) {
 fn the_clone_of_a_bag_is_the_same(rt: HostRuntime) {
     let bag = bag_of(rt.alloc(), LIMITS, TWO).expect(&rt, "a bag");
     let copy = bag.clone().expect(&rt, "memory");
-    assert!(rt; copy == bag);
+    assert_eq!(rt; copy, bag);
 }
