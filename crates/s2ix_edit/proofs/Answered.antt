@@ -9,16 +9,15 @@ use Rattle.s2ix_bag_pairs.specs.Limits.{changes_limit, count_limit, pairs_limit}
 use Rattle.s2ix_bag_pairs.proofs.Collections.{set_count_in}
 use Rattle.s2ix_edit_plan.specs.declared.errors.EditError.{EditError}
 use Rattle.s2ix_edit_plan.specs.declared.errors.EditError.TheVariants.{JournalFull, NoSuchLabel, NotHeld, TooFine, NoSuchChange, BelowZero, NoChange, TooManyCopies, TooManyPairs, OutOfMemory}
-use Rattle.s2ix_edit_plan.specs.declared.errors.PlanError.{PlanError}
-use Rattle.s2ix_edit_plan.specs.declared.errors.PlanError.TheVariants as plan
-use Rattle.s2ix_edit_plan.specs.Errors.{edit_error, IsEditRefusal, MayWantMemory}
+use Rattle.s2ix_edit_plan.specs.Errors.{IsEditRefusal, MayWantMemory}
 use Rattle.s2ix_edit_plan.specs.declared.edit.Edit.{Edit}
 use Rattle.s2ix_edit_plan.specs.declared.edit.Edit.TheVariants.{Add, AddUnion, Remove, DropLabel, Relabel, Grow, Normalise, Revert}
 use Rattle.s2ix_edit_plan.specs.Edit.{edited}
 use Rattle.s2ix_edit_plan.specs.Plan.{Plans, entries_refusal}
 use Rattle.s2ix_edit_plan.specs.Refusals.{asks_no_copies, asks_too_fine, edit_refusal, goes_below_zero, has_count_above, lacks_change, lacks_label, reverts, takes_too_many}
 use Rattle.s2ix_edit_plan.specs.State.{State, change_of, history_of}
-use Rattle.s2ix_edit_plan.proofs.EachRefusal.{below_where, change_where, fine_where, full_where, held_where, high_from_refusal, label_where, many_from_refusal, same_from_refusal}
+use Rattle.s2ix_edit_plan.proofs.EachRefusal.{below_where, change_where, fine_where, full_where, held_where, high_from_refusal, label_where, many_from_refusal}
+use Rattle.s2ix_edit_plan.proofs.Refused.{same_from_refusal}
 use Rattle.s2ix_edit_plan.proofs.Edited.{edited_held}
 use Rattle.s2ix_edit_plan.proofs.Plans.{between_changed}
 use Rattle.s2ix_edit.specs.Store.{HasRoom, IsStore}
@@ -135,14 +134,18 @@ same_where s edit st same = ap (λ (new : Collection). length (change_between s.
 no_copies_refused : (s : State) (edit : Edit) → IsStore s → asks_no_copies edit ≡ true → HasRoom s → edit_refusal s edit ≡ Some NoChange
 no_copies_refused s (Add pair copies) st none room =
     let zero = eqb-true copies 0 none in
-    let same = edited_held s (Add pair copies) (stand s st) ∙ same_count s pair (count_in s.bag.held pair + copies) st (omega (arith, zero)) in
+    let same = edited_held s (Add pair copies) (stand s st)
+    ∙ same_count s pair (count_in s.bag.held pair + copies) st (omega (arith, zero)) in
     cond-false _ _ _ (lt-leb _ _ room) ∙ cond-true _ _ _ (same_where s (Add pair copies) st same)
 no_copies_refused s (Remove pair copies) st none room =
     let zero = eqb-true copies 0 none in
-    let same = edited_held s (Remove pair copies) (stand s st) ∙ same_count s pair (count_in s.bag.held pair - copies) st (omega (arith, zero)) in
-    cond-false _ _ _ (lt-leb _ _ room) ∙ cond-false _ _ _ (le-ltb (count_in s.bag.held pair) copies (omega (arith, zero))) ∙ cond-true _ _ _ (same_where s (Remove pair copies) st same)
+    let same = edited_held s (Remove pair copies) (stand s st)
+    ∙ same_count s pair (count_in s.bag.held pair - copies) st (omega (arith, zero)) in
+    cond-false _ _ _ (lt-leb _ _ room) ∙ cond-false _ _ _ (le-ltb (count_in s.bag.held pair) copies (omega (arith, zero)))
+    ∙ cond-true _ _ _ (same_where s (Remove pair copies) st same)
 no_copies_refused s (AddUnion [] label) st none room =
-    cond-false _ _ _ (lt-leb _ _ room) ∙ cond-true _ _ _ (same_where s (AddUnion [] label) st (edited_held s (AddUnion [] label) (stand s st)))
+    cond-false _ _ _ (lt-leb _ _ room)
+    ∙ cond-true _ _ _ (same_where s (AddUnion [] label) st (edited_held s (AddUnion [] label) (stand s st)))
 no_copies_refused s (AddUnion (cell ∷ cells) label) st none room = absurd (omega (arith, eqb-true (length (cell ∷ cells)) 0 none))
 no_copies_refused s (DropLabel label) st none room = cc
 no_copies_refused s (Relabel source target) st none room = cc
@@ -170,20 +173,10 @@ pub no_copies_answered : (s : State) (edit : Edit) (es : List Entry) (r : Result
     → IfErr r (λ error. IsEditRefusal error (entries_refusal s.bag es)) → (r ≡ Err OutOfMemory → entries_refusal s.bag es ≡ None)
     → asks_no_copies edit ≡ true → r ≡ Err NoChange
 no_copies_answered s edit es r st room plans accepted refused memory none =
-    nothing_answered r (entries_refusal s.bag es) (refusal_of_entries s edit es st room plans ∙ no_copies_refused s edit st none room) accepted refused memory
+    nothing_answered r (entries_refusal s.bag es) (refusal_of_entries s edit es st room plans ∙ no_copies_refused s edit st none room)
+    accepted refused memory
 
 -- ---- a revert
-
--- want of memory for a plan is wanted as such
-pub wants_plan : (error : PlanError) → edit_error error ≡ OutOfMemory → error ≡ plan.OutOfMemory
-wants_plan plan.NoSuchLabel is = cc
-wants_plan plan.NotHeld is = cc
-wants_plan plan.TooFine is = cc
-wants_plan plan.NoSuchChange is = cc
-wants_plan plan.BelowZero is = cc
-wants_plan plan.TooManyCopies is = cc
-wants_plan plan.TooManyPairs is = cc
-wants_plan plan.OutOfMemory is = refl
 
 -- a revert is never refused because nothing would change
 never_same : (s : State) (edit : Edit) → IsStore s → reverts edit ≡ true → edit_refusal s edit ≢ Some NoChange

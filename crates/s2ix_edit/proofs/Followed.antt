@@ -24,7 +24,8 @@ history_edited s edit st =
     let hs = s.bag.held in
     let new = edited (history_of s) edit in
     ap₂ (λ (collections : List Collection) (cursor : ℕ). let h : History = record { collections = collections; cursor = cursor } in h)
-    (collections_recorded hs new (change_of s edit) s.done (later hs (reverse s.undone)) (changed_inverse_between hs new st.bag.rises (held_edited_is_collection s edit st.bag.rises)))
+    (collections_recorded hs new (change_of s edit) s.done (later hs (reverse s.undone))
+    (changed_inverse_between hs new st.bag.rises (held_edited_is_collection s edit st.bag.rises)))
     (length-append s.done (change_of s edit ∷ []))
 
 -- an undo goes back by one

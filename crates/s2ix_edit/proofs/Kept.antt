@@ -1,5 +1,5 @@
 -- Each step of a store leads to a store.
-use Rattle.std.proofs.Common.{◌≡◌, ◌≢◌, ℕ, ◌-◌, ◌<◌, ◌==◌, nat_lt, Bool, true, false, cond, List, [], ◌∷◌, ◌++◌, length, take, get_or, Option, Some, None, refl, sym, ◌∙◌, subst, arith, leb-false, ltb-false}
+use Rattle.std.proofs.Common.{◌≡◌, ◌≢◌, ◌-◌, ◌<◌, ◌==◌, nat_lt, Bool, true, false, cond, List, [], length, take, get_or, Option, Some, None, refl, sym, ◌∙◌, subst, arith, leb-false, ltb-false}
 use Rattle.std.specs.List.{list_any}
 use Rattle.s2ix_bag_pairs.specs.declared.pair.Entry.{Entry}
 use Rattle.s2ix_bag_lists.specs.Apply.{apply_refusal, first_mismatch}
@@ -29,7 +29,10 @@ use Rattle.s2ix_edit.proofs.Undone.{undo_of_last}
 
 -- none of the first six refusals stands where there is none
 none_of_six : (full label copies level change below : Bool) (rest : Option EditError)
-    → cond full (Some JournalFull) (cond label (Some NoSuchLabel) (cond copies (Some NotHeld) (cond level (Some TooFine) (cond change (Some NoSuchChange) (cond below (Some BelowZero) rest))))) ≡ None
+    → cond full (Some JournalFull)
+    (cond label (Some NoSuchLabel)
+    (cond copies (Some NotHeld) (cond level (Some TooFine) (cond change (Some NoSuchChange) (cond below (Some BelowZero) rest)))))
+    ≡ None
     → (full ≡ false) × (label ≡ false) × (copies ≡ false) × (level ≡ false) × (change ≡ false) × (below ≡ false)
 none_of_six true label copies level change below rest none = cc
 none_of_six false true copies level change below rest none = cc
@@ -75,7 +78,8 @@ none_of_three false false false none = (refl, refl)
 taken_of_entries : (bag : LimitedCollection) (es : List Entry) → first_mismatch bag es ≡ None → entries_refusal bag es ≡ None
     → apply_refusal bag es ≡ None
 taken_of_entries bag es matches none =
-    let two = none_of_three (length es == 0) (list_any (λ e. nat_lt (count_limit bag.limits) e.after) es) (nat_lt (pairs_limit bag.limits) (length (changed bag.held es))) none in
+    let two = none_of_three (length es == 0) (list_any (λ e. nat_lt (count_limit bag.limits) e.after) es)
+    (nat_lt (pairs_limit bag.limits) (length (changed bag.held es))) none in
     refusal_of_taken bag es (record {
       before = before_from_no_mismatch bag.held es matches;
       within = within_from_none (count_limit bag.limits) es two.0;
@@ -89,8 +93,10 @@ edit_keeps s edit st none =
     let accepted = refusal_of_entries s edit es st p.room p.plans ∙ none in
     let taken = taken_of_entries s.bag es p.plans.matches accepted in
     let Bag : Collection → Type 0 = λ hs. IsBag (with_held s.bag hs) in
-    stands_recorded s (after_edit s edit) es (sym (planned_state s edit es st p.plans)) st p.room p.plans.rises (some_entries s.bag es accepted) taken
-    (subst Bag (p.plans.result ∙ sym (edited_held s edit (stand s st))) (made_is_bag s.bag es st.bag p.plans.rises (taken_from_none s.bag es taken)))
+    stands_recorded s (after_edit s edit) es (sym (planned_state s edit es st p.plans)) st p.room p.plans.rises
+    (some_entries s.bag es accepted) taken
+    (subst Bag (p.plans.result ∙ sym (edited_held s edit (stand s st)))
+    (made_is_bag s.bag es st.bag p.plans.rises (taken_from_none s.bag es taken)))
 
 -- ---- the other steps
 

@@ -29,8 +29,11 @@ counts_recorded before after edit st is pair =
 
 same_state : (s t : State) → s.bag ≡ t.bag → s.done ≡ t.done → s.undone ≡ t.undone → s.faces_rebuilt ≡ t.faces_rebuilt → s ≡ t
 same_state s t bag done undone faces =
-    ap₂ (λ (b : LimitedCollection) (d : List (List Entry)). let r : State = record { bag = b; done = d; undone = s.undone; faces_rebuilt = s.faces_rebuilt } in r) bag done
-    ∙ ap₂ (λ (u : List (List Entry)) (n : ℕ). let r : State = record { bag = t.bag; done = t.done; undone = u; faces_rebuilt = n } in r) undone faces
+    ap₂ (λ (b : LimitedCollection) (d : List (List Entry)).
+    let r : State = record { bag = b; done = d; undone = s.undone; faces_rebuilt = s.faces_rebuilt } in r)
+    bag done
+    ∙ ap₂ (λ (u : List (List Entry)) (n : ℕ). let r : State = record { bag = t.bag; done = t.done; undone = u; faces_rebuilt = n } in r)
+    undone faces
 
 -- equal states have the same bag and the same changes
 pub same_parts : (s t : State) → s ≡ t → (s.bag ≡ t.bag) × (s.done ≡ t.done) × (s.undone ≡ t.undone)
@@ -52,21 +55,24 @@ pub edit_taken_back : (s before after : State) (edit : Edit) (es : List Entry) �
     → Undoes before after es
     → (after.bag ≡ s.bag) × (after.done ≡ s.done) × (after.undone ≡ change_of s edit ∷ [])
 edit_taken_back s before after edit es st is u =
-    same_parts (with_faces after (faces_of es)) (record { bag = s.bag; done = s.done; undone = change_of s edit ∷ []; faces_rebuilt = faces_of (change_of s edit) })
+    same_parts (with_faces after (faces_of es))
+    (record { bag = s.bag; done = s.done; undone = change_of s edit ∷ []; faces_rebuilt = faces_of (change_of s edit) })
     (undone_state before after es u ∙ ap after_undo is ∙ undo_of_edit s edit st)
 
 -- ---- a redo
 
 redone_state : (before after : State) (es : List Entry) → Redoes before after es → with_faces after (faces_of es) ≡ after_redo before
 redone_state before after es r =
-    same_state (with_faces after (faces_of es)) (after_redo_of before es) r.bag r.done (front_left before.undone after.undone es r.undone) refl
+    same_state (with_faces after (faces_of es)) (after_redo_of before es) r.bag r.done (front_left before.undone after.undone es r.undone)
+    refl
     ∙ sym (redo_of_last before after.undone es r.undone)
 
 -- an undo that is redone leaves the bag and both lists of changes as they were
 pub undo_taken_back : (s before after : State) (es : List Entry) → IsStore s → s.done ≢ [] → before ≡ after_undo s → Redoes before after es
     → (after.bag ≡ s.bag) × (after.done ≡ s.done) × (after.undone ≡ s.undone)
 undo_taken_back s before after es st some is r =
-    same_parts (with_faces after (faces_of es)) (with_faces s (faces_of (get_or s.done (length s.done - 1) []))) (redone_state before after es r ∙ ap after_redo is ∙ redo_of_undo s st some)
+    same_parts (with_faces after (faces_of es)) (with_faces s (faces_of (get_or s.done (length s.done - 1) [])))
+    (redone_state before after es r ∙ ap after_redo is ∙ redo_of_undo s st some)
 
 -- ---- the range table
 

@@ -12,7 +12,8 @@ use Rattle.s2ix_edit_plan.specs.declared.edit.Edit.TheVariants.{DropLabel, Grow,
 use Rattle.s2ix_edit_plan.specs.Edit.{edited_by}
 use Rattle.s2ix_edit_plan.specs.Refusals.{edit_refusal, has_count_above, lacks_label}
 use Rattle.s2ix_edit_plan.specs.State.{State}
-use Rattle.s2ix_edit_plan.proofs.EachRefusal.{full_where, high_from_refusal, label_where, many_from_refusal, same_from_refusal}
+use Rattle.s2ix_edit_plan.proofs.EachRefusal.{full_where, high_from_refusal, label_where, many_from_refusal}
+use Rattle.s2ix_edit_plan.proofs.Refused.{same_from_refusal}
 use Rattle.s2ix_edit_plan.proofs.Edited.{edited_held}
 use Rattle.s2ix_edit_plan.proofs.Lesser.{drop_changes, drop_few, drop_small, grown_small, moved_few, normal_few, normal_small, removal_few, removal_small}
 use Rattle.s2ix_edit.specs.Store.{IsStore}
@@ -33,8 +34,10 @@ never_many s edit st few = λ is.
 
 pub remove_passes_none : (s : State) (pair : Pair) (copies : ℕ) → IsStore s
     → (edit_refusal s (Remove pair copies) ≢ Some TooManyCopies) × (edit_refusal s (Remove pair copies) ≢ Some TooManyPairs)
-remove_passes_none s pair copies st =
-    (never_high s (Remove pair copies) st (removal_small s.bag pair copies st.bag), never_many s (Remove pair copies) st (removal_few s.bag pair copies st.bag))
+remove_passes_none s pair copies st = (
+  never_high s (Remove pair copies) st (removal_small s.bag pair copies st.bag),
+  never_many s (Remove pair copies) st (removal_few s.bag pair copies st.bag),
+)
 
 pub drop_passes_none : (s : State) (label : Label) → IsStore s
     → (edit_refusal s (DropLabel label) ≢ Some TooManyCopies) × (edit_refusal s (DropLabel label) ≢ Some TooManyPairs)

@@ -45,7 +45,8 @@ pub collections_recorded : (hs new : Collection) (es : List Entry) (done : List 
 collections_recorded hs new es done rest back =
     ap (λ xs. earlier new xs ++ new ∷ []) (reverse_push done es)
     ∙ ap (λ k. (earlier k (reverse done) ++ k ∷ []) ++ new ∷ []) back
-    ∙ ap (λ xs. xs ++ new ∷ []) (sym (take_through (earlier hs (reverse done)) rest hs (length done) (length-earlier hs (reverse done) ∙ length-reverse done)))
+    ∙ ap (λ xs. xs ++ new ∷ [])
+    (sym (take_through (earlier hs (reverse done)) rest hs (length done) (length-earlier hs (reverse done) ∙ length-reverse done)))
 
 -- a bag that a change made can go back over it, and on as before
 back_over : (bag : LimitedCollection) (done : List (List Entry)) (es : List Entry) → IsBag bag → CanGoBack bag (reverse done)
@@ -76,7 +77,8 @@ stands_recorded s after es is st room rises some taken b =
 -- the history stays, and the place goes back by one
 collections_undone : (hs prev : Collection) (es : List Entry) (front undone : List (List Entry)) → prev ≡ changed hs (inverse_of es)
     → changed prev es ≡ hs
-    → earlier prev (reverse front) ++ prev ∷ later prev (reverse (undone ++ es ∷ [])) ≡ earlier hs (reverse (front ++ es ∷ [])) ++ hs ∷ later hs (reverse undone)
+    → earlier prev (reverse front) ++ prev ∷ later prev (reverse (undone ++ es ∷ []))
+    ≡ earlier hs (reverse (front ++ es ∷ [])) ++ hs ∷ later hs (reverse undone)
 collections_undone hs prev es front undone is forth =
     ap (λ xs. earlier prev (reverse front) ++ prev ∷ later prev xs) (reverse_push undone es)
     ∙ ap (λ k. earlier prev (reverse front) ++ prev ∷ (k ∷ later k (reverse undone))) forth
@@ -95,7 +97,9 @@ pub undoes_shifted : (s after : State) (last : List Entry) (number : ℕ) (shift
     → Some last ≡ slice_get s.done (length s.done - 1) → after.bag ≡ with_held s.bag (changed s.bag.held (inverse_of last))
     → Undoes s after shifted.last
 undoes_shifted s after last number shifted found is = record {
-  bag = is ∙ ap (λ es. with_held s.bag (changed s.bag.held (inverse_of es))) (same_last s.done after.done last shifted.last shifted.taken found);
+  bag =
+      is ∙ ap (λ es. with_held s.bag (changed s.bag.held (inverse_of es)))
+      (same_last s.done after.done last shifted.last shifted.taken found);
   done = shifted.taken;
   undone = shifted.put;
 }
@@ -133,12 +137,24 @@ stands_undone s after es st u b =
       bag = b;
       back = subst Back (sym u.bag) back.3;
       on = subst OnList (sym (ap reverse u.undone ∙ reverse_push s.undone es))
-          (subst On (sym u.bag)
-          (back.0, back.1, taken_again s.bag es st.bag back.0 back.2, subst Later (sym (forth_again s.bag es st.bag.rises back.0 matches)) st.on));
+          (subst On (sym u.bag) (
+            back.0,
+            back.1,
+            taken_again s.bag es st.bag back.0 back.2,
+            subst Later (sym (forth_again s.bag es st.bag.rises back.0 matches)) st.on,
+          ));
       room =
           let few = st.room in
           let limits = ap (λ (bag : LimitedCollection). changes_limit bag.limits) u.bag in
-          omega (arith, few, limits, ap length u.done, ap length u.undone, length-append after.done (es ∷ []), length-append s.undone (es ∷ []));
+          omega (
+            arith,
+            few,
+            limits,
+            ap length u.done,
+            ap length u.undone,
+            length-append after.done (es ∷ []),
+            length-append s.undone (es ∷ []),
+          );
     }
 
 pub history_undone : (s after : State) (es : List Entry) → IsStore s → Undoes s after es → history_of after ≡ one_back (history_of s)
@@ -192,7 +208,15 @@ stands_redone s after es st r b =
       room =
           let few = st.room in
           let limits = ap (λ (bag : LimitedCollection). changes_limit bag.limits) r.bag in
-          omega (arith, few, limits, ap length r.done, ap length r.undone, length-append s.done (es ∷ []), length-append after.undone (es ∷ []));
+          omega (
+            arith,
+            few,
+            limits,
+            ap length r.done,
+            ap length r.undone,
+            length-append s.done (es ∷ []),
+            length-append after.undone (es ∷ []),
+          );
     }
 
 -- a redo is undone by going back, so the history is the same

@@ -33,7 +33,8 @@ refused_of bag changes done edit is = ap (λ ess. plan_refusal bag ess edit) is
 pub planned_state : (s : State) (edit : Edit) (es : List Entry) → IsStore s → Plans s.bag s.done edit es
     → after_record s es ≡ after_edit s edit
 planned_state s edit es st plans =
-    ap₂ (λ (hs : Collection) (ds : List Entry). let after : State = record { bag = with_held s.bag hs; done = s.done ++ ds ∷ []; undone = []; faces_rebuilt = faces_of ds } in after)
+    ap₂ (λ (hs : Collection) (ds : List Entry).
+    let after : State = record { bag = with_held s.bag hs; done = s.done ++ ds ∷ []; undone = []; faces_rebuilt = faces_of ds } in after)
     (plans.result ∙ sym (edited_held s edit (stand s st))) (sym (change_planned s edit es (stand s st) st.bag plans))
 
 -- the refusal of an edit, read off its planned entries

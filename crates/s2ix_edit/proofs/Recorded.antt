@@ -1,5 +1,5 @@
 -- How large the changes are that a store records.
-use Rattle.std.proofs.Common.{◌≡◌, ℕ, ◌<◌, ◌≤◌, List, [], ◌∷◌, length, reverse, All, None, ap, arith}
+use Rattle.std.proofs.Common.{◌≡◌, ℕ, ◌<◌, ◌≤◌, List, [], ◌∷◌, length, reverse, All, None, sym, ap, ◌∙◌, subst, arith}
 use Rattle.std.proofs.lemmas.List.Elements.{All-nil, All-cons, All-weaker}
 use Rattle.s2ix_bag_pairs.specs.declared.limits.Limits.{Limits}
 use Rattle.s2ix_bag_pairs.specs.declared.pair.Entry.{Entry}
@@ -51,20 +51,30 @@ recorded_on : (bag : LimitedCollection) (ess : List (List Entry)) → IsBag bag 
 recorded_on bag [] b on = All-nil (IsRecorded bag.limits)
 recorded_on bag (es ∷ rest) b on =
     let next = made_is_bag bag es b on.0 (taken_from_none bag es on.2) in
-    All-cons (IsRecorded bag.limits) es rest (recorded bag es b on.0 on.1 on.2) (recorded_on (with_held bag (changed bag.held es)) rest next on.3)
+    All-cons (IsRecorded bag.limits) es rest (recorded bag es b on.0 on.1 on.2)
+    (recorded_on (with_held bag (changed bag.held es)) rest next on.3)
 
 recorded_back : (bag : LimitedCollection) (ess : List (List Entry)) → IsBag bag → CanGoBack bag ess → All (IsRecorded bag.limits) ess
 recorded_back bag [] b back = All-nil (IsRecorded bag.limits)
 recorded_back bag (es ∷ older) b back =
     let prev = with_held bag (changed bag.held (inverse_of es)) in
     let prev_is = made_is_bag bag (inverse_of es) b (inverse_keeps es back.0) (taken_from_none bag (inverse_of es) back.2) in
-    All-cons (IsRecorded bag.limits) es older (recorded prev es prev_is back.0 back.1 (taken_again bag es b back.0 back.2)) (recorded_back prev older prev_is back.3)
+    All-cons (IsRecorded bag.limits) es older (recorded prev es prev_is back.0 back.1 (taken_again bag es b back.0 back.2))
+    (recorded_back prev older prev_is back.3)
 
 pub done_recorded : (s : State) → IsStore s → All (IsRecorded s.bag.limits) s.done
 done_recorded s st = all_back_again (IsRecorded s.bag.limits) s.done (recorded_back s.bag (reverse s.done) st.bag st.back)
 
 pub undone_recorded : (s : State) → IsStore s → All (IsRecorded s.bag.limits) s.undone
 undone_recorded s st = all_back_again (IsRecorded s.bag.limits) s.undone (recorded_on s.bag (reverse s.undone) st.bag st.on)
+
+-- what holds of a list of changes of any store holds of the one that is read from this store
+pub of_listed : (P : State → List (List Entry) → Type 0) (changes : State → List (List Entry)) → ((s : State) → IsStore s → P s (changes s))
+    → (inside now : State) (listed : List (List Entry)) → IsStore inside → inside ≡ now → listed ≡ changes inside → P now listed
+of_listed P changes all inside now listed st is read =
+    let Holds : State → Type 0 = λ s. P s (changes s) in
+    let Listed : List (List Entry) → Type 0 = λ ess. P now ess in
+    subst Listed (sym (read ∙ ap changes is)) (subst Holds is (all inside st))
 
 -- ---- whatever the limits
 
@@ -74,6 +84,8 @@ recorded_within_widest limits es is =
     let few : pairs_limit limits ≤ 1000000 = limits.in_range.1 in
     let small : count_limit limits ≤ 4294967295 = limits.in_range.3 in (
       omega (arith, few, is.few),
-      All-weaker (λ (e : Entry). e.before ≤ count_limit limits) (λ (e : Entry). e.before ≤ 4294967295) (λ e low. omega (arith, small, low)) es is.small_before,
-      All-weaker (λ (e : Entry). e.after ≤ count_limit limits) (λ (e : Entry). e.after ≤ 4294967295) (λ e low. omega (arith, small, low)) es is.small_after,
+      All-weaker (λ (e : Entry). e.before ≤ count_limit limits) (λ (e : Entry). e.before ≤ 4294967295)
+          (λ e low. omega (arith, small, low)) es is.small_before,
+      All-weaker (λ (e : Entry). e.after ≤ count_limit limits) (λ (e : Entry). e.after ≤ 4294967295) (λ e low. omega (arith, small, low))
+          es is.small_after,
     )

@@ -37,8 +37,19 @@ redo_of_undo s st some =
     let forth = forth_again s.bag es st.bag.rises back.0 (not_mismatched s.bag (inverse_of es) back.2) in
     ap after_redo (undo_of_last s front es is)
     ∙ redo_of_last (after_undo_of s es) s.undone es refl
-    ∙ ap (λ hs. let t : State = record { bag = with_held s.bag hs; done = front ++ es ∷ []; undone = take (length (s.undone ++ es ∷ []) - 1) (s.undone ++ es ∷ []); faces_rebuilt = faces_of es } in t) forth
-    ∙ ap₂ (λ (done undone : List (List Entry)). let t : State = record { bag = s.bag; done = done; undone = undone; faces_rebuilt = faces_of es } in t) (sym is) (front_of s.undone es)
+    ∙ ap (λ hs.
+    let t : State =
+    record {
+      bag = with_held s.bag hs;
+      done = front ++ es ∷ [];
+      undone = take (length (s.undone ++ es ∷ []) - 1) (s.undone ++ es ∷ []);
+      faces_rebuilt = faces_of es;
+    } in
+    t)
+    forth
+    ∙ ap₂ (λ (done undone : List (List Entry)).
+    let t : State = record { bag = s.bag; done = done; undone = undone; faces_rebuilt = faces_of es } in t)
+    (sym is) (front_of s.undone es)
 
 pub undo_of_redo : (s : State) → IsStore s → s.undone ≢ []
     → after_undo (after_redo s) ≡ with_faces s (faces_of (get_or s.undone (length s.undone - 1) []))
@@ -50,13 +61,27 @@ undo_of_redo s st some =
     let back = changed_back s.bag es st.bag.rises on.0 (not_mismatched s.bag es on.2) in
     ap after_undo (redo_of_last s front es is)
     ∙ undo_of_last (after_redo_of s es) s.done es refl
-    ∙ ap (λ hs. let t : State = record { bag = with_held s.bag hs; done = take (length (s.done ++ es ∷ []) - 1) (s.done ++ es ∷ []); undone = front ++ es ∷ []; faces_rebuilt = faces_of es } in t) back
-    ∙ ap₂ (λ (done undone : List (List Entry)). let t : State = record { bag = s.bag; done = done; undone = undone; faces_rebuilt = faces_of es } in t) (front_of s.done es) (sym is)
+    ∙ ap (λ hs.
+    let t : State =
+    record {
+      bag = with_held s.bag hs;
+      done = take (length (s.done ++ es ∷ []) - 1) (s.done ++ es ∷ []);
+      undone = front ++ es ∷ [];
+      faces_rebuilt = faces_of es;
+    } in
+    t)
+    back
+    ∙ ap₂ (λ (done undone : List (List Entry)).
+    let t : State = record { bag = s.bag; done = done; undone = undone; faces_rebuilt = faces_of es } in t)
+    (front_of s.done es) (sym is)
 
 -- ---- the limits
 
 -- a step that goes by a change, where there is one, keeps the limits if each such step does
-step_keeps_limits : (s : State) (step : List Entry → State) (o : Option (List Entry)) → ((es : List Entry) → (step es).bag.limits ≡ s.bag.limits) → let next : State = elim o [ Some es ↦ step es | None ↦ s ] in next.bag.limits ≡ s.bag.limits
+step_keeps_limits : (s : State) (step : List Entry → State) (o : Option (List Entry))
+    → ((es : List Entry) → (step es).bag.limits ≡ s.bag.limits) → let next : State =
+    elim o [ Some es ↦ step es | None ↦ s ] in
+    next.bag.limits ≡ s.bag.limits
 step_keeps_limits s step (Some es) kept = kept es
 step_keeps_limits s step None kept = refl
 

@@ -12,7 +12,7 @@ use Rattle.s2ix_edit_plan.specs.Refusals.{edit_refusal, goes_below_zero, lacks_c
 use Rattle.s2ix_bag_pairs.specs.Limits.{pairs_limit, count_limit, changes_limit}
 use Rattle.s2ix_edit_plan.specs.State.{State, change_of, history_of}
 use Rattle.s2ix_edit_plan.proofs.Edited.{edited_held}
-use Rattle.s2ix_edit_plan.proofs.FirstRefusal.{IsOfRevert, revert_accepted, revert_refused, revert_taken}
+use Rattle.s2ix_edit_plan.proofs.EachRefusal.{IsOfRevert, revert_accepted, revert_refused, revert_taken}
 use Rattle.s2ix_edit_plan.proofs.Revert.{first_above}
 use Rattle.s2ix_edit.specs.Store.{IsStore}
 use Rattle.s2ix_edit.proofs.Along.{some_done}
@@ -39,6 +39,13 @@ reverts_refused s number st = revert_refused s number (changes_some s number st)
 
 -- and is accepted exactly where none of these stands
 pub taken_back_where : (s : State) (number : ℕ) → IsStore s
-    → (edit_refusal s (Revert number) ≡ None) ↔ ((length s.done < changes_limit s.bag.limits) × (lacks_change s.done (Revert number) ≡ false) × (goes_below_zero s.done (Revert number) s.bag.held ≡ false) × (has_count_above (count_limit s.bag.limits) (edited (history_of s) (Revert number)) ≡ false) × (length (edited (history_of s) (Revert number)) ≤ pairs_limit s.bag.limits))
-taken_back_where s number st =
-    (λ none. let parts = revert_accepted s number none in (leb-false _ _ parts.0, parts.1, parts.2, parts.3, ltb-false _ _ parts.4), λ parts. revert_taken s number (lt-leb _ _ parts.0) parts.1 parts.2 (changes_some s number st parts.1 parts.2) parts.3 (le-ltb _ _ parts.4))
+    → (edit_refusal s (Revert number) ≡ None)
+    ↔ ((length s.done < changes_limit s.bag.limits) × (lacks_change s.done (Revert number) ≡ false)
+    × (goes_below_zero s.done (Revert number) s.bag.held ≡ false)
+    × (has_count_above (count_limit s.bag.limits) (edited (history_of s) (Revert number)) ≡ false)
+    × (length (edited (history_of s) (Revert number)) ≤ pairs_limit s.bag.limits))
+taken_back_where s number st = (
+  λ none. let parts = revert_accepted s number none in (leb-false _ _ parts.0, parts.1, parts.2, parts.3, ltb-false _ _ parts.4),
+  λ parts.
+      revert_taken s number (lt-leb _ _ parts.0) parts.1 parts.2 (changes_some s number st parts.1 parts.2) parts.3 (le-ltb _ _ parts.4),
+)

@@ -21,7 +21,7 @@ use Rattle.s2ix_edit_plan.specs.Edit.{edited, numbered}
 use Rattle.s2ix_edit_plan.specs.History.{History}
 use Rattle.s2ix_edit_plan.specs.Refusals.{edit_refusal}
 use Rattle.s2ix_edit_plan.proofs.Edited.{edited_held}
-use Rattle.s2ix_edit_plan.proofs.FirstRefusal.{revert_accepted}
+use Rattle.s2ix_edit_plan.proofs.EachRefusal.{revert_accepted}
 use Rattle.s2ix_edit_plan.proofs.Revert.{subtracts}
 use Rattle.s2ix_edit.specs.Standing.{first_collection, gain_along, without_numbered}
 use Rattle.s2ix_edit.specs.Steps.{after_edit, after_redo, after_undo, with_held}
@@ -54,17 +54,27 @@ one_back bag es pair b before back =
     let prev = changed bag.held (inverse_of es) in
     gain_of_difference (count_in prev pair) (count_in bag.held pair)
     ∙ ap (λ found. pos (count_in prev pair) +ℤ gain_of found)
-    (sym (counts_between prev bag.held pair before.rises b.rises) ∙ ap (λ ds. counts_at ds (rank_of pair)) (change_back bag es b back.0 back.2))
+    (sym (counts_between prev bag.held pair before.rises b.rises)
+    ∙ ap (λ ds. counts_at ds (rank_of pair)) (change_back bag es b back.0 back.2))
 
 sum_back : (bag : LimitedCollection) (ess : List (List Entry)) (rest : List Collection) (pair : Pair) → IsBag bag → CanGoBack bag ess
-    → pos (count_in bag.held pair) ≡ pos (count_in (get_or (earlier bag.held ess ++ bag.held ∷ rest) 0 []) pair) +ℤ gain_along (reverse ess) pair
+    → pos (count_in bag.held pair)
+    ≡ pos (count_in (get_or (earlier bag.held ess ++ bag.held ∷ rest) 0 []) pair) +ℤ gain_along (reverse ess) pair
 sum_back bag [] rest pair b back = omega (arith, ints)
 sum_back bag (es ∷ older) rest pair b back =
     let prev = with_held bag (changed bag.held (inverse_of es)) in
     let prev_is = made_is_bag bag (inverse_of es) b (inverse_keeps es back.0) (taken_from_none bag (inverse_of es) back.2) in
-    let first = ap (λ hss. pos (count_in (get_or hss 0 []) pair)) (append_assoc (earlier prev.held older) (prev.held ∷ []) (bag.held ∷ rest)) in
+    let first = ap (λ hss. pos (count_in (get_or hss 0 []) pair))
+    (append_assoc (earlier prev.held older) (prev.held ∷ []) (bag.held ∷ rest)) in
     let sum = ap (λ ess. gain_along ess pair) (reverse_cons es older) ∙ gain_push (reverse older) es pair in
-    omega (arith, ints, one_back bag es pair b prev_is (back.0, back.1, back.2, tt), sum_back prev older (bag.held ∷ rest) pair prev_is back.3, first, sum)
+    omega (
+      arith,
+      ints,
+      one_back bag es pair b prev_is (back.0, back.1, back.2, tt),
+      sum_back prev older (bag.held ∷ rest) pair prev_is back.3,
+      first,
+      sum,
+    )
 
 -- each count is that of the first collection and the differences of the changes that stand
 pub counts_are_sums : (s : State) (pair : Pair) → IsStore s
@@ -83,7 +93,9 @@ left_out_at zero (fs ∷ rest) es pair found =
     omega (arith, ints, ap (λ ds. gain_of (counts_at ds (rank_of pair))) same)
 left_out_at (suc place) (fs ∷ rest) es pair found =
     let whole : gain_along (fs ∷ rest) pair ≡ gain_of (counts_at fs (rank_of pair)) +ℤ gain_along rest pair = refl in
-    let others : gain_along (without_numbered (suc (suc place)) (fs ∷ rest)) pair ≡ gain_of (counts_at fs (rank_of pair)) +ℤ gain_along (without_numbered (suc place) rest) pair = refl in
+    let others : gain_along (without_numbered (suc (suc place)) (fs ∷ rest)) pair
+    ≡ gain_of (counts_at fs (rank_of pair)) +ℤ gain_along (without_numbered (suc place) rest) pair =
+    refl in
     omega (arith, ints, whole, others, left_out_at place rest es pair found)
 
 pub left_out : (number : ℕ) (ess : List (List Entry)) (es : List Entry) (pair : Pair) → numbered number ess ≡ Some es
@@ -114,7 +126,8 @@ found_of None is = cc
 
 -- each count is then that of the first collection and the differences of the other changes that stood
 pub change_left_out : (s : State) (number : ℕ) (pair : Pair) → IsStore s → edit_refusal s (Revert number) ≡ None
-    → pos (count_in (edited (history_of s) (Revert number)) pair) ≡ pos (count_in (first_collection s) pair) +ℤ gain_along (without_numbered number s.done) pair
+    → pos (count_in (edited (history_of s) (Revert number)) pair)
+    ≡ pos (count_in (first_collection s) pair) +ℤ gain_along (without_numbered number s.done) pair
 change_left_out s number pair st none =
     let parts = revert_accepted s number none in
     let found = found_of (numbered number s.done) parts.1 in

@@ -31,9 +31,13 @@ front_of done es =
 
 -- an edit and then an undo lead back
 pub undo_of_edit : (s : State) (edit : Edit) → IsStore s
-    → after_undo (after_edit s edit) ≡ record { bag = s.bag; done = s.done; undone = change_of s edit ∷ []; faces_rebuilt = faces_of (change_of s edit) }
+    → after_undo (after_edit s edit)
+    ≡ record { bag = s.bag; done = s.done; undone = change_of s edit ∷ []; faces_rebuilt = faces_of (change_of s edit) }
 undo_of_edit s edit st =
     undo_of_last (after_edit s edit) s.done (change_of s edit) refl
-    ∙ ap₂ (λ (hs : Collection) (done : List (List Entry)). let t : State = record { bag = with_held s.bag hs; done = done; undone = change_of s edit ∷ []; faces_rebuilt = faces_of (change_of s edit) } in t)
+    ∙ ap₂ (λ (hs : Collection) (done : List (List Entry)).
+    let t : State =
+    record { bag = with_held s.bag hs; done = done; undone = change_of s edit ∷ []; faces_rebuilt = faces_of (change_of s edit) } in
+    t)
     (changed_inverse_between s.bag.held (edited (history_of s) edit) st.bag.rises (held_edited_is_collection s edit st.bag.rises))
     (front_of s.done (change_of s edit))

@@ -16,7 +16,8 @@ HasRoom s = length s.done < changes_limit s.bag.limits
 abbrev pub CanGoBack : LimitedCollection → List (List Entry) → Type 0
 CanGoBack bag [] = Unit {0}
 CanGoBack bag (es ∷ older) =
-    IsChangeList es × (0 < length es) × (apply_refusal bag (inverse_of es) ≡ None) × CanGoBack (with_held bag (changed bag.held (inverse_of es))) older
+    IsChangeList es × (0 < length es) × (apply_refusal bag (inverse_of es) ≡ None)
+    × CanGoBack (with_held bag (changed bag.held (inverse_of es))) older
 
 -- changes that can be done to a bag one after the other
 abbrev pub CanGoOn : LimitedCollection → List (List Entry) → Type 0

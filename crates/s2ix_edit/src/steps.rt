@@ -1,7 +1,7 @@
-//! What edits, undos and redos are made of: a bag after a change with its range table, of which the faces that the change has
-//! entries on are read again; and a change shifted from one list to the other.
+//! What edits, undos and redos are made of: a bag after a change, with its range table, of which only the faces that the change has
+//! entries on are read again; and a change that is shifted from one list to the other.
 
-ghost use Rattle.std.specs.Prelude.{◌≡◌, ◌<◌, None, IfOk, IfErr, OnOk, OnErr, vec_len};
+ghost use Rattle.std.specs.Prelude.{◌≡◌, ◌<◌, [], ◌∷◌, ◌++◌, None, IfOk, IfErr, OnOk, OnErr, vec_len};
 ghost use Rattle.s2ix_bag_lists.specs.Apply.{apply_refusal, first_mismatch};
 ghost use Rattle.s2ix_bag_pairs.specs.Change.{changed};
 ghost use Rattle.s2ix_bag_pairs.specs.Collection.{IsBag};
@@ -18,7 +18,7 @@ use s2ix_table_queries::RangeTable;
 use s2ix_table_reading::BagReader;
 use std::alloc::Global;
 
-// The bag that planned entries make of one with this table, with its own table, or why a store refuses them.
+// The bag that planned entries make of a bag with this table, and the new bag's table; or why a store refuses the entries.
 pub(crate) fn apply_planned(
     alloc: Global,
     bag: &Bag,
@@ -51,7 +51,7 @@ pub(crate) fn apply_planned(
     }
 }
 
-// The bag that a recorded change makes of one with this table, with its own table: only memory can be wanting.
+// The bag that a recorded change makes of a bag with this table, and the new bag's table. It can fail only for want of memory.
 pub(crate) fn apply_recorded(
     alloc: Global,
     bag: &Bag,
@@ -76,8 +76,16 @@ pub(crate) fn apply_recorded(
     }
 }
 
-// Shifts the last change of one list to the end of the other, and answers how many pairs it has. Where a growth is
-// refused both lists stay.
+// Appends a change. If a growth is refused the list stays.
+pub(crate) fn push_change(changes: &mut Vec<Change>, change: Change) -> Result<(), OutOfMemory>
+    ensures pushed { OnOk result (changes.new.items ≡ changes.old.items ++ change ∷ []) }
+    ensures stay { OnErr result (changes.new.items ≡ changes.old.items) }
+{
+    changes.push(change)?;
+    Ok(())
+}
+
+// Shifts the last change of one list to the end of the other, and returns how many pairs it has. If a growth is refused both lists stay.
 pub(crate) fn shift_last(from: &mut Vec<Change>, to: &mut Vec<Change>) -> Result<usize, OutOfMemory>
     requires { 0 < vec_len from.old }
     ensures shifted { IfOk result (IsShifted from.old.items to.old.items from.new.items to.new.items) }

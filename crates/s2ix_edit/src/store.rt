@@ -18,7 +18,7 @@ ghost use Rattle.s2ix_edit.specs.Steps.{after_edit, after_forget, after_record, 
 ghost use Rattle.s2ix_edit.specs.Store.{CanGoBack, CanGoOn, HasRoom, IsStore};
 ghost use Rattle.s2ix_table_ranges.specs.Table.{IsRangeTable};
 
-use crate::steps::{apply_planned, apply_recorded, shift_last};
+use crate::steps::{apply_planned, apply_recorded, push_change, shift_last};
 use crate::store_table::StoreTable;
 use s2id_core::OutOfMemory;
 use s2id_union::CellUnion;
@@ -62,8 +62,7 @@ impl Model for Store {
 }
 
 impl Store {
-    /// A store of the empty collection, with nothing to undo or redo. `OutOfMemory` where a growth of its table is
-    /// refused. O(1).
+    /// A store of the empty collection, with nothing to undo or redo. `OutOfMemory` if a growth of its table is refused. O(1).
     pub fn new(alloc: Global, limits: Limits) -> Result<Store, OutOfMemory>
         ensures state { IfOk result (λ store.
             store ≡ starting_at (record { limits = limits; held = [] })) }
@@ -72,8 +71,8 @@ impl Store {
         Store::from_bag(alloc, Bag::empty(alloc, limits))
     }
 
-    /// A store that starts from its bag, with the bag's limits and nothing to undo or redo. `OutOfMemory` where a growth of its table is
-    /// refused; the bag is let go then. O(n) for n pairs.
+    /// A store that starts from its bag, with the bag's limits and nothing to undo or redo. `OutOfMemory` if a growth of its table is
+    /// refused; then the bag is dropped. O(n) for n pairs.
     pub fn from_bag(alloc: Global, bag: Bag) -> Result<Store, OutOfMemory>
         ensures state { IfOk result (λ store. store ≡ starting_at bag) }
         ensures history { IfOk result (λ store. history_of store ≡ alone bag.held) }
@@ -89,11 +88,11 @@ impl Store {
         })
     }
 
-    /// Carries an edit out, and answers how many pairs changed their counts. An accepted edit records the change
-    /// at the end of `done` and empties `undone`; a refused one changes nothing. [`EditError`] says when each
-    /// refusal stands. With room in the journal an `Add` or a `Remove` of no copies, or an `AddUnion` of no cells, is `NoChange` and takes
-    /// no memory. An edit takes what [`plan`] takes, what it takes to let the undone changes go, and O(m + p) for m entries of the change
-    /// and the p pairs held on their faces, of which alone bag and table are built again.
+    /// Carries an edit out, and returns how many pairs changed their counts. An accepted edit records the change at the end of `done` and
+    /// empties `undone`; a refused one changes nothing. [`EditError`] says when each refusal stands. If the journal has room, an `Add` or a
+    /// `Remove` of no copies, or an `AddUnion` of no cells, is `NoChange` and does not allocate. An edit takes the time of [`plan`], the time
+    /// to free the undone changes, and O(m + p) for the m entries of the change and the p pairs held on their faces: bag and table are built
+    /// again only for these faces.
     pub fn edit(&mut self, edit: &Edit) -> Result<usize, EditError>
         ensures state { OnOk result (self.new ≡ after_edit self.old edit.now) }
         ensures history { OnOk result (history_of self.new
@@ -160,7 +159,7 @@ impl Store {
         let number = change.entries().len();
         let faces = changed_face_count(&change);
         let (bag, table) = apply_planned(self.alloc, &self.bag, &self.table, &change)?;
-        self.done.push(change)?;
+        push_change(&mut self.done, change)?;
         self.undone.clear();
         self.bag = bag;
         self.table = table;
@@ -168,9 +167,9 @@ impl Store {
         Ok(number)
     }
 
-    /// Takes the last change back, and answers how many pairs it had. The change goes to the end of `undone`.
-    /// `NothingToUndo` is tested first; then `OutOfMemory` where a growth is refused. O(m + p) for m entries of the change and the p pairs held
-    /// on their faces, of which alone bag and table are built again.
+    /// Takes the last change back, and returns how many pairs it had. The change goes to the end of `undone`. `NothingToUndo` is tested
+    /// first; then `OutOfMemory` if a growth is refused. O(m + p) for the m entries of the change and the p pairs held on their faces: bag and
+    /// table are built again only for these faces.
     pub fn undo(&mut self) -> Result<usize, UndoError>
         ensures state { OnOk result (self.new ≡ after_undo self.old) }
         ensures history { OnOk result (history_of self.new ≡ one_back (history_of self.old)) }
@@ -196,8 +195,8 @@ impl Store {
         Ok(number)
     }
 
-    /// Does the last undone change again, and answers how many pairs it has. The change goes back to the end of `done`. `NothingToRedo` is
-    /// tested first; then `OutOfMemory` where a growth is refused. The journal is never full: an undo keeps the room of its change.
+    /// Does the last undone change again, and returns how many pairs it has. The change goes back to the end of `done`. `NothingToRedo` is
+    /// tested first; then `OutOfMemory` if a growth is refused. The journal is never full: an undo keeps the room of its change.
     /// O(m + p), as `undo`.
     pub fn redo(&mut self) -> Result<usize, RedoError>
         ensures state { OnOk result (self.new ≡ after_redo self.old) }
@@ -223,8 +222,8 @@ impl Store {
         Ok(number)
     }
 
-    /// Keeps the collection and lets all changes go: nothing is left to undo or redo. It takes no memory. O(k) for the k changes
-    /// that are let go.
+    /// Keeps the collection and drops all changes: nothing is left to undo or redo. It does not allocate. O(k) for the k changes that are
+    /// dropped.
     pub fn forget(&mut self)
         ensures state { self.new ≡ after_forget self.old }
         ensures history { history_of self.new ≡ cursor_alone (history_of self.old) }
@@ -257,8 +256,8 @@ impl Store {
         self.faces_rebuilt
     }
 
-    /// The region of a label: the normal union of the cells that are held with it, which is empty where none is.
-    /// `OutOfMemory` where a growth is refused. O(n + m log m) for n pairs held, m of them with the label.
+    /// The region of a label: the normal union of the cells that are held with it, which is empty if none is. `OutOfMemory` if a growth is
+    /// refused. O(n + m log m) for n pairs held, m of them with the label.
     pub fn region(&self, label: Label) -> Result<CellUnion, OutOfMemory>
         ensures region { IfOk result (λ union.
             HaveSameRegion union (cells_of label self.now.bag.held)) }

@@ -108,8 +108,10 @@ each_at n label (b ∷ cs) hs c zero is rise within found =
     ∙ count_set_same 0 (pair_of b label) (count_in hs (pair_of b label) + 1) hs is)
 each_at n label (b ∷ cs) hs c (suc k) is rise within found =
     let later = rise_contains (raw_of b + 1) cs c k rise.1 (omega arith) found in
-    each_at (raw_of b + 1) label cs (with_more (pair_of b label) 1 hs) c k (set_keeps (pair_of b label) (count_in hs (pair_of b label) + 1) hs is) rise.1 (omega arith) found
-    ∙ ap (λ m. m + 1) (count_set_other (pair_of b label) (count_in hs (pair_of b label) + 1) hs (rank_of (pair_of c label)) (λ e. omega (arith, e, later)))
+    each_at (raw_of b + 1) label cs (with_more (pair_of b label) 1 hs) c k
+    (set_keeps (pair_of b label) (count_in hs (pair_of b label) + 1) hs is) rise.1 (omega arith) found
+    ∙ ap (λ m. m + 1)
+    (count_set_other (pair_of b label) (count_in hs (pair_of b label) + 1) hs (rank_of (pair_of c label)) (λ e. omega (arith, e, later)))
 
 -- a cell's pair under the label has one copy more
 pub with_each_same : (label : Label) (cs : List CellId) (hs : Collection) (c : CellId) → IsCollection hs

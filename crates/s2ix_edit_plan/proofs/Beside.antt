@@ -86,7 +86,8 @@ next_from_sides level cell outer x cells le is over has =
     record {
       level_is = x_level;
       outside = λ meets.
-          let in_x : IsWithin p (path_of x) = within_by_overlap p (path_of x) (pathed cell) (pathed x) (omega (arith, le, x_level)) (meets.0, meets.2, meets.1) in
+          let in_x : IsWithin p (path_of x) = within_by_overlap p (path_of x) (pathed cell) (pathed x) (omega (arith, le, x_level))
+          (meets.0, meets.2, meets.1) in
           shares.apart (is ∙ ap (λ k. ancestor k p) (sym x_level) ∙ in_x);
       near = outer;
       near_level = outer_level;
@@ -99,7 +100,8 @@ sides_from_next : (level : ℕ) (cell outer x : CellId) (cells : List CellId) �
 sides_from_next level cell outer x cells le is over n =
     let p = path_of cell in
     let o = n.overlaps in
-    let in_near : IsWithin p (path_of n.near) = within_by_overlap p (path_of n.near) (pathed cell) (pathed n.near) (omega (arith, le, n.near_level)) (o.0, o.2, o.1) in
+    let in_near : IsWithin p (path_of n.near) = within_by_overlap p (path_of n.near) (pathed cell) (pathed n.near)
+    (omega (arith, le, n.near_level)) (o.0, o.2, o.1) in
     let near_is : path_of n.near ≡ path_of outer = sym in_near ∙ ap (λ k. ancestor k p) n.near_level ∙ sym is in
     let found = over.only (path_of x) (pathed x) (subst (λ q. ShareEdge q (path_of x)) near_is n.shares) in
     let within : found.0 < length cells = omega (arith, found.1, over.four) in
@@ -120,7 +122,11 @@ GainsNext level cell old new = (x : CellId) → Contains new x ↔ (Contains old
 pub gained : (level : ℕ) (cell : CellId) (old cells new : List CellId) → new ≡ old ++ cells
     → ((x : CellId) → Contains cells x ↔ IsNextTo level cell x) → GainsNext level cell old new
 gained level cell old cells new is next x = (
-  λ c. elim (Contains-append_cases old cells x (subst (λ ys. Contains ys x) is c)) [ inl before ↦ inl before | inr here ↦ inr ((next x).0 here) ],
+  λ c.
+      elim (Contains-append_cases old cells x (subst (λ ys. Contains ys x) is c)) [
+        | inl before ↦ inl before
+        | inr here ↦ inr ((next x).0 here)
+      ],
   λ e.
       subst (λ ys. Contains ys x) (sym is) (elim e [
         | inl before ↦ Contains-append_left old cells x before
@@ -158,5 +164,6 @@ one_more level cells cell old new next gains x = (
 pub next_more : (level k : ℕ) (cells : List CellId) (cell : CellId) (old new : List CellId) → k < length cells → cell ≡ get_or cells k cell
     → AreNext level (take k cells) old → GainsNext level cell old new → AreNext level (take (k + 1) cells) new
 next_more level k cells cell old new within is next gains =
-    let longer : take (k + 1) cells ≡ take k cells ++ cell ∷ [] = take_more cells k cell within ∙ ap (λ (c : CellId). take k cells ++ c ∷ []) (sym is) in
+    let longer : take (k + 1) cells ≡ take k cells ++ cell ∷ [] = take_more cells k cell within
+    ∙ ap (λ (c : CellId). take k cells ++ c ∷ []) (sym is) in
     subst (λ cs. AreNext level cs new) (sym longer) (one_more level (take k cells) cell old new next gains)

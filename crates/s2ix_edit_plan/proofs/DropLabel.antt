@@ -28,7 +28,9 @@ filter_keeps test n (h ∷ hs) is =
     let rest = filter_keeps test (rank_of h.pair + 1) hs is.2 in
     ⊎_elim
     (λ yes. subst Rises (sym (cond-true (test h) (h ∷ filter test hs) (filter test hs) yes)) (is.0, is.1, rest))
-    (λ no. subst Rises (sym (cond-false (test h) (h ∷ filter test hs) (filter test hs) no)) (from_lower n (rank_of h.pair + 1) (filter test hs) (omega (arith, is.0)) rest))
+    (λ no.
+    subst Rises (sym (cond-false (test h) (h ∷ filter test hs) (filter test hs) no))
+    (from_lower n (rank_of h.pair + 1) (filter test hs) (omega (arith, is.0)) rest))
     (cases_Bool (test h))
 
 -- a pair that is held has its count in the part exactly where it passes the test
@@ -100,10 +102,12 @@ removals_before : (test : Held → Bool) (n : ℕ) (hs : Collection) → IsColle
 removals_before test n [] is = tt
 removals_before test n (h ∷ hs) is =
     let Right : Collection → Type 0 = λ ks. AreBefore (h ∷ hs) (map removal_of ks) in
-    let later = before_moves (rank_of h.pair + 1) hs (h ∷ hs) (map removal_of (filter test hs)) (part_rises test (rank_of h.pair + 1) hs is.2)
+    let later = before_moves (rank_of h.pair + 1) hs (h ∷ hs) (map removal_of (filter test hs))
+    (part_rises test (rank_of h.pair + 1) hs is.2)
     (λ k le. sym (count_tail h hs k (λ e. omega (arith, e, le)))) (removals_before test (rank_of h.pair + 1) hs is.2) in
     ⊎_elim
-    (λ yes. subst Right (sym (cond-true (test h) (h ∷ filter test hs) (filter test hs) yes)) (sym (count_head h hs (rank_of h.pair) refl), later))
+    (λ yes.
+    subst Right (sym (cond-true (test h) (h ∷ filter test hs) (filter test hs) yes)) (sym (count_head h hs (rank_of h.pair) refl), later))
     (λ no. subst Right (sym (cond-false (test h) (h ∷ filter test hs) (filter test hs) no)) later)
     (cases_Bool (test h))
 

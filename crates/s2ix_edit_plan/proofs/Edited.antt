@@ -58,7 +58,8 @@ edited_is_collection changes (Remove pair copies) hs is = set_keeps pair (count_
 edited_is_collection changes (DropLabel label) hs is = without_keeps label hs is
 edited_is_collection changes (Relabel source target) hs is = with_all_moved_keeps target (held_of source hs) hs is
 edited_is_collection changes (Grow label level) hs is = with_each_keeps label (grown_cells label level hs) hs is
-edited_is_collection changes (Normalise label) hs is = with_each_keeps label (region_of label hs) (without label hs) (without_keeps label hs is)
+edited_is_collection changes (Normalise label) hs is =
+    with_each_keeps label (region_of label hs) (without label hs) (without_keeps label hs is)
 edited_is_collection changes (Revert number) hs is = without_change_keeps (numbered number changes) hs is
 
 pub held_edited_is_collection : (s : State) (edit : Edit) → IsCollection s.bag.held → IsCollection (edited (history_of s) edit)

@@ -33,15 +33,19 @@ one_edit : (a b : Edit) → edit_test.it a b ≡ true → a ≡ b
 one_edit (Add p c) (Add q d) h = ap₂ (λ (x : Pair) (n : ℕ). Add x n) (same_pair p q (grind (arith, nat_tests))) (grind (arith, nat_tests))
 one_edit (Add p c) b h = cc
 one_edit (AddUnion cs l) (AddUnion ds m) h =
-    ap₂ (λ (cells : List CellId) (x : Label). AddUnion cells x) ((cells_decided cs ds).0 (first_so _ _ h)) (same_label l m (grind (arith, nat_tests)))
+    ap₂ (λ (cells : List CellId) (x : Label). AddUnion cells x) ((cells_decided cs ds).0 (first_so _ _ h))
+    (same_label l m (grind (arith, nat_tests)))
 one_edit (AddUnion cs l) b h = cc
-one_edit (Remove p c) (Remove q d) h = ap₂ (λ (x : Pair) (n : ℕ). Remove x n) (same_pair p q (grind (arith, nat_tests))) (grind (arith, nat_tests))
+one_edit (Remove p c) (Remove q d) h =
+    ap₂ (λ (x : Pair) (n : ℕ). Remove x n) (same_pair p q (grind (arith, nat_tests))) (grind (arith, nat_tests))
 one_edit (Remove p c) b h = cc
 one_edit (DropLabel l) (DropLabel m) h = ap (λ (x : Label). DropLabel x) (same_label l m (grind (arith, nat_tests)))
 one_edit (DropLabel l) b h = cc
-one_edit (Relabel l m) (Relabel k n) h = ap₂ (λ (x y : Label). Relabel x y) (same_label l k (grind (arith, nat_tests))) (same_label m n (grind (arith, nat_tests)))
+one_edit (Relabel l m) (Relabel k n) h =
+    ap₂ (λ (x y : Label). Relabel x y) (same_label l k (grind (arith, nat_tests))) (same_label m n (grind (arith, nat_tests)))
 one_edit (Relabel l m) b h = cc
-one_edit (Grow l n) (Grow m k) h = ap₂ (λ (x : Label) (j : ℕ). Grow x j) (same_label l m (grind (arith, nat_tests))) (grind (arith, nat_tests))
+one_edit (Grow l n) (Grow m k) h =
+    ap₂ (λ (x : Label) (j : ℕ). Grow x j) (same_label l m (grind (arith, nat_tests))) (grind (arith, nat_tests))
 one_edit (Grow l n) b h = cc
 one_edit (Normalise l) (Normalise m) h = ap (λ (x : Label). Normalise x) (same_label l m (grind (arith, nat_tests)))
 one_edit (Normalise l) b h = cc

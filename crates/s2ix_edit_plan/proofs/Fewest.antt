@@ -85,7 +85,8 @@ around_one : (ns : List CellId) (n m d : CellId) → IsNormal ns → IsAround ns
 around_one ns n m d normal first second =
     let leaf = first_leaf (path_of d) in
     let leaf_is = leaf_of_first (path_of d) (pathed d) in
-    one_around ns n m leaf normal first.held second.held (leaf_through d n leaf first.within leaf_is) (leaf_through d m leaf second.within leaf_is)
+    one_around ns n m leaf normal first.held second.held (leaf_through d n leaf first.within leaf_is)
+    (leaf_through d m leaf second.within leaf_is)
 
 -- each cell of the normal list has one of the cells within it
 has_one : (ds : List CellId) (n : CellId) → Contains (normal_form ds) n → (d : CellId) × Contains ds d × IsAround (normal_form ds) n d

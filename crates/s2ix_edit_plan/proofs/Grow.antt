@@ -64,7 +64,8 @@ overlaps_one-decides cells x = (
 pub overlaps_same : (xs ys : List CellId) (x : CellId) → HaveSameRegion xs ys → overlaps_one xs x ≡ overlaps_one ys x
 overlaps_same xs ys x same =
     one_answer (overlaps_one xs x) (overlaps_one ys x) (overlaps_one-decides xs x)
-    (Decides-like (overlaps_one ys x) (λ m. (m.0, m.1, (same m.0 m.1.deep).1 m.2)) (λ m. (m.0, m.1, (same m.0 m.1.deep).0 m.2)) (overlaps_one-decides ys x))
+    (Decides-like (overlaps_one ys x) (λ m. (m.0, m.1, (same m.0 m.1.deep).1 m.2)) (λ m. (m.0, m.1, (same m.0 m.1.deep).0 m.2))
+    (overlaps_one-decides ys x))
 
 abbrev LeadsTo : ℕ → List CellId → CellId → CellId → Type 0
 LeadsTo level cells x near =
@@ -100,7 +101,8 @@ pub is_grown-decides : (level : ℕ) (cells : List CellId) (x : CellId) → Deci
 unfolding is_grown
 is_grown-decides level cells x =
     Decides-like (is_grown level cells x) there back
-    (Decides-and _ _ (Decides-eqb (level_of x) level) (Decides-and _ _ (Decides-not _ (overlaps_one-decides cells x)) (some_leads level cells x)))
+    (Decides-and _ _ (Decides-eqb (level_of x) level)
+    (Decides-and _ _ (Decides-not _ (overlaps_one-decides cells x)) (some_leads level cells x)))
   where
     Parts : Type 0
     Parts = (level_of x ≡ level) × ((¬ Meets cells (path_of x)) × Leads level cells x)
@@ -135,7 +137,14 @@ grown_from_next : (level : ℕ) (cells : List CellId) (x : CellId) → Any (λ c
 grown_from_next level cells x a outside =
     let n = a.4 in
     let o = n.overlaps in
-    record { level_is = n.level_is; outside = outside; near = n.near; near_level = n.near_level; overlaps = (o.0, o.2, (a.0, a.1, a.2, a.3, o.1)); shares = n.shares }
+    record {
+      level_is = n.level_is;
+      outside = outside;
+      near = n.near;
+      near_level = n.near_level;
+      overlaps = (o.0, o.2, (a.0, a.1, a.2, a.3, o.1));
+      shares = n.shares;
+    }
 
 next_from_grown : (level : ℕ) (cells : List CellId) (x : CellId) → IsGrown level cells x → Any (λ cell. IsNextTo level cell x) cells
 next_from_grown level cells x g =
@@ -169,7 +178,8 @@ pub kept_are_grown : (label : Label) (level : ℕ) (hs : Collection) (region bes
 kept_are_grown label level hs region beside once same next members rises =
     let cells = cells_of label hs in
     let test = outside_all cells in
-    let agree : filter (outside_all region) once ≡ filter test once = filter_agree (outside_all region) test (λ x. ap not (overlaps_same region cells x same)) once in
+    let agree : filter (outside_all region) once ≡ filter test once = filter_agree (outside_all region) test
+    (λ x. ap not (overlaps_same region cells x same)) once in
     agree
     ∙ same_rising (filter test once) (grown_cells label level hs)
     (AllPairs-filter (λ a b. raw_of a < raw_of b) test once rises) (grown_rise label level hs)
@@ -179,7 +189,8 @@ kept_are_grown label level hs region beside once same next members rises =
     (in_grown label level hs x).1 (grown_from_next level cells x ((next x).0 ((members x).1 (in_filter test once x c))) outside))
     (λ x c.
     let g = (in_grown label level hs x).0 c in
-    kept test once x ((members x).0 ((next x).1 (next_from_grown level cells x g))) ((Decides-not _ (overlaps_one-decides cells x)).1 g.outside))
+    kept test once x ((members x).0 ((next x).1 (next_from_grown level cells x g)))
+    ((Decides-not _ (overlaps_one-decides cells x)).1 g.outside))
 
 -- ---- the entries
 
@@ -188,7 +199,8 @@ none_held : (ks : Collection) (label : Label) (x : CellId) → ((h : Held) → C
     → count_in ks (pair_of x label) ≡ 0
 none_held [] label x none = refl
 none_held (h ∷ ks) label x none =
-    count_tail h ks (rank_of (pair_of x label)) (λ e. none h (at_head h ks) (ap (λ (p : Pair). p.cell) (same_pair h.pair (pair_of x label) e)))
+    count_tail h ks (rank_of (pair_of x label))
+    (λ e. none h (at_head h ks) (ap (λ (p : Pair). p.cell) (same_pair h.pair (pair_of x label) e)))
     ∙ none_held ks label x (λ k has. none k (in_tail h ks k has))
 
 -- a cell of a held pair of the label is one of the label's
@@ -246,7 +258,9 @@ too_fine_for_held level label hs fine most is =
 pub fits_level : (level : ℕ) (cells : List CellId) → is_too_fine level cells ≡ false → level ≤ 30
 fits_level level cells fits =
     ⊎_elim
-    (λ above. absurd (both_ways (is_too_fine level cells) fits (or_left (nat_lt 30 level) (list_any (λ c. nat_lt (level_of c + 8) level) cells) (lt-ltb _ _ above))))
+    (λ above.
+    absurd (both_ways (is_too_fine level cells) fits
+    (or_left (nat_lt 30 level) (list_any (λ c. nat_lt (level_of c + 8) level) cells) (lt-ltb _ _ above))))
     (λ most. most)
     (cases_lt 30 level)
 
@@ -254,6 +268,8 @@ pub near_enough : (level : ℕ) (cells : List CellId) → is_too_fine level cell
 near_enough level cells fits k d within =
     let test : CellId → Bool = λ c. nat_lt (level_of c + 8) level in
     ⊎_elim
-    (λ far. absurd (both_ways (is_too_fine level cells) fits (or_right (nat_lt 30 level) (list_any test cells) (list_any_at test cells k d within (lt-ltb _ _ far)))))
+    (λ far.
+    absurd (both_ways (is_too_fine level cells) fits
+    (or_right (nat_lt 30 level) (list_any test cells) (list_any_at test cells k d within (lt-ltb _ _ far)))))
     (λ near. near)
     (cases_lt (level_of (get_or cells k d) + 8) level)

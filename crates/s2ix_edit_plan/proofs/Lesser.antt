@@ -74,7 +74,9 @@ above_part c test (h ∷ hs) none =
     let parts = or_parts (ltb c h.count) (has_count_above c hs) none in
     let rest = above_part c test hs parts.1 in
     ⊎_elim
-    (λ yes. ap (λ ks. has_count_above c ks) (cond-true (test h) (h ∷ filter test hs) (filter test hs) yes) ∙ ap (λ t. t || has_count_above c (filter test hs)) parts.0 ∙ rest)
+    (λ yes.
+    ap (λ ks. has_count_above c ks) (cond-true (test h) (h ∷ filter test hs) (filter test hs) yes)
+    ∙ ap (λ t. t || has_count_above c (filter test hs)) parts.0 ∙ rest)
     (λ no. ap (λ ks. has_count_above c ks) (cond-false (test h) (h ∷ filter test hs) (filter test hs) no) ∙ rest)
     (cases_Bool (test h))
 
@@ -93,17 +95,20 @@ no_more_set m p n (h ∷ hs) is none =
     let behind : Collection = if rank_of p == rank_of h.pair then held_with p n hs else h ∷ set_count p n hs in
     ⊎_elim
     (λ lt.
-    let absent = count_tail h hs (rank_of p) (λ e. omega (arith, e, lt)) ∙ count_below (rank_of h.pair + 1) hs (rank_of p) is.2 (omega (arith, lt)) in
+    let absent = count_tail h hs (rank_of p) (λ e. omega (arith, e, lt))
+    ∙ count_below (rank_of h.pair + 1) hs (rank_of p) is.2 (omega (arith, lt)) in
     let before = ap length (cond-true (nat_lt (rank_of p) (rank_of h.pair)) at_front behind (lt-ltb (rank_of p) (rank_of h.pair) lt)) in
     omega (arith, before, ap (λ k. length (held_with p k (h ∷ hs))) (none absent)))
     (λ le.
     let past = ap length (cond-false (nat_lt (rank_of p) (rank_of h.pair)) at_front behind (le-ltb (rank_of p) (rank_of h.pair) le)) in
     ⊎_elim
     (λ same.
-    let here = ap length (cond-true (rank_of p == rank_of h.pair) (held_with p n hs) (h ∷ set_count p n hs) (eq-eqb (rank_of p) (rank_of h.pair) same)) in
+    let here = ap length
+    (cond-true (rank_of p == rank_of h.pair) (held_with p n hs) (h ∷ set_count p n hs) (eq-eqb (rank_of p) (rank_of h.pair) same)) in
     omega (arith, past, here, length_held p n hs))
     (λ other.
-    let rest = ap length (cond-false (rank_of p == rank_of h.pair) (held_with p n hs) (h ∷ set_count p n hs) (ne_eqb (rank_of p) (rank_of h.pair) other)) in
+    let rest = ap length
+    (cond-false (rank_of p == rank_of h.pair) (held_with p n hs) (h ∷ set_count p n hs) (ne_eqb (rank_of p) (rank_of h.pair) other)) in
     let fewer = no_more_set (rank_of h.pair + 1) p n hs is.2 (λ e. none (count_tail h hs (rank_of p) (λ same. other (sym same)) ∙ e)) in
     omega (arith, past, rest, fewer))
     (cases_eq (rank_of p) (rank_of h.pair)))
@@ -115,7 +120,8 @@ removal_small bag p copies b =
     let n = count_in bag.held p - copies in
     small_from_counts (count_limit bag.limits) 0 (set_count p n bag.held) (set_keeps p n bag.held b.rises)
     (λ k. ⊎_elim
-    (λ here. omega (arith, ap (λ i. count_at (set_count p n bag.held) i) here, count_set_same 0 p n bag.held b.rises, bag_small bag (rank_of p) b))
+    (λ here.
+    omega (arith, ap (λ i. count_at (set_count p n bag.held) i) here, count_set_same 0 p n bag.held b.rises, bag_small bag (rank_of p) b))
     (λ other. omega (arith, count_set_other p n bag.held k other, bag_small bag k b))
     (cases_eq (rank_of p) k))
 
@@ -127,7 +133,8 @@ removal_few bag p copies b = no_more_set 0 p (count_in bag.held p - copies) bag.
 
 pub drop_small : (bag : LimitedCollection) (label : Label) → IsBag bag
     → has_count_above (count_limit bag.limits) (without label bag.held) ≡ false
-drop_small bag label b = above_part (count_limit bag.limits) (λ h. not (is_of label h)) bag.held (none_above (count_limit bag.limits) bag.held b.small)
+drop_small bag label b =
+    above_part (count_limit bag.limits) (λ h. not (is_of label h)) bag.held (none_above (count_limit bag.limits) bag.held b.small)
 
 pub drop_few : (bag : LimitedCollection) (label : Label) → length (without label bag.held) ≤ length bag.held
 drop_few bag label = omega (arith, two_parts label bag.held)
@@ -148,7 +155,8 @@ one_gone m p (h ∷ hs) is some =
     let behind : Collection = if rank_of p == rank_of h.pair then hs else h ∷ set_count p 0 hs in
     ⊎_elim
     (λ lt.
-    let absent = count_tail h hs (rank_of p) (λ e. omega (arith, e, lt)) ∙ count_below (rank_of h.pair + 1) hs (rank_of p) is.2 (omega (arith, lt)) in
+    let absent = count_tail h hs (rank_of p) (λ e. omega (arith, e, lt))
+    ∙ count_below (rank_of h.pair + 1) hs (rank_of p) is.2 (omega (arith, lt)) in
     absurd (some absent))
     (λ le.
     let past = ap length (cond-false (nat_lt (rank_of p) (rank_of h.pair)) (h ∷ hs) behind (le-ltb (rank_of p) (rank_of h.pair) le)) in
@@ -177,13 +185,16 @@ all_moved_few hs ks v m target (h ∷ rest) part is same =
     let gone = one_gone 0 p ks is (λ e. omega (arith, e, here, part.2)) in
     let come = length_set q (count_in less q + h.count) less in
     let later = all_moved_few hs (with_moved target h ks) v (raw_of h.pair.cell + 1) target rest part.4 (with_moved_keeps target h ks is)
-    (λ k le. same k (omega (arith, le, part.0)) ∙ sym (with_moved_other target h ks k (λ e. omega (arith, e, le, own_range)) (λ e. omega (arith, e, le, range)))) in
+    (λ k le.
+    same k (omega (arith, le, part.0))
+    ∙ sym (with_moved_other target h ks k (λ e. omega (arith, e, le, own_range)) (λ e. omega (arith, e, le, range)))) in
     omega (arith, gone, come, later)
 
 pub moved_few : (bag : LimitedCollection) (source target : Label) → IsBag bag
     → length (with_all_moved target (held_of source bag.held) bag.held) ≤ length bag.held
 moved_few bag source target b =
-    all_moved_few bag.held bag.held (value_of source) 0 target (held_of source bag.held) (part_of bag.held source b.rises) b.rises (λ k le. refl)
+    all_moved_few bag.held bag.held (value_of source) 0 target (held_of source bag.held) (part_of bag.held source b.rises) b.rises
+    (λ k le. refl)
 
 -- ---- one that is normalised
 
@@ -204,7 +215,13 @@ pub normal_few : (bag : LimitedCollection) (label : Label)
     → length (with_each label (region_of label bag.held) (without label bag.held)) ≤ length bag.held
 normal_few bag label =
     let hs = bag.held in
-    omega (arith, length_each label (region_of label hs) (without label hs), fewest_cells (cells_of label hs), length-map (held_of label hs) cell_of, two_parts label hs)
+    omega (
+      arith,
+      length_each label (region_of label hs) (without label hs),
+      fewest_cells (cells_of label hs),
+      length-map (held_of label hs) cell_of,
+      two_parts label hs,
+    )
 
 -- ---- one that grows
 

@@ -6,7 +6,6 @@ pub mod EachRefusal
 pub mod Edited
 mod Equal
 mod Fewest
-pub mod FirstRefusal
 mod Grow
 mod LabelCells
 pub mod Lesser

@@ -34,7 +34,8 @@ ones_from n label [] rise = tt
 ones_from n label (c ∷ cs) rise = (
   omega (arith, rise.0),
   omega arith,
-  from_lower (rank_of (pair_of c label) + 1) ((raw_of c + 1) * 2147483648) (ones label cs) (let range = label.in_range in omega (arith, range)) (ones_from (raw_of c + 1) label cs rise.1),
+  from_lower (rank_of (pair_of c label) + 1) ((raw_of c + 1) * 2147483648) (ones label cs)
+      (let range = label.in_range in omega (arith, range)) (ones_from (raw_of c + 1) label cs rise.1),
 )
 
 -- they are a collection
@@ -47,7 +48,8 @@ ones_rise label cs pairs = from_lower 0 (0 * 2147483648) (ones label cs) (omega 
 ones_other : (label : Label) (cs : List CellId) (p : Pair) → value_of p.label ≢ value_of label → count_in (ones label cs) p ≡ 0
 ones_other label [] p other = refl
 ones_other label (c ∷ cs) p other =
-    count_tail (one_copy label c) (ones label cs) (rank_of p) (λ e. other (sym (same_label_at (pair_of c label) p e))) ∙ ones_other label cs p other
+    count_tail (one_copy label c) (ones label cs) (rank_of p) (λ e. other (sym (same_label_at (pair_of c label) p e)))
+    ∙ ones_other label cs p other
 
 -- one copy more for each cell, where none was: what the pairs are held with
 each_from_none : (n : ℕ) (label : Label) (cs : List CellId) (ks : Collection) (k : ℕ) → IsCollection ks → RiseFrom n cs → count_at ks k ≡ 0
@@ -58,13 +60,15 @@ each_from_none n label (c ∷ cs) ks k is rise none =
     let range = label.in_range in
     ⊎_elim
     (λ here.
-    with_each_other label cs (with_more p 1 ks) k (λ d has e. omega (arith, e, here, rise_contains (raw_of c + 1) cs d has.0 rise.1 has.1 has.2))
+    with_each_other label cs (with_more p 1 ks) k
+    (λ d has e. omega (arith, e, here, rise_contains (raw_of c + 1) cs d has.0 rise.1 has.1 has.2))
     ∙ ap (λ j. count_at (with_more p 1 ks) j) (sym here)
     ∙ count_set_same 0 p (count_in ks p + 1) ks is
     ∙ ap (λ m. m + 1) (ap (λ j. count_at ks j) here ∙ none)
     ∙ sym (count_head (one_copy label c) (ones label cs) k here))
     (λ other.
-    each_from_none (raw_of c + 1) label cs (with_more p 1 ks) k (set_keeps p (count_in ks p + 1) ks is) rise.1 (count_set_other p (count_in ks p + 1) ks k other ∙ none)
+    each_from_none (raw_of c + 1) label cs (with_more p 1 ks) k (set_keeps p (count_in ks p + 1) ks is) rise.1
+    (count_set_other p (count_in ks p + 1) ks k other ∙ none)
     ∙ sym (count_tail (one_copy label c) (ones label cs) k other))
     (cases_eq (rank_of p) k)
 
@@ -80,7 +84,8 @@ pub replaced_own : (label : Label) (cs : List CellId) (hs : Collection) (p : Pai
     → AllPairs (λ a b. raw_of a < raw_of b) cs → value_of p.label ≡ value_of label
     → count_in (replaced label cs hs) p ≡ count_in (ones label cs) p
 replaced_own label cs hs p is pairs own =
-    each_from_none 0 label cs (without label hs) (rank_of p) (without_keeps label hs is) (rises_from_zero cs pairs) (without_own label hs p own)
+    each_from_none 0 label cs (without label hs) (rank_of p) (without_keeps label hs is) (rises_from_zero cs pairs)
+    (without_own label hs p own)
 
 -- and every other its own
 pub replaced_other : (label : Label) (cs : List CellId) (hs : Collection) (p : Pair) → IsCollection hs → value_of p.label ≢ value_of label
@@ -93,13 +98,15 @@ replaced_other label cs hs p is other =
 
 replaced_counts : (label : Label) (cs : List CellId) (hs : Collection) (p : Pair) → IsCollection hs
     → AllPairs (λ a b. raw_of a < raw_of b) cs
-    → counts_at (change_between (held_of label hs) (ones label cs)) (rank_of p) ≡ difference_of (count_in hs p) (count_in (replaced label cs hs) p)
+    → counts_at (change_between (held_of label hs) (ones label cs)) (rank_of p)
+    ≡ difference_of (count_in hs p) (count_in (replaced label cs hs) p)
 replaced_counts label cs hs p is pairs =
     counts_between (held_of label hs) (ones label cs) p (of_label_from 0 label hs is) (ones_rise label cs pairs)
     ∙ ⊎_elim
     (λ own. ap₂ (λ (m n : ℕ). difference_of m n) (count_of_own label hs p own) (sym (replaced_own label cs hs p is pairs own)))
     (λ other.
-    no_difference (count_in (held_of label hs) p) (count_in (ones label cs) p) (count_of_other label hs p other ∙ sym (ones_other label cs p other))
+    no_difference (count_in (held_of label hs) p) (count_in (ones label cs) p)
+    (count_of_other label hs p other ∙ sym (ones_other label cs p other))
     ∙ sym (no_difference (count_in hs p) (count_in (replaced label cs hs) p) (sym (replaced_other label cs hs p is other))))
     (cases_eq (value_of p.label) (value_of label))
 
@@ -122,7 +129,8 @@ replaced_held : (label : Label) (cs : List CellId) (hs : Collection) → IsColle
     → held_of label (replaced label cs hs) ≡ ones label cs
 replaced_held label cs hs is pairs =
     let new = replaced label cs hs in
-    same_collection (held_of label new) (ones label cs) (of_label_from 0 label new (replaced_keeps label cs hs is)) (ones_rise label cs pairs)
+    same_collection (held_of label new) (ones label cs) (of_label_from 0 label new (replaced_keeps label cs hs is))
+    (ones_rise label cs pairs)
     (λ p. ⊎_elim
     (λ own. count_of_own label new p own ∙ replaced_own label cs hs p is pairs own)
     (λ other. count_of_other label new p other ∙ sym (ones_other label cs p other))

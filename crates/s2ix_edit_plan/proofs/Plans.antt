@@ -1,7 +1,6 @@
 -- Entries that carry an edit out.
-use Rattle.std.proofs.Common.{◌≡◌, ◌≢◌, ℕ, ◌+◌, ◌-◌, ◌≤◌, Bool, true, false, cond, ltb, not, List, [], ◌∷◌, length, Option, Some, None, Result, IfOk, IfErr, refl, sym, ap, ◌∙◌, subst, ⊎_elim, arith, eq-eqb, ne_eqb, le-ltb, ◌==◌}
+use Rattle.std.proofs.Common.{◌≡◌, ◌≢◌, ℕ, ◌+◌, ◌-◌, ◌≤◌, Bool, true, false, cond, ltb, not, List, [], ◌∷◌, length, Some, None, refl, sym, ap, ◌∙◌, subst, ⊎_elim, arith, eq-eqb, ne_eqb, le-ltb, ◌==◌}
 use Rattle.std.proofs.lemmas.Bool.{cond-true, cond-false, cases_eq, eqb-true}
-use Rattle.std.proofs.lemmas.Result.{IfErr-weaker, IfOk-weaker}
 use Rattle.std.specs.List.{position}
 use Rattle.s2id_core.specs.declared.cell_id.CellId.{CellId}
 use Rattle.s2ix_bag_pairs.specs.declared.label.Label.{Label}
@@ -10,15 +9,12 @@ use Rattle.s2ix_bag_pairs.specs.declared.pair.Entry.{Entry}
 use Rattle.s2ix_bag_lists.specs.Apply.{first_mismatch}
 use Rattle.s2ix_bag_pairs.specs.Change.{change_between, changed, IsChangeList}
 use Rattle.s2ix_bag_pairs.specs.Collection.{Collection, LimitedCollection, IsBag, IsCollection, count_in, set_count}
-use Rattle.s2ix_edit_plan.specs.declared.errors.EditError.{EditError}
-use Rattle.s2ix_edit_plan.specs.declared.errors.PlanError.{PlanError}
-use Rattle.s2ix_edit_plan.specs.Errors.{edit_error, IsEditRefusal}
 use Rattle.s2ix_edit_plan.specs.declared.edit.Edit.{Edit}
 use Rattle.s2ix_edit_plan.specs.declared.edit.Edit.TheVariants.{Add, AddUnion, Remove}
-use Rattle.s2ix_edit_plan.specs.Edit.{edited_alone, edited_by}
-use Rattle.s2ix_edit_plan.specs.Plan.{IsPlanRefusal, Plans, one_entry}
-use Rattle.s2ix_edit_plan.specs.Refusals.{asks_no_copies, asks_too_fine, goes_below_zero, lacks_change, lacks_label, reverts, takes_too_many, plan_refusal}
-use Rattle.s2ix_edit_plan.proofs.FirstRefusal.{lacks_none, reads_none, same_refusal, stays_above}
+use Rattle.s2ix_edit_plan.specs.Edit.{edited_by}
+use Rattle.s2ix_edit_plan.specs.Plan.{Plans, one_entry}
+use Rattle.s2ix_edit_plan.specs.Refusals.{asks_no_copies, asks_too_fine, goes_below_zero, lacks_change, lacks_label, reverts, takes_too_many}
+use Rattle.s2ix_edit_plan.proofs.EachRefusal.{reads_none}
 use Rattle.s2ix_bag_lists.proofs.Applied.{before_from_counts, change_between-changed}
 use Rattle.s2ix_bag_pairs.proofs.Collections.{set_count_in}
 use Rattle.s2ix_bag_pairs.proofs.Differences.{between_is_change, changed_between, counts_between_at}
@@ -39,7 +35,8 @@ makes_between bag new es is new_is es_is =
     let rises = between_is_change bag.held new is in
     subst Making (sym es_is) (record {
       rises = rises;
-      matches = no_mismatch bag.held change (before_from_counts 0 bag.held new change rises (λ k le. counts_between_at bag.held new k is new_is));
+      matches =
+          no_mismatch bag.held change (before_from_counts 0 bag.held new change rises (λ k le. counts_between_at bag.held new k is new_is));
       result = changed_between bag.held new is new_is;
     })
 
@@ -75,7 +72,8 @@ one_matches bag p n =
     ⊎_elim
     (λ e. subst Matches (sym (no_entry p (count_in bag.held p) n e)) refl)
     (λ ne. subst Matches (sym (an_entry p (count_in bag.held p) n ne))
-    (position_of_one (λ (e : Entry). not (e.before == count_in bag.held e.pair)) (record { pair = p; before = count_in bag.held p; after = n })
+    (position_of_one (λ (e : Entry). not (e.before == count_in bag.held e.pair))
+    (record { pair = p; before = count_in bag.held p; after = n })
     (ap not (eq-eqb (count_in bag.held p) (count_in bag.held p) refl))))
     (cases_eq (count_in bag.held p) n)
 
@@ -87,35 +85,37 @@ one_changes hs p m n same =
     (cases_eq m n)
 
 -- an edit that sets one count is carried out by the entry of that pair
-pub one_plans : (bag : LimitedCollection) (edit : Edit) (p : Pair) (n : ℕ) → IsBag bag → lacks_label edit bag.held ≡ false
-    → takes_too_many edit bag.held ≡ false → asks_too_fine edit bag.held ≡ false → reverts edit ≡ false
-    → edited_alone edit bag.held ≡ set_count p n bag.held → Plans bag [] edit (one_entry p (count_in bag.held p) n)
-one_plans bag edit p n b known allowed fits reads makes = record {
+pub one_plans : (bag : LimitedCollection) (changes : List (List Entry)) (edit : Edit) (p : Pair) (n : ℕ) → IsBag bag
+    → lacks_label edit bag.held ≡ false → takes_too_many edit bag.held ≡ false → asks_too_fine edit bag.held ≡ false
+    → reverts edit ≡ false → edited_by changes edit bag.held ≡ set_count p n bag.held
+    → Plans bag changes edit (one_entry p (count_in bag.held p) n)
+one_plans bag changes edit p n b known allowed fits reads makes = record {
   known = known;
   allowed = allowed;
   fits = fits;
-  stood = lacks_none edit [] reads;
-  above = stays_above edit [] bag.held reads;
+  stood = (reads_none edit changes bag.held reads).there;
+  above = (reads_none edit changes bag.held reads).above;
   rises = one_rises p (count_in bag.held p) n;
   matches = one_matches bag p n;
   result = one_changes bag.held p (count_in bag.held p) n (set_count_in p bag.held b.rises) ∙ sym makes;
 }
 
 -- the entry of an addition carries it out
-pub add_plans : (bag : LimitedCollection) (p : Pair) (copies before after : ℕ) (es : List Entry) → IsBag bag → before ≡ count_in bag.held p
-    → before + copies ≡ after → es ≡ one_entry p before after → Plans bag [] (Add p copies) es
-add_plans bag p copies before after es b is_before is_after is =
-    let Carries : List Entry → Type 0 = λ xs. Plans bag [] (Add p copies) xs in
-    let own = one_plans bag (Add p copies) p (count_in bag.held p + copies) b refl refl refl refl refl in
+pub add_plans : (bag : LimitedCollection) (changes : List (List Entry)) (p : Pair) (copies before after : ℕ) (es : List Entry) → IsBag bag
+    → before ≡ count_in bag.held p → before + copies ≡ after → es ≡ one_entry p before after → Plans bag changes (Add p copies) es
+add_plans bag changes p copies before after es b is_before is_after is =
+    let Carries : List Entry → Type 0 = λ xs. Plans bag changes (Add p copies) xs in
+    let own = one_plans bag changes (Add p copies) p (count_in bag.held p + copies) b refl refl refl refl refl in
     subst Carries (sym (is ∙ ap (λ m. one_entry p m after) is_before ∙ ap (λ n. one_entry p (count_in bag.held p) n) (omega arith))) own
 
 -- the entry of a removal carries it out
-pub remove_plans : (bag : LimitedCollection) (p : Pair) (copies before after : ℕ) (es : List Entry) → IsBag bag
+pub remove_plans : (bag : LimitedCollection) (changes : List (List Entry)) (p : Pair) (copies before after : ℕ) (es : List Entry)
+    → IsBag bag
     → before ≡ count_in bag.held p → copies ≤ before → before - copies ≡ after → es ≡ one_entry p before after
-    → Plans bag [] (Remove p copies) es
-remove_plans bag p copies before after es b is_before le is_after is =
-    let Carries : List Entry → Type 0 = λ xs. Plans bag [] (Remove p copies) xs in
-    let own = one_plans bag (Remove p copies) p (count_in bag.held p - copies) b refl (le-ltb _ _ (omega arith)) refl refl refl in
+    → Plans bag changes (Remove p copies) es
+remove_plans bag changes p copies before after es b is_before le is_after is =
+    let Carries : List Entry → Type 0 = λ xs. Plans bag changes (Remove p copies) xs in
+    let own = one_plans bag changes (Remove p copies) p (count_in bag.held p - copies) b refl (le-ltb _ _ (omega arith)) refl refl refl in
     subst Carries (sym (is ∙ ap (λ m. one_entry p m after) is_before ∙ ap (λ n. one_entry p (count_in bag.held p) n) (omega arith))) own
 
 -- entries that make the edited collection carry the edit out
@@ -133,29 +133,6 @@ plans_from_makes bag changes edit es known allowed fits stood above makes = reco
   matches = makes.matches;
   result = makes.result;
 }
-
--- ---- edits that read no change
-
--- after any changes they are planned, and refused, as after none
-pub planned_after_any : (bag : LimitedCollection) (changes : List (List Entry)) (edit same : Edit) (planned : Result (List Entry) PlanError)
-    → edit ≡ same → reverts same ≡ false → IfOk planned (Plans bag [] same) → IfOk planned (Plans bag changes edit)
-planned_after_any bag changes edit same planned is reads plans =
-    IfOk-weaker planned _ _
-    (λ es plan.
-    let Planned : Edit → Type 0 = λ e. Plans bag changes e es in
-    subst Planned (sym is)
-    (plans_from_makes bag changes same es plan.known plan.allowed plan.fits (lacks_none same changes reads) (stays_above same changes bag.held reads)
-    (record { rises = plan.rises; matches = plan.matches; result = plan.result ∙ reads_none same changes bag.held reads })))
-    plans
-
-pub refused_after_any : (bag : LimitedCollection) (changes : List (List Entry)) (edit same : Edit) (planned : Result (List Entry) PlanError)
-    → edit ≡ same → reverts same ≡ false → IfErr planned (IsPlanRefusal bag [] same) → IfErr planned (IsPlanRefusal bag changes edit)
-refused_after_any bag changes edit same planned is reads refused =
-    IfErr-weaker planned _ _
-    (λ error why.
-    let Refused : Option EditError → Type 0 = λ refusal. IsEditRefusal (edit_error error) refusal in
-    subst Refused (same_refusal bag changes same reads ∙ ap (λ e. plan_refusal bag changes e) (sym is)) why)
-    refused
 
 -- ---- edits of no copies
 

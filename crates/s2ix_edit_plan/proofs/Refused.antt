@@ -11,14 +11,15 @@ use Rattle.s2ix_edit_plan.specs.declared.errors.EditError.{EditError}
 use Rattle.s2ix_edit_plan.specs.declared.errors.EditError.TheVariants.{NoChange, TooManyCopies, TooManyPairs}
 use Rattle.s2ix_edit_plan.specs.declared.edit.Edit.{Edit}
 use Rattle.s2ix_edit_plan.specs.declared.edit.Edit.TheVariants.{Add}
-use Rattle.s2ix_edit_plan.specs.Edit.{edited_by}
+use Rattle.s2ix_edit_plan.specs.Edit.{edited, edited_by}
 use Rattle.s2ix_edit_plan.specs.History.{standing}
 use Rattle.s2ix_edit_plan.specs.State.{State, change_of, history_of}
 use Rattle.s2ix_edit_plan.specs.Plan.{Plans, entries_refusal}
 use Rattle.s2ix_edit_plan.specs.Refusals.{asks_too_fine, edit_refusal, goes_below_zero, has_count_above, lacks_change, lacks_label, plan_refusal, refusals_with_room, stands, takes_too_many}
 use Rattle.s2ix_edit_plan.proofs.Above.{above_from_count, any_above_changed, none_above}
 use Rattle.s2ix_edit_plan.proofs.Plans.{between_changed}
-use Rattle.s2ix_edit_plan.proofs.Edited.{edited_held, edited_is_collection}
+use Rattle.s2ix_edit_plan.proofs.EachRefusal.{it_stands}
+use Rattle.s2ix_edit_plan.proofs.Edited.{edited_held, edited_is_collection, held_edited_is_collection}
 use Rattle.s2ix_bag_pairs.proofs.Collections.{count_in-set_count_same}
 use Rattle.s2ix_bag_pairs.proofs.Differences.{changed_between}
 use Rattle.s2ix_bag_pairs.specs.Pair.{rank_of}
@@ -41,7 +42,9 @@ is_high bag hs = has_count_above (count_limit bag.limits) hs
 later_refusal : (bag : LimitedCollection) (changes : List (List Entry)) (edit : Edit) → lacks_label edit bag.held ≡ false
     → takes_too_many edit bag.held ≡ false → asks_too_fine edit bag.held ≡ false → lacks_change changes edit ≡ false
     → goes_below_zero changes edit bag.held ≡ false
-    → plan_refusal bag changes edit ≡ first_of_three (length (change_between bag.held (edited_by changes edit bag.held)) == 0) (is_high bag (edited_by changes edit bag.held)) (ltb (pairs_limit bag.limits) (length (edited_by changes edit bag.held)))
+    → plan_refusal bag changes edit
+    ≡ first_of_three (length (change_between bag.held (edited_by changes edit bag.held)) == 0)
+    (is_high bag (edited_by changes edit bag.held)) (ltb (pairs_limit bag.limits) (length (edited_by changes edit bag.held)))
 unfolding first_of_three is_high
 later_refusal bag changes edit known allowed fits stood above =
     cond-false _ _ _ known ∙ cond-false _ _ _ allowed ∙ cond-false _ _ _ fits ∙ cond-false _ _ _ stood ∙ cond-false _ _ _ above
@@ -63,7 +66,9 @@ planned_change bag changes edit es b plans =
     ∙ between_changed bag es b.rises plans.rises plans.matches
 
 entries_by_three : (bag : LimitedCollection) (es : List Entry)
-    → first_of_three (length es == 0) (list_any (λ e. ltb (count_limit bag.limits) e.after) es) (ltb (pairs_limit bag.limits) (length (changed bag.held es))) ≡ entries_refusal bag es
+    → first_of_three (length es == 0) (list_any (λ e. ltb (count_limit bag.limits) e.after) es)
+    (ltb (pairs_limit bag.limits) (length (changed bag.held es)))
+    ≡ entries_refusal bag es
 unfolding first_of_three
 entries_by_three bag es = refl
 
@@ -104,7 +109,8 @@ changes_some bag new b is high =
     ⊎_elim
     (λ none.
     let same = same_where_none bag new b is none in
-    let clash : true ≡ false = sym high ∙ ap (λ hs. has_count_above (count_limit bag.limits) hs) (sym same) ∙ none_above (count_limit bag.limits) bag.held b.small in
+    let clash : true ≡ false = sym high ∙ ap (λ hs. has_count_above (count_limit bag.limits) hs) (sym same)
+    ∙ none_above (count_limit bag.limits) bag.held b.small in
     cc)
     (λ some. some)
     (cases_Bool (length (change_between bag.held new) == 0))
@@ -140,21 +146,30 @@ unfolding first_of_three is_high
 too_many bag changes edit b known allowed fits stood above low many =
     let new = edited_by changes edit bag.held in
     later_refusal bag changes edit known allowed fits stood above
-    ∙ ap (λ t. first_of_three t (is_high bag new) (ltb (pairs_limit bag.limits) (length new))) (longer_differs bag new b (edited_is_collection changes edit bag.held b.rises) (ltb-true _ _ many))
+    ∙ ap (λ t. first_of_three t (is_high bag new) (ltb (pairs_limit bag.limits) (length new)))
+    (longer_differs bag new b (edited_is_collection changes edit bag.held b.rises) (ltb-true _ _ many))
     ∙ ap (λ t. first_of_three false t (ltb (pairs_limit bag.limits) (length new))) low
     ∙ ap (λ t. first_of_three false false t) many
 
 -- a sum above every limit is refused for its copies
-pub sum_too_high : (bag : LimitedCollection) (p : Pair) (copies before : ℕ) → IsBag bag → before ≡ count_in bag.held p
-    → 4294967296 ≤ before + copies → plan_refusal bag [] (Add p copies) ≡ Some TooManyCopies
-sum_too_high bag p copies before b is_before high =
+pub sum_too_high : (bag : LimitedCollection) (changes : List (List Entry)) (p : Pair) (copies before : ℕ) → IsBag bag
+    → before ≡ count_in bag.held p → 4294967296 ≤ before + copies → plan_refusal bag changes (Add p copies) ≡ Some TooManyCopies
+sum_too_high bag changes p copies before b is_before high =
     let range = bag.limits.in_range in
     let sum = count_in-set_count_same p (count_in bag.held p + copies) bag.held b.rises in
-    too_high bag [] (Add p copies) b refl refl refl refl refl
-    (above_from_count (count_limit bag.limits) (edited_by [] (Add p copies) bag.held) (rank_of p) (omega (arith, range, sum, is_before, high)))
+    too_high bag changes (Add p copies) b refl refl refl refl refl
+    (above_from_count (count_limit bag.limits) (edited_by changes (Add p copies) bag.held) (rank_of p)
+    (omega (arith, range, sum, is_before, high)))
 
 -- the change that a store records of an edit is its plan
 pub change_planned : (s : State) (edit : Edit) (es : List Entry) → standing (history_of s) ≡ s.done → IsBag s.bag
     → Plans s.bag s.done edit es → change_of s edit ≡ es
 change_planned s edit es stand b plans =
     ap (λ hs. change_between s.bag.held hs) (edited_held s edit stand) ∙ planned_change s.bag s.done edit es b plans
+
+-- an edit of a store is refused because nothing would change only if nothing would
+pub same_from_refusal : (s : State) (edit : Edit) → IsBag s.bag → edit_refusal s edit ≡ Some NoChange
+    → edited (history_of s) edit ≡ s.bag.held
+same_from_refusal s edit b found =
+    let is = held_edited_is_collection s edit b.rises in
+    sym (same_where_none s.bag (edited (history_of s) edit) b is (it_stands s edit NoChange found))

@@ -42,7 +42,8 @@ set_commutes p q m n hs is apart =
     (λ r. ⊎_elim
     (λ at_p.
     ap (λ k. count_at (set_count p m one) k) (sym at_p) ∙ count_set_same 0 p m one one_is
-    ∙ sym (count_set_other q n other (rank_of r) (λ e. apart (at_p ∙ sym e)) ∙ ap (λ k. count_at other k) (sym at_p) ∙ count_set_same 0 p m hs is))
+    ∙ sym (count_set_other q n other (rank_of r) (λ e. apart (at_p ∙ sym e)) ∙ ap (λ k. count_at other k) (sym at_p)
+    ∙ count_set_same 0 p m hs is))
     (λ not_p. ⊎_elim
     (λ at_q.
     count_set_other p m one (rank_of r) not_p ∙ ap (λ k. count_at one k) (sym at_q) ∙ count_set_same 0 q n hs is
@@ -59,7 +60,8 @@ set_commutes p q m n hs is apart =
 abbrev pub ArePart : Collection → ℕ → ℕ → List Held → Type 0
 ArePart hs v m [] = Unit {0}
 ArePart hs v m (h ∷ rest) =
-    (m ≤ raw_of h.pair.cell) × (value_of h.pair.label ≡ v) × (0 < h.count) × (count_in hs h.pair ≡ h.count) × ArePart hs v (raw_of h.pair.cell + 1) rest
+    (m ≤ raw_of h.pair.cell) × (value_of h.pair.label ≡ v) × (0 < h.count) × (count_in hs h.pair ≡ h.count)
+    × ArePart hs v (raw_of h.pair.cell + 1) rest
 
 part_from : (all : Collection) (label : Label) (b m : ℕ) (hs : Collection) → IsCollectionFrom b hs
     → m * 2147483648 + value_of label < b + 2147483648 → ((k : ℕ) → b ≤ k → count_at all k ≡ count_at hs k)
@@ -97,24 +99,34 @@ part_at hs v m (f ∷ front) h rest part = part_at hs v (raw_of f.pair.cell + 1)
 part_below : (hs : Collection) (v m : ℕ) (rest : List Held) (k : ℕ) → ArePart hs v m rest → k < m * 2147483648 → count_at rest k ≡ 0
 part_below hs v m [] k part lt = refl
 part_below hs v m (h ∷ rest) k part lt =
-    count_tail h rest k (λ e. omega (arith, e, lt, part.0)) ∙ part_below hs v (raw_of h.pair.cell + 1) rest k part.4 (omega (arith, lt, part.0))
+    count_tail h rest k (λ e. omega (arith, e, lt, part.0))
+    ∙ part_below hs v (raw_of h.pair.cell + 1) rest k part.4 (omega (arith, lt, part.0))
 
 -- ---- the entries
 
 -- the entry of the target's pair at a held pair's cell
 abbrev pub gains : Collection → Label → Held → Entry
-gains hs target h = record { pair = pair_of h.pair.cell target; before = count_in hs (pair_of h.pair.cell target); after = count_in hs (pair_of h.pair.cell target) + h.count }
+gains hs target h =
+    record {
+      pair = pair_of h.pair.cell target;
+      before = count_in hs (pair_of h.pair.cell target);
+      after = count_in hs (pair_of h.pair.cell target) + h.count;
+    }
 
 abbrev pub move_of : Collection → Label → Held → List Entry
 move_of hs target h = move_entries h (gains hs target h)
 
 source_first : (hs : Collection) (target : Label) (h : Held) → value_of h.pair.label < value_of target
     → move_of hs target h ≡ removal_of h ∷ gains hs target h ∷ []
-source_first hs target h lt = cond-true (ltb (value_of h.pair.label) (value_of target)) (removal_of h ∷ gains hs target h ∷ []) (gains hs target h ∷ removal_of h ∷ []) (lt-ltb _ _ lt)
+source_first hs target h lt =
+    cond-true (ltb (value_of h.pair.label) (value_of target)) (removal_of h ∷ gains hs target h ∷ [])
+    (gains hs target h ∷ removal_of h ∷ []) (lt-ltb _ _ lt)
 
 target_first : (hs : Collection) (target : Label) (h : Held) → value_of target ≤ value_of h.pair.label
     → move_of hs target h ≡ gains hs target h ∷ removal_of h ∷ []
-target_first hs target h le = cond-false (ltb (value_of h.pair.label) (value_of target)) (removal_of h ∷ gains hs target h ∷ []) (gains hs target h ∷ removal_of h ∷ []) (le-ltb _ _ le)
+target_first hs target h le =
+    cond-false (ltb (value_of h.pair.label) (value_of target)) (removal_of h ∷ gains hs target h ∷ [])
+    (gains hs target h ∷ removal_of h ∷ []) (le-ltb _ _ le)
 
 abbrev pub moves : Collection → Label → List Held → List Entry
 moves hs target rest = flat_map (move_of hs target) rest
@@ -128,7 +140,8 @@ moves_rise hs v target m (h ∷ rest) part apart =
     let own_range = h.pair.label.in_range in
     let range = target.in_range in
     let own_left : h.count ≢ 0 = λ e. omega (arith, e, part.2) in
-    let gained : count_in hs (pair_of h.pair.cell target) ≢ count_in hs (pair_of h.pair.cell target) + h.count = λ e. omega (arith, e, part.2) in
+    let gained : count_in hs (pair_of h.pair.cell target) ≢ count_in hs (pair_of h.pair.cell target) + h.count = λ e.
+    omega (arith, e, part.2) in
     ⊎_elim
     (λ lt. subst Rises (sym (source_first hs target h lt)) (
       omega (arith, part.0),
@@ -136,7 +149,8 @@ moves_rise hs v target m (h ∷ rest) part apart =
       (
         omega (arith, lt),
         gained,
-        change_lower (rank_of (pair_of h.pair.cell target) + 1) ((raw_of h.pair.cell + 1) * 2147483648) (moves hs target rest) (omega (arith, range)) later,
+        change_lower (rank_of (pair_of h.pair.cell target) + 1) ((raw_of h.pair.cell + 1) * 2147483648) (moves hs target rest)
+            (omega (arith, range)) later,
       ),
     ))
     (λ le. subst Rises (sym (target_first hs target h le)) (
@@ -170,7 +184,8 @@ with_moved_keeps target h hs is =
 pub with_moved_other : (target : Label) (h : Held) (hs : Collection) (k : ℕ) → rank_of h.pair ≢ k → rank_of (pair_of h.pair.cell target) ≢ k
     → count_at (with_moved target h hs) k ≡ count_at hs k
 with_moved_other target h hs k not_source not_target =
-    count_set_other (pair_of h.pair.cell target) (count_in (set_count h.pair 0 hs) (pair_of h.pair.cell target) + h.count) (set_count h.pair 0 hs) k not_target
+    count_set_other (pair_of h.pair.cell target) (count_in (set_count h.pair 0 hs) (pair_of h.pair.cell target) + h.count)
+    (set_count h.pair 0 hs) k not_target
     ∙ count_set_other h.pair 0 hs k not_source
 
 moves_change : (hs ks : Collection) (v : ℕ) (target : Label) (m : ℕ) (rest : List Held) → ArePart hs v m rest → v ≢ value_of target
@@ -187,8 +202,11 @@ moves_change hs ks v target m (h ∷ rest) part apart is same =
     let here : count_in hs q ≡ count_in ks q = same (rank_of q) (omega (arith, part.0)) in
     let step : set_count q n (set_count p 0 ks) ≡ with_moved target h ks =
     ap (λ x. set_count q (x + h.count) (set_count p 0 ks)) (here ∙ sym (count_set_other p 0 ks (rank_of q) two)) in
-    let later = moves_change hs (with_moved target h ks) v target (raw_of h.pair.cell + 1) rest part.4 apart (with_moved_keeps target h ks is)
-    (λ k le. same k (omega (arith, le, part.0)) ∙ sym (with_moved_other target h ks k (λ e. omega (arith, e, le, own_range)) (λ e. omega (arith, e, le, range)))) in
+    let later = moves_change hs (with_moved target h ks) v target (raw_of h.pair.cell + 1) rest part.4 apart
+    (with_moved_keeps target h ks is)
+    (λ k le.
+    same k (omega (arith, le, part.0))
+    ∙ sym (with_moved_other target h ks k (λ e. omega (arith, e, le, own_range)) (λ e. omega (arith, e, le, range)))) in
     ⊎_elim
     (λ lt. ap (λ es. changed ks (es ++ moves hs target rest)) (source_first hs target h lt)
     ∙ ap (λ xs. changed xs (moves hs target rest)) step ∙ later)
@@ -255,7 +273,8 @@ others_stay : (hs : Collection) (v : ℕ) (target : Label) (m : ℕ) (rest : Lis
 others_stay hs v target m [] ks p part not_source not_target = refl
 others_stay hs v target m (h ∷ rest) ks p part not_source not_target =
     others_stay hs v target (raw_of h.pair.cell + 1) rest (with_moved target h ks) p part.4 not_source not_target
-    ∙ with_moved_other target h ks (rank_of p) (λ e. not_source (sym (same_label_at h.pair p e) ∙ part.1)) (λ e. not_target (sym (same_label_at (pair_of h.pair.cell target) p e)))
+    ∙ with_moved_other target h ks (rank_of p) (λ e. not_source (sym (same_label_at h.pair p e) ∙ part.1))
+    (λ e. not_target (sym (same_label_at (pair_of h.pair.cell target) p e)))
 
 source_goes : (hs : Collection) (v : ℕ) (target : Label) (m : ℕ) (rest : List Held) (ks : Collection) (p : Pair) → ArePart hs v m rest
     → IsCollection ks → v ≢ value_of target → value_of p.label ≡ v → count_at rest (rank_of p) ≡ count_in ks p
@@ -268,7 +287,8 @@ source_goes hs v target m (h ∷ rest) ks p part is apart own counted =
     source_goes hs v target (raw_of h.pair.cell + 1) rest (with_moved target h ks) p part.4 (with_moved_keeps target h ks is) apart own
     (⊎_elim
     (λ here.
-    part_below hs v (raw_of h.pair.cell + 1) rest (rank_of p) part.4 (let own_range = h.pair.label.in_range in omega (arith, here, own_range))
+    part_below hs v (raw_of h.pair.cell + 1) rest (rank_of p) part.4
+    (let own_range = h.pair.label.in_range in omega (arith, here, own_range))
     ∙ sym (count_set_other q (count_in (set_count h.pair 0 ks) q + h.count) (set_count h.pair 0 ks) (rank_of p) not_q
     ∙ ap (λ k. count_at (set_count h.pair 0 ks) k) (sym here) ∙ count_set_same 0 h.pair 0 ks is))
     (λ other. sym (count_tail h rest (rank_of p) other) ∙ counted ∙ sym (with_moved_other target h ks (rank_of p) other not_q))
@@ -276,7 +296,8 @@ source_goes hs v target m (h ∷ rest) ks p part is apart own counted =
 
 target_gains : (hs : Collection) (source target : Label) (m : ℕ) (rest : List Held) (ks : Collection) (c : CellId)
     → ArePart hs (value_of source) m rest → IsCollection ks → value_of source ≢ value_of target
-    → count_in (with_all_moved target rest ks) (pair_of c target) ≡ count_in ks (pair_of c target) + count_at rest (rank_of (pair_of c source))
+    → count_in (with_all_moved target rest ks) (pair_of c target)
+    ≡ count_in ks (pair_of c target) + count_at rest (rank_of (pair_of c source))
 target_gains hs source target m [] ks c part is apart = omega arith
 target_gains hs source target m (h ∷ rest) ks c part is apart =
     let p = pair_of c source in
@@ -284,14 +305,16 @@ target_gains hs source target m (h ∷ rest) ks c part is apart =
     let r = pair_of h.pair.cell target in
     let range = source.in_range in
     let less = set_count h.pair 0 ks in
-    let later = target_gains hs source target (raw_of h.pair.cell + 1) rest (with_moved target h ks) c part.4 (with_moved_keeps target h ks is) apart in
+    let later = target_gains hs source target (raw_of h.pair.cell + 1) rest (with_moved target h ks) c part.4
+    (with_moved_keeps target h ks is) apart in
     let not_q : rank_of h.pair ≢ rank_of q = λ e. apart (sym part.1 ∙ same_label_at h.pair q e) in
     ⊎_elim
     (λ here.
     let at_q : rank_of r ≡ rank_of q = omega (arith, here, part.1) in
     let none = part_below hs (value_of source) (raw_of h.pair.cell + 1) rest (rank_of p) part.4 (omega (arith, here, part.1, range)) in
     let first : count_in (with_moved target h ks) q ≡ count_in less r + h.count =
-    ap (λ k. count_at (with_moved target h ks) k) (sym at_q) ∙ count_set_same 0 r (count_in less r + h.count) less (set_keeps h.pair 0 ks is) in
+    ap (λ k. count_at (with_moved target h ks) k) (sym at_q)
+    ∙ count_set_same 0 r (count_in less r + h.count) less (set_keeps h.pair 0 ks is) in
     let second : count_in less r ≡ count_in ks q = ap (λ k. count_at less k) at_q ∙ count_set_other h.pair 0 ks (rank_of q) not_q in
     omega (arith, later, none, first, second, count_head h rest (rank_of p) here))
     (λ other.
@@ -313,7 +336,8 @@ relabelled_source source target hs p is apart own =
 
 -- the target's pairs have the sums
 pub relabelled_target : (source target : Label) (hs : Collection) (c : CellId) → IsCollection hs → value_of source ≢ value_of target
-    → count_in (with_all_moved target (held_of source hs) hs) (pair_of c target) ≡ count_in hs (pair_of c target) + count_in hs (pair_of c source)
+    → count_in (with_all_moved target (held_of source hs) hs) (pair_of c target)
+    ≡ count_in hs (pair_of c target) + count_in hs (pair_of c source)
 relabelled_target source target hs c is apart =
     target_gains hs source target 0 (held_of source hs) hs c (part_of hs source is) is apart
     ∙ ap (λ n. count_in hs (pair_of c target) + n) (count_of_own source hs (pair_of c source) refl)
@@ -328,7 +352,8 @@ pub moves_more : (hs : Collection) (target : Label) (front : List Held) (h : Hel
 moves_more hs target front h before after es new es_is is_before is_after is =
     let entry : Entry → List Entry = λ e. move_entries h e in
     let own : record { pair = pair_of h.pair.cell target; before = before; after = after } ≡ gains hs target h =
-    ap₂ (λ (b a : ℕ). let e : Entry = record { pair = pair_of h.pair.cell target; before = b; after = a } in e) is_before (omega (arith, is_before, is_after)) in
+    ap₂ (λ (b a : ℕ). let e : Entry = record { pair = pair_of h.pair.cell target; before = b; after = a } in e) is_before
+    (omega (arith, is_before, is_after)) in
     is ∙ ap₂ (λ (xs ys : List Entry). xs ++ ys) es_is (ap entry own ∙ sym (append-nil (move_of hs target h)))
     ∙ sym (flat_map-append (move_of hs target) front (h ∷ []))
 

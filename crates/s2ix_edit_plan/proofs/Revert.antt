@@ -1,5 +1,5 @@
 -- Taking a change back: what carries it out, and where it is refused.
-use Rattle.std.proofs.Common.{◌≡◌, ℕ, ◌==◌, ◌||◌, Bool, true, false, cond, ltb, nat_lt, is_some, ◌⊎◌, inl, inr, List, [], ◌∷◌, length, Option, Some, None, pos, ◌-ℤ◌, refl, sym, ap, ◌∙◌, subst}
+use Rattle.std.proofs.Common.{◌≡◌, ◌≢◌, ℕ, ◌==◌, ◌||◌, Bool, true, false, cond, ltb, nat_lt, is_some, ◌⊎◌, inl, inr, List, [], ◌∷◌, length, Option, Some, None, pos, ◌-ℤ◌, refl, sym, ap, ◌∙◌, subst}
 use Rattle.std.proofs.lemmas.Bool.{cond-false, cond-true}
 use Rattle.std.specs.List.{list_any}
 use Rattle.s2ix_bag_pairs.specs.declared.pair.Pair.{Pair}
@@ -16,8 +16,7 @@ use Rattle.s2ix_bag_lists.specs.declared.errors.RevertError.TheVariants as rever
 use Rattle.s2ix_bag_lists.proofs.Refusals.{no_mismatch}
 use Rattle.s2ix_bag_lists.proofs.Reverts.{back_before}
 use Rattle.s2ix_edit_plan.specs.declared.errors.EditError.{EditError}
-use Rattle.s2ix_edit_plan.specs.declared.errors.EditError.TheVariants.{BelowZero, NoChange, TooManyCopies, TooManyPairs}
-use Rattle.s2ix_edit_plan.specs.declared.errors.PlanError.TheVariants as plan
+use Rattle.s2ix_edit_plan.specs.declared.errors.EditError.TheVariants.{BelowZero, NoChange, TooManyCopies, TooManyPairs, OutOfMemory}
 use Rattle.s2ix_edit_plan.specs.Errors.{revert_error, MayWantMemory}
 use Rattle.s2ix_edit_plan.specs.declared.edit.Edit.TheVariants.{Revert}
 use Rattle.s2ix_edit_plan.specs.Edit.{edited_by, numbered, without_change}
@@ -135,7 +134,9 @@ pub plans_back : (bag : LimitedCollection) (changes : List (List Entry)) (number
     → Plans bag changes (Revert number) back
 plans_back bag changes number es back rises found accepted is =
     let Planned : List Entry → Type 0 = λ ds. Plans bag changes (Revert number) ds in
-    subst Planned (sym is) (plans_above bag changes number es rises found (none_by (is_high_back bag es) (is_many_back bag es) (first_below_zero bag.held es) (refused_is bag es ∙ accepted)))
+    subst Planned (sym is)
+    (plans_above bag changes number es rises found
+    (none_by (is_high_back bag es) (is_many_back bag es) (first_below_zero bag.held es) (refused_is bag es ∙ accepted)))
 
 -- ---- the refusals
 
@@ -157,7 +158,8 @@ high_back : (bag : LimitedCollection) (changes : List (List Entry)) (number : �
 unfolding is_high_back
 high_back bag changes number es b rises found none =
     ap (λ hs. has_count_above (count_limit bag.limits) hs) (makes_found bag changes number es found)
-    ∙ any_above_changed (count_limit bag.limits) bag.held (change_back bag.held es) b.rises (back_keeps bag.held es rises (above_from_none bag.held es none)) b.small
+    ∙ any_above_changed (count_limit bag.limits) bag.held (change_back bag.held es) b.rises
+    (back_keeps bag.held es rises (above_from_none bag.held es none)) b.small
     ∙ any_back (count_limit bag.limits) bag.held es
 
 may_want : (none high many : Bool)
@@ -173,7 +175,8 @@ wanting bag changes number es b rises found none =
     let back = change_back bag.held es in
     let May : Option EditError → Type 0 = λ refusal. MayWantMemory refusal in
     subst May (sym (planned_refusal bag changes (Revert number) back b (plans_above bag changes number es rises found none)))
-    (may_want (length back == 0) (list_any (λ (e : Entry). nat_lt (count_limit bag.limits) e.after) back) (nat_lt (pairs_limit bag.limits) (length (taken_back bag.held es))))
+    (may_want (length back == 0) (list_any (λ (e : Entry). nat_lt (count_limit bag.limits) e.after) back)
+    (nat_lt (pairs_limit bag.limits) (length (taken_back bag.held es))))
 
 -- a change that a bag refuses to take back has no plan for the same reason
 pub refused_back : (bag : LimitedCollection) (changes : List (List Entry)) (number : ℕ) (es : List Entry) (error : RevertError) → IsBag bag
@@ -181,7 +184,8 @@ pub refused_back : (bag : LimitedCollection) (changes : List (List Entry)) (numb
     → IsPlanRefusal bag changes (Revert number) (revert_error error)
 unfolding is_many_back
 refused_back bag changes number es (revert.BelowZero place) b rises found is =
-    below_zero bag changes number es found (below_by (is_high_back bag es) (is_many_back bag es) (first_below_zero bag.held es) place (refused_is bag es ∙ is))
+    below_zero bag changes number es found
+    (below_by (is_high_back bag es) (is_many_back bag es) (first_below_zero bag.held es) place (refused_is bag es ∙ is))
 refused_back bag changes number es revert.TooManyCopies b rises found is =
     let parts = copies_by (is_high_back bag es) (is_many_back bag es) (first_below_zero bag.held es) (refused_is bag es ∙ is) in
     too_high bag changes (Revert number) b refl refl refl (stood changes number es found) (above bag.held changes number es found parts.0)
@@ -192,7 +196,8 @@ refused_back bag changes number es revert.TooManyPairs b rises found is =
     (high_back bag changes number es b rises found parts.0 ∙ parts.1)
     (ap (λ hs. nat_lt (pairs_limit bag.limits) (length hs)) (makes_found bag changes number es found) ∙ parts.2)
 refused_back bag changes number es revert.OutOfMemory b rises found is =
-    wanting bag changes number es b rises found (none_by (is_high_back bag es) (is_many_back bag es) (first_below_zero bag.held es) (refused_is bag es ∙ is))
+    wanting bag changes number es b rises found
+    (none_by (is_high_back bag es) (is_many_back bag es) (first_below_zero bag.held es) (refused_is bag es ∙ is))
 
 -- one that a bag takes back is refused where it changes nothing, or not at all
 fits_or_same : (same : Bool) → (cond same (Some NoChange) None ≡ None) ⊎ (cond same (Some NoChange) None ≡ Some NoChange)
@@ -209,18 +214,26 @@ has_plan_back bag changes number es b rises found accepted =
     let same = length back == 0 in
     let by : plan_refusal bag changes (Revert number) ≡ cond same (Some NoChange) None =
     planned_refusal bag changes (Revert number) back b (plans_above bag changes number es rises found parts.0)
-    ∙ ap (λ t. cond same (Some NoChange) (cond t (Some TooManyCopies) (cond (is_many_back bag es) (Some TooManyPairs) None))) (any_back (count_limit bag.limits) bag.held es ∙ parts.1)
+    ∙ ap (λ t. cond same (Some NoChange) (cond t (Some TooManyCopies) (cond (is_many_back bag es) (Some TooManyPairs) None)))
+    (any_back (count_limit bag.limits) bag.held es ∙ parts.1)
     ∙ ap (λ t. cond same (Some NoChange) (cond t (Some TooManyPairs) None)) parts.2 in
     let Either : Option EditError → Type 0 = λ refusal. (refusal ≡ None) ⊎ (refusal ≡ Some NoChange) in
     subst Either (sym by) (fits_or_same same)
 
 -- only want of memory is answered as such
 pub wants_back : (error : RevertError) (refusal : Option RevertError) → IsRevertRefusal error refusal
-    → revert_error error ≡ plan.OutOfMemory → refusal ≡ None
+    → revert_error error ≡ OutOfMemory → refusal ≡ None
 wants_back (revert.BelowZero place) refusal is wants = cc
 wants_back revert.TooManyCopies refusal is wants = cc
 wants_back revert.TooManyPairs refusal is wants = cc
 wants_back revert.OutOfMemory refusal is wants = is
+
+-- a bag never refuses to take a change back because nothing would change
+pub never_same : (error : RevertError) → revert_error error ≢ NoChange
+never_same (revert.BelowZero place) is = cc
+never_same revert.TooManyCopies is = cc
+never_same revert.TooManyPairs is = cc
+never_same revert.OutOfMemory is = cc
 
 -- ---- the law
 

@@ -25,7 +25,8 @@ pub length_set : (p : Pair) (n : ℕ) (hs : Collection) → length (set_count p 
 length_set p n [] = length_held p n []
 length_set p n (h ∷ hs) =
     let rest = length_set p n hs in
-    short_either (nat_lt (rank_of p) (rank_of h.pair)) (held_with p n (h ∷ hs)) (if rank_of p == rank_of h.pair then held_with p n hs else h ∷ set_count p n hs) (length (h ∷ hs) + 1)
+    short_either (nat_lt (rank_of p) (rank_of h.pair)) (held_with p n (h ∷ hs))
+    (if rank_of p == rank_of h.pair then held_with p n hs else h ∷ set_count p n hs) (length (h ∷ hs) + 1)
     (length_held p n (h ∷ hs))
     (short_either (rank_of p == rank_of h.pair) (held_with p n hs) (h ∷ set_count p n hs) (length (h ∷ hs) + 1)
     (omega (arith, length_held p n hs))

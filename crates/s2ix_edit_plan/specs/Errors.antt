@@ -4,8 +4,6 @@ use Rattle.s2ix_bag_lists.specs.declared.errors.RevertError.{RevertError}
 use Rattle.s2ix_bag_lists.specs.declared.errors.RevertError.TheVariants as revert
 use Rattle.s2ix_edit_plan.specs.declared.errors.EditError.{EditError}
 use Rattle.s2ix_edit_plan.specs.declared.errors.EditError.TheVariants.{JournalFull, NoSuchLabel, NotHeld, TooFine, NoSuchChange, BelowZero, NoChange, TooManyCopies, TooManyPairs, OutOfMemory}
-use Rattle.s2ix_edit_plan.specs.declared.errors.PlanError.{PlanError}
-use Rattle.s2ix_edit_plan.specs.declared.errors.PlanError.TheVariants as plan
 
 -- want of memory may come where the edit is accepted, and in place of what is found while the change is made
 abbrev pub MayWantMemory : Option EditError → Type 0
@@ -34,20 +32,9 @@ IsEditRefusal TooManyCopies refusal = refusal ≡ Some TooManyCopies
 IsEditRefusal TooManyPairs refusal = refusal ≡ Some TooManyPairs
 IsEditRefusal OutOfMemory refusal = MayWantMemory refusal
 
--- what an edit is refused for where it has no plan
-abbrev pub edit_error : PlanError → EditError
-edit_error plan.NoSuchLabel = NoSuchLabel
-edit_error plan.NotHeld = NotHeld
-edit_error plan.TooFine = TooFine
-edit_error plan.NoSuchChange = NoSuchChange
-edit_error plan.BelowZero = BelowZero
-edit_error plan.TooManyCopies = TooManyCopies
-edit_error plan.TooManyPairs = TooManyPairs
-edit_error plan.OutOfMemory = OutOfMemory
-
 -- why an edit has no plan where a bag refuses to take the change back
-abbrev pub revert_error : RevertError → PlanError
-revert_error (revert.BelowZero place) = plan.BelowZero
-revert_error revert.TooManyCopies = plan.TooManyCopies
-revert_error revert.TooManyPairs = plan.TooManyPairs
-revert_error revert.OutOfMemory = plan.OutOfMemory
+abbrev pub revert_error : RevertError → EditError
+revert_error (revert.BelowZero place) = BelowZero
+revert_error revert.TooManyCopies = TooManyCopies
+revert_error revert.TooManyPairs = TooManyPairs
+revert_error revert.OutOfMemory = OutOfMemory

@@ -1,5 +1,5 @@
 -- Carrying an edit out: the entries that it plans, and where a store refuses them.
-use Rattle.std.specs.Prelude.{◌≡◌, ℕ, ◌==◌, nat_lt, if◌then◌else◌, false, Option, Some, None, List, [], ◌∷◌, length}
+use Rattle.std.specs.Prelude.{◌≡◌, ℕ, ◌==◌, nat_lt, if◌then◌else◌, false, Option, Some, None, Result, IfOk, IfErr, List, [], ◌∷◌, length}
 use Rattle.std.specs.List.{list_any}
 use Rattle.s2id_core.specs.declared.cell_id.CellId.{CellId}
 use Rattle.s2ix_bag_pairs.specs.declared.label.Label.{Label}
@@ -13,8 +13,7 @@ use Rattle.s2ix_bag_pairs.specs.Collection.{LimitedCollection}
 use Rattle.s2ix_bag_pairs.specs.Limits.{pairs_limit, count_limit}
 use Rattle.s2ix_edit_plan.specs.declared.errors.EditError.{EditError}
 use Rattle.s2ix_edit_plan.specs.declared.errors.EditError.TheVariants.{NoChange, TooManyCopies, TooManyPairs}
-use Rattle.s2ix_edit_plan.specs.declared.errors.PlanError.{PlanError}
-use Rattle.s2ix_edit_plan.specs.Errors.{edit_error, IsEditRefusal}
+use Rattle.s2ix_edit_plan.specs.Errors.{IsEditRefusal}
 use Rattle.s2ix_edit_plan.specs.declared.edit.Edit.{Edit}
 use Rattle.s2ix_edit_plan.specs.Edit.{edited_by, pair_of}
 use Rattle.s2ix_edit_plan.specs.Refusals.{lacks_label, takes_too_many, asks_too_fine, lacks_change, goes_below_zero, plan_refusal}
@@ -39,8 +38,15 @@ pub record Plans (bag : LimitedCollection) (changes : List (List Entry)) (edit :
 
 -- the error says why there is no plan of the edit: it is the refusal where the journal has room, or memory was wanted where it
 -- may be
-abbrev pub IsPlanRefusal : LimitedCollection → List (List Entry) → Edit → PlanError → Type 0
-IsPlanRefusal bag changes edit error = IsEditRefusal (edit_error error) (plan_refusal bag changes edit)
+abbrev pub IsPlanRefusal : LimitedCollection → List (List Entry) → Edit → EditError → Type 0
+IsPlanRefusal bag changes edit error = IsEditRefusal error (plan_refusal bag changes edit)
+
+-- the same of an edit that takes no change back, whatever changes led to the bag
+abbrev pub AlwaysPlans : LimitedCollection → Edit → Result (List Entry) EditError → Type 0
+AlwaysPlans bag edit result = (changes : List (List Entry)) → IfOk result (Plans bag changes edit)
+
+abbrev pub AlwaysRefuses : LimitedCollection → Edit → Result (List Entry) EditError → Type 0
+AlwaysRefuses bag edit result = (changes : List (List Entry)) → IfErr result (IsPlanRefusal bag changes edit)
 
 -- why a store refuses planned entries, memory aside: none of them, else a count after above the limit, else more
 -- distinct pairs than the limit; `None` where it takes them

@@ -1,6 +1,5 @@
 use s2id_core::OutOfMemory;
 use s2ix_bag_lists::RevertError;
-use std::alloc::{AllocError, AllocFailed};
 use thiserror::Error;
 
 /// Why an edit was refused. Where several refusals stand, the first of this list is answered; `OutOfMemory`
@@ -50,67 +49,7 @@ impl From<OutOfMemory> for EditError {
     }
 }
 
-impl<T: Drop> From<AllocFailed<T>> for EditError {
-    ghost use Rattle.std.specs.Prelude.{◌≡◌};
-    ghost use Rattle.s2ix_edit_plan.specs.declared.errors.EditError.TheVariants.{OutOfMemory};
-
-    ghost from_gives = { λ _ error. error ≡ OutOfMemory };
-
-    fn from(_: AllocFailed<T>) -> Self {
-        EditError::OutOfMemory
-    }
-}
-
-impl From<PlanError> for EditError {
-    ghost use Rattle.std.specs.Prelude.{◌≡◌};
-    ghost use Rattle.s2ix_edit_plan.specs.Errors.{edit_error};
-
-    ghost from_gives = { λ reason error. error ≡ edit_error reason };
-
-    fn from(reason: PlanError) -> Self {
-        match reason {
-            PlanError::NoSuchLabel => EditError::NoSuchLabel,
-            PlanError::NotHeld => EditError::NotHeld,
-            PlanError::TooFine => EditError::TooFine,
-            PlanError::NoSuchChange => EditError::NoSuchChange,
-            PlanError::BelowZero => EditError::BelowZero,
-            PlanError::TooManyCopies => EditError::TooManyCopies,
-            PlanError::TooManyPairs => EditError::TooManyPairs,
-            PlanError::OutOfMemory => EditError::OutOfMemory,
-        }
-    }
-}
-
-/// Why an edit has no plan: the cases of [`EditError`] that are found while it is planned.
-#[derive(Clone, Copy, Debug, PartialEq, Eq, Error)]
-pub enum PlanError {
-    /// No pair of the label is held.
-    #[error("no pair of the label is held")]
-    NoSuchLabel,
-    /// Fewer copies are held than the edit takes.
-    #[error("fewer copies are held")]
-    NotHeld,
-    /// The level is above 30, or more than 8 above the level of a cell of the label.
-    #[error("the level is too fine")]
-    TooFine,
-    /// No change with the number stands.
-    #[error("no change with the number stands")]
-    NoSuchChange,
-    /// A count would be below 0.
-    #[error("a count would be below 0")]
-    BelowZero,
-    /// A count would pass the limit.
-    #[error("a count would pass the limit")]
-    TooManyCopies,
-    /// The number of distinct pairs would pass the limit.
-    #[error("the number of pairs would pass the limit")]
-    TooManyPairs,
-    /// A growth was refused.
-    #[error("out of memory")]
-    OutOfMemory,
-}
-
-impl From<RevertError> for PlanError {
+impl From<RevertError> for EditError {
     ghost use Rattle.std.specs.Prelude.{◌≡◌};
     ghost use Rattle.s2ix_edit_plan.specs.Errors.{revert_error};
 
@@ -118,37 +57,15 @@ impl From<RevertError> for PlanError {
 
     fn from(reason: RevertError) -> Self {
         match reason {
-            RevertError::BelowZero(_) => PlanError::BelowZero,
-            RevertError::TooManyCopies => PlanError::TooManyCopies,
-            RevertError::TooManyPairs => PlanError::TooManyPairs,
-            RevertError::OutOfMemory => PlanError::OutOfMemory,
+            RevertError::BelowZero(_) => EditError::BelowZero,
+            RevertError::TooManyCopies => EditError::TooManyCopies,
+            RevertError::TooManyPairs => EditError::TooManyPairs,
+            RevertError::OutOfMemory => EditError::OutOfMemory,
         }
     }
 }
 
-impl From<AllocError> for PlanError {
-    ghost use Rattle.std.specs.Prelude.{◌≡◌};
-    ghost use Rattle.s2ix_edit_plan.specs.declared.errors.PlanError.TheVariants.{OutOfMemory};
-
-    ghost from_gives = { λ _ error. error ≡ OutOfMemory };
-
-    fn from(_: AllocError) -> Self {
-        PlanError::OutOfMemory
-    }
-}
-
-impl From<OutOfMemory> for PlanError {
-    ghost use Rattle.std.specs.Prelude.{◌≡◌};
-    ghost use Rattle.s2ix_edit_plan.specs.declared.errors.PlanError.TheVariants.{OutOfMemory};
-
-    ghost from_gives = { λ _ error. error ≡ OutOfMemory };
-
-    fn from(_: OutOfMemory) -> Self {
-        PlanError::OutOfMemory
-    }
-}
-
-/// Why an undo was refused. It stands here and not beside the store, so that each refusal of a step can be named without one.
+/// Why an undo was refused. It is here and not beside the store, so that each refusal of a step can be named without one.
 #[derive(Clone, Copy, Debug, PartialEq, Eq, Error)]
 pub enum UndoError {
     /// No change can be undone.

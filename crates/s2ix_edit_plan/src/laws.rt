@@ -18,12 +18,11 @@ ghost use Rattle.s2ix_edit_plan.specs.Refusals.{goes_below_zero, holds_none, rev
 ghost use Rattle.s2ix_edit_plan.specs.Region.{cells_of, region_of};
 ghost use Rattle.s2ix_edit_plan.specs.State.{State, history_of};
 ghost use Rattle.s2ix_edit_plan.specs.declared.errors.EditError.{EditError};
-ghost use Rattle.s2ix_edit_plan.specs.declared.errors.PlanError.{PlanError};
 ghost use Rattle.s2ix_edit_plan.specs.declared.errors.RedoError.{RedoError};
 ghost use Rattle.s2ix_edit_plan.specs.declared.errors.UndoError.{UndoError};
 
 use crate::edit::Edit;
-use crate::errors::{EditError, PlanError, RedoError, UndoError};
+use crate::errors::{EditError, RedoError, UndoError};
 
 /// Two edits are equal exactly where they are one.
 pub fn equal_edits_are_one()
@@ -170,7 +169,6 @@ pub fn normalise_leaves_a_copy_each()
 /// Two errors are equal exactly where they are one.
 pub fn equal_errors_are_one()
     ensures edit { (a b : EditError) → IsTrue (⟦<EditError as PartialEq>⟧.eq a b) ↔ (a ≡ b) }
-    ensures plan { (a b : PlanError) → IsTrue (⟦<PlanError as PartialEq>⟧.eq a b) ↔ (a ≡ b) }
     ensures undo { (a b : UndoError) → IsTrue (⟦<UndoError as PartialEq>⟧.eq a b) ↔ (a ≡ b) }
     ensures redo { (a b : RedoError) → IsTrue (⟦<RedoError as PartialEq>⟧.eq a b) ↔ (a ≡ b) }
 {}
@@ -178,7 +176,6 @@ pub fn equal_errors_are_one()
 /// An error's clone is that error.
 pub fn cloned_errors_are_the_same()
     ensures edit { (error copy : EditError) → ⟦<EditError as Clone>⟧.is_clone error copy ↔ (copy ≡ error) }
-    ensures plan { (error copy : PlanError) → ⟦<PlanError as Clone>⟧.is_clone error copy ↔ (copy ≡ error) }
     ensures undo { (error copy : UndoError) → ⟦<UndoError as Clone>⟧.is_clone error copy ↔ (copy ≡ error) }
     ensures redo { (error copy : RedoError) → ⟦<RedoError as Clone>⟧.is_clone error copy ↔ (copy ≡ error) }
 {}

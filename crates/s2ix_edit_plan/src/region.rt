@@ -8,10 +8,10 @@ use s2id_core::{CellId, OutOfMemory};
 use s2id_union::CellUnion;
 use s2ix_bag::Bag;
 use s2ix_bag_pairs::{Held, Label};
-use std::alloc::{AllocError, Global};
+use std::alloc::Global;
 
-/// The region of a label: the normal union of the cells that a bag holds with it, which is empty where it holds none.
-/// `OutOfMemory` where a growth is refused. O(n + m log m) for n pairs held, m of them with the label.
+/// The region of a label: the normal union of the cells that a bag holds with it, which is empty if it holds none. `OutOfMemory` if a
+/// growth is refused. O(n + m log m) for n pairs held, m of them with the label.
 pub fn region_of(alloc: Global, bag: &Bag, label: Label) -> Result<CellUnion, OutOfMemory>
     ensures region { IfOk result (λ union. HaveSameRegion union (cells_of label bag.now.held)) }
     ensures form { IfOk result (λ union. union ≡ region_in label bag.now.held) }
@@ -22,10 +22,14 @@ pub fn region_of(alloc: Global, bag: &Bag, label: Label) -> Result<CellUnion, Ou
 }
 
 // The cells that are held with a label, in rising order. O(n) for n pairs held with any label.
-pub(crate) fn label_cells(alloc: Global, bag: &Bag, label: Label) -> Result<Vec<CellId>, AllocError>
+pub(crate) fn label_cells(
+    alloc: Global,
+    bag: &Bag,
+    label: Label,
+) -> Result<Vec<CellId>, OutOfMemory>
     ensures { IfOk result (λ cells. cells.items ≡ cells_of label bag.now.held) }
 {
-    bag.of_label(label).map(held_cell).collect(alloc)
+    Ok(bag.of_label(label).map(held_cell).collect(alloc)?)
 }
 
 // The cell of a held pair.

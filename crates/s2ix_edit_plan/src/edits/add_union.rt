@@ -1,9 +1,9 @@
-ghost use Rattle.std.specs.Prelude.{◌≡◌, ◌≢◌, [], length, IsOk, IfOk, IfErr};
-ghost use Rattle.s2ix_edit_plan.specs.Plan.{IsPlanRefusal, Plans};
+ghost use Rattle.std.specs.Prelude.{◌≡◌, ◌≢◌, length, IsOk};
+ghost use Rattle.s2ix_edit_plan.specs.Plan.{AlwaysPlans, AlwaysRefuses};
 
 use crate::edit::Edit;
 use crate::edits::parts::push_entry;
-use crate::errors::PlanError;
+use crate::errors::EditError;
 use s2id_union::CellUnion;
 use s2ix_bag::{Bag, Change};
 use s2ix_bag_pairs::{Label, Pair};
@@ -16,10 +16,11 @@ pub(crate) fn plan(
     bag: &Bag,
     union: &CellUnion,
     label: Label,
-) -> Result<Change, PlanError>
-    ensures plan { IfOk result (Plans bag.now [] (Edit.AddUnion union.now label)) }
-    ensures refused { IfErr result (IsPlanRefusal bag.now [] (Edit.AddUnion union.now label)) }
-    ensures pairs { result ≢ Err PlanError.TooManyPairs }
+) -> Result<Change, EditError>
+    ensures plan { AlwaysPlans bag.now (Edit.AddUnion union.now label) result }
+    ensures refused { AlwaysRefuses bag.now (Edit.AddUnion union.now label) result }
+    ensures pairs { result ≢ Err EditError.TooManyPairs }
+    ensures planned { result ≢ Err EditError.NoChange }
     ensures nothing { length union.now ≡ 0 → IsOk result }
 {
     let mut entries = Vec::new(alloc);
@@ -27,7 +28,7 @@ pub(crate) fn plan(
         let pair = Pair { cell: *cell, label };
         let before = bag.count(pair);
         let Some(after) = before.checked_add(1) else {
-            return Err(PlanError::TooManyCopies);
+            return Err(EditError::TooManyCopies);
         };
         push_entry(&mut entries, pair, before, after)?;
     }

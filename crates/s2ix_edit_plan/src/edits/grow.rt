@@ -1,34 +1,35 @@
-ghost use Rattle.std.specs.Prelude.{◌≡◌, ◌≢◌, ◌↔◌, ◌⊎◌, ◌+◌, ◌≤◌, [], false, not, map, IfOk, IfErr, All, Any, Contains as HasElement};
+ghost use Rattle.std.specs.Prelude.{◌≡◌, ◌≢◌, ◌↔◌, ◌⊎◌, ◌+◌, ◌≤◌, false, not, map, IfOk, All, Any, Contains as HasElement};
 ghost use Rattle.s2id_core.specs.declared.cell_id.CellId.{CellId};
 ghost use Rattle.s2id_core.specs.CellId.{level_of};
 ghost use Rattle.s2ix_edit_plan.specs.Grow.{IsNextTo, grown_cells as cells_grown, is_too_fine as is_level_too_fine, overlaps_one};
-ghost use Rattle.s2ix_edit_plan.specs.Plan.{IsPlanRefusal, Plans, first_copy};
+ghost use Rattle.s2ix_edit_plan.specs.Plan.{AlwaysPlans, AlwaysRefuses, first_copy};
 ghost use Rattle.s2ix_edit_plan.specs.Region.{cells_of};
 
 use crate::edit::Edit;
 use crate::edits::parts::lacks_label;
-use crate::errors::PlanError;
+use crate::errors::EditError;
 use crate::region::label_cells;
 use s2id_core::{CellId, OutOfMemory};
 use s2id_cube::{BorderError, border, edge_neighbors};
 use s2id_union::CellUnion;
 use s2ix_bag::{Bag, Change};
 use s2ix_bag_pairs::{Entry, Label, Pair};
-use std::alloc::{AllocError, Global};
+use std::alloc::Global;
 
 // The change that gives one copy under the label to each cell that the label grows by at a level.
 // O(n + b log b) for n pairs held and b cells beside those of the label: four for each cell of the level or finer,
 // and up to 1024 for a coarser one.
-pub(crate) fn plan(alloc: Global, bag: &Bag, label: Label, level: u8) -> Result<Change, PlanError>
-    ensures plan { IfOk result (Plans bag.now [] (Edit.Grow label level)) }
-    ensures refused { IfErr result (IsPlanRefusal bag.now [] (Edit.Grow label level)) }
-    ensures pairs { result ≢ Err PlanError.TooManyPairs }
+pub(crate) fn plan(alloc: Global, bag: &Bag, label: Label, level: u8) -> Result<Change, EditError>
+    ensures plan { AlwaysPlans bag.now (Edit.Grow label level) result }
+    ensures refused { AlwaysRefuses bag.now (Edit.Grow label level) result }
+    ensures pairs { result ≢ Err EditError.TooManyPairs }
+    ensures planned { result ≢ Err EditError.NoChange }
 {
     if lacks_label(bag, label) {
-        return Err(PlanError::NoSuchLabel);
+        return Err(EditError::NoSuchLabel);
     }
     if is_too_fine(bag, label, level) {
-        return Err(PlanError::TooFine);
+        return Err(EditError::TooFine);
     }
     let cells = grown_cells(alloc, bag, label, level)?;
     Ok(Change::from_vec(first_copies(alloc, cells.as_slice(), label)?))
@@ -113,7 +114,7 @@ fn add_beside(
 }
 
 // The entries that give each of the cells its first copy under the label.
-fn first_copies(alloc: Global, cells: &[CellId], label: Label) -> Result<Vec<Entry>, AllocError>
+fn first_copies(alloc: Global, cells: &[CellId], label: Label) -> Result<Vec<Entry>, OutOfMemory>
     ensures { IfOk result (λ entries. entries.items ≡ map (first_copy label) cells.now) }
 {
     let first_copy = |cell: &CellId| Entry {
@@ -121,5 +122,5 @@ fn first_copies(alloc: Global, cells: &[CellId], label: Label) -> Result<Vec<Ent
         before: 0,
         after: 1,
     };
-    cells.iter().map(first_copy).collect(alloc)
+    Ok(cells.iter().map(first_copy).collect(alloc)?)
 }

@@ -1,5 +1,5 @@
-//! What each edit changes: the entries that carry it out. Each edit has a file of its own with its `plan`; what several of
-//! them are made of stands in `parts`.
+//! What each edit changes: the entries that carry it out. Each edit has a file of its own with its `plan`; what several of them need is in
+//! `parts`.
 
 mod add;
 mod add_union;
@@ -17,7 +17,7 @@ ghost use Rattle.s2ix_edit_plan.specs.Plan.{IsPlanRefusal, Plans};
 ghost use Rattle.s2ix_edit_plan.specs.Refusals.{asks_no_copies, plan_refusal, reverts};
 
 use crate::edit::Edit;
-use crate::errors::PlanError;
+use crate::errors::EditError;
 use s2ix_bag::{Bag, Change};
 use std::alloc::Global;
 
@@ -25,28 +25,29 @@ use std::alloc::Global;
 /// would change. The bag stays as it is; [`Bag::applied`] makes the next one of the change. `changes` are those that led to
 /// the bag, the oldest first, of which `Revert` takes one back; no other edit reads them.
 ///
-/// Of the errors of [`PlanError`] the first that stands is answered. Whether the counts and the pairs fit the bag is found when
-/// the change is applied; but the plan of `Revert` has tested it, and answers `TooManyCopies` and `TooManyPairs` itself, and a
-/// sum that no `u32` holds is above every limit and `TooManyCopies` here. `OutOfMemory` comes in place of no other error of
-/// `Revert`, and of no error but `TooManyCopies` of the others; an `Add` or a `Remove` of no copies wants no memory, nor does an
-/// `AddUnion` of no cells.
+/// Of the errors of [`EditError`] the first that stands is answered, but neither `JournalFull`, which a store tests, nor `NoChange`.
+/// Whether the counts and the pairs fit the bag is found when the change is applied; but the plan of `Revert` has tested it, and answers
+/// `TooManyCopies` and `TooManyPairs` itself, and a sum that no `u32` holds is above every limit and `TooManyCopies` here.
+/// `OutOfMemory` comes in place of no other error of `Revert`, and of no error but `TooManyCopies` of the others; an `Add` or a `Remove`
+/// of no copies does not allocate, nor does an `AddUnion` of no cells.
 ///
 /// For n pairs held, `Add` and `Remove` take O(log n), `AddUnion` O(m log n) for m cells, `DropLabel` O(n), `Relabel`
 /// O(n + m log n) and `Normalise` O(n + m log m) for m pairs of the label, and `Grow` O(n + b log b) for b cells beside those of
 /// the label. `Revert` takes O(m log n) for the m entries of the change that it takes back, however many stand. This project's
 /// own.
-pub fn plan(alloc: Global, bag: &Bag, changes: &[Change], edit: &Edit) -> Result<Change, PlanError>
+pub fn plan(alloc: Global, bag: &Bag, changes: &[Change], edit: &Edit) -> Result<Change, EditError>
     ensures plan { IfOk result (Plans bag.now changes.now edit.now) }
     ensures refused { IfErr result (IsPlanRefusal bag.now changes.now edit.now) }
+    ensures planned { result ≢ Err EditError.NoChange }
 
-    // An edit of no copies has its plan without memory, and a `Revert` wants memory only where nothing here refuses it. No other edit
-    // is refused for its pairs here.
+    // An edit of no copies is planned without allocating, and a `Revert` asks for memory only if nothing here refuses it. No other edit is
+    // refused for its pairs here.
     ensures nothing { asks_no_copies edit.now ≡ true → IsOk result }
     ensures reverting { reverts edit.now ≡ true
-        → result ≡ Err PlanError.OutOfMemory
+        → result ≡ Err EditError.OutOfMemory
         → let refusal = plan_refusal bag.now changes.now edit.now in
         (refusal ≡ None) ⊎ (refusal ≡ Some NoChange) }
-    ensures pairs { reverts edit.now ≡ false → result ≢ Err PlanError.TooManyPairs }
+    ensures pairs { reverts edit.now ≡ false → result ≢ Err EditError.TooManyPairs }
 {
     match edit {
         Edit::Add { pair, copies } => add::plan(alloc, bag, *pair, *copies),

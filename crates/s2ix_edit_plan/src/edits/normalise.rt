@@ -1,26 +1,27 @@
-ghost use Rattle.std.specs.Prelude.{◌≡◌, ◌≢◌, ◌++◌, [], map, IfOk, IfErr, OnOk};
+ghost use Rattle.std.specs.Prelude.{◌≡◌, ◌≢◌, ◌++◌, map, IfOk, OnOk};
 ghost use Rattle.s2ix_bag_pairs.specs.OfLabel.{held_of};
-ghost use Rattle.s2ix_edit_plan.specs.Plan.{IsPlanRefusal, Plans, one_copy};
+ghost use Rattle.s2ix_edit_plan.specs.Plan.{AlwaysPlans, AlwaysRefuses, one_copy};
 
 use crate::edit::Edit;
 use crate::edits::parts::lacks_label;
-use crate::errors::PlanError;
+use crate::errors::EditError;
 use crate::region::region_of;
-use s2id_core::CellId;
+use s2id_core::{CellId, OutOfMemory};
 use s2ix_bag::{Bag, Change, LabelIter};
 use s2ix_bag_lists::FlatHeld;
 use s2ix_bag_pairs::{Held, Label, Pair};
-use std::alloc::{AllocError, Global};
+use std::alloc::Global;
 
 // The change that replaces a label's pairs by one copy at each cell of its region. O(n + m log m) for n pairs held, m of
 // them with the label.
-pub(crate) fn plan(alloc: Global, bag: &Bag, label: Label) -> Result<Change, PlanError>
-    ensures plan { IfOk result (Plans bag.now [] (Edit.Normalise label)) }
-    ensures refused { IfErr result (IsPlanRefusal bag.now [] (Edit.Normalise label)) }
-    ensures pairs { result ≢ Err PlanError.TooManyPairs }
+pub(crate) fn plan(alloc: Global, bag: &Bag, label: Label) -> Result<Change, EditError>
+    ensures plan { AlwaysPlans bag.now (Edit.Normalise label) result }
+    ensures refused { AlwaysRefuses bag.now (Edit.Normalise label) result }
+    ensures pairs { result ≢ Err EditError.TooManyPairs }
+    ensures planned { result ≢ Err EditError.NoChange }
 {
     if lacks_label(bag, label) {
-        return Err(PlanError::NoSuchLabel);
+        return Err(EditError::NoSuchLabel);
     }
     let region = region_of(alloc, bag, label)?;
     let old = label_pairs(alloc, bag, label)?;
@@ -29,7 +30,7 @@ pub(crate) fn plan(alloc: Global, bag: &Bag, label: Label) -> Result<Change, Pla
 }
 
 // The pairs that are held with a label.
-fn label_pairs(alloc: Global, bag: &Bag, label: Label) -> Result<Vec<FlatHeld>, AllocError>
+fn label_pairs(alloc: Global, bag: &Bag, label: Label) -> Result<Vec<FlatHeld>, OutOfMemory>
     ensures { IfOk result (λ held. held.items ≡ held_of label bag.now.held) }
 {
     let mut pairs = Vec::new(alloc);
@@ -38,7 +39,7 @@ fn label_pairs(alloc: Global, bag: &Bag, label: Label) -> Result<Vec<FlatHeld>, 
 }
 
 // Appends the pairs that are still to come.
-fn push_pairs(pairs: &mut Vec<FlatHeld>, left: LabelIter<'_>) -> Result<(), AllocError>
+fn push_pairs(pairs: &mut Vec<FlatHeld>, left: LabelIter<'_>) -> Result<(), OutOfMemory>
     ensures { OnOk result (pairs.new.items ≡ pairs.old.items ++ left.entry) }
 {
     for held in left {
@@ -48,7 +49,11 @@ fn push_pairs(pairs: &mut Vec<FlatHeld>, left: LabelIter<'_>) -> Result<(), Allo
 }
 
 // The cells' pairs under a label, each held with one copy.
-fn one_copy_each(alloc: Global, cells: &[CellId], label: Label) -> Result<Vec<FlatHeld>, AllocError>
+fn one_copy_each(
+    alloc: Global,
+    cells: &[CellId],
+    label: Label,
+) -> Result<Vec<FlatHeld>, OutOfMemory>
     ensures { IfOk result (λ held. held.items ≡ map (one_copy label) cells.now) }
 {
     let one_copy = |cell: &CellId| {
@@ -57,5 +62,5 @@ fn one_copy_each(alloc: Global, cells: &[CellId], label: Label) -> Result<Vec<Fl
             count: 1,
         })
     };
-    cells.iter().map(one_copy).collect(alloc)
+    Ok(cells.iter().map(one_copy).collect(alloc)?)
 }

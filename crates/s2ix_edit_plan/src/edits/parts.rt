@@ -6,9 +6,10 @@ ghost use Rattle.s2ix_bag_pairs.specs.Collection.{IsBag};
 ghost use Rattle.s2ix_edit_plan.specs.Plan.{one_entry};
 ghost use Rattle.s2ix_edit_plan.specs.Refusals.{holds_none};
 
+use s2id_core::OutOfMemory;
 use s2ix_bag::{Bag, Change};
 use s2ix_bag_pairs::{Entry, Held, Label, Pair};
-use std::alloc::{AllocError, Global};
+use std::alloc::Global;
 
 // The change of one pair's count: no entry, and no growth, where the count stays.
 pub(crate) fn one_pair(
@@ -16,7 +17,7 @@ pub(crate) fn one_pair(
     pair: Pair,
     before: u32,
     after: u32,
-) -> Result<Change, AllocError>
+) -> Result<Change, OutOfMemory>
     ensures change { IfOk result (λ change. change ≡ one_entry pair before after) }
     ensures nothing { before ≡ after → IsOk result }
 {
@@ -33,7 +34,7 @@ pub(crate) fn push_entry(
     pair: Pair,
     before: u32,
     after: u32,
-) -> Result<(), AllocError>
+) -> Result<(), OutOfMemory>
     ensures { OnOk result (entries.new.items ≡ entries.old.items ++ record { pair = pair; before = before; after = after } ∷ []) }
 {
     entries.push(Entry {

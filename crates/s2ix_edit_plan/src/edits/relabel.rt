@@ -1,14 +1,15 @@
-ghost use Rattle.std.specs.Prelude.{◌≡◌, ◌≢◌, ◌++◌, [], false, OnOk, IfOk, IfErr};
+ghost use Rattle.std.specs.Prelude.{◌≡◌, ◌≢◌, ◌++◌, false, OnOk};
 ghost use Rattle.s2ix_bag_pairs.specs.Label.{value_of};
-ghost use Rattle.s2ix_edit_plan.specs.Plan.{IsPlanRefusal, Plans, move_entries};
+ghost use Rattle.s2ix_edit_plan.specs.Plan.{AlwaysPlans, AlwaysRefuses, move_entries};
 ghost use Rattle.s2ix_edit_plan.specs.Refusals.{holds_none};
 
 use crate::edit::Edit;
 use crate::edits::parts::{lacks_label, removal};
-use crate::errors::PlanError;
+use crate::errors::EditError;
+use s2id_core::OutOfMemory;
 use s2ix_bag::{Bag, Change};
 use s2ix_bag_pairs::{Entry, Held, Label, Pair};
-use std::alloc::{AllocError, Global};
+use std::alloc::Global;
 
 // The change that moves all copies of `source` to `target`. If the two are one label it is empty, and the store refuses it with `NoChange`.
 // O(n + m log n) for n pairs held, m of them of `source`.
@@ -17,13 +18,14 @@ pub(crate) fn plan(
     bag: &Bag,
     source: Label,
     target: Label,
-) -> Result<Change, PlanError>
-    ensures plan { IfOk result (Plans bag.now [] (Edit.Relabel source target)) }
-    ensures refused { IfErr result (IsPlanRefusal bag.now [] (Edit.Relabel source target)) }
-    ensures pairs { result ≢ Err PlanError.TooManyPairs }
+) -> Result<Change, EditError>
+    ensures plan { AlwaysPlans bag.now (Edit.Relabel source target) result }
+    ensures refused { AlwaysRefuses bag.now (Edit.Relabel source target) result }
+    ensures pairs { result ≢ Err EditError.TooManyPairs }
+    ensures planned { result ≢ Err EditError.NoChange }
 {
     if lacks_label(bag, source) {
-        return Err(PlanError::NoSuchLabel);
+        return Err(EditError::NoSuchLabel);
     }
     if source.get() == target.get() {
         return Ok(Change::from_vec(Vec::new(alloc)));
@@ -33,12 +35,13 @@ pub(crate) fn plan(
 
 // The change that moves all copies of one label that is held to another. A sum that no `u32` holds is above every
 // limit.
-fn plan_moves(alloc: Global, bag: &Bag, source: Label, target: Label) -> Result<Change, PlanError>
+fn plan_moves(alloc: Global, bag: &Bag, source: Label, target: Label) -> Result<Change, EditError>
     requires held { holds_none source bag.now.held ≡ false }
     requires apart { value_of source ≢ value_of target }
-    ensures plan { IfOk result (Plans bag.now [] (Edit.Relabel source target)) }
-    ensures refused { IfErr result (IsPlanRefusal bag.now [] (Edit.Relabel source target)) }
-    ensures pairs { result ≢ Err PlanError.TooManyPairs }
+    ensures plan { AlwaysPlans bag.now (Edit.Relabel source target) result }
+    ensures refused { AlwaysRefuses bag.now (Edit.Relabel source target) result }
+    ensures pairs { result ≢ Err EditError.TooManyPairs }
+    ensures planned { result ≢ Err EditError.NoChange }
 {
     let mut entries = Vec::new(alloc);
     for held in bag.of_label(source) {
@@ -48,7 +51,7 @@ fn plan_moves(alloc: Global, bag: &Bag, source: Label, target: Label) -> Result<
         };
         let before = bag.count(pair);
         let Some(after) = before.checked_add(held.count) else {
-            return Err(PlanError::TooManyCopies);
+            return Err(EditError::TooManyCopies);
         };
         let gain = Entry {
             pair,
@@ -62,7 +65,7 @@ fn plan_moves(alloc: Global, bag: &Bag, source: Label, target: Label) -> Result<
 
 // Appends, in the order of their pairs, the entry that takes a held pair away and the one that gives its copies to
 // another pair.
-fn push_move(entries: &mut Vec<Entry>, held: Held, gain: Entry) -> Result<(), AllocError>
+fn push_move(entries: &mut Vec<Entry>, held: Held, gain: Entry) -> Result<(), OutOfMemory>
     ensures { OnOk result (entries.new.items ≡ entries.old.items ++ move_entries held gain) }
 {
     let (first, second) = if held.pair.label.get() < gain.pair.label.get() {

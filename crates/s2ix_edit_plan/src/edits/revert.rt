@@ -1,11 +1,11 @@
-ghost use Rattle.std.specs.Prelude.{◌≡◌, ◌⊎◌, Some, None, IfOk, IfErr, IfSome, IfNone};
+ghost use Rattle.std.specs.Prelude.{◌≡◌, ◌≢◌, ◌⊎◌, Some, None, IfOk, IfErr, IfSome, IfNone};
 ghost use Rattle.s2ix_edit_plan.specs.Edit.{numbered};
 ghost use Rattle.s2ix_edit_plan.specs.declared.errors.EditError.TheVariants.{NoChange};
 ghost use Rattle.s2ix_edit_plan.specs.Plan.{IsPlanRefusal, Plans};
 ghost use Rattle.s2ix_edit_plan.specs.Refusals.{plan_refusal};
 
 use crate::edit::Edit;
-use crate::errors::PlanError;
+use crate::errors::EditError;
 use s2ix_bag::{Bag, Change};
 use std::alloc::Global;
 
@@ -16,15 +16,16 @@ pub(crate) fn plan(
     bag: &Bag,
     changes: &[Change],
     number: u32,
-) -> Result<Change, PlanError>
+) -> Result<Change, EditError>
     ensures plan { IfOk result (Plans bag.now changes.now (Edit.Revert number)) }
     ensures refused { IfErr result (IsPlanRefusal bag.now changes.now (Edit.Revert number)) }
-    ensures memory { result ≡ Err PlanError.OutOfMemory
+    ensures planned { result ≢ Err EditError.NoChange }
+    ensures memory { result ≡ Err EditError.OutOfMemory
         → let refusal = plan_refusal bag.now changes.now (Edit.Revert number) in
         (refusal ≡ None) ⊎ (refusal ≡ Some NoChange) }
 {
     let Some(change) = change_of_number(changes, number) else {
-        return Err(PlanError::NoSuchChange);
+        return Err(EditError::NoSuchChange);
     };
     Ok(bag.reverting(alloc, change)?)
 }

@@ -1,4 +1,4 @@
-use Rattle.s2ix_edit_plan.proofs.FirstRefusal.{others_refused}
+use Rattle.s2ix_edit_plan.proofs.EachRefusal.{others_refused}
 use Rattle.s2ix_edit.proofs.RevertRefusals.{reverts_refused}
 use Rattle.s2ix_edit.proofs.laws.reverts_have_refusals_of_their_own.Goals as goal
 

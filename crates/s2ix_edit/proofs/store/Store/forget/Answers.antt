@@ -7,5 +7,13 @@ use Rattle.s2ix_edit.proofs.store.Store.forget.Goals as goal
 
 pub returns-clause-history : goal.returns-clause-history
 returns-clause-history c =
-    let emptied : ◌≡◌ {A = State} (record { bag = c.self.inside.bag; done = c.clear.new.self.items; undone = c.clear-2.new.self.items; faces_rebuilt = c.self.inside.faces_rebuilt }) (after_forget c.args.self.now) = grind (arith, common_steps) in
+    let emptied : ◌≡◌ {A = State}
+    (record {
+      bag = c.self.inside.bag;
+      done = c.clear.new.self.items;
+      undone = c.clear-2.new.self.items;
+      faces_rebuilt = c.self.inside.faces_rebuilt;
+    })
+    (after_forget c.args.self.now) =
+    grind (arith, common_steps) in
     ap history_of emptied ∙ history_after_forget c.args.self.now

@@ -10,7 +10,13 @@ use Rattle.s2ix_edit.proofs.store.Store.record_change.Goals.{After-clear}
 use Rattle.s2ix_edit.proofs.store.Store.record_change.Goals as goal
 
 is_recorded : (c : After-clear) →
-    record { bag = c.in_ok-bag.bag; done = c.push.new.self.items; undone = c.clear.new.self.items; faces_rebuilt = c.changed_face_count-faces.result } ≡ after_record c.args.self.now c.args.change
+    record {
+      bag = c.in_ok-bag.bag;
+      done = c.push_change.new.changes.items;
+      undone = c.clear.new.self.items;
+      faces_rebuilt = c.changed_face_count-faces.result;
+    }
+    ≡ after_record c.args.self.now c.args.change
 is_recorded c = grind (arith, common_steps)
 
 stood : (c : After-clear) → IsStore c.args.self.now
@@ -19,5 +25,8 @@ stood c = let Stands : State → Type 0 = λ s. IsStore s in subst Stands c.self
 pub invariant_of-self-2 : goal.invariant_of-self-2
 invariant_of-self-2 c =
     let d = (goal.at.invariant_of-self-2 c).After-clear in
-    let taken = ap (λ (s : State). apply_refusal s.bag c.args.change) (sym c.self.view_is) ∙ c.in_ok-bag.ensures.fits in
-    (stands_recorded c.args.self.now _ c.args.change (is_recorded d) (stood d) c.requires.room c.entries-number.ensures.rises (some_entries c.self.inside.bag c.args.change c.in_ok-bag.ensures.accepted) taken c.in_ok-bag.ensures.within, c.in_ok-bag.ensures.table)
+    let taken = ap (λ (s : State). apply_refusal s.bag c.args.change) (sym c.self.view_is) ∙ c.in_ok-bag.ensures.fits in (
+      stands_recorded c.args.self.now _ c.args.change (is_recorded d) (stood d) c.requires.room c.entries-number.ensures.rises
+          (some_entries c.self.inside.bag c.args.change c.in_ok-bag.ensures.accepted) taken c.in_ok-bag.ensures.within,
+      c.in_ok-bag.ensures.table,
+    )

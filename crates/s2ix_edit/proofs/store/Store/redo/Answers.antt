@@ -10,8 +10,18 @@ use Rattle.s2ix_edit.proofs.store.Store.redo.Goals as goal
 
 -- the store inside, with its last undone change done again
 does_again : (c : In_ok-number) → Redoes
-    (record { bag = c.self.inside.bag; done = c.self.inside.done.items; undone = c.self.inside.undone.items; faces_rebuilt = c.self.inside.faces_rebuilt })
-    (record { bag = c.in_ok-bag.bag; done = c.shift_last.new.to.items; undone = c.shift_last.new.from.items; faces_rebuilt = c.changed_face_count-faces.result })
+    (record {
+      bag = c.self.inside.bag;
+      done = c.self.inside.done.items;
+      undone = c.self.inside.undone.items;
+      faces_rebuilt = c.self.inside.faces_rebuilt;
+    })
+    (record {
+      bag = c.in_ok-bag.bag;
+      done = c.shift_last.new.to.items;
+      undone = c.shift_last.new.from.items;
+      faces_rebuilt = c.changed_face_count-faces.result;
+    })
     c.in_ok-number.ensures.shifted.last
 does_again c =
     redoes_shifted _ _ c.in-Some.last.now _ c.in_ok-number.ensures.shifted
@@ -19,8 +29,10 @@ does_again c =
     c.in_ok-bag.ensures.made
 
 pub invariant_of-self-2 : goal.invariant_of-self-2
-invariant_of-self-2 c =
-    (stands_redone _ _ _ c.self.invariant.0 (does_again (goal.at.invariant_of-self-2 c).In_ok-number) c.in_ok-bag.ensures.within, c.in_ok-bag.ensures.table)
+invariant_of-self-2 c = (
+  stands_redone _ _ _ c.self.invariant.0 (does_again (goal.at.invariant_of-self-2 c).In_ok-number) c.in_ok-bag.ensures.within,
+  c.in_ok-bag.ensures.table,
+)
 
 pub returns-clause-history : goal.returns-clause-history
 returns-clause-history c =

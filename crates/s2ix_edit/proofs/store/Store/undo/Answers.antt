@@ -12,8 +12,18 @@ use Rattle.s2ix_edit.proofs.store.Store.undo.Goals as goal
 
 -- the store inside, with its last change taken back
 takes_back : (c : In_ok-number) → Undoes
-    (record { bag = c.self.inside.bag; done = c.self.inside.done.items; undone = c.self.inside.undone.items; faces_rebuilt = c.self.inside.faces_rebuilt })
-    (record { bag = c.in_ok-bag.bag; done = c.shift_last.new.from.items; undone = c.shift_last.new.to.items; faces_rebuilt = c.changed_face_count-faces.result })
+    (record {
+      bag = c.self.inside.bag;
+      done = c.self.inside.done.items;
+      undone = c.self.inside.undone.items;
+      faces_rebuilt = c.self.inside.faces_rebuilt;
+    })
+    (record {
+      bag = c.in_ok-bag.bag;
+      done = c.shift_last.new.from.items;
+      undone = c.shift_last.new.to.items;
+      faces_rebuilt = c.changed_face_count-faces.result;
+    })
     c.in_ok-number.ensures.shifted.last
 takes_back c =
     let bag = c.self.inside.bag in
@@ -22,12 +32,15 @@ takes_back c =
     (c.in_ok-bag.ensures.made ∙ ap (λ (es : List Entry). with_held bag (changed bag.held es)) c.in_ok-inverse.ensures)
 
 pub invariant_of-self-2 : goal.invariant_of-self-2
-invariant_of-self-2 c =
-    (stands_undone _ _ _ c.self.invariant.0 (takes_back (goal.at.invariant_of-self-2 c).In_ok-number) c.in_ok-bag.ensures.within, c.in_ok-bag.ensures.table)
+invariant_of-self-2 c = (
+  stands_undone _ _ _ c.self.invariant.0 (takes_back (goal.at.invariant_of-self-2 c).In_ok-number) c.in_ok-bag.ensures.within,
+  c.in_ok-bag.ensures.table,
+)
 
 pub returns-clause-history : goal.returns-clause-history
 returns-clause-history c =
-    history_undone _ _ _ c.self.invariant.0 (takes_back (goal.at.returns-clause-history c).In_ok-number) ∙ ap (λ (s : State). one_back (history_of s)) c.self.view_is
+    history_undone _ _ _ c.self.invariant.0 (takes_back (goal.at.returns-clause-history c).In_ok-number)
+    ∙ ap (λ (s : State). one_back (history_of s)) c.self.view_is
 
 pub returns-clause-restores : goal.returns-clause-restores
 returns-clause-restores c =

@@ -1,4 +1,4 @@
-use Rattle.std.proofs.Common.{◌≡◌, ◌<◌, List, [], Some, AllPairs, length, map, refl, sym, ap, ◌∙◌, subst, arith}
+use Rattle.std.proofs.Common.{◌≡◌, ◌<◌, List, Some, AllPairs, length, map, refl, sym, ap, ◌∙◌, subst, arith}
 use Rattle.std.proofs.lemmas.List.{take_all}
 use Rattle.s2id_core.specs.declared.cell_id.CellId.{CellId}
 use Rattle.s2id_core.specs.CellId.{raw_of}
@@ -15,33 +15,39 @@ use Rattle.s2ix_edit_plan.proofs.edits.add_union.plan.Goals as goal
 
 pub returns-in_default-clause-refused : goal.returns-in_default-clause-refused
 returns-in_default-clause-refused c =
+    λ changes.
     let bag = c.args.bag.now in
     let label = c.args.label in
     let listed = c.cells-cell-items.ensures in
     let Rise : List CellId → Type 0 = λ cs. AllPairs (λ a b. raw_of a < raw_of b) cs in
-    let Refused : List CellId → Type 0 = λ cs. plan_refusal bag [] (AddUnion cs label) ≡ Some TooManyCopies in
+    let Refused : List CellId → Type 0 = λ cs. plan_refusal bag changes (AddUnion cs label) ≡ Some TooManyCopies in
     let within = c.count-before.ensures.within in
     let cells = c.cells-cell-items.result.now in
     subst Refused listed.list
-    (too_high bag [] (AddUnion cells label) within refl refl refl refl refl
-    (addition_above bag label cells c.cell-item.result within (subst Rise (sym listed.list) listed.normal.rises) (c.loop-cell.cell-index, omega arith, sym c.cell-item.is) (omega (arith, c.count-before.ensures.count, c.in_default.ensures))))
+    (too_high bag changes (AddUnion cells label) within refl refl refl refl refl
+    (addition_above bag label cells c.cell-item.result within (subst Rise (sym listed.list) listed.normal.rises)
+    (c.loop-cell.cell-index, omega arith, sym c.cell-item.is) (omega (arith, c.count-before.ensures.count, c.in_default.ensures))))
 
 pub from_vec-requires : goal.from_vec-requires
 from_vec-requires c =
     let Rises : List Entry → Type 0 = λ es. IsChangeList es in
     let listed = c.cells-cell-items.ensures in
     let cells = c.cells-cell-items.result.now in
-    let all = c.loop-cell.invariant ∙ ap (λ cs. map (addition c.args.bag.now.held c.args.label) cs) (take_all c.loop-cell.cell-index cells (omega arith) ∙ listed.list) in
+    let all = c.loop-cell.invariant
+    ∙ ap (λ cs. map (addition c.args.bag.now.held c.args.label) cs) (take_all c.loop-cell.cell-index cells (omega arith) ∙ listed.list) in
     subst Rises (sym all) (additions_make c.args.bag.now c.args.label c.args.union.now listed.normal.rises).rises
 
 pub returns-clause-plan : goal.returns-clause-plan
 returns-clause-plan c =
-    let Planned : List Entry → Type 0 = λ es. Plans c.args.bag.now [] (AddUnion c.args.union.now c.args.label) es in
+    λ changes.
+    let Planned : List Entry → Type 0 = λ es. Plans c.args.bag.now changes (AddUnion c.args.union.now c.args.label) es in
     let listed = c.cells-cell-items.ensures in
     let cells = c.cells-cell-items.result.now in
-    let all = c.loop-cell.invariant ∙ ap (λ cs. map (addition c.args.bag.now.held c.args.label) cs) (take_all c.loop-cell.cell-index cells (omega arith) ∙ listed.list) in
+    let all = c.loop-cell.invariant
+    ∙ ap (λ cs. map (addition c.args.bag.now.held c.args.label) cs) (take_all c.loop-cell.cell-index cells (omega arith) ∙ listed.list) in
     subst Planned (sym (c.from_vec.ensures ∙ all))
-    (plans_from_makes c.args.bag.now [] (AddUnion c.args.union.now c.args.label) _ refl refl refl refl refl (additions_make c.args.bag.now c.args.label c.args.union.now listed.normal.rises))
+    (plans_from_makes c.args.bag.now changes (AddUnion c.args.union.now c.args.label) _ refl refl refl refl refl
+    (additions_make c.args.bag.now c.args.label c.args.union.now listed.normal.rises))
 
 pub returns-in_default-clause-nothing : goal.returns-in_default-clause-nothing
 returns-in_default-clause-nothing c =

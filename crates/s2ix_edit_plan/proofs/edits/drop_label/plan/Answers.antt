@@ -1,4 +1,4 @@
-use Rattle.std.proofs.Common.{[], List, refl, sym, ◌∙◌, subst}
+use Rattle.std.proofs.Common.{List, refl, sym, ◌∙◌, subst}
 use Rattle.s2ix_bag_pairs.specs.declared.pair.Entry.{Entry}
 use Rattle.s2ix_bag_pairs.specs.Change.{IsChangeList}
 use Rattle.s2ix_edit_plan.specs.declared.edit.Edit.TheVariants.{DropLabel}
@@ -14,7 +14,9 @@ from_vec-requires c =
 
 pub returns-clause-plan : goal.returns-clause-plan
 returns-clause-plan c =
-    let Planned : List Entry → Type 0 = λ es. Plans c.args.bag.now [] (DropLabel c.args.label) es in
+    λ changes.
+    let Planned : List Entry → Type 0 = λ es. Plans c.args.bag.now changes (DropLabel c.args.label) es in
     subst Planned (sym (c.from_vec.ensures ∙ c.in_ok-removals.ensures))
-    (plans_from_makes c.args.bag.now [] (DropLabel c.args.label) _ (sym c.lacks_label.ensures.lacks ∙ c.if-lacks_label.false) refl refl refl refl
+    (plans_from_makes c.args.bag.now changes (DropLabel c.args.label) _ (sym c.lacks_label.ensures.lacks ∙ c.if-lacks_label.false) refl refl
+    refl refl
     (removals_make c.args.bag.now c.args.label c.lacks_label.ensures.within.rises))

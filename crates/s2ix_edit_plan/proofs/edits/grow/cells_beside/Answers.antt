@@ -15,8 +15,10 @@ add_beside-requires-clause-near c =
 
 pub loop-cell-preserved : goal.loop-cell-preserved
 loop-cell-preserved c =
-    next_more c.args.level c.loop-cell.cell-index c.args.cells.now c.cell-item.result c.loop-cell.beside.items _ (omega arith) c.cell-item.is c.loop-cell.invariant c.in_ok-add_beside.ensures
+    next_more c.args.level c.loop-cell.cell-index c.args.cells.now c.cell-item.result c.loop-cell.beside.items _ (omega arith)
+    c.cell-item.is c.loop-cell.invariant c.in_ok-add_beside.ensures
 
 pub returns : goal.returns
 returns c =
-    subst (λ (cs : List CellId). AreNext c.args.level cs c.loop-cell.beside.items) (take_all c.loop-cell.cell-index c.args.cells.now (omega arith)) c.loop-cell.invariant
+    subst (λ (cs : List CellId). AreNext c.args.level cs c.loop-cell.beside.items)
+    (take_all c.loop-cell.cell-index c.args.cells.now (omega arith)) c.loop-cell.invariant

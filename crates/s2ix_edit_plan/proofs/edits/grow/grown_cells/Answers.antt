@@ -24,5 +24,6 @@ returns c =
     ∙ kept_are_grown c.args.label c.args.level c.args.bag.now.held c.in_ok-region.region c.in_ok-grown.grown.items c.dedup.new.self.items
     (subst Same (c.as_slice.ensures.value ∙ c.in_ok-cells.ensures) c.in_ok-region.ensures.region)
     (subst Next (c.as_slice-2.ensures.value ∙ c.in_ok-cells.ensures) c.in_ok-grown.ensures)
-    (same_cells c.in_ok-grown.grown.items c.sort_unstable.new.self.items c.dedup.new.self.items c.sort_unstable.ensures.permutation c.dedup.ensures.filtered)
+    (same_cells c.in_ok-grown.grown.items c.sort_unstable.new.self.items c.dedup.new.self.items c.sort_unstable.ensures.permutation
+    c.dedup.ensures.filtered)
     (rising c.sort_unstable.new.self.items c.dedup.new.self.items c.sort_unstable.ensures.sorted c.dedup.ensures.filtered)

@@ -1,5 +1,5 @@
 -- The entries are the change from the label's pairs to one copy at each cell of its region.
-use Rattle.std.proofs.Common.{[], ◌<◌, List, AllPairs, refl, sym, ap, ap₂, ◌∙◌, subst}
+use Rattle.std.proofs.Common.{◌<◌, List, AllPairs, refl, sym, ap, ap₂, ◌∙◌, subst}
 use Rattle.s2id_core.specs.declared.cell_id.CellId.{CellId}
 use Rattle.s2id_core.specs.CellId.{raw_of}
 use Rattle.s2ix_bag_pairs.specs.declared.pair.Entry.{Entry}
@@ -15,7 +15,8 @@ use Rattle.s2ix_edit_plan.proofs.edits.normalise.plan.Goals as goal
 
 pub between_lists-requires-clause-old_rise : goal.between_lists-requires-clause-old_rise
 between_lists-requires-clause-old_rise c =
-    subst IsCollection (sym (c.as_slice.ensures.value ∙ c.in_ok-old.ensures)) (of_label_from 0 c.args.label c.args.bag.now.held c.lacks_label.ensures.within.rises)
+    subst IsCollection (sym (c.as_slice.ensures.value ∙ c.in_ok-old.ensures))
+    (of_label_from 0 c.args.label c.args.bag.now.held c.lacks_label.ensures.within.rises)
 
 pub between_lists-requires-clause-new_rise : goal.between_lists-requires-clause-new_rise
 between_lists-requires-clause-new_rise c =
@@ -25,9 +26,10 @@ between_lists-requires-clause-new_rise c =
 
 pub returns-clause-plan : goal.returns-clause-plan
 returns-clause-plan c =
+    λ changes.
     let hs = c.args.bag.now.held in
     let label = c.args.label in
-    let Planned : List Entry → Type 0 = λ es. Plans c.args.bag.now [] (Normalise label) es in
+    let Planned : List Entry → Type 0 = λ es. Plans c.args.bag.now changes (Normalise label) es in
     let Rise : List CellId → Type 0 = λ cs. AllPairs (λ a b. raw_of a < raw_of b) cs in
     let cells = c.cells.ensures.list ∙ c.in_ok-region.ensures.form in
     let rises : Rise (region_of label hs) = subst Rise c.in_ok-region.ensures.form c.in_ok-region.ensures.normal.rises in
@@ -35,5 +37,6 @@ returns-clause-plan c =
     ∙ ap₂ (λ (old new : Collection). change_between old new) (c.as_slice.ensures.value ∙ c.in_ok-old.ensures)
     (c.as_slice-2.ensures.value ∙ c.in_ok-new.ensures ∙ ap (λ cs. ones label cs) cells) in
     subst Planned (sym change)
-    (plans_from_makes c.args.bag.now [] (Normalise label) _ (sym c.lacks_label.ensures.lacks ∙ c.if-lacks_label.false) refl refl refl refl
+    (plans_from_makes c.args.bag.now changes (Normalise label) _ (sym c.lacks_label.ensures.lacks ∙ c.if-lacks_label.false) refl refl refl
+    refl
     (replacement_makes c.args.bag.now label (region_of label hs) c.lacks_label.ensures.within.rises rises))

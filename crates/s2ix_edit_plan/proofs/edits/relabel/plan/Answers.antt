@@ -1,4 +1,4 @@
-use Rattle.std.proofs.Common.{List, [], refl, sym, ◌∙◌, subst}
+use Rattle.std.proofs.Common.{List, refl, sym, ◌∙◌, subst}
 use Rattle.s2ix_bag_pairs.specs.declared.pair.Entry.{Entry}
 use Rattle.s2ix_edit_plan.specs.declared.edit.Edit.TheVariants.{Relabel}
 use Rattle.s2ix_edit_plan.specs.Plan.{Plans}
@@ -7,7 +7,8 @@ use Rattle.s2ix_edit_plan.proofs.edits.relabel.plan.Goals as goal
 
 pub returns-then-get-clause-plan : goal.returns-then-get-clause-plan
 returns-then-get-clause-plan c =
-    let Planned : List Entry → Type 0 = λ es. Plans c.args.bag.now [] (Relabel c.args.source c.args.target) es in
+    λ changes.
+    let Planned : List Entry → Type 0 = λ es. Plans c.args.bag.now changes (Relabel c.args.source c.args.target) es in
     let one = sym c.get.ensures ∙ c.if-get.true ∙ c.get-2.ensures in
     subst Planned (sym (c.from_vec.ensures ∙ c.new.ensures.items))
     (record {

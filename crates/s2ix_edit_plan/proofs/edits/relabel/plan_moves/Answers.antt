@@ -18,15 +18,17 @@ loop-held-init c = (
 
 pub returns-in_default-clause-refused : goal.returns-in_default-clause-refused
 returns-in_default-clause-refused c =
+    λ changes.
     let within = c.of_label-held-items.ensures.within in
-    too_high c.args.bag.now [] (Relabel c.args.source c.args.target) within c.requires.held refl refl refl refl
+    too_high c.args.bag.now changes (Relabel c.args.source c.args.target) within c.requires.held refl refl refl refl
     (sum_above c.args.bag.now c.args.source c.args.target c.loop-held.yielded c.in-Some.held c.next.new.self within c.requires.apart
     (ap (λ (ks : List Held). c.loop-held.yielded ++ ks) (sym c.in-Some.ensures.steps) ∙ c.loop-held.invariant.1)
     (omega (arith, c.count-before.ensures.count, c.in_default.ensures)))
 
 pub loop-held-preserved : goal.loop-held-preserved
 loop-held-preserved c = (
-  moves_more c.args.bag.now.held c.args.target c.loop-held.yielded c.in-Some.held _ _ _ _ c.loop-held.invariant.0 c.count-before.ensures.count (omega (arith, c.in-Some-checked_add.ensures)) c.in_ok-push_move.ensures,
+  moves_more c.args.bag.now.held c.args.target c.loop-held.yielded c.in-Some.held _ _ _ _ c.loop-held.invariant.0
+      c.count-before.ensures.count (omega (arith, c.in-Some-checked_add.ensures)) c.in_ok-push_move.ensures,
   append_assoc c.loop-held.yielded (c.in-Some.held ∷ []) c.next.new.self
       ∙ ap (λ (ks : List Held). c.loop-held.yielded ++ ks) (sym c.in-Some.ensures.steps)
       ∙ c.loop-held.invariant.1,
@@ -35,14 +37,18 @@ loop-held-preserved c = (
 pub from_vec-requires : goal.from_vec-requires
 from_vec-requires c =
     let Rises : List Entry → Type 0 = λ es. IsChangeList es in
-    let all = sym (append-nil c.loop-held.yielded) ∙ ap (λ (ks : List Held). c.loop-held.yielded ++ ks) (sym c.in-None.ensures.steps.0) ∙ c.loop-held.invariant.1 in
+    let all = sym (append-nil c.loop-held.yielded) ∙ ap (λ (ks : List Held). c.loop-held.yielded ++ ks) (sym c.in-None.ensures.steps.0)
+    ∙ c.loop-held.invariant.1 in
     subst Rises (sym (c.loop-held.invariant.0 ∙ ap (λ ks. moves c.args.bag.now.held c.args.target ks) all))
     (moves_make c.args.bag.now c.args.source c.args.target c.of_label-held-items.ensures.within.rises c.requires.apart).rises
 
 pub returns-clause-plan : goal.returns-clause-plan
 returns-clause-plan c =
+    λ changes.
     let edit = Relabel c.args.source c.args.target in
-    let Planned : List Entry → Type 0 = λ es. Plans c.args.bag.now [] edit es in
-    let all = sym (append-nil c.loop-held.yielded) ∙ ap (λ (ks : List Held). c.loop-held.yielded ++ ks) (sym c.in-None.ensures.steps.0) ∙ c.loop-held.invariant.1 in
+    let Planned : List Entry → Type 0 = λ es. Plans c.args.bag.now changes edit es in
+    let all = sym (append-nil c.loop-held.yielded) ∙ ap (λ (ks : List Held). c.loop-held.yielded ++ ks) (sym c.in-None.ensures.steps.0)
+    ∙ c.loop-held.invariant.1 in
     subst Planned (sym (c.from_vec.ensures ∙ c.loop-held.invariant.0 ∙ ap (λ ks. moves c.args.bag.now.held c.args.target ks) all))
-    (plans_from_makes c.args.bag.now [] edit _ c.requires.held refl refl refl refl (moves_make c.args.bag.now c.args.source c.args.target c.of_label-held-items.ensures.within.rises c.requires.apart))
+    (plans_from_makes c.args.bag.now changes edit _ c.requires.held refl refl refl refl
+    (moves_make c.args.bag.now c.args.source c.args.target c.of_label-held-items.ensures.within.rises c.requires.apart))

@@ -4,4 +4,6 @@ use Rattle.s2ix_edit_plan.proofs.edits.remove.plan.Goals as goal
 
 pub returns-clause-plan : goal.returns-clause-plan
 returns-clause-plan c =
-    remove_plans c.args.bag.now c.args.pair c.args.copies _ _ _ c.count-before.ensures.within c.count-before.ensures.count (omega (arith, c.in-Some.ensures)) (omega (arith, c.in-Some.ensures)) c.in_ok-one_pair.ensures.change
+    λ changes.
+    remove_plans c.args.bag.now changes c.args.pair c.args.copies _ _ _ c.count-before.ensures.within c.count-before.ensures.count
+    (omega (arith, c.in-Some.ensures)) (omega (arith, c.in-Some.ensures)) c.in_ok-one_pair.ensures.change
