@@ -44,14 +44,17 @@ next_more hs h at limit mid new next first last =
     let s = span_of h in
     let le : new ≤ limit = omega (arith, first.within, last.within) in
     let Fits : ℕ → Type 0 = λ b. (at < b) × (b % 2 ≡ 1) × (b < leaf_end → IsBound (hs ++ h ∷ []) b) in
-    let old : Fits limit = (next.above, next.odd, λ lt. let is = next.is_bound lt in (is.0, Contains-append_left hs (h ∷ []) is.0 is.1, is.2)) in
+    let old : Fits limit =
+    (next.above, next.odd, λ lt. let is = next.is_bound lt in (is.0, Contains-append_left hs (h ∷ []) is.0 is.1, is.2)) in
     let both = nearer_has Fits at limit _ mid first old (λ lt. (lt, s.odd, λ _. (h, Contains-push hs h, inl refl))) in
     let fits = nearer_has Fits at mid _ new last both (λ lt. (lt, s.odd_end, λ _. (h, Contains-push hs h, inr refl))) in
     record {
       above = fits.0;
       within = omega (arith, next.within);
       odd = fits.1;
-      no_first = none_passed (λ (x : Held). first_of x.pair.cell) hs h at limit new le next.no_first (λ lt. omega (arith, first.past lt, last.within));
+      no_first =
+          none_passed (λ (x : Held). first_of x.pair.cell) hs h at limit new le next.no_first
+          (λ lt. omega (arith, first.past lt, last.within));
       no_end = none_passed (λ (x : Held). end_of x.pair.cell) hs h at limit new le next.no_end last.past;
       is_bound = fits.2;
     }
@@ -89,7 +92,8 @@ built_more hs ranges at range built lt whole =
     let o = built.odd in
     let b = whole.rises in
     let p = whole.odd in
-    let is_range : IsRangeFrom hs at (range_of range) = record { start = whole.start; odd = o; rises = b; shared = λ q odd le l. whole.shared q le l } in
+    let is_range : IsRangeFrom hs at (range_of range) =
+    record { start = whole.start; odd = o; rises = b; shared = λ q odd le l. whole.shared q le l } in
     let table = table_push hs 1 (ranges_of ranges) at (range_of range) built.table is_range (λ q le two. built.changes q le two lt) in
     record {
       table = subst (λ rs. IsTable hs 1 rs range.limit) (sym (map-append range_of ranges (range ∷ []))) table;
@@ -107,7 +111,8 @@ bound_changes hs at limit odd next below same =
     let o = next.odd in
     let last : ℕ = limit - 2 in
     let two : last + 2 ≡ limit = omega arith in
-    changes_at hs last limit (omega arith) two (next.is_bound below) (stays_between hs at limit last next (omega arith) (omega arith) ∙ sym same)
+    changes_at hs last limit (omega arith) two (next.is_bound below)
+    (stays_between hs at limit last next (omega arith) (omega arith) ∙ sym same)
 
 pub built_end : (hs : Collection) (ranges : List CopiedRange) (at : ℕ) → IsBuilt hs ranges at → leaf_end ≤ at
     → IsRangeTable hs (ranges_of ranges)
@@ -168,7 +173,8 @@ found_range hs (range ∷ ranges) k q t from to le low high =
 
 pub contents_of_place : (ranges : List CopiedRange) (k : ℕ) (range : CopiedRange) → k < length ranges → range ≡ get_or ranges k range
     → (range_at (ranges_of ranges) k).contents ≡ range.contents.items
-contents_of_place ranges k range lt is = ap (λ (r : Range). r.contents) (range_at_place ranges k range lt) ∙ ap (λ (r : CopiedRange). r.contents.items) (sym is)
+contents_of_place ranges k range lt is =
+    ap (λ (r : Range). r.contents) (range_at_place ranges k range lt) ∙ ap (λ (r : CopiedRange). r.contents.items) (sym is)
 
 -- a place with a chain is one of a range
 pub place_in_ranges : (ranges : List CopiedRange) (k at : ℕ) → 0 < length (drop at (range_at (ranges_of ranges) k).contents)
@@ -178,6 +184,8 @@ place_in_ranges ranges k at lt =
       | inl less ↦ less
       | inr le ↦
           (let none : Collection = [] in
-          let past : length (drop at (range_at (ranges_of ranges) k).contents) ≡ length (drop at none) = ap (λ (r : Range). length (drop at r.contents)) (get_or_past (ranges_of ranges) k _ (omega (arith, length-map ranges range_of))) in
+          let past : length (drop at (range_at (ranges_of ranges) k).contents) ≡ length (drop at none) =
+          ap (λ (r : Range). length (drop at r.contents))
+          (get_or_past (ranges_of ranges) k _ (omega (arith, length-map ranges range_of))) in
           absurd (omega (arith, length-drop at none)))
     ]

@@ -35,5 +35,6 @@ yields_end {S} {A} rest given s t u all done r gives same took is step =
 pub yields_ranges : {T : Type 0} (ranges : T → List Range) (it : RangeIter T) (rows : List (ℕ × RangeRow)) → ranges_left ranges it ≡ rows
     → AlwaysYields (StepsOn ranges) (λ row. row) it rows
 yields_ranges {T} ranges it rows e =
-    let all = YieldsList-from_shown (StepsOn ranges) (λ (row : ℕ × RangeRow). row) (ranges_left ranges) (λ s t step. ap length step.yields.0) (λ s row t step. step.yields) it in
+    let all = YieldsList-from_shown (StepsOn ranges) (λ (row : ℕ × RangeRow). row) (ranges_left ranges)
+    (λ s t step. ap length step.yields.0) (λ s row t step. step.yields) it in
     subst (AlwaysYields (StepsOn ranges) (λ (row : ℕ × RangeRow). row) it) e all.runs

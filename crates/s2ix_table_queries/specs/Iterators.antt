@@ -24,6 +24,7 @@ pub record IsAtRange {T : Type 0} (ranges : T → List Range) (table : T) (it : 
   pub left : ranges_left ranges it ≡ numbered_rows k (drop k (ranges table))
 
 -- a call gave the first of the bounds that were left and left the others, or `None` where none were left; the table stays the same
-pub record StepsOn {T : Type 0} (ranges : T → List Range) (old : RangeIter T) (answer : Option (ℕ × RangeRow)) (new : RangeIter T) : Type 0 where
+pub record StepsOn {T : Type 0} (ranges : T → List Range) (old : RangeIter T) (answer : Option (ℕ × RangeRow))
+    (new : RangeIter T) : Type 0 where
   pub yields : YieldsFirst (ranges_left ranges) old answer new
   pub same : table_of new ≡ table_of old

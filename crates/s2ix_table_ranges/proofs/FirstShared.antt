@@ -30,7 +30,8 @@ shared_here t ts cell a b = cond-true _ _ _ (and_from _ _ (lt-ltb _ _ a) (lt-ltb
 pub shared_tail : (t : CellId) (ts : List CellId) (cell : CellId) → first_shared (t ∷ ts) cell ≤ first_shared ts cell
 unfolding first_shared
 shared_tail t ts cell =
-    elim (ltb (first_of t) (end_of cell) && ltb (first_of cell) (end_of t)) as (λ b. cond b (min (max (first_of t) (first_of cell)) (first_shared ts cell)) (first_shared ts cell) ≤ first_shared ts cell) [
+    elim (ltb (first_of t) (end_of cell) && ltb (first_of cell) (end_of t)) as (λ b.
+    cond b (min (max (first_of t) (first_of cell)) (first_shared ts cell)) (first_shared ts cell) ≤ first_shared ts cell) [
       | true ↦ omega arith
       | false ↦ omega arith
     ]
@@ -58,7 +59,10 @@ pub shared_is : (target : List CellId) (cell : CellId) → first_shared target c
 unfolding first_shared
 shared_is [] cell lt = absurd (omega arith)
 shared_is (t ∷ ts) cell lt =
-    elim (ltb (first_of t) (end_of cell) && ltb (first_of cell) (end_of t)) as (λ b. ((ltb (first_of t) (end_of cell) && ltb (first_of cell) (end_of t)) ≡ b) → cond b (min (max (first_of t) (first_of cell)) (first_shared ts cell)) (first_shared ts cell) < leaf_end → IsSharedAt (t ∷ ts) cell (cond b (min (max (first_of t) (first_of cell)) (first_shared ts cell)) (first_shared ts cell))) [
+    elim (ltb (first_of t) (end_of cell) && ltb (first_of cell) (end_of t)) as (λ b.
+    ((ltb (first_of t) (end_of cell) && ltb (first_of cell) (end_of t)) ≡ b)
+    → cond b (min (max (first_of t) (first_of cell)) (first_shared ts cell)) (first_shared ts cell) < leaf_end
+    → IsSharedAt (t ∷ ts) cell (cond b (min (max (first_of t) (first_of cell)) (first_shared ts cell)) (first_shared ts cell))) [
       | true ↦
           λ e l.
           let both = and_parts (ltb (first_of t) (end_of cell)) (ltb (first_of cell) (end_of t)) e in
@@ -77,9 +81,12 @@ shared_is (t ∷ ts) cell lt =
                 (let same : first_shared ts cell ≡ min (max (first_of t) (first_of cell)) (first_shared ts cell) = omega arith in
                 subst (IsSharedAt (t ∷ ts) cell) same (shared_more t ts cell (first_shared ts cell) (shared_is ts cell (omega arith))))
             | inr le ↦
-                (let same : max (first_of t) (first_of cell) ≡ min (max (first_of t) (first_of cell)) (first_shared ts cell) = omega arith in
-                let covered : Covers (t ∷ ts) (max (first_of t) (first_of cell)) = record { cell = t; held = at_head t ts; from = omega arith; to = omega arith } in
-                subst (IsSharedAt (t ∷ ts) cell) same (record { covered = covered; from = omega arith; to = omega arith; odd = omega arith }))
+                (let same : max (first_of t) (first_of cell) ≡ min (max (first_of t) (first_of cell)) (first_shared ts cell) =
+                omega arith in
+                let covered : Covers (t ∷ ts) (max (first_of t) (first_of cell)) =
+                record { cell = t; held = at_head t ts; from = omega arith; to = omega arith } in
+                subst (IsSharedAt (t ∷ ts) cell) same
+                (record { covered = covered; from = omega arith; to = omega arith; odd = omega arith }))
           ]
       | false ↦ λ e l. shared_more t ts cell (first_shared ts cell) (shared_is ts cell l)
     ] refl lt

@@ -38,7 +38,8 @@ deeper_from_numbers k l v w a b c d lt =
 pub deeper_from_key : (a b : Held) → depth_key a < depth_key b → IsDeeper a b
 unfolding depth_key
 deeper_from_key a b lt =
-    deeper_from_numbers (level_of a.pair.cell) (level_of b.pair.cell) (value_of a.pair.label) (value_of b.pair.label) (level_at_most a) (level_at_most b) a.pair.label.in_range b.pair.label.in_range lt
+    deeper_from_numbers (level_of a.pair.cell) (level_of b.pair.cell) (value_of a.pair.label) (value_of b.pair.label) (level_at_most a)
+    (level_at_most b) a.pair.label.in_range b.pair.label.in_range lt
 
 pub deeper_one_way : (a b : Held) → IsDeeper a b → IsDeeper b a → ⊥
 deeper_one_way a b (inl x) (inl y) = omega arith
@@ -87,7 +88,9 @@ pub contents_more_in : (q k : ℕ) (hs : Collection) (h : Held) → IsCollection
 unfolding contents_at
 contents_more_in q k hs h c lt is t =
     let more = take_more hs k h lt ∙ ap (λ (y : Held). take k hs ++ y ∷ []) (sym is) in
-    ap (contents_at q) more ∙ choice_more_in (covers q) depth_key h (take k hs) (subst (AreApart (covers q) depth_key) more (apart_over q 0 (take (k + 1) hs) (collection_take (k + 1) 0 hs c))) t
+    ap (contents_at q) more
+    ∙ choice_more_in (covers q) depth_key h (take k hs)
+    (subst (AreApart (covers q) depth_key) more (apart_over q 0 (take (k + 1) hs) (collection_take (k + 1) 0 hs c))) t
 
 pub contents_more_out : (q k : ℕ) (hs : Collection) (h : Held) → k < length hs → h ≡ get_or hs k h → covers q h ≡ false
     → contents_at q (take (k + 1) hs) ≡ contents_at q (take k hs)
@@ -99,21 +102,27 @@ contents_more_out q k hs h lt is f =
 contents_deepen : (q : ℕ) (hs : Collection) → IsCollection hs → AllPairs IsDeeper (contents_at q hs)
 unfolding contents_at
 contents_deepen q hs c i j d lt within =
-    deeper_from_key _ _ (strict_pairs depth_key (contents_at q hs) (strictly_choice (covers q) depth_key hs (apart_over q 0 hs c)) i j d lt within)
+    deeper_from_key _ _
+    (strict_pairs depth_key (contents_at q hs) (strictly_choice (covers q) depth_key hs (apart_over q 0 hs c)) i j d lt within)
 
 pub contents_of_leaf : (held : Collection) (leaf : Path) → IsCollection held → IsLeafPath leaf
     → IsContents leaf held (contents_at (number_of leaf) held)
 contents_of_leaf held leaf c deep = record {
   rises = contents_deepen (number_of leaf) held c;
   each = λ h. (
-    λ k. let r = in_contents (number_of leaf) held h k in (r.0, leaf_from_span leaf (raw_of h.pair.cell) h.pair.cell.valid deep r.1.from r.1.to),
-    λ k. let at = span_from_leaf leaf (raw_of h.pair.cell) h.pair.cell.valid k.1 in contents_has (number_of leaf) held h k.0 (record { from = at.0; to = at.1 }),
+    λ k.
+        let r = in_contents (number_of leaf) held h k in
+        (r.0, leaf_from_span leaf (raw_of h.pair.cell) h.pair.cell.valid deep r.1.from r.1.to),
+    λ k.
+        let at = span_from_leaf leaf (raw_of h.pair.cell) h.pair.cell.valid k.1 in
+        contents_has (number_of leaf) held h k.0 (record { from = at.0; to = at.1 }),
   );
 }
 
 pub same_contents : (held : Collection) (leaf : Path) (xs ys : Collection) → IsContents leaf held xs → IsContents leaf held ys → xs ≡ ys
 same_contents held leaf xs ys x y =
-    same_rising IsDeeper xs ys (λ a b _ _. deeper_one_way a b) x.rises y.rises (λ h k. (y.each h).1 ((x.each h).0 k)) (λ h k. (x.each h).1 ((y.each h).0 k))
+    same_rising IsDeeper xs ys (λ a b _ _. deeper_one_way a b) x.rises y.rises (λ h k. (y.each h).1 ((x.each h).0 k))
+    (λ h k. (x.each h).1 ((y.each h).0 k))
 
 -- ---- meeting lists
 
@@ -139,7 +148,8 @@ first_leaf_of target cell lt =
       is = is;
       first = record {
         of_cell = leaf_from_span (path_at q) (raw_of cell) cell.valid l.1 (omega arith) (omega arith);
-        of_target = (v.held.0, v.cell, v.held.1, v.held.2, leaf_from_span (path_at q) (raw_of v.cell) v.cell.valid l.1 (omega arith) (omega arith));
+        of_target =
+            (v.held.0, v.cell, v.held.1, v.held.2, leaf_from_span (path_at q) (raw_of v.cell) v.cell.valid l.1 (omega arith) (omega arith));
         least = λ other in_cell in_target.
             let at = span_from_leaf other (raw_of cell) cell.valid in_cell in
             let le = shared_le target cell (number_of other) (covers_from_region target other in_target) at.0 at.1 in
@@ -181,26 +191,30 @@ unfolding meeting_key
 met_in_order target a b lt p q first_a first_b =
     let np = first_number target a.pair.cell p first_a in
     let nq = first_number target b.pair.cell q first_b in
-    elim (met_from_key (first_shared target a.pair.cell) (first_shared target b.pair.cell) (depth_key a) (depth_key b) (depth_bound a) (depth_bound b) lt) [
+    elim (met_from_key (first_shared target a.pair.cell) (first_shared target b.pair.cell) (depth_key a) (depth_key b) (depth_bound a)
+    (depth_bound b) lt) [
       | inl less ↦ inl (omega arith)
       | inr tie ↦ inr (np ∙ tie.0 ∙ sym nq, deeper_from_key a b tie.1)
     ]
 
 is_met : (target : List CellId) (h : Held) → is_met_from target 1 h ≡ true → first_shared target h.pair.cell < leaf_end
 is_met target h t =
-    ltb-true (first_shared target h.pair.cell) leaf_end (and_parts (leb 1 (first_shared target h.pair.cell)) (ltb (first_shared target h.pair.cell) leaf_end) t).1
+    ltb-true (first_shared target h.pair.cell) leaf_end
+    (and_parts (leb 1 (first_shared target h.pair.cell)) (ltb (first_shared target h.pair.cell) leaf_end) t).1
 
 same_pair_met : (target : List CellId) (a b : Held) → first_shared target a.pair.cell < leaf_end
     → first_shared target b.pair.cell < leaf_end → meeting_key target a ≡ meeting_key target b → rank_of a.pair ≡ rank_of b.pair
 unfolding meeting_key
 same_pair_met target a b on_a on_b e =
-    let parts = same_from_key (first_shared target a.pair.cell) (first_shared target b.pair.cell) (depth_key a) (depth_key b) (depth_bound a) (depth_bound b) e in
+    let parts = same_from_key (first_shared target a.pair.cell) (first_shared target b.pair.cell) (depth_key a) (depth_key b)
+    (depth_bound a) (depth_bound b) e in
     let same = parts.0 in
     let s = shared_is target a.pair.cell on_a in
     let u = shared_is target b.pair.cell on_b in
     let u1 = u.from in
     let u2 = u.to in
-    same_pair_over (first_shared target a.pair.cell) a b (record { from = s.from; to = s.to }) (record { from = omega arith; to = omega arith }) parts.1
+    same_pair_over (first_shared target a.pair.cell) a b (record { from = s.from; to = s.to })
+    (record { from = omega arith; to = omega arith }) parts.1
 
 apart_met : (target : List CellId) (n : ℕ) (hs : Collection) → IsCollectionFrom n hs
     → AreApart (is_met_from target 1) (meeting_key target) hs
@@ -216,7 +230,11 @@ apart_met target n (h ∷ hs) c = (
 pub meeting_list : (target : List CellId) (held : Collection) → IsCollection held → IsMeetingList target held (meeting_of target held)
 unfolding meeting_from
 meeting_list target held c = record {
-  rises = λ i j d lt within. met_in_order target _ _ (strict_pairs (meeting_key target) (meeting_of target held) (strictly_choice (is_met_from target 1) (meeting_key target) held (apart_met target 0 held c)) i j d lt within);
+  rises =
+      λ i j d lt within.
+      met_in_order target _ _
+      (strict_pairs (meeting_key target) (meeting_of target held)
+      (strictly_choice (is_met_from target 1) (meeting_key target) held (apart_met target 0 held c)) i j d lt within);
   each = λ h. (
     λ k.
         let r = in_choice (is_met_from target 1) (meeting_key target) held h k in
@@ -228,7 +246,8 @@ meeting_list target held c = record {
         let from = s.from in
         let span = span_of h in
         let begins = span.begins in
-        choice_has (is_met_from target 1) (meeting_key target) held h k.0 (and_from _ _ (le-leb 1 (first_shared target h.pair.cell) (omega arith)) (lt-ltb _ _ lt)),
+        choice_has (is_met_from target 1) (meeting_key target) held h k.0
+        (and_from _ _ (le-leb 1 (first_shared target h.pair.cell) (omega arith)) (lt-ltb _ _ lt)),
   );
 }
 
@@ -244,10 +263,12 @@ met_one_way target a b ma mb ab ba =
 
 pub same_meeting : (target : List CellId) (held xs ys : Collection) → IsMeetingList target held xs → IsMeetingList target held ys → xs ≡ ys
 same_meeting target held xs ys x y =
-    same_rising (IsMetBefore target) xs ys (λ a b ha hb. met_one_way target a b ((x.each a).0 ha).1 ((x.each b).0 hb).1) x.rises y.rises (λ h k. (y.each h).1 ((x.each h).0 k)) (λ h k. (x.each h).1 ((y.each h).0 k))
+    same_rising (IsMetBefore target) xs ys (λ a b ha hb. met_one_way target a b ((x.each a).0 ha).1 ((x.each b).0 hb).1) x.rises y.rises
+    (λ h k. (y.each h).1 ((x.each h).0 k)) (λ h k. (x.each h).1 ((y.each h).0 k))
 
 -- ---- label lists
 
 pub same_labels : (meeting : Collection) (xs ys : List Label) → IsLabelList meeting xs → IsLabelList meeting ys → xs ≡ ys
 same_labels meeting xs ys x y =
-    same_rising (λ (l m : Label). value_of l < value_of m) xs ys (λ a b _ _ lt gt. omega arith) x.rises y.rises (λ h k. (y.each h).1 ((x.each h).0 k)) (λ h k. (x.each h).1 ((y.each h).0 k))
+    same_rising (λ (l m : Label). value_of l < value_of m) xs ys (λ a b _ _ lt gt. omega arith) x.rises y.rises
+    (λ h k. (y.each h).1 ((x.each h).0 k)) (λ h k. (x.each h).1 ((y.each h).0 k))

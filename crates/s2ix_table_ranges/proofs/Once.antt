@@ -13,7 +13,8 @@ pub in_put : {X : Type 0} (key : X → ℕ) (x : X) (xs : List X) (z : X) → Co
 unfolding put_once
 in_put key x [] z c = cons_cases x [] z c
 in_put key x (y ∷ ys) z c =
-    elim (ltb (key x) (key y)) as (λ b. Contains (cond b (x ∷ y ∷ ys) (cond (ltb (key y) (key x)) (y ∷ put_once key x ys) (y ∷ ys))) z → (x ≡ z) ⊎ Contains (y ∷ ys) z) [
+    elim (ltb (key x) (key y)) as (λ b.
+    Contains (cond b (x ∷ y ∷ ys) (cond (ltb (key y) (key x)) (y ∷ put_once key x ys) (y ∷ ys))) z → (x ≡ z) ⊎ Contains (y ∷ ys) z) [
       | true ↦ λ t. cons_cases x (y ∷ ys) z t
       | false ↦
           elim (ltb (key y) (key x)) as (λ b. Contains (cond b (y ∷ put_once key x ys) (y ∷ ys)) z → (x ≡ z) ⊎ Contains (y ∷ ys) z) [
@@ -34,7 +35,8 @@ unfolding put_once
 put_has key one x [] z (inl e) = (0, omega arith, e)
 put_has key one x [] z (inr c) = absurd (none_in_nil z c)
 put_has key one x (y ∷ ys) z h =
-    elim (ltb (key x) (key y)) as (λ b. (ltb (key x) (key y) ≡ b) → Contains (cond b (x ∷ y ∷ ys) (cond (ltb (key y) (key x)) (y ∷ put_once key x ys) (y ∷ ys))) z) [
+    elim (ltb (key x) (key y)) as (λ b.
+    (ltb (key x) (key y) ≡ b) → Contains (cond b (x ∷ y ∷ ys) (cond (ltb (key y) (key x)) (y ∷ put_once key x ys) (y ∷ ys))) z) [
       | true ↦ λ _. elim h [ inl e ↦ (0, omega arith, e) | inr c ↦ in_tail x (y ∷ ys) z c ]
       | false ↦
           λ f.
@@ -65,7 +67,8 @@ pub rises_put : {X : Type 0} (key : X → ℕ) (x : X) (xs : List X) → RisesOn
 unfolding put_once
 rises_put key x [] r = (λ y c. absurd (none_in_nil y c), tt)
 rises_put key x (y ∷ ys) r =
-    elim (ltb (key x) (key y)) as (λ b. (ltb (key x) (key y) ≡ b) → RisesOnce key (cond b (x ∷ y ∷ ys) (cond (ltb (key y) (key x)) (y ∷ put_once key x ys) (y ∷ ys)))) [
+    elim (ltb (key x) (key y)) as (λ b.
+    (ltb (key x) (key y) ≡ b) → RisesOnce key (cond b (x ∷ y ∷ ys) (cond (ltb (key y) (key x)) (y ∷ put_once key x ys) (y ∷ ys)))) [
       | true ↦
           λ e.
           let lt = ltb-true (key x) (key y) e in (

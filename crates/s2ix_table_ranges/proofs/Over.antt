@@ -85,13 +85,15 @@ level_from_key k l v w a b c d e = omega arith
 pub level_by_key : (a b : Held) → depth_key a ≤ depth_key b → level_of b.pair.cell ≤ level_of a.pair.cell
 unfolding depth_key
 level_by_key a b le =
-    level_from_key (level_of a.pair.cell) (level_of b.pair.cell) (value_of a.pair.label) (value_of b.pair.label) (level_at_most a) (level_at_most b) a.pair.label.in_range b.pair.label.in_range le
+    level_from_key (level_of a.pair.cell) (level_of b.pair.cell) (value_of a.pair.label) (value_of b.pair.label) (level_at_most a)
+    (level_at_most b) a.pair.label.in_range b.pair.label.in_range le
 
 -- of two pairs over a leaf the deeper one lies in the other
 pub nested_over : (q : ℕ) (a b : Held) → IsOver a q → IsOver b q → depth_key a ≤ depth_key b
     → IsNested (raw_of a.pair.cell) (raw_of b.pair.cell)
 nested_over q a b over_a over_b le =
-    nested_by_level (raw_of a.pair.cell) (raw_of b.pair.cell) a.pair.cell.valid b.pair.cell.valid (omega (arith, over_a.from, over_b.to)) (omega (arith, over_b.from, over_a.to)) (level_by_key a b le)
+    nested_by_level (raw_of a.pair.cell) (raw_of b.pair.cell) a.pair.cell.valid b.pair.cell.valid (omega (arith, over_a.from, over_b.to))
+    (omega (arith, over_b.from, over_a.to)) (level_by_key a b le)
 
 key_bound : (k v : ℕ) → v ≤ 2147483647 → (30 - k) * 2147483648 + v < 68719476736
 key_bound k v a = omega arith

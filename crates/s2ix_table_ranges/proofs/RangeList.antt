@@ -95,7 +95,8 @@ bounds_rise [] = (
   (λ y c. absurd (none_in_nil y c), tt),
 )
 bounds_rise (h ∷ hs) =
-    rises_put itself (first_of h.pair.cell) (put_once itself (end_of h.pair.cell) (bounds_of hs)) (rises_put itself (end_of h.pair.cell) (bounds_of hs) (bounds_rise hs))
+    rises_put itself (first_of h.pair.cell) (put_once itself (end_of h.pair.cell) (bounds_of hs))
+    (rises_put itself (end_of h.pair.cell) (bounds_of hs) (bounds_rise hs))
 
 -- ---- the ranges between them
 
@@ -156,7 +157,8 @@ changes_next hs b c (d ∷ ds) from =
     let a4 = after.within in
     let q : ℕ = c - 2 in
     let two : q + 2 ≡ c = omega arith in
-    λ same. changes_at hs q c (omega arith) two (next.is_bound (omega arith)) (stays_between hs b c q next (omega arith) (omega arith) ∙ same)
+    λ same.
+    changes_at hs q c (omega arith) two (next.is_bound (omega arith)) (stays_between hs b c q next (omega arith) (omega arith) ∙ same)
 
 table_between : (hs : Collection) (b : ℕ) (bs : List ℕ) → AreBoundsFrom hs b bs → IsTable hs b (ranges_between hs (b ∷ bs)) leaf_end
 unfolding ranges_between
@@ -188,7 +190,8 @@ table_of_bounds hs (b ∷ bs) rises cuts all =
       | inl e ↦ e
       | inr t ↦ absurd (let less = rises.0 1 t in omega arith)
     ] in
-    let later : (x : ℕ) → IsCut hs x → b < x → Contains bs x = λ x is lt. elim (cons_cases b bs x (all x is)) [ inl f ↦ absurd (omega arith) | inr t ↦ t ] in
+    let later : (x : ℕ) → IsCut hs x → b < x → Contains bs x = λ x is lt.
+    elim (cons_cases b bs x (all x is)) [ inl f ↦ absurd (omega arith) | inr t ↦ t ] in
     places_from_table hs 1 leaf_end (ranges_between hs (b ∷ bs)) (omega arith)
     (subst (λ n. IsTable hs n (ranges_between hs (b ∷ bs)) leaf_end) e (table_between hs b bs (record {
       rises = rises;
@@ -207,4 +210,5 @@ range_table_is hs = table_of_bounds hs (bounds_of hs) (bounds_rise hs) (in_bound
 -- and the only one
 pub is_range_table : (hs : Collection) (ranges : List Range) → IsRangeTable hs ranges → ranges ≡ range_table hs
 is_range_table hs ranges t =
-    same_table hs 1 ranges (range_table hs) leaf_end (table_from_places hs 1 leaf_end ranges t) (table_from_places hs 1 leaf_end (range_table hs) (range_table_is hs))
+    same_table hs 1 ranges (range_table hs) leaf_end (table_from_places hs 1 leaf_end ranges t)
+    (table_from_places hs 1 leaf_end (range_table hs) (range_table_is hs))

@@ -47,7 +47,9 @@ same_first xs ys same cell =
 
 -- the meeting list by the first shared leaf of each cell
 abbrev met_by : (CellId → ℕ) → Collection → Collection
-met_by first held = choice (λ h. leb 1 (first h.pair.cell) && ltb (first h.pair.cell) leaf_end) (λ h. first h.pair.cell * 68719476736 + depth_key h) held
+met_by first held =
+    choice (λ h. leb 1 (first h.pair.cell) && ltb (first h.pair.cell) leaf_end) (λ h. first h.pair.cell * 68719476736 + depth_key h)
+    held
 
 -- targets with one region meet the same pairs, in the same order
 pub same_region_meets : (xs ys : List CellId) (held : Collection) → HaveSameRegion xs ys → meeting_of xs held ≡ meeting_of ys held

@@ -70,8 +70,11 @@ pub table_push : (hs : Collection) (from : ℕ) (ranges : List Range) (mid : ℕ
 table_push hs from [] mid r t range changes =
     let a = range.start in
     let b = range.odd in
-    let c = range.rises in
-    (record { start = a ∙ sym t; odd = omega arith; rises = omega arith; shared = λ q odd le lt. range.shared q odd (omega arith) lt }, tt, refl)
+    let c = range.rises in (
+      record { start = a ∙ sym t; odd = omega arith; rises = omega arith; shared = λ q odd le lt. range.shared q odd (omega arith) lt },
+      tt,
+      refl,
+    )
 table_push hs from (s ∷ []) mid r t range changes =
     let a = t.0.odd in
     let b = t.0.rises in
@@ -81,7 +84,9 @@ table_push hs from (s ∷ []) mid r t range changes =
     let last : ℕ = mid - 2 in
     let two : last + 2 ≡ mid = omega arith in (
       t.0,
-      λ same. changes last (omega arith) two (t.0.shared last (omega arith) (omega arith) (omega arith) ∙ same ∙ sym (range.shared mid c (omega arith) d)),
+      λ same.
+          changes last (omega arith) two
+          (t.0.shared last (omega arith) (omega arith) (omega arith) ∙ same ∙ sym (range.shared mid c (omega arith) d)),
       table_push hs s.limit [] mid r t.2 range (λ q le f. absurd (omega arith)),
     )
 table_push hs from (s ∷ u ∷ us) mid r t range changes =

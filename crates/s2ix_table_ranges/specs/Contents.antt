@@ -11,7 +11,8 @@ use Rattle.s2ix_table_ranges.specs.InOrder.{choice}
 -- a pair comes before another over one leaf: by falling level, then by rising label
 abbrev pub IsDeeper : Held → Held → Type 0
 IsDeeper a b =
-    (level_of b.pair.cell < level_of a.pair.cell) ⊎ ((level_of a.pair.cell ≡ level_of b.pair.cell) × (value_of a.pair.label < value_of b.pair.label))
+    (level_of b.pair.cell < level_of a.pair.cell)
+    ⊎ ((level_of a.pair.cell ≡ level_of b.pair.cell) × (value_of a.pair.label < value_of b.pair.label))
 
 -- the contents of a leaf: the held pairs whose cell has it, by falling level, then by rising label
 pub record IsContents (leaf : Path) (held contents : Collection) : Type 0 where

@@ -41,7 +41,8 @@ pub record IsLabelList (meeting : Collection) (labels : List Label) : Type 0 whe
 unfoldable pub first_shared : List CellId → CellId → ℕ
 first_shared [] cell = leaf_end
 first_shared (t ∷ ts) cell =
-    if nat_lt (first_of t) (end_of cell) && nat_lt (first_of cell) (end_of t) then min (max (first_of t) (first_of cell)) (first_shared ts cell)
+    if nat_lt (first_of t) (end_of cell) && nat_lt (first_of cell) (end_of t)
+    then min (max (first_of t) (first_of cell)) (first_shared ts cell)
     else first_shared ts cell
 
 -- a number that rises with the first shared leaf, and at one leaf with `depth_key`

@@ -32,7 +32,8 @@ one_more [] e face =
       | false ↦ refl
     ]
 one_more (x ∷ front) e face =
-    elim (face_of x.pair.cell == face) as (λ b. (b || has_entry_on (front ++ e ∷ []) face) ≡ cond (face_of e.pair.cell == face) true (b || has_entry_on front face)) [
+    elim (face_of x.pair.cell == face) as (λ b.
+    (b || has_entry_on (front ++ e ∷ []) face) ≡ cond (face_of e.pair.cell == face) true (b || has_entry_on front face)) [
       | true ↦
           elim (face_of e.pair.cell == face) as (λ b. true ≡ cond b true true) [
             | true ↦ refl

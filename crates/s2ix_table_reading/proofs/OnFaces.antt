@@ -34,7 +34,8 @@ before_by_rank p face q is =
 pub below_read : (rank n : ℕ) (hs : Collection) (h : Held) → IsCollection hs → n < length hs → slice_get hs n ≡ Some h
     → rank_of h.pair < rank → AreBelow rank (take (n + 1) hs)
 below_read rank n hs h hs_is within is lt =
-    let here : (d : Held) → rank_of (get_or hs n d).pair ≡ rank_of h.pair = λ d. ap (λ (x : Held). rank_of x.pair) (get_or_from_slice_get hs n h d is) in
+    let here : (d : Held) → rank_of (get_or hs n d).pair ≡ rank_of h.pair = λ d.
+    ap (λ (x : Held). rank_of x.pair) (get_or_from_slice_get hs n h d is) in
     below_from_places rank (n + 1) hs
     (λ k d before short. ⊎_elim
     (λ (same : k ≡ n). let e = ap (λ (j : ℕ). rank_of (get_or hs j d).pair) same in omega (arith, e, here d, lt))
@@ -44,7 +45,8 @@ below_read rank n hs h hs_is within is lt =
 pub from_read : (rank n : ℕ) (hs : Collection) (h : Held) → IsCollection hs → slice_get hs n ≡ Some h → rank ≤ rank_of h.pair
     → IsCollectionFrom rank (drop n hs)
 from_read rank n hs h hs_is is le =
-    from_place rank n 0 hs hs_is (λ d within. let here = ap (λ (x : Held). rank_of x.pair) (get_or_from_slice_get hs n h d is) in omega (arith, here, le))
+    from_place rank n 0 hs hs_is
+    (λ d within. let here = ap (λ (x : Held). rank_of x.pair) (get_or_from_slice_get hs n h d is) in omega (arith, here, le))
 
 -- ---- the pairs of a face
 
@@ -74,7 +76,8 @@ on_from face (suc n) m [] le hs_is below rest = refl
 on_from face (suc n) m (h ∷ hs) le hs_is below rest =
     let first = hs_is.0 in
     let is = of_face face h (omega (arith, first, le)) below.0 in
-    ap (λ (x : Collection). h ∷ x) (on_from face n (rank_of h.pair + 1) hs (omega (arith, first, le)) hs_is.2 below.1 rest) ∙ sym (on_face face h hs is)
+    ap (λ (x : Collection). h ∷ x) (on_from face n (rank_of h.pair + 1) hs (omega (arith, first, le)) hs_is.2 below.1 rest)
+    ∙ sym (on_face face h hs is)
 
 none_of : (n : ℕ) → take n (let none : Collection = [] in none) ≡ []
 none_of zero = refl
@@ -86,7 +89,8 @@ pub held_between : (face a b c : ℕ) (hs : Collection) → b ≡ a + c → AreB
     → IsCollectionFrom (face_start (face + 1)) (drop b hs) → take c (drop a hs) ≡ held_on face hs
 held_between face zero b c hs is below from next behind =
     let same : b ≡ c = omega arith in
-    on_from face c (face_start face) hs (omega arith) from (subst (λ (n : ℕ). AreBelow (face_start (face + 1)) (take n hs)) same next) (subst (λ (n : ℕ). IsCollectionFrom (face_start (face + 1)) (drop n hs)) same behind)
+    on_from face c (face_start face) hs (omega arith) from (subst (λ (n : ℕ). AreBelow (face_start (face + 1)) (take n hs)) same next)
+    (subst (λ (n : ℕ). IsCollectionFrom (face_start (face + 1)) (drop n hs)) same behind)
 held_between face (suc a) zero c hs is below from next behind = absurd (omega arith)
 held_between face (suc a) (suc b) c [] is below from next behind = none_of c
 held_between face (suc a) (suc b) c (h ∷ hs) is below from next behind =

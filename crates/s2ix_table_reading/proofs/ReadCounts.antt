@@ -63,7 +63,8 @@ first_reads least most after fits r =
 pub face_reads : (d e p q l m s0 s1 s2 s3 : ℕ) → e ≡ d → q ≡ p → m ≤ l → HasRead 0 d s0 s1 → HasRead 0 e s1 s2 → HasRead l q s2 s3
     → HasRead m (p + 2 * d) s0 s3
 face_reads d e p q l m s0 s1 s2 s3 same pairs low first second each =
-    read_within (0 + 0 + l) (d + e + q) m (p + 2 * d) s0 s3 (omega arith) (omega arith) (both_read (0 + 0) (d + e) l q s0 s2 s3 (both_read 0 d 0 e s0 s1 s2 first second) each)
+    read_within (0 + 0 + l) (d + e + q) m (p + 2 * d) s0 s3 (omega arith) (omega arith)
+    (both_read (0 + 0) (d + e) l q s0 s2 s3 (both_read 0 d 0 e s0 s1 s2 first second) each)
 
 -- few pairs have few digits
 few_digits : (n : ℕ) → n ≤ 1000000 → binary_digits (n + 1) ≤ 40

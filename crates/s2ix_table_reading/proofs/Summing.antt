@@ -105,7 +105,12 @@ pub record AreReadBelow (change : List Entry) (hs : Collection) (w face before a
   pub reads : HasRead (sum_below change hs face) (sum_below change hs face + face * w) before after
 
 pub nothing_read : (change : List Entry) (hs : Collection) (w before after : ℕ) → after ≡ before → AreReadBelow change hs w 0 before after
-nothing_read change hs w before after same = record { reads = read_within 0 0 (sum_below change hs 0) (sum_below change hs 0 + 0 * w) before after (omega arith) (omega arith) (none_read before after same) }
+nothing_read change hs w before after same =
+    record {
+      reads =
+          read_within 0 0 (sum_below change hs 0) (sum_below change hs 0 + 0 * w) before after (omega arith) (omega arith)
+          (none_read before after same);
+    }
 
 face_left : (change : List Entry) (hs : Collection) (w face before after : ℕ) → has_entry_on change face ≡ false
     → AreReadBelow change hs w face before after → AreReadBelow change hs w (face + 1) before after
@@ -115,7 +120,11 @@ face_left change hs w face before after none r =
     let s : sum_below change hs (suc face) ≡ sum_below change hs face = omega (arith, p) in
     let next : suc face ≡ face + 1 = omega arith in
     subst (λ (n : ℕ). AreReadBelow change hs w n before after) next
-    (record { reads = read_within (sum_below change hs face) (sum_below change hs face + face * w) (sum_below change hs (suc face)) (sum_below change hs (suc face) + suc face * w) before after (omega (arith, s)) (omega (arith, s, more)) r.reads })
+    (record {
+      reads =
+          read_within (sum_below change hs face) (sum_below change hs face + face * w) (sum_below change hs (suc face))
+          (sum_below change hs (suc face) + suc face * w) before after (omega (arith, s)) (omega (arith, s, more)) r.reads;
+    })
 
 face_read : (change : List Entry) (hs : Collection) (w face before between after : ℕ) → has_entry_on change face ≡ true
     → AreReadBelow change hs w face before between → HasRead (length (held_on face hs)) (length (held_on face hs) + w) between after
@@ -126,14 +135,20 @@ face_read change hs w face before between after some r own =
     let n : ℕ = length (held_on face hs) in
     let next : suc face ≡ face + 1 = omega arith in
     subst (λ (k : ℕ). AreReadBelow change hs w k before after) next
-    (record { reads = read_within (sum_below change hs face + n) (sum_below change hs face + face * w + (n + w)) (sum_below change hs (suc face)) (sum_below change hs (suc face) + suc face * w) before after (omega (arith, p)) (omega (arith, p, more)) (both_read (sum_below change hs face) (sum_below change hs face + face * w) n (n + w) before between after r.reads own) })
+    (record {
+      reads =
+          read_within (sum_below change hs face + n) (sum_below change hs face + face * w + (n + w)) (sum_below change hs (suc face))
+          (sum_below change hs (suc face) + suc face * w) before after (omega (arith, p)) (omega (arith, p, more))
+          (both_read (sum_below change hs face) (sum_below change hs face + face * w) n (n + w) before between after r.reads own);
+    })
 
 pub all_read : (change : List Entry) (hs : Collection) (w face before after : ℕ) → face ≡ 6 → AreReadBelow change hs w face before after
     → HasRead (changed_count change hs) (changed_count change hs + 6 * w) before after
 all_read change hs w face before after last r =
     let all = all_summed change hs in
     let is : AreReadBelow change hs w 6 before after = subst (λ (n : ℕ). AreReadBelow change hs w n before after) last r in
-    read_within (sum_below change hs 6) (sum_below change hs 6 + 6 * w) (changed_count change hs) (changed_count change hs + 6 * w) before after (omega (arith, all)) (omega (arith, all)) is.reads
+    read_within (sum_below change hs 6) (sum_below change hs 6 + 6 * w) (changed_count change hs) (changed_count change hs + 6 * w) before
+    after (omega (arith, all)) (omega (arith, all)) is.reads
 
 -- sums over fewer faces are no greater
 sum_rises : (change : List Entry) (hs : Collection) (m n : ℕ) → m ≤ n → sum_below change hs m ≤ sum_below change hs n
@@ -155,7 +170,9 @@ refused_at change hs w face before between after within some r own =
     let most = mul-le-mul_right w (let le : suc face ≤ 6 = omega arith in le) in
     let more = suc-mul face w in
     let n : ℕ = length (held_on face hs) in
-    read_within (sum_below change hs face + 0) (sum_below change hs face + face * w + (n + w)) 0 (changed_count change hs + 6 * w) before after (omega arith) (omega (arith, p, all, up, most, more)) (both_read (sum_below change hs face) (sum_below change hs face + face * w) 0 (n + w) before between after r.reads own)
+    read_within (sum_below change hs face + 0) (sum_below change hs face + face * w + (n + w)) 0 (changed_count change hs + 6 * w) before
+    after (omega arith) (omega (arith, p, all, up, most, more))
+    (both_read (sum_below change hs face) (sum_below change hs face + face * w) 0 (n + w) before between after r.reads own)
 
 -- ---- what is kept of each face, with that of the faces before one renewed
 
@@ -182,12 +199,14 @@ renewed_next (suc (suc (suc (suc (suc (suc n)))))) own old lt = absurd (omega ar
 
 old_there : {A : Type 0} (n : ℕ) (own old : ℕ → A) → n < 6 → set (renewed n own old) n (old n) ≡ renewed n own old
 old_there {A} n own old lt =
-    let is : get_or (renewed n own old) n (old n) ≡ old n = mapped_at (λ (face : ℕ). if nat_lt face n then own face else old face) n (old n) lt ∙ cond-false _ _ _ (le-ltb n n (omega arith)) in
+    let is : get_or (renewed n own old) n (old n) ≡ old n =
+    mapped_at (λ (face : ℕ). if nat_lt face n then own face else old face) n (old n) lt ∙ cond-false _ _ _ (le-ltb n n (omega arith)) in
     ap (λ (x : A). set (renewed n own old) n x) (sym is) ∙ set-get_or (renewed n own old) n (old n)
 
 -- what is the same of one face more stays
 pub same_next : {A : Type 0} (n : ℕ) (own old : ℕ → A) → n < 6 → own n ≡ old n → renewed n own old ≡ renewed (n + 1) own old
-same_next {A} n own old lt same = sym (old_there n own old lt) ∙ ap (λ (x : A). set (renewed n own old) n x) (sym same) ∙ renewed_next n own old lt
+same_next {A} n own old lt same =
+    sym (old_there n own old lt) ∙ ap (λ (x : A). set (renewed n own old) n x) (sym same) ∙ renewed_next n own old lt
 
 -- that of one face more is put into its place
 pub put_next : {A V : Type 0} (of : V → A) (n r : ℕ) (own old : ℕ → A) (before after : List V) (x : V) → n < 6 → r ≡ n
@@ -214,7 +233,8 @@ none_on_face change hs face none = cond-false _ _ _ none
 pub tested : (change : List Entry) (tests : List Bool) (n r : ℕ) (b : Bool) → tests ≡ map (has_entry_on change) faces → r ≡ n → n < 6
     → get_or tests r false ≡ b → has_entry_on change n ≡ b
 tested change tests n r b are here lt is =
-    sym (mapped_at (has_entry_on change) n false lt) ∙ ap (λ (ts : List Bool). get_or ts n false) (sym are) ∙ ap (λ (k : ℕ). get_or tests k false) (sym here) ∙ is
+    sym (mapped_at (has_entry_on change) n false lt) ∙ ap (λ (ts : List Bool). get_or ts n false) (sym are)
+    ∙ ap (λ (k : ℕ). get_or tests k false) (sym here) ∙ is
 
 -- ---- the same of a reader that still shows what it showed
 
@@ -223,17 +243,20 @@ pub face_was_read : (change : List Entry) (hs xs : Collection) (face before betw
     → AreReadBelow change hs (two_searches hs) (face + 1) before now
 face_was_read change hs xs face before between after now some same is r own =
     let here : IsFaceRead face hs between after = subst (λ (ks : Collection). IsFaceRead face ks between after) same own in
-    subst (λ (n : ℕ). AreReadBelow change hs (two_searches hs) (face + 1) before n) (sym is) (face_read change hs (two_searches hs) face before between after some r here)
+    subst (λ (n : ℕ). AreReadBelow change hs (two_searches hs) (face + 1) before n) (sym is)
+    (face_read change hs (two_searches hs) face before between after some r here)
 
 pub face_was_left : (change : List Entry) (hs : Collection) (face before after now : ℕ) → has_entry_on change face ≡ false → now ≡ after
     → AreReadBelow change hs (two_searches hs) face before after → AreReadBelow change hs (two_searches hs) (face + 1) before now
 face_was_left change hs face before after now none is r =
-    subst (λ (n : ℕ). AreReadBelow change hs (two_searches hs) (face + 1) before n) (sym is) (face_left change hs (two_searches hs) face before after none r)
+    subst (λ (n : ℕ). AreReadBelow change hs (two_searches hs) (face + 1) before n) (sym is)
+    (face_left change hs (two_searches hs) face before after none r)
 
 pub face_was_refused : (change : List Entry) (hs xs : Collection) (face before between after : ℕ) → face < 6
     → has_entry_on change face ≡ true → xs ≡ hs → AreReadBelow change hs (two_searches hs) face before between
     → HasRead 0 (length (held_on face xs) + two_searches xs) between after
     → HasRead 0 (changed_count change hs + 6 * two_searches hs) before after
 face_was_refused change hs xs face before between after within some same r own =
-    let here : HasRead 0 (length (held_on face hs) + two_searches hs) between after = subst (λ (ks : Collection). HasRead 0 (length (held_on face ks) + two_searches ks) between after) same own in
+    let here : HasRead 0 (length (held_on face hs) + two_searches hs) between after =
+    subst (λ (ks : Collection). HasRead 0 (length (held_on face ks) + two_searches ks) between after) same own in
     refused_at change hs (two_searches hs) face before between after within some r here

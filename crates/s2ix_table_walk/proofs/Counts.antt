@@ -25,7 +25,13 @@ grows_at : {X : Type 0} (d : X) (p q : X → Bool) (xs : List X)
     → ((j : ℕ) → j < length xs → p (get_or xs j d) ≡ true → q (get_or xs j d) ≡ true) → count_by p xs ≤ count_by q xs
 grows_at d p q [] h = omega arith
 grows_at d p q (x ∷ xs) h =
-    omega (arith, count_cons p x xs, count_cons q x xs, one_grows (p x) (q x) (h 0 (omega arith)), grows_at d p q xs (λ j lt. h (suc j) (omega arith)))
+    omega (
+      arith,
+      count_cons p x xs,
+      count_cons q x xs,
+      one_grows (p x) (q x) (h 0 (omega arith)),
+      grows_at d p q xs (λ j lt. h (suc j) (omega arith)),
+    )
 
 -- a weaker test counts no fewer
 pub count_grows : {X : Type 0} (p q : X → Bool) (xs : List X) → ((x : X) → p x ≡ true → q x ≡ true) → count_by p xs ≤ count_by q xs
@@ -37,9 +43,21 @@ pub count_grows_once : {X : Type 0} (d : X) (p q : X → Bool) (xs : List X) (k 
     → ((j : ℕ) → j < length xs → (j ≡ k → ⊥) → p (get_or xs j d) ≡ true → q (get_or xs j d) ≡ true) → count_by p xs ≤ count_by q xs + 1
 count_grows_once d p q [] k h = omega arith
 count_grows_once d p q (x ∷ xs) zero h =
-    omega (arith, count_cons p x xs, count_cons q x xs, one_at_most (p x), grows_at d p q xs (λ j lt. h (suc j) (omega arith) (λ e. absurd (omega arith))))
+    omega (
+      arith,
+      count_cons p x xs,
+      count_cons q x xs,
+      one_at_most (p x),
+      grows_at d p q xs (λ j lt. h (suc j) (omega arith) (λ e. absurd (omega arith))),
+    )
 count_grows_once d p q (x ∷ xs) (suc k) h =
-    omega (arith, count_cons p x xs, count_cons q x xs, one_grows (p x) (q x) (h 0 (omega arith) (λ e. absurd (omega arith))), count_grows_once d p q xs k (λ j lt other. h (suc j) (omega arith) (λ e. other (omega arith))))
+    omega (
+      arith,
+      count_cons p x xs,
+      count_cons q x xs,
+      one_grows (p x) (q x) (h 0 (omega arith) (λ e. absurd (omega arith))),
+      count_grows_once d p q xs k (λ j lt other. h (suc j) (omega arith) (λ e. other (omega arith))),
+    )
 
 -- nothing is counted where nothing passes
 pub count_none : {X : Type 0} (d : X) (p : X → Bool) (xs : List X) → ((j : ℕ) → j < length xs → p (get_or xs j d) ≡ true → ⊥)

@@ -29,7 +29,8 @@ insertion_count : (test : Held → Bool) (key : Held → ℕ) (x : Held) (xs : L
 unfolding insertion
 insertion_count test key x [] = count_cons test x []
 insertion_count test key x (y ∷ ys) =
-    elim (ltb (key x) (key y)) as (λ b. count_by test (cond b (x ∷ y ∷ ys) (y ∷ insertion key x ys)) ≡ cond (test x) 1 0 + count_by test (y ∷ ys)) [
+    elim (ltb (key x) (key y)) as (λ b.
+    count_by test (cond b (x ∷ y ∷ ys) (y ∷ insertion key x ys)) ≡ cond (test x) 1 0 + count_by test (y ∷ ys)) [
       | true ↦ count_cons test x (y ∷ ys)
       | false ↦ omega (arith, count_cons test y (insertion key x ys), insertion_count test key x ys, count_cons test y ys)
     ]
@@ -81,7 +82,8 @@ given_before target seen hs given front h some parts held =
       | inl lt ↦ lt
       | inr late ↦
           absurd (
-          let in_all = subst (λ (xs : Collection). Contains xs h) (sym parts) (Contains-append_left given (front ++ meeting_from target seen hs) h held) in
+          let in_all = subst (λ (xs : Collection). Contains xs h) (sym parts)
+          (Contains-append_left given (front ++ meeting_from target seen hs) h held) in
           let met = met_parts target 1 h (in_choice (is_met_from target 1) (meeting_key target) hs h in_all).1 in
           let passes = met_from target seen h late met.1 in
           let gains = count_gains (λ (x : Held). false) test given h (λ x t. absurd (both_ways false refl t)) held refl passes in
@@ -97,10 +99,13 @@ given_reads shown target walk cost h is has held =
     let all : Collection = meeting_of target shown.pairs in
     let given : Collection = take (length all - length (left_of shown target walk)) all in
     let odd = is.odd in
-    let parts : all ≡ given ++ left_of shown target walk = sym (take-append-drop (length all - length (left_of shown target walk)) all) ∙ ap (λ (xs : Collection). given ++ xs) (sym has.rest) in
-    let early = given_before target walk.seen shown.pairs given (front_from walk.from (from_place shown.chain walk.place)) h (omega arith) parts held in
+    let parts : all ≡ given ++ left_of shown target walk = sym (take-append-drop (length all - length (left_of shown target walk)) all)
+    ∙ ap (λ (xs : Collection). given ++ xs) (sym has.rest) in
+    let early = given_before target walk.seen shown.pairs given (front_from walk.from (from_place shown.chain walk.place)) h (omega arith)
+    parts held in
     let begun = has.paid.begun in
-    let fewer = count_grows (λ (r : Range). is_met target r && leb r.start (first_shared target h.pair.cell)) (λ r. is_met target r && ltb r.start walk.seen) shown.ranges (λ r t.
+    let fewer = count_grows (λ (r : Range). is_met target r && leb r.start (first_shared target h.pair.cell))
+    (λ r. is_met target r && ltb r.start walk.seen) shown.ranges (λ r t.
     let both = and_parts (is_met target r) (leb r.start (first_shared target h.pair.cell)) t in
     let le = leb-true r.start (first_shared target h.pair.cell) both.1 in
     and_from (is_met target r) (ltb r.start walk.seen) both.0 (lt-ltb _ _ (omega arith))) in
@@ -120,4 +125,8 @@ next_reads shown target walk next old new (Some held) is gives has paid =
     let shorter = ap length gives in
     let fits = has.fits in
     let less : k < length all - length (left_of shown target next) = omega arith in
-    given_reads shown target next new held is paid (k, omega (arith, length-take (length all - length (left_of shown target next)) all), get_or-take (length all - length (left_of shown target next)) all k held less ∙ get_or_from_slice_get all k held held item.1)
+    given_reads shown target next new held is paid (
+      k,
+      omega (arith, length-take (length all - length (left_of shown target next)) all),
+      get_or-take (length all - length (left_of shown target next)) all k held less ∙ get_or_from_slice_get all k held held item.1,
+    )

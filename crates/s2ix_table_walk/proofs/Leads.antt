@@ -7,7 +7,8 @@ pub leads_some : {P : Type 0} (chain : P → Collection) (p : P) (pairs : Collec
     → LeadsTo chain (Some p) pairs
 leads_some {P} chain p pairs is some = record {
   pairs_are = is;
-  place = λ q e. let same : p ≡ q = cc in subst (λ (x : P). 0 < length (chain x)) same (subst (λ (xs : Collection). 0 < length xs) (sym is) some);
+  place = λ q e. let same : p ≡ q = cc in
+      subst (λ (x : P). 0 < length (chain x)) same (subst (λ (xs : Collection). 0 < length xs) (sym is) some);
 }
 
 pub leads_none : {P : Type 0} (chain : P → Collection) (pairs : Collection) → pairs ≡ [] → LeadsTo chain None pairs

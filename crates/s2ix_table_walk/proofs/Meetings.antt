@@ -56,14 +56,18 @@ front_new q from h (y ∷ ys) over le all =
       | inl lt ↦
           elim (cases_lt (first_of y.pair.cell) from) [
             | inl early ↦
-                ap (front_from from) (before h y ys lt) ∙ front_here from h (y ∷ ys) le ∙ ap (λ zs. h ∷ zs) (front_stops from y ys early) ∙ ap (insertion depth_key h) (sym (front_stops from y ys early))
+                ap (front_from from) (before h y ys lt) ∙ front_here from h (y ∷ ys) le ∙ ap (λ zs. h ∷ zs) (front_stops from y ys early)
+                ∙ ap (insertion depth_key h) (sym (front_stops from y ys early))
             | inr late ↦
-                ap (front_from from) (before h y ys lt) ∙ front_here from h (y ∷ ys) le ∙ ap (λ zs. h ∷ zs) (front_here from y ys late) ∙ sym (before h y (front_from from ys) lt) ∙ ap (insertion depth_key h) (sym (front_here from y ys late))
+                ap (front_from from) (before h y ys lt) ∙ front_here from h (y ∷ ys) le ∙ ap (λ zs. h ∷ zs) (front_here from y ys late)
+                ∙ sym (before h y (front_from from ys) lt) ∙ ap (insertion depth_key h) (sym (front_here from y ys late))
           ]
       | inr ge ↦
           (let order = (nested_over q y h all.0 over ge).from in
           let late : from ≤ first_of y.pair.cell = omega arith in
-          ap (front_from from) (behind h y ys ge) ∙ front_here from y (insertion depth_key h ys) late ∙ ap (λ zs. y ∷ zs) (front_new q from h ys over le all.1) ∙ sym (behind h y (front_from from ys) ge) ∙ ap (insertion depth_key h) (sym (front_here from y ys late)))
+          ap (front_from from) (behind h y ys ge) ∙ front_here from y (insertion depth_key h ys) late
+          ∙ ap (λ zs. y ∷ zs) (front_new q from h ys over le all.1) ∙ sym (behind h y (front_from from ys) ge)
+          ∙ ap (insertion depth_key h) (sym (front_here from y ys late)))
     ]
 
 -- one that begins before changes nothing
@@ -80,9 +84,11 @@ front_old q from h (y ∷ ys) over early all =
       | inr ge ↦
           elim (cases_lt (first_of y.pair.cell) from) [
             | inl too ↦
-                ap (front_from from) (behind h y ys ge) ∙ front_stops from y (insertion depth_key h ys) too ∙ sym (front_stops from y ys too)
+                ap (front_from from) (behind h y ys ge) ∙ front_stops from y (insertion depth_key h ys) too
+                ∙ sym (front_stops from y ys too)
             | inr late ↦
-                ap (front_from from) (behind h y ys ge) ∙ front_here from y (insertion depth_key h ys) late ∙ ap (λ zs. y ∷ zs) (front_old q from h ys over early all.1) ∙ sym (front_here from y ys late)
+                ap (front_from from) (behind h y ys ge) ∙ front_here from y (insertion depth_key h ys) late
+                ∙ ap (λ zs. y ∷ zs) (front_old q from h ys over early all.1) ∙ sym (front_here from y ys late)
           ]
     ]
 
@@ -96,7 +102,8 @@ insertion_left key depth x [] ys same later = insertion_before_all key x ys late
 insertion_left key depth x (a ∷ xs) ys same later =
     let rest = insertion_left key depth x xs ys same.1 later in
     ap (λ b. cond b (x ∷ a ∷ (xs ++ ys)) (a ∷ insertion key x (xs ++ ys))) same.0
-    ∙ elim (ltb (depth x) (depth a)) as (λ b. cond b (x ∷ a ∷ (xs ++ ys)) (a ∷ insertion key x (xs ++ ys)) ≡ cond b (x ∷ a ∷ xs) (a ∷ insertion depth x xs) ++ ys) [
+    ∙ elim (ltb (depth x) (depth a)) as (λ b.
+    cond b (x ∷ a ∷ (xs ++ ys)) (a ∷ insertion key x (xs ++ ys)) ≡ cond b (x ∷ a ∷ xs) (a ∷ insertion depth x xs) ++ ys) [
       | true ↦ refl
       | false ↦ ap (λ zs. a ∷ zs) rest
     ]
@@ -196,12 +203,17 @@ kind_off target held seen at next h step in_held off =
           (let s = shared_is target h.pair.cell on in
           elim (cases_lt (first_shared target h.pair.cell) seen) [
             | inl lt ↦
-                inr (inr (record { early = early; not_seen = met_before target seen h lt; not_next = met_before target next h (omega arith) }))
+                inr (inr (record {
+                  early = early;
+                  not_seen = met_before target seen h lt;
+                  not_next = met_before target next h (omega arith);
+                }))
             | inr ge ↦
                 (let g = step.gap (first_shared target h.pair.cell) s.covered ge in
                 elim (cases_lt (first_shared target h.pair.cell) next) [
                   | inl within ↦
-                      absurd (no (step.stays h (first_shared target h.pair.cell) in_held s.odd g within (record { from = s.from; to = s.to })))
+                      absurd (no
+                      (step.stays h (first_shared target h.pair.cell) in_held s.odd g within (record { from = s.from; to = s.to })))
                   | inr later ↦ inr (inl (record { off = off; met = later; on_curve = on }))
                 ])
           ])
@@ -248,7 +260,8 @@ later_part : (target : List CellId) (next : ℕ) (hs : Collection)
 unfolding meeting_from
 later_part target next hs =
     every_choice (λ b. next ≤ first_shared target b.pair.cell) (is_met_from target next) (meeting_key target) hs (λ h held t.
-    leb-true next (first_shared target h.pair.cell) (and_parts (leb next (first_shared target h.pair.cell)) (ltb (first_shared target h.pair.cell) leaf_end) t).0)
+    leb-true next (first_shared target h.pair.cell)
+    (and_parts (leb next (first_shared target h.pair.cell)) (ltb (first_shared target h.pair.cell) leaf_end) t).0)
 
 same_key_test : (target : List CellId) (x a : Held) → first_shared target x.pair.cell ≡ first_shared target a.pair.cell
     → ltb (meeting_key target x) (meeting_key target a) ≡ ltb (depth_key x) (depth_key a)
@@ -261,7 +274,8 @@ same_key_test target x a e = test (first_shared target x.pair.cell) (first_share
 lower_key : (target : List CellId) (x a : Held) → first_shared target x.pair.cell < first_shared target a.pair.cell
     → meeting_key target x < meeting_key target a
 unfolding meeting_key
-lower_key target x a lt = let b = depth_bound x in below (first_shared target x.pair.cell) (first_shared target a.pair.cell) (depth_key x) (depth_key a) lt b
+lower_key target x a lt =
+    let b = depth_bound x in below (first_shared target x.pair.cell) (first_shared target a.pair.cell) (depth_key x) (depth_key a) lt b
   where
     below : (f g d e : ℕ) → f < g → d < 68719476736 → f * 68719476736 + d < g * 68719476736 + e
     below f g d e lt b = omega arith
@@ -283,10 +297,16 @@ met_here target seen at next (h ∷ hs) on reached after kinds =
           meeting_in target seen h hs (met_from target seen h (omega arith) (omega arith))
           ∙ ap (insertion (meeting_key target) h) rest
           ∙ insertion_left (meeting_key target) depth_key h (front_from seen (contents_at at hs)) (meeting_from target next hs)
-          (every_weaker (λ a. first_shared target a.pair.cell ≡ at) (λ a. ltb (meeting_key target h) (meeting_key target a) ≡ ltb (depth_key h) (depth_key a)) (λ a f. same_key_test target h a (e ∙ sym f)) (front_from seen (contents_at at hs)) news)
-          (every_weaker (λ b. next ≤ first_shared target b.pair.cell) (λ b. meeting_key target h < meeting_key target b) (λ b f. lower_key target h b (omega arith)) (meeting_from target next hs) laters)
-          ∙ ap (λ zs. zs ++ meeting_from target next hs) (sym (ap (front_from seen) (contents_in at h hs (covers-from at h new.over)) ∙ front_new at seen h (contents_at at hs) new.over new.begins over))
-          ∙ ap (λ zs. front_from seen (contents_at at (h ∷ hs)) ++ zs) (sym (meeting_out target next h hs (met_before target next h (omega arith)))))
+          (every_weaker (λ a. first_shared target a.pair.cell ≡ at)
+          (λ a. ltb (meeting_key target h) (meeting_key target a) ≡ ltb (depth_key h) (depth_key a))
+          (λ a f. same_key_test target h a (e ∙ sym f)) (front_from seen (contents_at at hs)) news)
+          (every_weaker (λ b. next ≤ first_shared target b.pair.cell) (λ b. meeting_key target h < meeting_key target b)
+          (λ b f. lower_key target h b (omega arith)) (meeting_from target next hs) laters)
+          ∙ ap (λ zs. zs ++ meeting_from target next hs)
+          (sym (ap (front_from seen) (contents_in at h hs (covers-from at h new.over))
+          ∙ front_new at seen h (contents_at at hs) new.over new.begins over))
+          ∙ ap (λ zs. front_from seen (contents_at at (h ∷ hs)) ++ zs)
+          (sym (meeting_out target next h hs (met_before target next h (omega arith)))))
       | inr other ↦
           elim other [
             | inl later ↦
@@ -295,15 +315,19 @@ met_here target seen at next (h ∷ hs) on reached after kinds =
                 meeting_in target seen h hs (met_from target seen h (omega arith) c)
                 ∙ ap (insertion (meeting_key target) h) rest
                 ∙ insertion_right (meeting_key target) h (front_from seen (contents_at at hs)) (meeting_from target next hs)
-                (every_weaker (λ a. first_shared target a.pair.cell ≡ at) (λ a. meeting_key target a ≤ meeting_key target h) (λ a f. let l = lower_key target a h (omega arith) in omega arith) (front_from seen (contents_at at hs)) news)
-                ∙ ap (λ zs. front_from seen zs ++ insertion (meeting_key target) h (meeting_from target next hs)) (sym (contents_out at h hs later.off))
-                ∙ ap (λ zs. front_from seen (contents_at at (h ∷ hs)) ++ zs) (sym (meeting_in target next h hs (met_from target next h m c))))
+                (every_weaker (λ a. first_shared target a.pair.cell ≡ at) (λ a. meeting_key target a ≤ meeting_key target h)
+                (λ a f. let l = lower_key target a h (omega arith) in omega arith) (front_from seen (contents_at at hs)) news)
+                ∙ ap (λ zs. front_from seen zs ++ insertion (meeting_key target) h (meeting_from target next hs))
+                (sym (contents_out at h hs later.off))
+                ∙ ap (λ zs. front_from seen (contents_at at (h ∷ hs)) ++ zs)
+                (sym (meeting_in target next h hs (met_from target next h m c))))
             | inr done ↦
                 meeting_out target seen h hs done.not_seen ∙ rest
                 ∙ ap (λ zs. zs ++ meeting_from target next hs)
                 (elim (cases_Bool (covers at h)) [
                   | inl t ↦
-                      sym (ap (front_from seen) (contents_in at h hs t) ∙ front_old at seen h (contents_at at hs) (over-true at h t) (done.early (over-true at h t)) over)
+                      sym (ap (front_from seen) (contents_in at h hs t)
+                      ∙ front_old at seen h (contents_at at hs) (over-true at h t) (done.early (over-true at h t)) over)
                   | inr f ↦ ap (front_from seen) (sym (contents_out at h hs f))
                 ])
                 ∙ ap (λ zs. front_from seen (contents_at at (h ∷ hs)) ++ zs) (sym (meeting_out target next h hs done.not_next))

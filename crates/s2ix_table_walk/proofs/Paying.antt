@@ -29,8 +29,8 @@ use Rattle.s2ix_table_walk.proofs.WalkSteps.{range_fits, ranges_follow}
 
 -- ---- what is passed
 
--- a step over a range that has the first leaf of the target from `seen` on, which is that of a cell: to the nearer end of the two, or beyond
--- it, and not beyond the range, which begins at `seen` or behind it
+-- a step over a range that has the first leaf of the target from `seen` on, which is a cell's: to the nearer end of the two, or beyond it,
+-- and not beyond the range, which begins at `seen` or behind it
 pub record IsPassed (target : List CellId) (ranges : List Range) (x : CellId) (k seen next : ℕ) : Type 0 where
   pub held : Contains target x
   pub beyond : seen < end_of x
@@ -54,7 +54,8 @@ cells_grow target s t le = count_grows (λ (y : CellId). ltb (first_of y) s) (λ
 cells_gain : (target : List CellId) (x : CellId) (s t : ℕ) → Contains target x → s ≤ first_of x → first_of x < t
     → cells_begun target s + 1 ≤ cells_begun target t
 cells_gain target x s t held le lt =
-    count_gains (λ (y : CellId). ltb (first_of y) s) (λ y. ltb (first_of y) t) target x (begun_later s t (omega arith)) held (le-ltb _ _ le) (lt-ltb _ _ lt)
+    count_gains (λ (y : CellId). ltb (first_of y) s) (λ y. ltb (first_of y) t) target x (begun_later s t (omega arith)) held
+    (le-ltb _ _ le) (lt-ltb _ _ lt)
 
 -- ---- what has begun
 
@@ -96,10 +97,12 @@ begun_before held target ranges x k seen next j t p lt other met before =
 begins_once : (held : Collection) (target : List CellId) (ranges : List Range) (x : CellId) (k seen next : ℕ) → IsRangeTable held ranges
     → IsPassed target ranges x k seen next → ranges_begun target ranges next ≤ ranges_begun target ranges seen + 1
 begins_once held target ranges x k seen next t p =
-    count_grows_once (record { start = 0; limit = 0; contents = [] }) (λ (r : Range). is_met target r && ltb r.start next) (λ r. is_met target r && ltb r.start seen) ranges k (λ j lt other e.
+    count_grows_once (record { start = 0; limit = 0; contents = [] }) (λ (r : Range). is_met target r && ltb r.start next)
+    (λ r. is_met target r && ltb r.start seen) ranges k (λ j lt other e.
     let both = and_parts (is_met target (range_at ranges j)) (ltb (range_at ranges j).start next) e in
     let before = ltb-true (range_at ranges j).start next both.1 in
-    and_from (is_met target (range_at ranges j)) (ltb (range_at ranges j).start seen) both.0 (lt-ltb _ _ (begun_before held target ranges x k seen next j t p lt other both.0 before)))
+    and_from (is_met target (range_at ranges j)) (ltb (range_at ranges j).start seen) both.0
+    (lt-ltb _ _ (begun_before held target ranges x k seen next j t p lt other both.0 before)))
 
 -- and that one does
 begins_more : (target : List CellId) (ranges : List Range) (x : CellId) (k seen next : ℕ) → IsPassed target ranges x k seen next
@@ -115,8 +118,12 @@ begins_more target ranges x k seen next p =
     let f = p.fresh in
     let r : Range = range_at ranges k in
     let met = met_from target x r p.held (omega arith) (omega arith) in
-    let grows : (y : Range) → (is_met target y && ltb y.start seen) ≡ true → (is_met target y && ltb y.start next) ≡ true = λ y t. let both = and_parts _ _ t in let lt = ltb-true y.start seen both.1 in and_from _ _ both.0 (lt-ltb y.start next (omega arith)) in
-    count_gains (λ (y : Range). is_met target y && ltb y.start seen) (λ y. is_met target y && ltb y.start next) ranges r grows (at_held ranges k p.within) (and_right (is_met target r) (ltb r.start seen) (le-ltb _ _ f)) (and_from (is_met target r) (ltb r.start next) met (lt-ltb _ _ (omega arith)))
+    let grows : (y : Range) → (is_met target y && ltb y.start seen) ≡ true → (is_met target y && ltb y.start next) ≡ true =
+    λ y t. let both = and_parts _ _ t in
+    let lt = ltb-true y.start seen both.1 in and_from _ _ both.0 (lt-ltb y.start next (omega arith)) in
+    count_gains (λ (y : Range). is_met target y && ltb y.start seen) (λ y. is_met target y && ltb y.start next) ranges r grows
+    (at_held ranges k p.within) (and_right (is_met target r) (ltb r.start seen) (le-ltb _ _ f))
+    (and_from (is_met target r) (ltb r.start next) met (lt-ltb _ _ (omega arith)))
 
 -- what has begun can be counted
 begun_fits : (held : Collection) (target : List CellId) (ranges : List Range) (seen : ℕ) → IsRangeTable held ranges
@@ -172,7 +179,8 @@ step_pays shown target walk next x k calls old new p looks at_hand searched rise
         | inl lt ↦
             (let more = cells_gain target x walk.seen next.seen p.held (omega arith) (omega arith) in
             let times = mul-le-mul_right d more in
-            let one : (cells_begun target walk.seen + 1) * d ≡ cells_begun target walk.seen * d + d = times_more (cells_begun target walk.seen) d in
+            let one : (cells_begun target walk.seen + 1) * d ≡ cells_begun target walk.seen * d + d = times_more
+            (cells_begun target walk.seen) d in
             omega arith)
         | inr ge ↦
             (let times = mul-le-mul_right d (cells_grow target walk.seen next.seen (omega arith)) in
@@ -192,7 +200,9 @@ looked_some (Some p) cost e = refl
 -- a look that gave a new pair
 pub look_pays : {P : Type 0} (shown : Shown P) (target : List CellId) (walk : WalkState P) (outer : Option P) (calls : ℕ) (old new : Cost)
     → calls ≤ 1000000 → one_if_some walk.place ≡ 1 → new ≡ looked_at walk.place old → IsPaid shown target walk calls old
-    → IsPaid shown target (record { cell = walk.cell; range = walk.range; seen = walk.seen; from = walk.from; place = outer; known = walk.known }) (calls + 1) new
+    → IsPaid shown target
+    (record { cell = walk.cell; range = walk.range; seen = walk.seen; from = walk.from; place = outer; known = walk.known }) (calls + 1)
+    new
 look_pays shown target walk outer calls old new few some is paid =
     let same = is ∙ looked_some walk.place old some in
     let looks = ap (λ (c : Cost). c.looks) same in
@@ -204,14 +214,16 @@ look_pays shown target walk outer calls old new few some is paid =
     record { each = omega arith; looks = let o = one_most outer in omega arith; probes = omega arith; begun = omega arith }
 
 closed_by : {P : Type 0} (place : Option P) (old : Cost)
-    → ((looked_at place old).looks ≤ old.looks + one_if_some place) × ((looked_at place old).probes ≡ old.probes) × (min old.looks 18446744073709551615 ≤ (looked_at place old).looks)
+    → ((looked_at place old).looks ≤ old.looks + one_if_some place) × ((looked_at place old).probes ≡ old.probes)
+    × (min old.looks 18446744073709551615 ≤ (looked_at place old).looks)
 closed_by None old = (omega arith, refl, omega arith)
 closed_by (Some p) old = (omega arith, refl, omega arith)
 
 -- a look that gave none, or no look where no place was left
 pub close_pays : {P : Type 0} (shown : Shown P) (target : List CellId) (walk : WalkState P) (calls : ℕ) (old new : Cost) → calls ≤ 1000000
     → new ≡ looked_at walk.place old → IsPaid shown target walk calls old
-    → IsPaid shown target (record { cell = walk.cell; range = walk.range; seen = walk.seen; from = walk.from; place = None; known = walk.known }) calls new
+    → IsPaid shown target
+    (record { cell = walk.cell; range = walk.range; seen = walk.seen; from = walk.from; place = None; known = walk.known }) calls new
 close_pays shown target walk calls old new few is paid =
     let looks = ap (λ (c : Cost). c.looks) is in
     let probes = ap (λ (c : Cost). c.probes) is in
@@ -246,7 +258,11 @@ none_pays shown target walk cost is first none all unread =
     let begun = ap (ranges_begun target shown.ranges) first ∙ none_begun shown.pairs target shown.ranges is.is_table in
     let met : Collection = meeting_of target shown.pairs in
     let none_given : 0 ≡ length met - length (left_of shown target walk) = omega arith in
-    record { fits = omega arith; rest = all ∙ ap (λ (n : ℕ). drop n met) none_given; paid = record { each = omega arith; looks = omega arith; probes = omega arith; begun = omega arith } }
+    record {
+      fits = omega arith;
+      rest = all ∙ ap (λ (n : ℕ). drop n met) none_given;
+      paid = record { each = omega arith; looks = omega arith; probes = omega arith; begun = omega arith };
+    }
 
 -- one pair more was given, or the end was reached
 pub next_pays : {P : Type 0} (shown : Shown P) (target : List CellId) (walk next : WalkState P) (old new : Cost) (result : Option Held)
@@ -261,8 +277,13 @@ next_pays shown target walk next old new None is ends gives pays has =
     let b = ap length (ends refl).1 in
     let calls : ℕ = all - length (left_of shown target walk) in
     let same : calls + 0 ≡ all - length (left_of shown target next) = omega arith in
-    let rest = subst (λ (xs : Collection). xs ≡ drop (all - length xs) (meeting_of target shown.pairs)) ((ends refl).0 ∙ sym (ends refl).1) has.rest in
-    record { fits = omega arith; rest = rest; paid = subst (λ (k : ℕ). IsPaid shown target next k new) same (pays calls (omega arith) has.paid) }
+    let rest = subst (λ (xs : Collection). xs ≡ drop (all - length xs) (meeting_of target shown.pairs))
+    ((ends refl).0 ∙ sym (ends refl).1) has.rest in
+    record {
+      fits = omega arith;
+      rest = rest;
+      paid = subst (λ (k : ℕ). IsPaid shown target next k new) same (pays calls (omega arith) has.paid);
+    }
 next_pays shown target walk next old new (Some held) is ends gives pays has =
     let all : ℕ = length (meeting_of target shown.pairs) in
     let few = few_meet shown target is in
@@ -270,9 +291,14 @@ next_pays shown target walk next old new (Some held) is ends gives pays has =
     let fits = has.fits in
     let calls : ℕ = all - length (left_of shown target walk) in
     let same : calls + 1 ≡ all - length (left_of shown target next) = omega arith in
-    let behind = (left_first (meeting_of target shown.pairs) (left_of shown target walk) (left_of shown target next) calls held has.rest gives).2 in
+    let behind = (left_first (meeting_of target shown.pairs) (left_of shown target walk) (left_of shown target next) calls held has.rest
+    gives).2 in
     let rest = subst (λ (k : ℕ). left_of shown target next ≡ drop k (meeting_of target shown.pairs)) same behind in
-    record { fits = omega arith; rest = rest; paid = subst (λ (k : ℕ). IsPaid shown target next k new) same (pays calls (omega arith) has.paid) }
+    record {
+      fits = omega arith;
+      rest = rest;
+      paid = subst (λ (k : ℕ). IsPaid shown target next k new) same (pays calls (omega arith) has.paid);
+    }
 
 -- what has paid for its calls keeps to the bounds
 pub paid_costs : {P : Type 0} (shown : Shown P) (target : List CellId) (walk : WalkState P) (cost : Cost) → IsWalk shown target walk
@@ -283,15 +309,22 @@ paid_costs shown target walk cost is has =
     let d : ℕ = binary_digits (length shown.ranges + 1) in
     let looks = paid.looks in
     let probes = paid.probes in
-    let rows = count_grows (λ (r : Range). is_met target r && ltb r.start walk.seen) (is_met target) shown.ranges (λ r e. (and_parts _ _ e).0) in
+    let rows = count_grows (λ (r : Range). is_met target r && ltb r.start walk.seen) (is_met target) shown.ranges
+    (λ r e. (and_parts _ _ e).0) in
     let times = mul-le-mul_right (d + 1) (count_by-le-length (λ (c : CellId). ltb (first_of c) walk.seen) target) in
     let one : length target * (d + 1) ≡ length target * d + length target = grind arith in
-    record { each = paid.each; looks = omega arith; probes = omega arith; least = λ h held. given_reads shown target walk cost h is has held }
+    record {
+      each = paid.each;
+      looks = omega arith;
+      probes = omega arith;
+      least = λ h held. given_reads shown target walk cost h is has held;
+    }
 
 -- what has passed the whole target has read each range that meets it
 pub passed_costs : {P : Type 0} (shown : Shown P) (target : List CellId) (walk : WalkState P) (calls : ℕ) (cost : Cost)
     → ArePassed target (length target) walk.seen → IsPaid shown target walk calls cost → ranges_met target shown.ranges ≤ cost.probes
 passed_costs shown target walk calls cost passed paid =
     let begun = paid.begun in
-    let all = count_grows (is_met target) (λ (r : Range). is_met target r && ltb r.start walk.seen) shown.ranges (λ r met. and_from (is_met target r) (ltb r.start walk.seen) met (met_begun target r walk.seen passed met)) in
+    let all = count_grows (is_met target) (λ (r : Range). is_met target r && ltb r.start walk.seen) shown.ranges
+    (λ r met. and_from (is_met target r) (ltb r.start walk.seen) met (met_begun target r walk.seen passed met)) in
     omega arith

@@ -21,7 +21,8 @@ no_call {F} step f hs e = subst (λ (zs : Collection). CallsOn step f zs 0 true 
 
 pub last_call : {F : Type 0} (step : F → Held → Bool → F → Type 0) (f last : F) (h : Held) (hs rest : Collection) → hs ≡ h ∷ rest
     → step f h false last → CallsOn step f hs 1 false last
-last_call {F} step f last h hs rest e called = subst (λ (zs : Collection). CallsOn step f zs 1 false last) (sym e) (inl (refl, called, refl))
+last_call {F} step f last h hs rest e called =
+    subst (λ (zs : Collection). CallsOn step f zs 1 false last) (sym e) (inl (refl, called, refl))
 
 pub one_call : {F : Type 0} (step : F → Held → Bool → F → Type 0) (f g last : F) (h : Held) (hs rest : Collection) (k : ℕ) (whole : Bool)
     → hs ≡ h ∷ rest → step f h true g → CallsOn step g rest k whole last → CallsOn step f hs (k + 1) whole last

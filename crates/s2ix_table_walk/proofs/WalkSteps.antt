@@ -94,7 +94,8 @@ ranges_follow hs ranges t i j less lt =
 pub found_next : (hs : Collection) (ranges : List Range) → IsRangeTable hs ranges → (k limit : ℕ) → k < length ranges
     → limit ≡ (range_at ranges k).limit → limit < leaf_end → IsFound ranges (k + 1) limit
 found_next hs ranges t k limit lt is less =
-    let more : k + 1 < length ranges = elim (cases_lt (k + 1) (length ranges)) [ inl more ↦ more | inr end ↦ absurd (let e = t.last k (omega arith) in omega arith) ] in
+    let more : k + 1 < length ranges =
+    elim (cases_lt (k + 1) (length ranges)) [ inl more ↦ more | inr end ↦ absurd (let e = t.last k (omega arith) in omega arith) ] in
     let next = t.next k (k + 1) refl more in
     let rises = t.rises (k + 1) more in
     record { within = more; start = omega arith; limit = omega arith }
@@ -177,7 +178,8 @@ behind_last target k limit last y follow b q v le =
                 let n2 = n.to in
                 elim (cases_lt (last + 1) j) [
                   | inl beyond ↦ let f = follow (last + 1) j v.cell beyond within in omega arith
-                  | inr here ↦ let same : last + 1 ≡ j = omega arith in let f = ap (λ i. first_of (get_or target i v.cell)) same in omega arith
+                  | inr here ↦ let same : last + 1 ≡ j = omega arith in let f = ap (λ i. first_of (get_or target i v.cell)) same in
+                      omega arith
                 ])
           ]
     ]
@@ -229,7 +231,8 @@ walk_past {P} shown target k range limit end x y walk a begun leads is_limit is_
     let r4 = r.ends in
     let r5 = r.odd_end in
     let u = begun.begins in
-    let ends : end_of x ≤ end_of y = elim (begun_after target k limit walk.cell x y a.follow a.is begun) [ inl le ↦ omega arith | inr e ↦ omega arith ] in
+    let ends : end_of x ≤ end_of y =
+    elim (begun_after target k limit walk.cell x y a.follow a.is begun) [ inl le ↦ omega arith | inr e ↦ omega arith ] in
     let s = span (raw_of x) x.valid in
     let s1 = s.odd in
     let s2 = s.from in
@@ -246,12 +249,15 @@ walk_past {P} shown target k range limit end x y walk a begun leads is_limit is_
     let bounds = limit_bounds hs ranges a.table range a.found.within in
     let l1 = bounds.0 in
     let l2 = bounds.1 in
-    let is : next ≡ min limit end = elim on [ inl i ↦ omega (arith, i.0, ap (λ to. to.1) i.1) | inr i ↦ omega (arith, i.0, ap (λ to. to.1) i.1) ] in
+    let is : next ≡ min limit end =
+    elim on [ inl i ↦ omega (arith, i.0, ap (λ to. to.1) i.1) | inr i ↦ omega (arith, i.0, ap (λ to. to.1) i.1) ] in
     let odd_at : at % 2 ≡ 1 = elim (cases_lt seen (first_of x)) [ inl lt ↦ omega arith | inr ge ↦ omega arith ] in
     let odd_next : next % 2 ≡ 1 = elim (cases_lt limit end) [ inl lt ↦ omega arith | inr ge ↦ omega arith ] in
     let after : at < next = omega arith in
-    let covers : (q : ℕ) → first_of x ≤ q → q < end_of x → Covers target q = λ q from to. record { cell = x; held = (k, a.within, sym a.is); from = from; to = to } in
-    let covers_last : (q : ℕ) → first_of y ≤ q → q < end_of y → Covers target q = λ q from to. record { cell = y; held = (walk.cell, begun.within, sym begun.is); from = from; to = to } in
+    let covers : (q : ℕ) → first_of x ≤ q → q < end_of x → Covers target q = λ q from to.
+    record { cell = x; held = (k, a.within, sym a.is); from = from; to = to } in
+    let covers_last : (q : ℕ) → first_of y ≤ q → q < end_of y → Covers target q = λ q from to.
+    record { cell = y; held = (walk.cell, begun.within, sym begun.is); from = from; to = to } in
     let step : IsStep target hs seen at next = record {
       odd = o;
       reached = omega arith;
@@ -265,7 +271,9 @@ walk_past {P} shown target k range limit end x y walk a begun leads is_limit is_
     let At : ℕ × ℕ → Type 0 = λ to. IsFound ranges to.0 to.1 in
     let contents = a.table.shared range at a.found.within odd_at f1 f2 in
     record {
-      left = step_meets target hs seen at next step ∙ ap (λ cs. front_from seen cs ++ meeting_from target next hs) (contents ∙ sym leads.pairs_are);
+      left =
+          step_meets target hs seen at next step
+          ∙ ap (λ cs. front_from seen cs ++ meeting_from target next hs) (contents ∙ sym leads.pairs_are);
       next = record {
         odd = odd_next;
         within = omega arith;
@@ -275,7 +283,8 @@ walk_past {P} shown target k range limit end x y walk a begun leads is_limit is_
             let e = ap (λ (c : CellId). first_of c) (begun.is ∙ get_or_default target walk.cell y d begun.within) in
             omega arith;
         found = λ lt. elim on [
-          | inl i ↦ subst At (sym i.1) (found_next hs ranges a.table range limit a.found.within is_limit (omega (arith, ap (λ to. to.1) i.1)))
+          | inl i ↦
+              subst At (sym i.1) (found_next hs ranges a.table range limit a.found.within is_limit (omega (arith, ap (λ to. to.1) i.1)))
           | inr i ↦ subst At (sym i.1) (record { within = a.found.within; start = omega arith; limit = omega (arith, i.0) })
         ];
         place = leads.place;
@@ -294,8 +303,19 @@ walk_past {P} shown target k range limit end x y walk a begun leads is_limit is_
 
 -- a walk that leaves the chain at hand
 pub walk_closed : {P : Type 0} (shown : Shown P) (target : List CellId) (walk : WalkState P) → IsWalk shown target walk
-    → IsWalk shown target (record { cell = walk.cell; range = walk.range; seen = walk.seen; from = walk.from; place = None; known = walk.known })
-walk_closed shown target walk w = record { odd = w.odd; within = w.within; tight = w.tight; passed = w.passed; found = w.found; place = λ p e. absurd (cc); fresh = w.fresh; known = w.known }
+    → IsWalk shown target
+    (record { cell = walk.cell; range = walk.range; seen = walk.seen; from = walk.from; place = None; known = walk.known })
+walk_closed shown target walk w =
+    record {
+      odd = w.odd;
+      within = w.within;
+      tight = w.tight;
+      passed = w.passed;
+      found = w.found;
+      place = λ p e. absurd (cc);
+      fresh = w.fresh;
+      known = w.known;
+    }
 
 pub new_none : {P : Type 0} (chain : P → Collection) (from : ℕ) (place : Option P) → place ≡ None
     → front_from from (from_place chain place) ≡ []
@@ -311,4 +331,5 @@ pub new_more : {P : Type 0} (chain : P → Collection) (from : ℕ) (place outer
     → place ≡ Some p → chain p ≡ h ∷ rest → from ≤ first_of h.pair.cell → LeadsTo chain outer rest
     → front_from from (from_place chain place) ≡ h ∷ front_from from (from_place chain outer)
 new_more {P} chain from place outer p h rest e is late leads =
-    ap (λ (o : Option P). front_from from (from_place chain o)) e ∙ ap (front_from from) is ∙ front_here from h rest late ∙ ap (λ cs. h ∷ front_from from cs) (sym leads.pairs_are)
+    ap (λ (o : Option P). front_from from (from_place chain o)) e ∙ ap (front_from from) is ∙ front_here from h rest late
+    ∙ ap (λ cs. h ∷ front_from from cs) (sym leads.pairs_are)

@@ -6,8 +6,12 @@ use Rattle.s2ix_bag_pairs.specs.Collection.{Collection}
 use Rattle.s2ix_table_ranges.specs.Table.{Range, range_at, leaf_end, IsRangeTable}
 use Rattle.s2ix_table_ranges.proofs.Tables.{limits_rise}
 use Rattle.s2id_core.specs.BinaryDigits.{binary_digits}
+use Rattle.s2ix_table_walk.specs.Costs.{NoFewerProbes, with_probe}
 use Rattle.s2ix_table_walk.specs.Faces.{face_begin, HaveFace}
 use Rattle.s2ix_table_walk.specs.Searching.{IsWindow}
+use Rattle.s2ix_table_walk.specs.Shown.{Shown, IsShown}
+use Rattle.s2ix_table_walk.specs.declared.cost.Cost.{Cost}
+use Rattle.s2ix_table_walk.proofs.WalkSteps.{range_fits}
 use Rattle.s2id_core.proofs.BinaryDigits.{digits_step}
 
 starts_rise : (hs : Collection) (ranges : List Range) (i j : ℕ) → IsRangeTable hs ranges → i ≤ j → j + 1 < length ranges
@@ -53,7 +57,57 @@ half_of_power zero size is some = absurd (omega arith)
 half_of_power (suc j) size is some =
     let twice = pow-suc 2 j in
     let e : (size - 1) / 2 ≡ size / 2 - 1 = omega arith in
-    record { left = j; power = omega arith; twice = omega arith; digits = digits_step (size - 1) (omega arith) ∙ ap (λ (n : ℕ). binary_digits n + 1) e }
+    record {
+      left = j;
+      power = omega arith;
+      twice = omega arith;
+      digits = digits_step (size - 1) (omega arith) ∙ ap (λ (n : ℕ). binary_digits n + 1) e;
+    }
+
+-- a jump has halved a window of a power of two of ranges some times, at a probe each
+pub record IsJump {P : Type 0} (shown : Shown P) (leaf first size among : ℕ) (entry : Cost) (now : Shown P) (spent : Cost) : Type 0 where
+  pub window : IsWindow shown.ranges leaf first size
+  pub power : (k : ℕ) × (size ≡ 2 ^ k)
+  pub same : now ≡ shown
+  pub looks : spent.looks ≡ entry.looks
+  pub kept : NoFewerProbes entry spent
+  pub probes : spent.probes + binary_digits (size - 1) ≤ entry.probes + binary_digits (among - 1)
+
+-- the place of the range in the middle fits a word
+pub middle_fits : {P : Type 0} (shown now : Shown P) (leaf first size among : ℕ) (entry spent : Cost) → IsShown shown
+    → IsJump shown leaf first size among entry now spent → 1 < size → first + size / 2 + 1 < 2 ^ 64
+middle_fits shown now leaf first size among entry spent is jump many =
+    let within = jump.window.within in
+    range_fits shown.pairs shown.ranges is.is_table (first + size / 2) (omega arith)
+
+-- what is left is one half or the other, by whether the second begins by the leaf
+pub jumped : {P : Type 0} (shown now after : Shown P) (leaf first size among start : ℕ) (entry spent paid : Cost)
+    → IsJump shown leaf first size among entry now spent → 1 < size → start ≡ (range_at now.ranges (first + size / 2)).start
+    → after ≡ now → paid ≡ with_probe spent
+    → (start ≤ leaf → IsJump shown leaf (first + size / 2) (size / 2) among entry after paid)
+    × (leaf < start → IsJump shown leaf first (size / 2) among entry after paid)
+jumped {P} shown now after leaf first size among start entry spent paid jump many begins same counts =
+    let half : ℕ = size / 2 in
+    let h = half_of_power jump.power.0 size jump.power.1 many in
+    let whole = subst (λ (n : ℕ). IsWindow shown.ranges leaf first n) h.twice jump.window in
+    let middle = begins ∙ ap (λ (z : Shown P). (range_at z.ranges (first + half)).start) jump.same in
+    let looks = ap (λ (z : Cost). z.looks) counts ∙ jump.looks in
+    let probes = ap (λ (z : Cost). z.probes) counts in
+    let kept = jump.kept in
+    let before = jump.probes in
+    let digits = h.digits in
+    let left : (next : ℕ) → IsWindow shown.ranges leaf next half → IsJump shown leaf next half among entry after paid = λ next window.
+    record {
+      window = window;
+      power = (h.left, h.power);
+      same = same ∙ jump.same;
+      looks = looks;
+      kept = omega arith;
+      probes = omega arith;
+    } in (
+      λ by. left (first + half) (second_half shown.ranges leaf first half whole (omega arith) (omega arith)),
+      λ behind. left first (first_half shown.ranges leaf first half whole (omega arith) (omega arith)),
+    )
 
 -- one half of a window, by whether its second half begins by the leaf
 pub half_left : (hs : Collection) (ranges : List Range) (leaf first half one : ℕ) → IsRangeTable hs ranges
@@ -88,7 +142,9 @@ halved hs ranges leaf first half one (suc j) t w is some by behind =
       left = j;
       fewer = omega arith;
       is = same;
-      window = subst (λ (size : ℕ). IsWindow ranges leaf (first + half * one) size) same (half_left hs ranges leaf first half one t (subst (λ (size : ℕ). IsWindow ranges leaf first size) all w) some by behind);
+      window =
+          subst (λ (size : ℕ). IsWindow ranges leaf (first + half * one) size) same
+          (half_left hs ranges leaf first half one t (subst (λ (size : ℕ). IsWindow ranges leaf first size) all w) some by behind);
     }
 
 -- as many ranges as there is room for, at the end of some or at their beginning
@@ -125,7 +181,8 @@ room_left hs ranges leaf from size over one t w less by behind =
           (let is : from + over * one ≡ from + over = ap (λ (k : ℕ). from + over * k) (by le) ∙ (omega arith) in
           let e : from + over + size ≡ from + (over + size) = omega arith in
           let f = ap (λ k. (range_at ranges k).start) e in
-          subst (λ (k : ℕ). IsWindow ranges leaf k size) (sym is) (record { some = omega arith; within = omega arith; start = le; limit = λ more. let l = w.limit (omega arith) in omega arith }))
+          subst (λ (k : ℕ). IsWindow ranges leaf k size) (sym is)
+          (record { some = omega arith; within = omega arith; start = le; limit = λ more. let l = w.limit (omega arith) in omega arith }))
     ]
 
 -- the ranges over a face, from one on that begins by a leaf of it
@@ -148,12 +205,16 @@ window_ahead hs ranges leaf face first size from begin t have low high lt start 
           let n = t.next j from e lt in
           absurd (omega arith))
     ] in
-    let limit : first + size < length ranges → leaf < (range_at ranges (first + size)).start = λ more. let n = t.next last (first + size) end more in omega arith in
+    let limit : first + size < length ranges → leaf < (range_at ranges (first + size)).start =
+    λ more. let n = t.next last (first + size) end more in
+    omega arith in
     elim (cases_lt from first) [
       | inl less ↦
           (let e : begin ≡ first = is ∙ max-eq_right (omega arith) in
-          window_to ranges leaf begin (first + size) (omega arith) within (let p = ap (λ k. (range_at ranges k).start) e in omega arith) limit)
+          window_to ranges leaf begin (first + size) (omega arith) within (let p = ap (λ k. (range_at ranges k).start) e in omega arith)
+          limit)
       | inr le ↦
           (let e : begin ≡ from = is ∙ max-eq_left le in
-          window_to ranges leaf begin (first + size) (omega arith) within (let p = ap (λ k. (range_at ranges k).start) e in omega arith) limit)
+          window_to ranges leaf begin (first + size) (omega arith) within (let p = ap (λ k. (range_at ranges k).start) e in omega arith)
+          limit)
     ]

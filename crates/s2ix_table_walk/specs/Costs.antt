@@ -40,8 +40,8 @@ ranges_met target ranges = count_by (is_met target) ranges
 abbrev pub ranges_met_by : List CellId → List Range → ℕ → ℕ
 ranges_met_by target ranges leaf = count_by (λ r. is_met target r && nat_le r.start leaf) ranges
 
--- how many looks and probes a walk may have taken after some calls of its closure, and how many it must have: a look for each call, and a probe
--- for each range that the target meets up to the first leaf which it shares with a pair that was called
+-- how many looks and probes a walk may have taken after some calls of its closure, and how many it must have taken: a look for each call,
+-- and a probe for each range that the target meets up to the first leaf which it shares with a pair that was called
 pub record IsWalkCost (target : List CellId) (held : Collection) (ranges : List Range) (calls : ℕ) (cost : Cost) : Type 0 where
   pub each : calls ≤ cost.looks
   pub looks : cost.looks ≤ calls + ranges_met target ranges + length target

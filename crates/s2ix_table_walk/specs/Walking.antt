@@ -35,7 +35,7 @@ ArePassed target k seen = (j : ℕ) (d : CellId) → j < k → j < length target
 abbrev pub IsKnown : List Range → KnownFace → Type 0
 IsKnown ranges known = known.face < 6 → HaveFace ranges known.face 0 known.end
 
--- the range at hand has the leaf `seen`, unless `seen` is the end of the leaves; the leaf before `seen` is the target's, where there is one;
+-- the range at hand has the leaf `seen`, unless `seen` is the end of the leaves; the leaf before `seen`, if there is one, is the target's;
 -- and no range that has a leaf of the target from `seen` on begins before it: the ranges that were read are done with
 pub record IsWalk {P : Type 0} (shown : Shown P) (target : List CellId) (walk : WalkState P) : Type 0 where
   pub odd : walk.seen % 2 ≡ 1
@@ -67,17 +67,19 @@ cells_begun target seen = count_by (λ c. nat_lt (first_of c) seen) target
 abbrev pub ranges_begun : List CellId → List Range → ℕ → ℕ
 ranges_begun target ranges seen = count_by (λ r. is_met target r && nat_lt r.start seen) ranges
 
--- how many looks and probes a walk may have taken after some calls: for each range begun that is met one probe, and one look that gave no new
--- pair; for each cell begun the probes of a search, and one more for the window of its face or for a range near at hand. For a chain at hand
--- that look is still to come. And how many it must have taken: one probe for each range begun that is met
+-- how many looks and probes a walk may have taken after some calls: for each range begun that is met one probe, and one look that gave no
+-- new pair; for each cell begun the probes of a search, and one more for the window of its face or for a range near at hand. For a chain at
+-- hand that look is still to come. And how many it must have taken: one probe for each range begun that is met
 pub record IsPaid {P : Type 0} (shown : Shown P) (target : List CellId) (walk : WalkState P) (calls : ℕ) (cost : Cost) : Type 0 where
   pub each : calls ≤ cost.looks
   pub looks : cost.looks + one_if_some walk.place ≤ calls + ranges_begun target shown.ranges walk.seen
-  pub probes : cost.probes ≤ cells_begun target walk.seen * (binary_digits (length shown.ranges + 1) + 1) + ranges_begun target shown.ranges walk.seen
+  pub probes : cost.probes
+      ≤ cells_begun target walk.seen * (binary_digits (length shown.ranges + 1) + 1) + ranges_begun target shown.ranges walk.seen
   pub begun : ranges_begun target shown.ranges walk.seen ≤ cost.probes
 
 -- a walk has paid for the pairs that it gave: those of the meeting list in front of what is left
 pub record HasPaid {P : Type 0} (shown : Shown P) (target : List CellId) (walk : WalkState P) (cost : Cost) : Type 0 where
   pub fits : length (left_of shown target walk) ≤ length (meeting_of target shown.pairs)
-  pub rest : left_of shown target walk ≡ drop (length (meeting_of target shown.pairs) - length (left_of shown target walk)) (meeting_of target shown.pairs)
+  pub rest : left_of shown target walk
+      ≡ drop (length (meeting_of target shown.pairs) - length (left_of shown target walk)) (meeting_of target shown.pairs)
   pub paid : IsPaid shown target walk (length (meeting_of target shown.pairs) - length (left_of shown target walk)) cost

@@ -14,4 +14,5 @@ with_next hs front out k x less is same pushed =
 pub loop-k-preserved : goal.loop-k-preserved
 loop-k-preserved c =
     let less = c.len-len.ensures.number in
-    with_next c.args.bag.now.held c.loop-k.held.items _ c.loop-k.k c.held.result (omega arith) c.held.ensures c.loop-k.invariant c.in_ok-push.ensures.items
+    with_next c.args.bag.now.held c.loop-k.held.items _ c.loop-k.k c.held.result (omega arith) c.held.ensures c.loop-k.invariant
+    c.in_ok-push.ensures.items

@@ -15,4 +15,6 @@ returns g c =
     let odd : raw_of leaf % 2 ≡ 1 = omega arith in
     let found = c.find.ensures in
     let shared = (g.met.T.RangeTable.is_table t).shared c.find.result (raw_of leaf) found.within odd found.start found.limit in
-    yields_same (λ (it : ChainIter g.row.T.Denot g.row.T-Place.Denot g.T.RangeTable). from_place (g.T.RangeTable.chain it.table.now) it.next) c.contents.result _ _ (sym shared) c.contents.ensures
+    yields_same
+    (λ (it : ChainIter g.row.T.Denot g.row.T-Place.Denot g.T.RangeTable). from_place (g.T.RangeTable.chain it.table.now) it.next)
+    c.contents.result _ _ (sym shared) c.contents.ensures

@@ -5,4 +5,6 @@ use Rattle.s2ix_table_queries.proofs.iter.contents.Goals as goal
 
 pub returns : goal.returns
 returns g c =
-    yields_rest (λ (it : ChainIter g.row.T.Denot g.row.T-Place.Denot g.T.RangeTable). from_place (g.T.RangeTable.chain it.table.now) it.next) _ _ c.first-next.ensures.pairs_are
+    yields_rest
+    (λ (it : ChainIter g.row.T.Denot g.row.T-Place.Denot g.T.RangeTable). from_place (g.T.RangeTable.chain it.table.now) it.next) _ _
+    c.first-next.ensures.pairs_are

@@ -9,7 +9,8 @@ use Rattle.s2ix_table_queries.proofs.Labelling.{label_of}
 use Rattle.s2ix_table_queries.specs.contracts.labels.fn.gather.visit_all as closure
 use Rattle.s2ix_table_queries.proofs.labels.gather.Goals as goal
 
-gathers : {F N : Type 0} (step : F → Held → F → Type 0) (items : F → List Label) (name : F → N) (each : (p : F) (h : Held) (q : F) → step p h q → (items q ≡ items p ++ h.pair.label ∷ []) × (name q ≡ name p))
+gathers : {F N : Type 0} (step : F → Held → F → Type 0) (items : F → List Label) (name : F → N)
+    (each : (p : F) (h : Held) (q : F) → step p h q → (items q ≡ items p ++ h.pair.label ∷ []) × (name q ≡ name p))
     → (f : F) (hs : Collection) (last : F) → FoldsTo step f hs last → (items last ≡ items f ++ map label_of hs) × (name last ≡ name f)
 gathers step items name each f [] last same = (ap items (sym same) ∙ sym (append-nil (items f)), ap name (sym same))
 gathers step items name each f (h ∷ hs) last on =
@@ -20,5 +21,6 @@ gathers step items name each f (h ∷ hs) last on =
 pub returns : goal.returns
 returns g c =
     λ all.
-    let gathered = gathers _ (λ k. (closure.captures k).labels.now.items) (λ k. (closure.captures k).labels.ghost_name) (λ p h q s. (search rules, search (rules, s.met.1.1))) _ _ _ (c.visit_all.ensures all) in
+    let gathered = gathers _ (λ k. (closure.captures k).labels.now.items) (λ k. (closure.captures k).labels.ghost_name)
+    (λ p h q s. (search rules, search (rules, s.met.1.1))) _ _ _ (c.visit_all.ensures all) in
     search (rules, gathered)

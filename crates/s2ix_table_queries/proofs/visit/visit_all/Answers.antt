@@ -19,4 +19,6 @@ visit-requires g c = may_always (λ p x. goal.F-pre g p x) (λ p x r q. goal.F-s
 
 pub returns : goal.returns
 returns g c =
-    λ whole. folded (λ p x r q. goal.F-step g p x r q) c.args.f.now _ (meeting_of c.args.target.now (g.T.RangeTable.pairs c.args.table.now)) c.visit.ensures.0 _ whole c.visit.ensures.1
+    λ whole.
+    folded (λ p x r q. goal.F-step g p x r q) c.args.f.now _ (meeting_of c.args.target.now (g.T.RangeTable.pairs c.args.table.now))
+    c.visit.ensures.0 _ whole c.visit.ensures.1

@@ -17,4 +17,5 @@ pub loop-entry-preserved : goal.loop-entry-preserved
 loop-entry-preserved c =
     let e = c.entry-item.result in
     let is = c.from.ensures ∙ c.face.ensures in
-    mark_next c.args.entries.now c.loop-entry.changed c.loop-entry.entry-index c.from.result e (omega arith) c.entry-item.is is (below_six e.pair.cell c.from.result is) c.loop-entry.invariant
+    mark_next c.args.entries.now c.loop-entry.changed c.loop-entry.entry-index c.from.result e (omega arith) c.entry-item.is is
+    (below_six e.pair.cell c.from.result is) c.loop-entry.invariant

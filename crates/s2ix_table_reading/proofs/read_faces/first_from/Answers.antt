@@ -27,11 +27,16 @@ loop-from-preserved-then-is_before_face g c =
     let some : c.loop-from.from < c.loop-from.to = c.loop-from-test.true in
     let within = i.3 in
     let found = ap (λ (xs : Collection). slice_get xs middle) (sym i.1) ∙ c.read.ensures.held in (
-      (suc k, c.read.ensures.counts ∙ ap (λ (n : ℕ). with_read n) i.0.1, halved k d (c.loop-from.to - (middle + 1)) (binary_digits (length hs)) (omega arith) (omega arith) i.0.2),
+      (
+        suc k,
+        c.read.ensures.counts ∙ ap (λ (n : ℕ). with_read n) i.0.1,
+        halved k d (c.loop-from.to - (middle + 1)) (binary_digits (length hs)) (omega arith) (omega arith) i.0.2,
+      ),
       c.read.ensures.same ∙ i.1,
       omega arith,
       within,
-      below_read (face_start c.args.face) middle hs c.read.result (g.met.B.PairReader.is_read c.args.reader.now).is_collection (omega arith) found (c.is_before_face.ensures.0 c.if-is_before_face.true),
+      below_read (face_start c.args.face) middle hs c.read.result (g.met.B.PairReader.is_read c.args.reader.now).is_collection
+          (omega arith) found (c.is_before_face.ensures.0 c.if-is_before_face.true),
       i.5,
     )
 
@@ -45,13 +50,18 @@ loop-from-preserved g c =
     let some : c.loop-from.from < c.loop-from.to = c.loop-from-test.true in
     let within = i.3 in
     let found = ap (λ (xs : Collection). slice_get xs middle) (sym i.1) ∙ c.read.ensures.held in (
-      (suc k, c.read.ensures.counts ∙ ap (λ (n : ℕ). with_read n) i.0.1, halved k d (middle - c.loop-from.from) (binary_digits (length hs)) (omega arith) (omega arith) i.0.2),
+      (
+        suc k,
+        c.read.ensures.counts ∙ ap (λ (n : ℕ). with_read n) i.0.1,
+        halved k d (middle - c.loop-from.from) (binary_digits (length hs)) (omega arith) (omega arith) i.0.2,
+      ),
       c.read.ensures.same ∙ i.1,
       omega arith,
       omega arith,
       i.4,
       from_read (face_start c.args.face) middle hs c.read.result (g.met.B.PairReader.is_read c.args.reader.now).is_collection found
-          (le_from_not_lt (rank_of c.read.result.pair) (face_start c.args.face) (iff_false c.is_before_face.ensures c.if-is_before_face.false)),
+          (le_from_not_lt (rank_of c.read.result.pair) (face_start c.args.face)
+          (iff_false c.is_before_face.ensures c.if-is_before_face.false)),
     )
 
 pub returns-clause-reads : goal.returns-clause-reads

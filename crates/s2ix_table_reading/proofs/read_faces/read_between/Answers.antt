@@ -24,7 +24,8 @@ loop-place-preserved g c =
       (
         suc k,
         omega arith,
-        c.in_ok-push.ensures.items ∙ ap (λ (x : Held). c.loop-place.held.items ++ x ∷ []) c.new.ensures ∙ ap (λ (xs : Collection). xs ++ h ∷ []) i.0.2 ∙ sym (take_more c.args.from k c.loop-place.place hs h at found),
+        c.in_ok-push.ensures.items ∙ ap (λ (x : Held). c.loop-place.held.items ++ x ∷ []) c.new.ensures
+            ∙ ap (λ (xs : Collection). xs ++ h ∷ []) i.0.2 ∙ sym (take_more c.args.from k c.loop-place.place hs h at found),
         c.read.ensures.counts ∙ ap (λ (n : ℕ). with_read n) i.0.3,
       ),
       c.read.ensures.same ∙ i.1,

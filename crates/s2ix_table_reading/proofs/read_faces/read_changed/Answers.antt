@@ -31,13 +31,15 @@ returns-in_err-read_face-clause-refused g c =
     let face : ℕ = c.loop-face.face in
     let within : face < 6 = c.loop-face-test.true in
     let i = c.loop-face.invariant in
-    let on = tested change c.changed_faces-changed.result face c.from.result true c.changed_faces-changed.ensures c.from.ensures within c.if-changed-from.true in
+    let on = tested change c.changed_faces-changed.result face c.from.result true c.changed_faces-changed.ensures c.from.ensures within
+    c.if-changed-from.true in
     face_was_refused change hs _ face _ _ _ within on i.2 i.1 c.read_face.ensures.refused
 
 pub returns-clause-refused : goal.returns-clause-refused
 returns-clause-refused g c =
     let hs = g.B.PairReader.shown c.args.reader.now in
-    read_within _ _ 0 _ _ _ (omega arith) (omega arith) (all_read c.args.change.now hs (two_searches hs) c.loop-face.face _ _ (omega arith) c.loop-face.invariant.1)
+    read_within _ _ 0 _ _ _ (omega arith) (omega arith)
+    (all_read c.args.change.now hs (two_searches hs) c.loop-face.face _ _ (omega arith) c.loop-face.invariant.1)
 
 pub loop-face-preserved : goal.loop-face-preserved
 loop-face-preserved g c =
@@ -51,24 +53,33 @@ loop-face-preserved g c =
     let within : face < 6 = c.loop-face-test.true in
     elim c.if-changed-from.branch [
       | then-changed-from+in_ok-read_face+in-Some-1 w ↦
-          (let on = tested change c.changed_faces-changed.result face c.from.result true c.changed_faces-changed.ensures c.from.ensures within w.if-changed-from.true in
+          (let on =
+          tested change c.changed_faces-changed.result face c.from.result true c.changed_faces-changed.ensures c.from.ensures within
+          w.if-changed-from.true in
           let r = w.in_ok-read_face.ensures in
           let made = r.pairs ∙ ap (λ (xs : Collection). held_on face xs) i.2 in (
-            put_next items face _ own none_yet _ _ _ within w.from-then-changed-from.ensures w.read-is i.0 (some_on change hs _ face on made),
+            put_next items face _ own none_yet _ _ _ within w.from-then-changed-from.ensures w.read-is i.0
+                (some_on change hs _ face on made),
             face_was_read change hs _ face _ _ _ _ on i.2 (ap g.B.PairReader.spent w.reader-is) i.1 r.reads,
             ap g.B.PairReader.shown w.reader-is ∙ r.same ∙ i.2,
           ))
       | then-changed-from+in_ok-read_face+in-None-1 w ↦
-          (let on = tested change c.changed_faces-changed.result face c.from.result true c.changed_faces-changed.ensures c.from.ensures within w.if-changed-from.true in
+          (let on =
+          tested change c.changed_faces-changed.result face c.from.result true c.changed_faces-changed.ensures c.from.ensures within
+          w.if-changed-from.true in
           let r = w.in_ok-read_face.ensures in
           let made = r.pairs ∙ ap (λ (xs : Collection). held_on face xs) i.2 in (
-            put_next items face _ own none_yet _ _ _ within w.from-then-changed-from.ensures w.read-is i.0 (some_on change hs _ face on made),
+            put_next items face _ own none_yet _ _ _ within w.from-then-changed-from.ensures w.read-is i.0
+                (some_on change hs _ face on made),
             face_was_read change hs _ face _ _ _ _ on i.2 (ap g.B.PairReader.spent w.reader-is) i.1 r.reads,
             ap g.B.PairReader.shown w.reader-is ∙ r.same ∙ i.2,
           ))
       | else-changed-from w ↦
-          (let none = tested change c.changed_faces-changed.result face c.from.result false c.changed_faces-changed.ensures c.from.ensures within w.if-changed-from.false in (
-            ap (λ (xs : List (Option (Vec FlatHeld Global))). map items xs) w.read-is ∙ i.0 ∙ same_next face own none_yet within (none_on_face change hs face none),
+          (let none =
+          tested change c.changed_faces-changed.result face c.from.result false c.changed_faces-changed.ensures c.from.ensures within
+          w.if-changed-from.false in (
+            ap (λ (xs : List (Option (Vec FlatHeld Global))). map items xs) w.read-is ∙ i.0
+                ∙ same_next face own none_yet within (none_on_face change hs face none),
             face_was_left change hs face _ _ _ none (ap g.B.PairReader.spent w.reader-is) i.1,
             ap g.B.PairReader.shown w.reader-is ∙ i.2,
           ))

@@ -8,5 +8,6 @@ use Rattle.s2ix_table_reading.proofs.read_faces.read_changed.Given as goal
 abbrev pub invariant-loop-face : goal.invariant-loop-face
 invariant-loop-face g l =
     (map (option_map (λ held. held.items)) l.read ≡ renewed l.face (changed_on l.change (g.B.PairReader.shown l.fn.reader)) (λ face. None))
-    × AreReadBelow l.change (g.B.PairReader.shown l.fn.reader) (two_searches (g.B.PairReader.shown l.fn.reader)) l.face (g.B.PairReader.spent l.fn.reader) (g.B.PairReader.spent l.reader)
+    × AreReadBelow l.change (g.B.PairReader.shown l.fn.reader) (two_searches (g.B.PairReader.shown l.fn.reader)) l.face
+    (g.B.PairReader.spent l.fn.reader) (g.B.PairReader.spent l.reader)
     × (g.B.PairReader.shown l.reader ≡ g.B.PairReader.shown l.fn.reader)

@@ -15,7 +15,9 @@ cut : (g : Over) (c : After-first_from-behind g)
 cut g c =
     let first = c.first_from-first.ensures in
     let behind = c.first_from-behind.ensures in
-    face_cut c.args.face c.from-face.result c.first_from-first.result c.first_from-behind.result (g.B.PairReader.shown c.args.reader.now) (g.B.PairReader.shown c.first_from-first.new.reader) c.from-face.ensures first.same first.within behind.within first.below first.rest behind.below behind.rest
+    face_cut c.args.face c.from-face.result c.first_from-first.result c.first_from-behind.result (g.B.PairReader.shown c.args.reader.now)
+    (g.B.PairReader.shown c.first_from-first.new.reader) c.from-face.ensures first.same first.within behind.within first.below first.rest
+    behind.below behind.rest
 
 pub read_between-requires-clause-rises : goal.read_between-requires-clause-rises
 read_between-requires-clause-rises g c =
@@ -29,7 +31,8 @@ returns-clause-pairs g c =
     let b : ℕ = c.first_from-behind.result in
     let is = cut g (goal.at.returns-clause-pairs g c).After-first_from-behind in
     let same = c.first_from-behind.ensures.same ∙ c.first_from-first.ensures.same in
-    IfOk-weaker c.read_between.result _ _ (λ held made. made ∙ ap (λ (xs : Collection). take (b - a) (drop a xs)) same ∙ is.pairs) c.read_between.ensures.pairs
+    IfOk-weaker c.read_between.result _ _ (λ held made. made ∙ ap (λ (xs : Collection). take (b - a) (drop a xs)) same ∙ is.pairs)
+    c.read_between.ensures.pairs
 
 pub returns-clause-reads : goal.returns-clause-reads
 returns-clause-reads g c =
@@ -40,7 +43,11 @@ returns-clause-reads g c =
     let p : ℕ = length (held_on c.args.face hs) in
     let q : ℕ = c.first_from-behind.result - c.first_from-first.result in
     let count : q ≡ p = is.count in
-    on_ok_weaker c.read_between.result (λ each. face_reads (binary_digits (length hs + 1)) (binary_digits (length (g.B.PairReader.shown c.first_from-first.new.reader) + 1)) p q q p _ _ _ _ same count (omega arith) first.reads c.first_from-behind.ensures.reads each) c.read_between.ensures.reads
+    on_ok_weaker c.read_between.result
+    (λ each.
+    face_reads (binary_digits (length hs + 1)) (binary_digits (length (g.B.PairReader.shown c.first_from-first.new.reader) + 1)) p q q p _
+    _ _ _ same count (omega arith) first.reads c.first_from-behind.ensures.reads each)
+    c.read_between.ensures.reads
 
 pub returns-clause-refused : goal.returns-clause-refused
 returns-clause-refused g c =
@@ -50,4 +57,5 @@ returns-clause-refused g c =
     let same = ap (λ (xs : Collection). binary_digits (length xs + 1)) first.same in
     let p : ℕ = length (held_on c.args.face hs) in
     let q : ℕ = c.first_from-behind.result - c.first_from-first.result in
-    face_reads (binary_digits (length hs + 1)) (binary_digits (length (g.B.PairReader.shown c.first_from-first.new.reader) + 1)) p q 0 0 _ _ _ _ same is.count (omega arith) first.reads c.first_from-behind.ensures.reads c.read_between.ensures.refused
+    face_reads (binary_digits (length hs + 1)) (binary_digits (length (g.B.PairReader.shown c.first_from-first.new.reader) + 1)) p q 0 0 _
+    _ _ _ same is.count (omega arith) first.reads c.first_from-behind.ensures.reads c.read_between.ensures.refused

@@ -18,7 +18,8 @@ rest : (hs : Collection) (ranges : List Range) (cell : CellId) (from first size 
     → begin ≡ max from first → end ≡ first + size → IsWindow ranges (first_of cell) begin (end - begin)
 rest hs ranges cell from first size begin end t have lt start is ends =
     let on = begins_on_face cell in
-    subst (λ (n : ℕ). IsWindow ranges (first_of cell) begin (n - begin)) (sym ends) (window_ahead hs ranges (first_of cell) (face_of cell) first size from begin t have on.0 on.1 lt start is)
+    subst (λ (n : ℕ). IsWindow ranges (first_of cell) begin (n - begin)) (sym ends)
+    (window_ahead hs ranges (first_of cell) (face_of cell) first size from begin t have on.0 on.1 lt start is)
 
 -- those over the known face
 rest_known : (g : Over) (c : Then-face-known g)
@@ -28,13 +29,15 @@ rest_known g c =
     let s = g.R.Reader.shown r in
     let same : c.args.known.face ≡ face_of c.args.cell = sym c.if-face-known.true ∙ c.face-face.ensures in
     let have = c.requires.known (omega (arith, six_faces c.args.cell, same)) in
-    rest s.pairs s.ranges c.args.cell c.args.from 0 c.args.known.end c.args.from c.args.known.end (g.met.R.Reader.is_shown r).is_table (subst (λ (n : ℕ). HaveFace s.ranges n 0 c.args.known.end) same have) c.requires.from c.requires.start (omega arith) (omega arith)
+    rest s.pairs s.ranges c.args.cell c.args.from 0 c.args.known.end c.args.from c.args.known.end (g.met.R.Reader.is_shown r).is_table
+    (subst (λ (n : ℕ). HaveFace s.ranges n 0 c.args.known.end) same have) c.requires.from c.requires.start (omega arith) (omega arith)
 
 -- those over the face that was asked for
 have_asked : (g : Over) (c : After-window-window g)
     → HaveFace (g.R.Reader.shown c.args.reader.now).ranges (face_of c.args.cell) c.window-window.result.first c.window-window.result.size
 have_asked g c =
-    subst (λ (n : ℕ). HaveFace (g.R.Reader.shown c.args.reader.now).ranges n c.window-window.result.first c.window-window.result.size) c.face-face.ensures c.window-window.ensures.window
+    subst (λ (n : ℕ). HaveFace (g.R.Reader.shown c.args.reader.now).ranges n c.window-window.result.first c.window-window.result.size)
+    c.face-face.ensures c.window-window.ensures.window
 
 pub overflow_sub-rest : goal.overflow_sub-rest
 overflow_sub-rest g c =
@@ -44,7 +47,11 @@ overflow_sub-rest g c =
 pub near-among-requires : goal.near-among-requires
 near-among-requires g c =
     let ranges = (g.R.Reader.shown c.args.reader.now).ranges in
-    record { among = subst (λ (leaf : ℕ). IsWindow ranges leaf c.args.from (c.args.known.end - c.args.from)) (sym c.span_start.ensures) (rest_known g (goal.at.near-among-requires g c).Then-face-known) }
+    record {
+      among =
+          subst (λ (leaf : ℕ). IsWindow ranges leaf c.args.from (c.args.known.end - c.args.from)) (sym c.span_start.ensures)
+          (rest_known g (goal.at.near-among-requires g c).Then-face-known);
+    }
 
 pub window-window-requires : goal.window-window-requires
 window-window-requires g c = let face = c.face-face.ensures in omega (arith, six_faces c.args.cell)
@@ -56,15 +63,20 @@ overflow_add-end g c =
     let have = have_asked g (goal.at.overflow_add-end g c).After-window-window in
     let some = have.some in
     let within = have.within in
-    let fits = range_fits s.pairs s.ranges (g.met.R.Reader.is_shown r).is_table (c.window-window.result.first + c.window-window.result.size - 1) (omega arith) in
-    let e : c.window-window.result.first + c.window-window.result.size - 1 + 1 ≡ c.window-window.result.first + c.window-window.result.size = omega arith in
+    let fits = range_fits s.pairs s.ranges (g.met.R.Reader.is_shown r).is_table
+    (c.window-window.result.first + c.window-window.result.size - 1) (omega arith) in
+    let e : c.window-window.result.first + c.window-window.result.size - 1 + 1
+    ≡ c.window-window.result.first + c.window-window.result.size =
+    omega arith in
     search (rules, fits, e)
 
 pub returns-clause-window : goal.returns-clause-window
 returns-clause-window g c =
     let r = c.args.reader.now in
     let s = g.R.Reader.shown r in
-    rest s.pairs s.ranges c.args.cell c.args.from c.window-window.result.first c.window-window.result.size c.max-first.result _ (g.met.R.Reader.is_shown r).is_table (have_asked g (goal.at.returns-clause-window g c).After-window-window) c.requires.from c.requires.start c.max-first.ensures refl
+    rest s.pairs s.ranges c.args.cell c.args.from c.window-window.result.first c.window-window.result.size c.max-first.result _
+    (g.met.R.Reader.is_shown r).is_table (have_asked g (goal.at.returns-clause-window g c).After-window-window) c.requires.from
+    c.requires.start c.max-first.ensures refl
 
 pub overflow_sub-among : goal.overflow_sub-among
 overflow_sub-among g c =

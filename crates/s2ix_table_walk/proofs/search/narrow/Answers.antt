@@ -17,7 +17,9 @@ returns-clause-window g c =
     let most = power.3 in
     let over : ℕ = c.args.among.size - c.power_within-size.result in
     let all : c.args.among.size ≡ over + c.power_within-size.result = omega arith in
-    room_left s.pairs s.ranges c.args.leaf c.args.among.first c.power_within-size.result over c.begun.result (g.met.R.Reader.is_shown r).is_table (subst (λ (n : ℕ). IsWindow s.ranges c.args.leaf c.args.among.first n) all c.requires.among) (omega arith) (λ by. c.begun.ensures.by (omega arith)) (λ lt. c.begun.ensures.behind (omega arith))
+    room_left s.pairs s.ranges c.args.leaf c.args.among.first c.power_within-size.result over c.begun.result
+    (g.met.R.Reader.is_shown r).is_table (subst (λ (n : ℕ). IsWindow s.ranges c.args.leaf c.args.among.first n) all c.requires.among)
+    (omega arith) (λ by. c.begun.ensures.by (omega arith)) (λ lt. c.begun.ensures.behind (omega arith))
 
 pub returns-clause-probes : goal.returns-clause-probes
 returns-clause-probes g c =
@@ -38,7 +40,8 @@ overflow_add-among g c =
     let is = power.1 in
     let le = power.2 in
     let most = power.3 in
-    let fits = range_fits s.pairs s.ranges (g.met.R.Reader.is_shown r).is_table (c.args.among.first + (c.args.among.size - c.power_within-size.result)) (omega arith) in
+    let fits = range_fits s.pairs s.ranges (g.met.R.Reader.is_shown r).is_table
+    (c.args.among.first + (c.args.among.size - c.power_within-size.result)) (omega arith) in
     search (rules, fits)
 
 pub overflow_add-first : goal.overflow_add-first
@@ -48,5 +51,6 @@ overflow_add-first g c =
     let window = returns-clause-window g c in
     let within = window.within in
     let some = window.some in
-    let fits = range_fits s.pairs s.ranges (g.met.R.Reader.is_shown r).is_table (c.args.among.first + (c.args.among.size - c.power_within-size.result) * c.begun.result) (omega arith) in
+    let fits = range_fits s.pairs s.ranges (g.met.R.Reader.is_shown r).is_table
+    (c.args.among.first + (c.args.among.size - c.power_within-size.result) * c.begun.result) (omega arith) in
     search (rules, fits)

@@ -21,8 +21,15 @@ loop-half-init g c =
     let paid = n.probes in
     let jumped = j.probes in
     let same = ap (λ (size : ℕ). binary_digits (size - 1)) is in
-    let window = subst (λ (z : Shown g.row.R-Place.Denot). IsWindow z.ranges c.args.leaf c.jump-window.result.first c.jump-window.result.size) n.same j.window in (
-      (k, ap (λ (size : ℕ). size / 2) is, subst (λ (size : ℕ). IsWindow ranges c.args.leaf c.jump-window.result.first size) is window, omega (arith, digits_below k)),
+    let window =
+    subst (λ (z : Shown g.row.R-Place.Denot). IsWindow z.ranges c.args.leaf c.jump-window.result.first c.jump-window.result.size) n.same
+    j.window in (
+      (
+        k,
+        ap (λ (size : ℕ). size / 2) is,
+        subst (λ (size : ℕ). IsWindow ranges c.args.leaf c.jump-window.result.first size) is window,
+        omega (arith, digits_below k),
+      ),
       j.same ∙ n.same,
       j.looks ∙ n.looks,
       let kept = n.kept in let still = j.kept in omega arith,
@@ -30,14 +37,16 @@ loop-half-init g c =
 
 -- the half that is left
 half_is : (g : Over) (c : After-begun g)
-    → IsHalved (g.R.Reader.shown c.args.reader.now).ranges c.args.leaf (c.loop-half.first + c.loop-half.half * c.begun.result) c.loop-half.half c.loop-half.invariant.0.0
+    → IsHalved (g.R.Reader.shown c.args.reader.now).ranges c.args.leaf (c.loop-half.first + c.loop-half.half * c.begun.result)
+    c.loop-half.half c.loop-half.invariant.0.0
 half_is g c =
     let r = c.args.reader.now in
     let s = g.R.Reader.shown r in
     let i = c.loop-half.invariant in
     let at : ℕ = c.loop-half.first + c.loop-half.half in
     let start = c.start.ensures.start ∙ ap (λ (z : Shown g.row.R-Place.Denot). (range_at z.ranges at).start) i.1 in
-    halved s.pairs s.ranges c.args.leaf c.loop-half.first c.loop-half.half c.begun.result i.0.0 (g.met.R.Reader.is_shown r).is_table i.0.2 i.0.1 c.loop-half-test.true (λ by. c.begun.ensures.by (omega arith)) (λ lt. c.begun.ensures.behind (omega arith))
+    halved s.pairs s.ranges c.args.leaf c.loop-half.first c.loop-half.half c.begun.result i.0.0 (g.met.R.Reader.is_shown r).is_table i.0.2
+    i.0.1 c.loop-half-test.true (λ by. c.begun.ensures.by (omega arith)) (λ lt. c.begun.ensures.behind (omega arith))
 
 pub loop-half-preserved : goal.loop-half-preserved
 loop-half-preserved g c =
@@ -72,5 +81,6 @@ overflow_add-first-in-loop-half g c =
     let h = half_is g (goal.at.overflow_add-first-in-loop-half g c).After-begun in
     let w = h.window.within in
     let some = h.window.some in
-    let fits = range_fits s.pairs s.ranges (g.met.R.Reader.is_shown r).is_table (c.loop-half.first + c.loop-half.half * c.begun.result) (omega arith) in
+    let fits = range_fits s.pairs s.ranges (g.met.R.Reader.is_shown r).is_table (c.loop-half.first + c.loop-half.half * c.begun.result)
+    (omega arith) in
     search (rules, fits)

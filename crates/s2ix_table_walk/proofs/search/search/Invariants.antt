@@ -9,7 +9,8 @@ invariant-loop-half g l =
     ((k : ℕ)
     × (l.half ≡ 2 ^ k / 2)
     × IsWindow (g.R.Reader.shown l.fn.reader).ranges l.leaf l.first (2 ^ k)
-    × ((g.R.Reader.spent l.reader).probes + k ≤ (g.R.Reader.spent l.fn.reader).probes + binary_digits (length (g.R.Reader.shown l.fn.reader).ranges + 1)))
+    × ((g.R.Reader.spent l.reader).probes + k
+    ≤ (g.R.Reader.spent l.fn.reader).probes + binary_digits (length (g.R.Reader.shown l.fn.reader).ranges + 1)))
     × (g.R.Reader.shown l.reader ≡ g.R.Reader.shown l.fn.reader)
     × ((g.R.Reader.spent l.reader).looks ≡ (g.R.Reader.spent l.fn.reader).looks)
     × NoFewerProbes (g.R.Reader.spent l.fn.reader) (g.R.Reader.spent l.reader)

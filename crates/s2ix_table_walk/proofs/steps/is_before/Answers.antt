@@ -13,6 +13,7 @@ returns-then-step-cells-clause-begins c d below =
     let within = c.if-step-cells.true in
     let k = c.requires in
     let raw = c.raw.ensures in
-    let e = ap (λ (y : CellId). first_of y) (c.index-cells-k.is ∙ get_or_default c.args.cells.now (c.args.k + c.args.step) x d (omega arith)) in
+    let e = ap (λ (y : CellId). first_of y)
+    (c.index-cells-k.is ∙ get_or_default c.args.cells.now (c.args.k + c.args.step) x d (omega arith)) in
     let less : c.raw.result < c.args.limit = search rules in
     omega arith

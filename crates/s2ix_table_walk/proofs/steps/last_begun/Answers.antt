@@ -27,7 +27,8 @@ loop-step-preserved-then-is_before c =
     let i = c.loop-step.invariant in
     let e = c.if-is_before.ensures in
     let h = half i.0.0 c.loop-step.step i.0.1 c.loop-step-test.true in
-    let same : c.loop-step.last + c.loop-step.step / 2 + c.loop-step.step / 2 ≡ c.loop-step.last + c.loop-step.step = omega (arith, h.2) in (
+    let same : c.loop-step.last + c.loop-step.step / 2 + c.loop-step.step / 2 ≡ c.loop-step.last + c.loop-step.step =
+    omega (arith, h.2) in (
       (h.0, h.1),
       omega (arith, i.1),
       e.within refl,

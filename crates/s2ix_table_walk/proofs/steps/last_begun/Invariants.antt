@@ -5,14 +5,20 @@ use Rattle.s2ix_table_walk.proofs.steps.last_begun.Given as goal
 
 abbrev pub invariant-loop-last : goal.invariant-loop-last
 invariant-loop-last l =
-    ((j : ℕ) × (l.step ≡ 2 ^ j)) × (l.k ≤ l.last) × (l.last < length l.cells) × ((d : CellId) → first_of (slice_index_or l.cells l.last d) < l.limit)
+    ((j : ℕ) × (l.step ≡ 2 ^ j))
+    × (l.k ≤ l.last)
+    × (l.last < length l.cells)
+    × ((d : CellId) → first_of (slice_index_or l.cells l.last d) < l.limit)
 
 abbrev pub decreases-loop-last : goal.decreases-loop-last
 decreases-loop-last l = length l.cells - l.last
 
 abbrev pub invariant-loop-step : goal.invariant-loop-step
 invariant-loop-step l =
-    ((j : ℕ) × (l.step ≡ 2 ^ j)) × (l.k ≤ l.last) × (l.last < length l.cells) × ((d : CellId) → first_of (slice_index_or l.cells l.last d) < l.limit)
+    ((j : ℕ) × (l.step ≡ 2 ^ j))
+    × (l.k ≤ l.last)
+    × (l.last < length l.cells)
+    × ((d : CellId) → first_of (slice_index_or l.cells l.last d) < l.limit)
     × ((d : CellId) → l.last + l.step < length l.cells → l.limit ≤ raw_of (slice_index_or l.cells (l.last + l.step) d))
 
 abbrev pub decreases-loop-step : goal.decreases-loop-step

@@ -19,7 +19,8 @@ returns c =
     let p = c.partition_point.result in
     let held = c.args.self.now.held.value.items in
     let table = c.args.self.now.table in
-    let rises : IsNonDecreasingBy (λ (r : CopiedRange). r.limit) ys = subst (λ xs. IsNonDecreasingBy (λ (r : CopiedRange). r.limit) xs) (sym same) (ranges_rise held ranges table) in
+    let rises : IsNonDecreasingBy (λ (r : CopiedRange). r.limit) ys = subst (λ xs. IsNonDecreasingBy (λ (r : CopiedRange). r.limit) xs)
+    (sym same) (ranges_rise held ranges table) in
     let points : IsPartitionPoint (λ (r : CopiedRange). leb r.limit leaf ≡ true) (λ (r : CopiedRange). leb r.limit leaf ≡ false) ys p =
     IsPartitionPoint-from_clause (λ (r : CopiedRange). leb r.limit leaf) ys p c.partition_point.ensures.partitioned
     (IsPartitionedBy-leb (λ (r : CopiedRange). r.limit) ys leaf rises) (λ a r q k. search rules) in
@@ -29,7 +30,9 @@ returns c =
     let b = s.ends in
     let o1 = own.0 in
     let o2 = own.1 in
-    let at : IsPartitionPoint (λ (r : CopiedRange). leb r.limit leaf ≡ true) (λ (r : CopiedRange). leb r.limit leaf ≡ false) ranges p = subst (λ xs. IsPartitionPoint (λ (r : CopiedRange). leb r.limit leaf ≡ true) (λ (r : CopiedRange). leb r.limit leaf ≡ false) xs p) same points in
+    let at : IsPartitionPoint (λ (r : CopiedRange). leb r.limit leaf ≡ true) (λ (r : CopiedRange). leb r.limit leaf ≡ false) ranges p =
+    subst (λ xs. IsPartitionPoint (λ (r : CopiedRange). leb r.limit leaf ≡ true) (λ (r : CopiedRange). leb r.limit leaf ≡ false) xs p)
+    same points in
     let within : p ≤ length ranges = subst (λ xs. p ≤ length xs) same c.partition_point.ensures.bound in
     let got : IsFound (ranges_of ranges) p leaf = found_range held ranges p leaf table (omega arith) (omega arith) within at.0 at.1 in
     let g1 = got.start in

@@ -13,7 +13,8 @@ count : (c : goal.After-len-len) → length (range_at (ranges_of c.args.self.now
 count c =
     let ranges = c.args.self.now.ranges.items in
     let place = c.args.place in
-    let is = ap length (contents_of_place ranges place.range c.index.result.now (place_in_ranges ranges place.range place.at c.requires) c.index.ensures) in
+    let is = ap length
+    (contents_of_place ranges place.range c.index.result.now (place_in_ranges ranges place.range place.at c.requires) c.index.ensures) in
     let len : c.len-len.result ≡ length c.index.result.now.contents.items = search rules in
     is ∙ sym len
 
@@ -24,7 +25,9 @@ returns-then-place-len c =
     let cs = (range_at (ranges_of ranges) place.range).contents in
     let step = drop-drop 1 place.at cs in
     let n = count (goal.at.returns-then-place-len c).After-len-len in
-    leads_some (λ (p : CopiedPlace). drop p.at (range_at (ranges_of ranges) p.range).contents) (record { range = place.range; at = place.at + 1 }) (drop 1 (drop place.at cs)) (sym step) (omega (arith, ap length step, length-drop (place.at + 1) cs, c.if-place-len.true))
+    leads_some (λ (p : CopiedPlace). drop p.at (range_at (ranges_of ranges) p.range).contents)
+    (record { range = place.range; at = place.at + 1 }) (drop 1 (drop place.at cs)) (sym step)
+    (omega (arith, ap length step, length-drop (place.at + 1) cs, c.if-place-len.true))
 
 pub returns-else-place-len : goal.returns-else-place-len
 returns-else-place-len c =
@@ -32,4 +35,5 @@ returns-else-place-len c =
     let place = c.args.place in
     let cs = (range_at (ranges_of ranges) place.range).contents in
     let n = count (goal.at.returns-else-place-len c).After-len-len in
-    leads_none (λ (p : CopiedPlace). drop p.at (range_at (ranges_of ranges) p.range).contents) (drop 1 (drop place.at cs)) (drop-drop 1 place.at cs ∙ drop_all (place.at + 1) cs (omega (arith, c.if-place-len.false)))
+    leads_none (λ (p : CopiedPlace). drop p.at (range_at (ranges_of ranges) p.range).contents) (drop 1 (drop place.at cs))
+    (drop-drop 1 place.at cs ∙ drop_all (place.at + 1) cs (omega (arith, c.if-place-len.false)))

@@ -6,4 +6,5 @@ use Rattle.s2ix_table_queries.proofs.table.RangeTable.visit_counted.Goals as goa
 
 pub walk-whole-requires-clause-may : goal.walk-whole-requires-clause-may
 walk-whole-requires-clause-may g c =
-    may_same (λ p x. goal.F-pre g p x) (λ p x r q. goal.F-step g p x r q) c.args.f.now _ _ (sym (ap (λ (z : Shown g.row.Self-Place.Denot). meeting_of c.args.target.now z.pairs) c.new-meter.ensures.shown)) c.requires
+    may_same (λ p x. goal.F-pre g p x) (λ p x r q. goal.F-step g p x r q) c.args.f.now _ _
+    (sym (ap (λ (z : Shown g.row.Self-Place.Denot). meeting_of c.args.target.now z.pairs) c.new-meter.ensures.shown)) c.requires

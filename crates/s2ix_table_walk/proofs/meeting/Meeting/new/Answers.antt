@@ -12,4 +12,5 @@ invariant_of-result-clause-follow g c =
 pub invariant_of-result-clause-paid : goal.invariant_of-result-clause-paid
 unfolding front_from
 invariant_of-result-clause-paid g c =
-    none_pays (g.R.Reader.shown c.args.reader.now) c.cells-cells.result.now _ _ (g.met.R.Reader.is_shown c.args.reader.now) refl refl refl c.requires
+    none_pays (g.R.Reader.shown c.args.reader.now) c.cells-cells.result.now _ _ (g.met.R.Reader.is_shown c.args.reader.now) refl refl refl
+    c.requires
