@@ -5,8 +5,8 @@
 //! cell's leaves are one span: so whether a cell contains another is a comparison of numbers.
 //!
 //! A cell comes from its number (`from_raw`), its token (`from_token(b"04")`) or its path (`from_path(0, &[0])`), and tells them again by
-//! `raw`, `token` and `path`. No call here takes memory; [`OutOfMemory`] stands here for the
-//! crates above. There are no points, angles or areas of the sphere.
+//! `raw`, `token` and `path`. No call here allocates; [`OutOfMemory`] is the error of the crates above. There are no points, angles or
+//! areas of the sphere.
 #![tactic(auto)]
 
 mod cell_id;

@@ -4,8 +4,8 @@
 //! [`edge_neighbors`] gives the four cells over the sides of a cell, and [`border`] the cells of a level all round it; both go over the
 //! edges of the cube. [`curve`] has the two tables that squares and cells are found by; it is public for the law on them.
 //!
-//! Cells that share no more than a corner are no neighbours here. A border is at most eight levels finer than its cell, and alone takes
-//! memory.
+//! Cells that share no more than a corner are no neighbours here. A border is at most eight levels finer than its cell. Only [`border`]
+//! allocates.
 #![tactic(auto)]
 
 mod borders;

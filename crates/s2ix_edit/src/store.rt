@@ -89,10 +89,10 @@ impl Store {
     }
 
     /// Carries an edit out, and returns how many pairs changed their counts. An accepted edit records the change at the end of `done` and
-    /// empties `undone`; a refused one changes nothing. [`EditError`] says when each refusal stands. If the journal has room, an `Add` or a
-    /// `Remove` of no copies, or an `AddUnion` of no cells, is `NoChange` and does not allocate. An edit takes the time of [`plan`], the time
-    /// to free the undone changes, and O(m + p) for the m entries of the change and the p pairs held on their faces: bag and table are built
-    /// again only for these faces.
+    /// empties `undone`; a refused one changes nothing. [`EditError`] says when each refusal stands. If the journal has room, an `Add` or
+    /// a `Remove` of no copies, or an `AddUnion` of no cells, is `NoChange` and does not allocate. An edit takes the time of [`plan`], the
+    /// time to free the undone changes, and O(m + p) for the m entries of the change and the p pairs held on their faces: bag and table
+    /// are built again only for these faces.
     pub fn edit(&mut self, edit: &Edit) -> Result<usize, EditError>
         ensures state { OnOk result (self.new ≡ after_edit self.old edit.now) }
         ensures history { OnOk result (history_of self.new
@@ -168,8 +168,8 @@ impl Store {
     }
 
     /// Takes the last change back, and returns how many pairs it had. The change goes to the end of `undone`. `NothingToUndo` is tested
-    /// first; then `OutOfMemory` if a growth is refused. O(m + p) for the m entries of the change and the p pairs held on their faces: bag and
-    /// table are built again only for these faces.
+    /// first; then `OutOfMemory` if a growth is refused. O(m + p) for the m entries of the change and the p pairs held on their faces: bag
+    /// and table are built again only for these faces.
     pub fn undo(&mut self) -> Result<usize, UndoError>
         ensures state { OnOk result (self.new ≡ after_undo self.old) }
         ensures history { OnOk result (history_of self.new ≡ one_back (history_of self.old)) }

@@ -16,13 +16,14 @@ use s2ix_table_ranges::RangeRow;
 use std::alloc::Global;
 use std::snapshot::Snapshot;
 
-/// A range table that keeps a list of its own for each range. Building takes O(r * n) for n pairs and r ranges, at most 2 * n + 1, and for
-/// each range what it takes to put its pairs in order: O(m log m) for m labels of one cell, at worst O(m * m) for m pairs of nested cells.
+/// A range table that keeps a list of its own for each range. Building takes O(r * n) for n pairs and r ranges, of which there are at most
+/// 2 * n + 1. For each range it also sorts the pairs over it: O(m log m) for m labels of one cell, at worst O(m * m) for m pairs of nested
+/// cells.
 #[derive(Drop)]
 #[derive_where(Debug)]
 pub struct CopiedTable {
     ranges: Vec<CopiedRange>,
-    // what the table was built of: clauses alone read it, and it has no bytes
+    // what the table was built of: only clauses read it, and it takes no bytes
     #[derive_where(skip)]
     held: Snapshot<Vec<Held>>,
     ghost rises: { IsCollection held.value.items } by { IsCollection-prop 0 held.value.items },
@@ -101,7 +102,7 @@ impl RangeTable for CopiedTable {
     }
 }
 
-// The ranges of held pairs, each from where the one before it ends.
+// The ranges over held pairs. Each starts where the one before it ends.
 fn ranges_over(alloc: Global, held: &[Held]) -> Result<Vec<CopiedRange>, OutOfMemory>
     requires { IsCollection held.now }
     ensures { IfOk result (λ ranges. IsRangeTable held.now (ranges_of ranges.items)) }
@@ -116,7 +117,7 @@ fn ranges_over(alloc: Global, held: &[Held]) -> Result<Vec<CopiedRange>, OutOfMe
     Ok(ranges)
 }
 
-// The range from a leaf on, up to the next bound of a cell. O(n), and what `contents_over` takes to put its pairs in order.
+// The range that starts at a leaf and ends at the next bound of a cell. O(n), and the time in which `contents_over` sorts its pairs.
 fn range_above(alloc: Global, held: &[Held], at: u64) -> Result<CopiedRange, OutOfMemory>
     requires rises { IsCollection held.now }
     requires odd { at % 2 ≡ 1 }

@@ -6,7 +6,7 @@ use s2ix_bag::Bag;
 use s2ix_bag_pairs::Held;
 use std::alloc::Global;
 
-// What a bag holds, in its order. O(n) for n pairs.
+// The pairs that a bag holds, in its order, as a list. O(n) for n pairs.
 pub(crate) fn held_pairs(alloc: Global, bag: &Bag) -> Result<Vec<Held>, OutOfMemory>
     ensures list { IfOk result (λ held. held.items ≡ bag.now.held) }
     ensures rises { IfOk result (λ held. IsCollection held.items) }

@@ -1,6 +1,6 @@
 use s2ix_bag_pairs::Held;
 
-// A range with a list of its own of what lies over it.
+// A range with its own list of the pairs that lie over it.
 #[derive(Debug, Drop)]
 pub(crate) struct CopiedRange {
     pub(crate) start: u64,

@@ -22,7 +22,7 @@ pub struct RangeIter<'a, T> {
 impl<'a, T: RangeTable> RangeIter<'a, T> {
     ghost use Rattle.s2ix_table_queries.specs.Iterators.{table_of};
 
-    // From a table's first range.
+    // An iterator that starts at a table's first range.
     pub(crate) fn new(table: &'a T) -> RangeIter<'a, T>
         ensures { IsAtRange T.ranges table.now result 0 }
     {
@@ -71,8 +71,8 @@ pub fn ranges<T: RangeTable>(table: &T) -> RangeIter<'_, T>
     RangeIter::new(table)
 }
 
-/// The pairs of a chain, innermost cell first, the labels of one cell rising (S2's `ContentsIterator`, without its memory of what it gave). O(1)
-/// for each.
+/// The pairs of a chain, innermost cell first, the labels of one cell rising (S2's `ContentsIterator`, without its memory of what it
+/// gave). O(1) for each.
 #[derive(Drop)]
 #[derive_where(Debug; T, T::Place)]
 pub struct ChainIter<'a, T: RangeTable> {

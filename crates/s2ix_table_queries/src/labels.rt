@@ -1,4 +1,4 @@
-//! The labels of what is met.
+//! The labels of the pairs that a target meets.
 ghost use Rattle.std.specs.Prelude.{◌≡◌, ◌++◌, IsTrue, map};
 ghost use Rattle.s2ix_bag_pairs.specs.declared.pair.Held.{Held};
 ghost use Rattle.s2ix_table_ranges.specs.Meeting.{meeting_of};

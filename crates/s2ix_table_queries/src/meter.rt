@@ -8,8 +8,8 @@ use s2ix_bag_pairs::Held;
 use s2ix_table_ranges::RangeRow;
 use s2ix_table_walk::{Cost, Reader, Window};
 
-/// A reader of a table that counts what is read of it. It keeps the stretch of the face that was last asked for at hand, by which a search
-/// reads where ranges begin, and the note by which the table reads ranges nearby.
+/// A reader of a table that counts what is read of it. It keeps two things at hand: the stretch of the face that was last asked for, in
+/// which a search reads where ranges begin, and the note that makes the next read of a range nearby quicker.
 #[derive(Debug, Drop)]
 pub struct Meter<'a, T: RangeTable> {
     table: &'a T,
@@ -19,7 +19,8 @@ pub struct Meter<'a, T: RangeTable> {
     pub ghost near_is: { IsStretch (T.ranges table.now) near.first near.count near.starts.now },
 }
 
-// A number that no table knows a range by: what a search reads so is in no stretch at hand, and what reads it is not compiled into its loop.
+// A note that no table knows a range by. A search passes it for a range outside the stretch at hand, so that the compiler keeps the
+// reading of notes out of the search's loop.
 const NO_NOTE: usize = usize::MAX;
 
 impl<'a, T: RangeTable> Meter<'a, T> {

@@ -2,8 +2,8 @@ ghost use Rattle.std.specs.Prelude.{List};
 ghost use Rattle.s2ix_table_ranges.specs.Table.{Range};
 ghost use Rattle.s2ix_table_queries.specs.Stretches.{IsStretch};
 
-/// Some ranges of a table, one behind the other, read by where they begin: `count` of them, from `first` on. Each begins at its own of the
-/// starts and ends at the next one.
+/// Some ranges of a table, one behind the other, which can be read by where they begin: `count` of them, from `first` on. Each begins at
+/// its own of the `starts` and ends at the next one.
 #[derive(Clone, Copy, Debug)]
 pub struct Stretch<'a> {
     /// The place of the first one.
@@ -17,7 +17,7 @@ pub struct Stretch<'a> {
 }
 
 impl Stretch<'_> {
-    /// The stretch of no range.
+    /// The stretch that has no range.
     pub fn none() -> Stretch<'static>
         ensures { (ranges : List Range) → IsStretch ranges result.first result.count result.starts.now }
     {

@@ -39,10 +39,10 @@ pub trait RangeTable: Sized {
     // the ranges, each with its contents
     ghost ranges: { Self → List Range };
 
-    // the pairs from a place on, outwards; none at what is no place of the table
+    // the pairs from a place on, outwards; none if it is no place of the table
     ghost chain: { Self → Self.Place → Collection };
 
-    /// The table of a bag, at the cost that the type names. `OutOfMemory` where a growth is refused.
+    /// The table of a bag, at the cost that the type names. `OutOfMemory` if a growth is refused.
     fn build(alloc: Global, bag: &Bag) -> Result<Self, OutOfMemory>
         ensures { IfOk result (λ table. pairs table ≡ bag.now.held) };
 
@@ -56,7 +56,7 @@ pub trait RangeTable: Sized {
         ensures start { result.start ≡ (range_at (ranges self.now) k).start }
         ensures limit { result.limit ≡ (range_at (ranges self.now) k).limit };
 
-    /// The ranges among which all of those over a face, 0 to 5, are: all that there are, where a table knows no fewer. O(1).
+    /// A window that has all ranges over a face, 0 to 5: all ranges of the table, if it knows no fewer. O(1).
     fn window(&self, face: u8) -> Window
         requires { face < 6 }
         ensures { HaveFace (ranges self.now) face result.first result.size }
@@ -67,7 +67,7 @@ pub trait RangeTable: Sized {
         }
     }
 
-    /// Ranges over a face, 0 to 5, that can be read by where they begin: none, where a table keeps no such list. O(1).
+    /// Ranges over a face, 0 to 5, that can be read by where they begin: none, if the table keeps no such list. O(1).
     fn stretch(&self, face: u8) -> Stretch<'_>
         requires { face < 6 }
         ensures { IsStretch (ranges self.now) result.first result.count result.starts.now }
@@ -75,14 +75,14 @@ pub trait RangeTable: Sized {
         Stretch::none()
     }
 
-    /// The place of a range's innermost pair, or `None` where nothing lies over it. O(1).
+    /// The place of a range's innermost pair, or `None` if nothing lies over the range. O(1).
     fn first(&self, k: usize) -> Option<Self::Place>
         requires { k < length (ranges self.now) }
         ensures { LeadsTo (chain self.now) result (range_at (ranges self.now) k).contents };
 
     /// The leaves of a range and the place of its innermost pair, as [`range`](RangeTable::range) and [`first`](RangeTable::first) give
-    /// them, and a number to read ranges nearby by: sooner where `note` is such a number, or that of a stretch in which the range is. Any
-    /// number serves. O(1).
+    /// them, and a note for the next call nearby. Any number will do as `note`; the call is quicker if it is the note of a call nearby, or
+    /// that of a stretch that has the range. O(1).
     fn read_near(&self, k: usize, note: usize) -> (RangeRow, Option<Self::Place>, usize)
         requires { k < length (ranges self.now) }
         ensures start { result.0.start ≡ (range_at (ranges self.now) k).start }
@@ -118,9 +118,9 @@ pub trait RangeTable: Sized {
     // the pairs are at most as many as the widest limits let a bag hold
     ghost few: { (table : Self) → length (pairs table) ≤ 1000000 };
 
-    /// Calls `f` on each pair of the target's meeting list, in order, up to and with the first call that answers false;
-    /// whether every call answered true (S2's `VisitIntersectingCells()`). Takes no memory; `f` need only be callable on
-    /// the pairs of the list. O(k + r + t log n) for k pairs over the r ranges that the target meets, and t cells of it.
+    /// Calls `f` on each pair of the target's meeting list, in order, up to and with the first call that answers false, and returns whether
+    /// every call answered true (S2's `VisitIntersectingCells()`). It does not allocate, and `f` need be callable only on the pairs of the
+    /// list. O(k + r + t log n) for k pairs over the r ranges that the target meets, and t cells of it.
     final fn visit<F: FnMut(Held) -> bool>(&self, target: &CellUnion, f: &mut F) -> bool
         requires { MayVisit F.pre F.step f.old (meeting_of target.now (pairs self.now)) }
         ensures { Visits F.step f.old (meeting_of target.now (pairs self.now)) result f.new }
@@ -146,8 +146,9 @@ pub trait RangeTable: Sized {
         }
     }
 
-    /// The target's meeting list: the held pairs that share a leaf with it, each once, by first shared leaf, then falling
-    /// level, then rising label: what `visit` gives, as a list. `OutOfMemory` if a growth is refused. It takes as long as `visit`.
+    /// The target's meeting list: the held pairs that share a leaf with it, each once, by first shared leaf, then falling level, then
+    /// rising label. These are the pairs that `visit` gives. `OutOfMemory` if a growth is refused. It takes as long as `visit`, and O(k)
+    /// memory for the k pairs that it returns.
     final fn meeting(&self, alloc: Global, target: &CellUnion) -> Result<Vec<Held>, OutOfMemory>
         ensures list { IfOk result (λ list. list.items ≡ meeting_of target.now (pairs self.now)) }
         ensures met { IfOk result (λ list. IsMeetingList target.now (pairs self.now) list.items) }
@@ -161,8 +162,9 @@ pub trait RangeTable: Sized {
         Ok(list)
     }
 
-    /// The labels of the target's meeting list, once each and rising (S2's `GetIntersectingLabels()`). `OutOfMemory`
-    /// if a growth is refused. It takes as long as `visit`, and O(m log m) for m pairs met.
+    /// The labels of the target's meeting list, once each and rising (S2's `GetIntersectingLabels()`). `OutOfMemory` if a growth is
+    /// refused. It takes as long as `visit`, then O(m log m) for the m pairs met; and O(m) memory however few labels it returns, since it
+    /// gathers the label of each pair before it drops repeats.
     final fn labels(&self, alloc: Global, target: &CellUnion) -> Result<Vec<Label>, OutOfMemory>
         ensures labels { IfOk result (λ labels. IsLabelList (meeting_of target.now (pairs self.now)) labels.items) }
         ensures list { IfOk result (λ labels. labels.items ≡ label_list (meeting_of target.now (pairs self.now))) }

@@ -17,7 +17,7 @@ pub struct Visit {
     pub cost: Cost,
 }
 
-// A visit with a closure that may always be called. If it answers true, each call did, and there was one for each pair, in order.
+// A visit with a closure that may always be called. If it returns true, `f` was called on each pair, in order, and each call answered true.
 pub(crate) fn visit_all<T: RangeTable, F: FnMut(Held) -> bool>(
     table: &T,
     target: &CellUnion,

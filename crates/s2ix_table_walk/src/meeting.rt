@@ -12,7 +12,7 @@ use s2id_core::CellId;
 use s2id_union::CellUnion;
 use s2ix_bag_pairs::Held;
 
-/// The meeting list of a target, pair by pair in order, read as it is asked for. Takes no memory. O(k + r + t log n) for all of the k
+/// The meeting list of a target, pair by pair in order, read as it is asked for. It does not allocate. O(k + r + t log n) for all of the k
 /// pairs, over the r ranges of n that the t cells of the target meet.
 pub struct Meeting<'a, R: Reader> {
     reader: &'a mut R,

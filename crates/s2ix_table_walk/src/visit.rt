@@ -8,8 +8,8 @@ use crate::reader::Reader;
 use s2id_union::CellUnion;
 use s2ix_bag_pairs::Held;
 
-/// Calls `f` on each pair of the target's meeting list, in order, up to and with the first call that answers false; whether every call
-/// answered true (S2's `VisitIntersectingCells()`). Takes no memory. O(k + r + t log n).
+/// Calls `f` on each pair of the target's meeting list, in order, up to and with the first call that answers false, and returns whether
+/// every call answered true (S2's `VisitIntersectingCells()`). It does not allocate. O(k + r + t log n).
 ///
 /// The reader must have read nothing. Let k be the number of calls, t that of the target's cells, n that of the table's ranges, r that of
 /// those which the target meets, and d the number of binary digits of n + 1. Then the reader has counted at least k and at most k + r + t
