@@ -35,7 +35,7 @@
 pub mod laws;
 
 pub use s2ix_table_chain::{ChainTable, SharesChains, SpanTable};
-pub use s2ix_table_faces::{FacePlace, FaceTable, FacedTable, JoinedTables};
+pub use s2ix_table_faces::{FacePlace, FacedTable};
 pub use s2ix_table_queries::{
     ChainIter, CopiedPlace, CopiedTable, Meter, RangeIter, RangeTable, Stretch, Visit, chain_at,
     contents, ranges,

@@ -11,3 +11,4 @@ pub mod Windows
 pub mod Lasts
 pub mod Turning
 pub mod OnePlace
+pub mod Spans

@@ -8,10 +8,9 @@ use Rattle.s2ix_table_ranges.specs.Table.{IsTableOver}
 use Rattle.s2ix_table_chain.specs.declared.pass.Pass.{Pass}
 use Rattle.s2ix_table_chain.specs.Chains.{chain_of, AreOuter, AreFirsts}
 use Rattle.s2ix_table_chain.specs.Nodes.{AreNodes}
-use Rattle.s2ix_table_chain.specs.SpanTable.{IsInSpan, IsSpanTable}
+use Rattle.s2ix_table_chain.specs.SpanTable.{IsInSpan}
 use Rattle.s2ix_table_chain.specs.Starts.{ranges_from}
 use Rattle.s2ix_table_chain.specs.Sweep.{IsSwept}
-use Rattle.s2ix_table_chain.proofs.Ranges.{length_ranges}
 
 -- the chain from the next place outwards is all but the innermost pair
 pub outer_leads : (held : Collection) (outer : List ℕ) (place next : ℕ) (x : Held) → AreOuter held outer → slice_get held place ≡ Some x
@@ -29,19 +28,8 @@ pub outer_at : (held : Collection) (outer : List ℕ) (place next : ℕ) → len
     → place < length held → next ≡ get_or outer place next → chain_of held next ≡ drop 1 (chain_of held place)
 outer_at [] outer place next size are lt is = absurd (omega arith)
 outer_at (h ∷ hs) outer place next size are lt is =
-    outer_leads (h ∷ hs) outer place next (get_or (h ∷ hs) place h) are (slice_get-get_or (h ∷ hs) place h lt) (slice_get-get_or outer place next (omega arith) ∙ ap (λ n. Some n) (sym is))
-
--- what the nodes of a table say of its ranges
-pub spans : (held : Collection) (from to : ℕ) (outer starts firsts : List ℕ) → AreNodes held from to outer starts firsts
-    → IsSpanTable (record { held = held; from = from; to = to; ranges = ranges_from held starts to })
-spans held from to outer starts firsts nodes =
-    record {
-      rises = nodes.rises;
-      few = nodes.few;
-      within = nodes.within;
-      table = nodes.table;
-      ranges_few = let n = length_ranges held starts to in let few = nodes.ranges_few in omega arith;
-    }
+    let there = slice_get-get_or outer place next (omega arith) ∙ ap (λ n. Some n) (sym is) in
+    outer_leads (h ∷ hs) outer place next (get_or (h ∷ hs) place h) are (slice_get-get_or (h ∷ hs) place h lt) there
 
 -- what a sweep has written, once the room that is left is given back
 pub nodes_of_pass : (held : Collection) (from to : ℕ) (pass : Pass) (starts firsts : List ℕ) → IsCollection held → length held ≤ 1000000
@@ -53,8 +41,13 @@ nodes_of_pass held from to pass starts firsts rises few within swept starts_are 
       few = few;
       within = within;
       table = subst (λ (ss : List ℕ). IsTableOver held from to (ranges_from held ss to)) (sym starts_are) swept.table;
-      ranges_few = let short = ap length starts_are ∙ length-take pass.stand.count pass.starts.items in let count = swept.few in omega arith;
+      ranges_few =
+          let short = ap length starts_are ∙ length-take pass.stand.count pass.starts.items in
+          let count = swept.few in
+          omega arith;
       size = swept.size;
       outwards = swept.outer;
-      leads = subst (λ (ss : List ℕ). AreFirsts held ss firsts) (sym starts_are) (subst (λ (fs : List ℕ). AreFirsts held (take pass.stand.count pass.starts.items) fs) (sym firsts_are) swept.firsts);
+      leads =
+          subst (λ (ss : List ℕ). AreFirsts held ss firsts) (sym starts_are)
+          (subst (λ (fs : List ℕ). AreFirsts held (take pass.stand.count pass.starts.items) fs) (sym firsts_are) swept.firsts);
     }

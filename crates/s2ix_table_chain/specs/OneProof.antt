@@ -1,4 +1,5 @@
--- That a table keeps a pair once has one proof: what a type keeps of it in a ghost field tells no two of its values apart.
+-- That a table keeps a pair once, and that it is the table of its span, has one proof: what a type keeps of it in a ghost field tells no
+-- two of its values apart.
 use Rattle.std.specs.Prelude.{◌≡◌, ℕ, ◌+◌, ◌<◌, [], ◌∷◌, drop, length, Contains}
 use Rattle.std.specs.Coded.{Coded-set, coded_ℕ}
 use Rattle.std.proofs.Common.{zero, suc, ap, arith}
@@ -6,8 +7,10 @@ use Rattle.std.proofs.Props.{props}
 use mathlib.Core.HLevel.{Σ_prop_path}
 use Rattle.s2ix_bag_pairs.specs.Collection.{Collection}
 use Rattle.s2ix_bag_pairs.specs.declared.pair.Held.{Held}
+use Rattle.s2ix_bag_pairs.specs.OneProof.{IsCollection-prop}
 use Rattle.s2ix_table_chain.specs.Chains.{chain_of}
 use Rattle.s2ix_table_chain.specs.Once.{IsHeldAt, KeepsOnce}
+use Rattle.s2ix_table_chain.specs.SpanTable.{SpanRanges, IsSpanTable}
 
 held_before : (k : ℕ) (hs : Collection) → 0 < length (drop k hs) → k + length (drop k hs) ≡ length hs
 held_before zero hs some = omega arith
@@ -29,7 +32,8 @@ lists_prop hs ks = hlevel props
 IsHeldAt-prop : {P : Type 0} (chain : P → Collection) (start : P) (h : Held) (place : P) → IsProp (IsHeldAt chain start h place)
 IsHeldAt-prop chain start h place x y =
     let some : 0 < length (chain place) = let e = ap length x.pair in omega arith in
-    let rest : x.rest ≡ y.rest = Σ_prop_path (λ k. lists_prop (drop k (chain start)) (chain place)) (one_begin x.rest.0 y.rest.0 (chain start) (chain place) some x.rest.1 y.rest.1) in
+    let one = one_begin x.rest.0 y.rest.0 (chain start) (chain place) some x.rest.1 y.rest.1 in
+    let rest : x.rest ≡ y.rest = Σ_prop_path (λ k. lists_prop (drop k (chain start)) (chain place)) one in
     λ i. record {
       pair = lists_prop (chain place) (h ∷ drop 1 (chain place)) x.pair y.pair i;
       rest = rest i;
@@ -49,3 +53,6 @@ KeepsOnce-prop {P} set chain x y =
 
 pub chains_once-prop : (held : Collection) → IsProp (KeepsOnce (chain_of held))
 chains_once-prop held = KeepsOnce-prop (Coded-set coded_ℕ) (chain_of held)
+
+pub IsSpanTable-prop : (span : SpanRanges) → IsProp (IsSpanTable span)
+IsSpanTable-prop span = hlevel (props, IsCollection-prop 0 span.held, chains_once-prop span.held)

@@ -4,6 +4,8 @@ use Rattle.s2id_core.specs.CellId.{first_of, end_of}
 use Rattle.s2ix_bag_pairs.specs.Collection.{Collection, IsCollection}
 use Rattle.s2ix_bag_pairs.specs.declared.pair.Held.{Held}
 use Rattle.s2ix_table_ranges.specs.Table.{Range, IsTableOver}
+use Rattle.s2ix_table_chain.specs.Chains.{chain_of}
+use Rattle.s2ix_table_chain.specs.Once.{KeepsOnce}
 
 -- held cells lie in a span of leaves, from a leaf number up to another
 pub record IsInSpan (held : Collection) (from to : ℕ) : Type 0 where
@@ -20,10 +22,11 @@ pub record SpanRanges : Type 0 where
   pub to : ℕ
   pub ranges : List Range
 
--- the ranges are those of the pairs over the span
+-- the ranges are those of the pairs over the span, and a pair has one place
 pub record IsSpanTable (span : SpanRanges) : Type 0 where
   pub rises : IsCollection span.held
   pub few : length span.held ≤ 1000000
   pub within : IsInSpan span.held span.from span.to
   pub table : IsTableOver span.held span.from span.to span.ranges
   pub ranges_few : length span.ranges ≤ 2 * length span.held + 1
+  pub once : KeepsOnce (chain_of span.held)

@@ -6,7 +6,6 @@ ghost use Rattle.s2ix_table_chain.specs.Chains.{chain_of};
 ghost use Rattle.s2ix_table_chain.specs.Once.{KeepsOnce};
 ghost use Rattle.s2ix_table_chain.specs.OneProof.{chains_once-prop};
 
-use crate::laws::span_keeps_a_pair_once;
 use crate::shares_chains::SharesChains;
 use crate::span_table::SpanTable;
 use s2id_core::{CellId, LEAF_END, OutOfMemory};
@@ -57,7 +56,6 @@ impl RangeTable for ChainTable {
     fn build(alloc: Global, bag: &Bag) -> Result<Self, OutOfMemory> {
         let held = flat_pairs(alloc, bag)?;
         let span = SpanTable::over(alloc, held, 1, LEAF_END)?;
-        span_keeps_a_pair_once(&span);
         Ok(ChainTable { span })
     }
 

@@ -10,6 +10,7 @@ pub mod Reading
 pub mod Stretches
 pub mod Counts
 pub mod OnFaces
+pub mod Shared
 pub mod Once
 pub mod AllFaces
 pub mod Few

@@ -1,11 +1,11 @@
 -- The table of neighbouring spans.
-use Rattle.std.proofs.Common.{ℕ, ◌<◌, inl, inr, List, [], ◌∷◌, arith, subst}
+use Rattle.std.proofs.Common.{ℕ, zero, suc, ◌<◌, inl, inr, List, [], ◌∷◌, length, get_or, arith, subst}
 use Rattle.std.proofs.lemmas.List.Elements.{Contains-append_cases}
 use Rattle.s2id_core.proofs.Lists.{none_in_nil}
 use Rattle.s2ix_bag_pairs.specs.Collection.{IsCollection}
 use Rattle.s2ix_table_ranges.specs.Table.{IsTableOver}
 use Rattle.s2ix_table_ranges.proofs.Tables.{IsTable, table_from_places, places_from_table}
-use Rattle.s2ix_table_chain.specs.SpanTable.{SpanRanges}
+use Rattle.s2ix_table_chain.specs.SpanTable.{SpanRanges, IsSpanTable}
 use Rattle.s2ix_table_faces.specs.Joined.{held_in, joined_ranges, AreNeighbours}
 use Rattle.s2ix_table_faces.proofs.Appended.{BeginFrom, both_rise}
 use Rattle.s2ix_table_faces.proofs.Joining.{join_tables}
@@ -34,10 +34,19 @@ unfolding joined_ranges
 all_joined from [] to are = are
 all_joined from (t ∷ ts) to are =
     let own = subst (λ n. IsTable t.held n t.ranges t.to) are.0 (table_from_places t.held t.from t.to t.ranges are.1.table) in
-    join_tables t.held (held_in ts) from t.to to t.ranges (joined_ranges ts) are.1.within.ends (all_begin t.to ts to are.2) own (all_joined t.to ts to are.2)
+    let begin = all_begin t.to ts to are.2 in
+    let rest = all_joined t.to ts to are.2 in
+    join_tables t.held (held_in ts) from t.to to t.ranges (joined_ranges ts) are.1.within.ends begin own rest
 
 -- the joined ranges of neighbours are a table over them all
 pub joined_table : (from : ℕ) (tables : List SpanRanges) (to : ℕ) → from < to → AreNeighbours from tables to
     → IsTableOver (held_in tables) from to (joined_ranges tables)
 joined_table from tables to lt are =
     places_from_table (held_in tables) from to (joined_ranges tables) lt (all_joined from tables to are)
+
+-- each of them has its ranges
+pub span_known : (from : ℕ) (tables : List SpanRanges) (to i : ℕ) (d : SpanRanges) → AreNeighbours from tables to → i < length tables
+    → IsSpanTable (get_or tables i d)
+span_known from [] to i d are lt = absurd (omega arith)
+span_known from (t ∷ ts) to zero d are lt = are.1
+span_known from (t ∷ ts) to (suc i) d are lt = span_known t.to ts to i d are.2 (omega arith)

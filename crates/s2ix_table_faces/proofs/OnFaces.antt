@@ -1,5 +1,5 @@
 -- The pairs of each face's table among those of all.
-use Rattle.std.proofs.Common.{◌≡◌, ℕ, zero, suc, ◌+◌, ◌<◌, ◌≤◌, ◌==◌, inl, inr, true, false, List, [], ◌∷◌, ◌++◌, length, get_or, refl, sym, ◌∙◌, ap, arith}
+use Rattle.std.proofs.Common.{◌≡◌, ℕ, zero, suc, ◌+◌, ◌<◌, ◌≤◌, ◌==◌, inl, inr, true, false, List, [], ◌∷◌, ◌++◌, length, get_or, map, refl, sym, ◌∙◌, ap, arith}
 use Rattle.std.proofs.lemmas.Bool.{cases_Bool, cond-true, cond-false}
 use Rattle.std.proofs.lemmas.Bool.Decides.{nat_tests}
 use Rattle.s2id_core.specs.CellId.{face_of, first_of, end_of}
@@ -7,9 +7,10 @@ use Rattle.s2id_core.proofs.Lists.{in_tail, at_head}
 use Rattle.s2ix_bag_pairs.specs.Collection.{Collection}
 use Rattle.s2ix_table_ranges.proofs.Over.{span_of}
 use Rattle.s2ix_table_chain.specs.SpanTable.{SpanRanges, IsSpanTable}
-use Rattle.s2ix_table_reading.specs.Faces.{held_on}
+use Rattle.s2ix_table_reading.specs.Faces.{faces, held_on}
 use Rattle.s2ix_table_faces.specs.Faces.{face_begin, AreOnFace, IsOverFace, AreOverFaces}
 use Rattle.s2ix_table_faces.specs.Joined.{held_in, AreNeighbours}
+use Rattle.s2ix_table_faces.proofs.AllFaces.{six_parts}
 use Rattle.s2ix_table_faces.proofs.Faces.{cell_on_face}
 
 -- one face begins by the end of another and ends behind its begin
@@ -64,7 +65,9 @@ none_later : (face first : ℕ) (tables : List SpanRanges) (from to : ℕ) → f
 none_later face first [] from to lt over are = refl
 none_later face first (t ∷ ts) from to lt over are =
     let own = none_kept face first t.held (λ e. omega arith) (held_lie_on first t over.0 are.1) in
-    both_kept face t.held (held_in ts) ∙ ap (λ xs. xs ++ held_on face (held_in ts)) own ∙ none_later face (first + 1) ts t.to to (omega arith) over.1 are.2
+    both_kept face t.held (held_in ts)
+    ∙ ap (λ xs. xs ++ held_on face (held_in ts)) own
+    ∙ none_later face (first + 1) ts t.to to (omega arith) over.1 are.2
 
 -- what each table holds is what all hold on its face
 pub own_held : (first i face : ℕ) (tables : List SpanRanges) (d : SpanRanges) (from to : ℕ) → face ≡ first + i → i < length tables
@@ -74,8 +77,26 @@ own_held first zero face (t ∷ ts) d from to e lt over are =
     let is : face ≡ first = omega arith in
     let on = held_lie_on first t over.0 are.1 in
     let later = none_later face (first + 1) ts t.to to (omega arith) over.1 are.2 in
-    sym (both_kept face t.held (held_in ts) ∙ ap (λ xs. held_on face t.held ++ xs) later ∙ no_pair (held_on face t.held) ∙ ap (λ f. held_on f t.held) is ∙ all_kept first t.held on)
+    let own = no_pair (held_on face t.held) ∙ ap (λ f. held_on f t.held) is ∙ all_kept first t.held on in
+    sym (both_kept face t.held (held_in ts) ∙ ap (λ xs. held_on face t.held ++ xs) later ∙ own)
 own_held first (suc i) face (t ∷ ts) d from to e lt over are =
     let none = none_kept face first t.held (λ same. omega arith) (held_lie_on first t over.0 are.1) in
     let rest = own_held (first + 1) i face ts d t.to to (omega arith) (omega arith) over.1 are.2 in
     rest ∙ sym (both_kept face t.held (held_in ts) ∙ ap (λ xs. xs ++ held_on face (held_in ts)) none)
+
+-- what the tables of the six faces hold is what all hold, face by face
+pub own_parts : (tables : List SpanRanges) (to : ℕ) → length tables ≡ 6 → AreOverFaces 0 tables → AreNeighbours 1 tables to
+    → map (λ t. t.held) tables ≡ map (λ face. held_on face (held_in tables)) faces
+own_parts [] to six over are = absurd (omega arith)
+own_parts (a ∷ []) to six over are = absurd (omega arith)
+own_parts (a ∷ b ∷ []) to six over are = absurd (omega arith)
+own_parts (a ∷ b ∷ c ∷ []) to six over are = absurd (omega arith)
+own_parts (a ∷ b ∷ c ∷ d ∷ []) to six over are = absurd (omega arith)
+own_parts (a ∷ b ∷ c ∷ d ∷ e ∷ []) to six over are = absurd (omega arith)
+own_parts (a ∷ b ∷ c ∷ d ∷ e ∷ f ∷ []) to six over are =
+    let all : List SpanRanges = a ∷ b ∷ c ∷ d ∷ e ∷ f ∷ [] in
+    let own : (i : ℕ) → i < 6 → (get_or all i a).held ≡ held_on i (held_in all) =
+    λ i lt. own_held 0 i i all a 1 to (omega arith) (omega arith) over are in
+    six_parts (held_in all) a.held b.held c.held d.held e.held f.held (own 0 (omega arith)) (own 1 (omega arith)) (own 2 (omega arith))
+    (own 3 (omega arith)) (own 4 (omega arith)) (own 5 (omega arith))
+own_parts (a ∷ b ∷ c ∷ d ∷ e ∷ f ∷ g ∷ ts) to six over are = absurd (omega arith)

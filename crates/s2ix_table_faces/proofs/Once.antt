@@ -1,23 +1,21 @@
 -- A pair has one place in joined tables.
-use Rattle.std.proofs.Common.{◌≡◌, ℕ, zero, suc, ◌+◌, ◌<◌, List, [], ◌∷◌, length, drop, get_or, sym, ◌∙◌, ap, arith, Contains, subst}
+use Rattle.std.proofs.Common.{◌≡◌, ℕ, zero, suc, ◌<◌, List, [], ◌∷◌, length, drop, sym, ◌∙◌, ap, arith, Contains, subst}
 use Rattle.s2id_core.specs.CellId.{face_of}
 use Rattle.s2id_core.proofs.Lists.{in_tail, at_head, none_in_nil}
 use Rattle.s2ix_bag_pairs.specs.Collection.{Collection}
 use Rattle.s2ix_bag_pairs.specs.declared.pair.Held.{Held}
 use Rattle.s2ix_table_ranges.specs.Contents.{depth_key}
 use Rattle.s2ix_table_ranges.proofs.InOrder.{in_choice}
-use Rattle.s2ix_table_ranges.specs.Table.{leaf_end}
 use Rattle.s2ix_table_chain.specs.SpanTable.{SpanRanges, IsSpanTable}
 use Rattle.s2ix_table_chain.specs.Chains.{chain_of, is_on_chain}
 use Rattle.s2ix_table_faces.specs.declared.face_place.FacePlace.{FacePlace}
 use Rattle.s2ix_table_faces.specs.declared.seat.Seat.{Seat}
-use Rattle.s2ix_table_faces.specs.Faces.{AreOnFace, IsOverFace}
-use Rattle.s2ix_table_faces.specs.Joined.{AreNeighbours}
+use Rattle.s2ix_table_faces.specs.Faces.{table_of, AreOnFace}
 use Rattle.s2ix_table_faces.specs.Whole.{AreJoined}
 use Rattle.s2ix_table_faces.proofs.OnFaces.{held_lie_on}
 use Rattle.s2ix_table_chain.specs.Once.{IsHeldAt, KeepsOnce}
 use Rattle.s2ix_table_faces.specs.Places.{chain_from}
-use Rattle.s2ix_table_faces.proofs.Reading.{no_table, place_on, chain_is, over_face}
+use Rattle.s2ix_table_faces.proofs.Reading.{face_over, face_known, face_of_place}
 
 on_chain : (held : Collection) (place : ℕ) (h : Held) → Contains (chain_of held place) h → Contains held h
 unfolding chain_of
@@ -41,70 +39,58 @@ same_place p q a b = let e : place_with p.face p.node ≡ place_with q.face q.no
 
 -- a place whose chain has a pair is on the pair's face
 record IsOnFaceOf (tables : List SpanRanges) (place : FacePlace) (h : Held) : Type 0 where
+  six : place.face < 6
   face : place.face ≡ face_of h.pair.cell
-  chain : chain_from tables place ≡ chain_of (get_or tables (face_of h.pair.cell) no_table).held place.node
+  chain : chain_from tables place ≡ chain_of (table_of tables (face_of h.pair.cell)).held place.node
 
 on_face_of : (tables : List SpanRanges) (place : FacePlace) (h : Held) → length tables ≡ 6
-    → ((i : ℕ) (d : SpanRanges) → i < 6 → AreOnFace i (get_or tables i d).held) → Contains (chain_from tables place) h
-    → IsOnFaceOf tables place h
+    → ((i : ℕ) → i < 6 → AreOnFace i (table_of tables i).held) → Contains (chain_from tables place) h → IsOnFaceOf tables place h
 on_face_of tables place h six on c =
-    let is = place_on tables place no_table (has_some (chain_from tables place) h c) in
-    let lt = is.face in
-    let held = on_chain (get_or tables place.face no_table).held place.node h (subst (λ cs. Contains cs h) is.chain c) in
-    let face : face_of h.pair.cell ≡ place.face = on place.face no_table (omega arith) h held in
-    record { face = sym face; chain = is.chain ∙ ap (λ n. chain_of (get_or tables n no_table).held place.node) (sym face) }
+    let lt = face_of_place tables place.face place.node six (has_some (chain_from tables place) h c) in
+    let held = on_chain (table_of tables place.face).held place.node h c in
+    let face : face_of h.pair.cell ≡ place.face = on place.face lt h held in
+    record { six = lt; face = sym face; chain = ap (λ n. chain_of (table_of tables n).held place.node) (sym face) }
+
+-- a pair's place has it
+has_own : {P : Type 0} (chain : P → Collection) (start p : P) (h : Held) → IsHeldAt chain start h p → Contains (chain p) h
+has_own chain start p h is = subst (λ cs. Contains cs h) (sym is.pair) (at_head h (drop 1 (chain p)))
 
 held_there : (tables : List SpanRanges) (start p : FacePlace) (h : Held) → length tables ≡ 6
-    → ((i : ℕ) (d : SpanRanges) → i < 6 → AreOnFace i (get_or tables i d).held) → IsHeldAt (chain_from tables) start h p
-    → IsHeldAt (chain_of (get_or tables (face_of h.pair.cell) no_table).held) start.node h p.node × (p.face ≡ face_of h.pair.cell)
+    → ((i : ℕ) → i < 6 → AreOnFace i (table_of tables i).held) → IsHeldAt (chain_from tables) start h p
+    → IsHeldAt (chain_of (table_of tables (face_of h.pair.cell)).held) start.node h p.node
 held_there tables start p h six on is =
-    let here : Contains (chain_from tables p) h = subst (λ cs. Contains cs h) (sym is.pair) (at_head h (drop 1 (chain_from tables p))) in
-    let from : Contains (chain_from tables start) h = behind is.rest.0 (chain_from tables start) h (subst (λ cs. Contains cs h) (sym is.rest.1) here) in
+    let here = has_own (chain_from tables) start p h is in
+    let rest = subst (λ cs. Contains cs h) (sym is.rest.1) here in
+    let from : Contains (chain_from tables start) h = behind is.rest.0 (chain_from tables start) h rest in
     let at = on_face_of tables p h six on here in
-    let start_at = on_face_of tables start h six on from in (
-      record {
-        pair = sym at.chain ∙ is.pair ∙ ap (λ cs. h ∷ drop 1 cs) at.chain;
-        rest = (is.rest.0, ap (drop is.rest.0) (sym start_at.chain) ∙ is.rest.1 ∙ at.chain);
-      },
-      at.face,
-    )
+    let start_at = on_face_of tables start h six on from in
+    record {
+      pair = sym at.chain ∙ is.pair ∙ ap (λ cs. h ∷ drop 1 cs) at.chain;
+      rest = (is.rest.0, ap (drop is.rest.0) (sym start_at.chain) ∙ is.rest.1 ∙ at.chain);
+    }
 
-pub joined_once : (tables : List SpanRanges) → length tables ≡ 6 → ((i : ℕ) (d : SpanRanges) → i < 6 → AreOnFace i (get_or tables i d).held)
-    → ((i : ℕ) (d : SpanRanges) → i < 6 → KeepsOnce (chain_of (get_or tables i d).held)) → KeepsOnce (chain_from tables)
+joined_once : (tables : List SpanRanges) → length tables ≡ 6 → ((i : ℕ) → i < 6 → AreOnFace i (table_of tables i).held)
+    → ((i : ℕ) → i < 6 → KeepsOnce (chain_of (table_of tables i).held)) → KeepsOnce (chain_from tables)
 unfolding place_with
 joined_once tables six on each = record {
   place = λ start h c.
-      let is = place_on tables start no_table (has_some (chain_from tables start) h c) in
-      let lt = is.face in
-      let own = (each start.face no_table (omega arith)).place start.node h (subst (λ cs. Contains cs h) is.chain c) in
-      let p = place_with start.face own.0 in
-      let there = chain_is tables start.face own.0 no_table lt in (
-        p,
-        record {
-          pair = there ∙ own.1.pair ∙ ap (λ cs. h ∷ drop 1 cs) (sym there);
-          rest = (own.1.rest.0, ap (drop own.1.rest.0) is.chain ∙ own.1.rest.1 ∙ sym there);
-        },
-      );
+      let lt = face_of_place tables start.face start.node six (has_some (chain_from tables start) h c) in
+      let own = (each start.face lt).place start.node h c in
+      (place_with start.face own.0, record { pair = own.1.pair; rest = own.1.rest });
   same = λ start other p q h one two.
-      let a = held_there tables start p h six on one in
-      let b = held_there tables other q h six on two in
-      let face = a.1 in
-      let here = on_face_of tables p h six on (subst (λ cs. Contains cs h) (sym one.pair) (at_head h (drop 1 (chain_from tables p)))) in
-      let node = (each (face_of h.pair.cell) no_table (let lt = (place_on tables p no_table (has_some (chain_from tables p) h (subst (λ cs. Contains cs h) (sym one.pair) (at_head h (drop 1 (chain_from tables p)))))).face in omega arith)).same start.node other.node p.node q.node h a.0 b.0 in
-      same_place p q (a.1 ∙ sym b.1) node;
+      let a = on_face_of tables p h six on (has_own (chain_from tables) start p h one) in
+      let b = on_face_of tables q h six on (has_own (chain_from tables) other q h two) in
+      let lt = subst (λ n. n < 6) a.face a.six in
+      let first = held_there tables start p h six on one in
+      let second = held_there tables other q h six on two in
+      let node = (each (face_of h.pair.cell) lt).same start.node other.node p.node q.node h first second in
+      same_place p q (a.face ∙ sym b.face) node;
 }
 
-known_at : (from i : ℕ) (tables : List SpanRanges) (d : SpanRanges) (to : ℕ) → AreNeighbours from tables to → i < length tables
-    → IsSpanTable (get_or tables i d)
-known_at from i [] d to are lt = absurd (omega arith)
-known_at from zero (t ∷ ts) d to are lt = are.1
-known_at from (suc i) (t ∷ ts) d to are lt = known_at t.to i ts d to are.2 (omega arith)
-
--- so it is where each face's table keeps its pairs once
-pub faces_once : (tables : List SpanRanges) (seats : List Seat) (count : ℕ) → AreJoined tables seats count
-    → ((i : ℕ) (d : SpanRanges) → i < 6 → KeepsOnce (chain_of (get_or tables i d).held)) → KeepsOnce (chain_from tables)
-faces_once tables seats count are each =
-    let six = are.six in
-    joined_once tables six (λ i d lt.
-    let e : 0 + i ≡ i = omega arith in
-    held_lie_on i (get_or tables i d) (subst (λ n. IsOverFace n (get_or tables i d)) e (over_face 0 i tables d are.faces (omega arith))) (known_at 1 i tables d leaf_end are.neighbours (omega arith))) each
+-- so it is where the tables are those of the faces
+pub faces_once : (tables : List SpanRanges) (seats : List Seat) (count : ℕ) → AreJoined tables seats count → KeepsOnce (chain_from tables)
+faces_once tables seats count are =
+    let known : (i : ℕ) → i < 6 → IsSpanTable (table_of tables i) = λ i lt. face_known tables seats count i are lt in
+    joined_once tables are.six
+    (λ i lt. held_lie_on i (table_of tables i) (face_over tables seats count i are lt) (known i lt))
+    (λ i lt. (known i lt).once)

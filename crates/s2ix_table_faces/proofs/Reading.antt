@@ -1,8 +1,8 @@
 -- What the six tables and their seats say of the joined ranges.
-use Rattle.std.proofs.Common.{◌≡◌, ℕ, zero, suc, ◌+◌, ◌-◌, ◌<◌, ◌≤◌, inl, inr, Some, None, List, [], ◌∷◌, length, get_or, slice_index_or, refl, sym, ◌∙◌, ap, arith, subst, add-one}
+use Rattle.std.proofs.Common.{◌≡◌, ℕ, zero, suc, ◌+◌, ◌-◌, ◌<◌, ◌≤◌, inl, inr, Some, List, [], ◌∷◌, length, get_or, slice_index_or, refl, sym, ◌∙◌, ap, arith, subst, add-one}
 use Rattle.std.proofs.lemmas.Bool.{cases_lt, cases_eq}
 use Rattle.std.proofs.lemmas.List.{get_or-map, length-map, get_or_past, get_or_default}
-use Rattle.std.proofs.lemmas.Option.{slice_get-get_or, slice_get_past}
+use Rattle.std.proofs.lemmas.Option.{slice_get_past}
 use Rattle.s2id_core.specs.declared.cell_id.CellId.{CellId}
 use Rattle.s2id_core.specs.CellId.{raw_of, face_of}
 use Rattle.s2ix_bag_pairs.specs.Collection.{Collection}
@@ -11,15 +11,16 @@ use Rattle.s2ix_table_ranges.specs.Table.{Range, range_at, leaf_end, IsFound}
 use Rattle.s2ix_table_chain.specs.SpanTable.{SpanRanges, IsSpanTable}
 use Rattle.s2ix_table_chain.specs.Starts.{IsLastStart}
 use Rattle.s2ix_table_faces.specs.declared.seat.Seat.{Seat}
-use Rattle.s2ix_table_faces.specs.declared.face_place.FacePlace.{FacePlace}
 use Rattle.s2ix_table_chain.specs.Chains.{chain_of}
-use Rattle.s2ix_table_faces.specs.Places.{chain_in, chain_from}
-use Rattle.s2ix_table_faces.specs.Faces.{face_begin, IsOverFace, AreOverFaces}
+use Rattle.s2ix_table_chain.proofs.Chains.{chain_none}
+use Rattle.s2ix_table_walk.proofs.Leads.{leads_some}
+use Rattle.s2ix_table_faces.specs.Faces.{face_begin, no_table, table_of, IsOverFace, AreOverFaces}
 use Rattle.s2ix_table_faces.specs.Joined.{joined_ranges, AreNeighbours}
-use Rattle.s2ix_table_faces.specs.Seats.{seat_after, seats_of, places_of, AreInOrder}
+use Rattle.s2ix_table_faces.specs.Seats.{seat_after, seats_of, places_of, place_on, HasOwn, AreInOrder}
 use Rattle.s2ix_table_faces.specs.Whole.{AreJoined}
 use Rattle.s2ix_table_walk.proofs.OnFaces.{six_faces}
 use Rattle.s2ix_table_faces.proofs.Faces.{raw_on_face}
+use Rattle.s2ix_table_faces.proofs.Neighbours.{span_known}
 use Rattle.s2ix_table_faces.proofs.Seating.{IsPart}
 use Rattle.s2ix_table_faces.proofs.Seats.{high_of, seats_fit, length_seats}
 
@@ -28,9 +29,6 @@ first_seat = record { place = 0; start = 1 }
 
 abbrev pub no_seat : Seat
 no_seat = record { place = 0; start = 0 }
-
-abbrev pub no_table : SpanRanges
-no_table = record { held = []; from = 0; to = 0; ranges = [] }
 
 -- ---- tables over the faces
 
@@ -41,7 +39,11 @@ neighbours face [] over each = let e : face ≡ face + 0 = omega arith in ap fac
 neighbours face (t ∷ ts) over each =
     let e : face + 1 + length ts ≡ face + length (t ∷ ts) = omega arith in
     let rest = neighbours (face + 1) ts over.1 (λ i d lt. each (suc i) d (omega arith)) in
-    (over.0.from, each 0 t (omega arith), subst (λ n. AreNeighbours n ts (face_begin (face + length (t ∷ ts)))) (sym over.0.to) (subst (λ n. AreNeighbours (face_begin (face + 1)) ts (face_begin n)) e rest))
+    let there = subst (λ n. AreNeighbours (face_begin (face + 1)) ts (face_begin n)) e rest in (
+      over.0.from,
+      each 0 t (omega arith),
+      subst (λ n. AreNeighbours n ts (face_begin (face + length (t ∷ ts)))) (sym over.0.to) there,
+    )
 
 -- six tables over the six faces follow one another over all leaves
 pub six_neighbours : (tables : List SpanRanges) → length tables ≡ 6 → AreOverFaces 0 tables
@@ -61,31 +63,31 @@ over_face face (suc i) (t ∷ ts) d over lt =
 -- ---- six seats
 
 -- what is known of six tables one by one
-pub six_known : (P : SpanRanges → Type 0) (tables : List SpanRanges) (a b c d e f : SpanRanges) → length tables ≡ 6 → P (get_or tables 0 a)
-    → P (get_or tables 1 b) → P (get_or tables 2 c) → P (get_or tables 3 d) → P (get_or tables 4 e) → P (get_or tables 5 f)
+pub six_known : (P : SpanRanges → Type 0) (tables : List SpanRanges) → length tables ≡ 6 → P (table_of tables 0) → P (table_of tables 1)
+    → P (table_of tables 2) → P (table_of tables 3) → P (table_of tables 4) → P (table_of tables 5)
     → (i : ℕ) (x : SpanRanges) → i < 6 → P (get_or tables i x)
-six_known P tables a b c d e f six ka kb kc kd ke kf zero x lt = subst P (get_or_default tables 0 a x (omega arith)) ka
-six_known P tables a b c d e f six ka kb kc kd ke kf (suc zero) x lt = subst P (get_or_default tables 1 b x (omega arith)) kb
-six_known P tables a b c d e f six ka kb kc kd ke kf (suc (suc zero)) x lt = subst P (get_or_default tables 2 c x (omega arith)) kc
-six_known P tables a b c d e f six ka kb kc kd ke kf (suc (suc (suc zero))) x lt = subst P (get_or_default tables 3 d x (omega arith)) kd
-six_known P tables a b c d e f six ka kb kc kd ke kf (suc (suc (suc (suc zero)))) x lt = subst P (get_or_default tables 4 e x (omega arith)) ke
-six_known P tables a b c d e f six ka kb kc kd ke kf (suc (suc (suc (suc (suc zero))))) x lt = subst P (get_or_default tables 5 f x (omega arith)) kf
-six_known P tables a b c d e f six ka kb kc kd ke kf (suc (suc (suc (suc (suc (suc i)))))) x lt = absurd (omega arith)
+six_known P tables six a b c d e f zero x lt = subst P (get_or_default tables 0 no_table x (omega arith)) a
+six_known P tables six a b c d e f (suc zero) x lt = subst P (get_or_default tables 1 no_table x (omega arith)) b
+six_known P tables six a b c d e f (suc (suc zero)) x lt = subst P (get_or_default tables 2 no_table x (omega arith)) c
+six_known P tables six a b c d e f (suc (suc (suc zero))) x lt = subst P (get_or_default tables 3 no_table x (omega arith)) d
+six_known P tables six a b c d e f (suc (suc (suc (suc zero)))) x lt = subst P (get_or_default tables 4 no_table x (omega arith)) e
+six_known P tables six a b c d e f (suc (suc (suc (suc (suc zero))))) x lt = subst P (get_or_default tables 5 no_table x (omega arith)) f
+six_known P tables six a b c d e f (suc (suc (suc (suc (suc (suc i)))))) x lt = absurd (omega arith)
 
 -- each seat is that after the one before
 pub record AreAfter (tables : List SpanRanges) (second third fourth fifth sixth : Seat) : Type 0 where
-  pub second_is : (x y : SpanRanges) → second ≡ seat_after first_seat (get_or tables 0 x).ranges (get_or tables 1 y).ranges
-  pub third_is : (x y : SpanRanges) → third ≡ seat_after second (get_or tables 1 x).ranges (get_or tables 2 y).ranges
-  pub fourth_is : (x y : SpanRanges) → fourth ≡ seat_after third (get_or tables 2 x).ranges (get_or tables 3 y).ranges
-  pub fifth_is : (x y : SpanRanges) → fifth ≡ seat_after fourth (get_or tables 3 x).ranges (get_or tables 4 y).ranges
-  pub sixth_is : (x y : SpanRanges) → sixth ≡ seat_after fifth (get_or tables 4 x).ranges (get_or tables 5 y).ranges
+  pub second_is : second ≡ seat_after first_seat (table_of tables 0).ranges (table_of tables 1).ranges
+  pub third_is : third ≡ seat_after second (table_of tables 1).ranges (table_of tables 2).ranges
+  pub fourth_is : fourth ≡ seat_after third (table_of tables 2).ranges (table_of tables 3).ranges
+  pub fifth_is : fifth ≡ seat_after fourth (table_of tables 3).ranges (table_of tables 4).ranges
+  pub sixth_is : sixth ≡ seat_after fifth (table_of tables 4).ranges (table_of tables 5).ranges
 
-pub any_default : (tables : List SpanRanges) (i j : ℕ) (seat next : Seat) (a b x y : SpanRanges) → i < length tables → j < length tables
-    → next ≡ seat_after seat (get_or tables i a).ranges (get_or tables j b).ranges
-    → next ≡ seat_after seat (get_or tables i x).ranges (get_or tables j y).ranges
-any_default tables i j seat next a b x y lt less is =
-    subst (λ (s : SpanRanges). next ≡ seat_after seat s.ranges (get_or tables j y).ranges) (get_or_default tables i a x lt)
-    (subst (λ (s : SpanRanges). next ≡ seat_after seat (get_or tables i a).ranges s.ranges) (get_or_default tables j b y less) is)
+-- a seat, by the two tables that were read
+pub after_both : (seat next : Seat) (s t x y : SpanRanges) → s ≡ x → t ≡ y → next ≡ seat_after seat s.ranges t.ranges
+    → next ≡ seat_after seat x.ranges y.ranges
+after_both seat next s t x y first second is =
+    subst (λ (u : SpanRanges). next ≡ seat_after seat u.ranges y.ranges) first
+    (subst (λ (u : SpanRanges). next ≡ seat_after seat s.ranges u.ranges) second is)
 
 pub six_seats : (tables : List SpanRanges) (second third fourth fifth sixth : Seat) → length tables ≡ 6
     → AreAfter tables second third fourth fifth sixth → first_seat ∷ second ∷ third ∷ fourth ∷ fifth ∷ sixth ∷ [] ≡ seats_of tables
@@ -100,25 +102,28 @@ six_seats (s ∷ t ∷ u ∷ v ∷ w ∷ x ∷ []) b c d e f six are =
     let fourth_of : Seat → Seat = λ seat. seat_after seat u.ranges v.ranges in
     let fifth_of : Seat → Seat = λ seat. seat_after seat v.ranges w.ranges in
     let sixth_of : Seat → Seat = λ seat. seat_after seat w.ranges x.ranges in
+    let from_fifth : Seat → List Seat = λ seat. seat ∷ sixth_of seat ∷ [] in
+    let from_fourth : Seat → List Seat = λ seat. seat ∷ from_fifth (fifth_of seat) in
+    let from_third : Seat → List Seat = λ seat. seat ∷ from_fourth (fourth_of seat) in
+    let from_second : Seat → List Seat = λ seat. first_seat ∷ seat ∷ from_third (third_of seat) in
     let all = seats_of (s ∷ t ∷ u ∷ v ∷ w ∷ x ∷ []) in
-    let from_second : first_seat ∷ b ∷ third_of b ∷ fourth_of (third_of b) ∷ fifth_of (fourth_of (third_of b)) ∷ sixth_of (fifth_of (fourth_of (third_of b))) ∷ [] ≡ all =
-    subst (λ (n : Seat). first_seat ∷ n ∷ third_of n ∷ fourth_of (third_of n) ∷ fifth_of (fourth_of (third_of n)) ∷ sixth_of (fifth_of (fourth_of (third_of n))) ∷ [] ≡ all) (sym (are.second_is s t)) refl in
-    let from_third : first_seat ∷ b ∷ c ∷ fourth_of c ∷ fifth_of (fourth_of c) ∷ sixth_of (fifth_of (fourth_of c)) ∷ [] ≡ all =
-    subst (λ (n : Seat). first_seat ∷ b ∷ n ∷ fourth_of n ∷ fifth_of (fourth_of n) ∷ sixth_of (fifth_of (fourth_of n)) ∷ [] ≡ all) (sym (are.third_is t u)) from_second in
-    let from_fourth : first_seat ∷ b ∷ c ∷ d ∷ fifth_of d ∷ sixth_of (fifth_of d) ∷ [] ≡ all =
-    subst (λ (n : Seat). first_seat ∷ b ∷ c ∷ n ∷ fifth_of n ∷ sixth_of (fifth_of n) ∷ [] ≡ all) (sym (are.fourth_is u v)) from_third in
-    let from_fifth : first_seat ∷ b ∷ c ∷ d ∷ e ∷ sixth_of e ∷ [] ≡ all =
-    subst (λ (n : Seat). first_seat ∷ b ∷ c ∷ d ∷ n ∷ sixth_of n ∷ [] ≡ all) (sym (are.fifth_is v w)) from_fourth in
-    subst (λ (n : Seat). first_seat ∷ b ∷ c ∷ d ∷ e ∷ n ∷ [] ≡ all) (sym (are.sixth_is w x)) from_fifth
+    let second : from_second b ≡ all = ap from_second are.second_is in
+    let third : first_seat ∷ b ∷ from_third c ≡ all = ap (λ n. first_seat ∷ b ∷ from_third n) are.third_is ∙ second in
+    let fourth : first_seat ∷ b ∷ c ∷ from_fourth d ≡ all = ap (λ n. first_seat ∷ b ∷ c ∷ from_fourth n) are.fourth_is ∙ third in
+    let fifth : first_seat ∷ b ∷ c ∷ d ∷ from_fifth e ≡ all = ap (λ n. first_seat ∷ b ∷ c ∷ d ∷ from_fifth n) are.fifth_is ∙ fourth in
+    ap (λ (n : Seat). first_seat ∷ b ∷ c ∷ d ∷ e ∷ n ∷ []) are.sixth_is ∙ fifth
 six_seats (s ∷ t ∷ u ∷ v ∷ w ∷ x ∷ y ∷ zs) b c d e f six are = absurd (omega arith)
 
 -- the last seat and its table's ranges make up the count
-pub counted_six : (tables : List SpanRanges) (second third fourth fifth sixth : Seat) (d : SpanRanges) → length tables ≡ 6
+pub counted_six : (tables : List SpanRanges) (second third fourth fifth sixth : Seat) → length tables ≡ 6
     → AreNeighbours 1 tables leaf_end → AreAfter tables second third fourth fifth sixth
-    → sixth.place + length (get_or tables 5 d).ranges ≡ length (joined_ranges tables)
-counted_six tables second third fourth fifth sixth d six are after =
+    → sixth.place + length (table_of tables 5).ranges ≡ length (joined_ranges tables)
+counted_six tables second third fourth fifth sixth six are after =
     let list = six_seats tables second third fourth fifth sixth six after in
-    let part = subst (λ (ss : List Seat). IsPart (joined_ranges tables) (get_or tables 5 d).ranges (get_or ss 5 no_seat) (high_of ss 5 (length (joined_ranges tables)))) (sym list) (seats_fit tables leaf_end 5 d no_seat are (omega arith)) in
+    let all = joined_ranges tables in
+    let own = (table_of tables 5).ranges in
+    let fit = seats_fit tables leaf_end 5 no_table no_seat are (omega arith) in
+    let part = subst (λ (ss : List Seat). IsPart all own (get_or ss 5 no_seat) (high_of ss 5 (length all))) (sym list) fit in
     let reach = part.reach in
     let within = part.within in
     omega arith
@@ -130,8 +135,10 @@ pub seated : (tables : List SpanRanges) (seats : List Seat) (count i : ℕ) (d :
     → IsPart (joined_ranges tables) (get_or tables i d).ranges (get_or seats i e) (high_of seats i count)
 seated tables seats count i d e are lt =
     let six = are.six in
-    subst (λ n. IsPart (joined_ranges tables) (get_or tables i d).ranges (get_or seats i e) (high_of seats i n)) (sym are.counted)
-    (subst (λ ss. IsPart (joined_ranges tables) (get_or tables i d).ranges (get_or ss i e) (high_of ss i (length (joined_ranges tables)))) (sym are.seats_are)
+    let all = joined_ranges tables in
+    let own = (get_or tables i d).ranges in
+    subst (λ n. IsPart all own (get_or seats i e) (high_of seats i n)) (sym are.counted)
+    (subst (λ ss. IsPart all own (get_or ss i e) (high_of ss i (length all))) (sym are.seats_are)
     (seats_fit tables leaf_end i d e are.neighbours (omega arith)))
 
 length_six : (tables : List SpanRanges) (seats : List Seat) (count : ℕ) → AreJoined tables seats count → length seats ≡ 6
@@ -150,7 +157,9 @@ in_order tables seats count are =
           let above = part.above in
           let low = place_at seats i 0 first_seat (omega arith) in
           let high : high_of seats i count ≡ slice_index_or (places_of seats) j 0 =
-          place_at seats (suc i) count first_seat (omega arith) ∙ sym (place_at seats (suc i) 0 first_seat (omega arith)) ∙ ap (λ n. slice_index_or (places_of seats) n 0) (sym next) in
+          place_at seats (suc i) count first_seat (omega arith)
+          ∙ sym (place_at seats (suc i) 0 first_seat (omega arith))
+          ∙ ap (λ n. slice_index_or (places_of seats) n 0) (sym next) in
           omega arith;
     }
 
@@ -180,46 +189,65 @@ among tables seats count k f d e are within last lt =
       | inl less ↦
           (let next = last.next (omega arith) in
           let same : slice_index_or (places_of seats) (f + 1) 0 ≡ high_of seats f count =
-          ap (λ n. slice_index_or (places_of seats) n 0) (add-one f) ∙ place_at seats (suc f) 0 e (omega arith) ∙ sym (place_at seats (suc f) count e (omega arith)) in
+          ap (λ n. slice_index_or (places_of seats) n 0) (add-one f)
+          ∙ place_at seats (suc f) 0 e (omega arith)
+          ∙ sym (place_at seats (suc f) count e (omega arith)) in
           omega arith)
       | inr past ↦ (let none : high_of seats f count ≡ count = get_or_past (places_of seats) (suc f) count (omega arith) in omega arith)
     ] in
     record { from = omega arith; below = below; own = omega arith }
 
--- the last seat that is not behind a range, of the tables that contracts see
-pub last_in : (tables now : List SpanRanges) (seats : List Seat) (count k f : ℕ) → AreJoined tables seats count → tables ≡ now
-    → IsLastStart (places_of (seats_of now)) k f → IsLastStart (places_of seats) k f
-last_in tables now seats count k f are same last =
-    subst (λ ss. IsLastStart (places_of ss) k f) (sym are.seats_are) (subst (λ ts. IsLastStart (places_of (seats_of ts)) k f) (sym same) last)
+-- ---- a face's table
+
+pub face_over : (tables : List SpanRanges) (seats : List Seat) (count face : ℕ) → AreJoined tables seats count → face < 6
+    → IsOverFace face (table_of tables face)
+face_over tables seats count face are lt =
+    let six = are.six in
+    let e : 0 + face ≡ face = omega arith in
+    subst (λ n. IsOverFace n (table_of tables face)) e (over_face 0 face tables no_table are.faces (omega arith))
+
+pub face_known : (tables : List SpanRanges) (seats : List Seat) (count face : ℕ) → AreJoined tables seats count → face < 6
+    → IsSpanTable (table_of tables face)
+face_known tables seats count face are lt =
+    let six = are.six in
+    span_known 1 tables leaf_end face no_table are.neighbours (omega arith)
 
 -- ---- a range of the whole, read in its table
 
-pub record IsReadIn (whole part : List Range) (seat : Seat) (k : ℕ) : Type 0 where
-  pub contents : (range_at whole k).contents ≡ (range_at part (k - seat.place)).contents
-  pub limit : (range_at whole k).limit ≡ (range_at part (k - seat.place)).limit
-  pub begins : k - seat.place ≡ 0 → (range_at whole k).start ≡ seat.start
-  pub start : 0 < k - seat.place → (range_at whole k).start ≡ (range_at part (k - seat.place)).start
+pub record IsReadIn (whole part : List Range) (seat : Seat) (k own : ℕ) : Type 0 where
+  pub within : own < length part
+  pub contents : (range_at whole k).contents ≡ (range_at part own).contents
+  pub limit : (range_at whole k).limit ≡ (range_at part own).limit
+  pub begins : own ≡ 0 → (range_at whole k).start ≡ seat.start
+  pub start : 0 < own → (range_at whole k).start ≡ (range_at part own).start
 
-pub read_part : (whole part : List Range) (seat : Seat) (high k : ℕ) → IsPart whole part seat high → seat.place ≤ k → k < high
-    → k - seat.place < length part → IsReadIn whole part seat k
-read_part whole part seat high k is from below own =
-    let e : seat.place + (k - seat.place) ≡ k = omega arith in
-    record {
-      contents = sym (ap (λ n. (range_at whole n).contents) e) ∙ is.contents (k - seat.place) own;
-      limit = sym (ap (λ n. (range_at whole n).limit) e) ∙ is.limit (k - seat.place) own (omega arith);
-      begins = λ none. let f : k ≡ seat.place = omega arith in ap (λ n. (range_at whole n).start) f ∙ is.start;
-      start = λ some. sym (ap (λ n. (range_at whole n).start) e) ∙ is.later (k - seat.place) some own;
-    }
+pub read_part : (whole part : List Range) (seat : Seat) (high own : ℕ) → IsPart whole part seat high → seat.place + own < high
+    → own < length part → IsReadIn whole part seat (seat.place + own) own
+read_part whole part seat high own is below lt = record {
+  within = lt;
+  contents = is.contents own lt;
+  limit = is.limit own lt below;
+  begins = λ none. let e : seat.place + own ≡ seat.place = omega arith in ap (λ n. (range_at whole n).start) e ∙ is.start;
+  start = λ some. is.later own some lt;
+}
 
 -- the range in its face's table
-pub is_read : (tables now : List SpanRanges) (seats : List Seat) (count k f : ℕ) (d span : SpanRanges) → AreJoined tables seats count
-    → tables ≡ now → f < 6 → IsLastStart (places_of seats) k f → k < length (joined_ranges now) → span ≡ get_or tables f d
-    → IsReadIn (joined_ranges now) span.ranges (get_or seats f no_seat) k
-is_read tables now seats count k f d span are same within last lt is =
-    let lt_own = subst (λ ts. k < length (joined_ranges ts)) (sym same) lt in
-    let at = among tables seats count k f d no_seat are within last lt_own in
-    let read = read_part (joined_ranges tables) (get_or tables f d).ranges (get_or seats f no_seat) (high_of seats f count) k (seated tables seats count f d no_seat are within) at.from at.below at.own in
-    subst (λ ts. IsReadIn (joined_ranges ts) span.ranges (get_or seats f no_seat) k) same (subst (λ (s : SpanRanges). IsReadIn (joined_ranges tables) s.ranges (get_or seats f no_seat) k) (sym is) read)
+pub is_read : (tables : List SpanRanges) (seats : List Seat) (count face own : ℕ) → AreJoined tables seats count
+    → HasOwn seats count face own
+    → IsReadIn (joined_ranges tables) (table_of tables face).ranges (get_or seats face no_seat) (place_on seats face own) own
+is_read tables seats count face own are has =
+    let six = length_six tables seats count are in
+    let counted = are.counted in
+    let within = has.within in
+    let face_in = has.six in
+    let place = place_at seats face 0 no_seat (omega arith) in
+    let part = seated tables seats count face no_table no_seat are has.six in
+    let at = among tables seats count (place_on seats face own) face no_table no_seat are has.six has.last (omega arith) in
+    let below = at.below in
+    let lt = at.own in
+    let read = read_part (joined_ranges tables) (table_of tables face).ranges (get_or seats face no_seat) (high_of seats face count) own
+    part (omega arith) (omega arith) in
+    subst (λ n. IsReadIn (joined_ranges tables) (table_of tables face).ranges (get_or seats face no_seat) (n + own) own) (sym place) read
 
 pub found_part : (whole part : List Range) (seat : Seat) (high j q : ℕ) → IsPart whole part seat high → IsFound part j q
     → IsFound whole (seat.place + j) q
@@ -246,68 +274,31 @@ found_part whole part seat high j q is found =
 
 -- ---- places
 
-pub chain_is : (tables : List SpanRanges) (face node : ℕ) (d : SpanRanges) → face < length tables
-    → chain_from tables (record { face = face; node = node }) ≡ chain_of (get_or tables face d).held node
-chain_is tables face node d lt = ap (λ t. chain_in t node) (slice_get-get_or tables face d lt)
-
-some_same : (p q : FacePlace) → Some p ≡ Some q → p ≡ q
-some_same p q e = cc
-
-pub lead_some : (tables : List SpanRanges) (face node : ℕ) (d : SpanRanges) (pairs : Collection) → face < length tables
-    → LeadsTo (chain_of (get_or tables face d).held) (Some node) pairs
-    → LeadsTo (chain_from tables) (Some (record { face = face; node = node })) pairs
-lead_some tables face node d pairs lt leads =
-    let same = chain_is tables face node d lt in
-    let place : FacePlace = record { face = face; node = node } in
-    record {
-      pairs_are = same ∙ leads.pairs_are;
-      place = λ p e.
-          let is = leads.place node refl in
-          let here : 0 < length (chain_from tables place) = let l = ap length same in omega arith in
-          subst (λ q. 0 < length (chain_from tables q)) (some_same place p e) here;
-    }
-
-pub lead_none : (tables : List SpanRanges) (held pairs : Collection) → LeadsTo (chain_of held) None pairs
-    → LeadsTo (chain_from tables) None pairs
-lead_none tables held pairs leads = record { pairs_are = leads.pairs_are; place = λ p e. absurd (none_some p e) }
-  where
-    none_some : (p : FacePlace) → None ≡ Some p → ⊥
-    none_some p e = cc
-
--- a place is one of the table of its face
-pub record IsOn (tables : List SpanRanges) (place : FacePlace) (d : SpanRanges) : Type 0 where
-  pub face : place.face < length tables
-  pub chain : chain_from tables place ≡ chain_of (get_or tables place.face d).held place.node
-
-pub place_on : (tables : List SpanRanges) (place : FacePlace) (d : SpanRanges) → 0 < length (chain_from tables place) → IsOn tables place d
-place_on tables place d some =
-    elim (cases_lt place.face (length tables)) [
-      | inl lt ↦ record { face = lt; chain = ap (λ t. chain_in t place.node) (slice_get-get_or tables place.face d lt) }
-      | inr past ↦ absurd (let e = ap (λ t. length (chain_in t place.node)) (slice_get_past tables place.face past) in omega arith)
+-- what is a place is one of a face
+pub face_of_place : (tables : List SpanRanges) (face node : ℕ) → length tables ≡ 6 → 0 < length (chain_of (table_of tables face).held node)
+    → face < 6
+face_of_place tables face node six some =
+    elim (cases_lt face 6) [
+      | inl lt ↦ lt
+      | inr past ↦
+          (let none : table_of tables face ≡ no_table = get_or_past tables face no_table (omega arith) in
+          let same = ap (λ (t : SpanRanges). length (chain_of t.held node)) none in
+          let nil = ap length (chain_none [] node (slice_get_past [] node (omega arith))) in
+          absurd (omega arith))
     ]
 
--- the same, of the table that is read
-pub record IsReadOn (tables now : List SpanRanges) (place : FacePlace) (d span : SpanRanges) : Type 0 where
-  pub face : place.face < 6
-  pub listed : place.face < length tables
-  pub seen : place.face < length now
-  pub same : span ≡ get_or now place.face d
-  pub chain : chain_from now place ≡ chain_of span.held place.node
+-- a chain of a table that was read
+pub chain_read : (span table : SpanRanges) (node : ℕ) → span ≡ table → chain_of span.held node ≡ chain_of table.held node
+chain_read span table node is = ap (λ (s : SpanRanges). chain_of s.held node) is
 
-pub read_on : (tables now : List SpanRanges) (place : FacePlace) (d span : SpanRanges) → length tables ≡ 6 → tables ≡ now
-    → span ≡ get_or tables place.face d → 0 < length (chain_from now place) → IsReadOn tables now place d span
-read_on tables now place d span six view is some =
-    let on = place_on now place d some in
-    let len = ap length view in
-    let face = on.face in
-    let same = is ∙ ap (λ ts. get_or ts place.face d) view in
-    record {
-      face = omega arith;
-      listed = omega arith;
-      seen = face;
-      same = same;
-      chain = on.chain ∙ ap (λ (s : SpanRanges). chain_of s.held place.node) (sym same);
-    }
+-- what a face's table leads to, all tables lead to
+pub lead_on : {P : Type 0} (chain : P → Collection) (place : P) (held : Collection) (node : ℕ) (found pairs : Collection)
+    → chain_of held node ≡ chain place → found ≡ pairs → LeadsTo (chain_of held) (Some node) found → LeadsTo chain (Some place) pairs
+lead_on chain place held node found pairs seen same leads =
+    let are = leads.pairs_are ∙ same in
+    let some = leads.place node refl in
+    let len = ap length are in
+    leads_some chain place pairs (sym seen ∙ are) (omega arith)
 
 -- ---- the table of a leaf's face
 
@@ -315,23 +306,20 @@ pub record IsLeafOn (span : SpanRanges) (leaf : CellId) : Type 0 where
   pub from : span.from ≤ raw_of leaf
   pub to : raw_of leaf < span.to
 
-pub leaf_on : (tables : List SpanRanges) (seats : List Seat) (count : ℕ) (leaf : CellId) (face : ℕ) (d span : SpanRanges)
-    → AreJoined tables seats count → face ≡ face_of leaf → span ≡ get_or tables face d → IsLeafOn span leaf
-leaf_on tables seats count leaf face d span are is same =
+pub leaf_on : (tables : List SpanRanges) (seats : List Seat) (count : ℕ) (leaf : CellId) (face : ℕ) (span : SpanRanges)
+    → AreJoined tables seats count → face ≡ face_of leaf → span ≡ table_of tables face → IsLeafOn span leaf
+leaf_on tables seats count leaf face span are is same =
     let six = six_faces leaf in
-    let len = are.six in
-    let over = over_face 0 face tables d are.faces (omega arith) in
-    let e : 0 + face ≡ face_of leaf = omega arith in
+    let over = face_over tables seats count face are (omega arith) in
     let on = raw_on_face leaf in
-    let from = over.from ∙ ap face_begin e in
-    let to = over.to ∙ ap (λ n. face_begin (n + 1)) e in
+    let from = over.from ∙ ap face_begin is in
+    let to = over.to ∙ ap (λ n. face_begin (n + 1)) is in
     subst (λ s. IsLeafOn s leaf) (sym same) (record { from = omega (arith, on.0, from); to = omega (arith, on.1, to) })
 
-pub found_on : (tables now : List SpanRanges) (seats : List Seat) (count face j q : ℕ) (d span : SpanRanges) → AreJoined tables seats count
-    → tables ≡ now → face < 6 → span ≡ get_or tables face d → IsFound span.ranges j q
-    → IsFound (joined_ranges now) ((get_or seats face no_seat).place + j) q
-found_on tables now seats count face j q d span are view lt same found =
-    let part = seated tables seats count face d no_seat are lt in
+pub found_on : (tables : List SpanRanges) (seats : List Seat) (count face j q : ℕ) (span : SpanRanges) → AreJoined tables seats count
+    → face < 6 → span ≡ table_of tables face → IsFound span.ranges j q
+    → IsFound (joined_ranges tables) ((get_or seats face no_seat).place + j) q
+found_on tables seats count face j q span are lt same found =
+    let part = seated tables seats count face no_table no_seat are lt in
     let own = subst (λ (s : SpanRanges). IsFound s.ranges j q) same found in
-    subst (λ ts. IsFound (joined_ranges ts) ((get_or seats face no_seat).place + j) q) view
-    (found_part (joined_ranges tables) (get_or tables face d).ranges (get_or seats face no_seat) (high_of seats face count) j q part own)
+    found_part (joined_ranges tables) (table_of tables face).ranges (get_or seats face no_seat) (high_of seats face count) j q part own

@@ -1,5 +1,5 @@
 -- The ranges over a face, read by where they begin.
-use Rattle.std.proofs.Common.{◌≡◌, ℕ, zero, suc, ◌+◌, ◌-◌, ◌<◌, ◌≤◌, List, [], ◌∷◌, length, map, take, drop, get_or, slice_index_or, refl, sym, ◌∙◌, ap, arith, add-one, subst}
+use Rattle.std.proofs.Common.{◌≡◌, ℕ, suc, ◌+◌, ◌-◌, ◌<◌, ◌≤◌, List, [], ◌∷◌, length, map, take, drop, get_or, slice_index_or, refl, sym, ◌∙◌, ap, arith, add-one, subst}
 use Rattle.std.proofs.Math.Seq.{take-length}
 use Rattle.std.proofs.lemmas.List.{get_or-map, length-map}
 use Rattle.s2ix_bag_pairs.specs.Collection.{Collection}
@@ -8,20 +8,13 @@ use Rattle.s2ix_table_walk.specs.Faces.{HaveFace}
 use Rattle.s2ix_table_queries.specs.Stretches.{IsStretch}
 use Rattle.s2ix_table_chain.specs.SpanTable.{SpanRanges, IsSpanTable}
 use Rattle.s2ix_table_faces.specs.declared.seat.Seat.{Seat}
-use Rattle.s2ix_table_faces.specs.Faces.{IsOverFace}
-use Rattle.s2ix_table_faces.specs.Joined.{held_in, joined_ranges, AreNeighbours}
+use Rattle.s2ix_table_faces.specs.Faces.{no_table, table_of, IsOverFace}
+use Rattle.s2ix_table_faces.specs.Joined.{held_in, joined_ranges}
 use Rattle.s2ix_table_faces.specs.Whole.{AreJoined}
 use Rattle.s2ix_table_faces.proofs.Neighbours.{joined_table}
-use Rattle.s2ix_table_faces.proofs.Reading.{no_seat, seated, over_face}
+use Rattle.s2ix_table_faces.proofs.Reading.{no_seat, seated, face_over, face_known}
 use Rattle.s2ix_table_faces.proofs.Seating.{IsPart}
 use Rattle.s2ix_table_faces.proofs.Seats.{high_of}
-
--- each of neighbouring tables has its ranges
-span_known : (from : ℕ) (tables : List SpanRanges) (to i : ℕ) (d : SpanRanges) → AreNeighbours from tables to → i < length tables
-    → IsSpanTable (get_or tables i d)
-span_known from [] to i d are lt = absurd (omega arith)
-span_known from (t ∷ ts) to zero d are lt = are.1
-span_known from (t ∷ ts) to (suc i) d are lt = span_known t.to ts to i d are.2 (omega arith)
 
 -- ---- all ranges over a face
 
@@ -48,18 +41,17 @@ window_part whole span seat high face part over is =
           omega arith;
     }
 
-pub face_window : (tables now : List SpanRanges) (seats : List Seat) (count face : ℕ) (d span : SpanRanges) → AreJoined tables seats count
-    → tables ≡ now → face < 6 → span ≡ get_or tables face d
-    → HaveFace (joined_ranges now) face (get_or seats face no_seat).place (length span.ranges)
-face_window tables now seats count face d span are view lt same =
-    let six = are.six in
-    let part = seated tables seats count face d no_seat are lt in
-    let over = over_face 0 face tables d are.faces (omega arith) in
-    let e : 0 + face ≡ face = omega arith in
-    let is = span_known 1 tables leaf_end face d are.neighbours (omega arith) in
-    let have = window_part (joined_ranges tables) (get_or tables face d) (get_or seats face no_seat) (high_of seats face count) face part (subst (λ n. IsOverFace n (get_or tables face d)) e over) is in
-    subst (λ ts. HaveFace (joined_ranges ts) face (get_or seats face no_seat).place (length span.ranges)) view
-    (subst (λ (s : SpanRanges). HaveFace (joined_ranges tables) face (get_or seats face no_seat).place (length s.ranges)) (sym same) have)
+pub face_window : (tables : List SpanRanges) (seats : List Seat) (count face : ℕ) (span : SpanRanges) → AreJoined tables seats count
+    → face < 6 → span ≡ table_of tables face
+    → HaveFace (joined_ranges tables) face (get_or seats face no_seat).place (length span.ranges)
+face_window tables seats count face span are lt same =
+    let all = joined_ranges tables in
+    let seat = get_or seats face no_seat in
+    let part = seated tables seats count face no_table no_seat are lt in
+    let over = face_over tables seats count face are lt in
+    let is = face_known tables seats count face are lt in
+    let have = window_part all (table_of tables face) seat (high_of seats face count) face part over is in
+    subst (λ (s : SpanRanges). HaveFace all face seat.place (length s.ranges)) (sym same) have
 
 -- ---- those between the first and the last one
 
@@ -70,7 +62,8 @@ shifted (s ∷ ss) k = refl
 start_at : (part : List Range) (starts : List ℕ) (k : ℕ) → starts ≡ map (λ (r : Range). r.start) part → k < length part
     → (range_at part k).start ≡ slice_index_or starts k 0
 start_at part starts k is lt =
-    sym (get_or-map (λ (r : Range). r.start) part k (record { start = 0; limit = 0; contents = [] }) 0 lt) ∙ ap (λ ss. slice_index_or ss k 0) (sym is)
+    sym (get_or-map (λ (r : Range). r.start) part k (record { start = 0; limit = 0; contents = [] }) 0 lt)
+    ∙ ap (λ ss. slice_index_or ss k 0) (sym is)
 
 stretch_part : (hs : Collection) (whole part : List Range) (seat : Seat) (high : ℕ) (starts : List ℕ) → IsTableOver hs 1 leaf_end whole
     → IsPart whole part seat high → starts ≡ map (λ (r : Range). r.start) part
@@ -82,7 +75,11 @@ stretch_part hs whole part seat high starts t is same =
     let fewer = length-drop starts (omega arith) in
     let begins : (k : ℕ) → k + 1 < length part → (range_at whole (seat.place + 1 + k)).start ≡ slice_index_or (drop 1 starts) k 0 = λ k lt.
     let e : seat.place + 1 + k ≡ seat.place + (k + 1) = omega arith in
-    ap (λ n. (range_at whole n).start) e ∙ is.later (k + 1) (omega arith) lt ∙ start_at part starts (k + 1) same lt ∙ ap (λ n. slice_index_or starts n 0) (add-one k) ∙ sym (shifted starts k) in
+    ap (λ n. (range_at whole n).start) e
+    ∙ is.later (k + 1) (omega arith) lt
+    ∙ start_at part starts (k + 1) same lt
+    ∙ ap (λ n. slice_index_or starts n 0) (add-one k)
+    ∙ sym (shifted starts k) in
     record {
       within = omega arith;
       room = λ more. omega arith;
@@ -96,22 +93,22 @@ stretch_part hs whole part seat high starts t is same =
     length-drop [] more = absurd (omega arith)
     length-drop (x ∷ xs) more = omega arith
 
-pub face_stretch : (tables now : List SpanRanges) (seats : List Seat) (count face : ℕ) (d span : SpanRanges) (starts : List ℕ)
-    → AreJoined tables seats count → tables ≡ now → face < 6 → span ≡ get_or tables face d
-    → starts ≡ map (λ (r : Range). r.start) span.ranges
-    → IsStretch (joined_ranges now) ((get_or seats face no_seat).place + 1) (length starts - 2) (drop 1 starts)
-face_stretch tables now seats count face d span starts are view lt same is =
-    let part = seated tables seats count face d no_seat are lt in
+pub face_stretch : (tables : List SpanRanges) (seats : List Seat) (count face : ℕ) (span : SpanRanges) (starts : List ℕ)
+    → AreJoined tables seats count → face < 6 → span ≡ table_of tables face → starts ≡ map (λ (r : Range). r.start) span.ranges
+    → IsStretch (joined_ranges tables) ((get_or seats face no_seat).place + 1) (length starts - 2) (drop 1 starts)
+face_stretch tables seats count face span starts are lt same is =
+    let part = seated tables seats count face no_table no_seat are lt in
     let own = is ∙ ap (λ (s : SpanRanges). map (λ (r : Range). r.start) s.ranges) same in
-    let stretch = stretch_part (held_in tables) (joined_ranges tables) (get_or tables face d).ranges (get_or seats face no_seat) (high_of seats face count) starts (joined_table 1 tables leaf_end (omega arith) are.neighbours) part own in
-    subst (λ ts. IsStretch (joined_ranges ts) ((get_or seats face no_seat).place + 1) (length starts - 2) (drop 1 starts)) view stretch
+    let table = joined_table 1 tables leaf_end (omega arith) are.neighbours in
+    stretch_part (held_in tables) (joined_ranges tables) (table_of tables face).ranges (get_or seats face no_seat)
+    (high_of seats face count) starts table part own
 
 -- each face has a range
-pub some_starts : (tables : List SpanRanges) (seats : List Seat) (count face : ℕ) (d span : SpanRanges) (starts : List ℕ)
-    → AreJoined tables seats count → face < 6 → span ≡ get_or tables face d → starts ≡ map (λ (r : Range). r.start) span.ranges
+pub some_starts : (tables : List SpanRanges) (seats : List Seat) (count face : ℕ) (span : SpanRanges) (starts : List ℕ)
+    → AreJoined tables seats count → face < 6 → span ≡ table_of tables face → starts ≡ map (λ (r : Range). r.start) span.ranges
     → 1 ≤ length starts
-some_starts tables seats count face d span starts are lt same is =
-    let some = (seated tables seats count face d no_seat are lt).some in
+some_starts tables seats count face span starts are lt same is =
+    let some = (seated tables seats count face no_table no_seat are lt).some in
     let many = ap length is ∙ length-map span.ranges (λ (r : Range). r.start) in
     let ranges = ap (λ (s : SpanRanges). length s.ranges) same in
     omega arith

@@ -1,12 +1,19 @@
--- That joined tables keep a pair once has one proof: what a type keeps of it in a ghost field tells no two of its values apart.
-use Rattle.std.specs.Prelude.{List}
-use Rattle.std.specs.Coded.{Coded-set, coded_ℕ}
-use Rattle.std.proofs.Common.{ap}
+-- That tables of faces are joined, and that they keep a pair once, has one proof each: what a type keeps of it in a ghost field tells no
+-- two of its values apart.
+use Rattle.std.specs.Prelude.{ℕ, ◌+◌, List, [], ◌∷◌}
+use Rattle.std.specs.Coded.{Coded, Coded-set, Unit-prop, code_by, coded×, coded_ℕ}
+use Rattle.std.proofs.Common.{refl, ap}
+use Rattle.std.proofs.Props.{props}
+use Rattle.s2ix_table_ranges.specs.Table.{leaf_end}
 use Rattle.s2ix_table_chain.specs.Once.{KeepsOnce}
-use Rattle.s2ix_table_chain.specs.OneProof.{KeepsOnce-prop}
+use Rattle.s2ix_table_chain.specs.OneProof.{KeepsOnce-prop, IsSpanTable-prop}
 use Rattle.s2ix_table_chain.specs.SpanTable.{SpanRanges}
 use Rattle.s2ix_table_faces.specs.declared.face_place.FacePlace.{FacePlace}
+use Rattle.s2ix_table_faces.specs.declared.seat.Seat.{Seat}
+use Rattle.s2ix_table_faces.specs.Faces.{AreOverFaces}
+use Rattle.s2ix_table_faces.specs.Joined.{AreNeighbours}
 use Rattle.s2ix_table_faces.specs.Places.{chain_from}
+use Rattle.s2ix_table_faces.specs.Whole.{AreCounted}
 
 -- two places are equal in one way at most, since two numbers are
 places_set : IsSet FacePlace
@@ -17,3 +24,21 @@ places_set a b one two = λ i j. record {
 
 pub joined_once-prop : (tables : List SpanRanges) → IsProp (KeepsOnce (chain_from tables))
 joined_once-prop tables = KeepsOnce-prop places_set (chain_from tables)
+
+-- and so are two seats
+coded_seat : Coded Seat
+coded_seat =
+    code_by (ℕ × ℕ) (coded× coded_ℕ coded_ℕ) (λ (s : Seat). (s.place, s.start)) (λ p. record { place = p.0; start = p.1 }) (λ _. refl)
+
+over_faces-prop : (face : ℕ) (tables : List SpanRanges) → IsProp (AreOverFaces face tables)
+over_faces-prop face [] = Unit-prop
+over_faces-prop face (t ∷ ts) = hlevel (props, over_faces-prop (face + 1) ts)
+
+neighbours-prop : (from : ℕ) (tables : List SpanRanges) (to : ℕ) → IsProp (AreNeighbours from tables to)
+neighbours-prop from [] to = hlevel props
+neighbours-prop from (t ∷ ts) to = hlevel (props, IsSpanTable-prop t, neighbours-prop t.to ts to)
+
+pub counted-prop : (tables : List SpanRanges) (seats : List Seat) (behind inner : List ℕ) (count : ℕ)
+    → IsProp (AreCounted tables seats behind inner count)
+counted-prop tables seats behind inner count =
+    hlevel (props, coded_seat, over_faces-prop 0 tables, neighbours-prop 1 tables leaf_end)

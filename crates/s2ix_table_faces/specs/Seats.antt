@@ -2,6 +2,7 @@
 use Rattle.std.specs.Prelude.{◌≡◌, ℕ, suc, ◌+◌, ◌-◌, ◌<◌, ◌≤◌, ◌==◌, ◌&&◌, if◌then◌else◌, Bool, List, [], ◌∷◌, length, map, slice_index_or}
 use Rattle.s2ix_table_ranges.specs.Table.{Range, range_at}
 use Rattle.s2ix_table_chain.specs.SpanTable.{SpanRanges}
+use Rattle.s2ix_table_chain.specs.Starts.{IsLastStart}
 use Rattle.s2ix_table_faces.specs.Joined.{is_nil}
 use Rattle.s2ix_table_faces.specs.declared.seat.Seat.{Seat}
 
@@ -33,12 +34,23 @@ seats_of tables = seats_from (record { place = 0; start = 1 }) tables
 abbrev pub places_of : List Seat → List ℕ
 places_of seats = map (λ (s : Seat). s.place) seats
 
+-- the place among all of a range that has this place of its own in a face's table
+abbrev pub place_on : List Seat → ℕ → ℕ → ℕ
+place_on seats face own = slice_index_or (places_of seats) face 0 + own
+
+-- a face, 0 to 5, has one of `count` ranges at a place of its own: the face's seat is the last one that is not behind the range
+pub record HasOwn (seats : List Seat) (count face own : ℕ) : Type 0 where
+  pub six : face < 6
+  pub last : IsLastStart (places_of seats) (place_on seats face own) face
+  pub within : place_on seats face own < count
+
 -- six seats, no place above the next one
 pub record AreInOrder (seats : List Seat) : Type 0 where
   pub six : length seats ≡ 6
   pub rise : (i j : ℕ) → j ≡ suc i → j < 6 → slice_index_or (places_of seats) i 0 ≤ slice_index_or (places_of seats) j 0
 
--- at each of six seats: the place behind its first range, and how many of `count` ranges are there before the last one up to the next seat, if any
+-- at each of six seats: the place behind its first range, and how many of `count` ranges are there before the last one up to the next seat,
+-- if any
 pub record AreInner (seats : List Seat) (behind inner : List ℕ) (count : ℕ) : Type 0 where
   pub six_behind : length behind ≡ 6
   pub six : length inner ≡ 6

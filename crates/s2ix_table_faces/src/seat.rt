@@ -4,7 +4,8 @@ ghost use Rattle.s2ix_table_chain.specs.SpanTable.{IsSpanTable};
 ghost use Rattle.s2ix_table_chain.specs.Starts.{IsLastStart};
 ghost use Rattle.s2ix_table_faces.specs.Seats.{seat_after, places_of, AreInOrder};
 
-use crate::face_table::FaceTable;
+use s2ix_table_chain::SpanTable;
+use s2ix_table_chain::laws::ranges_are_those_of_the_span;
 
 // How many faces the cube has.
 pub(crate) const FACES: usize = 6;
@@ -18,7 +19,7 @@ pub(crate) struct Seat {
 
 impl Seat {
     // The seat of the next table, where this is that of a table. O(1).
-    pub(crate) fn after(self, table: &FaceTable, next: &FaceTable) -> Seat
+    pub(crate) fn after(self, table: &SpanTable, next: &SpanTable) -> Seat
         requires few { self.place ≤ 100000000 }
         ensures seat { result ≡ seat_after self table.now.ranges next.now.ranges }
         ensures rises { self.place ≤ result.place }
@@ -26,10 +27,8 @@ impl Seat {
         ensures table { IsSpanTable table.now }
         ensures next { IsSpanTable next.now }
     {
-        table.has_its_ranges();
-        next.has_its_ranges();
-        let table = table.span();
-        let next = next.span();
+        ranges_are_those_of_the_span(table);
+        ranges_are_those_of_the_span(next);
         let last = table.range_count() - 1;
         if table.first(last).is_none() && next.first(0).is_none() {
             let start = if last == 0 {

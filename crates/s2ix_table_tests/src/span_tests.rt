@@ -6,7 +6,7 @@ ghost use Rattle.s2id_core.specs.CellId.{first_of, end_of};
 use s2id_core::CellId;
 use s2ix_bag::{FlatHeld, Held};
 use s2ix_bag_samples::{WIDEST, bag_of};
-use s2ix_table::laws::chain::{ranges_are_those_of_the_span, span_keeps_a_pair_once};
+use s2ix_table::laws::chain::ranges_are_those_of_the_span;
 use s2ix_table::{RangeRow, SpanTable};
 use s2ix_table_samples::{Pairs, Row};
 use std::alloc::Global;
@@ -104,5 +104,4 @@ fn table_of_a_face(rt: HostRuntime) {
     assert!(rt; table.pair_count() == 3);
     assert!(rt; has_rows(&table));
     ranges_are_those_of_the_span(&table);
-    span_keeps_a_pair_once(&table);
 }

@@ -1,6 +1,6 @@
 use Rattle.std.proofs.Common.{subst}
 use Rattle.s2ix_table_chain.specs.SpanTable.{IsSpanTable}
-use Rattle.s2ix_table_chain.proofs.Tables.{spans}
+use Rattle.s2ix_table_chain.proofs.Spans.{spans}
 use Rattle.s2ix_table_chain.proofs.laws.ranges_are_those_of_the_span.Goals as goal
 
 pub returns : goal.returns

@@ -4,19 +4,19 @@ use Rattle.s2ix_table_faces.specs.Faces.{AreOnFace}
 use Rattle.s2ix_table_faces.proofs.AllFaces.{held_few, held_rises, lie_on}
 use Rattle.s2ix_table_faces.proofs.tables.read_table.Goals as goal
 
-pub new-requires-clause-rises : goal.new-requires-clause-rises
-new-requires-clause-rises g c =
+pub face_table-requires-clause-rises : goal.face_table-requires-clause-rises
+face_table-requires-clause-rises g c =
     let hs = g.B.PairReader.shown c.args.reader.now in
     let is = g.met.B.PairReader.is_read c.args.reader.now in
     subst IsCollection (sym c.in_ok-held.ensures.pairs) (held_rises c.args.face 0 hs is.is_collection)
 
-pub new-requires-clause-few : goal.new-requires-clause-few
-new-requires-clause-few g c =
+pub face_table-requires-clause-few : goal.face_table-requires-clause-few
+face_table-requires-clause-few g c =
     let hs = g.B.PairReader.shown c.args.reader.now in
     let is = g.met.B.PairReader.is_read c.args.reader.now in
     omega (arith, held_few c.args.face hs, is.few, ap length c.in_ok-held.ensures.pairs)
 
-pub new-requires-clause-on_face : goal.new-requires-clause-on_face
-new-requires-clause-on_face g c =
+pub face_table-requires-clause-on_face : goal.face_table-requires-clause-on_face
+face_table-requires-clause-on_face g c =
     let hs = g.B.PairReader.shown c.args.reader.now in
     subst (AreOnFace c.args.face) (sym c.in_ok-held.ensures.pairs) (lie_on c.args.face hs)

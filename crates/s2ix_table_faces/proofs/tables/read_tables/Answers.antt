@@ -26,6 +26,15 @@ returns g c =
     (c.in_ok-read_table-5.ensures.pairs ∙ ap (held_on 4) same_4)
     (c.in_ok-read_table-6.ensures.pairs ∙ ap (held_on 5) same_5) in
     record {
-      over = (c.in_ok-read_table.ensures.over, (c.in_ok-read_table-2.ensures.over, (c.in_ok-read_table-3.ensures.over, (c.in_ok-read_table-4.ensures.over, (c.in_ok-read_table-5.ensures.over, (c.in_ok-read_table-6.ensures.over, tt))))));
-      pairs = all_parts hs (first ∷ second ∷ third ∷ fourth ∷ fifth ∷ sixth ∷ []) is parts;
+      over = (
+        c.in_ok-read_table.ensures.over,
+        (
+          c.in_ok-read_table-2.ensures.over,
+          (
+            c.in_ok-read_table-3.ensures.over,
+            (c.in_ok-read_table-4.ensures.over, (c.in_ok-read_table-5.ensures.over, (c.in_ok-read_table-6.ensures.over, tt))),
+          ),
+        ),
+      );
+      pairs = all_parts hs (first.value ∷ second.value ∷ third.value ∷ fourth.value ∷ fifth.value ∷ sixth.value ∷ []) is parts;
     }

@@ -1,6 +1,7 @@
 -- The tables of the faces before this one are those of what the reader shows, the others stand.
-use Rattle.std.proofs.Common.{◌≡◌, map}
-use Rattle.s2ix_table_faces.specs.Faces.{AreOverFaces}
+use Rattle.std.proofs.Common.{◌≡◌, ℕ, map}
+use Rattle.s2ix_bag_pairs.specs.Collection.{Collection}
+use Rattle.s2ix_table_faces.specs.Faces.{AreOverFaces, spans_of}
 use Rattle.s2ix_table_faces.specs.Joined.{held_in}
 use Rattle.s2ix_table_reading.specs.Faces.{held_on}
 use Rattle.s2ix_table_reading.specs.Reading.{two_searches}
@@ -9,7 +10,11 @@ use Rattle.s2ix_table_faces.proofs.tables.tables_after.Given as goal
 
 abbrev pub invariant-loop-face : goal.invariant-loop-face
 invariant-loop-face g l =
-    (map (λ t. t.held) l.after ≡ renewed l.face (λ face. held_on face (g.B.PairReader.shown l.fn.reader)) (λ face. held_on face (held_in l.tables)))
-    × AreReadBelow l.change (g.B.PairReader.shown l.fn.reader) (two_searches (g.B.PairReader.shown l.fn.reader)) l.face (g.B.PairReader.spent l.fn.reader) (g.B.PairReader.spent l.reader)
-    × (g.B.PairReader.shown l.reader ≡ g.B.PairReader.shown l.fn.reader)
-    × AreOverFaces 0 l.after
+    let shown = g.B.PairReader.shown l.fn.reader in
+    let searches = two_searches shown in
+    let own : ℕ → Collection = λ face. held_on face shown in
+    let old : ℕ → Collection = λ face. held_on face (held_in (spans_of l.table.tables)) in
+    (map (λ t. t.held) (spans_of l.after) ≡ renewed l.face own old)
+    × AreReadBelow l.change shown searches l.face (g.B.PairReader.spent l.fn.reader) (g.B.PairReader.spent l.reader)
+    × (g.B.PairReader.shown l.reader ≡ shown)
+    × AreOverFaces 0 (spans_of l.after)

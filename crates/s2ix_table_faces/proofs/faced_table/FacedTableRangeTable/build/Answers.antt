@@ -1,17 +1,14 @@
-use Rattle.std.proofs.Common.{◌∙◌, length, ap, arith}
+use Rattle.std.proofs.Common.{length, ap, arith, ◌∙◌}
+use Rattle.s2ix_table_faces.specs.Faces.{spans_of}
 use Rattle.s2ix_table_faces.specs.Joined.{held_in}
 use Rattle.s2ix_table_faces.proofs.faced_table.FacedTableRangeTable.build.Goals as goal
 
-pub invariant_of-result : goal.invariant_of-result
-invariant_of-result c =
-    let held = ap held_in c.together-tables.ensures.same ∙ c.in_ok-tables.ensures.pairs ∙ c.new-reader.ensures.shown in
+pub together-requires-clause-few : goal.together-requires-clause-few
+together-requires-clause-few c =
     let few = c.new-reader.result.few in
-    record {
-      rises = c.together-tables.ensures.rises;
-      few = let len = ap length held in let read = ap length c.new-reader.ensures.shown in omega (arith, few, read, len);
-      table = c.together-tables.ensures.table;
-      once = c.keeps_a_pair_once.ensures;
-    }
+    let len = ap length (c.in_ok-tables.ensures.pairs ∙ c.new-reader.ensures.shown) in
+    let read = ap length c.new-reader.ensures.shown in
+    omega (arith, few, read, len)
 
 pub returns : goal.returns
-returns c = ap held_in c.together-tables.ensures.same ∙ c.in_ok-tables.ensures.pairs ∙ c.new-reader.ensures.shown
+returns c = ap (λ tables. held_in (spans_of tables)) c.together.ensures ∙ c.in_ok-tables.ensures.pairs ∙ c.new-reader.ensures.shown

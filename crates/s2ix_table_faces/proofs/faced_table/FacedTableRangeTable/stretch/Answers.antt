@@ -1,5 +1,41 @@
-use Rattle.std.proofs.Common.{rules}
+use Rattle.std.proofs.Common.{◌≡◌, ◌<◌, ◌-◌, length, drop, get_or, sym, arith, rules, subst}
+use Rattle.s2ix_table_queries.specs.Stretches.{IsStretch}
+use Rattle.s2ix_table_faces.specs.Faces.{spans_of}
+use Rattle.s2ix_table_faces.specs.Joined.{joined_ranges}
+use Rattle.s2ix_table_faces.proofs.Counts.{behind_place}
+use Rattle.s2ix_table_faces.proofs.Stretches.{face_stretch, some_starts, rest_of}
 use Rattle.s2ix_table_faces.proofs.faced_table.FacedTableRangeTable.stretch.Goals as goal
 
+pub slice_bounds-result-count : goal.slice_bounds-result-count
+slice_bounds-result-count c =
+    let t = c.args.self.now in
+    let is = c.from-face.ensures in
+    let lt = c.requires in
+    some_starts _ t.seats t.count c.from-face.result c.span.result.now c.starts-starts.result.now t.seated.joined (omega arith)
+    c.span.ensures c.starts-starts.ensures
+
+pub slice_bounds-result-start : goal.slice_bounds-result-start
+slice_bounds-result-start c =
+    let t = c.args.self.now in
+    let is = c.from-face.ensures in
+    let lt = c.requires in
+    let some = some_starts _ t.seats t.count c.from-face.result c.span.result.now c.starts-starts.result.now t.seated.joined (omega arith)
+    c.span.ensures c.starts-starts.ensures in
+    search (rules, some)
+
 pub returns : goal.returns
-returns c = search rules
+returns c =
+    let t = c.args.self.now in
+    let is = c.from-face.ensures in
+    let lt = c.requires in
+    let within : c.from-face.result < 6 = omega arith in
+    let face = c.from-face.result in
+    let ranges = joined_ranges (spans_of t.tables) in
+    let starts = c.starts-starts.result.now in
+    let place = behind_place _ t.seats t.behind t.inner t.count face t.seated within in
+    let span = c.span.result.now in
+    let stretch = face_stretch _ t.seats t.count face span starts t.seated.joined within c.span.ensures c.starts-starts.ensures in
+    let count : c.saturating_sub.result ≡ length starts - 2 = c.saturating_sub.ensures in
+    subst (λ xs. IsStretch ranges (get_or t.behind face 0) c.saturating_sub.result xs) (sym (rest_of starts))
+    (subst (λ n. IsStretch ranges (get_or t.behind face 0) n (drop 1 starts)) (sym count)
+    (subst (λ n. IsStretch ranges n (length starts - 2) (drop 1 starts)) (sym place) stretch))
