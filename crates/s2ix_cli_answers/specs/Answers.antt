@@ -26,8 +26,13 @@ token_over side cell = canonical_token (neighbor_number side (path_of cell))
 
 -- the line of the cells over a cell's sides: down, right, up and left
 abbrev pub neighbors_line : CellId → List ℕ
-neighbors_line cell = concat (token_over 0 cell ∷ codes " " ∷ token_over 1 cell ∷ codes " " ∷ token_over 2 cell ∷ codes " " ∷ token_over 3 cell ∷ codes "\n" ∷ [])
+neighbors_line cell =
+    concat
+    (token_over 0 cell ∷ codes " " ∷ token_over 1 cell ∷ codes " " ∷ token_over 2 cell ∷ codes " " ∷ token_over 3 cell ∷ codes "\n" ∷ [])
 
 -- the line of a square: FACE I J LEVEL ORIENTATION
 abbrev pub square_line : FaceIj → List ℕ
-square_line s = concat (decimal s.face ∷ codes " " ∷ decimal s.i ∷ codes " " ∷ decimal s.j ∷ codes " " ∷ decimal s.level ∷ codes " " ∷ decimal s.orientation ∷ codes "\n" ∷ [])
+square_line s =
+    concat
+    (decimal s.face ∷ codes " " ∷ decimal s.i ∷ codes " " ∷ decimal s.j ∷ codes " " ∷ decimal s.level ∷ codes " "
+    ∷ decimal s.orientation ∷ codes "\n" ∷ [])

@@ -10,7 +10,7 @@ use s2ix_text_io::{Sink, WriteFault, put_together};
 /// Writes the line `no` with a name, which says why something was refused.
 pub fn write_no<K: Sink>(name: &str, sink: &mut K) -> Result<(), WriteFault>
     requires { CanCount (K.fault_count sink.old) }
-    ensures { Writes K.taken K.flush_mark K.fault_count sink.old sink.new result (no_line name.now) }
+    ensures { Writes K.Sink sink.old sink.new result (no_line name.now) }
 {
     put_together(sink, &[b"no ", name.as_bytes(), b"\n"])
 }
@@ -18,7 +18,7 @@ pub fn write_no<K: Sink>(name: &str, sink: &mut K) -> Result<(), WriteFault>
 /// Writes the line `ok` with a number.
 pub fn write_ok<K: Sink>(pairs: usize, sink: &mut K) -> Result<(), WriteFault>
     requires { CanCount (K.fault_count sink.old) }
-    ensures { Writes K.taken K.flush_mark K.fault_count sink.old sink.new result (ok_line pairs) }
+    ensures { Writes K.Sink sink.old sink.new result (ok_line pairs) }
 {
     let mut buffer = Buffer::new();
     let number = buffer.format(pairs);
@@ -28,7 +28,7 @@ pub fn write_ok<K: Sink>(pairs: usize, sink: &mut K) -> Result<(), WriteFault>
 /// Writes a cell's path on a line of its own.
 pub fn write_path<K: Sink>(cell: CellId, sink: &mut K) -> Result<(), WriteFault>
     requires { CanCount (K.fault_count sink.old) }
-    ensures { Writes K.taken K.flush_mark K.fault_count sink.old sink.new result (path_line cell) }
+    ensures { Writes K.Sink sink.old sink.new result (path_line cell) }
 {
     let path = cell.path();
     put_together(sink, &[path.as_bytes(), b"\n"])
@@ -37,7 +37,7 @@ pub fn write_path<K: Sink>(cell: CellId, sink: &mut K) -> Result<(), WriteFault>
 /// Writes the tokens of the cells over a cell's sides on one line: down, right, up and left.
 pub fn write_neighbors<K: Sink>(cell: CellId, sink: &mut K) -> Result<(), WriteFault>
     requires { CanCount (K.fault_count sink.old) }
-    ensures { Writes K.taken K.flush_mark K.fault_count sink.old sink.new result (neighbors_line cell) }
+    ensures { Writes K.Sink sink.old sink.new result (neighbors_line cell) }
 {
     let neighbors = edge_neighbors(cell);
     let down = neighbors[0].token();
@@ -62,7 +62,7 @@ pub fn write_neighbors<K: Sink>(cell: CellId, sink: &mut K) -> Result<(), WriteF
 /// Writes a square on one line: its face, its column and row, its level and its orientation.
 pub fn write_square<K: Sink>(square: FaceIj, sink: &mut K) -> Result<(), WriteFault>
     requires { CanCount (K.fault_count sink.old) }
-    ensures { Writes K.taken K.flush_mark K.fault_count sink.old sink.new result (square_line square) }
+    ensures { Writes K.Sink sink.old sink.new result (square_line square) }
 {
     let (mut face, mut i, mut j) = (Buffer::new(), Buffer::new(), Buffer::new());
     let (mut level, mut orientation) = (Buffer::new(), Buffer::new());

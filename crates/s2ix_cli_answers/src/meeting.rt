@@ -17,7 +17,7 @@ pub fn write_meeting<T: RangeTable, K: Sink>(
     sink: &mut K,
 ) -> Result<(), WriteFault>
     requires { CanCount (K.fault_count sink.old) }
-    ensures { Writes K.taken K.flush_mark K.fault_count sink.old sink.new result (list_text held_line (meeting_of target.now (T.pairs table.now))) }
+    ensures { Writes K.Sink sink.old sink.new result (list_text held_line (meeting_of target.now (T.pairs table.now))) }
 {
     let mut meter = Meter::new(table);
     let mut meeting = Meeting::new(&mut meter, target);

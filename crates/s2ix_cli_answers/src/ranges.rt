@@ -22,7 +22,7 @@ pub fn write_contents<T: RangeTable, K: Sink>(
 ) -> Result<(), WriteFault>
     requires counts { CanCount (K.fault_count sink.old) }
     requires leaf { level_of leaf ≡ 30 }
-    ensures { Writes K.taken K.flush_mark K.fault_count sink.old sink.new result (list_text held_line (contents_at (raw_of leaf) (T.pairs table.now))) }
+    ensures { Writes K.Sink sink.old sink.new result (list_text held_line (contents_at (raw_of leaf) (T.pairs table.now))) }
 {
     let mut count = 0;
     for held in chain_at(table, leaf) {
@@ -36,7 +36,7 @@ pub fn write_contents<T: RangeTable, K: Sink>(
 #[tactic(auto, unfolding(crate::specs::Ranges::bounds_text))]
 fn write_bounds<K: Sink>(range: RangeRow, sink: &mut K) -> Result<(), WriteFault>
     requires { CanCount (K.fault_count sink.old) }
-    ensures { Writes K.taken K.flush_mark K.fault_count sink.old sink.new result (bounds_text range.start range.limit) }
+    ensures { Writes K.Sink sink.old sink.new result (bounds_text range.start range.limit) }
 {
     let start = sixteen_digits(range.start);
     let limit = sixteen_digits(range.limit);
@@ -51,7 +51,7 @@ fn write_range_pairs<T: RangeTable, K: Sink>(
 ) -> Result<(), WriteFault>
     requires counts { CanCount (K.fault_count sink.old) }
     requires within { k < length (T.ranges table.now) }
-    ensures { Writes K.taken K.flush_mark K.fault_count sink.old sink.new result (flat_map spaced_pair (range_at (T.ranges table.now) k).contents) }
+    ensures { Writes K.Sink sink.old sink.new result (flat_map spaced_pair (range_at (T.ranges table.now) k).contents) }
 {
     for held in contents(table, k) {
         write_pair_between(b" ", held, b"", sink)?;
@@ -63,7 +63,7 @@ fn write_range_pairs<T: RangeTable, K: Sink>(
 fn write_range<T: RangeTable, K: Sink>(table: &T, k: usize, sink: &mut K) -> Result<(), WriteFault>
     requires counts { CanCount (K.fault_count sink.old) }
     requires within { k < length (T.ranges table.now) }
-    ensures { Writes K.taken K.flush_mark K.fault_count sink.old sink.new result (range_line (range_at (T.ranges table.now) k)) }
+    ensures { Writes K.Sink sink.old sink.new result (range_line (range_at (T.ranges table.now) k)) }
 {
     write_bounds(table.range(k), sink)?;
     write_range_pairs(table, k, sink)?;
@@ -74,7 +74,7 @@ fn write_range<T: RangeTable, K: Sink>(table: &T, k: usize, sink: &mut K) -> Res
 /// its pairs, innermost cell first, the labels of one cell rising. O(n + m) for n ranges with m pairs in all.
 pub fn write_ranges<T: RangeTable, K: Sink>(table: &T, sink: &mut K) -> Result<(), WriteFault>
     requires { CanCount (K.fault_count sink.old) }
-    ensures { Writes K.taken K.flush_mark K.fault_count sink.old sink.new result (list_text range_line (T.ranges table.now)) }
+    ensures { Writes K.Sink sink.old sink.new result (list_text range_line (T.ranges table.now)) }
 {
     for k in 0..table.range_count() {
         write_range(table, k, sink)?;

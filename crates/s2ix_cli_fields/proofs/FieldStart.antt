@@ -32,14 +32,17 @@ begun_step hay true off end c b spans is some later =
       begins = part_begins b hay some;
     }
 begun_step hay false off end c b spans is some later =
-    record { field = later.field; rest = later.rest; are = fields-more is_whitespace hay (off, end, c) spans 0 b is ∙ later.are; begins = later.begins }
+    record { field = later.field; rest = later.rest; are = fields-more is_whitespace hay (off, end, c) spans 0 b is
+    ∙ later.are; begins = later.begins }
 
 begun_all : (hay : List ℕ) (ps : List Decoded) (off b : ℕ) → 0 < off → 0 < b
     → BeginsWith hay (fields_acc is_whitespace hay (Some (0, b)) (spans_from off ps))
 unfolding spans_from
-begun_all hay [] off b some some_b = record { field = part 0 b hay; rest = []; are = fields-last is_whitespace hay 0 b; begins = part_begins b hay some_b }
+begun_all hay [] off b some some_b =
+    record { field = part 0 b hay; rest = []; are = fields-last is_whitespace hay 0 b; begins = part_begins b hay some_b }
 begun_all hay (p ∷ ps) off b some some_b =
-    begun_step hay (is_whitespace (or_replacement p.char)) off (off + p.size) (or_replacement p.char) b (spans_from (off + p.size) ps) refl some_b
+    begun_step hay (is_whitespace (or_replacement p.char)) off (off + p.size) (or_replacement p.char) b (spans_from (off + p.size) ps) refl
+    some_b
     (begun_all hay ps (off + p.size) (off + p.size) (omega arith) (omega arith))
 
 pub fields_of-begins : (byte : ℕ) (line : List ℕ) → is_plain byte ≡ true → BeginsWith (byte ∷ line) (fields_of (byte ∷ line))

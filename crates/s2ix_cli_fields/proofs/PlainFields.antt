@@ -17,14 +17,16 @@ use Rattle.s2ix_cli_fields.specs.Fields.{fields_of, is_blank, is_plain}
 
 -- a byte below 128 is a piece of its own
 decoded-low : (byte : ℕ) (rest : List ℕ) → byte < 128 → decoded (byte ∷ rest) ≡ good byte 1
-decoded-low byte rest low = value-1 (length (byte ∷ rest)) byte (slice_index rest 0) (slice_index rest 1) (slice_index rest 2) (omega arith, low)
+decoded-low byte rest low =
+    value-1 (length (byte ∷ rest)) byte (slice_index rest 0) (slice_index rest 1) (slice_index rest 2) (omega arith, low)
 
 -- and its span comes first
 pub spans-low : (byte : ℕ) (rest : List ℕ) (off : ℕ) → byte < 128
     → spans_from off (pieces (byte ∷ rest)) ≡ (off, off + 1, byte) ∷ spans_from (off + 1) (pieces rest)
 spans-low byte rest off low =
     spans-first (byte ∷ rest) off (omega arith)
-    ∙ ap (λ (p : Decoded). (off, off + p.size, or_replacement p.char) ∷ spans_from (off + p.size) (pieces (drop p.size (byte ∷ rest)))) (decoded-low byte rest low)
+    ∙ ap (λ (p : Decoded). (off, off + p.size, or_replacement p.char) ∷ spans_from (off + p.size) (pieces (drop p.size (byte ∷ rest))))
+    (decoded-low byte rest low)
 
 -- ---- one byte more in front
 
@@ -52,7 +54,8 @@ module _ (t : ℕ → Bool) (byte : ℕ) (hay : List ℕ) where
   )
   same_step false off end c moved spans is same = (
     fields-start t (byte ∷ hay) (off + 1, end + 1, c) moved is ∙ same.1 off end ∙ sym (fields-start t hay (off, end, c) spans is),
-    λ a b. fields-more t (byte ∷ hay) (off + 1, end + 1, c) moved (a + 1) (b + 1) is ∙ same.1 a end ∙ sym (fields-more t hay (off, end, c) spans a b is),
+    λ a b. fields-more t (byte ∷ hay) (off + 1, end + 1, c) moved (a + 1) (b + 1) is ∙ same.1 a end
+      ∙ sym (fields-more t hay (off, end, c) spans a b is),
   )
 
   same_all : (ps : List Decoded) (off : ℕ) → AreSame (spans_from (off + 1) ps) (spans_from off ps)
@@ -64,11 +67,13 @@ module _ (t : ℕ → Bool) (byte : ℕ) (hay : List ℕ) where
   same_all (p ∷ ps) off =
       let place : off + p.size + 1 ≡ off + 1 + p.size = omega arith in
       let later = same_step _ off (off + p.size) (or_replacement p.char) _ _ refl (same_all ps (off + p.size)) in
-      subst (λ end. AreSame ((off + 1, end, or_replacement p.char) ∷ spans_from end ps) ((off, off + p.size, or_replacement p.char) ∷ spans_from (off + p.size) ps)) place later
+      subst (λ end. AreSame ((off + 1, end, or_replacement p.char) ∷ spans_from end ps)
+      ((off, off + p.size, or_replacement p.char) ∷ spans_from (off + p.size) ps)) place later
 
 -- what is left of a line behind some bytes of it
 fields-behind : (front hay : List ℕ) (ps : List Decoded) (off : ℕ)
-    → fields_acc is_whitespace (front ++ hay) None (spans_from (off + length front) ps) ≡ fields_acc is_whitespace hay None (spans_from off ps)
+    → fields_acc is_whitespace (front ++ hay) None (spans_from (off + length front) ps)
+    ≡ fields_acc is_whitespace hay None (spans_from off ps)
 fields-behind [] hay ps off = let place : off + 0 ≡ off = omega arith in ap (λ n. fields_acc is_whitespace hay None (spans_from n ps)) place
 fields-behind (byte ∷ front) hay ps off =
     let place : off + length (byte ∷ front) ≡ off + length front + 1 = omega arith in
@@ -140,7 +145,8 @@ first_field (byte ∷ word) [] some all ends =
     ∙ ap (fields_acc is_whitespace (byte ∷ (word ++ [])) (Some (0, length (byte ∷ word)))) (spans-nil [] (length (byte ∷ word)) refl)
     ∙ fields-last is_whitespace (byte ∷ (word ++ [])) 0 (length (byte ∷ word))
     ∙ ap (λ field. field ∷ []) (part-front (byte ∷ word) [])
-    ∙ ap (λ fields. (byte ∷ word) ∷ fields) (sym (ap (fields_acc is_whitespace [] None) (spans-nil [] 0 refl) ∙ fields-nil is_whitespace []))
+    ∙ ap (λ fields. (byte ∷ word) ∷ fields)
+    (sym (ap (fields_acc is_whitespace [] None) (spans-nil [] 0 refl) ∙ fields-nil is_whitespace []))
 first_field (byte ∷ word) (next ∷ rest) some all ends =
     let facts = blank_is next (ends (omega arith)) in
     let hay = byte ∷ (word ++ next ∷ rest) in
@@ -165,7 +171,10 @@ fields_of-cut text end some inside all ends =
     let long : length (take end text) ≡ end = length-take-le end text inside in
     let left = length-drop end text in
     let add_zero : end + 0 ≡ end = omega arith in
-    let cut = first_field (take end text) (drop end text) (omega arith) all (λ more. subst (λ byte. is_blank byte ≡ true) (sym (get_or-drop end text 0 0 ∙ ap (λ i. get_or text i 0) (add_zero))) (ends (omega arith))) in
+    let cut =
+        first_field (take end text) (drop end text) (omega arith) all
+        (λ more. subst (λ byte. is_blank byte ≡ true) (sym (get_or-drop end text 0 0 ∙ ap (λ i. get_or text i 0) (add_zero)))
+        (ends (omega arith))) in
     subst (λ whole. fields_of whole ≡ take end text ∷ fields_of (drop end text)) (take-append-drop end text) cut
 
 -- a text with no byte has no field

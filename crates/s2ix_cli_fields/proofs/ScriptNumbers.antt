@@ -21,7 +21,8 @@ script_number-none text out = grind (arith, nat_tests)
 pub script_number-no_digit : (text : List ℕ) (k : ℕ) → k < length text → is_ascii_digit (get_or text k 0) ≡ false
     → script_number text ≡ None
 unfolding script_number
-script_number-no_digit text k inside other = let some : list_all is_ascii_digit text ≡ false = list_all_at is_ascii_digit text k 0 inside other in grind (arith, nat_tests)
+script_number-no_digit text k inside other =
+    let some : list_all is_ascii_digit text ≡ false = list_all_at is_ascii_digit text k 0 inside other in grind (arith, nat_tests)
 
 -- one to ten digits are a number
 pub script_number-some : (text : List ℕ) → 0 < length text → length text ≤ 10 → list_all is_ascii_digit text ≡ true

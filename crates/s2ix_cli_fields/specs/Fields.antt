@@ -39,7 +39,8 @@ HasNoWhiteSpace text = All (λ c. is_whitespace c ≡ false) (lossy_chars text)
 abbrev pub StandApart : ℕ → List (List ℕ) → List ℕ → Type 0
 StandApart least [] line = IsBlank line
 StandApart least (field ∷ fields) line =
-    (before : List ℕ) × (behind : List ℕ) × (line ≡ before ++ (field ++ behind)) × IsBlank before × (least ≤ length before) × StandApart 1 fields behind
+    (before : List ℕ) × (behind : List ℕ) × (line ≡ before ++ (field ++ behind)) × IsBlank before × (least ≤ length before)
+    × StandApart 1 fields behind
 
 -- the same, with white space before the first or none
 abbrev pub StandInOrder : List (List ℕ) → List ℕ → Type 0

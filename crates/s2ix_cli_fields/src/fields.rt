@@ -5,7 +5,7 @@ ghost use Rattle.std.specs.Prelude.{◌≡◌, ◌≤◌, ◌∷◌, ℕ, List, 
 ghost use Rattle.std.specs.List.{list_all};
 ghost use Rattle.std.specs.Iterator.{item_count};
 ghost use Rattle.bstr.specs.Text.{TakesFirstRef};
-ghost use Rattle.s2ix_cli_fields.specs.Fields.{fields_left, fields_of, is_blank as is_blank_byte, is_plain as is_plain_byte};
+ghost use Rattle.s2ix_cli_fields.specs.Fields.{fields_left, fields_of, is_blank, is_plain};
 
 use bstr::ByteSlice;
 use std::alloc::AllocError;
@@ -112,7 +112,7 @@ fn cut_plain(text: &[u8]) -> Option<(&[u8], &[u8])>
 #[inline(never)]
 fn plain_len(text: &[u8]) -> usize
     ensures within { result ≤ length text.now }
-    ensures plain { list_all is_plain_byte (take result text.now) ≡ true }
+    ensures plain { list_all is_plain (take result text.now) ≡ true }
 {
     let mut end = 0;
     while text.len() - end >= 16 && are_plain(&text[end..end + 16]) {
@@ -129,9 +129,9 @@ fn plain_len(text: &[u8]) -> usize
 // The place behind one more block of plain bytes, or the same place where no such block is there.
 fn behind_block(text: &[u8], end: usize, size: usize) -> usize
     requires inside { end ≤ length text.now }
-    requires front { list_all is_plain_byte (take end text.now) ≡ true }
+    requires front { list_all is_plain (take end text.now) ≡ true }
     ensures within { result ≤ length text.now }
-    ensures plain { list_all is_plain_byte (take result text.now) ≡ true }
+    ensures plain { list_all is_plain (take result text.now) ≡ true }
 {
     if text.len() - end >= size && are_plain(&text[end..end + size]) {
         end + size
@@ -142,7 +142,7 @@ fn behind_block(text: &[u8], end: usize, size: usize) -> usize
 
 // Whether a block of bytes is of the plain bytes behind the space. Each is looked at, so that the compiler looks at all at once.
 fn are_plain(block: &[u8]) -> bool
-    ensures { result ≡ true → list_all is_plain_byte block.now ≡ true }
+    ensures { result ≡ true → list_all is_plain block.now ≡ true }
 {
     let mut all = true;
     for byte in block {
@@ -153,14 +153,14 @@ fn are_plain(block: &[u8]) -> bool
 
 // Whether a byte belongs to a field, whatever stands around it: it is below 128, and no white space.
 fn is_plain(byte: u8) -> bool
-    ensures { result ≡ is_plain_byte byte }
+    ensures { result ≡ is_plain byte }
 {
     byte < 128 && !is_blank(byte)
 }
 
 // Whether a byte below 128 is white space.
 fn is_blank(byte: u8) -> bool
-    ensures { result ≡ is_blank_byte byte }
+    ensures { result ≡ is_blank byte }
 {
     byte == b' ' || byte.wrapping_sub(b'\t') < 5
 }

@@ -1,6 +1,6 @@
 //! The numbers and labels that fields write.
 ghost use Rattle.std.specs.Prelude.{◌≡◌};
-ghost use Rattle.s2ix_cli_fields.specs.Fields.{change_number_spelled as change_number_that, copies_spelled as copies_that, label_spelled as label_that, level_spelled as level_that, script_number as number_that};
+ghost use Rattle.s2ix_cli_fields.specs.Fields.{change_number_spelled, copies_spelled, label_spelled, level_spelled, script_number};
 
 use s2ix_bag_pairs::Label;
 
@@ -9,7 +9,7 @@ const MOST_DIGITS: usize = 10;
 
 // The number that 1 to 10 decimal digits write; leading zeros are accepted.
 fn script_number(text: &[u8]) -> Option<u64>
-    ensures { result ≡ number_that text.now }
+    ensures { result ≡ script_number text.now }
 {
     if text.is_empty() || text.len() > MOST_DIGITS {
         return None;
@@ -26,7 +26,7 @@ fn script_number(text: &[u8]) -> Option<u64>
 
 /// The label that a field names: 1 to 10 decimal digits of at most 2147483647, leading zeros accepted.
 pub fn label_spelled(text: &[u8]) -> Option<Label>
-    ensures { result ≡ label_that text.now }
+    ensures { result ≡ label_spelled text.now }
 {
     let value = script_number(text)?;
     Label::new(u32::try_from(value).ok()?)
@@ -34,7 +34,7 @@ pub fn label_spelled(text: &[u8]) -> Option<Label>
 
 /// The number of copies that a field names, from 1 to 4294967295, in 1 to 10 decimal digits.
 pub fn copies_spelled(text: &[u8]) -> Option<u32>
-    ensures { result ≡ copies_that text.now }
+    ensures { result ≡ copies_spelled text.now }
 {
     match script_number(text)? {
         copies @ 1..=4294967295 => Some(copies as u32),
@@ -44,7 +44,7 @@ pub fn copies_spelled(text: &[u8]) -> Option<u32>
 
 /// The level that a field names, from 0 to 30, in 1 to 10 decimal digits.
 pub fn level_spelled(text: &[u8]) -> Option<u8>
-    ensures { result ≡ level_that text.now }
+    ensures { result ≡ level_spelled text.now }
 {
     match script_number(text)? {
         level @ 0..=30 => Some(level as u8),
@@ -54,7 +54,7 @@ pub fn level_spelled(text: &[u8]) -> Option<u8>
 
 /// The number of a change that a field names, from 1 to 100000, in 1 to 10 decimal digits.
 pub fn change_number_spelled(text: &[u8]) -> Option<u32>
-    ensures { result ≡ change_number_that text.now }
+    ensures { result ≡ change_number_spelled text.now }
 {
     match script_number(text)? {
         number @ 1..=100000 => Some(number as u32),

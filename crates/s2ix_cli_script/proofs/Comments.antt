@@ -11,4 +11,5 @@ pub comment_means : (line : List ℕ) → slice_index line 0 == 35 ≡ true → 
 comment_means [] is = absurd (true≢false (sym is))
 comment_means (byte ∷ line) is =
     let first = fields_of-begins byte line (ap is_plain (eqb-true byte 35 is)) in
-    ap meaning_of_fields first.are ∙ ap (λ v. if v then Ok None else map_ok Some (asked_by first.field first.rest)) (ap (λ b. b == 35) first.begins ∙ is)
+    ap meaning_of_fields first.are
+    ∙ ap (λ v. if v then Ok None else map_ok Some (asked_by first.field first.rest)) (ap (λ b. b == 35) first.begins ∙ is)

@@ -39,15 +39,18 @@ one_instruction edits unions (Labels cs) (Labels ds) h = ap (λ (cells : List Ce
 one_instruction edits unions (Labels cs) b h = cc
 one_instruction edits unions (Region l) (Region m) h = ap (λ (x : Label). Region x) (same_label l m (grind (arith, nat_tests)))
 one_instruction edits unions (Region l) b h = cc
-one_instruction edits unions (Common l m) (Common k n) h = ap₂ (λ (x y : Label). Common x y) (same_label l k (grind (arith, nat_tests))) (same_label m n (grind (arith, nat_tests)))
+one_instruction edits unions (Common l m) (Common k n) h =
+    ap₂ (λ (x y : Label). Common x y) (same_label l k (grind (arith, nat_tests))) (same_label m n (grind (arith, nat_tests)))
 one_instruction edits unions (Common l m) b h = cc
-one_instruction edits unions (Only l m) (Only k n) h = ap₂ (λ (x y : Label). Only x y) (same_label l k (grind (arith, nat_tests))) (same_label m n (grind (arith, nat_tests)))
+one_instruction edits unions (Only l m) (Only k n) h =
+    ap₂ (λ (x y : Label). Only x y) (same_label l k (grind (arith, nat_tests))) (same_label m n (grind (arith, nat_tests)))
 one_instruction edits unions (Only l m) b h = cc
 one_instruction edits unions Ranges Ranges h = refl
 one_instruction edits unions Ranges b h = cc
 one_instruction edits unions (Path c) (Path d) h = ap (λ (cell : CellId). Path cell) (same_cell c d (grind (arith, nat_tests)))
 one_instruction edits unions (Path c) b h = cc
-one_instruction edits unions (Neighbors c) (Neighbors d) h = ap (λ (cell : CellId). Neighbors cell) (same_cell c d (grind (arith, nat_tests)))
+one_instruction edits unions (Neighbors c) (Neighbors d) h =
+    ap (λ (cell : CellId). Neighbors cell) (same_cell c d (grind (arith, nat_tests)))
 one_instruction edits unions (Neighbors c) b h = cc
 one_instruction edits unions (Face c) (Face d) h = ap (λ (cell : CellId). Face cell) (same_cell c d (grind (arith, nat_tests)))
 one_instruction edits unions (Face c) b h = cc

@@ -1,7 +1,7 @@
 //! The cells that the fields of a line name, as their normal union. Memory is taken here alone, and only where each of these fields
 //! names a cell.
 ghost use Rattle.std.specs.Prelude.{◌≡◌, Ok, ◌∷◌, true, MatchResult};
-ghost use Rattle.s2ix_cli_script.specs.Named.{IsFault, Means, add_union_named as add_union_of, cells_named, is_add_union, union_named as union_in, union_of as union_that};
+ghost use Rattle.s2ix_cli_script.specs.Named.{IsFault, Means, add_union_named, cells_named, is_add_union, union_named, union_of};
 
 use crate::fields::{cell_from_field, label_from_field};
 use crate::line_fault::{LineError, LineFault};
@@ -17,7 +17,7 @@ use std::alloc::Global;
 /// was wanted. O(n) for n bytes, and what it takes to normalise the cells.
 #[tactic(auto, using(crate::proofs::WantedFields::wanting))]
 pub fn add_union_named(alloc: Global, mut fields: Fields<'_>) -> Result<Edit, LineError>
-    ensures { Means is_add_union result (add_union_of fields.entry) }
+    ensures { Means is_add_union result (add_union_named fields.entry) }
 {
     let (Some(label), Some(first)) = (fields.next(), fields.next()) else {
         return Err(LineError::Fault(LineFault::BadArguments));
@@ -32,7 +32,7 @@ pub fn add_union_named(alloc: Global, mut fields: Fields<'_>) -> Result<Edit, Li
 /// Errors, the first that applies: `BadArguments` for no field, `BadToken`; `OutOfMemory` where room for the cells was wanted. O(n) for n
 /// bytes, and what it takes to normalise the cells.
 pub fn union_named(alloc: Global, mut fields: Fields<'_>) -> Result<CellUnion, LineError>
-    ensures { Means (λ _. true) result (union_in fields.entry) }
+    ensures { Means (λ _. true) result (union_named fields.entry) }
 {
     let Some(token) = fields.next() else {
         return Err(LineError::Fault(LineFault::BadArguments));
@@ -43,7 +43,7 @@ pub fn union_named(alloc: Global, mut fields: Fields<'_>) -> Result<CellUnion, L
 // The normal union of the cells that the fields TOKEN.. name, the first of them and the rest.
 #[tactic(auto, using(crate::proofs::WantedFields::wanting))]
 fn union_of(alloc: Global, first: &[u8], rest: Fields<'_>) -> Result<CellUnion, LineError>
-    ensures { Means (λ _. true) result (union_that (first.now ∷ rest.entry)) }
+    ensures { Means (λ _. true) result (union_of (first.now ∷ rest.entry)) }
 {
     let cells = read_cells(alloc, first, rest)?;
     Ok(CellUnion::normalise(alloc, &cells)?)

@@ -1,6 +1,6 @@
 //! The edits that fields name, but for that of a union of cells.
 ghost use Rattle.std.specs.Prelude.{◌≡◌};
-ghost use Rattle.s2ix_cli_script.specs.Named.{drop_named as drop_of, grow_named as grow_of, normal_named as normal_of, relabel_named as relabel_of, revert_named as revert_of};
+ghost use Rattle.s2ix_cli_script.specs.Named.{drop_named, grow_named, normal_named, relabel_named, revert_named};
 
 use crate::fields::{label_from_field, label_named, labels_named, one_field, two_fields};
 use crate::line_fault::LineFault;
@@ -11,7 +11,7 @@ use s2ix_edit_plan::Edit;
 ///
 /// Errors, the first that applies: `BadArguments` for another number of fields, `BadLabel`.
 pub fn drop_named(fields: &mut Fields<'_>) -> Result<Edit, LineFault>
-    ensures { result ≡ drop_of fields.old }
+    ensures { result ≡ drop_named fields.old }
 {
     let label = label_named(fields)?;
     Ok(Edit::DropLabel { label })
@@ -21,7 +21,7 @@ pub fn drop_named(fields: &mut Fields<'_>) -> Result<Edit, LineFault>
 ///
 /// Errors, the first that applies: `BadArguments` for another number of fields, `BadLabel`.
 pub fn relabel_named(fields: &mut Fields<'_>) -> Result<Edit, LineFault>
-    ensures { result ≡ relabel_of fields.old }
+    ensures { result ≡ relabel_named fields.old }
 {
     let (source, target) = labels_named(fields)?;
     Ok(Edit::Relabel { source, target })
@@ -31,7 +31,7 @@ pub fn relabel_named(fields: &mut Fields<'_>) -> Result<Edit, LineFault>
 ///
 /// Errors, the first that applies: `BadArguments` for another number of fields, `BadLabel`, `BadLevel`.
 pub fn grow_named(fields: &mut Fields<'_>) -> Result<Edit, LineFault>
-    ensures { result ≡ grow_of fields.old }
+    ensures { result ≡ grow_named fields.old }
 {
     let (label, level) = two_fields(fields)?;
     let label = label_from_field(label)?;
@@ -43,7 +43,7 @@ pub fn grow_named(fields: &mut Fields<'_>) -> Result<Edit, LineFault>
 ///
 /// Errors, the first that applies: `BadArguments` for another number of fields, `BadLabel`.
 pub fn normal_named(fields: &mut Fields<'_>) -> Result<Edit, LineFault>
-    ensures { result ≡ normal_of fields.old }
+    ensures { result ≡ normal_named fields.old }
 {
     let label = label_named(fields)?;
     Ok(Edit::Normalise { label })
@@ -53,7 +53,7 @@ pub fn normal_named(fields: &mut Fields<'_>) -> Result<Edit, LineFault>
 ///
 /// Errors, the first that applies: `BadArguments` for another number of fields, `BadNumber`.
 pub fn revert_named(fields: &mut Fields<'_>) -> Result<Edit, LineFault>
-    ensures { result ≡ revert_of fields.old }
+    ensures { result ≡ revert_named fields.old }
 {
     let number = change_number_spelled(one_field(fields)?).ok_or(LineFault::BadNumber)?;
     Ok(Edit::Revert { number })

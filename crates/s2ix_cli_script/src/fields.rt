@@ -1,8 +1,8 @@
 //! What the fields behind a word name.
 ghost use Rattle.std.specs.Prelude.{◌≡◌, Ok, Err, MatchResult};
 ghost use Rattle.s2id_core.specs.Spelled.{cell_spelled};
-ghost use Rattle.s2ix_cli_fields.specs.Fields.{label_spelled as label_of_field};
-ghost use Rattle.s2ix_cli_script.specs.Named.{cell_named as cell_of, cell_with, label_named as label_of, label_with, labels_named as labels_of, one_field as one_of, pair_named as pair_of, two_fields as two_of};
+ghost use Rattle.s2ix_cli_fields.specs.Fields.{label_spelled};
+ghost use Rattle.s2ix_cli_script.specs.Named.{cell_named, cell_with, label_named, label_with, labels_named, one_field, pair_named, two_fields};
 
 use crate::line_fault::LineFault;
 use s2id_core::CellId;
@@ -11,7 +11,7 @@ use s2ix_cli_fields::{Fields, copies_spelled, label_spelled};
 
 // The one field that there is.
 pub(crate) fn one_field<'a>(fields: &mut Fields<'a>) -> Result<&'a [u8], LineFault>
-    ensures { MatchResult result (λ field. one_of fields.old ≡ Ok field.now) (λ fault. one_of fields.old ≡ Err fault) }
+    ensures { MatchResult result (λ field. one_field fields.old ≡ Ok field.now) (λ fault. one_field fields.old ≡ Err fault) }
 {
     match (fields.next(), fields.next()) {
         (Some(field), None) => Ok(field),
@@ -21,7 +21,9 @@ pub(crate) fn one_field<'a>(fields: &mut Fields<'a>) -> Result<&'a [u8], LineFau
 
 // The two fields that there are.
 pub(crate) fn two_fields<'a>(fields: &mut Fields<'a>) -> Result<(&'a [u8], &'a [u8]), LineFault>
-    ensures { MatchResult result (λ both. two_of fields.old ≡ Ok (both.0.now, both.1.now)) (λ fault. two_of fields.old ≡ Err fault) }
+    ensures { MatchResult result
+        (λ both. two_fields fields.old ≡ Ok (both.0.now, both.1.now))
+        (λ fault. two_fields fields.old ≡ Err fault) }
 {
     match (fields.next(), fields.next(), fields.next()) {
         (Some(first), Some(second), None) => Ok((first, second)),
@@ -38,7 +40,7 @@ pub(crate) fn cell_from_field(field: &[u8]) -> Result<CellId, LineFault>
 
 // The label that a field names.
 pub(crate) fn label_from_field(field: &[u8]) -> Result<Label, LineFault>
-    ensures { result ≡ label_with (label_of_field field.now) }
+    ensures { result ≡ label_with (label_spelled field.now) }
 {
     label_spelled(field).ok_or(LineFault::BadLabel)
 }
@@ -47,7 +49,7 @@ pub(crate) fn label_from_field(field: &[u8]) -> Result<Label, LineFault>
 ///
 /// Errors, the first that applies: `BadArguments` for another number of fields, `BadToken`.
 pub fn cell_named(fields: &mut Fields<'_>) -> Result<CellId, LineFault>
-    ensures { result ≡ cell_of fields.old }
+    ensures { result ≡ cell_named fields.old }
 {
     cell_from_field(one_field(fields)?)
 }
@@ -56,7 +58,7 @@ pub fn cell_named(fields: &mut Fields<'_>) -> Result<CellId, LineFault>
 ///
 /// Errors, the first that applies: `BadArguments` for another number of fields, `BadLabel`.
 pub fn label_named(fields: &mut Fields<'_>) -> Result<Label, LineFault>
-    ensures { result ≡ label_of fields.old }
+    ensures { result ≡ label_named fields.old }
 {
     label_from_field(one_field(fields)?)
 }
@@ -65,7 +67,7 @@ pub fn label_named(fields: &mut Fields<'_>) -> Result<Label, LineFault>
 ///
 /// Errors, the first that applies: `BadArguments` for another number of fields, `BadLabel`.
 pub fn labels_named(fields: &mut Fields<'_>) -> Result<(Label, Label), LineFault>
-    ensures { result ≡ labels_of fields.old }
+    ensures { result ≡ labels_named fields.old }
 {
     let (first, second) = two_fields(fields)?;
     Ok((label_from_field(first)?, label_from_field(second)?))
@@ -75,7 +77,7 @@ pub fn labels_named(fields: &mut Fields<'_>) -> Result<(Label, Label), LineFault
 ///
 /// Errors, the first that applies: `BadArguments` for another number of fields, `BadToken`, `BadLabel`, `BadCount`.
 pub fn pair_named(fields: &mut Fields<'_>) -> Result<(Pair, u32), LineFault>
-    ensures { result ≡ pair_of fields.old }
+    ensures { result ≡ pair_named fields.old }
 {
     let (Some(token), Some(label)) = (fields.next(), fields.next()) else {
         return Err(LineFault::BadArguments);

@@ -1,9 +1,6 @@
 ghost use Rattle.std.specs.Prelude.{◌≡◌};
-ghost use Rattle.s2ix_cli_script.specs.declared.line_fault.LineError.TheVariants.{Fault, OutOfMemory as Wanting};
-ghost use Rattle.s2ix_cli_script.specs.declared.line_fault.LineFault.TheVariants.{BadToken};
 
 use s2id_core::{OutOfMemory, TokenError};
-use std::alloc::{AllocError, AllocFailed};
 use thiserror::Error;
 
 /// What is wrong with a line: the first thing that is, of its length, its word, the number of its further fields, and then each of these
@@ -37,6 +34,8 @@ pub enum LineFault {
 }
 
 impl From<TokenError> for LineFault {
+    ghost use Rattle.s2ix_cli_script.specs.declared.line_fault.LineFault.TheVariants.{BadToken};
+
     ghost from_gives = { λ _ fault. fault ≡ BadToken };
 
     fn from(_: TokenError) -> LineFault {
@@ -56,6 +55,8 @@ pub enum LineError {
 }
 
 impl From<LineFault> for LineError {
+    ghost use Rattle.s2ix_cli_script.specs.declared.line_fault.LineError.TheVariants.{Fault};
+
     ghost from_gives = { λ fault error. error ≡ Fault fault };
 
     fn from(fault: LineFault) -> LineError {
@@ -64,25 +65,11 @@ impl From<LineFault> for LineError {
 }
 
 impl From<OutOfMemory> for LineError {
-    ghost from_gives = { λ _ error. error ≡ Wanting };
+    ghost use Rattle.s2ix_cli_script.specs.declared.line_fault.LineError.TheVariants.{OutOfMemory};
+
+    ghost from_gives = { λ _ error. error ≡ OutOfMemory };
 
     fn from(_: OutOfMemory) -> LineError {
-        LineError::OutOfMemory
-    }
-}
-
-impl From<AllocError> for LineError {
-    ghost from_gives = { λ _ error. error ≡ Wanting };
-
-    fn from(_: AllocError) -> LineError {
-        LineError::OutOfMemory
-    }
-}
-
-impl<T: Drop> From<AllocFailed<T>> for LineError {
-    ghost from_gives = { λ _ error. error ≡ Wanting };
-
-    fn from(_: AllocFailed<T>) -> LineError {
         LineError::OutOfMemory
     }
 }

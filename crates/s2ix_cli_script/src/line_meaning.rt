@@ -1,7 +1,7 @@
 //! What a line of a script asks for.
 ghost use Rattle.std.specs.Prelude.{◌≡◌, ◌==◌, slice_index};
 ghost use Rattle.s2ix_cli_script.specs.Named.{Means};
-ghost use Rattle.s2ix_cli_script.specs.Meaning.{asks_on_union, meaning_of, meaning_of_fields as meaning_by_fields};
+ghost use Rattle.s2ix_cli_script.specs.Meaning.{asks_on_union, meaning_of, meaning_of_fields};
 
 use crate::instruction::Instruction;
 use crate::line_fault::{LineError, LineFault};
@@ -38,7 +38,7 @@ fn meaning_of_fields(
     alloc: Global,
     mut fields: Fields<'_>,
 ) -> Result<Option<Instruction>, LineError>
-    ensures { Means asks_on_union result (meaning_by_fields fields.entry) }
+    ensures { Means asks_on_union result (meaning_of_fields fields.entry) }
 {
     let Some(word) = fields.next() else {
         return Ok(None);

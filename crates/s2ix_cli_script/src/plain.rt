@@ -1,6 +1,6 @@
 //! What fields ask for that is no edit and on no union.
 ghost use Rattle.std.specs.Prelude.{◌≡◌};
-ghost use Rattle.s2ix_cli_script.specs.Meaning.{bare as bare_of, common_named as common_of, only_named as only_of};
+ghost use Rattle.s2ix_cli_script.specs.Meaning.{bare, common_named, only_named};
 
 use crate::fields::labels_named;
 use crate::instruction::Instruction;
@@ -12,7 +12,7 @@ pub(crate) fn bare(
     instruction: Instruction,
     fields: &mut Fields<'_>,
 ) -> Result<Instruction, LineFault>
-    ensures { result ≡ bare_of instruction fields.old }
+    ensures { result ≡ bare instruction fields.old }
 {
     match fields.next() {
         None => Ok(instruction),
@@ -22,7 +22,7 @@ pub(crate) fn bare(
 
 // What `common` asks for, whose labels the two fields LABEL LABEL name.
 pub(crate) fn common_named(fields: &mut Fields<'_>) -> Result<Instruction, LineFault>
-    ensures { result ≡ common_of fields.old }
+    ensures { result ≡ common_named fields.old }
 {
     let (first, second) = labels_named(fields)?;
     Ok(Instruction::Common(first, second))
@@ -30,7 +30,7 @@ pub(crate) fn common_named(fields: &mut Fields<'_>) -> Result<Instruction, LineF
 
 // What `only` asks for, whose labels the two fields LABEL LABEL name.
 pub(crate) fn only_named(fields: &mut Fields<'_>) -> Result<Instruction, LineFault>
-    ensures { result ≡ only_of fields.old }
+    ensures { result ≡ only_named fields.old }
 {
     let (first, second) = labels_named(fields)?;
     Ok(Instruction::Only(first, second))

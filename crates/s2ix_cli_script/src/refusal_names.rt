@@ -1,12 +1,12 @@
 //! The names by which refusals are printed. Want of memory ends a run and is never printed; its name is that of its variant.
 ghost use Rattle.std.specs.Prelude.{◌≡◌};
-ghost use Rattle.s2ix_cli_script.specs.RefusalNames.{edit_error_name as name_of_edit_error, not_leaf_name as name_of_not_leaf, redo_error_name as name_of_redo_error, undo_error_name as name_of_undo_error};
+ghost use Rattle.s2ix_cli_script.specs.RefusalNames.{edit_error_name, not_leaf_name, redo_error_name, undo_error_name};
 
 use s2ix_edit_plan::{EditError, RedoError, UndoError};
 
 /// The name by which a line whose edit is refused is answered, as `no NAME`.
 pub fn edit_error_name(error: EditError) -> &'static str
-    ensures { result.now ≡ name_of_edit_error error }
+    ensures { result.now ≡ edit_error_name error }
 {
     match error {
         EditError::JournalFull => "JournalFull",
@@ -24,7 +24,7 @@ pub fn edit_error_name(error: EditError) -> &'static str
 
 /// The name by which a refused `undo` is answered, as `no NAME`.
 pub fn undo_error_name(error: UndoError) -> &'static str
-    ensures { result.now ≡ name_of_undo_error error }
+    ensures { result.now ≡ undo_error_name error }
 {
     match error {
         UndoError::NothingToUndo => "NothingToUndo",
@@ -34,7 +34,7 @@ pub fn undo_error_name(error: UndoError) -> &'static str
 
 /// The name by which a refused `redo` is answered, as `no NAME`.
 pub fn redo_error_name(error: RedoError) -> &'static str
-    ensures { result.now ≡ name_of_redo_error error }
+    ensures { result.now ≡ redo_error_name error }
 {
     match error {
         RedoError::NothingToRedo => "NothingToRedo",
@@ -45,7 +45,7 @@ pub fn redo_error_name(error: RedoError) -> &'static str
 /// The name by which a line `at` is answered where its cell is no leaf, as `no NAME`.
 #[tactic(auto, unfolding(crate::specs::RefusalNames::not_leaf_name))]
 pub fn not_leaf_name() -> &'static str
-    ensures { result.now ≡ name_of_not_leaf }
+    ensures { result.now ≡ not_leaf_name }
 {
     "NotLeaf"
 }

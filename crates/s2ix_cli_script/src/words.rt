@@ -6,7 +6,7 @@
 ghost use Rattle.std.specs.Prelude.{◌≡◌, ◌++◌};
 ghost use Rattle.std.specs.Str.{bytes_eq};
 ghost use Rattle.s2ix_cli_script.specs.Named.{Means};
-ghost use Rattle.s2ix_cli_script.specs.Meaning.{asked_by as asked_of, asked_in, cell_words, edit_words, history_words, is_on_union, query_words};
+ghost use Rattle.s2ix_cli_script.specs.Meaning.{asked_by, asked_in, cell_words, edit_words, history_words, is_on_union, query_words};
 
 use crate::cells::{add_union_named, union_named};
 use crate::edits::{drop_named, grow_named, normal_named, relabel_named, revert_named};
@@ -25,7 +25,7 @@ pub(crate) fn asked_by(
     word: &[u8],
     mut fields: Fields<'_>,
 ) -> Result<Instruction, LineError>
-    ensures { Means is_on_union result (asked_of word.now fields.entry) }
+    ensures { Means is_on_union result (asked_by word.now fields.entry) }
 {
     if is(word, "addunion") {
         Ok(Instruction::Edit(add_union_named(alloc, fields)?))

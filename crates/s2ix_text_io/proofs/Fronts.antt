@@ -64,7 +64,8 @@ Puts-after old mid new (Err e) text next p q = AppendsFront-after old mid new te
 pub flat_map-split : {X : Type 0} (f : X → List ℕ) (xs : List X) (i : ℕ) (d : X) → i < length xs
     → flat_map f xs ≡ flat_map f (take i xs) ++ (f (get_or xs i d) ++ flat_map f (drop (i + 1) xs))
 flat_map-split f xs i d h =
-    ap (flat_map f) (sym (take-append-drop i xs)) ∙ flat_map-append f (take i xs) (drop i xs) ∙ ap (λ l. flat_map f (take i xs) ++ flat_map f l) (drop_more xs i d h)
+    ap (flat_map f) (sym (take-append-drop i xs)) ∙ flat_map-append f (take i xs) (drop i xs)
+    ∙ ap (λ l. flat_map f (take i xs) ++ flat_map f l) (drop_more xs i d h)
 
 -- a text within a whole: what stands before it went out, and then a front of it
 pub AppendsFront-within : (old mid new : Option (List ℕ)) (before text behind whole : List ℕ) → Appends old mid before
@@ -77,7 +78,8 @@ AppendsFront-within old mid new before text behind whole p q e =
 pub AppendsFront-flat_map : {X : Type 0} (f : X → List ℕ) (old mid new : Option (List ℕ)) (xs : List X) (i : ℕ) (d : X) → i < length xs
     → Appends old mid (flat_map f (take i xs)) → AppendsFront mid new (f (get_or xs i d)) → AppendsFront old new (flat_map f xs)
 AppendsFront-flat_map f old mid new xs i d h p q =
-    AppendsFront-within old mid new (flat_map f (take i xs)) (f (get_or xs i d)) (flat_map f (drop (i + 1) xs)) (flat_map f xs) p q (flat_map-split f xs i d h)
+    AppendsFront-within old mid new (flat_map f (take i xs)) (f (get_or xs i d)) (flat_map f (drop (i + 1) xs)) (flat_map f xs) p q
+    (flat_map-split f xs i d h)
 
 -- the text of the items up to and with one is that of the items before it, and then its own
 pub flat_map-take_more : {X : Type 0} (f : X → List ℕ) (xs : List X) (i : ℕ) (x : X) → slice_get xs i ≡ Some x
@@ -90,7 +92,8 @@ flat_map-take_more f xs i x h =
 pub Appends-flat_map : {X : Type 0} (f : X → List ℕ) (old mid new : Option (List ℕ)) (xs : List X) (i : ℕ) (x : X) → slice_get xs i ≡ Some x
     → Appends old mid (flat_map f (take i xs)) → Appends mid new (f x) → Appends old new (flat_map f (take (i + 1) xs))
 Appends-flat_map f old mid new xs i x h p q =
-    subst (λ (l : List ℕ). Appends old new l) (sym (flat_map-take_more f xs i x h)) (Appends-trans old mid new (flat_map f (take i xs)) (f x) p q)
+    subst (λ (l : List ℕ). Appends old new l) (sym (flat_map-take_more f xs i x h))
+    (Appends-trans old mid new (flat_map f (take i xs)) (f x) p q)
 
 -- the texts of the items before one went out, and then a front of the text of this one
 pub AppendsFront-flat_map_at : {X : Type 0} (f : X → List ℕ) (old mid new : Option (List ℕ)) (xs : List X) (i : ℕ) (x : X)

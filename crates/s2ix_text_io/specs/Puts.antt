@@ -4,6 +4,7 @@ use Rattle.std.specs.declared.option.Option.{Option}
 use Rattle.std.specs.Borrow.{Bor}
 use Rattle.std.specs.Io.KnownBytes.{Appends}
 use Rattle.s2ix_text_io.specs.Faults.{write_faults}
+use Rattle.s2ix_text_io.specs.declared.sink.Sink.{Ghosts as Sink}
 use Rattle.s2ix_text_io.specs.declared.sink.WriteFault.{WriteFault}
 
 -- `whole` begins with `front`
@@ -22,11 +23,12 @@ abbrev pub Puts : {A E : Type 0} → Option (List ℕ) → Option (List ℕ) →
 Puts old new (Ok _) text = Appends old new text
 Puts old new (Err _) text = AppendsFront old new text
 
--- a call wrote `text` to a sink, whole at `Ok` and a front of it at `Err`; it did not flush, and its answer tells of each call of the sink that failed
-pub record Writes {K A : Type 0} (taken : K → Option (List ℕ)) (flush_mark fault_count : K → ℕ) (old new : K) (result : Result A WriteFault) (text : List ℕ) : Type 0 where
-  pub puts : Puts (taken old) (taken new) result text
-  pub unflushed : flush_mark new ≡ flush_mark old
-  pub faults : fault_count new ≡ fault_count old + write_faults result
+-- a call wrote `text` to a sink, whole at `Ok` and a front of it at `Err`; it did not flush, and its answer tells of each call of the sink
+-- that failed. `sink` is what clauses see of the sinks of a type: a clause names it `K.Sink`
+pub record Writes {K A : Type 0} (sink : Sink K) (old new : K) (result : Result A WriteFault) (text : List ℕ) : Type 0 where
+  pub puts : Puts (sink.taken old) (sink.taken new) result text
+  pub unflushed : sink.flush_mark new ≡ sink.flush_mark old
+  pub faults : sink.fault_count new ≡ sink.fault_count old + write_faults result
 
 -- the texts that the parts refer to, one after the other
 abbrev pub text_of_parts : List (Bor (List ℕ)) → List ℕ

@@ -7,7 +7,7 @@ use crate::{Sink, WriteFault};
 /// fault, when a front of `bytes` went out. At most one call of `put` for each byte.
 pub fn put_all<K: Sink>(sink: &mut K, bytes: &[u8]) -> Result<(), WriteFault>
     requires { CanCount (K.fault_count sink.old) }
-    ensures { Writes K.taken K.flush_mark K.fault_count sink.old sink.new result bytes.now }
+    ensures { Writes K.Sink sink.old sink.new result bytes.now }
 {
     let mut rest = bytes;
     while !rest.is_empty() {
@@ -21,7 +21,7 @@ pub fn put_all<K: Sink>(sink: &mut K, bytes: &[u8]) -> Result<(), WriteFault>
 /// went out. At most one call of `put` for each byte.
 pub fn put_parts<K: Sink>(sink: &mut K, parts: &[&[u8]]) -> Result<(), WriteFault>
     requires { CanCount (K.fault_count sink.old) }
-    ensures { Writes K.taken K.flush_mark K.fault_count sink.old sink.new result (text_of_parts parts.now) }
+    ensures { Writes K.Sink sink.old sink.new result (text_of_parts parts.now) }
 {
     for part in parts {
         put_all(sink, part)?;

@@ -1,14 +1,23 @@
 //! Reading a source whole.
-ghost use Rattle.std.specs.Prelude.{◌≡◌, ◌≢◌, ◌↔◌, ℕ, ◌+◌, List, Err, IfOk, IfErr, OnOk, OnErr};
+ghost use Rattle.std.specs.Prelude.{◌≡◌, ◌≢◌, ◌↔◌, ℕ, ◌+◌, ◌++◌, List, Err, IfOk, IfErr, OnOk, OnErr};
 ghost use Rattle.std.specs.Io.KnownBytes.{Consumes, IsAtEnd};
 ghost use Rattle.s2ix_text_io.specs.Faults.{CanCount, source_faults, IsPatient, IsWantOnlyIf};
 ghost use Rattle.s2ix_text_io.specs.Pieces.{ReadsToEnd, ReadsWithin};
 
 use crate::{RunFault, Source};
+use s2id_core::OutOfMemory;
 use std::alloc::Global;
 
 // How many bytes are asked for at once.
 const PIECE: usize = 4096;
+
+// Appends a piece to what was read before it.
+fn append(text: &mut Vec<u8>, piece: &[u8]) -> Result<(), OutOfMemory>
+    ensures { OnOk result (text.new.items ≡ text.old.items ++ piece.now) }
+{
+    text.extend_from_slice(piece)?;
+    Ok(())
+}
 
 /// Reads a source to its end, and answers all its bytes in order. O(n) for n bytes, and at most `turns` calls of `piece`.
 ///
@@ -34,7 +43,7 @@ pub fn read_whole<S: Source>(alloc: Global, source: &mut S, turns: u64) -> Resul
         if count == 0 {
             return Ok(text);
         }
-        text.extend_from_slice(&piece[..count])?;
+        append(&mut text, &piece[..count])?;
     }
     Err(RunFault::ReaderTooLong)
 }

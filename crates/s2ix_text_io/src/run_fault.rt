@@ -2,7 +2,6 @@ ghost use Rattle.std.specs.Prelude.{◌≡◌};
 ghost use Rattle.s2ix_text_io.specs.declared.run_fault.RunFault.TheVariants.{OutOfMemory, Read, Write};
 
 use crate::{ReadFault, WriteFault};
-use std::alloc::AllocError;
 use thiserror::Error;
 
 /// What ended a run, or the reading of a whole source, before its end: the first of these that happened.
@@ -35,14 +34,6 @@ impl From<WriteFault> for RunFault {
 
     fn from(_fault: WriteFault) -> RunFault {
         RunFault::Write
-    }
-}
-
-impl From<AllocError> for RunFault {
-    ghost from_gives = { λ _ fault. fault ≡ OutOfMemory };
-
-    fn from(_error: AllocError) -> RunFault {
-        RunFault::OutOfMemory
     }
 }
 

@@ -14,7 +14,7 @@ const LONGEST: usize = 80;
 #[inline(always)]
 pub fn put_together<K: Sink>(sink: &mut K, parts: &[&[u8]]) -> Result<(), WriteFault>
     requires { CanCount (K.fault_count sink.old) }
-    ensures { Writes K.taken K.flush_mark K.fault_count sink.old sink.new result (text_of_parts parts.now) }
+    ensures { Writes K.Sink sink.old sink.new result (text_of_parts parts.now) }
 {
     let mut text = ArrayVec::<u8, LONGEST>::new();
     for part in parts {

@@ -10,18 +10,21 @@ use Rattle.s2ix_text_parts.specs.Lines.{is_nil}
 abbrev pub place : Limits → List (List ℕ) → List ℕ → List (List ℕ) → Place
 place limits above line lines = record { limits = limits; above = above; line = line; ended = not (is_nil lines) }
 
-pub found_here : {F : Type 0} (fault : Place → Option F) (limits : Limits) (above : List (List ℕ)) (line : List ℕ) (lines : List (List ℕ)) (it : F)
+pub found_here : {F : Type 0} (fault : Place → Option F) (limits : Limits) (above : List (List ℕ)) (line : List ℕ) (lines : List (List ℕ))
+    (it : F)
     → fault (place limits above line lines) ≡ Some it → fault_below fault limits above (line ∷ lines) ≡ Some (length above + 1, it)
 unfolding fault_below
 found_here {F = F} fault limits above line lines it is =
-    ap (λ (o : Option F). option_or (option_map (λ (x : F). (length above + 1, x)) o) (fault_below fault limits (above ++ line ∷ []) lines)) is
+    ap (λ (o : Option F). option_or (option_map (λ (x : F). (length above + 1, x)) o) (fault_below fault limits (above ++ line ∷ []) lines))
+    is
 
 pub found_later : {F : Type 0} (fault : Place → Option F) (limits : Limits) (above : List (List ℕ)) (line : List ℕ) (lines : List (List ℕ))
     → fault (place limits above line lines) ≡ None
     → fault_below fault limits above (line ∷ lines) ≡ fault_below fault limits (above ++ line ∷ []) lines
 unfolding fault_below
 found_later {F = F} fault limits above line lines is =
-    ap (λ (o : Option F). option_or (option_map (λ (x : F). (length above + 1, x)) o) (fault_below fault limits (above ++ line ∷ []) lines)) is
+    ap (λ (o : Option F). option_or (option_map (λ (x : F). (length above + 1, x)) o) (fault_below fault limits (above ++ line ∷ []) lines))
+    is
 
 pub found_nowhere : {F : Type 0} (fault : Place → Option F) (limits : Limits) (above : List (List ℕ))
     → fault_below fault limits above [] ≡ None
@@ -44,7 +47,8 @@ found_from fault limits n above (line ∷ lines) le =
 -- a line with its line feed has more lines below it
 pub ended : (limits : Limits) (above : List (List ℕ)) (line : List ℕ) (lines : List (List ℕ)) → is_nil lines ≡ false
     → place limits above line lines ≡ record { limits = limits; above = above; line = line; ended = true }
-ended limits above line lines some = ap (λ (b : Bool). let made : Place = record { limits = limits; above = above; line = line; ended = not b } in made) some
+ended limits above line lines some =
+    ap (λ (b : Bool). let made : Place = record { limits = limits; above = above; line = line; ended = not b } in made) some
 
 -- a test that is made where another one holds
 pub applies : (b x y : Bool) → b ≡ true → x ≡ y → (b && x) ≡ y

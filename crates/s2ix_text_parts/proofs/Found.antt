@@ -31,12 +31,14 @@ place_among limits front lines k = record {
 }
 
 -- the first fault of some lines is that of one of them
-record IsFoundAt {F : Type 0} (fault : Place → Option F) (limits : Limits) (front lines : List (List ℕ)) (found : ℕ × F) (k : ℕ) : Type 0 where
+record IsFoundAt {F : Type 0} (fault : Place → Option F) (limits : Limits) (front lines : List (List ℕ)) (found : ℕ × F) (k : ℕ) : Type 0
+    where
   inside : k < length lines
   number : found.0 ≡ length front + k + 1
   has : fault (place_among limits front lines k) ≡ Some found.1
 
-found_first : {F : Type 0} (fault : Place → Option F) (limits : Limits) (front : List (List ℕ)) (line : List ℕ) (lines : List (List ℕ)) (it : F)
+found_first : {F : Type 0} (fault : Place → Option F) (limits : Limits) (front : List (List ℕ)) (line : List ℕ) (lines : List (List ℕ))
+    (it : F)
     → fault (place limits front line lines) ≡ Some it → IsFoundAt fault limits front (line ∷ lines) (length front + 1, it) 0
 found_first fault limits front line lines it is = record {
   inside = omega arith;
@@ -44,22 +46,28 @@ found_first fault limits front line lines it is = record {
   has = subst (λ (above : List (List ℕ)). fault (place limits above line lines) ≡ Some it) (sym (append-nil front)) is;
 }
 
-found_next : {F : Type 0} (fault : Place → Option F) (limits : Limits) (front : List (List ℕ)) (line : List ℕ) (lines : List (List ℕ)) (found : ℕ × F) (k : ℕ)
+found_next : {F : Type 0} (fault : Place → Option F) (limits : Limits) (front : List (List ℕ)) (line : List ℕ) (lines : List (List ℕ))
+    (found : ℕ × F) (k : ℕ)
     → IsFoundAt fault limits (front ++ line ∷ []) lines found k → IsFoundAt fault limits front (line ∷ lines) found (suc k)
 found_next fault limits front line lines found k is = record {
   inside = let inside = is.inside in omega arith;
   number = omega (arith, is.number, length_push front line);
   has = subst
-      (λ (above : List (List ℕ)). fault (record { limits = limits; above = above; line = slice_index_or lines k []; ended = not (is_nil (drop (suc k) lines)) }) ≡ Some found.1)
+      (λ (above : List (List ℕ)). fault
+      (record { limits = limits; above = above; line = slice_index_or lines k []; ended = not (is_nil (drop (suc k) lines)) })
+      ≡ Some found.1)
       (append_assoc front (line ∷ []) (take k lines)) is.has;
 }
 
-found_in : {F : Type 0} (fault : Place → Option F) (limits : Limits) (front : List (List ℕ)) (line : List ℕ) (lines : List (List ℕ)) (found : ℕ × F) (o : Option F)
+found_in : {F : Type 0} (fault : Place → Option F) (limits : Limits) (front : List (List ℕ)) (line : List ℕ) (lines : List (List ℕ))
+    (found : ℕ × F) (o : Option F)
     → fault (place limits front line lines) ≡ o
-    → (fault_below fault limits (front ++ line ∷ []) lines ≡ Some found → (k : ℕ) × IsFoundAt fault limits (front ++ line ∷ []) lines found k)
+    → (fault_below fault limits (front ++ line ∷ []) lines ≡ Some found → (k : ℕ)
+    × IsFoundAt fault limits (front ++ line ∷ []) lines found k)
     → fault_below fault limits front (line ∷ lines) ≡ Some found → (k : ℕ) × IsFoundAt fault limits front (line ∷ lines) found k
 found_in {F = F} fault limits front line lines found (Some it) here below is =
-    let same : ◌≡◌ {A = Option (ℕ × F)} (Some (length front + 1, it)) (Some found) = sym (found_here fault limits front line lines it here) ∙ is in
+    let same : ◌≡◌ {A = Option (ℕ × F)} (Some (length front + 1, it)) (Some found) =
+        sym (found_here fault limits front line lines it here) ∙ is in
     let pair : (length front + 1, it) ≡ found = cc in
     (0, subst (λ (x : ℕ × F). IsFoundAt fault limits front (line ∷ lines) x 0) pair (found_first fault limits front line lines it here))
 found_in fault limits front line lines found None here below is =
@@ -68,9 +76,11 @@ found_in fault limits front line lines found None here below is =
 
 found_among : {F : Type 0} (fault : Place → Option F) (limits : Limits) (front lines : List (List ℕ)) (found : ℕ × F)
     → fault_below fault limits front lines ≡ Some found → (k : ℕ) × IsFoundAt fault limits front lines found k
-found_among {F = F} fault limits front [] found is = let clash : ◌≡◌ {A = Option (ℕ × F)} None (Some found) = sym (found_nowhere fault limits front) ∙ is in cc
+found_among {F = F} fault limits front [] found is =
+    let clash : ◌≡◌ {A = Option (ℕ × F)} None (Some found) = sym (found_nowhere fault limits front) ∙ is in cc
 found_among fault limits front (line ∷ lines) found is =
-    found_in fault limits front line lines found (fault (place limits front line lines)) refl (found_among fault limits (front ++ line ∷ []) lines found) is
+    found_in fault limits front line lines found (fault (place limits front line lines)) refl
+    (found_among fault limits (front ++ line ∷ []) lines found) is
 
 -- ---- of a whole text
 
@@ -87,12 +97,24 @@ found_of_line fault limits text number it is =
     let next : suc found.0 ≡ number = omega (arith, found.1.number) in
     let before : found.0 ≡ number - 1 = omega arith in
     let there = subst
-    (λ (n : ℕ). fault (record { limits = limits; above = take n (lines_of text); line = slice_index_or (lines_of text) n []; ended = not (is_nil (drop (suc found.0) (lines_of text))) }) ≡ Some it)
+    (λ (n : ℕ).
+      fault (record {
+        limits = limits;
+        above = take n (lines_of text);
+        line = slice_index_or (lines_of text) n [];
+        ended = not (is_nil (drop (suc found.0) (lines_of text)));
+      }) ≡ Some it)
     before found.1.has in
     record {
       from = omega arith;
       inside = omega (arith, found.1.inside);
       has = subst
-          (λ (n : ℕ). fault (record { limits = limits; above = take (number - 1) (lines_of text); line = slice_index_or (lines_of text) (number - 1) []; ended = not (is_nil (drop n (lines_of text))) }) ≡ Some it)
+          (λ (n : ℕ).
+            fault (record {
+              limits = limits;
+              above = take (number - 1) (lines_of text);
+              line = slice_index_or (lines_of text) (number - 1) [];
+              ended = not (is_nil (drop n (lines_of text)));
+            }) ≡ Some it)
           next there;
     }

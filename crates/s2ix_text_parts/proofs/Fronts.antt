@@ -161,7 +161,8 @@ token_of_front text len number raw some few inside lower is shifted cell last he
     } in
     let canonical : IsCanonicalText front = record {
       lower = lower;
-      no_last_zero = λ zero. last (sym (get_or-take len text (len - 1) 0 (omega arith)) ∙ ap (λ k. get_or front (k - 1) 0) (sym long) ∙ zero);
+      no_last_zero =
+          λ zero. last (sym (get_or-take len text (len - 1) 0 (omega arith)) ∙ ap (λ k. get_or front (k - 1) 0) (sym long) ∙ zero);
     } in
     cut_behind text len 32 0 inside here
     ∙ ap (λ x. x ++ 32 ∷ drop (len + 1) text) ((one_canonical front raw cell spelled).0 canonical)

@@ -8,3 +8,4 @@ pub mod FirstFault
 pub mod Found
 pub mod Places
 pub mod NoFronts
+pub mod FaultsTold

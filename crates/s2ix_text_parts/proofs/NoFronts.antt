@@ -56,7 +56,8 @@ token_is_read text rest len number raw is cell few inside lower value stop =
     let spells = canonical_spells raw cell in
     let own = lower-canonical_token raw in
     let long : len ≡ length token =
-    stops_behind IsLowerHex token rest 32 len 16 own spells.at_most no_space_in_hex few (subst (λ t. len < length t) is inside) (subst (λ t. All IsLowerHex (take len t)) is lower)
+    stops_behind IsLowerHex token rest 32 len 16 own spells.at_most no_space_in_hex few (subst (λ t. len < length t) is inside)
+    (subst (λ t. All IsLowerHex (take len t)) is lower)
     (λ early. subst (λ t. ¬ IsLowerHex (get_or t len 0)) is (stop early)) in
     let front : take len text ≡ token = ap (take len) is ∙ take_at token (32 ∷ rest) len (sym long) in
     let canonical = (one_canonical token raw cell spells).1 refl in
@@ -67,7 +68,8 @@ token_is_read text rest len number raw is cell few inside lower value stop =
       space = ap (λ t. get_or t len 0) is ∙ ap (λ k. get_or whole k 0) long ∙ behind_front token rest 32;
       last =
           λ zero. canonical.no_last_zero
-          (ap (λ k. get_or token (k - 1) 0) (sym long) ∙ sym (get_or_append_left token (32 ∷ rest) 0 (len - 1) (omega arith)) ∙ ap (λ t. get_or t (len - 1) 0) (sym is) ∙ zero);
+          (ap (λ k. get_or token (k - 1) 0) (sym long) ∙ sym (get_or_append_left token (32 ∷ rest) 0 (len - 1) (omega arith))
+          ∙ ap (λ t. get_or t (len - 1) 0) (sym is) ∙ zero);
       shifted =
           ap (λ k. number * 2 ^ (64 - 4 * k) % 2 ^ 64) long
           ∙ shifted_value token number at_most (all_digits_from_lower token own) (value ∙ ap (digits_value 16) front)
@@ -96,14 +98,16 @@ number_is_read text rest len end n is small other few inside all stop =
     let short : length digits ≤ 9 = length-decimal-le 9 n (omega arith) small (omega arith) in
     let some = decimal_nonempty n (omega arith) in
     let long : len ≡ length digits =
-    stops_behind Digit digits rest end len 9 (all_from_digits digits own) short (λ digit. omega (arith, digit, other)) few (subst (λ t. len < length t) is inside) (subst (λ t. All Digit (take len t)) is (all_from_digits (take len text) all))
+    stops_behind Digit digits rest end len 9 (all_from_digits digits own) short (λ digit. omega (arith, digit, other)) few
+    (subst (λ t. len < length t) is inside) (subst (λ t. All Digit (take len t)) is (all_from_digits (take len text) all))
     (λ early. subst (λ t. ¬ Digit (get_or t len 0)) is (λ digit. omega (arith, digit, stop early))) in
     record {
       some = omega arith;
       end_byte = ap (λ t. get_or t len 0) is ∙ ap (λ k. get_or (digits ++ end ∷ rest) k 0) long ∙ behind_front digits rest end;
       first =
           λ several zero.
-          let here : get_or digits 0 0 ≡ 48 = sym (get_or_append_left digits (end ∷ rest) 0 0 (omega arith)) ∙ ap (λ t. get_or t 0 0) (sym is) ∙ zero in
+          let here : get_or digits 0 0 ≡ 48 =
+              sym (get_or_append_left digits (end ∷ rest) 0 0 (omega arith)) ∙ ap (λ t. get_or t 0 0) (sym is) ∙ zero in
           ⊎_elim
           (λ none. let lone : length digits ≡ 1 = ap length (decimal_digit n (omega arith)) in omega arith)
           (λ positive. let first = first_decimal n (omega arith) (omega arith) in omega arith)

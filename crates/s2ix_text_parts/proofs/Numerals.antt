@@ -44,7 +44,8 @@ written_cell text cell is = at_spelled text (cell_spelled text) cell is
 
 pub cell_of_token : (cell : CellId) → cell_written (canonical_token (raw_of cell)) ≡ Some cell
 cell_of_token cell =
-    cell_from_spelled (canonical_token (raw_of cell)) (Some cell) (cell_spelled-some (canonical_token (raw_of cell)) cell (canonical_spells (raw_of cell) cell.valid))
+    cell_from_spelled (canonical_token (raw_of cell)) (Some cell)
+    (cell_spelled-some (canonical_token (raw_of cell)) cell (canonical_spells (raw_of cell) cell.valid))
     ∙ cond-true _ _ _ ((bytes_eq-Decides (canonical_token (raw_of cell)) (canonical_token (raw_of cell))).1 refl)
 
 -- a token has a digit
@@ -164,7 +165,8 @@ count_in_range most (Some m) n is =
     (λ low. let clash : None ≡ Some n = sym (count_zero most m low) ∙ is in cc)
     (λ some. ⊎_elim
     (λ high. let clash : None ≡ Some n = sym (count_above most m high) ∙ is in cc)
-    (λ few. let same : Some m ≡ Some n = sym (count_within most m some few) ∙ is in let equal : m ≡ n = cc in (ap Some equal, omega arith, omega arith))
+    (λ few. let same : Some m ≡ Some n = sym (count_within most m some few) ∙ is in let equal : m ≡ n = cc in
+    (ap Some equal, omega arith, omega arith))
     (cases_lt most m))
     (cases_lt m 1)
 

@@ -10,7 +10,8 @@ use Rattle.s2ix_text_parts.proofs.Pieces.{Lacks, some_parts}
 
 -- bytes above the space have no space and no line feed
 pub graphic_lacks : (x : ℕ) (text : List ℕ) → x ≤ 32 → All (λ byte. 32 < byte) text → Lacks x text
-graphic_lacks x text low graphic = λ k d within. let above : 32 < get_or text k d = graphic k d within in ne_eqb (get_or text k d) x (λ same. omega (arith, same))
+graphic_lacks x text low graphic =
+    λ k d within. let above : 32 < get_or text k d = graphic k d within in ne_eqb (get_or text k d) x (λ same. omega (arith, same))
 
 pub lacks_feed_more : (a b : List ℕ) → All (λ byte. 32 < byte) a → Lacks 10 b → Lacks 10 (a ++ 32 ∷ b)
 lacks_feed_more a b graphic none =
@@ -81,7 +82,8 @@ four_list (a ∷ (b ∷ (c ∷ (d ∷ [])))) long = refl
 four_list (a ∷ (b ∷ (c ∷ (d ∷ (e ∷ ps))))) long = absurd (omega arith)
 
 pub four_are : (line : List ℕ) → has_parts 4 line ≡ true
-    → parts_of line ≡ slice_index_or (parts_of line) 0 [] ∷ slice_index_or (parts_of line) 1 [] ∷ slice_index_or (parts_of line) 2 [] ∷ slice_index_or (parts_of line) 3 [] ∷ []
+    → parts_of line ≡ slice_index_or (parts_of line) 0 [] ∷ slice_index_or (parts_of line) 1 [] ∷ slice_index_or (parts_of line) 2
+    [] ∷ slice_index_or (parts_of line) 3 [] ∷ []
 four_are line four = four_list (parts_of line) (eqb-true _ _ (and_parts (length (parts_of line) == 4) _ four).0)
 
 -- what a clause says where an answer has no value

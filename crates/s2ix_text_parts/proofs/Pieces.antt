@@ -87,7 +87,8 @@ pub parts_apart : (a b c : List ℕ) → Lacks 32 a → Lacks 32 b → Lacks 32 
 unfolding parts_of
 parts_apart a b c no_a no_b no_c =
     slice_split_at (λ byte. byte == 32) a 32 (b ++ 32 ∷ c) no_a refl
-    ∙ ap (λ more. a ∷ more) (slice_split_at (λ byte. byte == 32) b 32 c no_b refl ∙ ap (λ more. b ∷ more) (slice_split_none (λ byte. byte == 32) c no_c))
+    ∙ ap (λ more. a ∷ more)
+    (slice_split_at (λ byte. byte == 32) b 32 c no_b refl ∙ ap (λ more. b ∷ more) (slice_split_none (λ byte. byte == 32) c no_c))
 
 pub lines_apart : (line rest : List ℕ) → Lacks 10 line → lines_of (line ++ 10 ∷ rest) ≡ line ∷ lines_of rest
 unfolding lines_of

@@ -1,6 +1,6 @@
 //! What the parts of a line write.
 ghost use Rattle.std.specs.Prelude.{◌≡◌, ◌≢◌, ◌^◌, ◌<◌, ℕ, IfNone, IfSome, Some};
-ghost use Rattle.s2ix_text_parts.specs.Written.{cell_written as cell_that, count_written as count_that, label_written as label_that, number_written as number_that};
+ghost use Rattle.s2ix_text_parts.specs.Written.{cell_written, count_written, label_written, number_written};
 
 use itoa::Buffer;
 use s2id_core::CellId;
@@ -10,7 +10,7 @@ use std::str;
 /// The cell whose canonical token a text is: what `CellId::token` prints for it, and no other spelling. O(1): no text of more than 16 bytes
 /// is one.
 pub fn cell_written(text: &[u8]) -> Option<CellId>
-    ensures { result ≡ cell_that text.now }
+    ensures { result ≡ cell_written text.now }
 {
     let cell = CellId::from_token(text).ok()?;
     if text == cell.token().as_bytes() {
@@ -22,8 +22,8 @@ pub fn cell_written(text: &[u8]) -> Option<CellId>
 
 /// The number below 2^32 whose canonical digits a text is: those that printing it gives. O(n) for n bytes.
 pub fn number_written(text: &[u8]) -> Option<u32>
-    ensures some { IfSome result (λ n. number_that text.now ≡ Some n) }
-    ensures none { IfNone result ((n : ℕ) → n < 2 ^ 32 → number_that text.now ≢ Some n) }
+    ensures some { IfSome result (λ n. number_written text.now ≡ Some n) }
+    ensures none { IfNone result ((n : ℕ) → n < 2 ^ 32 → number_written text.now ≢ Some n) }
 {
     let number = str::from_utf8(text).ok()?.parse::<u32>().ok()?;
     let mut digits = Buffer::new();
@@ -36,14 +36,14 @@ pub fn number_written(text: &[u8]) -> Option<u32>
 
 /// The label whose number a text writes, in canonical digits. O(n) for n bytes.
 pub fn label_written(text: &[u8]) -> Option<Label>
-    ensures { result ≡ label_that text.now }
+    ensures { result ≡ label_written text.now }
 {
     Label::new(number_written(text)?)
 }
 
 /// The count of a pair that is held, from 1 to `most`, which a text writes in canonical digits. O(n) for n bytes.
 pub fn count_written(most: u32, text: &[u8]) -> Option<u32>
-    ensures { result ≡ count_that most text.now }
+    ensures { result ≡ count_written most text.now }
 {
     let count = number_written(text)?;
     if count == 0 || count > most {

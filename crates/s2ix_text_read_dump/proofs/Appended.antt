@@ -70,13 +70,15 @@ pub dumped_in : (limits : Limits) (version : Version) (hs : Collection) → IsBa
     → IsDumped limits (dump_header version) hs
 dumped_in limits version hs is held = record {
   bag = is;
-  written = subst (λ (found : Option Version). All (λ (h : Held). h.count ≤ greatest_below found) hs) (sym (named_by_dump_header version)) held;
+  written =
+      subst (λ (found : Option Version). All (λ (h : Held). h.count ≤ greatest_below found) hs) (sym (named_by_dump_header version)) held;
 }
 
 -- and below a header each count is one that its version can hold
 pub held_in : (limits : Limits) (header : List ℕ) (version : Version) (hs : Collection) → dump_version header ≡ Some version
     → IsDumped limits header hs → CanHold version hs
-held_in limits header version hs named is = subst (λ (found : Option Version). All (λ (h : Held). h.count ≤ greatest_below found) hs) named is.written
+held_in limits header version hs named is =
+    subst (λ (found : Option Version). All (λ (h : Held). h.count ≤ greatest_below found) hs) named is.written
 
 pub dumped_more : (limits : Limits) (header : List ℕ) (hs : Collection) (h : Held) → IsDumped limits header hs → HasCount header h
     → comes_before (last_pair hs) (Some h.pair) ≡ true → h.count ≤ count_limit limits → length hs < pairs_limit limits

@@ -28,7 +28,8 @@ pub record IsOfParts (text after_token after_label rest : List ℕ) (h : Held) :
   pub count : after_label ≡ decimal h.count ++ 10 ∷ rest
 
 pub parts_of_common : (most : ℕ) → most < 2 ^ 32 → (text rest : List ℕ) (h : Held) → IsCommonFront most text h rest
-    → (after_token after_label : List ℕ) × IsOfParts text after_token after_label rest h × (9 < length after_token) × (9 < length after_label)
+    → (after_token after_label : List ℕ) × IsOfParts text after_token after_label rest h × (9 < length after_token)
+    × (9 < length after_label)
 parts_of_common most bounded text rest h common =
     let after_label = decimal h.count ++ 10 ∷ rest in
     let after_token = decimal (value_of h.pair.label) ++ 32 ∷ after_label in
@@ -42,7 +43,9 @@ parts_of_common most bounded text rest h common =
       after_token,
       after_label,
       record {
-        token = common.whole ∙ sym (line_of_parts (canonical_token (raw_of h.pair.cell) ++ 32 ∷ after_token) after_token after_label rest h (value_of h.pair.label) refl refl refl refl);
+        token =
+            common.whole ∙ sym (line_of_parts (canonical_token (raw_of h.pair.cell) ++ 32 ∷ after_token) after_token after_label rest h
+            (value_of h.pair.label) refl refl refl refl);
         label = refl;
         count = refl;
       },
@@ -54,12 +57,15 @@ parts_of_common most bounded text rest h common =
 pub one_token : (text after rest : List ℕ) (m n : ℕ) → text ≡ canonical_token m ++ 32 ∷ after → text ≡ canonical_token n ++ 32 ∷ rest
     → after ≡ rest
 one_token text after rest m n read is =
-    (one_cut 32 _ _ after rest (graphic_lacks 32 _ (omega arith) (token_graphic m)) (graphic_lacks 32 _ (omega arith) (token_graphic n)) (sym read ∙ is)).1
+    (one_cut 32 _ _ after rest (graphic_lacks 32 _ (omega arith) (token_graphic m)) (graphic_lacks 32 _ (omega arith) (token_graphic n))
+    (sym read ∙ is)).1
 
 pub one_number : (text after rest : List ℕ) (m n end : ℕ) → end ≤ 32 → m < 2 ^ 64 → n < 2 ^ 64 → text ≡ decimal m ++ end ∷ after
     → text ≡ decimal n ++ end ∷ rest → (m ≡ n) × (after ≡ rest)
 one_number text after rest m n end low small_m small_n read is =
-    let cut = one_cut end _ _ after rest (graphic_lacks end _ low (decimal_graphic m small_m)) (graphic_lacks end _ low (decimal_graphic n small_n)) (sym read ∙ is) in
+    let cut =
+        one_cut end _ _ after rest (graphic_lacks end _ low (decimal_graphic m small_m))
+        (graphic_lacks end _ low (decimal_graphic n small_n)) (sym read ∙ is) in
     (decimal_injective m n small_m small_n cut.0, cut.1)
 
 -- behind the token stands the label
@@ -79,7 +85,8 @@ count_stands most bounded text after behind rest m label h read read_label small
     let p = parts_of_common most bounded text rest h common in
     let same = one_token text after p.0 m (raw_of h.pair.cell) read p.2.token in
     let own = common.label in
-    let number = one_number after behind p.1 label (value_of h.pair.label) 32 (omega arith) small (omega arith) read_label (same ∙ p.2.label) in
+    let number =
+        one_number after behind p.1 label (value_of h.pair.label) 32 (omega arith) small (omega arith) read_label (same ∙ p.2.label) in
     (number.0, number.1 ∙ p.2.count, subst (λ t. 9 < length t) (sym number.1) p.4)
 
 pub count_is : (most : ℕ) → most < 2 ^ 32 → (text after behind below rest : List ℕ) (m label count : ℕ) (h : Held)
@@ -95,7 +102,8 @@ count_is most bounded text after behind below rest m label count h read read_lab
 
 one_pair : (header : List ℕ) (g h : Held) → HasCount header g → HasCount header h → line_text g ≡ line_text h → g ≡ h
 one_pair header g h counted_g counted_h same =
-    let both : Ok g ≡ Ok h = sym (held_of_line header g counted_g) ∙ ap (held_written (greatest_count header)) same ∙ held_of_line header h counted_h in
+    let both : Ok g ≡ Ok h =
+        sym (held_of_line header g counted_g) ∙ ap (held_written (greatest_count header)) same ∙ held_of_line header h counted_h in
     let own : g ≡ h = cc in own
 
 -- a pair that is read in front passes each test, where the line of the next pair stands there
@@ -109,7 +117,9 @@ pub next_passes : (limits : Limits) (header : List ℕ) (hs : Collection) (text 
     → PassesAll limits hs g
 next_passes limits header hs text behind rest g h counted read common next =
     let counts : HasCount header h = (common.some, common.few) in
-    let cut = one_cut 10 (line_text h) (line_text g) rest behind (line_lacks_feed header h counts) (line_lacks_feed header g counted) (sym common.whole ∙ read) in
+    let cut =
+        one_cut 10 (line_text h) (line_text g) rest behind (line_lacks_feed header h counts) (line_lacks_feed header g counted)
+        (sym common.whole ∙ read) in
     subst (PassesAll limits hs) (one_pair header h g counts counted cut.0)
     (record {
       before = next_before hs h [] next.dumped.bag.rises;

@@ -44,7 +44,8 @@ greatest_known version = ap greatest_below (named_by_dump_header version)
 
 pub parts_of_three : (a b c : List ℕ) → All IsGraphic a → All IsGraphic b → All IsGraphic c
     → parts_of (a ++ 32 ∷ (b ++ 32 ∷ c)) ≡ a ∷ b ∷ c ∷ []
-parts_of_three a b c ga gb gc = parts_apart a b c (graphic_lacks 32 a (omega arith) ga) (graphic_lacks 32 b (omega arith) gb) (graphic_lacks 32 c (omega arith) gc)
+parts_of_three a b c ga gb gc =
+    parts_apart a b c (graphic_lacks 32 a (omega arith) ga) (graphic_lacks 32 b (omega arith) gb) (graphic_lacks 32 c (omega arith) gc)
 
 pub no_feed : (a b c : List ℕ) → All IsGraphic a → All IsGraphic b → All IsGraphic c → Lacks 10 (a ++ 32 ∷ (b ++ 32 ∷ c))
 no_feed a b c ga gb gc =
@@ -59,12 +60,14 @@ pub line_parts : (header : List ℕ) (h : Held) → HasCount header h
     → parts_of (line_text h) ≡ canonical_token (raw_of h.pair.cell) ∷ decimal (value_of h.pair.label) ∷ decimal h.count ∷ []
 unfolding line_text
 line_parts header h counted =
-    parts_of_three _ _ _ (token_graphic (raw_of h.pair.cell)) (decimal_graphic _ (small_label h.pair.label)) (decimal_graphic h.count (omega (arith, counted.1, greatest_small header)))
+    parts_of_three _ _ _ (token_graphic (raw_of h.pair.cell)) (decimal_graphic _ (small_label h.pair.label))
+    (decimal_graphic h.count (omega (arith, counted.1, greatest_small header)))
 
 pub line_lacks_feed : (header : List ℕ) (h : Held) → HasCount header h → Lacks 10 (line_text h)
 unfolding line_text
 line_lacks_feed header h counted =
-    no_feed _ _ _ (token_graphic (raw_of h.pair.cell)) (decimal_graphic _ (small_label h.pair.label)) (decimal_graphic h.count (omega (arith, counted.1, greatest_small header)))
+    no_feed _ _ _ (token_graphic (raw_of h.pair.cell)) (decimal_graphic _ (small_label h.pair.label))
+    (decimal_graphic h.count (omega (arith, counted.1, greatest_small header)))
 
 pub line_with_feed : (h : Held) → pair_line h ≡ line_text h ++ 10 ∷ []
 unfolding pair_line line_text
@@ -72,12 +75,15 @@ line_with_feed h = simp append_assoc
 
 pub line_has_parts : (header : List ℕ) (h : Held) → HasCount header h → has_parts 3 (line_text h) ≡ true
 line_has_parts header h counted =
-    three_from_parts (line_text h) _ _ _ (line_parts header h counted) (token_some h.pair.cell) (is_some_text _ (decimal_nonempty _ (small_label h.pair.label))) (is_some_text _ (decimal_nonempty h.count (omega (arith, counted.1, greatest_small header))))
+    three_from_parts (line_text h) _ _ _ (line_parts header h counted) (token_some h.pair.cell)
+    (is_some_text _ (decimal_nonempty _ (small_label h.pair.label)))
+    (is_some_text _ (decimal_nonempty h.count (omega (arith, counted.1, greatest_small header))))
 
 -- that line, its line feed and more, cut
 pub line_cut : (header : List ℕ) (h : Held) (text below : List ℕ) → HasCount header h → text ≡ line_text h ++ 10 ∷ below
     → IsCut text (line_text h) below
-line_cut header h text below counted is = record { whole = is; lines = ap lines_of is ∙ lines_apart (line_text h) below (line_lacks_feed header h counted) }
+line_cut header h text below counted is =
+    record { whole = is; lines = ap lines_of is ∙ lines_apart (line_text h) below (line_lacks_feed header h counted) }
 
 -- what is read of a line with the greatest count of a version is what it writes below the header of that version
 pub read_under : (version : Version) (line : List ℕ) (most : ℕ) (read : Result Held DumpFault) → most ≡ greatest_in version
@@ -90,7 +96,8 @@ pub held_from : (most : ℕ) (line a b c : List ℕ) → has_parts 3 line ≡ tr
 unfolding held_written
 held_from most line a b c three are =
     cond-true (has_parts 3 line) _ _ three
-    ∙ ap (λ (ps : List (List ℕ)). held_of_parts (cell_written (slice_index_or ps 0 [])) (label_written (slice_index_or ps 1 [])) (count_written most (slice_index_or ps 2 []))) are
+    ∙ ap (λ (ps : List (List ℕ)). held_of_parts (cell_written (slice_index_or ps 0 [])) (label_written (slice_index_or ps 1 []))
+    (count_written most (slice_index_or ps 2 []))) are
 
 pub held_by : (most : ℕ) (line a b c : List ℕ) (cell : Option CellId) (label : Option Label) (count : Option ℕ) → has_parts 3 line ≡ true
     → parts_of line ≡ a ∷ b ∷ c ∷ [] → cell_written a ≡ cell → label_written b ≡ label → count_written most c ≡ count
@@ -104,13 +111,15 @@ held_unless most line three = cond-false (has_parts 3 line) _ _ three
 pub held_of_line : (header : List ℕ) (h : Held) → HasCount header h → held_written (greatest_count header) (line_text h) ≡ Ok h
 held_of_line header h counted =
     held_from (greatest_count header) (line_text h) _ _ _ (line_has_parts header h counted) (line_parts header h counted)
-    ∙ rw (cell_of_token h.pair.cell, label_of_digits h.pair.label, count_of_digits (greatest_count header) h.count (greatest_small header) counted.0 counted.1) refl
+    ∙ rw (cell_of_token h.pair.cell, label_of_digits h.pair.label, count_of_digits (greatest_count header) h.count (greatest_small header)
+    counted.0 counted.1) refl
 
 -- the pair and the count of that line
 pub pair_of_line : (header : List ℕ) (h : Held) → HasCount header h → pair_written (line_text h) ≡ Some h.pair
 unfolding pair_written
 pair_of_line header h counted =
-    ap (λ (ps : List (List ℕ)). pair_of_both (cell_written (slice_index_or ps 0 [])) (label_written (slice_index_or ps 1 []))) (line_parts header h counted)
+    ap (λ (ps : List (List ℕ)). pair_of_both (cell_written (slice_index_or ps 0 [])) (label_written (slice_index_or ps 1 [])))
+    (line_parts header h counted)
     ∙ rw (cell_of_token h.pair.cell, label_of_digits h.pair.label) refl
 
 pub count_of_text : (header : List ℕ) (h : Held) → HasCount header h → count_of_line (greatest_count header) (line_text h) ≡ h.count
@@ -141,21 +150,27 @@ line_is_no_end header h counted =
 -- ---- the end line
 
 end_graphic : All IsGraphic (codes "end")
-end_graphic = All-cons IsGraphic 101 (110 ∷ 100 ∷ []) (omega arith) (All-cons IsGraphic 110 (100 ∷ []) (omega arith) (All-cons IsGraphic 100 [] (omega arith) (All-nil IsGraphic)))
+end_graphic =
+    All-cons IsGraphic 101 (110 ∷ 100 ∷ []) (omega arith)
+    (All-cons IsGraphic 110 (100 ∷ []) (omega arith) (All-cons IsGraphic 100 [] (omega arith) (All-nil IsGraphic)))
 
 pub end_parts : (pairs copies : ℕ) → pairs < 2 ^ 64 → copies < 2 ^ 64
     → parts_of (end_text pairs copies) ≡ codes "end" ∷ decimal pairs ∷ decimal copies ∷ []
-end_parts pairs copies few small = parts_of_three (codes "end") (decimal pairs) (decimal copies) end_graphic (decimal_graphic pairs few) (decimal_graphic copies small)
+end_parts pairs copies few small =
+    parts_of_three (codes "end") (decimal pairs) (decimal copies) end_graphic (decimal_graphic pairs few) (decimal_graphic copies small)
 
 pub end_lacks_feed : (pairs copies : ℕ) → pairs < 2 ^ 64 → copies < 2 ^ 64 → Lacks 10 (end_text pairs copies)
-end_lacks_feed pairs copies few small = no_feed (codes "end") (decimal pairs) (decimal copies) end_graphic (decimal_graphic pairs few) (decimal_graphic copies small)
+end_lacks_feed pairs copies few small =
+    no_feed (codes "end") (decimal pairs) (decimal copies) end_graphic (decimal_graphic pairs few) (decimal_graphic copies small)
 
 pub end_has_parts : (pairs copies : ℕ) → pairs < 2 ^ 64 → copies < 2 ^ 64 → has_parts 3 (end_text pairs copies) ≡ true
 end_has_parts pairs copies few small =
-    three_from_parts (end_text pairs copies) (codes "end") (decimal pairs) (decimal copies) (end_parts pairs copies few small) refl (is_some_text _ (decimal_nonempty pairs few)) (is_some_text _ (decimal_nonempty copies small))
+    three_from_parts (end_text pairs copies) (codes "end") (decimal pairs) (decimal copies) (end_parts pairs copies few small) refl
+    (is_some_text _ (decimal_nonempty pairs few)) (is_some_text _ (decimal_nonempty copies small))
 
 pub end_is_end : (pairs copies : ℕ) → pairs < 2 ^ 64 → copies < 2 ^ 64 → is_end (end_text pairs copies) ≡ true
-end_is_end pairs copies few small = ap (λ (ps : List (List ℕ)). bytes_eq (slice_index_or ps 0 []) (codes "end")) (end_parts pairs copies few small)
+end_is_end pairs copies few small =
+    ap (λ (ps : List (List ℕ)). bytes_eq (slice_index_or ps 0 []) (codes "end")) (end_parts pairs copies few small)
 
 pub end_with_feed : (hs : Collection) → end_line hs ≡ end_text (length hs) (copies_in hs) ++ 10 ∷ []
 unfolding end_line
@@ -169,15 +184,19 @@ pub end_tested : (line a b c pairs_digits copies_digits : List ℕ) (pairs copie
 end_tested line a b c pairs_digits copies_digits pairs copies p q end are few small p_is pairs_are q_is copies_are = (
   λ both.
       let parts = and_parts p q both in
-      let first : a ≡ codes "end" = (bytes_eq-Decides a (codes "end")).0 (sym (ap (λ (ps : List (List ℕ)). bytes_eq (slice_index_or ps 0 []) (codes "end")) are) ∙ end) in
+      let first : a ≡ codes "end" =
+          (bytes_eq-Decides a (codes "end")).0
+          (sym (ap (λ (ps : List (List ℕ)). bytes_eq (slice_index_or ps 0 []) (codes "end")) are) ∙ end) in
       let second : b ≡ decimal pairs = (bytes_eq-Decides b pairs_digits).0 (sym p_is ∙ parts.0) ∙ pairs_are in
       let third : c ≡ decimal copies = (bytes_eq-Decides c copies_digits).0 (sym q_is ∙ parts.1) ∙ copies_are in
       parts_joined line a b c are ∙ rw (first, second, third) refl,
   λ is.
-      let same : a ∷ b ∷ c ∷ [] ≡ codes "end" ∷ decimal pairs ∷ decimal copies ∷ [] = sym are ∙ ap parts_of is ∙ end_parts pairs copies few small in
+      let same : a ∷ b ∷ c ∷ [] ≡ codes "end" ∷ decimal pairs ∷ decimal copies ∷ [] =
+          sym are ∙ ap parts_of is ∙ end_parts pairs copies few small in
       let second : b ≡ decimal pairs = ap (λ (ps : List (List ℕ)). slice_index_or ps 1 []) same in
       let third : c ≡ decimal copies = ap (λ (ps : List (List ℕ)). slice_index_or ps 2 []) same in
-      and_from p q (p_is ∙ (bytes_eq-Decides b pairs_digits).1 (second ∙ sym pairs_are)) (q_is ∙ (bytes_eq-Decides c copies_digits).1 (third ∙ sym copies_are)),
+      and_from p q (p_is ∙ (bytes_eq-Decides b pairs_digits).1 (second ∙ sym pairs_are))
+      (q_is ∙ (bytes_eq-Decides c copies_digits).1 (third ∙ sym copies_are)),
 )
 
 -- ---- a line, read from the front of a text
@@ -188,5 +207,8 @@ pub line_of_parts : (text first second third : List ℕ) (h : Held) (label : ℕ
 unfolding line_text
 line_of_parts text first second third h label token number count is =
     token
-    ∙ ap (λ x. canonical_token (raw_of h.pair.cell) ++ 32 ∷ x) (number ∙ ap (λ n. decimal n ++ 32 ∷ second) (sym is) ∙ ap (λ x. decimal (value_of h.pair.label) ++ 32 ∷ x) count)
-    ∙ (let same : canonical_token (raw_of h.pair.cell) ++ 32 ∷ (decimal (value_of h.pair.label) ++ 32 ∷ (decimal h.count ++ 10 ∷ third)) ≡ (canonical_token (raw_of h.pair.cell) ++ 32 ∷ (decimal (value_of h.pair.label) ++ 32 ∷ decimal h.count)) ++ 10 ∷ third = simp append_assoc in same)
+    ∙ ap (λ x. canonical_token (raw_of h.pair.cell) ++ 32 ∷ x)
+    (number ∙ ap (λ n. decimal n ++ 32 ∷ second) (sym is) ∙ ap (λ x. decimal (value_of h.pair.label) ++ 32 ∷ x) count)
+    ∙ (let same : canonical_token (raw_of h.pair.cell) ++ 32 ∷ (decimal (value_of h.pair.label) ++ 32 ∷ (decimal h.count ++ 10 ∷ third))
+    ≡ (canonical_token (raw_of h.pair.cell) ++ 32 ∷ (decimal (value_of h.pair.label) ++ 32 ∷ decimal h.count))
+    ++ 10 ∷ third = simp append_assoc in same)

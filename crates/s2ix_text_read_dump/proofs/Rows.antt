@@ -42,21 +42,25 @@ find_pair t a b c d = cond-false (t Truncated) _ _ a ∙ cond-false (t BadHeader
 
 no_pair_fault : (t : DumpFault → Bool) → t BadLine ≡ false → t BadToken ≡ false → t BadLabel ≡ false → t BadCount ≡ false
     → t Unsorted ≡ false → t TooManyCopies ≡ false → t TooManyPairs ≡ false
-    → find t dump_faults ≡ cond (t Truncated) (Some Truncated) (cond (t BadHeader) (Some BadHeader) (cond (t BadEnd) (Some BadEnd) (cond (t TrailingBytes) (Some TrailingBytes) None)))
+    → find t dump_faults ≡ cond (t Truncated) (Some Truncated)
+    (cond (t BadHeader) (Some BadHeader) (cond (t BadEnd) (Some BadEnd) (cond (t TrailingBytes) (Some TrailingBytes) None)))
 no_pair_fault t a b c d e f g = rw (a, b, c, d, e, f, g) refl
 
 -- ---- below the lines of held pairs
 
 pub not_over : (header : List ℕ) (hs : Collection) → All (HasCount header) hs → list_any is_end (map line_text hs) ≡ false
 not_over header [] counted = refl
-not_over header (h ∷ hs) counted = or_from _ _ (line_is_no_end header h (All-head (HasCount header) h hs counted)) (not_over header hs (All-tail (HasCount header) h hs counted))
+not_over header (h ∷ hs) counted =
+    or_from _ _ (line_is_no_end header h (All-head (HasCount header) h hs counted))
+    (not_over header hs (All-tail (HasCount header) h hs counted))
 
 pub copies_are : (header : List ℕ) (hs : Collection) → All (HasCount header) hs
     → sum_by (count_of_line (greatest_count header)) (map line_text hs) ≡ copies_in hs
 copies_are header [] counted = refl
 copies_are header (h ∷ hs) counted =
     sum_by-cons (count_of_line (greatest_count header)) (line_text h) (map line_text hs)
-    ∙ ap₂ (λ m n. m + n) (count_of_text header h (All-head (HasCount header) h hs counted)) (copies_are header hs (All-tail (HasCount header) h hs counted))
+    ∙ ap₂ (λ m n. m + n) (count_of_text header h (All-head (HasCount header) h hs counted))
+    (copies_are header hs (All-tail (HasCount header) h hs counted))
     ∙ sym (sum_by-cons (λ (k : Held). k.count) h hs)
 
 pub last_is : (header : List ℕ) (hs : Collection) → All (HasCount header) hs
@@ -77,10 +81,12 @@ next_fault limits hs (Ok h) =
 
 of_pair : (limits : Limits) (header : List ℕ) (hs : Collection) (line : List ℕ) → All (HasCount header) hs → is_end line ≡ false
     → is_of_pair (place_below limits header hs line) ≡ true
-of_pair limits header hs line counted no_end = and_from _ _ (and_from _ _ refl (not_from_false _ (not_over header hs counted))) (not_from_false _ no_end)
+of_pair limits header hs line counted no_end =
+    and_from _ _ (and_from _ _ refl (not_from_false _ (not_over header hs counted))) (not_from_false _ no_end)
 
 last_rows : (a b c x y z : Bool) → a ≡ x → b ≡ y → c ≡ z
-    → ◌≡◌ {A = Option DumpFault} (cond a (Some Unsorted) (cond b (Some TooManyCopies) (cond c (Some TooManyPairs) None))) (cond x (Some Unsorted) (cond y (Some TooManyCopies) (cond z (Some TooManyPairs) None)))
+    → ◌≡◌ {A = Option DumpFault} (cond a (Some Unsorted) (cond b (Some TooManyCopies) (cond c (Some TooManyPairs) None)))
+    (cond x (Some Unsorted) (cond y (Some TooManyCopies) (cond z (Some TooManyPairs) None)))
 last_rows a b c x y z ax by cz = rw (ax, by, cz) refl
 
 pair_from : (text : List ℕ) (c : CellId) (l : Label) → cell_written (part 0 text) ≡ Some c → label_written (part 1 text) ≡ Some l
@@ -92,11 +98,13 @@ count_from_part : (most : ℕ) (text : List ℕ) (m : ℕ) → count_written mos
 unfolding count_of_line
 count_from_part most text m x = ap (λ o. unwrap_or o 0) x
 
-at_parts : (limits : Limits) (header : List ℕ) (hs : Collection) (line : List ℕ) (three : Bool) (cell : Option CellId) (label : Option Label) (count : Option ℕ)
+at_parts : (limits : Limits) (header : List ℕ) (hs : Collection) (line : List ℕ) (three : Bool) (cell : Option CellId)
+    (label : Option Label) (count : Option ℕ)
     → All (HasCount header) hs → is_end line ≡ false
     → has_parts 3 line ≡ three → cell_written (part 0 line) ≡ cell → label_written (part 1 line) ≡ label
     → count_written (greatest_count header) (part 2 line) ≡ count
-    → pair_faults (stands (place_below limits header hs line)) ≡ next_fault limits hs (cond three (held_of_parts cell label count) (Err BadLine))
+    → pair_faults (stands (place_below limits header hs line)) ≡ next_fault limits hs
+    (cond three (held_of_parts cell label count) (Err BadLine))
 unfolding stands next_fault
 at_parts limits header hs line false cell label count counted no_end a b c d =
     let of = of_pair limits header hs line counted no_end in
@@ -125,7 +133,8 @@ at_parts limits header hs line true (Some cell) (Some label) (Some n) counted no
     ∙ cond-false (stands (place_below limits header hs line) BadLabel) _ _ (applies _ _ _ of (ap is_none c))
     ∙ cond-false (stands (place_below limits header hs line) BadCount) _ _ (applies _ _ _ of (ap is_none d))
     ∙ last_rows _ _ _ _ _ _
-    (applies _ _ _ of (ap (λ p. not (comes_before p (pair_written line))) (last_is header hs counted) ∙ ap (λ p. not (comes_before (last_pair hs) p)) pair))
+    (applies _ _ _ of (ap (λ p. not (comes_before p (pair_written line))) (last_is header hs counted)
+    ∙ ap (λ p. not (comes_before (last_pair hs) p)) pair))
     (applies _ _ _ of (ap (λ m. nat_lt (count_limit limits) m) count))
     (applies _ _ _ of (ap (λ m. nat_le (pairs_limit limits) m) (length-map hs line_text)))
 
@@ -140,7 +149,8 @@ pair_row limits header hs line is no_end =
     refl
     (and_left _ _ (and_right _ _ no_end))
     (and_left _ _ (not_over header hs counted))
-    ∙ at_parts limits header hs line (has_parts 3 line) (cell_written (part 0 line)) (label_written (part 1 line)) (count_written (greatest_count header) (part 2 line)) counted no_end refl refl refl refl
+    ∙ at_parts limits header hs line (has_parts 3 line) (cell_written (part 0 line)) (label_written (part 1 line))
+    (count_written (greatest_count header) (part 2 line)) counted no_end refl refl refl refl
 
 -- ---- the next held pair
 
@@ -165,13 +175,15 @@ written_at header line h true (Some cell) (Some label) (Some n) a b c d is =
     let counts = written_count (greatest_count header) (part 2 line) n d in
     let made : Held = record { pair = record { cell = cell; label = label }; count = n } in
     subst (λ (k : Held). (line ≡ line_text k) × HasCount header k) same
-    (written_held (greatest_count header) line (part 0 line) (part 1 line) (part 2 line) made (three_list (parts_of line) long) b c d, (counts.1, counts.2))
+    (written_held (greatest_count header) line (part 0 line) (part 1 line) (part 2 line) made (three_list (parts_of line) long) b c d,
+    (counts.1, counts.2))
 
 pub line_from_held : (header : List ℕ) (line : List ℕ) (h : Held) → held_written (greatest_count header) line ≡ Ok h
     → (line ≡ line_text h) × HasCount header h
 unfolding held_written
 line_from_held header line h is =
-    written_at header line h (has_parts 3 line) (cell_written (part 0 line)) (label_written (part 1 line)) (count_written (greatest_count header) (part 2 line)) refl refl refl refl is
+    written_at header line h (has_parts 3 line) (cell_written (part 0 line)) (label_written (part 1 line))
+    (count_written (greatest_count header) (part 2 line)) refl refl refl refl is
 
 pub next_is : (limits : Limits) (header : List ℕ) (hs : Collection) (line : List ℕ) (h : Held) → IsDumped limits header hs
     → is_end line ≡ false → held_written (greatest_count header) line ≡ Ok h
@@ -202,7 +214,8 @@ end_row limits header hs line is end =
     let other : is_of_pair p ≡ false = and_right _ _ (ap not end) in
     let over = not_over header hs counted in
     let inner : is_inner p ≡ true = and_from _ _ refl (not_from_false _ over) in
-    no_pair_fault t (and_left _ _ other) (and_left _ _ other) (and_left _ _ other) (and_left _ _ other) (and_left _ _ other) (and_left _ _ other) (and_left _ _ other)
+    no_pair_fault t (and_left _ _ other) (and_left _ _ other) (and_left _ _ other) (and_left _ _ other) (and_left _ _ other)
+    (and_left _ _ other) (and_left _ _ other)
     ∙ cond-false (t Truncated) _ _ (and_right (not (is_over p)) false refl)
     ∙ cond-false (t BadHeader) (Some BadHeader) _ refl
     ∙ end_rows (t BadEnd) (not (bytes_eq line (end_text (length hs) (copies_in hs)))) (t TrailingBytes)
@@ -224,7 +237,8 @@ behind_row p first over =
     let t = stands p in
     let inner : is_inner p ≡ false = and_right _ _ (ap not over) in
     let other : is_of_pair p ≡ false = and_left _ _ inner in
-    no_pair_fault t (and_left _ _ other) (and_left _ _ other) (and_left _ _ other) (and_left _ _ other) (and_left _ _ other) (and_left _ _ other) (and_left _ _ other)
+    no_pair_fault t (and_left _ _ other) (and_left _ _ other) (and_left _ _ other) (and_left _ _ other) (and_left _ _ other)
+    (and_left _ _ other) (and_left _ _ other)
     ∙ cond-false (t Truncated) _ _ (and_left _ _ (ap not over))
     ∙ cond-false (t BadHeader) _ _ (and_left _ _ first)
     ∙ cond-false (t BadEnd) _ _ (and_left _ _ (and_left _ _ inner))
@@ -242,7 +256,8 @@ truncated_row p over ended = cond-true (stands p Truncated) _ _ (and_from _ _ (a
 -- ---- the header
 
 pub header_row : (limits : Limits) (line : List ℕ)
-    → line_fault (record { limits = limits; above = []; line = line; ended = true }) ≡ cond (is_none (dump_version line)) (Some BadHeader) None
+    → line_fault (record { limits = limits; above = []; line = line; ended = true })
+    ≡ cond (is_none (dump_version line)) (Some BadHeader) None
 unfolding line_fault stands
 header_row limits line = refl
 
@@ -266,12 +281,14 @@ pub copies_fault : (limits : Limits) (header : List ℕ) (hs : Collection) (line
     → count_limit limits < h.count → line_fault (place_below limits header hs line) ≡ Some TooManyCopies
 unfolding next_fault
 copies_fault limits header hs line h is no_end writes before many =
-    pair_row limits header hs line is no_end ∙ ap (next_fault limits hs) writes ∙ cond-false _ _ _ (ap not before) ∙ cond-true _ _ _ (lt-ltb (count_limit limits) h.count many)
+    pair_row limits header hs line is no_end ∙ ap (next_fault limits hs) writes ∙ cond-false _ _ _ (ap not before)
+    ∙ cond-true _ _ _ (lt-ltb (count_limit limits) h.count many)
 
 pub pairs_fault : (limits : Limits) (header : List ℕ) (hs : Collection) (line : List ℕ) (h : Held) → IsDumped limits header hs
     → is_end line ≡ false → held_written (greatest_count header) line ≡ Ok h → comes_before (last_pair hs) (Some h.pair) ≡ true
     → h.count ≤ count_limit limits → pairs_limit limits ≤ length hs → line_fault (place_below limits header hs line) ≡ Some TooManyPairs
 unfolding next_fault
 pairs_fault limits header hs line h is no_end writes before small full =
-    pair_row limits header hs line is no_end ∙ ap (next_fault limits hs) writes ∙ cond-false _ _ _ (ap not before) ∙ cond-false _ _ _ (le-ltb (count_limit limits) h.count small)
+    pair_row limits header hs line is no_end ∙ ap (next_fault limits hs) writes ∙ cond-false _ _ _ (ap not before)
+    ∙ cond-false _ _ _ (le-ltb (count_limit limits) h.count small)
     ∙ cond-true _ _ _ (le-leb (pairs_limit limits) (length hs) full)

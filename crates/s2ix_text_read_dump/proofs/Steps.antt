@@ -46,17 +46,20 @@ line_number : (limits : Limits) (header : List ℕ) (hs : Collection) (line : Li
     → fault_left limits header hs (line ∷ lines) ≡ Some (length hs + 2, fault)
 line_number limits header hs line lines fault is =
     found_here line_fault limits (lines_down_to header hs) line lines fault is
-    ∙ ap (λ n. Some (n, fault)) (let same : length (lines_down_to header hs) + 1 ≡ length hs + 2 = omega (arith, length-map hs line_text) in same)
+    ∙ ap (λ n. Some (n, fault))
+    (let same : length (lines_down_to header hs) + 1 ≡ length hs + 2 = omega (arith, length-map hs line_text) in same)
 
 next_lines : (header : List ℕ) (hs : Collection) (line : List ℕ) (h : Held) → line ≡ line_text h
     → lines_down_to header hs ++ line ∷ [] ≡ lines_down_to header (hs ++ h ∷ [])
-next_lines header hs line h is = ap (λ (ls : List (List ℕ)). header ∷ ls) (ap (λ x. map line_text hs ++ x ∷ []) is ∙ sym (map_push line_text hs h))
+next_lines header hs line h is =
+    ap (λ (ls : List (List ℕ)). header ∷ ls) (ap (λ x. map line_text hs ++ x ∷ []) is ∙ sym (map_push line_text hs h))
 
 pub fault_after_next : (limits : Limits) (header : List ℕ) (hs : Collection) (line : List ℕ) (lines : List (List ℕ)) (h : Held)
     → is_nil lines ≡ false → IsNext limits header hs line h
     → fault_left limits header hs (line ∷ lines) ≡ fault_left limits header (hs ++ h ∷ []) lines
 fault_after_next limits header hs line lines h some next =
-    found_later line_fault limits (lines_down_to header hs) line lines (ap line_fault (ended limits (lines_down_to header hs) line lines some) ∙ next.sound)
+    found_later line_fault limits (lines_down_to header hs) line lines
+    (ap line_fault (ended limits (lines_down_to header hs) line lines some) ∙ next.sound)
     ∙ ap (λ (above : List (List ℕ)). fault_below line_fault limits above lines) (next_lines header hs line h next.text)
 
 copies_more : (hs : Collection) (h : Held) → copies_in (hs ++ h ∷ []) ≡ copies_in hs + h.count
@@ -69,10 +72,13 @@ pub read_more : (limits : Limits) (header : List ℕ) (text : List ℕ) (hs : Co
 read_more limits header text hs copies rest below h was cut next = record {
   dumped = next.dumped;
   text =
-      was.text ∙ ap (λ x. flat_map pair_line hs ++ x) (cut.whole ∙ sym (append_assoc (line_text h) (10 ∷ []) below) ∙ ap (λ x. x ++ below) (sym (line_with_feed h)))
+      was.text ∙ ap (λ x. flat_map pair_line hs ++ x)
+      (cut.whole ∙ sym (append_assoc (line_text h) (10 ∷ []) below) ∙ ap (λ x. x ++ below) (sym (line_with_feed h)))
       ∙ sym (append_assoc (flat_map pair_line hs) (pair_line h) below)
       ∙ ap (λ x. x ++ below) (flat_map_more pair_line [] hs h);
-  fault = was.fault ∙ ap (fault_left limits header hs) cut.lines ∙ fault_after_next limits header hs (line_text h) (lines_of below) h (lines_some below) next;
+  fault =
+      was.fault ∙ ap (fault_left limits header hs) cut.lines
+      ∙ fault_after_next limits header hs (line_text h) (lines_of below) h (lines_some below) next;
   copies = omega (arith, copies_more hs h, was.copies);
 }
 
@@ -82,14 +88,16 @@ pub row_fault : (limits : Limits) (header : List ℕ) (hs : Collection) (rest li
     → fault_left limits header hs (lines_of rest) ≡ Some (length hs + 2, fault)
 row_fault limits header hs rest line below fault lines is =
     ap (fault_left limits header hs) lines
-    ∙ line_number limits header hs line (lines_of below) fault (ap line_fault (ended limits (lines_down_to header hs) line (lines_of below) (lines_some below)) ∙ is)
+    ∙ line_number limits header hs line (lines_of below) fault
+    (ap line_fault (ended limits (lines_down_to header hs) line (lines_of below) (lines_some below)) ∙ is)
 
 -- no line feed where a line is wanted
 pub truncated : (limits : Limits) (header : List ℕ) (hs : Collection) (rest : List ℕ) → IsDumped limits header hs
     → lines_of rest ≡ rest ∷ [] → fault_left limits header hs (lines_of rest) ≡ Some (length hs + 2, Truncated)
 truncated limits header hs rest bag lines =
     ap (fault_left limits header hs) lines
-    ∙ line_number limits header hs rest [] Truncated (truncated_row (place limits (lines_down_to header hs) rest []) (not_over header hs (counts_are limits header hs bag)) refl)
+    ∙ line_number limits header hs rest [] Truncated
+    (truncated_row (place limits (lines_down_to header hs) rest []) (not_over header hs (counts_are limits header hs bag)) refl)
 
 -- ---- the end line
 
@@ -102,17 +110,21 @@ pub end_fault : (limits : Limits) (header : List ℕ) (hs : Collection) (line : 
     → (line ≡ end_text (length hs) (copies_in hs) → ⊥) → line_fault (place_below limits header hs line) ≡ Some BadEnd
 end_fault limits header hs line bag end other =
     end_row limits header hs line bag end
-    ∙ cond-true _ _ _ (ap not (false_from_ne_true (bytes_eq line (end_text (length hs) (copies_in hs))) (λ same. other ((bytes_eq-Decides line (end_text (length hs) (copies_in hs))).0 same))))
+    ∙ cond-true _ _ _
+    (ap not (false_from_ne_true (bytes_eq line (end_text (length hs) (copies_in hs)))
+    (λ same. other ((bytes_eq-Decides line (end_text (length hs) (copies_in hs))).0 same))))
 
 -- what is left behind the end line
 pub fault_behind : (limits : Limits) (header : List ℕ) (hs : Collection) (line : List ℕ) (last : List ℕ) (lines : List (List ℕ))
     → IsDumped limits header hs → is_end line ≡ true → line ≡ end_text (length hs) (copies_in hs)
-    → fault_left limits header hs (line ∷ last ∷ lines) ≡ fault_below line_fault limits (lines_down_to header hs ++ line ∷ []) (last ∷ lines)
+    → fault_left limits header hs (line ∷ last ∷ lines) ≡ fault_below line_fault limits (lines_down_to header hs ++ line ∷ [])
+    (last ∷ lines)
 fault_behind limits header hs line last lines bag end is =
     found_later line_fault limits (lines_down_to header hs) line (last ∷ lines) (end_sound limits header hs line bag end is)
 
 last_fault : (limits : Limits) (header : List ℕ) (hs : Collection) (line last : List ℕ) (lines : List (List ℕ)) → is_end line ≡ true
-    → line_fault (place limits (lines_down_to header hs ++ line ∷ []) last lines) ≡ cond (not (is_nil lines) || not (is_nil last)) (Some TrailingBytes) None
+    → line_fault (place limits (lines_down_to header hs ++ line ∷ []) last lines)
+    ≡ cond (not (is_nil lines) || not (is_nil last)) (Some TrailingBytes) None
 last_fault limits header hs line last lines end =
     behind_row (place limits (lines_down_to header hs ++ line ∷ []) last lines) refl (over_behind hs line end)
 
@@ -129,8 +141,11 @@ pub bytes_behind : (limits : Limits) (header : List ℕ) (hs : Collection) (line
     → fault_left limits header hs (line ∷ last ∷ lines) ≡ Some (length hs + 3, TrailingBytes)
 bytes_behind limits header hs line last lines bag end is some =
     fault_behind limits header hs line last lines bag end is
-    ∙ found_here line_fault limits (lines_down_to header hs ++ line ∷ []) last lines TrailingBytes (last_fault limits header hs line last lines end ∙ cond-true _ _ _ some)
-    ∙ ap (λ n. Some (n, TrailingBytes)) (let same : length (lines_down_to header hs ++ line ∷ []) + 1 ≡ length hs + 3 = omega (arith, length_push (lines_down_to header hs) line, length-map hs line_text) in same)
+    ∙ found_here line_fault limits (lines_down_to header hs ++ line ∷ []) last lines TrailingBytes
+    (last_fault limits header hs line last lines end ∙ cond-true _ _ _ some)
+    ∙ ap (λ n. Some (n, TrailingBytes))
+    (let same : length (lines_down_to header hs ++ line ∷ []) + 1 ≡ length hs + 3 =
+    omega (arith, length_push (lines_down_to header hs) line, length-map hs line_text) in same)
 
 pub trailing : (limits : Limits) (header : List ℕ) (hs : Collection) (copies : ℕ) (rest line below : List ℕ) → IsDumped limits header hs
     → copies ≡ copies_in hs → lines_of rest ≡ line ∷ lines_of below → is_end line ≡ true → line ≡ end_text (length hs) copies
@@ -169,7 +184,9 @@ pub below_header : (limits : Limits) (version : Version) (text header below : Li
 unfolding dump_fault
 below_header limits version text header below lines named =
     ap (fault_below line_fault limits []) lines
-    ∙ found_later line_fault limits [] header (lines_of below) (ap line_fault (ended limits [] header (lines_of below) (lines_some below)) ∙ header_row limits header ∙ cond-false _ _ _ (ap is_none named))
+    ∙ found_later line_fault limits [] header (lines_of below)
+    (ap line_fault (ended limits [] header (lines_of below) (lines_some below)) ∙ header_row limits header
+    ∙ cond-false _ _ _ (ap is_none named))
     ∙ ap (λ (h : List ℕ). fault_left limits h [] (lines_of below)) (dump_header_named header version named)
 
 pub bad_header : (limits : Limits) (text header below : List ℕ) → lines_of text ≡ header ∷ lines_of below → dump_version header ≡ None
@@ -178,7 +195,8 @@ unfolding dump_fault
 bad_header limits text header below lines none =
     ap (fault_below line_fault limits []) lines
     ∙ found_here line_fault limits [] header (lines_of below) BadHeader
-    (ap line_fault (ended limits [] header (lines_of below) (lines_some below)) ∙ header_row limits header ∙ cond-true _ _ _ (ap is_none none))
+    (ap line_fault (ended limits [] header (lines_of below) (lines_some below)) ∙ header_row limits header
+    ∙ cond-true _ _ _ (ap is_none none))
 
 pub no_header : (limits : Limits) (text : List ℕ) → lines_of text ≡ text ∷ [] → dump_fault limits text ≡ Some (1, Truncated)
 unfolding dump_fault
@@ -195,7 +213,8 @@ copies_small limits hs bag = (omega (arith, bag.few, limits.in_range.1), copies_
 
 pub end_agrees : (line first word : List ℕ) (r : Bool) → r ≡ not (bytes_eq first word) → first ≡ part 0 line → word ≡ codes "end"
     → r ≡ false → is_end line ≡ true
-end_agrees line first word r is first_is word_is fails = ap₂ (λ (x y : List ℕ). bytes_eq x y) (sym first_is) (sym word_is) ∙ not-false (bytes_eq first word) (sym is ∙ fails)
+end_agrees line first word r is first_is word_is fails =
+    ap₂ (λ (x y : List ℕ). bytes_eq x y) (sym first_is) (sym word_is) ∙ not-false (bytes_eq first word) (sym is ∙ fails)
 
 -- the sum of the counts with the next one fits
 pub next_sum : (limits : Limits) (header : List ℕ) (hs : Collection) (line : List ℕ) (h : Held) → IsNext limits header hs line h

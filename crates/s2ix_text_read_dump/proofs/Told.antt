@@ -1,9 +1,9 @@
 -- What each refusal says of the line that it names.
-use Rattle.std.proofs.Common.{◌≡◌, ◌≢◌, ◌↔◌, ℕ, zero, suc, ◌+◌, ◌-◌, ◌<◌, ◌≤◌, ◌&&◌, Bool, true, false, not, Option, Some, None, Result, Ok, Err, OnOk, IfErr, List, [], ◌∷◌, length, take, drop, refl, sym, ap, ◌∙◌, subst, arith, ⊎_elim}
+use Rattle.std.proofs.Common.{◌≡◌, ◌≢◌, ◌↔◌, ℕ, zero, suc, ◌+◌, ◌-◌, ◌<◌, ◌≤◌, ◌⊎◌, inl, inr, ◌&&◌, Bool, true, false, not, Option, Some, None, Result, Ok, Err, OnOk, IfErr, List, [], ◌∷◌, length, take, drop, refl, sym, ap, ◌∙◌, subst, arith}
 use Rattle.std.specs.Prelude.{is_none, slice_index_or}
 use Rattle.std.specs.List.{list_any}
 use Rattle.std.specs.Option.{option_and_then}
-use Rattle.std.proofs.lemmas.Bool.{and_parts, cases_lt, cond-true, leb-true, ltb-true, not-false, not-true, or_right}
+use Rattle.std.proofs.lemmas.Bool.{and_parts, cond-true, leb-true, ltb-true, not-true, or_right}
 use Rattle.std.proofs.lemmas.List.{length-drop, length-take-le}
 use Rattle.s2ix_bag_pairs.specs.Limits.{count_limit, pairs_limit}
 use Rattle.s2ix_bag_pairs.specs.declared.limits.Limits.{Limits}
@@ -14,14 +14,13 @@ use Rattle.s2ix_text_read_dump.specs.declared.errors.DumpError.TheVariants.{At, 
 use Rattle.s2ix_text_read_dump.specs.declared.errors.DumpFault.{DumpFault}
 use Rattle.s2ix_text_read_dump.specs.declared.errors.DumpFault.TheVariants.{Truncated, BadHeader, BadEnd, BadLine, BadToken, BadLabel, BadCount, Unsorted, TooManyCopies, TooManyPairs, TrailingBytes}
 use Rattle.s2ix_text_read_dump.specs.DumpFaults.{IsDumpError, dump_fault, dump_faults, greatest_count, is_end, is_first, is_inner, is_of_pair, is_over, line_fault, pairs_above, stands}
-use Rattle.s2ix_text_parts.specs.Faults.{IsFromLine, Place, fault_below, header_of}
+use Rattle.s2ix_text_parts.specs.Faults.{Place, fault_below, header_of}
 use Rattle.s2ix_text_parts.specs.Lines.{has_parts, is_nil, last_of, lines_of, part}
 use Rattle.s2ix_text_parts.specs.Places.{line_at, lines_above, place_at}
 use Rattle.s2ix_text_parts.specs.Written.{cell_written, comes_before, count_of_line, count_written, label_written, pair_written}
-use Rattle.s2ix_text_parts.proofs.FirstFault.{found_here, place}
-use Rattle.s2ix_text_parts.proofs.Found.{IsOfLine, find_passes, found_of_line}
-use Rattle.s2ix_text_parts.proofs.Pieces.{lines_some}
-use Rattle.s2ix_text_parts.proofs.Places.{last_line, more_lines, none_from, same_header, some_lines}
+use Rattle.s2ix_text_parts.proofs.FaultsTold.{AreErrors, AreFaults, TellsLines, tells_lines}
+use Rattle.s2ix_text_parts.proofs.Found.{find_passes}
+use Rattle.s2ix_text_parts.proofs.Places.{none_from, same_header}
 use Rattle.s2ix_text_read_dump.proofs.Rows.{header_row, truncated_row}
 
 -- ---- the fault of the line
@@ -31,24 +30,11 @@ fault_stands : (p : Place) (fault : DumpFault) → line_fault p ≡ Some fault �
 unfolding line_fault
 fault_stands p fault is = find_passes (stands p) dump_faults fault is
 
-pub fault_of_line : (limits : Limits) (text : List ℕ) (line : ℕ) (fault : DumpFault) → dump_fault limits text ≡ Some (line, fault)
-    → IsOfLine line_fault limits text line fault
-unfolding dump_fault
-fault_of_line limits text line fault is = found_of_line line_fault limits text line fault is
-
--- a fault but the first of the list is found only where the line has its line feed
-ended_at : (p : Place) (fault : DumpFault) (ended : Bool) → p.ended ≡ ended → is_over p ≡ false → (Truncated ≡ fault → ⊥)
-    → line_fault p ≡ Some fault → ended ≡ true
-ended_at p fault true own over other is = refl
-ended_at p fault false own over other is =
-    let same : Some Truncated ≡ Some fault = sym (truncated_row p over own) ∙ is in
-    let clash : Truncated ≡ fault = cc in
-    absurd (other clash)
-
 -- ---- where each fault stands
 
 inner_of_pair : (p : Place) → is_of_pair p ≡ true → is_nil p.above ≡ false
-inner_of_pair p is = not-true (is_first p) (and_parts (not (is_first p)) (not (is_over p)) (and_parts (is_inner p) (not (is_end p.line)) is).0).0
+inner_of_pair p is =
+    not-true (is_first p) (and_parts (not (is_first p)) (not (is_over p)) (and_parts (is_inner p) (not (is_end p.line)) is).0).0
 
 bad_end_there : (p : Place) → stands p BadEnd ≡ true → is_end p.line ≡ true
 unfolding stands
@@ -127,24 +113,31 @@ pair_above (suc (suc k)) (line ∷ lines) next inside is =
 
 -- ---- the first line
 
--- a text without a line feed
-one_line : (limits : Limits) (text : List ℕ) (lines : List (List ℕ)) → lines_of text ≡ lines → length lines ≡ 1
-    → dump_fault limits text ≡ Some (1, Truncated)
+-- the first fault of a text is that of its first line that has one
+found_is : (limits : Limits) (text : List ℕ) → dump_fault limits text ≡ fault_below line_fault limits [] (lines_of text)
 unfolding dump_fault
-one_line limits text [] are one = absurd (omega arith)
-one_line limits text (line ∷ []) are one =
-    ap (fault_below line_fault limits []) are ∙ found_here line_fault limits [] line [] Truncated (truncated_row (place limits [] line []) refl refl)
-one_line limits text (line ∷ (next ∷ lines)) are one = absurd (omega arith)
+found_is limits text = refl
 
--- one whose first line is no header
-other_header : (limits : Limits) (text : List ℕ) (lines : List (List ℕ)) → lines_of text ≡ lines → 1 < length lines
-    → dump_version (slice_index_or lines 0 []) ≡ None → dump_fault limits text ≡ Some (1, BadHeader)
-unfolding dump_fault
-other_header limits text [] are more none = absurd (omega arith)
-other_header limits text (line ∷ []) are more none = absurd (omega arith)
-other_header limits text (line ∷ (next ∷ lines)) are more none =
-    ap (fault_below line_fault limits []) are
-    ∙ found_here line_fault limits [] line (next ∷ lines) BadHeader (header_row limits line ∙ cond-true _ _ _ (ap is_none none))
+faults : AreFaults line_fault Truncated BadHeader dump_version
+faults = record {
+  differ = λ same. cc;
+  no_feed = λ p first open_end. truncated_row p (ap (λ (above : List (List ℕ)). list_any is_end (drop 1 above)) first) open_end;
+  no_header = λ limits line none. header_row limits line ∙ cond-true _ _ _ (ap is_none none);
+  open_end = λ p is. truncated_there p (fault_stands p Truncated is);
+  unnamed = λ p is. header_there p (fault_stands p BadHeader is);
+}
+
+-- a fault with the number of its line
+abbrev at_line : ℕ → DumpFault → DumpError
+at_line line fault = At line fault
+
+-- an error is that, or want of memory
+either : (error : DumpError) → ((named : ℕ × DumpFault) × (error ≡ At named.0 named.1)) ⊎ (error ≡ OutOfMemory)
+either (At line fault) = inl ((line, fault), refl)
+either OutOfMemory = inr refl
+
+errors : AreErrors at_line OutOfMemory IsDumpError
+errors = record { at_is = λ line fault found is. is; memory_is = λ found is. is; either = either }
 
 -- ---- what an answer tells
 
@@ -167,64 +160,14 @@ pub record Answers {X : Type 0} (limits : Limits) (text : List ℕ) (r : Result 
   pub too_many_pairs : (line : ℕ) → r ≡ Err (At line TooManyPairs) → pairs_limit limits + 2 ≤ line
   pub trailing : (line : ℕ) → r ≡ Err (At line TrailingBytes) → list_any is_end (lines_above line text) ≡ true
 
--- an error names the first fault
-at_found : {X : Type 0} (limits : Limits) (text : List ℕ) (r : Result X DumpError) (line : ℕ) (fault : DumpFault)
-    → IfErr r (λ error. IsDumpError error (dump_fault limits text)) → r ≡ Err (At line fault) → dump_fault limits text ≡ Some (line, fault)
-at_found limits text (Ok x) line fault refused is = cc
-at_found limits text (Err error) line fault refused is =
-    let same : error ≡ At line fault = cc in
-    subst (λ (e : DumpError). IsDumpError e (dump_fault limits text)) same refused
+-- so much of the lines
+abbrev Lines : {X : Type 0} → Limits → List ℕ → Result X DumpError → Type 0
+Lines limits text r = TellsLines at_line OutOfMemory line_fault Truncated BadHeader dump_version limits text r
 
--- and so its line has it
-there : {X : Type 0} (limits : Limits) (text : List ℕ) (r : Result X DumpError) (line : ℕ) (fault : DumpFault)
-    → IfErr r (λ error. IsDumpError error (dump_fault limits text)) → r ≡ Err (At line fault)
-    → stands (place_at limits line text) fault ≡ true
-there limits text r line fault refused is = fault_stands (place_at limits line text) fault (fault_of_line limits text line fault (at_found limits text r line fault refused is)).has
-
--- a fault of the first line is always answered
-first_told : {X : Type 0} (limits : Limits) (text : List ℕ) (r : Result X DumpError) (fault : DumpFault)
-    → OnOk r (dump_fault limits text ≡ None) → IfErr r (λ error. IsDumpError error (dump_fault limits text))
-    → dump_fault limits text ≡ Some (1, fault) → r ≡ Err (At 1 fault)
-first_told limits text (Ok x) fault accepted refused is = let clash : ◌≡◌ {A = Option (ℕ × DumpFault)} None (Some (1, fault)) = sym accepted ∙ is in cc
-first_told {X = X} limits text (Err (At line other)) fault accepted refused is =
-    let same : ◌≡◌ {A = Option (ℕ × DumpFault)} (Some (line, other)) (Some (1, fault)) = sym refused ∙ is in
-    let pair : (line, other) ≡ (1, fault) = cc in
-    ap (λ (x : ℕ × DumpFault). let r : Result X DumpError = Err (At x.0 x.1) in r) pair
-first_told limits text (Err OutOfMemory) fault accepted refused is =
-    let late : 2 ≤ 1 = subst (λ (found : Option (ℕ × DumpFault)). IsFromLine 2 found) is refused in absurd (omega (arith, late))
-
--- memory isn't wanted where the first line has a fault
-wants_no_first : {X : Type 0} (limits : Limits) (text : List ℕ) (r : Result X DumpError) (fault : DumpFault)
-    → IfErr r (λ error. IsDumpError error (dump_fault limits text)) → r ≡ Err OutOfMemory → dump_fault limits text ≡ Some (1, fault) → ⊥
-wants_no_first limits text (Ok x) fault refused wants is = cc
-wants_no_first limits text (Err error) fault refused wants is =
-    let same : error ≡ OutOfMemory = cc in
-    let from = subst (λ (e : DumpError). IsDumpError e (dump_fault limits text)) same refused in
-    let late : 2 ≤ 1 = subst (λ (found : Option (ℕ × DumpFault)). IsFromLine 2 found) is from in
-    omega (arith, late)
-
-header_needed : {X : Type 0} (limits : Limits) (text : List ℕ) (r : Result X DumpError)
-    → IfErr r (λ error. IsDumpError error (dump_fault limits text)) → r ≡ Err OutOfMemory → dump_version (line_at 1 text) ≢ None
-header_needed limits text r refused wants none =
-    ⊎_elim
-    (λ more. wants_no_first limits text r BadHeader refused wants (other_header limits text (lines_of text) refl more none))
-    (λ few. wants_no_first limits text r Truncated refused wants (one_line limits text (lines_of text) refl (omega (arith, few, some_lines (lines_of text) (lines_some text)))))
-    (cases_lt 1 (length (lines_of text)))
-
-last_there : {X : Type 0} (limits : Limits) (text : List ℕ) (r : Result X DumpError) (line : ℕ)
-    → IfErr r (λ error. IsDumpError error (dump_fault limits text)) → r ≡ Err (At line Truncated) → line ≡ length (lines_of text)
-last_there limits text r line refused is =
-    let at = fault_of_line limits text line Truncated (at_found limits text r line Truncated refused is) in
-    let open_end = truncated_there (place_at limits line text) (there limits text r line Truncated refused is) in
-    last_line (lines_of text) line at.from at.inside (not-false (is_nil (drop line (lines_of text))) open_end)
-
-header_first : {X : Type 0} (limits : Limits) (text : List ℕ) (r : Result X DumpError)
-    → IfErr r (λ error. IsDumpError error (dump_fault limits text)) → r ≡ Err (At 1 BadHeader)
-    → (1 < length (lines_of text)) × (dump_version (line_at 1 text) ≡ None)
-header_first limits text r refused is =
-    let p = place_at limits 1 text in
-    let at = fault_of_line limits text 1 BadHeader (at_found limits text r 1 BadHeader refused is) in
-    (more_lines (lines_of text) (ended_at p BadHeader p.ended refl refl (λ e. cc) at.has), header_there p (there limits text r 1 BadHeader refused is))
+-- the line that an error names has its fault
+there : {X : Type 0} (limits : Limits) (text : List ℕ) (r : Result X DumpError) (line : ℕ) (fault : DumpFault) → Lines limits text r
+    → r ≡ Err (At line fault) → stands (place_at limits line text) fault ≡ true
+there limits text r line fault lines is = fault_stands (place_at limits line text) fault (lines.of_line line fault is).has
 
 many_above : (limits : Limits) (text : List ℕ) (line : ℕ) → line - 1 < length (lines_of text)
     → pairs_limit limits ≤ length (drop 1 (lines_above line text)) → pairs_limit limits + 2 ≤ line
@@ -236,34 +179,34 @@ pub answers : {X : Type 0} (limits : Limits) (text : List ℕ) (r : Result X Dum
     → IfErr r (λ error. IsDumpError error (dump_fault limits text)) → Answers limits text r
 answers limits text r accepted refused =
     let lines = lines_of text in
+    let at = λ (line : ℕ). place_at limits line text in
+    let told : Lines limits text r =
+        tells_lines errors faults limits text (dump_fault limits text) r (found_is limits text) accepted refused in
     record {
-      no_feed = (
-        λ is. sym (last_there limits text r 1 refused is),
-        λ one. first_told limits text r Truncated accepted refused (one_line limits text lines refl one),
-      );
-      bad_header = (
-        header_first limits text r refused,
-        λ other. first_told limits text r BadHeader accepted refused (other_header limits text lines refl other.0 other.1),
-      );
-      memory = header_needed limits text r refused;
-      truncated = λ line is. last_there limits text r line refused is;
-      bad_end = λ line is. bad_end_there (place_at limits line text) (there limits text r line BadEnd refused is);
-      bad_line = λ line is. bad_line_there (place_at limits line text) (there limits text r line BadLine refused is);
-      bad_token = λ line is. bad_token_there (place_at limits line text) (there limits text r line BadToken refused is);
-      bad_label = λ line is. bad_label_there (place_at limits line text) (there limits text r line BadLabel refused is);
+      no_feed = told.one_line;
+      bad_header = told.other_header;
+      memory = told.wants;
+      truncated = told.last;
+      bad_end = λ line is. bad_end_there (at line) (there limits text r line BadEnd told is);
+      bad_line = λ line is. bad_line_there (at line) (there limits text r line BadLine told is);
+      bad_token = λ line is. bad_token_there (at line) (there limits text r line BadToken told is);
+      bad_label = λ line is. bad_label_there (at line) (there limits text r line BadLabel told is);
       bad_count = λ line is.
-          let parts = bad_count_there (place_at limits line text) (there limits text r line BadCount refused is) in
-          subst (λ (header : List ℕ). count_written (greatest_count header) (part 2 (line_at line text)) ≡ None) (same_header (line - 1) lines parts.0) parts.1;
+          let parts = bad_count_there (at line) (there limits text r line BadCount told is) in
+          subst (λ (header : List ℕ). count_written (greatest_count header) (part 2 (line_at line text)) ≡ None)
+          (same_header (line - 1) lines parts.0) parts.1;
       unsorted = λ line is.
-          let at = fault_of_line limits text line Unsorted (at_found limits text r line Unsorted refused is) in
-          pair_above (line - 1) lines (pair_written (line_at line text)) at.inside (unsorted_there (place_at limits line text) (there limits text r line Unsorted refused is));
+          pair_above (line - 1) lines (pair_written (line_at line text)) (told.of_line line Unsorted is).inside
+          (unsorted_there (at line) (there limits text r line Unsorted told is));
       too_many_copies = λ line is.
-          let parts = copies_there (place_at limits line text) (there limits text r line TooManyCopies refused is) in
-          subst (λ (header : List ℕ). count_limit limits < count_of_line (greatest_count header) (line_at line text)) (same_header (line - 1) lines parts.0) parts.1;
+          let parts = copies_there (at line) (there limits text r line TooManyCopies told is) in
+          subst (λ (header : List ℕ). count_limit limits < count_of_line (greatest_count header) (line_at line text))
+          (same_header (line - 1) lines parts.0) parts.1;
       too_many_pairs = λ line is.
-          let at = fault_of_line limits text line TooManyPairs (at_found limits text r line TooManyPairs refused is) in
-          many_above limits text line at.inside (pairs_there (place_at limits line text) (there limits text r line TooManyPairs refused is));
-      trailing = λ line is. any_dropped is_end (lines_above line text) (trailing_there (place_at limits line text) (there limits text r line TrailingBytes refused is));
+          many_above limits text line (told.of_line line TooManyPairs is).inside
+          (pairs_there (at line) (there limits text r line TooManyPairs told is));
+      trailing = λ line is.
+          any_dropped is_end (lines_above line text) (trailing_there (at line) (there limits text r line TrailingBytes told is));
     }
 
 -- where it answers an error

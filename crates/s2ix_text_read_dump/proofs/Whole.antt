@@ -46,28 +46,35 @@ sound_left limits header hs [] is =
     let bag = front_is_dumped limits header hs [] is in
     let sizes = copies_small limits hs bag.bag in
     ap (λ (x : Collection). fault_left limits header hs (end_text (length x) (copies_in x) ∷ [] ∷ [])) (append-nil hs)
-    ∙ nothing_behind limits header hs (end_text (length hs) (copies_in hs)) bag (end_is_end (length hs) (copies_in hs) (omega (arith, sizes.0)) (omega (arith, sizes.1))) refl
+    ∙ nothing_behind limits header hs (end_text (length hs) (copies_in hs)) bag
+    (end_is_end (length hs) (copies_in hs) (omega (arith, sizes.0)) (omega (arith, sizes.1))) refl
 sound_left limits header hs (k ∷ ks) is =
     let bag = front_is_dumped limits header hs (k ∷ ks) is in
     let counted : HasCount header k = here_has (HasCount header) hs k ks (counts_are limits header (hs ++ k ∷ ks) is) in
     let small = here_has (λ (h : Held). h.count ≤ count_limit limits) hs k ks is.bag.small in
     let few : length hs < pairs_limit limits = omega (arith, length-append hs (k ∷ ks), is.bag.few) in
-    let next = next_is limits header hs (line_text k) k bag (line_is_no_end header k counted) (held_of_line header k counted) (next_before hs k ks is.bag.rises) small few in
+    let next =
+        next_is limits header hs (line_text k) k bag (line_is_no_end header k counted) (held_of_line header k counted)
+        (next_before hs k ks is.bag.rises) small few in
     let With : Collection → Type 0 = λ x. IsDumped limits header x in
     let assoc : hs ++ k ∷ ks ≡ (hs ++ k ∷ []) ++ ks = sym (append_assoc hs (k ∷ []) ks) in
-    fault_after_next limits header hs (line_text k) (map line_text ks ++ end_text (length (hs ++ k ∷ ks)) (copies_in (hs ++ k ∷ ks)) ∷ [] ∷ []) k (some_left (map line_text ks) _ _) next
-    ∙ ap (λ (x : Collection). fault_left limits header (hs ++ k ∷ []) (map line_text ks ++ end_text (length x) (copies_in x) ∷ [] ∷ [])) assoc
+    fault_after_next limits header hs (line_text k)
+    (map line_text ks ++ end_text (length (hs ++ k ∷ ks)) (copies_in (hs ++ k ∷ ks)) ∷ [] ∷ []) k (some_left (map line_text ks) _ _) next
+    ∙ ap (λ (x : Collection). fault_left limits header (hs ++ k ∷ []) (map line_text ks ++ end_text (length x) (copies_in x) ∷ [] ∷ []))
+    assoc
     ∙ sound_left limits header (hs ++ k ∷ []) ks (subst With assoc is)
 
 -- the lines of a dump
 lines_written : (header : List ℕ) (ks all : Collection) → All (HasCount header) ks → length all < 2 ^ 64 → copies_in all < 2 ^ 64
     → lines_of (flat_map pair_line ks ++ end_line all) ≡ map line_text ks ++ end_text (length all) (copies_in all) ∷ [] ∷ []
 lines_written header [] all counted few small =
-    ap lines_of (end_with_feed all) ∙ lines_apart (end_text (length all) (copies_in all)) [] (end_lacks_feed (length all) (copies_in all) few small)
+    ap lines_of (end_with_feed all)
+    ∙ lines_apart (end_text (length all) (copies_in all)) [] (end_lacks_feed (length all) (copies_in all) few small)
     ∙ ap (λ ls. end_text (length all) (copies_in all) ∷ ls) no_lines
 lines_written header (k ∷ ks) all counted few small =
     ap lines_of
-    (append_assoc (pair_line k) (flat_map pair_line ks) (end_line all) ∙ ap (λ x. x ++ (flat_map pair_line ks ++ end_line all)) (line_with_feed k)
+    (append_assoc (pair_line k) (flat_map pair_line ks) (end_line all)
+    ∙ ap (λ x. x ++ (flat_map pair_line ks ++ end_line all)) (line_with_feed k)
     ∙ append_assoc (line_text k) (10 ∷ []) (flat_map pair_line ks ++ end_line all))
     ∙ lines_apart (line_text k) (flat_map pair_line ks ++ end_line all) (line_lacks_feed header k (All-head (HasCount header) k ks counted))
     ∙ ap (λ ls. line_text k ∷ ls) (lines_written header ks all (All-tail (HasCount header) k ks counted) few small)
@@ -81,8 +88,10 @@ dump_is_sound limits version hs is held =
     let dumped = dumped_in limits version hs is held in
     let sizes = copies_small limits hs is in
     let below = flat_map pair_line hs ++ end_line hs in
-    below_header limits version (header ++ 10 ∷ below) header below (lines_apart header below (dump_header_lacks_feed version)) (named_by_dump_header version)
-    ∙ ap (fault_left limits header []) (lines_written header hs hs (counts_are limits header hs dumped) (omega (arith, sizes.0)) (omega (arith, sizes.1)))
+    below_header limits version (header ++ 10 ∷ below) header below (lines_apart header below (dump_header_lacks_feed version))
+    (named_by_dump_header version)
+    ∙ ap (fault_left limits header [])
+    (lines_written header hs hs (counts_are limits header hs dumped) (omega (arith, sizes.0)) (omega (arith, sizes.1)))
     ∙ sound_left limits header [] hs dumped
 
 no_fault : (limits : Limits) (text : List ℕ) (hs : Collection) → IsBag (record { limits = limits; held = hs }) → IsDump text hs
@@ -113,7 +122,8 @@ next_at limits header hs line (Ok h) is no_end writes none =
 next_from : (limits : Limits) (header : List ℕ) (hs : Collection) (line : List ℕ) → IsDumped limits header hs → is_end line ≡ false
     → line_fault (place_below limits header hs line) ≡ None → (h : Held) × IsNext limits header hs line h
 next_from limits header hs line is no_end none =
-    next_at limits header hs line (held_written (greatest_count header) line) is no_end refl (sym (pair_row limits header hs line is no_end) ∙ none)
+    next_at limits header hs line (held_written (greatest_count header) line) is no_end refl
+    (sym (pair_row limits header hs line is no_end) ∙ none)
 
 end_from : (limits : Limits) (header : List ℕ) (hs : Collection) (line : List ℕ) → IsDumped limits header hs → is_end line ≡ true
     → line_fault (place_below limits header hs line) ≡ None → line ≡ end_text (length hs) (copies_in hs)
@@ -121,7 +131,10 @@ end_from limits header hs line is end none =
     ⊎_elim
     (λ same. (bytes_eq-Decides line (end_text (length hs) (copies_in hs))).0 same)
     (λ other.
-    let fault = end_fault limits header hs line is end (λ e. both_ways (bytes_eq line (end_text (length hs) (copies_in hs))) other ((bytes_eq-Decides line (end_text (length hs) (copies_in hs))).1 e)) in
+    let fault =
+        end_fault limits header hs line is end
+        (λ e. both_ways (bytes_eq line (end_text (length hs) (copies_in hs))) other
+        ((bytes_eq-Decides line (end_text (length hs) (copies_in hs))).1 e)) in
     let clash : Some BadEnd ≡ None = sym fault ∙ none in cc)
     (cases_Bool (bytes_eq line (end_text (length hs) (copies_in hs))))
 
@@ -131,9 +144,11 @@ end_left : (limits : Limits) (header : List ℕ) (hs : Collection) (line last : 
     → line ∷ last ∷ lines ≡ end_text (length hs) (copies_in hs) ∷ [] ∷ []
 end_left limits header hs line [] [] is end same none = ap (λ x. x ∷ [] ∷ []) same
 end_left limits header hs line (byte ∷ last) [] is end same none =
-    let clash : ◌≡◌ {A = Option (ℕ × DumpFault)} (Some (length hs + 3, TrailingBytes)) None = sym (bytes_behind limits header hs line (byte ∷ last) [] is end same refl) ∙ none in cc
+    let clash : ◌≡◌ {A = Option (ℕ × DumpFault)} (Some (length hs + 3, TrailingBytes)) None =
+    sym (bytes_behind limits header hs line (byte ∷ last) [] is end same refl) ∙ none in cc
 end_left limits header hs line last (more ∷ lines) is end same none =
-    let clash : ◌≡◌ {A = Option (ℕ × DumpFault)} (Some (length hs + 3, TrailingBytes)) None = sym (bytes_behind limits header hs line last (more ∷ lines) is end same refl) ∙ none in cc
+    let clash : ◌≡◌ {A = Option (ℕ × DumpFault)} (Some (length hs + 3, TrailingBytes)) None =
+    sym (bytes_behind limits header hs line last (more ∷ lines) is end same refl) ∙ none in cc
 
 -- what is left of a dump: more held pairs, and the end line
 record IsLeft (limits : Limits) (header : List ℕ) (hs : Collection) (lines : List (List ℕ)) (ks : Collection) : Type 0 where
@@ -157,7 +172,9 @@ left_more limits header hs line lines h ks same left =
     let assoc : (hs ++ h ∷ []) ++ ks ≡ hs ++ h ∷ ks = append_assoc hs (h ∷ []) ks in
     record {
       dumped = subst With assoc left.dumped;
-      is = ap₂ (λ (x : List ℕ) (xs : List (List ℕ)). x ∷ xs) same (left.is ∙ ap (λ (x : Collection). map line_text ks ++ end_text (length x) (copies_in x) ∷ [] ∷ []) assoc);
+      is =
+          ap₂ (λ (x : List ℕ) (xs : List (List ℕ)). x ∷ xs) same
+          (left.is ∙ ap (λ (x : Collection). map line_text ks ++ end_text (length x) (copies_in x) ∷ [] ∷ []) assoc);
     }
 
 left_from : (limits : Limits) (header : List ℕ) (hs : Collection) (lines : List (List ℕ)) → IsDumped limits header hs → is_nil lines ≡ false
@@ -174,7 +191,9 @@ left_from limits header hs (line ∷ (last ∷ lines)) is some none =
     ([], left_end limits header hs (line ∷ last ∷ lines) is (end_left limits header hs line last lines is end same none)))
     (λ no_end.
     let next = next_from limits header hs line is no_end sound in
-    let later = left_from limits header (hs ++ next.0 ∷ []) (last ∷ lines) next.1.dumped refl (sym (fault_after_next limits header hs line (last ∷ lines) next.0 refl next.1) ∙ none) in
+    let later =
+        left_from limits header (hs ++ next.0 ∷ []) (last ∷ lines) next.1.dumped refl
+        (sym (fault_after_next limits header hs line (last ∷ lines) next.0 refl next.1) ∙ none) in
     (next.0 ∷ later.0, left_more limits header hs line (last ∷ lines) next.0 later.0 next.1.text later.1))
     (cases_Bool (is_end line))
 
@@ -220,11 +239,14 @@ lines_are_dump limits (header ∷ []) some none =
     let clash : Some Truncated ≡ None = sym fault ∙ none_here line_fault limits [] header [] none in cc
 lines_are_dump limits (header ∷ (next ∷ lines)) some none =
     let named = version_from limits header next lines (dump_version header) refl none in
-    let later = sym (found_later line_fault limits [] header (next ∷ lines) (none_here line_fault limits [] header (next ∷ lines) none)) ∙ none in
+    let later =
+        sym (found_later line_fault limits [] header (next ∷ lines) (none_here line_fault limits [] header (next ∷ lines) none)) ∙ none in
     let left = left_from limits header [] (next ∷ lines) (nothing_dumped limits header) refl later in
     let end = end_text (length left.0) (copies_in left.0) in
-    let parts = ap (join_with_byte 10) left.1.is ∙ join_left left.0 end ∙ ap (λ x. flat_map pair_line left.0 ++ x) (sym (end_with_feed left.0)) in
-    (left.0, left.1.dumped.bag, dump_put_together named.0 _ header (join_with_byte 10 (next ∷ lines)) left.0 refl named.1 (held_in limits header named.0 left.0 named.1 left.1.dumped) parts)
+    let parts =
+        ap (join_with_byte 10) left.1.is ∙ join_left left.0 end ∙ ap (λ x. flat_map pair_line left.0 ++ x) (sym (end_with_feed left.0)) in
+    (left.0, left.1.dumped.bag, dump_put_together named.0 _ header (join_with_byte 10 (next ∷ lines)) left.0 refl named.1
+    (held_in limits header named.0 left.0 named.1 left.1.dumped) parts)
 
 pub sound_is_dump : (limits : Limits) (text : List ℕ) → dump_fault limits text ≡ None
     → (ks : Collection) × IsBag (record { limits = limits; held = ks }) × IsDump text ks
@@ -253,7 +275,8 @@ only_memory limits text hs (At line fault) is dump refused = absurd (never_refus
 -- ---- laws
 
 pub written_dumps_are_read_back : (bag : LimitedCollection) → IsBag bag → (version : Version) → CanHold version bag.held
-    → (dump_fault bag.limits (dump_in version bag.held) ≡ None) × ((other : LimitedCollection) → IsBag other → IsDump (dump_in version bag.held) other.held → bag.held ≡ other.held)
+    → (dump_fault bag.limits (dump_in version bag.held) ≡ None)
+    × ((other : LimitedCollection) → IsBag other → IsDump (dump_in version bag.held) other.held → bag.held ≡ other.held)
 written_dumps_are_read_back bag is version held = (
   dump_is_sound bag.limits version bag.held is held,
   λ other other_is dump. one_dump (dump_in version bag.held) bag.held other.held (version, held, refl) dump,
@@ -263,4 +286,5 @@ pub no_faulty_line_is_accepted : (limits : Limits) (text : List ℕ) → dump_fa
     → (above : List (List ℕ)) (line : List ℕ) (below : List (List ℕ)) → lines_of text ≡ above ++ line ∷ below
     → line_fault (place limits above line below) ≡ None
 unfolding dump_fault
-no_faulty_line_is_accepted limits text none above line below are = none_among line_fault limits [] above line below (ap (fault_below line_fault limits []) (sym are) ∙ none)
+no_faulty_line_is_accepted limits text none above line below are =
+    none_among line_fault limits [] above line below (ap (fault_below line_fault limits []) (sym are) ∙ none)

@@ -17,7 +17,8 @@ DumpsHaveNoFault =
 abbrev pub WrittenDumpsAreReadBack : Type 0
 WrittenDumpsAreReadBack =
     (bag : LimitedCollection) → IsBag bag → (version : Version) → CanHold version bag.held
-    → (dump_fault bag.limits (dump_in version bag.held) ≡ None) × ((other : LimitedCollection) → IsBag other → IsDump (dump_in version bag.held) other.held → bag.held ≡ other.held)
+    → (dump_fault bag.limits (dump_in version bag.held) ≡ None)
+    × ((other : LimitedCollection) → IsBag other → IsDump (dump_in version bag.held) other.held → bag.held ≡ other.held)
 
 -- no line of a text without a fault has one
 abbrev pub NoFaultyLineIsAccepted : Type 0

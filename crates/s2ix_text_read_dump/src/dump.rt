@@ -5,7 +5,6 @@ ghost use Rattle.s2ix_bag_pairs.specs.Collection.{Collection, IsBag, copies_in};
 ghost use Rattle.s2ix_bag_pairs.specs.Limits.{count_limit, pairs_limit};
 ghost use Rattle.s2ix_text_write.specs.Dump.{IsDump, end_line, pair_line};
 ghost use Rattle.s2ix_text_write.specs.Version.{dump_header, dump_version};
-ghost use Rattle.s2ix_text_read_dump.specs.declared.errors.DumpError.TheVariants.{OutOfMemory};
 ghost use Rattle.s2ix_text_read_dump.specs.DumpFaults.{IsDumpError, dump_fault, end_text, greatest_count, is_end, line_fault};
 ghost use Rattle.s2ix_text_parts.specs.Faults.{fault_below};
 ghost use Rattle.s2ix_text_parts.specs.Lines.{has_parts, lines_of, part};
@@ -17,12 +16,13 @@ ghost use Rattle.s2ix_text_read_dump.specs.PairLines.{IsCut, IsDumped, IsNext, l
 use crate::errors::{DumpError, DumpFault};
 use crate::pair_line::{next_held, next_in_front};
 use itoa::Buffer;
+use s2id_core::OutOfMemory;
 use s2ix_bag::Bag;
 use s2ix_bag_lists::FlatHeld;
 use s2ix_bag_pairs::{Held, Limits};
 use s2ix_text_parts::{cut_line, first_part, three_parts};
 use s2ix_text_write::Version;
-use std::alloc::{AllocError, Global};
+use std::alloc::Global;
 
 // Whether a line with the first part `end` is the end line of so many pairs and copies.
 fn is_end_of(pairs: usize, copies: u64, line: &[u8]) -> bool
@@ -47,7 +47,7 @@ const SHORTEST_LINE: usize = 6;
 
 // Room for as many pairs as a text has line feeds, but no more than the limit, and no more than so many bytes can write.
 #[tactic(auto, using(crate::proofs::Counted::lines_counted))]
-fn room_for(alloc: Global, limits: Limits, text: &[u8]) -> Result<Vec<FlatHeld>, AllocError>
+fn room_for(alloc: Global, limits: Limits, text: &[u8]) -> Result<Vec<FlatHeld>, OutOfMemory>
     ensures empty { IfOk result (λ room. room.items ≡ []) }
     ensures few { IfOk result (λ room. vec_capacity room ≤ pairs_limit limits) }
     ensures written { IfOk result (λ room. vec_capacity room * 6 ≤ length text.now) }
@@ -55,7 +55,7 @@ fn room_for(alloc: Global, limits: Limits, text: &[u8]) -> Result<Vec<FlatHeld>,
     ensures asked { length text.now < 6 → IsOk result }
 {
     let lines = feeds_of(text).min(text.len() / SHORTEST_LINE);
-    Vec::with_capacity(alloc, lines.min(limits.pairs() as usize))
+    Ok(Vec::with_capacity(alloc, lines.min(limits.pairs() as usize))?)
 }
 
 // How many line feeds a text has.
@@ -81,7 +81,7 @@ fn feeds_in(block: &[u8]) -> usize
 }
 
 // Appends a held pair.
-fn push(held: &mut Vec<FlatHeld>, next: Held) -> Result<(), AllocError>
+fn push(held: &mut Vec<FlatHeld>, next: Held) -> Result<(), OutOfMemory>
     ensures { OnOk result (held.new.items ≡ held.old.items ++ next ∷ []) }
 {
     held.push(FlatHeld::new(next))?;
@@ -102,8 +102,10 @@ fn next_line<'a>(
     ensures next { IfOk result (λ line. IfSome line (λ read. IsCut text.now (line_text read.0) read.1.now)) }
     ensures fits { IfOk result (λ line. IfSome line (λ read. IsNext limits (dump_header version) before.now (line_text read.0) read.0)) }
     ensures end { IfOk result (λ line. IfNone line (text.now ≡ end_line before.now)) }
-    ensures accepted { IfOk result (λ line. IfNone line (fault_below line_fault limits (lines_down_to (dump_header version) before.now) (lines_of text.now) ≡ None)) }
-    ensures refused { IfErr result (λ error. IsDumpError error (fault_below line_fault limits (lines_down_to (dump_header version) before.now) (lines_of text.now))) }
+    ensures accepted { IfOk result (λ line. IfNone line
+        (fault_below line_fault limits (lines_down_to (dump_header version) before.now) (lines_of text.now) ≡ None)) }
+    ensures refused { IfErr result (λ error. IsDumpError error
+        (fault_below line_fault limits (lines_down_to (dump_header version) before.now) (lines_of text.now))) }
 {
     if let Some(read) = next_in_front(limits, version, before, text) {
         return Ok(Some(read));
@@ -150,7 +152,8 @@ fn read_below(
     ensures dumped { IfOk result (λ held. IsDumped limits (dump_header version) held.items) }
     ensures text { IfOk result (λ held. text.now ≡ flat_map pair_line held.items ++ end_line held.items) }
     ensures accepted { OnOk result (fault_below line_fault limits (lines_down_to (dump_header version) []) (lines_of text.now) ≡ None) }
-    ensures refused { IfErr result (λ error. IsDumpError error (fault_below line_fault limits (lines_down_to (dump_header version) []) (lines_of text.now))) }
+    ensures refused { IfErr result (λ error. IsDumpError error
+        (fault_below line_fault limits (lines_down_to (dump_header version) []) (lines_of text.now))) }
 {
     let mut held = room;
     let mut copies = 0;
@@ -173,7 +176,7 @@ pub fn read_dump(alloc: Global, text: &[u8], limits: Limits) -> Result<Bag, Dump
     ensures within { IfOk result IsBag }
     ensures text { IfOk result (λ bag. IsDump text.now bag.held) }
     ensures every { (hs : Collection) → IsBag (record { limits = limits; held = hs }) → IsDump text.now hs
-        → MatchResult result (λ bag. bag.held ≡ hs) (λ error. error ≡ OutOfMemory) }
+        → MatchResult result (λ bag. bag.held ≡ hs) (λ error. error ≡ DumpError.OutOfMemory) }
     ensures accepted { OnOk result (dump_fault limits text.now ≡ None) }
     ensures refused { IfErr result (λ error. IsDumpError error (dump_fault limits text.now)) }
 

@@ -1,7 +1,4 @@
-ghost use Rattle.std.specs.Prelude.{◌≡◌};
-ghost use Rattle.s2ix_text_read_dump.specs.declared.errors.DumpError.TheVariants.{OutOfMemory};
-
-use std::alloc::AllocError;
+use s2id_core::OutOfMemory;
 use std::fmt;
 use thiserror::Error;
 
@@ -70,18 +67,13 @@ pub enum DumpError {
     OutOfMemory,
 }
 
-impl From<AllocError> for DumpError {
+impl From<OutOfMemory> for DumpError {
+    ghost use Rattle.std.specs.Prelude.{◌≡◌};
+    ghost use Rattle.s2ix_text_read_dump.specs.declared.errors.DumpError.TheVariants.{OutOfMemory};
+
     ghost from_gives = { λ _ error. error ≡ OutOfMemory };
 
-    fn from(_: AllocError) -> Self {
-        DumpError::OutOfMemory
-    }
-}
-
-impl From<s2id_core::OutOfMemory> for DumpError {
-    ghost from_gives = { λ _ error. error ≡ OutOfMemory };
-
-    fn from(_: s2id_core::OutOfMemory) -> Self {
+    fn from(_: OutOfMemory) -> Self {
         DumpError::OutOfMemory
     }
 }

@@ -1,9 +1,9 @@
 //! The line of a held pair.
 ghost use Rattle.std.specs.Prelude.{◌≡◌, ◌≤◌, ◌++◌, ◌∷◌, ℕ, false, IfErr, IfNone, IfOk, IfSome, List, Some};
-ghost use Rattle.s2ix_bag_pairs.specs.declared.pair.Held.{Held as HeldRecord};
+ghost use Rattle.s2ix_bag_pairs.specs.declared.pair.Held.{Held};
 ghost use Rattle.s2ix_text_write.specs.Version.{dump_header, greatest_in};
 ghost use Rattle.s2ix_text_read_dump.specs.DumpFaults.{is_end, line_fault};
-ghost use Rattle.s2ix_text_read_dump.specs.PairLines.{IsCommonFront, IsCut, IsDumped, IsNext, held_written as held_that, last_pair, line_text, place_below};
+ghost use Rattle.s2ix_text_read_dump.specs.PairLines.{IsCommonFront, IsCut, IsDumped, IsNext, held_written, last_pair, line_text, place_below};
 ghost use Rattle.s2ix_text_parts.specs.Written.{comes_before};
 
 use crate::errors::DumpFault;
@@ -16,7 +16,7 @@ use s2ix_text_write::Version;
 
 // The held pair that a line writes, with a count of at most `most`, or the first fault of its parts.
 fn held_written(most: u32, line: &[u8]) -> Result<Held, DumpFault>
-    ensures { result ≡ held_that most line.now }
+    ensures { result ≡ held_written most line.now }
 {
     let Some((token, label, count)) = three_parts(line) else {
         return Err(DumpFault::BadLine);
@@ -77,7 +77,7 @@ fn held_in_front(most: u32, text: &[u8]) -> Option<(Held, &[u8])>
     ensures line { IfSome result (λ read. text.now ≡ line_text read.0 ++ 10 ∷ read.1.now) }
     ensures some { IfSome result (λ read. 1 ≤ read.0.count) }
     ensures few { IfSome result (λ read. read.0.count ≤ most) }
-    ensures none { IfNone result ((held : HeldRecord) (rest : List ℕ) → ¬ IsCommonFront most text.now held rest) }
+    ensures none { IfNone result ((held : Held) (rest : List ℕ) → ¬ IsCommonFront most text.now held rest) }
 {
     let (cell, behind) = token_in_front(text)?;
     let (label, behind) = number_in_front(behind, b' ')?;
@@ -105,7 +105,7 @@ pub(crate) fn next_in_front<'a>(
     requires dumped { IsDumped limits (dump_header version) before.now }
     ensures line { IfSome result (λ read. IsCut text.now (line_text read.0) read.1.now) }
     ensures next { IfSome result (λ read. IsNext limits (dump_header version) before.now (line_text read.0) read.0) }
-    ensures none { IfNone result ((held : HeldRecord) (rest : List ℕ) → IsCommonFront (greatest_in version) text.now held rest
+    ensures none { IfNone result ((held : Held) (rest : List ℕ) → IsCommonFront (greatest_in version) text.now held rest
         → ¬ IsNext limits (dump_header version) before.now (line_text held) held) }
 {
     let (next, behind) = held_in_front(version.greatest_count(), text)?;

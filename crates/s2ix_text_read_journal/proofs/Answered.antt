@@ -31,12 +31,14 @@ put_together version limits text header below cs cut is are parts =
     let whole : text ≡ journal_in version cs = cut ∙ ap₂ (λ (h b : List ℕ). h ++ 10 ∷ b) is parts in
     (journal_of_groups version limits cs are.groups are.few, (version, groups_writable version limits cs are.groups, whole))
 
-pub read_below : {X Y : Type 0} (r : Result X Y) (list : X → List (List Entry)) (version : Version) (most : ℕ) (limits : Limits) (text header below : List ℕ)
+pub read_below : {X Y : Type 0} (r : Result X Y) (list : X → List (List Entry)) (version : Version) (most : ℕ) (limits : Limits)
+    (text header below : List ℕ)
     → journal_version header ≡ Some version → most ≡ greatest_in version → text ≡ header ++ 10 ∷ below
     → IfOk r (λ x. AreGroups most limits (list x)) → IfOk r (λ x. below ≡ flat_map group_text (list x) ++ last_line (list x))
     → IfOk r (λ x. IsJournalIn limits text (list x))
 read_below (Ok x) list version most limits text header below named own cut are parts =
-    put_together version limits text header below (list x) cut (journal_header_named header version named) (subst (λ m. AreGroups m limits (list x)) own are) parts
+    put_together version limits text header below (list x) cut (journal_header_named header version named)
+    (subst (λ m. AreGroups m limits (list x)) own are) parts
 read_below (Err e) list version most limits text header below named own cut are parts = tt
 
 -- a journal within the limits is not refused
@@ -46,7 +48,8 @@ no_fault limits text cs is same = ap (journal_fault limits) same.2 ∙ journal_i
 
 pub never_refused : (limits : Limits) (text : List ℕ) (cs : List (List Entry)) (found : ℕ × JournalFault) → IsJournal limits cs
     → IsJournalText text cs → journal_fault limits text ≡ Some found → ⊥
-never_refused limits text cs found is same refused = let clash : ◌≡◌ {A = Option (ℕ × JournalFault)} (Some found) None = sym refused ∙ no_fault limits text cs is same in cc
+never_refused limits text cs found is same refused =
+    let clash : ◌≡◌ {A = Option (ℕ × JournalFault)} (Some found) None = sym refused ∙ no_fault limits text cs is same in cc
 
 pub only_memory : (limits : Limits) (text : List ℕ) (cs : List (List Entry)) (error : JournalError) → IsJournal limits cs
     → IsJournalText text cs → IsJournalError error (journal_fault limits text) → error ≡ OutOfMemory
@@ -61,11 +64,15 @@ journals_have_no_fault limits text = (sound_is_journal limits text, λ journal. 
 
 pub written_journals_are_read_back : (limits : Limits) (changes : List (List Entry)) → IsJournal limits changes → (version : Version)
     → All (IsWritableIn version) changes
-    → (journal_fault limits (journal_in version changes) ≡ None) × ((others : List (List Entry)) → IsJournal limits others → IsJournalText (journal_in version changes) others → changes ≡ others)
-written_journals_are_read_back limits changes is version are = (journal_is_sound limits changes is version are, λ others others_are same. one_journal (journal_in version changes) changes others (version, are, refl) same)
+    → (journal_fault limits (journal_in version changes) ≡ None)
+    × ((others : List (List Entry)) → IsJournal limits others → IsJournalText (journal_in version changes) others → changes ≡ others)
+written_journals_are_read_back limits changes is version are =
+    (journal_is_sound limits changes is version are, λ others others_are same. one_journal (journal_in version changes) changes others
+    (version, are, refl) same)
 
 pub no_faulty_journal_line_is_accepted : (limits : Limits) (text : List ℕ) → journal_fault limits text ≡ None
     → (above : List (List ℕ)) (line : List ℕ) (below : List (List ℕ)) → lines_of text ≡ above ++ line ∷ below
     → line_fault (place limits above line below) ≡ None
 unfolding journal_fault
-no_faulty_journal_line_is_accepted limits text none above line below are = none_among line_fault limits [] above line below (ap (fault_below line_fault limits []) (sym are) ∙ none)
+no_faulty_journal_line_is_accepted limits text none above line below are =
+    none_among line_fault limits [] above line below (ap (fault_below line_fault limits []) (sym are) ∙ none)

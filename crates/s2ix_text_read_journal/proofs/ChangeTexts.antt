@@ -24,17 +24,24 @@ use Rattle.s2ix_text_read_journal.proofs.NumberTexts.{size_of_digits, written_si
 -- ---- the end line
 
 end_graphic : All IsGraphic (codes "end")
-end_graphic = All-cons IsGraphic 101 (110 ∷ 100 ∷ []) (omega arith) (All-cons IsGraphic 110 (100 ∷ []) (omega arith) (All-cons IsGraphic 100 [] (omega arith) (All-nil IsGraphic)))
+end_graphic =
+    All-cons IsGraphic 101 (110 ∷ 100 ∷ []) (omega arith)
+    (All-cons IsGraphic 110 (100 ∷ []) (omega arith) (All-cons IsGraphic 100 [] (omega arith) (All-nil IsGraphic)))
 
 end_parts : (groups : ℕ) → groups < 2 ^ 64 → parts_of (end_text groups) ≡ codes "end" ∷ decimal groups ∷ []
 end_parts groups few =
-    parts_more (codes "end") (decimal groups) end_graphic ∙ ap (λ (ps : List (List ℕ)). codes "end" ∷ ps) (parts_last (decimal groups) (decimal_graphic groups few))
+    parts_more (codes "end") (decimal groups) end_graphic
+    ∙ ap (λ (ps : List (List ℕ)). codes "end" ∷ ps) (parts_last (decimal groups) (decimal_graphic groups few))
 
 pub end_lacks_feed : (groups : ℕ) → groups < 2 ^ 64 → Lacks 10 (end_text groups)
-end_lacks_feed groups few = lacks_feed_more (codes "end") (decimal groups) end_graphic (graphic_lacks 10 (decimal groups) (omega arith) (decimal_graphic groups few))
+end_lacks_feed groups few =
+    lacks_feed_more (codes "end") (decimal groups) end_graphic
+    (graphic_lacks 10 (decimal groups) (omega arith) (decimal_graphic groups few))
 
 pub end_has_parts : (groups : ℕ) → groups < 2 ^ 64 → has_parts 2 (end_text groups) ≡ true
-end_has_parts groups few = two_from_parts (end_text groups) (codes "end") (decimal groups) (end_parts groups few) refl (is_some_text _ (decimal_nonempty groups few))
+end_has_parts groups few =
+    two_from_parts (end_text groups) (codes "end") (decimal groups) (end_parts groups few) refl
+    (is_some_text _ (decimal_nonempty groups few))
 
 pub end_is_end : (groups : ℕ) → groups < 2 ^ 64 → is_end (end_text groups) ≡ true
 end_is_end groups few = ap (λ (ps : List (List ℕ)). bytes_eq (slice_index_or ps 0 []) (codes "end")) (end_parts groups few)
@@ -49,7 +56,9 @@ pub end_tested : (line a b digits : List ℕ) (groups : ℕ) (r : Bool) → is_e
     → (r ≡ true) ↔ (line ≡ end_text groups)
 end_tested line a b digits groups r end are few r_is digits_are = (
   λ holds.
-      let first : a ≡ codes "end" = (bytes_eq-Decides a (codes "end")).0 (sym (ap (λ (ps : List (List ℕ)). bytes_eq (slice_index_or ps 0 []) (codes "end")) are) ∙ end) in
+      let first : a ≡ codes "end" =
+          (bytes_eq-Decides a (codes "end")).0
+          (sym (ap (λ (ps : List (List ℕ)). bytes_eq (slice_index_or ps 0 []) (codes "end")) are) ∙ end) in
       let second : b ≡ decimal groups = (bytes_eq-Decides b digits).0 (sym r_is ∙ holds) ∙ digits_are in
       two_joined line a b are ∙ rw (first, second) refl,
   λ is.
@@ -69,11 +78,14 @@ change_graphic =
 change_parts : (size : ℕ) → size < 2 ^ 64 → parts_of (change_text size) ≡ codes "change" ∷ decimal size ∷ []
 unfolding change_text
 change_parts size few =
-    parts_more (codes "change") (decimal size) change_graphic ∙ ap (λ (ps : List (List ℕ)). codes "change" ∷ ps) (parts_last (decimal size) (decimal_graphic size few))
+    parts_more (codes "change") (decimal size) change_graphic
+    ∙ ap (λ (ps : List (List ℕ)). codes "change" ∷ ps) (parts_last (decimal size) (decimal_graphic size few))
 
 pub change_lacks_feed : (size : ℕ) → size < 2 ^ 64 → Lacks 10 (change_text size)
 unfolding change_text
-change_lacks_feed size few = lacks_feed_more (codes "change") (decimal size) change_graphic (graphic_lacks 10 (decimal size) (omega arith) (decimal_graphic size few))
+change_lacks_feed size few =
+    lacks_feed_more (codes "change") (decimal size) change_graphic
+    (graphic_lacks 10 (decimal size) (omega arith) (decimal_graphic size few))
 
 pub change_with_feed : (es : List Entry) → change_line es ≡ change_text (length es) ++ 10 ∷ []
 unfolding change_line change_text
@@ -82,7 +94,8 @@ change_with_feed es = simp append_assoc
 change_is_change : (size : ℕ) → size < 2 ^ 64 → is_change (change_text size) ≡ true
 change_is_change size few =
     and_from _ _
-    (two_from_parts (change_text size) (codes "change") (decimal size) (change_parts size few) refl (is_some_text _ (decimal_nonempty size few)))
+    (two_from_parts (change_text size) (codes "change") (decimal size) (change_parts size few) refl
+    (is_some_text _ (decimal_nonempty size few)))
     (ap (λ (ps : List (List ℕ)). bytes_eq (slice_index_or ps 0 []) (codes "change")) (change_parts size few))
 
 pub change_is_no_end : (size : ℕ) → size < 2 ^ 64 → is_end (change_text size) ≡ false
@@ -137,7 +150,8 @@ size_at limits groups line size true (Some n) a b is =
     let written : size_written (part 1 line) ≡ Some size = b ∙ ap Some equal in
     let range = written_size (part 1 line) size written in
     record { text = text_from_size line size a written; some = range.1; few = range.2; room = room; written = written })
-    (λ full. let clash : ◌≡◌ {A = Result ℕ JournalFault} (Err TooManyChanges) (Ok size) = sym (cond-true _ _ _ (le-leb (changes_limit limits) groups full)) ∙ is in cc)
+    (λ full. let clash : ◌≡◌ {A = Result ℕ JournalFault} (Err TooManyChanges) (Ok size) =
+    sym (cond-true _ _ _ (le-leb (changes_limit limits) groups full)) ∙ is in cc)
     (cases_lt groups (changes_limit limits))
 
 pub line_from_size : (limits : Limits) (groups : ℕ) (line : List ℕ) (size : ℕ) → next_size limits groups line ≡ Ok size
@@ -159,4 +173,5 @@ no_change_word line a b are other =
 pub change_from_word : (line a b : List ℕ) → has_parts 2 line ≡ true → parts_of line ≡ a ∷ b ∷ [] → a ≡ codes "change"
     → is_change line ≡ true
 change_from_word line a b two are is =
-    and_from _ _ two (ap (λ (ps : List (List ℕ)). bytes_eq (slice_index_or ps 0 []) (codes "change")) are ∙ (bytes_eq-Decides a (codes "change")).1 is)
+    and_from _ _ two (ap (λ (ps : List (List ℕ)). bytes_eq (slice_index_or ps 0 []) (codes "change")) are
+    ∙ (bytes_eq-Decides a (codes "change")).1 is)

@@ -27,7 +27,8 @@ unfolding entry_line entry_text
 line_with_feed e = simp append_assoc
 
 pub entry_parts : (most : ℕ) → most < 2 ^ 32 → (e : Entry) → HasSides most e
-    → parts_of (entry_text e) ≡ canonical_token (raw_of e.pair.cell) ∷ decimal (value_of e.pair.label) ∷ decimal e.before ∷ decimal e.after ∷ []
+    → parts_of (entry_text e)
+    ≡ canonical_token (raw_of e.pair.cell) ∷ decimal (value_of e.pair.label) ∷ decimal e.before ∷ decimal e.after ∷ []
 unfolding entry_text
 entry_parts most bounded e sides =
     parts_more (canonical_token (raw_of e.pair.cell)) _ (token_graphic (raw_of e.pair.cell))
@@ -60,7 +61,8 @@ pub entry_by : (most : ℕ) (line a b c d : List ℕ) (cell : Option CellId) (la
 unfolding entry_written
 entry_by most line a b c d cell label before after four are x y z w =
     cond-true (has_parts 4 line) _ _ four
-    ∙ ap (λ (ps : List (List ℕ)). entry_of_parts (cell_written (slice_index_or ps 0 [])) (label_written (slice_index_or ps 1 [])) (side_written most (slice_index_or ps 2 [])) (side_written most (slice_index_or ps 3 []))) are
+    ∙ ap (λ (ps : List (List ℕ)). entry_of_parts (cell_written (slice_index_or ps 0 [])) (label_written (slice_index_or ps 1 []))
+    (side_written most (slice_index_or ps 2 [])) (side_written most (slice_index_or ps 3 []))) are
     ∙ rw (x, y, z, w) refl
 
 pub entry_unless : (most : ℕ) (line : List ℕ) → has_parts 4 line ≡ false → entry_written most line ≡ Err BadLine
@@ -69,13 +71,16 @@ entry_unless most line four = cond-false (has_parts 4 line) _ _ four
 
 pub entry_of_text : (most : ℕ) → most < 2 ^ 32 → (e : Entry) → HasSides most e → entry_written most (entry_text e) ≡ Ok e
 entry_of_text most bounded e sides =
-    entry_by most (entry_text e) _ _ _ _ (Some e.pair.cell) (Some e.pair.label) (Some e.before) (Some e.after) (entry_has_parts most bounded e sides) (entry_parts most bounded e sides)
-    (cell_of_token e.pair.cell) (label_of_digits e.pair.label) (side_of_digits most bounded e.before sides.0) (side_of_digits most bounded e.after sides.1)
+    entry_by most (entry_text e) _ _ _ _ (Some e.pair.cell) (Some e.pair.label) (Some e.before) (Some e.after)
+    (entry_has_parts most bounded e sides) (entry_parts most bounded e sides)
+    (cell_of_token e.pair.cell) (label_of_digits e.pair.label) (side_of_digits most bounded e.before sides.0)
+    (side_of_digits most bounded e.after sides.1)
 
 pub pair_of_text : (most : ℕ) → most < 2 ^ 32 → (e : Entry) → HasSides most e → pair_written (entry_text e) ≡ Some e.pair
 unfolding pair_written
 pair_of_text most bounded e sides =
-    ap (λ (ps : List (List ℕ)). pair_of_both (cell_written (slice_index_or ps 0 [])) (label_written (slice_index_or ps 1 []))) (entry_parts most bounded e sides)
+    ap (λ (ps : List (List ℕ)). pair_of_both (cell_written (slice_index_or ps 0 [])) (label_written (slice_index_or ps 1 [])))
+    (entry_parts most bounded e sides)
     ∙ rw (cell_of_token e.pair.cell, label_of_digits e.pair.label) refl
 
 -- and no other line writes it
@@ -86,7 +91,8 @@ text_from_parts : (most : ℕ) (line a b c d : List ℕ) (e : Entry) → parts_o
 unfolding entry_text
 text_from_parts most line a b c d e are cell label before after =
     four_joined line a b c d are
-    ∙ rw (written_cell a e.pair.cell cell, written_label b e.pair.label label, (written_side most c e.before before).0, (written_side most d e.after after).0) refl
+    ∙ rw (written_cell a e.pair.cell cell, written_label b e.pair.label label, (written_side most c e.before before).0,
+    (written_side most d e.after after).0) refl
 
 written_at : (most : ℕ) (line : List ℕ) (e : Entry) (four : Bool) (cell : Option CellId) (label : Option Label) (before after : Option ℕ)
     → has_parts 4 line ≡ four → cell_written (part 0 line) ≡ cell → label_written (part 1 line) ≡ label
@@ -108,7 +114,8 @@ written_at most line e true (Some cell) (Some label) (Some m) (Some n) a b c d f
 pub line_from_entry : (most : ℕ) (line : List ℕ) (e : Entry) → entry_written most line ≡ Ok e → (line ≡ entry_text e) × HasSides most e
 unfolding entry_written
 line_from_entry most line e is =
-    written_at most line e (has_parts 4 line) (cell_written (part 0 line)) (label_written (part 1 line)) (side_written most (part 2 line)) (side_written most (part 3 line)) refl refl refl refl refl is
+    written_at most line e (has_parts 4 line) (cell_written (part 0 line)) (label_written (part 1 line)) (side_written most (part 2 line))
+    (side_written most (part 3 line)) refl refl refl refl refl is
 
 -- the pair that a line writes
 pub pair_from_entry : (most : ℕ) → most < 2 ^ 32 → (line : List ℕ) (e : Entry) → entry_written most line ≡ Ok e

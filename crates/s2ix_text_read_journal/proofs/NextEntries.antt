@@ -23,7 +23,8 @@ use Rattle.s2ix_text_read_journal.proofs.EntryTexts.{entry_of_text, line_from_en
 pub next_by : (most : ℕ) (limits : Limits) (last : Option Pair) (line : List ℕ) (e : Entry) (same before many : Bool)
     → entry_written most line ≡ Ok e → (e.before == e.after) ≡ same → comes_before last (Some e.pair) ≡ before
     → (nat_lt (count_limit limits) e.before || nat_lt (count_limit limits) e.after) ≡ many
-    → next_entry most limits last line ≡ cond same (Err NoDifference) (cond (not before) (Err Unsorted) (cond many (Err TooManyCopies) (Ok e)))
+    → next_entry most limits last line ≡ cond same (Err NoDifference)
+    (cond (not before) (Err Unsorted) (cond many (Err TooManyCopies) (Ok e)))
 unfolding next_entry
 next_by most limits last line e same before many is x y z = ap (entry_behind limits last) is ∙ rw (x, y, z) refl
 
@@ -46,7 +47,8 @@ within_test n a b small_a small_b = or_from _ _ (le-ltb n a small_a) (le-ltb n b
 
 pub above_test : (n a b : ℕ) → (n < a → ⊥) → (n < b → ⊥) → (nat_lt n a || nat_lt n b) ≡ false
 above_test n a b x y =
-    ⊎_elim (λ more. absurd (x more)) (λ a_small. ⊎_elim (λ more. absurd (y more)) (λ b_small. within_test n a b a_small b_small) (cases_lt n b)) (cases_lt n a)
+    ⊎_elim (λ more. absurd (x more))
+    (λ a_small. ⊎_elim (λ more. absurd (y more)) (λ b_small. within_test n a b a_small b_small) (cases_lt n b)) (cases_lt n a)
 
 within_from : (n a b : ℕ) → (nat_lt n a || nat_lt n b) ≡ false → (a ≤ n) × (b ≤ n)
 within_from n a b none =
@@ -61,7 +63,8 @@ within_from n a b none =
 next_tests : (most : ℕ) → most < 2 ^ 32 → (limits : Limits) (last : Option Pair) (line : List ℕ) (k e : Entry) (same before many : Bool)
     → entry_written most line ≡ Ok k → (k.before == k.after) ≡ same → comes_before last (Some k.pair) ≡ before
     → (nat_lt (count_limit limits) k.before || nat_lt (count_limit limits) k.after) ≡ many
-    → ◌≡◌ {A = Result Entry JournalFault} (cond same (Err NoDifference) (cond (not before) (Err Unsorted) (cond many (Err TooManyCopies) (Ok k)))) (Ok e)
+    → ◌≡◌ {A = Result Entry JournalFault}
+    (cond same (Err NoDifference) (cond (not before) (Err Unsorted) (cond many (Err TooManyCopies) (Ok k)))) (Ok e)
     → IsNext most limits last line e
 next_tests most bounded limits last line k e true before many w x y z is = cc
 next_tests most bounded limits last line k e false false many w x y z is = cc
@@ -143,6 +146,7 @@ pub next_here : (most : ℕ) → most < 2 ^ 32 → (limits : Limits) (es : List 
     → AreEntries most limits (es ++ e ∷ fs) → next_entry most limits (last_pair es) (entry_text e) ≡ Ok e
 next_here most bounded limits es e fs are =
     let small = here_has (HasCountsWithin limits) es e fs are.small in
-    next_by most limits (last_pair es) (entry_text e) e false true false (entry_of_text most bounded e (here_has (HasSides most) es e fs are.sides))
+    next_by most limits (last_pair es) (entry_text e) e false true false
+    (entry_of_text most bounded e (here_has (HasSides most) es e fs are.sides))
     (ne_eqb e.before e.after (here_differs 0 es e fs are.list)) (here_behind es e fs are.list)
     (within_test (count_limit limits) e.before e.after small.0 small.1)

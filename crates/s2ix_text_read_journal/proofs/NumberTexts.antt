@@ -76,7 +76,8 @@ size_in_range (Some m) n is =
     (λ low. let clash : None ≡ Some n = sym (size_zero m low) ∙ is in cc)
     (λ some. ⊎_elim
     (λ high. let clash : None ≡ Some n = sym (size_above m high) ∙ is in cc)
-    (λ few. let same : Some m ≡ Some n = sym (size_within m some few) ∙ is in let equal : m ≡ n = cc in (ap Some equal, omega arith, omega arith))
+    (λ few. let same : Some m ≡ Some n = sym (size_within m some few) ∙ is in let equal : m ≡ n = cc in
+    (ap Some equal, omega arith, omega arith))
     (cases_lt 2000000 m))
     (cases_lt m 1)
 

@@ -56,7 +56,8 @@ lines_of_groups most bounded limits [] rest are = refl
 lines_of_groups most bounded limits (c ∷ cs) rest are =
     ap lines_of (append_assoc (group_text c) (flat_map group_text cs) rest)
     ∙ lines_of_group most bounded limits c (flat_map group_text cs ++ rest) (All-head (IsGroup most limits) c cs are)
-    ∙ ap (λ (ls : List (List ℕ)). group_lines c ++ ls) (lines_of_groups most bounded limits cs rest (All-tail (IsGroup most limits) c cs are))
+    ∙ ap (λ (ls : List (List ℕ)). group_lines c ++ ls)
+    (lines_of_groups most bounded limits cs rest (All-tail (IsGroup most limits) c cs are))
     ∙ sym (append_assoc (group_lines c) (flat_map group_lines cs) (lines_of rest))
 
 pub at_line : (m n : ℕ) (fault : JournalFault) → m ≡ n → ◌≡◌ {A = Option (ℕ × JournalFault)} (Some (m, fault)) (Some (n, fault))
@@ -82,7 +83,9 @@ group_more most bounded limits text wanted es rest line below e was more cut is 
       few = omega (arith, length_push es e, more);
       cut =
           was.cut
-          ∙ ap (λ x. flat_map entry_line es ++ x) (cut ∙ ap (λ x. x ++ 10 ∷ below) next.text ∙ sym (append_assoc (entry_text e) (10 ∷ []) below) ∙ ap (λ x. x ++ below) (sym (line_with_feed e)))
+          ∙ ap (λ x. flat_map entry_line es ++ x)
+          (cut ∙ ap (λ x. x ++ 10 ∷ below) next.text ∙ sym (append_assoc (entry_text e) (10 ∷ []) below)
+          ∙ ap (λ x. x ++ below) (sym (line_with_feed e)))
           ∙ sym (append_assoc (flat_map entry_line es) (entry_line e) below)
           ∙ ap (λ x. x ++ below) (flat_map_more entry_line [] es e);
     }
@@ -92,26 +95,32 @@ pub group_standing : (most : ℕ) → most < 2 ^ 32
     → is_nil above ≡ false → greatest_count (slice_index_or above 0 []) ≡ most → behind above ≡ at_group wanted groups
     → length es + left ≡ wanted
     → IsGroupSoFar most limits text wanted es rest
-    → (fault_left limits above (lines_of text) ≡ fault_left limits (above ++ map entry_text es) (lines_of rest)) × IsInside most (above ++ map entry_text es) left (last_pair es) groups
+    → (fault_left limits above (lines_of text) ≡ fault_left limits (above ++ map entry_text es) (lines_of rest))
+    × IsInside most (above ++ map entry_text es) left (last_pair es) groups
 group_standing most bounded limits above groups wanted left text es rest some own standing number was =
     let inside = subst (λ n. IsInside most above n None groups) (sym number) (inside_group most above groups wanted some own standing) in
     let passed = entries_passed most bounded limits above [] es left groups (lines_of rest) inside was.entries (lines_some rest) in
-    (ap (λ x. fault_left limits above (lines_of x)) was.cut ∙ ap (fault_left limits above) (lines_of_entries most bounded es rest was.entries.sides) ∙ passed.fault, passed.inside)
+    (ap (λ x. fault_left limits above (lines_of x)) was.cut
+    ∙ ap (fault_left limits above) (lines_of_entries most bounded es rest was.entries.sides) ∙ passed.fault, passed.inside)
 
 number_after : (above : List (List ℕ)) (es : List Entry) (number : ℕ) → length above + 1 ≡ number
     → length (above ++ map entry_text es) + 1 ≡ number + length es
 number_after above es number is = omega (arith, length-append above (map entry_text es), length-map es entry_text, is)
 
 pub group_fault : (most : ℕ) → most < 2 ^ 32
-    → (limits : Limits) (above : List (List ℕ)) (groups wanted left number at : ℕ) (text : List ℕ) (es : List Entry) (rest line below : List ℕ) (fault : JournalFault)
+    → (limits : Limits) (above : List (List ℕ)) (groups wanted left number at : ℕ) (text : List ℕ) (es : List Entry)
+    (rest line below : List ℕ) (fault : JournalFault)
     → is_nil above ≡ false → length above + 1 ≡ number → greatest_count (slice_index_or above 0 []) ≡ most
     → behind above ≡ at_group wanted groups
     → length es + suc left ≡ wanted → at ≡ number + length es → IsGroupSoFar most limits text wanted es rest
     → lines_of rest ≡ line ∷ lines_of below → next_entry most limits (last_pair es) line ≡ Err fault
     → fault_left limits above (lines_of text) ≡ Some (at, fault)
-group_fault most bounded limits above groups wanted left number at text es rest line below fault some is_number own standing more at_is was lines is =
+group_fault most bounded limits above groups wanted left number at text es rest line below fault some is_number own standing more at_is was
+    lines is =
     let now = group_standing most bounded limits above groups wanted (suc left) text es rest some own standing more was in
-    let row = entry_row most limits (above ++ map entry_text es) line left (last_pair es) groups now.1 ∙ ap (λ (r : Result Entry JournalFault). result_err r) is in
+    let row =
+        entry_row most limits (above ++ map entry_text es) line left (last_pair es) groups now.1
+        ∙ ap (λ (r : Result Entry JournalFault). result_err r) is in
     now.0 ∙ ap (fault_left limits (above ++ map entry_text es)) lines
     ∙ stops limits (above ++ map entry_text es) line (lines_of below) fault (lines_some below) row
     ∙ at_line _ _ fault (number_after above es number is_number ∙ sym at_is)
@@ -145,11 +154,15 @@ pub record IsJournalSoFar (most : ℕ) (limits : Limits) (text : List ℕ) (cs :
 
 pub journal_standing : (most : ℕ) → most < 2 ^ 32 → (limits : Limits) (header : List ℕ) → greatest_count header ≡ most
     → (text : List ℕ) (cs : List (List Entry)) (number : ℕ) (rest : List ℕ) → IsJournalSoFar most limits text cs number rest
-    → (fault_left limits (lines_down_to header []) (lines_of text) ≡ fault_left limits (lines_down_to header cs) (lines_of rest)) × IsBetween most (lines_down_to header cs) (length cs)
+    → (fault_left limits (lines_down_to header []) (lines_of text) ≡ fault_left limits (lines_down_to header cs) (lines_of rest))
+    × IsBetween most (lines_down_to header cs) (length cs)
 journal_standing most bounded limits header own text cs number rest was =
-    let passed = groups_passed most bounded limits (lines_down_to header []) 0 cs (lines_of rest) (between_start most header own) was.groups (omega (arith, was.few)) (lines_some rest) in
+    let passed =
+        groups_passed most bounded limits (lines_down_to header []) 0 cs (lines_of rest) (between_start most header own) was.groups
+        (omega (arith, was.few)) (lines_some rest) in
     let whole : 0 + length cs ≡ length cs = omega arith in (
-      ap (λ x. fault_left limits (lines_down_to header []) (lines_of x)) was.cut ∙ ap (fault_left limits (lines_down_to header [])) (lines_of_groups most bounded limits cs rest was.groups) ∙ passed.fault,
+      ap (λ x. fault_left limits (lines_down_to header []) (lines_of x)) was.cut
+      ∙ ap (fault_left limits (lines_down_to header [])) (lines_of_groups most bounded limits cs rest was.groups) ∙ passed.fault,
       subst (λ n. IsBetween most (lines_down_to header cs) n) whole passed.between,
     )
 
@@ -175,7 +188,8 @@ pub size_fault : (most : ℕ) → most < 2 ^ 32 → (limits : Limits) (header : 
     → fault_left limits (lines_down_to header []) (lines_of text) ≡ Some (number, fault)
 size_fault most bounded limits header own text cs number groups rest line below fault was lines no_end groups_are is =
     next_fault most bounded limits header own text cs number rest line below fault was lines
-    (group_row most limits (lines_down_to header cs) line (length cs) (journal_standing most bounded limits header own text cs number rest was).1 no_end
+    (group_row most limits (lines_down_to header cs) line (length cs)
+    (journal_standing most bounded limits header own text cs number rest was).1 no_end
     ∙ ap (λ (r : Result ℕ JournalFault). result_err r) (ap (λ n. next_size limits n line) (sym groups_are) ∙ is))
 
 pub journal_truncated : (most : ℕ) → most < 2 ^ 32 → (limits : Limits) (header : List ℕ) → greatest_count header ≡ most
@@ -184,19 +198,22 @@ pub journal_truncated : (most : ℕ) → most < 2 ^ 32 → (limits : Limits) (he
     → fault_left limits (lines_down_to header []) (lines_of text) ≡ Some (number, Truncated)
 journal_truncated most bounded limits header own text cs number rest was lines =
     let now = journal_standing most bounded limits header own text cs number rest was in
-    now.0 ∙ ap (fault_left limits (lines_down_to header cs)) lines ∙ cut_short limits (lines_down_to header cs) rest now.1.over ∙ at_line _ _ Truncated (at_number header cs number was.number)
+    now.0 ∙ ap (fault_left limits (lines_down_to header cs)) lines ∙ cut_short limits (lines_down_to header cs) rest now.1.over
+    ∙ at_line _ _ Truncated (at_number header cs number was.number)
 
 -- a group more
 
 pub record IsBegun (limits : Limits) (header text : List ℕ) (cs : List (List Entry)) (number size : ℕ) (line below : List ℕ) : Type 0 where
-  pub fault : fault_left limits (lines_down_to header []) (lines_of text) ≡ fault_left limits (lines_down_to header cs ++ line ∷ []) (lines_of below)
+  pub fault : fault_left limits (lines_down_to header []) (lines_of text)
+      ≡ fault_left limits (lines_down_to header cs ++ line ∷ []) (lines_of below)
   pub standing : behind (lines_down_to header cs ++ line ∷ []) ≡ at_group size (length cs + 1)
   pub some : is_nil (lines_down_to header cs ++ line ∷ []) ≡ false
   pub place : length (lines_down_to header cs ++ line ∷ []) + 1 ≡ number + 1
 
 pub group_sized : (limits : Limits) (cs : List (List Entry)) (groups size : ℕ) (line : List ℕ) → groups ≡ length cs
     → next_size limits groups line ≡ Ok size → IsSize limits (length cs) line size
-group_sized limits cs groups size line groups_are is = line_from_size limits (length cs) line size (ap (λ n. next_size limits n line) (sym groups_are) ∙ is)
+group_sized limits cs groups size line groups_are is =
+    line_from_size limits (length cs) line size (ap (λ n. next_size limits n line) (sym groups_are) ∙ is)
 
 pub group_begins : (most : ℕ) → most < 2 ^ 32 → (limits : Limits) (header : List ℕ) → greatest_count header ≡ most
     → (text : List ℕ) (cs : List (List Entry)) (number groups size : ℕ) (rest line below : List ℕ)
@@ -209,7 +226,9 @@ group_begins most bounded limits header own text cs number groups size rest line
     record {
       fault =
           now.0 ∙ ap (fault_left limits (lines_down_to header cs)) lines
-          ∙ passes limits (lines_down_to header cs) line (lines_of below) (lines_some below) (group_row most limits (lines_down_to header cs) line (length cs) now.1 no_end ∙ ap (λ (r : Result ℕ JournalFault). result_err r) sized);
+          ∙ passes limits (lines_down_to header cs) line (lines_of below) (lines_some below)
+          (group_row most limits (lines_down_to header cs) line (length cs) now.1 no_end
+          ∙ ap (λ (r : Result ℕ JournalFault). result_err r) sized);
       standing = group_begun most (lines_down_to header cs) line (length cs) size now.1 no_end writes.written;
       some = some_behind_line (lines_down_to header cs) line;
       place = omega (arith, length_push (lines_down_to header cs) line, at_number header cs number was.number);
@@ -218,16 +237,22 @@ group_begins most bounded limits header own text cs number groups size rest line
 lines_more : (cs : List (List Entry)) (es : List Entry)
     → length (flat_map group_lines (cs ++ es ∷ [])) ≡ length (flat_map group_lines cs) + 1 + length es
 lines_more cs es =
-    let more : length (flat_map group_lines (cs ++ es ∷ [])) ≡ length (flat_map group_lines cs ++ (group_lines es ++ [])) = ap length (sym (flat_map_more group_lines [] cs es) ∙ ap (λ ls. flat_map group_lines cs ++ ls) (sym (append-nil (group_lines es)))) in
-    omega (arith, more, length-append (flat_map group_lines cs) (group_lines es ++ []), length-append (group_lines es) [], length-map es entry_text)
+    let more : length (flat_map group_lines (cs ++ es ∷ [])) ≡ length (flat_map group_lines cs ++ (group_lines es ++ [])) =
+        ap length (sym (flat_map_more group_lines [] cs es)
+        ∙ ap (λ ls. flat_map group_lines cs ++ ls) (sym (append-nil (group_lines es)))) in
+    omega (arith, more, length-append (flat_map group_lines cs) (group_lines es ++ []), length-append (group_lines es) [], length-map es
+    entry_text)
 
-pub journal_more : (most : ℕ) (limits : Limits) (text : List ℕ) (cs : List (List Entry)) (number size : ℕ) (rest line below behind : List ℕ) (es : List Entry)
+pub journal_more : (most : ℕ) (limits : Limits) (text : List ℕ) (cs : List (List Entry)) (number size : ℕ) (rest line below behind : List ℕ)
+    (es : List Entry)
     → IsJournalSoFar most limits text cs number rest → IsSize limits (length cs) line size → rest ≡ line ++ 10 ∷ below
     → AreEntries most limits es → length es ≡ size → below ≡ flat_map entry_line es ++ behind
     → IsJournalSoFar most limits text (cs ++ es ∷ []) (number + (1 + size)) behind
 unfolding group_text
 journal_more most limits text cs number size rest line below behind es was writes cut entries long parts = record {
-  groups = All-push (IsGroup most limits) cs es was.groups (record { entries = entries; some = omega (arith, writes.some, long); few = omega (arith, writes.few, long) });
+  groups =
+      All-push (IsGroup most limits) cs es was.groups
+      (record { entries = entries; some = omega (arith, writes.some, long); few = omega (arith, writes.few, long) });
   few = omega (arith, length_push cs es, writes.room);
   cut =
       was.cut
@@ -246,13 +271,15 @@ journal_more most limits text cs number size rest line below behind es was write
 
 end_sound : (most : ℕ) (limits : Limits) (above : List (List ℕ)) (groups : ℕ) (line : List ℕ) → IsBetween most above groups
     → is_end line ≡ true → line ≡ end_text groups → line_fault (place_below limits above line) ≡ None
-end_sound most limits above groups line is end same = end_row most limits above line groups is end ∙ cond-false _ _ _ (ap not ((bytes_eq-Decides line (end_text groups)).1 same))
+end_sound most limits above groups line is end same =
+    end_row most limits above line groups is end ∙ cond-false _ _ _ (ap not ((bytes_eq-Decides line (end_text groups)).1 same))
 
 pub end_fault : (most : ℕ) (limits : Limits) (above : List (List ℕ)) (groups : ℕ) (line : List ℕ) → IsBetween most above groups
     → is_end line ≡ true → (line ≡ end_text groups → ⊥) → line_fault (place_below limits above line) ≡ Some BadEnd
 end_fault most limits above groups line is end other =
     end_row most limits above line groups is end
-    ∙ cond-true _ _ _ (ap not (false_from_ne_true (bytes_eq line (end_text groups)) (λ same. other ((bytes_eq-Decides line (end_text groups)).0 same))))
+    ∙ cond-true _ _ _
+    (ap not (false_from_ne_true (bytes_eq line (end_text groups)) (λ same. other ((bytes_eq-Decides line (end_text groups)).0 same))))
 
 pub journal_bad_end : (most : ℕ) → most < 2 ^ 32 → (limits : Limits) (header : List ℕ) → greatest_count header ≡ most
     → (text : List ℕ) (cs : List (List Entry)) (number groups : ℕ) (rest line below : List ℕ)
@@ -261,7 +288,8 @@ pub journal_bad_end : (most : ℕ) → most < 2 ^ 32 → (limits : Limits) (head
     → fault_left limits (lines_down_to header []) (lines_of text) ≡ Some (number, BadEnd)
 journal_bad_end most bounded limits header own text cs number groups rest line below was lines end groups_are other =
     next_fault most bounded limits header own text cs number rest line below BadEnd was lines
-    (end_fault most limits (lines_down_to header cs) (length cs) line (journal_standing most bounded limits header own text cs number rest was).1 end (λ is. other (is ∙ ap end_text (sym groups_are))))
+    (end_fault most limits (lines_down_to header cs) (length cs) line
+    (journal_standing most bounded limits header own text cs number rest was).1 end (λ is. other (is ∙ ap end_text (sym groups_are))))
 
 last_fault : (most : ℕ) (limits : Limits) (above : List (List ℕ)) (groups : ℕ) (line last : List ℕ) (lines : List (List ℕ))
     → IsBetween most above groups → is_end line ≡ true
@@ -281,7 +309,8 @@ pub bytes_behind : (most : ℕ) (limits : Limits) (above : List (List ℕ)) (gro
     → fault_left limits above (line ∷ last ∷ lines) ≡ Some (length above + 2, TrailingBytes)
 bytes_behind most limits above groups line last lines is end same some =
     passes limits above line (last ∷ lines) refl (end_sound most limits above groups line is end same)
-    ∙ found_here line_fault limits (above ++ line ∷ []) last lines TrailingBytes (last_fault most limits above groups line last lines is end ∙ cond-true _ _ _ some)
+    ∙ found_here line_fault limits (above ++ line ∷ []) last lines TrailingBytes
+    (last_fault most limits above groups line last lines is end ∙ cond-true _ _ _ some)
     ∙ at_line _ _ TrailingBytes (omega (arith, length_push above line))
 
 pub journal_trailing : (most : ℕ) → most < 2 ^ 32 → (limits : Limits) (header : List ℕ) → greatest_count header ≡ most
@@ -293,11 +322,13 @@ journal_trailing most bounded limits header own text cs number groups rest line 
     let now = journal_standing most bounded limits header own text cs number rest was in
     let parts = lines_split (lines_of below) (lines_some below) in
     now.0 ∙ ap (fault_left limits (lines_down_to header cs)) (lines ∙ ap (λ ls. line ∷ ls) parts.2)
-    ∙ bytes_behind most limits (lines_down_to header cs) (length cs) line parts.0 parts.1 now.1 end (is ∙ ap end_text groups_are) (some_behind below parts.0 parts.1 some parts.2)
+    ∙ bytes_behind most limits (lines_down_to header cs) (length cs) line parts.0 parts.1 now.1 end (is ∙ ap end_text groups_are)
+    (some_behind below parts.0 parts.1 some parts.2)
     ∙ at_line _ _ TrailingBytes (omega (arith, at_number header cs number was.number))
 
 pub journal_ends : (most : ℕ) (limits : Limits) (text : List ℕ) (cs : List (List Entry)) (number groups : ℕ) (rest line below : List ℕ)
     → IsJournalSoFar most limits text cs number rest → rest ≡ line ++ 10 ∷ below → groups ≡ length cs → line ≡ end_text groups → below ≡ []
     → text ≡ flat_map group_text cs ++ last_line cs
 journal_ends most limits text cs number groups rest line below was cut groups_are is none =
-    was.cut ∙ ap (λ x. flat_map group_text cs ++ x) (cut ∙ ap₂ (λ (l b : List ℕ). l ++ 10 ∷ b) (is ∙ ap end_text groups_are) none ∙ sym (end_with_feed cs))
+    was.cut ∙ ap (λ x. flat_map group_text cs ++ x)
+    (cut ∙ ap₂ (λ (l b : List ℕ). l ++ 10 ∷ b) (is ∙ ap end_text groups_are) none ∙ sym (end_with_feed cs))

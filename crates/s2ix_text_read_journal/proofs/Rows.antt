@@ -49,20 +49,24 @@ place_below limits above line = record { limits = limits; above = above; line = 
 
 abbrev first_of : Bool → Bool → Bool → Bool → Bool → Bool → Bool → Bool → Bool → Bool → Bool → Bool → Option JournalFault
 first_of a b c d e f g h i j k l =
-    cond a (Some Truncated) (cond b (Some BadHeader) (cond c (Some BadEnd) (cond d (Some BadLine) (cond e (Some BadToken) (cond f (Some BadLabel)
+    cond a (Some Truncated)
+    (cond b (Some BadHeader) (cond c (Some BadEnd) (cond d (Some BadLine) (cond e (Some BadToken) (cond f (Some BadLabel)
     (cond g (Some BadCount) (cond h (Some NoDifference) (cond i (Some Unsorted) (cond j (Some TooManyCopies) (cond k (Some TooManyChanges)
     (cond l (Some TrailingBytes) None)))))))))))
 
 first_fault : (p : Place)
     → line_fault p
-    ≡ first_of (stands p Truncated) (stands p BadHeader) (stands p BadEnd) (stands p BadLine) (stands p BadToken) (stands p BadLabel) (stands p BadCount) (stands p NoDifference) (stands p Unsorted) (stands p TooManyCopies) (stands p TooManyChanges) (stands p TrailingBytes)
+    ≡ first_of (stands p Truncated) (stands p BadHeader) (stands p BadEnd) (stands p BadLine) (stands p BadToken) (stands p BadLabel)
+    (stands p BadCount) (stands p NoDifference) (stands p Unsorted) (stands p TooManyCopies) (stands p TooManyChanges)
+    (stands p TrailingBytes)
 unfolding line_fault
 first_fault p = refl
 
 same_first : (a b c d e f g h i j k l A B C D E F G H I J K L : Bool) → a ≡ A → b ≡ B → c ≡ C → d ≡ D → e ≡ E → f ≡ F → g ≡ G → h ≡ H
     → i ≡ I → j ≡ J → k ≡ K → l ≡ L
     → first_of a b c d e f g h i j k l ≡ first_of A B C D E F G H I J K L
-same_first a b c d e f g h i j k l A B C D E F G H I J K L ra rb rc rd re rf rg rh ri rj rk rl = rw (ra, rb, rc, rd, re, rf, rg, rh, ri, rj, rk, rl) refl
+same_first a b c d e f g h i j k l A B C D E F G H I J K L ra rb rc rd re rf rg rh ri rj rk rl =
+    rw (ra, rb, rc, rd, re, rf, rg, rh, ri, rj, rk, rl) refl
 
 -- of two tests the one that applies, or neither
 first_applies : (a b x y : Bool) → a ≡ true → b ≡ false → ((a && x) || (b && y)) ≡ x
@@ -80,14 +84,16 @@ neither a b x y is_a is_b = rw (is_a, is_b) refl
 -- ---- inside a group
 
 three_tests : (x y z : Bool) (e : Entry)
-    → cond x (Some NoDifference) (cond (not y) (Some Unsorted) (cond z (Some TooManyCopies) None)) ≡ result_err (cond x (Err NoDifference) (cond (not y) (Err Unsorted) (cond z (Err TooManyCopies) (Ok e))))
+    → cond x (Some NoDifference) (cond (not y) (Some Unsorted) (cond z (Some TooManyCopies) None))
+    ≡ result_err (cond x (Err NoDifference) (cond (not y) (Err Unsorted) (cond z (Err TooManyCopies) (Ok e))))
 three_tests true y z e = refl
 three_tests false false z e = refl
 three_tests false true true e = refl
 three_tests false true false e = refl
 
 at_entry : (limits : Limits) (last : Option Pair) (four : Bool) (cell : Option CellId) (label : Option Label) (before after : Option ℕ)
-    → first_of false false false (not four) (is_none cell) (is_none label) (is_none before || is_none after) (unwrap_or before 0 == unwrap_or after 0) (not (comes_before last (pair_of_both cell label)))
+    → first_of false false false (not four) (is_none cell) (is_none label) (is_none before || is_none after)
+    (unwrap_or before 0 == unwrap_or after 0) (not (comes_before last (pair_of_both cell label)))
     (nat_lt (count_limit limits) (unwrap_or before 0) || nat_lt (count_limit limits) (unwrap_or after 0)) false false
     ≡ result_err (entry_behind limits last (cond four (entry_of_parts cell label before after) (Err BadLine)))
 at_entry limits last false cell label before after = refl
@@ -96,7 +102,8 @@ at_entry limits last true (Some cell) None before after = refl
 at_entry limits last true (Some cell) (Some label) None after = refl
 at_entry limits last true (Some cell) (Some label) (Some m) None = refl
 at_entry limits last true (Some cell) (Some label) (Some m) (Some n) =
-    three_tests (m == n) (comes_before last (Some (record { cell = cell; label = label }))) (nat_lt (count_limit limits) m || nat_lt (count_limit limits) n)
+    three_tests (m == n) (comes_before last (Some (record { cell = cell; label = label })))
+    (nat_lt (count_limit limits) m || nat_lt (count_limit limits) n)
     (record { pair = record { cell = cell; label = label }; before = m; after = n })
 
 pub entry_row : (most : ℕ) (limits : Limits) (above : List (List ℕ)) (line : List ℕ) (left : ℕ) (last : Option Pair) (groups : ℕ)
@@ -125,7 +132,8 @@ entry_row most limits above line left last groups is =
     (applies _ _ _ entry refl)
     (and_left _ _ group)
     (and_left _ _ is.over)
-    ∙ at_entry limits last (has_parts 4 line) (cell_written (part 0 line)) (label_written (part 1 line)) (side_written own (part 2 line)) (side_written own (part 3 line))
+    ∙ at_entry limits last (has_parts 4 line) (cell_written (part 0 line)) (label_written (part 1 line)) (side_written own (part 2 line))
+    (side_written own (part 3 line))
     ∙ ap (λ (n : ℕ). result_err (next_entry n limits last line)) is.greatest
 
 -- ---- outside groups
@@ -178,7 +186,8 @@ end_row most limits above line groups is end =
     let entry : is_of_entry p ≡ false = and_right _ _ (ap not wanted) in
     let group : is_of_group p ≡ false = and_right _ _ (ap not end) in
     first_fault p
-    ∙ same_first _ _ _ _ _ _ _ _ _ _ _ _ false false (not (bytes_eq line (end_text groups))) false false false false false false false false false
+    ∙ same_first _ _ _ _ _ _ _ _ _ _ _ _ false false (not (bytes_eq line (end_text groups))) false false false false false false false false
+    false
     (and_right _ _ refl)
     (and_left _ _ is.some)
     (applies _ _ _ (and_from _ _ (and_from _ _ inner wanted) end) (ap (λ n. not (bytes_eq line (end_text n))) is.number))

@@ -47,8 +47,13 @@ begun : (most : ℕ) (above : List (List ℕ)) (line : List ℕ) (groups size : 
 begun most above line groups size is no_end written =
     next_at above line 0 is.some is.wanted
     ∙ cond-false (is_end line) _ _ no_end
-    ∙ ap (λ (o : Option ℕ). let made : Standing = record { wanted = unwrap_or o 0; last = None; groups = (behind above).groups + 1; over = (behind above).over } in made) written
-    ∙ ap (λ (n : ℕ). let made : Standing = record { wanted = size; last = None; groups = n + 1; over = (behind above).over } in made) is.number
+    ∙ ap
+    (λ (o : Option ℕ). let made : Standing =
+      record { wanted = unwrap_or o 0; last = None; groups = (behind above).groups + 1; over = (behind above).over } in made)
+    written
+    ∙ ap
+    (λ (n : ℕ). let made : Standing = record { wanted = size; last = None; groups = n + 1; over = (behind above).over } in made)
+    is.number
     ∙ ap (λ (b : Bool). let made : Standing = record { wanted = size; last = None; groups = groups + 1; over = b } in made) is.over
 
 pub group_begun : (most : ℕ) (above : List (List ℕ)) (line : List ℕ) (groups size : ℕ) → IsBetween most above groups → is_end line ≡ false
@@ -83,7 +88,8 @@ inside_more most above line left last next groups is writes =
 -- behind a whole group
 pub group_ended : (most : ℕ) (above : List (List ℕ)) (last : Option Pair) (groups : ℕ) → IsInside most above 0 last groups
     → IsBetween most above groups
-group_ended most above last groups is = record { some = is.some; greatest = is.greatest; wanted = is.wanted; number = is.number; over = is.over }
+group_ended most above last groups is =
+    record { some = is.some; greatest = is.greatest; wanted = is.wanted; number = is.number; over = is.over }
 
 -- behind the end line
 pub over_behind : (most : ℕ) (above : List (List ℕ)) (line : List ℕ) (groups : ℕ) → IsBetween most above groups → is_end line ≡ true

@@ -1,7 +1,7 @@
 -- What each refusal says of the line that it names.
-use Rattle.std.proofs.Common.{◌≡◌, ◌≢◌, ◌↔◌, ◌==◌, ℕ, ◌<◌, ◌≤◌, ◌&&◌, ◌||◌, Bool, true, false, not, cond, max, Option, Some, None, Result, Ok, Err, OnOk, IfErr, List, [], ◌∷◌, length, drop, refl, sym, ap, ◌∙◌, subst, arith, ⊎_elim}
-use Rattle.std.specs.Prelude.{is_none, nat_lt, slice_index_or}
-use Rattle.std.proofs.lemmas.Bool.{and_parts, cases_lt, cond-true, eqb-true, leb-true, ltb-true, not-false, not-true}
+use Rattle.std.proofs.Common.{◌≡◌, ◌≢◌, ◌↔◌, ◌==◌, ℕ, ◌<◌, ◌≤◌, ◌⊎◌, inl, inr, ◌&&◌, ◌||◌, Bool, true, false, not, cond, max, Some, None, Result, Ok, Err, OnOk, IfErr, List, [], length, refl, sym, ap, ◌∙◌, subst, arith}
+use Rattle.std.specs.Prelude.{is_none, nat_lt}
+use Rattle.std.proofs.lemmas.Bool.{and_parts, cond-true, eqb-true, leb-true, ltb-true, not-true}
 use Rattle.std.proofs.Math.Nat.{le-max_left, le-max_right}
 use Rattle.s2ix_bag_pairs.specs.Limits.{changes_limit, count_limit}
 use Rattle.s2ix_bag_pairs.specs.declared.limits.Limits.{Limits}
@@ -12,14 +12,13 @@ use Rattle.s2ix_text_read_journal.specs.declared.errors.JournalFault.{JournalFau
 use Rattle.s2ix_text_read_journal.specs.declared.errors.JournalFault.TheVariants.{Truncated, BadHeader, BadEnd, BadLine, BadToken, BadLabel, BadCount, NoDifference, Unsorted, TooManyCopies, TooManyChanges, TrailingBytes}
 use Rattle.s2ix_text_read_journal.specs.JournalFaults.{IsJournalError, after_of_line, before_of_line, behind, is_end, is_first, is_inner, is_of_entry, is_of_group, is_outside, is_over, journal_fault, journal_faults, line_fault, stands}
 use Rattle.s2ix_text_read_journal.specs.Forms.{lacks_counts, lacks_form}
-use Rattle.s2ix_text_parts.specs.Faults.{IsFromLine, Place, fault_below}
-use Rattle.s2ix_text_parts.specs.Lines.{is_nil, lines_of, part}
+use Rattle.s2ix_text_parts.specs.Faults.{Place, fault_below}
+use Rattle.s2ix_text_parts.specs.Lines.{lines_of, part}
 use Rattle.s2ix_text_parts.specs.Places.{line_at, lines_above, place_at}
 use Rattle.s2ix_text_parts.specs.Written.{cell_written, comes_before, label_written, pair_written}
-use Rattle.s2ix_text_parts.proofs.FirstFault.{found_here, place}
-use Rattle.s2ix_text_parts.proofs.Found.{IsOfLine, find_passes, found_of_line}
-use Rattle.s2ix_text_parts.proofs.Pieces.{lines_some}
-use Rattle.s2ix_text_parts.proofs.Places.{last_line, more_lines, none_from, some_lines}
+use Rattle.s2ix_text_parts.proofs.FaultsTold.{AreErrors, AreFaults, TellsLines, tells_lines}
+use Rattle.s2ix_text_parts.proofs.Found.{find_passes}
+use Rattle.s2ix_text_parts.proofs.Places.{none_from}
 use Rattle.s2ix_text_read_journal.proofs.Rows.{header_row, truncated_row}
 
 -- ---- the fault of the line
@@ -28,20 +27,6 @@ use Rattle.s2ix_text_read_journal.proofs.Rows.{header_row, truncated_row}
 fault_stands : (p : Place) (fault : JournalFault) → line_fault p ≡ Some fault → stands p fault ≡ true
 unfolding line_fault
 fault_stands p fault is = find_passes (stands p) journal_faults fault is
-
-pub fault_of_line : (limits : Limits) (text : List ℕ) (line : ℕ) (fault : JournalFault) → journal_fault limits text ≡ Some (line, fault)
-    → IsOfLine line_fault limits text line fault
-unfolding journal_fault
-fault_of_line limits text line fault is = found_of_line line_fault limits text line fault is
-
--- a fault but the first of the list is found only where the line has its line feed
-ended_at : (p : Place) (fault : JournalFault) (ended : Bool) → p.ended ≡ ended → is_over p ≡ false → (Truncated ≡ fault → ⊥)
-    → line_fault p ≡ Some fault → ended ≡ true
-ended_at p fault true own over other is = refl
-ended_at p fault false own over other is =
-    let same : Some Truncated ≡ Some fault = sym (truncated_row p over own) ∙ is in
-    let clash : Truncated ≡ fault = cc in
-    absurd (other clash)
 
 -- ---- where each fault stands
 
@@ -72,7 +57,8 @@ above_either limit m n false false a b is = cc
 
 copies_there : (p : Place) → stands p TooManyCopies ≡ true → count_limit p.limits < max (before_of_line p) (after_of_line p)
 unfolding stands
-copies_there p is = above_either (count_limit p.limits) (before_of_line p) (after_of_line p) _ _ refl refl (and_parts (is_of_entry p) _ is).1
+copies_there p is =
+    above_either (count_limit p.limits) (before_of_line p) (after_of_line p) _ _ refl refl (and_parts (is_of_entry p) _ is).1
 
 changes_there : (p : Place) → stands p TooManyChanges ≡ true → changes_limit p.limits ≤ (behind p.above).groups
 unfolding stands
@@ -111,24 +97,36 @@ bad_count_there p is = of_kind (is_inner p) ((behind p.above).wanted == 0) (is_e
 
 -- ---- the first line
 
--- a text without a line feed
-one_line : (limits : Limits) (text : List ℕ) (lines : List (List ℕ)) → lines_of text ≡ lines → length lines ≡ 1
-    → journal_fault limits text ≡ Some (1, Truncated)
-unfolding journal_fault behind
-one_line limits text [] are one = absurd (omega arith)
-one_line limits text (line ∷ []) are one =
-    ap (fault_below line_fault limits []) are ∙ found_here line_fault limits [] line [] Truncated (truncated_row (place limits [] line []) refl refl)
-one_line limits text (line ∷ (next ∷ lines)) are one = absurd (omega arith)
-
--- one whose first line is no header
-other_header : (limits : Limits) (text : List ℕ) (lines : List (List ℕ)) → lines_of text ≡ lines → 1 < length lines
-    → journal_version (slice_index_or lines 0 []) ≡ None → journal_fault limits text ≡ Some (1, BadHeader)
+-- the first fault of a text is that of its first line that has one
+found_is : (limits : Limits) (text : List ℕ) → journal_fault limits text ≡ fault_below line_fault limits [] (lines_of text)
 unfolding journal_fault
-other_header limits text [] are more none = absurd (omega arith)
-other_header limits text (line ∷ []) are more none = absurd (omega arith)
-other_header limits text (line ∷ (next ∷ lines)) are more none =
-    ap (fault_below line_fault limits []) are
-    ∙ found_here line_fault limits [] line (next ∷ lines) BadHeader (header_row limits line ∙ cond-true _ _ _ (ap is_none none))
+found_is limits text = refl
+
+-- nothing is over before the first line
+not_over : (above : List (List ℕ)) → above ≡ [] → (behind above).over ≡ false
+unfolding behind
+not_over above first = ap (λ (lines : List (List ℕ)). (behind lines).over) first
+
+faults : AreFaults line_fault Truncated BadHeader journal_version
+faults = record {
+  differ = λ same. cc;
+  no_feed = λ p first open_end. truncated_row p (not_over p.above first) open_end;
+  no_header = λ limits line none. header_row limits line ∙ cond-true _ _ _ (ap is_none none);
+  open_end = λ p is. truncated_there p (fault_stands p Truncated is);
+  unnamed = λ p is. header_there p (fault_stands p BadHeader is);
+}
+
+-- a fault with the number of its line
+abbrev at_line : ℕ → JournalFault → JournalError
+at_line line fault = At line fault
+
+-- an error is that, or want of memory
+either : (error : JournalError) → ((named : ℕ × JournalFault) × (error ≡ At named.0 named.1)) ⊎ (error ≡ OutOfMemory)
+either (At line fault) = inl ((line, fault), refl)
+either OutOfMemory = inr refl
+
+errors : AreErrors at_line OutOfMemory IsJournalError
+errors = record { at_is = λ line fault found is. is; memory_is = λ found is. is; either = either }
 
 -- ---- what an answer tells
 
@@ -152,93 +150,36 @@ pub record Answers {X : Type 0} (limits : Limits) (text : List ℕ) (r : Result 
   pub too_many_changes : (line : ℕ) → r ≡ Err (At line TooManyChanges) → changes_limit limits ≤ (behind (lines_above line text)).groups
   pub trailing : (line : ℕ) → r ≡ Err (At line TrailingBytes) → (behind (lines_above line text)).over ≡ true
 
--- an error names the first fault
-at_found : {X : Type 0} (limits : Limits) (text : List ℕ) (r : Result X JournalError) (line : ℕ) (fault : JournalFault)
-    → IfErr r (λ error. IsJournalError error (journal_fault limits text)) → r ≡ Err (At line fault)
-    → journal_fault limits text ≡ Some (line, fault)
-at_found limits text (Ok x) line fault refused is = cc
-at_found limits text (Err error) line fault refused is =
-    let same : error ≡ At line fault = cc in
-    subst (λ (e : JournalError). IsJournalError e (journal_fault limits text)) same refused
+-- so much of the lines
+abbrev Lines : {X : Type 0} → Limits → List ℕ → Result X JournalError → Type 0
+Lines limits text r = TellsLines at_line OutOfMemory line_fault Truncated BadHeader journal_version limits text r
 
--- and so its line has it
-there : {X : Type 0} (limits : Limits) (text : List ℕ) (r : Result X JournalError) (line : ℕ) (fault : JournalFault)
-    → IfErr r (λ error. IsJournalError error (journal_fault limits text)) → r ≡ Err (At line fault)
-    → stands (place_at limits line text) fault ≡ true
-there limits text r line fault refused is = fault_stands (place_at limits line text) fault (fault_of_line limits text line fault (at_found limits text r line fault refused is)).has
-
--- a fault of the first line is always answered
-first_told : {X : Type 0} (limits : Limits) (text : List ℕ) (r : Result X JournalError) (fault : JournalFault)
-    → OnOk r (journal_fault limits text ≡ None) → IfErr r (λ error. IsJournalError error (journal_fault limits text))
-    → journal_fault limits text ≡ Some (1, fault) → r ≡ Err (At 1 fault)
-first_told limits text (Ok x) fault accepted refused is = let clash : ◌≡◌ {A = Option (ℕ × JournalFault)} None (Some (1, fault)) = sym accepted ∙ is in cc
-first_told {X = X} limits text (Err (At line other)) fault accepted refused is =
-    let same : ◌≡◌ {A = Option (ℕ × JournalFault)} (Some (line, other)) (Some (1, fault)) = sym refused ∙ is in
-    let pair : (line, other) ≡ (1, fault) = cc in
-    ap (λ (x : ℕ × JournalFault). let r : Result X JournalError = Err (At x.0 x.1) in r) pair
-first_told limits text (Err OutOfMemory) fault accepted refused is =
-    let late : 2 ≤ 1 = subst (λ (found : Option (ℕ × JournalFault)). IsFromLine 2 found) is refused in absurd (omega (arith, late))
-
--- memory isn't wanted where the first line has a fault
-wants_no_first : {X : Type 0} (limits : Limits) (text : List ℕ) (r : Result X JournalError) (fault : JournalFault)
-    → IfErr r (λ error. IsJournalError error (journal_fault limits text)) → r ≡ Err OutOfMemory
-    → journal_fault limits text ≡ Some (1, fault) → ⊥
-wants_no_first limits text (Ok x) fault refused wants is = cc
-wants_no_first limits text (Err error) fault refused wants is =
-    let same : error ≡ OutOfMemory = cc in
-    let from = subst (λ (e : JournalError). IsJournalError e (journal_fault limits text)) same refused in
-    let late : 2 ≤ 1 = subst (λ (found : Option (ℕ × JournalFault)). IsFromLine 2 found) is from in
-    omega (arith, late)
-
-header_needed : {X : Type 0} (limits : Limits) (text : List ℕ) (r : Result X JournalError)
-    → IfErr r (λ error. IsJournalError error (journal_fault limits text)) → r ≡ Err OutOfMemory → journal_version (line_at 1 text) ≢ None
-header_needed limits text r refused wants none =
-    ⊎_elim
-    (λ more. wants_no_first limits text r BadHeader refused wants (other_header limits text (lines_of text) refl more none))
-    (λ few. wants_no_first limits text r Truncated refused wants (one_line limits text (lines_of text) refl (omega (arith, few, some_lines (lines_of text) (lines_some text)))))
-    (cases_lt 1 (length (lines_of text)))
-
-last_there : {X : Type 0} (limits : Limits) (text : List ℕ) (r : Result X JournalError) (line : ℕ)
-    → IfErr r (λ error. IsJournalError error (journal_fault limits text)) → r ≡ Err (At line Truncated) → line ≡ length (lines_of text)
-last_there limits text r line refused is =
-    let at = fault_of_line limits text line Truncated (at_found limits text r line Truncated refused is) in
-    let open_end = truncated_there (place_at limits line text) (there limits text r line Truncated refused is) in
-    last_line (lines_of text) line at.from at.inside (not-false (is_nil (drop line (lines_of text))) open_end)
-
-header_first : {X : Type 0} (limits : Limits) (text : List ℕ) (r : Result X JournalError)
-    → IfErr r (λ error. IsJournalError error (journal_fault limits text)) → r ≡ Err (At 1 BadHeader)
-    → (1 < length (lines_of text)) × (journal_version (line_at 1 text) ≡ None)
-unfolding behind
-header_first limits text r refused is =
-    let p = place_at limits 1 text in
-    let at = fault_of_line limits text 1 BadHeader (at_found limits text r 1 BadHeader refused is) in
-    (more_lines (lines_of text) (ended_at p BadHeader p.ended refl refl (λ e. cc) at.has), header_there p (there limits text r 1 BadHeader refused is))
+-- the line that an error names has its fault
+there : {X : Type 0} (limits : Limits) (text : List ℕ) (r : Result X JournalError) (line : ℕ) (fault : JournalFault) → Lines limits text r
+    → r ≡ Err (At line fault) → stands (place_at limits line text) fault ≡ true
+there limits text r line fault lines is = fault_stands (place_at limits line text) fault (lines.of_line line fault is).has
 
 pub answers : {X : Type 0} (limits : Limits) (text : List ℕ) (r : Result X JournalError) → OnOk r (journal_fault limits text ≡ None)
     → IfErr r (λ error. IsJournalError error (journal_fault limits text)) → Answers limits text r
 answers limits text r accepted refused =
-    let lines = lines_of text in
+    let at = λ (line : ℕ). place_at limits line text in
+    let told : Lines limits text r =
+        tells_lines errors faults limits text (journal_fault limits text) r (found_is limits text) accepted refused in
     record {
-      no_feed = (
-        λ is. sym (last_there limits text r 1 refused is),
-        λ one. first_told limits text r Truncated accepted refused (one_line limits text lines refl one),
-      );
-      bad_header = (
-        header_first limits text r refused,
-        λ other. first_told limits text r BadHeader accepted refused (other_header limits text lines refl other.0 other.1),
-      );
-      memory = header_needed limits text r refused;
-      truncated = λ line is. last_there limits text r line refused is;
-      bad_end = λ line is. bad_end_there (place_at limits line text) (there limits text r line BadEnd refused is);
-      bad_line = λ line is. bad_line_there (place_at limits line text) (there limits text r line BadLine refused is);
-      bad_token = λ line is. bad_token_there (place_at limits line text) (there limits text r line BadToken refused is);
-      bad_label = λ line is. bad_label_there (place_at limits line text) (there limits text r line BadLabel refused is);
-      bad_count = λ line is. bad_count_there (place_at limits line text) (there limits text r line BadCount refused is);
-      no_difference = λ line is. no_difference_there (place_at limits line text) (there limits text r line NoDifference refused is);
-      unsorted = λ line is. unsorted_there (place_at limits line text) (there limits text r line Unsorted refused is);
-      too_many_copies = λ line is. copies_there (place_at limits line text) (there limits text r line TooManyCopies refused is);
-      too_many_changes = λ line is. changes_there (place_at limits line text) (there limits text r line TooManyChanges refused is);
-      trailing = λ line is. trailing_there (place_at limits line text) (there limits text r line TrailingBytes refused is);
+      no_feed = told.one_line;
+      bad_header = told.other_header;
+      memory = told.wants;
+      truncated = told.last;
+      bad_end = λ line is. bad_end_there (at line) (there limits text r line BadEnd told is);
+      bad_line = λ line is. bad_line_there (at line) (there limits text r line BadLine told is);
+      bad_token = λ line is. bad_token_there (at line) (there limits text r line BadToken told is);
+      bad_label = λ line is. bad_label_there (at line) (there limits text r line BadLabel told is);
+      bad_count = λ line is. bad_count_there (at line) (there limits text r line BadCount told is);
+      no_difference = λ line is. no_difference_there (at line) (there limits text r line NoDifference told is);
+      unsorted = λ line is. unsorted_there (at line) (there limits text r line Unsorted told is);
+      too_many_copies = λ line is. copies_there (at line) (there limits text r line TooManyCopies told is);
+      too_many_changes = λ line is. changes_there (at line) (there limits text r line TooManyChanges told is);
+      trailing = λ line is. trailing_there (at line) (there limits text r line TrailingBytes told is);
     }
 
 -- where it answers an error

@@ -86,7 +86,8 @@ unfolding journal_fault
 below_header limits text header below version lines named =
     ap (fault_left limits []) lines
     ∙ found_later line_fault limits [] header (lines_of below)
-    (ap line_fault (ended limits [] header (lines_of below) (lines_some below)) ∙ header_row limits header ∙ cond-false _ _ _ (ap is_none named))
+    (ap line_fault (ended limits [] header (lines_of below) (lines_some below)) ∙ header_row limits header
+    ∙ cond-false _ _ _ (ap is_none named))
 
 pub bad_header : (limits : Limits) (text header below : List ℕ) → lines_of text ≡ header ∷ lines_of below → journal_version header ≡ None
     → journal_fault limits text ≡ Some (1, BadHeader)
@@ -94,7 +95,8 @@ unfolding journal_fault
 bad_header limits text header below lines none =
     ap (fault_left limits []) lines
     ∙ found_here line_fault limits [] header (lines_of below) BadHeader
-    (ap line_fault (ended limits [] header (lines_of below) (lines_some below)) ∙ header_row limits header ∙ cond-true _ _ _ (ap is_none none))
+    (ap line_fault (ended limits [] header (lines_of below) (lines_some below)) ∙ header_row limits header
+    ∙ cond-true _ _ _ (ap is_none none))
 
 pub no_header : (limits : Limits) (text : List ℕ) → lines_of text ≡ text ∷ [] → journal_fault limits text ≡ Some (1, Truncated)
 unfolding journal_fault behind
@@ -106,7 +108,8 @@ no_header limits text lines =
 
 lines_of_end : (cs : List (List Entry)) → length cs < 2 ^ 64 → lines_of (last_line cs) ≡ end_text (length cs) ∷ [] ∷ []
 lines_of_end cs few =
-    ap lines_of (end_with_feed cs) ∙ lines_apart (end_text (length cs)) [] (end_lacks_feed (length cs) few) ∙ ap (λ (ls : List (List ℕ)). end_text (length cs) ∷ ls) no_lines
+    ap lines_of (end_with_feed cs) ∙ lines_apart (end_text (length cs)) [] (end_lacks_feed (length cs) few)
+    ∙ ap (λ (ls : List (List ℕ)). end_text (length cs) ∷ ls) no_lines
 
 pub journal_is_sound : (limits : Limits) (cs : List (List Entry)) → IsJournal limits cs → (version : Version)
     → All (IsWritableIn version) cs → journal_fault limits (journal_in version cs) ≡ None
@@ -121,13 +124,18 @@ journal_is_sound limits cs is version are =
     let bounded = greatest_fits version in
     let below = flat_map group_text cs ++ last_line cs in
     let start = between_start most header (greatest_of_version header version named) in
-    let passed = groups_passed most bounded limits (lines_down_to header []) 0 cs (lines_of (last_line cs)) start groups (omega (arith, few)) (lines_some (last_line cs)) in
-    let between = subst (λ n. IsBetween most (lines_down_to header cs) n) (let whole : 0 + length cs ≡ length cs = omega arith in whole) passed.between in
+    let passed =
+        groups_passed most bounded limits (lines_down_to header []) 0 cs (lines_of (last_line cs)) start groups (omega (arith, few))
+        (lines_some (last_line cs)) in
+    let between =
+        subst (λ n. IsBetween most (lines_down_to header cs) n) (let whole : 0 + length cs ≡ length cs = omega arith in whole)
+        passed.between in
     below_header limits (header ++ 10 ∷ below) header below version (lines_apart header below (journal_header_lacks_feed version)) named
     ∙ ap (fault_left limits (lines_down_to header [])) (lines_of_groups most bounded limits cs (last_line cs) groups)
     ∙ passed.fault
     ∙ ap (fault_left limits (lines_down_to header cs)) (lines_of_end cs (omega (arith, few, all)))
-    ∙ nothing_behind most limits (lines_down_to header cs) (length cs) (end_text (length cs)) between (end_is_end (length cs) (omega (arith, few, all))) refl
+    ∙ nothing_behind most limits (lines_down_to header cs) (length cs) (end_text (length cs)) between
+    (end_is_end (length cs) (omega (arith, few, all))) refl
 
 -- ---- a text without a fault is a journal
 
@@ -145,7 +153,8 @@ record IsOutside (most : ℕ) (limits : Limits) (header : List ℕ) (above : Lis
   between : IsBetween most above (length cs)
 
 -- the same, and the first lines of one group more
-record IsAmong (most : ℕ) (limits : Limits) (header : List ℕ) (above : List (List ℕ)) (cs : List (List Entry)) (es : List Entry) (more : ℕ) : Type 0 where
+record IsAmong (most : ℕ) (limits : Limits) (header : List ℕ) (above : List (List ℕ)) (cs : List (List Entry)) (es : List Entry)
+    (more : ℕ) : Type 0 where
   groups : All (IsGroup most limits) cs
   room : length cs < changes_limit limits
   entries : AreEntries most limits es
@@ -154,7 +163,9 @@ record IsAmong (most : ℕ) (limits : Limits) (header : List ℕ) (above : List 
   inside : IsInside most above (suc more) (last_pair es) (length cs + 1)
 
 abbrev IsFront : ℕ → Limits → List ℕ → List (List ℕ) → Type 0
-IsFront most limits header above = ((cs : List (List Entry)) × IsOutside most limits header above cs) ⊎ ((cs : List (List Entry)) × (es : List Entry) × (more : ℕ) × IsAmong most limits header above cs es more)
+IsFront most limits header above =
+    ((cs : List (List Entry)) × IsOutside most limits header above cs)
+    ⊎ ((cs : List (List Entry)) × (es : List Entry) × (more : ℕ) × IsAmong most limits header above cs es more)
 
 ok_from : {A : Type 0} (r : Result A JournalFault) → result_err r ≡ None → (x : A) × (r ≡ Ok x)
 ok_from (Ok x) none = (x, refl)
@@ -165,9 +176,11 @@ ok_from (Err fault) none = cc
 group_lines_more : (header : List ℕ) (cs : List (List Entry)) (es : List Entry) (size : ℕ) → length es ≡ size
     → lines_down_to header cs ++ change_text size ∷ map entry_text es ≡ lines_down_to header (cs ++ es ∷ [])
 group_lines_more header cs es size long =
-    ap (λ n. lines_down_to header cs ++ change_text n ∷ map entry_text es) (sym long) ∙ ap (λ (ls : List (List ℕ)). header ∷ ls) (flat_map_more group_lines [] cs es)
+    ap (λ n. lines_down_to header cs ++ change_text n ∷ map entry_text es) (sym long)
+    ∙ ap (λ (ls : List (List ℕ)). header ∷ ls) (flat_map_more group_lines [] cs es)
 
-entry_lines_more : (header : List ℕ) (cs : List (List Entry)) (es : List Entry) (e : Entry) (above : List (List ℕ)) (line : List ℕ) (size : ℕ)
+entry_lines_more : (header : List ℕ) (cs : List (List Entry)) (es : List Entry) (e : Entry) (above : List (List ℕ)) (line : List ℕ)
+    (size : ℕ)
     → above ≡ lines_down_to header cs ++ change_text size ∷ map entry_text es → line ≡ entry_text e
     → above ++ line ∷ [] ≡ lines_down_to header cs ++ change_text size ∷ map entry_text (es ++ e ∷ [])
 entry_lines_more header cs es e above line size are text =
@@ -175,7 +188,8 @@ entry_lines_more header cs es e above line size are text =
     ∙ append_assoc (lines_down_to header cs) (change_text size ∷ map entry_text es) (entry_text e ∷ [])
     ∙ ap (λ (ls : List (List ℕ)). lines_down_to header cs ++ change_text size ∷ ls) (sym (map_push entry_text es e))
 
-front_after_entry : (most : ℕ) (limits : Limits) (header : List ℕ) (above : List (List ℕ)) (cs : List (List Entry)) (es : List Entry) (more : ℕ) (line : List ℕ) (e : Entry)
+front_after_entry : (most : ℕ) (limits : Limits) (header : List ℕ) (above : List (List ℕ)) (cs : List (List Entry)) (es : List Entry)
+    (more : ℕ) (line : List ℕ) (e : Entry)
     → IsAmong most limits header above cs es more → IsNext most limits (last_pair es) line e
     → IsFront most limits header (above ++ line ∷ [])
 front_after_entry most limits header above cs es zero line e is next =
@@ -183,15 +197,21 @@ front_after_entry most limits header above cs es zero line e is next =
     let all = es ++ e ∷ [] in
     let long : length all ≡ length es + suc 0 = omega (arith, length_push es e) in
     let size = is.size in
-    let group : IsGroup most limits all = record { entries = entries_more most limits es line e is.entries next; some = omega (arith, long); few = omega (arith, long, size) } in
+    let group : IsGroup most limits all =
+        record { entries = entries_more most limits es line e is.entries next; some = omega (arith, long); few = omega (arith, long, size)
+        } in
     let number : length cs + 1 ≡ length (cs ++ all ∷ []) = omega (arith, length_push cs all) in
     inl (
       cs ++ all ∷ [],
       record {
         groups = All-push (IsGroup most limits) cs all is.groups group;
         few = omega (arith, length_push cs all, is.room);
-        are = entry_lines_more header cs es e above line (length es + suc 0) is.are next.text ∙ group_lines_more header cs all (length es + suc 0) long;
-        between = subst (λ n. IsBetween most (above ++ line ∷ []) n) number (group_ended most (above ++ line ∷ []) (Some e.pair) (length cs + 1) inside);
+        are =
+            entry_lines_more header cs es e above line (length es + suc 0) is.are next.text
+            ∙ group_lines_more header cs all (length es + suc 0) long;
+        between =
+            subst (λ n. IsBetween most (above ++ line ∷ []) n) number
+            (group_ended most (above ++ line ∷ []) (Some e.pair) (length cs + 1) inside);
       },
     )
 front_after_entry most limits header above cs es (suc more) line e is next =
@@ -207,14 +227,19 @@ front_after_entry most limits header above cs es (suc more) line e is next =
         room = is.room;
         entries = entries_more most limits es line e is.entries next;
         size = omega (arith, long, size);
-        are = entry_lines_more header cs es e above line (length es + suc (suc more)) is.are next.text ∙ ap (λ n. lines_down_to header cs ++ change_text n ∷ map entry_text all) long;
-        inside = inside_more most above line (suc more) (last_pair es) (last_pair all) (length cs + 1) is.inside (next.writes ∙ sym (last_pair_pushed es e));
+        are =
+            entry_lines_more header cs es e above line (length es + suc (suc more)) is.are next.text
+            ∙ ap (λ n. lines_down_to header cs ++ change_text n ∷ map entry_text all) long;
+        inside =
+            inside_more most above line (suc more) (last_pair es) (last_pair all) (length cs + 1) is.inside
+            (next.writes ∙ sym (last_pair_pushed es e));
       },
     )
 
 -- a group begins
 
-front_after_size : (most : ℕ) (limits : Limits) (header : List ℕ) (above : List (List ℕ)) (cs : List (List Entry)) (size : ℕ) (line : List ℕ)
+front_after_size : (most : ℕ) (limits : Limits) (header : List ℕ) (above : List (List ℕ)) (cs : List (List Entry)) (size : ℕ)
+    (line : List ℕ)
     → IsOutside most limits header above cs → is_end line ≡ false → IsSize limits (length cs) line size
     → IsFront most limits header (above ++ line ∷ [])
 front_after_size most limits header above cs zero line is no_end writes = absurd (let none = writes.some in omega (arith, none))
@@ -231,7 +256,10 @@ front_after_size most limits header above cs (suc more) line is no_end writes =
         entries = no_entries most limits;
         size = omega (arith, few);
         are = ap₂ (λ (a : List (List ℕ)) (l : List ℕ). a ++ l ∷ []) is.are (writes.text ∙ ap change_text number);
-        inside = inside_group most (above ++ line ∷ []) (length cs + 1) (suc more) (some_behind_line above line) (greatest_more most above line is.between.some is.between.greatest) (group_begun most above line (length cs) (suc more) is.between no_end writes.written);
+        inside =
+            inside_group most (above ++ line ∷ []) (length cs + 1) (suc more) (some_behind_line above line)
+            (greatest_more most above line is.between.some is.between.greatest)
+            (group_begun most above line (length cs) (suc more) is.between no_end writes.written);
       },
     )
 
@@ -242,9 +270,11 @@ end_left : (most : ℕ) (limits : Limits) (above : List (List ℕ)) (groups : �
     → line ∷ last ∷ lines ≡ end_text groups ∷ [] ∷ []
 end_left most limits above groups line [] [] is end same none = ap (λ x. x ∷ [] ∷ []) same
 end_left most limits above groups line (byte ∷ last) [] is end same none =
-    let clash : ◌≡◌ {A = Option (ℕ × JournalFault)} (Some (length above + 2, TrailingBytes)) None = sym (bytes_behind most limits above groups line (byte ∷ last) [] is end same refl) ∙ none in cc
+    let clash : ◌≡◌ {A = Option (ℕ × JournalFault)} (Some (length above + 2, TrailingBytes)) None =
+    sym (bytes_behind most limits above groups line (byte ∷ last) [] is end same refl) ∙ none in cc
 end_left most limits above groups line last (more ∷ lines) is end same none =
-    let clash : ◌≡◌ {A = Option (ℕ × JournalFault)} (Some (length above + 2, TrailingBytes)) None = sym (bytes_behind most limits above groups line last (more ∷ lines) is end same refl) ∙ none in cc
+    let clash : ◌≡◌ {A = Option (ℕ × JournalFault)} (Some (length above + 2, TrailingBytes)) None =
+    sym (bytes_behind most limits above groups line last (more ∷ lines) is end same refl) ∙ none in cc
 
 end_from : (most : ℕ) (limits : Limits) (above : List (List ℕ)) (groups : ℕ) (line : List ℕ) → IsBetween most above groups
     → is_end line ≡ true → line_fault (place_below limits above line) ≡ None → line ≡ end_text groups
@@ -252,7 +282,9 @@ end_from most limits above groups line is end none =
     ⊎_elim
     (λ same. (bytes_eq-Decides line (end_text groups)).0 same)
     (λ other.
-    let fault = end_fault most limits above groups line is end (λ e. both_ways (bytes_eq line (end_text groups)) other ((bytes_eq-Decides line (end_text groups)).1 e)) in
+    let fault =
+        end_fault most limits above groups line is end
+        (λ e. both_ways (bytes_eq line (end_text groups)) other ((bytes_eq-Decides line (end_text groups)).1 e)) in
     let clash : Some BadEnd ≡ None = sym fault ∙ none in cc)
     (cases_Bool (bytes_eq line (end_text groups)))
 
@@ -266,7 +298,8 @@ front_over most limits header above (inr among) = among.3.inside.over
 one_line_more : (most : ℕ) → most < 2 ^ 32
     → (limits : Limits) (header : List ℕ) (above : List (List ℕ)) (line last : List ℕ) (lines : List (List ℕ))
     → IsFront most limits header above → fault_left limits above (line ∷ last ∷ lines) ≡ None
-    → ((cs : List (List Entry)) × IsWhole most limits header (above ++ line ∷ last ∷ lines) cs) ⊎ IsFront most limits header (above ++ line ∷ [])
+    → ((cs : List (List Entry)) × IsWhole most limits header (above ++ line ∷ last ∷ lines) cs)
+    ⊎ IsFront most limits header (above ++ line ∷ [])
 one_line_more most bounded limits header above line last lines (inl outside) none =
     let cs = outside.0 in
     let is = outside.1 in
@@ -279,7 +312,9 @@ one_line_more most bounded limits header above line last lines (inl outside) non
       record {
         groups = is.groups;
         few = is.few;
-        are = ap₂ (λ (a ls : List (List ℕ)). a ++ ls) is.are (end_left most limits above (length cs) line last lines is.between end same none);
+        are =
+            ap₂ (λ (a ls : List (List ℕ)). a ++ ls) is.are
+            (end_left most limits above (length cs) line last lines is.between end same none);
       },
     ))
     (λ no_end.
@@ -292,8 +327,11 @@ one_line_more most bounded limits header above line last lines (inr among) none 
     let more = among.2 in
     let is = among.3 in
     let sound = none_here line_fault limits above line (last ∷ lines) none in
-    let entry = ok_from (next_entry most limits (last_pair es) line) (sym (entry_row most limits above line more (last_pair es) (length cs + 1) is.inside) ∙ sound) in
-    inr (front_after_entry most limits header above cs es more line entry.0 is (next_from most bounded limits (last_pair es) line entry.0 entry.1))
+    let entry =
+        ok_from (next_entry most limits (last_pair es) line)
+        (sym (entry_row most limits above line more (last_pair es) (length cs + 1) is.inside) ∙ sound) in
+    inr (front_after_entry most limits header above cs es more line entry.0 is
+    (next_from most bounded limits (last_pair es) line entry.0 entry.1))
 
 whole_from : (most : ℕ) → most < 2 ^ 32 → (limits : Limits) (header : List ℕ) (above lines : List (List ℕ))
     → IsFront most limits header above → is_nil lines ≡ false → fault_left limits above lines ≡ None
@@ -306,8 +344,11 @@ whole_from most bounded limits header above (line ∷ (last ∷ lines)) front so
     ⊎_elim
     (λ whole. whole)
     (λ further.
-    let later = whole_from most bounded limits header (above ++ line ∷ []) (last ∷ lines) further refl (none_later line_fault limits above line (last ∷ lines) none) in
-    (later.0, subst (λ (ls : List (List ℕ)). IsWhole most limits header ls later.0) (append_assoc above (line ∷ []) (last ∷ lines)) later.1))
+    let later =
+        whole_from most bounded limits header (above ++ line ∷ []) (last ∷ lines) further refl
+        (none_later line_fault limits above line (last ∷ lines) none) in
+    (later.0, subst (λ (ls : List (List ℕ)). IsWhole most limits header ls later.0) (append_assoc above (line ∷ []) (last ∷ lines))
+    later.1))
     (one_line_more most bounded limits header above line last lines front none)
 
 -- ---- lines put together
@@ -345,8 +386,10 @@ join_whole : (version : Version) (cs : List (List Entry))
     → join_with_byte 10 (lines_down_to (journal_header version) cs ++ end_text (length cs) ∷ [] ∷ []) ≡ journal_in version cs
 unfolding journal_in
 join_whole version cs =
-    join_more (journal_header version) (flat_map group_lines cs ++ end_text (length cs) ∷ [] ∷ []) (some_joined (flat_map group_lines cs) (end_text (length cs) ∷ [] ∷ []) refl)
-    ∙ ap (λ x. journal_header version ++ 10 ∷ x) (join_groups cs (end_text (length cs) ∷ [] ∷ []) refl ∙ ap (λ x. flat_map group_text cs ++ x) (sym (end_with_feed cs)))
+    join_more (journal_header version) (flat_map group_lines cs ++ end_text (length cs) ∷ [] ∷ [])
+    (some_joined (flat_map group_lines cs) (end_text (length cs) ∷ [] ∷ []) refl)
+    ∙ ap (λ x. journal_header version ++ 10 ∷ x)
+    (join_groups cs (end_text (length cs) ∷ [] ∷ []) refl ∙ ap (λ x. flat_map group_text cs ++ x) (sym (end_with_feed cs)))
 
 -- ---- from the top
 
@@ -356,10 +399,12 @@ version_from (Some version) none = (version, refl)
 
 header_from : (limits : Limits) (header next : List ℕ) (lines : List (List ℕ)) → fault_left limits [] (header ∷ next ∷ lines) ≡ None
     → (version : Version) × (journal_version header ≡ Some version)
-header_from limits header next lines none = version_from (journal_version header) (sym (header_row limits header) ∙ none_here line_fault limits [] header (next ∷ lines) none)
+header_from limits header next lines none =
+    version_from (journal_version header) (sym (header_row limits header) ∙ none_here line_fault limits [] header (next ∷ lines) none)
 
 front_start : (most : ℕ) (limits : Limits) (header : List ℕ) → greatest_count header ≡ most → IsFront most limits header (header ∷ [])
-front_start most limits header own = inl ([], record { groups = λ k d within. absurd (omega arith); few = omega arith; are = refl; between = between_start most header own })
+front_start most limits header own =
+    inl ([], record { groups = λ k d within. absurd (omega arith); few = omega arith; are = refl; between = between_start most header own })
 
 lines_are_journal : (limits : Limits) (lines : List (List ℕ)) → is_nil lines ≡ false → fault_left limits [] lines ≡ None
     → (version : Version) × (cs : List (List Entry)) × IsWhole (greatest_in version) limits (journal_header version) lines cs
@@ -374,7 +419,8 @@ lines_are_journal limits (header ∷ (next ∷ lines)) some none =
     let later = none_later line_fault limits [] header (next ∷ lines) none in
     let start = front_start most limits header (greatest_of_version header named.0 named.1) in
     let whole = whole_from most (greatest_fits named.0) limits header (header ∷ []) (next ∷ lines) start refl later in
-    (named.0, whole.0, subst (λ (h : List ℕ). IsWhole most limits h (header ∷ next ∷ lines) whole.0) (journal_header_named header named.0 named.1) whole.1)
+    (named.0, whole.0, subst (λ (h : List ℕ). IsWhole most limits h (header ∷ next ∷ lines) whole.0)
+    (journal_header_named header named.0 named.1) whole.1)
 
 pub sound_is_journal : (limits : Limits) (text : List ℕ) → journal_fault limits text ≡ None
     → (cs : List (List Entry)) × IsJournal limits cs × IsJournalText text cs
@@ -384,4 +430,5 @@ sound_is_journal limits text none =
     let version = whole.0 in
     let cs = whole.1 in
     let is = whole.2 in
-    (cs, journal_of_groups version limits cs is.groups is.few, (version, groups_writable version limits cs is.groups, sym (lines_joined text) ∙ ap (join_with_byte 10) is.are ∙ join_whole version cs))
+    (cs, journal_of_groups version limits cs is.groups is.few,
+    (version, groups_writable version limits cs is.groups, sym (lines_joined text) ∙ ap (join_with_byte 10) is.are ∙ join_whole version cs))

@@ -11,4 +11,7 @@ lacks_form p = if (behind p.above).wanted == 0 then not (is_change p.line) else 
 
 -- the number of entries, or the counts before and after
 abbrev pub lacks_counts : Place → Bool
-lacks_counts p = if (behind p.above).wanted == 0 then is_none (size_written (part 1 p.line)) else (is_none (before_written p) || is_none (after_written p))
+lacks_counts p =
+    if (behind p.above).wanted == 0
+    then is_none (size_written (part 1 p.line))
+    else (is_none (before_written p) || is_none (after_written p))

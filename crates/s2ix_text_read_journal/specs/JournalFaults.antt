@@ -121,7 +121,8 @@ stands p TrailingBytes = is_over p && (p.ended || not (is_nil p.line))
 -- the faults, in the order in which they decide on one line
 abbrev pub journal_faults : List JournalFault
 journal_faults =
-    Truncated ∷ BadHeader ∷ BadEnd ∷ BadLine ∷ BadToken ∷ BadLabel ∷ BadCount ∷ NoDifference ∷ Unsorted ∷ TooManyCopies ∷ TooManyChanges ∷ TrailingBytes ∷ []
+    Truncated ∷ BadHeader ∷ BadEnd ∷ BadLine ∷ BadToken ∷ BadLabel ∷ BadCount ∷ NoDifference ∷ Unsorted ∷ TooManyCopies ∷ TooManyChanges
+    ∷ TrailingBytes ∷ []
 
 -- the fault of a line: the first that stands
 unfoldable pub line_fault : Place → Option JournalFault

@@ -25,12 +25,15 @@ entry_of_parts None label before after = Err BadToken
 entry_of_parts (Some cell) None before after = Err BadLabel
 entry_of_parts (Some cell) (Some label) None after = Err BadCount
 entry_of_parts (Some cell) (Some label) (Some m) None = Err BadCount
-entry_of_parts (Some cell) (Some label) (Some m) (Some n) = Ok (record { pair = record { cell = cell; label = label }; before = m; after = n })
+entry_of_parts (Some cell) (Some label) (Some m) (Some n) =
+    Ok (record { pair = record { cell = cell; label = label }; before = m; after = n })
 
 -- the entry that a line writes with counts up to the greatest, or the first fault of its parts
 unfoldable pub entry_written : ℕ → List ℕ → Result Entry JournalFault
 entry_written most line =
-    if has_parts 4 line then entry_of_parts (cell_written (part 0 line)) (label_written (part 1 line)) (side_written most (part 2 line)) (side_written most (part 3 line))
+    if has_parts 4 line
+    then entry_of_parts
+      (cell_written (part 0 line)) (label_written (part 1 line)) (side_written most (part 2 line)) (side_written most (part 3 line))
     else Err BadLine
 
 -- an entry behind the last of those above it in its group, or its first fault
@@ -73,7 +76,8 @@ at_group size groups = record { wanted = size; last = None; groups = groups; ove
 
 unfoldable pub entry_text : Entry → List ℕ
 entry_text e =
-    canonical_token (raw_of e.pair.cell) ++ (codes " " ++ (decimal (value_of e.pair.label) ++ (codes " " ++ (decimal e.before ++ (codes " " ++ decimal e.after)))))
+    canonical_token (raw_of e.pair.cell)
+    ++ (codes " " ++ (decimal (value_of e.pair.label) ++ (codes " " ++ (decimal e.before ++ (codes " " ++ decimal e.after)))))
 
 unfoldable pub change_text : ℕ → List ℕ
 change_text size = codes "change " ++ decimal size

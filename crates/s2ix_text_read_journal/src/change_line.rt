@@ -1,7 +1,7 @@
 //! The lines outside groups: those that begin one, and the end line.
 ghost use Rattle.std.specs.Prelude.{◌≡◌, ◌↔◌, IsTrue, true};
 ghost use Rattle.s2ix_text_read_journal.specs.JournalFaults.{end_text, is_end};
-ghost use Rattle.s2ix_text_read_journal.specs.JournalLines.{next_size as next_size_that};
+ghost use Rattle.s2ix_text_read_journal.specs.JournalLines.{next_size};
 
 use crate::errors::JournalFault;
 use crate::numbers::size_written;
@@ -23,7 +23,7 @@ pub(crate) fn is_end_of(groups: usize, line: &[u8]) -> bool
 
 // How many entries the group has that a line begins, below so many groups; or the fault of the line.
 pub(crate) fn next_size(limits: Limits, groups: usize, line: &[u8]) -> Result<u32, JournalFault>
-    ensures { result ≡ next_size_that limits groups line.now }
+    ensures { result ≡ next_size limits groups line.now }
 {
     let Some((word, number)) = two_parts(line) else {
         return Err(JournalFault::BadLine);

@@ -1,6 +1,6 @@
 //! The line of an entry.
 ghost use Rattle.std.specs.Prelude.{◌≡◌, Some};
-ghost use Rattle.s2ix_text_read_journal.specs.JournalLines.{entry_written as entry_that, last_pair, next_entry as next_entry_that};
+ghost use Rattle.s2ix_text_read_journal.specs.JournalLines.{entry_written, last_pair, next_entry};
 ghost use Rattle.s2ix_text_parts.specs.Written.{comes_before};
 
 use crate::errors::JournalFault;
@@ -11,7 +11,7 @@ use s2ix_text_parts::{cell_written, label_written};
 
 // The entry that a line writes with counts up to `most`, or the first fault of its parts.
 fn entry_written(most: u32, line: &[u8]) -> Result<Entry, JournalFault>
-    ensures { result ≡ entry_that most line.now }
+    ensures { result ≡ entry_written most line.now }
 {
     let Some((token, label, before, after)) = four_parts(line) else {
         return Err(JournalFault::BadLine);
@@ -52,7 +52,7 @@ pub(crate) fn next_entry(
     before: &[Entry],
     line: &[u8],
 ) -> Result<Entry, JournalFault>
-    ensures { result ≡ next_entry_that most limits (last_pair before.now) line.now }
+    ensures { result ≡ next_entry most limits (last_pair before.now) line.now }
 {
     let next = entry_written(most, line)?;
     if next.before == next.after {

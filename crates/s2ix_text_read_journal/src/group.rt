@@ -49,8 +49,9 @@ pub(crate) fn read_group(
     ensures entries { IfOk result (λ read. AreEntries most limits read.0.items) }
     ensures size { IfOk result (λ read. length read.0.items ≡ size) }
     ensures text { IfOk result (λ read. text.now ≡ flat_map entry_line read.0.items ++ read.1.now) }
-    ensures refused { (above : List (List ℕ)) (groups : ℕ) → is_nil above ≡ false → length above + 1 ≡ number → behind above ≡ at_group size groups
-        → greatest_count (slice_index_or above 0 []) ≡ most → IfErr result (λ error. IsJournalError error (fault_below line_fault limits above (lines_of text.now))) }
+    ensures refused { (above : List (List ℕ)) (groups : ℕ) → is_nil above ≡ false → length above + 1 ≡ number
+        → behind above ≡ at_group size groups → greatest_count (slice_index_or above 0 []) ≡ most
+        → IfErr result (λ error. IsJournalError error (fault_below line_fault limits above (lines_of text.now))) }
 {
     let wanted = size as usize;
     let mut entries = room_for(alloc, wanted, text)?;

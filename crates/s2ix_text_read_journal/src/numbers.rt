@@ -1,6 +1,6 @@
 //! The numbers that the lines of a journal write.
 ghost use Rattle.std.specs.Prelude.{◌≡◌};
-ghost use Rattle.s2ix_text_read_journal.specs.Numbers.{side_written as side_that, size_written as size_that};
+ghost use Rattle.s2ix_text_read_journal.specs.Numbers.{side_written, size_written};
 
 use s2ix_text_parts::number_written;
 
@@ -10,7 +10,7 @@ const MOST_ENTRIES: u32 = 2_000_000;
 
 // The count before or after a change, from 0 to `most`, which a text writes.
 pub(crate) fn side_written(most: u32, text: &[u8]) -> Option<u32>
-    ensures { result ≡ side_that most text.now }
+    ensures { result ≡ side_written most text.now }
 {
     let count = number_written(text)?;
     if count <= most { Some(count) } else { None }
@@ -18,7 +18,7 @@ pub(crate) fn side_written(most: u32, text: &[u8]) -> Option<u32>
 
 // The number of entries of a change, from 1 to 2000000, which a text writes.
 pub(crate) fn size_written(text: &[u8]) -> Option<u32>
-    ensures { result ≡ size_that text.now }
+    ensures { result ≡ size_written text.now }
 {
     let size = number_written(text)?;
     if size < FEWEST_ENTRIES {

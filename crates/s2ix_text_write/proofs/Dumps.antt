@@ -25,8 +25,10 @@ one_held : (h k : Held) (r s : List ℕ) → HasSmallCount h → HasSmallCount k
 unfolding pair_line
 one_held h k r s hc kc same =
     let pair = cut_pair h.pair k.pair _ _ r s same in
-    let count = cut_field 10 (decimal h.count) (decimal k.count) [] [] r s (omega arith) (decimal_graphic _ (omega arith)) (decimal_graphic _ (omega arith)) pair.1 in (
-      ap₂ (λ (p : Pair) (n : ℕ). let made : Held = record { pair = p; count = n } in made) pair.0 (decimal_injective h.count k.count (omega arith) (omega arith) count.0),
+    let count = cut_field 10 (decimal h.count) (decimal k.count) [] [] r s (omega arith) (decimal_graphic _ (omega arith))
+    (decimal_graphic _ (omega arith)) pair.1 in (
+      ap₂ (λ (p : Pair) (n : ℕ). let made : Held = record { pair = p; count = n } in made) pair.0
+      (decimal_injective h.count k.count (omega arith) (omega arith) count.0),
       count.1,
     )
 
@@ -34,8 +36,11 @@ one_held h k r s hc kc same =
 ends_no_pair : (k : Held) (r s : List ℕ) → 101 ∷ 110 ∷ 100 ∷ 32 ∷ r ≡ pair_line k ++ s → ⊥
 unfolding pair_line
 ends_no_pair k r s same =
-    let graphic = All-cons IsGraphic 101 (110 ∷ 100 ∷ []) (omega arith) (All-cons IsGraphic 110 (100 ∷ []) (omega arith) (All-cons IsGraphic 100 [] (omega arith) (All-nil IsGraphic))) in
-    let token = cut_field 32 (101 ∷ 110 ∷ 100 ∷ []) (canonical_token (raw_of k.pair.cell)) [] _ r s (omega arith) graphic (token_graphic _) same in
+    let graphic =
+        All-cons IsGraphic 101 (110 ∷ 100 ∷ []) (omega arith)
+        (All-cons IsGraphic 110 (100 ∷ []) (omega arith) (All-cons IsGraphic 100 [] (omega arith) (All-nil IsGraphic))) in
+    let token =
+        cut_field 32 (101 ∷ 110 ∷ 100 ∷ []) (canonical_token (raw_of k.pair.cell)) [] _ r s (omega arith) graphic (token_graphic _) same in
     let lower = subst (λ (digits : List ℕ). All IsLowerHex digits) (sym token.0) (lower-canonical_token (raw_of k.pair.cell)) in
     let n : IsLowerHex 110 = All-head IsLowerHex 110 (100 ∷ []) (All-tail IsLowerHex 101 (110 ∷ 100 ∷ []) lower) in
     omega (arith, n)
@@ -48,8 +53,10 @@ one_list [] (k ∷ ks) r s hs_are ks_are same =
 one_list (h ∷ hs) [] r s hs_are ks_are same =
     absurd (ends_no_pair h s _ (sym same ∙ append_assoc (pair_line h) (flat_map pair_line hs) (101 ∷ 110 ∷ 100 ∷ 32 ∷ r)))
 one_list (h ∷ hs) (k ∷ ks) r s hs_are ks_are same =
-    let line = one_held h k (flat_map pair_line hs ++ 101 ∷ 110 ∷ 100 ∷ 32 ∷ r) (flat_map pair_line ks ++ 101 ∷ 110 ∷ 100 ∷ 32 ∷ s) (All-head HasSmallCount h hs hs_are) (All-head HasSmallCount k ks ks_are)
-    (sym (append_assoc (pair_line h) (flat_map pair_line hs) (101 ∷ 110 ∷ 100 ∷ 32 ∷ r)) ∙ same ∙ append_assoc (pair_line k) (flat_map pair_line ks) (101 ∷ 110 ∷ 100 ∷ 32 ∷ s)) in
+    let line = one_held h k (flat_map pair_line hs ++ 101 ∷ 110 ∷ 100 ∷ 32 ∷ r) (flat_map pair_line ks ++ 101 ∷ 110 ∷ 100 ∷ 32 ∷ s)
+    (All-head HasSmallCount h hs hs_are) (All-head HasSmallCount k ks ks_are)
+    (sym (append_assoc (pair_line h) (flat_map pair_line hs) (101 ∷ 110 ∷ 100 ∷ 32 ∷ r)) ∙ same
+    ∙ append_assoc (pair_line k) (flat_map pair_line ks) (101 ∷ 110 ∷ 100 ∷ 32 ∷ s)) in
     ap₂ (λ (x : Held) (xs : Collection). x ∷ xs) line.0
     (one_list hs ks r s (All-tail HasSmallCount h hs hs_are) (All-tail HasSmallCount k ks ks_are) line.1)
 
@@ -77,10 +84,12 @@ one_dump text hs ks of_hs of_ks =
 -- what is written of a bag is a dump of it
 pub bag_dump : (bag : LimitedCollection) → IsBag bag → IsDump (dump_text bag.held) bag.held
 bag_dump bag is =
-    let held : CanHold Second bag.held = λ k d within. let range = bag.limits.in_range in let small = is.small k d within in omega (arith, range, small) in
+    let held : CanHold Second bag.held = λ k d within. let range = bag.limits.in_range in let small = is.small k d within in
+    omega (arith, range, small) in
     (Second, held, refl)
 
 pub one_dump_of_bags : (bag other : LimitedCollection) → IsBag bag → IsBag other → dump_text bag.held ≡ dump_text other.held
     → bag.held ≡ other.held
 one_dump_of_bags bag other is other_is same =
-    one_dump (dump_text other.held) bag.held other.held (subst (λ text. IsDump text bag.held) same (bag_dump bag is)) (bag_dump other other_is)
+    one_dump (dump_text other.held) bag.held other.held (subst (λ text. IsDump text bag.held) same (bag_dump bag is))
+    (bag_dump other other_is)

@@ -54,7 +54,8 @@ pub decimal_graphic : (n : ℕ) → n < 2 ^ 64 → All IsGraphic (decimal n)
 decimal_graphic =
     decimal_by_steps (λ n ds. All IsGraphic ds)
     (λ n small. All-cons IsGraphic (48 + n) [] (omega arith) (All-nil IsGraphic))
-    (λ n ds large graphic. All-append IsGraphic ds ((48 + n % 10) ∷ []) graphic (All-cons IsGraphic (48 + n % 10) [] (omega arith) (All-nil IsGraphic)))
+    (λ n ds large graphic. All-append IsGraphic ds ((48 + n % 10) ∷ []) graphic
+    (All-cons IsGraphic (48 + n % 10) [] (omega arith) (All-nil IsGraphic)))
 
 hex_graphic : (c : ℕ) → IsLowerHex c → IsGraphic c
 hex_graphic c h = ⊎_elim (λ digit. omega (arith, digit)) (λ letter. omega (arith, letter)) h
@@ -66,13 +67,18 @@ token_graphic n = λ k d within. hex_graphic _ (lower-canonical_token n k d with
 
 -- a text that begins with a pair's token and label tells the pair, and what stands behind it
 pub cut_pair : (p q : Pair) (t u r s : List ℕ)
-    → (canonical_token (raw_of p.cell) ++ 32 ∷ (decimal (value_of p.label) ++ 32 ∷ t)) ++ r ≡ (canonical_token (raw_of q.cell) ++ 32 ∷ (decimal (value_of q.label) ++ 32 ∷ u)) ++ s
+    → (canonical_token (raw_of p.cell) ++ 32 ∷ (decimal (value_of p.label) ++ 32 ∷ t)) ++ r
+    ≡ (canonical_token (raw_of q.cell) ++ 32 ∷ (decimal (value_of q.label) ++ 32 ∷ u)) ++ s
     → (p ≡ q) × (t ++ r ≡ u ++ s)
 cut_pair p q t u r s same =
     let pl : value_of p.label ≤ 2147483647 = p.label.in_range in
     let ql : value_of q.label ≤ 2147483647 = q.label.in_range in
-    let token = cut_field 32 (canonical_token (raw_of p.cell)) (canonical_token (raw_of q.cell)) _ _ r s (omega arith) (token_graphic _) (token_graphic _) same in
-    let label = cut_field 32 (decimal (value_of p.label)) (decimal (value_of q.label)) t u r s (omega arith) (decimal_graphic _ (omega arith)) (decimal_graphic _ (omega arith)) token.1 in
+    let token =
+        cut_field 32 (canonical_token (raw_of p.cell)) (canonical_token (raw_of q.cell)) _ _ r s (omega arith) (token_graphic _)
+        (token_graphic _) same in
+    let label =
+        cut_field 32 (decimal (value_of p.label)) (decimal (value_of q.label)) t u r s (omega arith) (decimal_graphic _ (omega arith))
+        (decimal_graphic _ (omega arith)) token.1 in
     let cells = one_token (raw_of p.cell) (raw_of q.cell) p.cell.valid q.cell.valid token.0 in
     let labels = decimal_injective (value_of p.label) (value_of q.label) (omega arith) (omega arith) label.0 in
     (same_pair p q (ap₂ (λ (c v : ℕ). c * 2147483648 + v) cells labels), label.1)
@@ -89,8 +95,11 @@ one_line : (e f : Entry) (r s : List ℕ) → e.before ≤ 4294967295 → e.afte
 unfolding entry_line
 one_line e f r s eb ea fb fa same =
     let pair = cut_pair e.pair f.pair _ _ r s same in
-    let before = cut_field 32 (decimal e.before) (decimal f.before) _ _ r s (omega arith) (decimal_graphic _ (omega arith)) (decimal_graphic _ (omega arith)) pair.1 in
-    let after = cut_field 10 (decimal e.after) (decimal f.after) [] [] r s (omega arith) (decimal_graphic _ (omega arith)) (decimal_graphic _ (omega arith)) before.1 in (
+    let before =
+        cut_field 32 (decimal e.before) (decimal f.before) _ _ r s (omega arith) (decimal_graphic _ (omega arith))
+        (decimal_graphic _ (omega arith)) pair.1 in
+    let after = cut_field 10 (decimal e.after) (decimal f.after) [] [] r s (omega arith) (decimal_graphic _ (omega arith))
+    (decimal_graphic _ (omega arith)) before.1 in (
       same_entry e f pair.0
           (decimal_injective e.before f.before (omega arith) (omega arith) before.0)
           (decimal_injective e.after f.after (omega arith) (omega arith) after.0),
@@ -110,9 +119,12 @@ one_entries [] [] r s long eb ea fb fa same = (refl, same)
 one_entries [] (f ∷ fs) r s long eb ea fb fa same = absurd (omega arith)
 one_entries (e ∷ es) [] r s long eb ea fb fa same = absurd (omega arith)
 one_entries (e ∷ es) (f ∷ fs) r s long eb ea fb fa same =
-    let line = one_line e f (flat_map entry_line es ++ r) (flat_map entry_line fs ++ s) (All-head BeforeIsSmall e es eb) (All-head AfterIsSmall e es ea) (All-head BeforeIsSmall f fs fb) (All-head AfterIsSmall f fs fa)
+    let line = one_line e f (flat_map entry_line es ++ r) (flat_map entry_line fs ++ s) (All-head BeforeIsSmall e es eb)
+    (All-head AfterIsSmall e es ea) (All-head BeforeIsSmall f fs fb) (All-head AfterIsSmall f fs fa)
     (sym (append_assoc (entry_line e) (flat_map entry_line es) r) ∙ same ∙ append_assoc (entry_line f) (flat_map entry_line fs) s) in
-    let rest = one_entries es fs r s (omega arith) (All-tail BeforeIsSmall e es eb) (All-tail AfterIsSmall e es ea) (All-tail BeforeIsSmall f fs fb) (All-tail AfterIsSmall f fs fa) line.1 in
+    let rest =
+        one_entries es fs r s (omega arith) (All-tail BeforeIsSmall e es eb) (All-tail AfterIsSmall e es ea)
+        (All-tail BeforeIsSmall f fs fb) (All-tail AfterIsSmall f fs fa) line.1 in
     (ap₂ (λ (x : Entry) (xs : List Entry). x ∷ xs) line.0 rest.0, rest.1)
 
 -- ---- groups of changes
@@ -121,11 +133,16 @@ one_group : (es fs : List Entry) (r s : List ℕ) → IsWritable es → IsWritab
     → (es ≡ fs) × (r ≡ s)
 unfolding group_text change_line
 one_group es fs r s es_is fs_is same =
-    let texts = sym (append_assoc (change_line es) (flat_map entry_line es) r) ∙ same ∙ append_assoc (change_line fs) (flat_map entry_line fs) s in
-    let numbers = append_cancel_left (codes "change ") ((decimal (length es) ++ 10 ∷ []) ++ (flat_map entry_line es ++ r)) ((decimal (length fs) ++ 10 ∷ []) ++ (flat_map entry_line fs ++ s)) texts in
+    let texts =
+        sym (append_assoc (change_line es) (flat_map entry_line es) r) ∙ same ∙ append_assoc (change_line fs) (flat_map entry_line fs) s in
+    let numbers =
+        append_cancel_left (codes "change ") ((decimal (length es) ++ 10 ∷ []) ++ (flat_map entry_line es ++ r))
+        ((decimal (length fs) ++ 10 ∷ []) ++ (flat_map entry_line fs ++ s)) texts in
     let few_es = es_is.few in
     let few_fs = fs_is.few in
-    let number = cut_field 10 (decimal (length es)) (decimal (length fs)) [] [] (flat_map entry_line es ++ r) (flat_map entry_line fs ++ s) (omega arith) (decimal_graphic _ (omega arith)) (decimal_graphic _ (omega arith)) numbers in
+    let number =
+        cut_field 10 (decimal (length es)) (decimal (length fs)) [] [] (flat_map entry_line es ++ r) (flat_map entry_line fs ++ s)
+        (omega arith) (decimal_graphic _ (omega arith)) (decimal_graphic _ (omega arith)) numbers in
     let long = decimal_injective (length es) (length fs) (omega arith) (omega arith) number.0 in
     one_entries es fs r s long es_is.small_before es_is.small_after fs_is.small_before fs_is.small_after number.1
 
@@ -138,8 +155,10 @@ one_groups [] (d ∷ ds) r s cs_are ds_are same =
 one_groups (c ∷ cs) [] r s cs_are ds_are same =
     absurd (let e : 99 ≡ 101 = ap head_of same in omega arith)
 one_groups (c ∷ cs) (d ∷ ds) r s cs_are ds_are same =
-    let group = one_group c d (flat_map group_text cs ++ 101 ∷ r) (flat_map group_text ds ++ 101 ∷ s) (All-head IsWritable c cs cs_are) (All-head IsWritable d ds ds_are)
-    (sym (append_assoc (group_text c) (flat_map group_text cs) (101 ∷ r)) ∙ same ∙ append_assoc (group_text d) (flat_map group_text ds) (101 ∷ s)) in
+    let group = one_group c d (flat_map group_text cs ++ 101 ∷ r) (flat_map group_text ds ++ 101 ∷ s) (All-head IsWritable c cs cs_are)
+    (All-head IsWritable d ds ds_are)
+    (sym (append_assoc (group_text c) (flat_map group_text cs) (101 ∷ r)) ∙ same
+    ∙ append_assoc (group_text d) (flat_map group_text ds) (101 ∷ s)) in
     ap₂ (λ (x : List Entry) (xs : List (List Entry)). x ∷ xs) group.0
     (one_groups cs ds r s (All-tail IsWritable c cs cs_are) (All-tail IsWritable d ds ds_are) group.1)
 

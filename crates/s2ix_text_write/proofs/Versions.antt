@@ -41,14 +41,17 @@ same_journal_header Second Second x y same = (refl, append_cancel_left (codes "s
 found_header : (header : Version → List ℕ) (line : List ℕ) (version : Version) (first second : Bool) → bytes_eq line (header First) ≡ first
     → bytes_eq line (header Second) ≡ second
     → cond first (Some First) (cond second (Some Second) None) ≡ Some version → line ≡ header version
-found_header header line version true second a b is = let same : First ≡ version = cc in (bytes_eq-Decides line (header First)).0 a ∙ ap header same
-found_header header line version false true a b is = let same : Second ≡ version = cc in (bytes_eq-Decides line (header Second)).0 b ∙ ap header same
+found_header header line version true second a b is =
+    let same : First ≡ version = cc in (bytes_eq-Decides line (header First)).0 a ∙ ap header same
+found_header header line version false true a b is =
+    let same : Second ≡ version = cc in (bytes_eq-Decides line (header Second)).0 b ∙ ap header same
 found_header header line version false false a b is = cc
 
 -- a line that names a version is its header
 header_named : (header : Version → List ℕ) (line : List ℕ) (version : Version) → version_of header line ≡ Some version
     → line ≡ header version
-header_named header line version is = found_header header line version (bytes_eq line (header First)) (bytes_eq line (header Second)) refl refl is
+header_named header line version is =
+    found_header header line version (bytes_eq line (header First)) (bytes_eq line (header Second)) refl refl is
 
 -- and a header names its version, where no header is that of two
 named_by_header : (header : Version → List ℕ) → bytes_eq (header Second) (header First) ≡ false → (version : Version)

@@ -12,7 +12,9 @@ use Rattle.s2ix_text_write.specs.Version.{dump_header, greatest_in}
 
 -- the line of a held pair: TOKEN LABEL COUNT
 unfoldable pub pair_line : Held → List ℕ
-pair_line h = concat (canonical_token (raw_of h.pair.cell) ∷ codes " " ∷ decimal (value_of h.pair.label) ∷ codes " " ∷ decimal h.count ∷ codes "\n" ∷ [])
+pair_line h =
+    concat
+    (canonical_token (raw_of h.pair.cell) ∷ codes " " ∷ decimal (value_of h.pair.label) ∷ codes " " ∷ decimal h.count ∷ codes "\n" ∷ [])
 
 -- the last line: end PAIRS COPIES
 unfoldable pub end_line : Collection → List ℕ

@@ -11,7 +11,10 @@ use Rattle.s2ix_text_write.specs.Version.{greatest_in, journal_header}
 
 -- the line of an entry: TOKEN LABEL BEFORE AFTER
 unfoldable pub entry_line : Entry → List ℕ
-entry_line e = concat (canonical_token (raw_of e.pair.cell) ∷ codes " " ∷ decimal (value_of e.pair.label) ∷ codes " " ∷ decimal e.before ∷ codes " " ∷ decimal e.after ∷ codes "\n" ∷ [])
+entry_line e =
+    concat
+    (canonical_token (raw_of e.pair.cell) ∷ codes " " ∷ decimal (value_of e.pair.label) ∷ codes " " ∷ decimal e.before ∷ codes " "
+    ∷ decimal e.after ∷ codes "\n" ∷ [])
 
 -- the line above the entries of a change: change N
 unfoldable pub change_line : List Entry → List ℕ

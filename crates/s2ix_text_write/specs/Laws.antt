@@ -1,4 +1,5 @@
--- What the definitions of texts say, in other words: each of these is proved, and told in a sentence, by the function of `laws` of its name.
+-- What the definitions of texts say, in other words: each of these is proved, and told in a sentence, by the function of `laws` of its
+-- name.
 use Rattle.std.specs.Prelude.{◌≡◌, ℕ, List, All}
 use Rattle.s2ix_bag_pairs.specs.declared.pair.Entry.{Entry}
 use Rattle.s2ix_bag_pairs.specs.Collection.{Collection, LimitedCollection, IsBag}
@@ -23,7 +24,8 @@ abbrev pub JournalsTellListsApart : Type 0
 JournalsTellListsApart = (text : List ℕ) (cs ds : List (List Entry)) → IsJournalText text cs → IsJournalText text ds → cs ≡ ds
 
 abbrev pub JournalsTellVersionsApart : Type 0
-JournalsTellVersionsApart = (version other : Version) (cs ds : List (List Entry)) → journal_in version cs ≡ journal_in other ds → version ≡ other
+JournalsTellVersionsApart =
+    (version other : Version) (cs ds : List (List Entry)) → journal_in version cs ≡ journal_in other ds → version ≡ other
 
 abbrev pub WritableChangesHaveJournals : Type 0
 WritableChangesHaveJournals = (cs : List (List Entry)) → All IsWritable cs → IsJournalText (journal_text cs) cs

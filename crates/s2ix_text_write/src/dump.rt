@@ -41,7 +41,7 @@ fn append_pair(lines: &mut ArrayVec<u8, BLOCK>, digits: &mut Buffer, held: Held)
 // Writes the lines of all held pairs, in rising order, gathered in blocks.
 fn write_pairs<K: Sink>(bag: &Bag, sink: &mut K) -> Result<(), WriteFault>
     requires { CanCount (K.fault_count sink.old) }
-    ensures { Writes K.taken K.flush_mark K.fault_count sink.old sink.new result (flat_map pair_line bag.now.held) }
+    ensures { Writes K.Sink sink.old sink.new result (flat_map pair_line bag.now.held) }
 {
     let mut lines = ArrayVec::<u8, BLOCK>::new();
     let mut digits = Buffer::new();
@@ -59,7 +59,7 @@ fn write_pairs<K: Sink>(bag: &Bag, sink: &mut K) -> Result<(), WriteFault>
 #[tactic(auto, unfolding(crate::specs::Dump::end_line))]
 fn write_end<K: Sink>(bag: &Bag, sink: &mut K) -> Result<(), WriteFault>
     requires { CanCount (K.fault_count sink.old) }
-    ensures { Writes K.taken K.flush_mark K.fault_count sink.old sink.new result (end_line bag.now.held) }
+    ensures { Writes K.Sink sink.old sink.new result (end_line bag.now.held) }
 {
     let mut pairs = Buffer::new();
     let mut copies = Buffer::new();
@@ -79,7 +79,7 @@ fn write_end<K: Sink>(bag: &Bag, sink: &mut K) -> Result<(), WriteFault>
 /// O(n) for n pairs.
 pub fn write_dump<K: Sink>(bag: &Bag, sink: &mut K) -> Result<(), WriteFault>
     requires { CanCount (K.fault_count sink.old) }
-    ensures { Writes K.taken K.flush_mark K.fault_count sink.old sink.new result (dump_text bag.now.held) }
+    ensures { Writes K.Sink sink.old sink.new result (dump_text bag.now.held) }
 {
     put_all(sink, b"s2ix 2\n")?;
     write_pairs(bag, sink)?;

@@ -38,7 +38,7 @@ impl ListItem for Entry {
 #[tactic(auto, unfolding(crate::specs::Journal::change_line))]
 fn write_change_line<K: Sink>(entries: &[Entry], sink: &mut K) -> Result<(), WriteFault>
     requires { CanCount (K.fault_count sink.old) }
-    ensures { Writes K.taken K.flush_mark K.fault_count sink.old sink.new result (change_line entries.now) }
+    ensures { Writes K.Sink sink.old sink.new result (change_line entries.now) }
 {
     let mut number = Buffer::new();
     put_together(
@@ -54,7 +54,7 @@ fn write_change_line<K: Sink>(entries: &[Entry], sink: &mut K) -> Result<(), Wri
 // Writes the group of a change.
 fn write_group<K: Sink>(change: &Change, sink: &mut K) -> Result<(), WriteFault>
     requires { CanCount (K.fault_count sink.old) }
-    ensures { Writes K.taken K.flush_mark K.fault_count sink.old sink.new result (group_text change.now) }
+    ensures { Writes K.Sink sink.old sink.new result (group_text change.now) }
 {
     let entries = change.entries();
     write_change_line(entries, sink)?;
@@ -64,7 +64,7 @@ fn write_group<K: Sink>(change: &Change, sink: &mut K) -> Result<(), WriteFault>
 // Writes the groups of all changes.
 fn write_groups<K: Sink>(changes: &[Change], sink: &mut K) -> Result<(), WriteFault>
     requires { CanCount (K.fault_count sink.old) }
-    ensures { Writes K.taken K.flush_mark K.fault_count sink.old sink.new result (flat_map group_text changes.now) }
+    ensures { Writes K.Sink sink.old sink.new result (flat_map group_text changes.now) }
 {
     for change in changes {
         write_group(change, sink)?;
@@ -76,7 +76,7 @@ fn write_groups<K: Sink>(changes: &[Change], sink: &mut K) -> Result<(), WriteFa
 /// one line for each entry, between a header and a line that counts the changes. O(n) for n entries in all.
 pub fn write_journal<K: Sink>(changes: &[Change], sink: &mut K) -> Result<(), WriteFault>
     requires { CanCount (K.fault_count sink.old) }
-    ensures { Writes K.taken K.flush_mark K.fault_count sink.old sink.new result (journal_text changes.now) }
+    ensures { Writes K.Sink sink.old sink.new result (journal_text changes.now) }
 {
     put_all(sink, b"s2ix-journal 2\n")?;
     write_groups(changes, sink)?;

@@ -17,7 +17,7 @@ pub trait ListItem: Copy {
     /// Writes the line.
     fn write_line<K: Sink>(self, sink: &mut K) -> Result<(), WriteFault>
         requires { CanCount (K.fault_count sink.old) }
-        ensures { Writes K.taken K.flush_mark K.fault_count sink.old sink.new result (line self) };
+        ensures { Writes K.Sink sink.old sink.new result (line self) };
 }
 
 impl ListItem for Held {
@@ -52,7 +52,7 @@ impl ListItem for CellId {
 // Writes the lines of all items, in order.
 pub(crate) fn write_lines<A: ListItem, K: Sink>(items: &[A], sink: &mut K) -> Result<(), WriteFault>
     requires { CanCount (K.fault_count sink.old) }
-    ensures { Writes K.taken K.flush_mark K.fault_count sink.old sink.new result (flat_map A.line items.now) }
+    ensures { Writes K.Sink sink.old sink.new result (flat_map A.line items.now) }
 {
     for item in items {
         item.write_line(sink)?;
@@ -65,7 +65,7 @@ pub(crate) fn write_lines<A: ListItem, K: Sink>(items: &[A], sink: &mut K) -> Re
 #[tactic(auto, unfolding(crate::specs::Lists::end_of_list))]
 pub fn write_end_of_list<K: Sink>(count: usize, sink: &mut K) -> Result<(), WriteFault>
     requires { CanCount (K.fault_count sink.old) }
-    ensures { Writes K.taken K.flush_mark K.fault_count sink.old sink.new result (end_of_list count) }
+    ensures { Writes K.Sink sink.old sink.new result (end_of_list count) }
 {
     let mut number = Buffer::new();
     put_together(
@@ -77,7 +77,7 @@ pub fn write_end_of_list<K: Sink>(count: usize, sink: &mut K) -> Result<(), Writ
 /// Writes a list: each item on a line of its own, in order, and then `end` with the number of items. O(n) for n items.
 pub fn write_list<A: ListItem, K: Sink>(items: &[A], sink: &mut K) -> Result<(), WriteFault>
     requires { CanCount (K.fault_count sink.old) }
-    ensures { Writes K.taken K.flush_mark K.fault_count sink.old sink.new result (list_text A.line items.now) }
+    ensures { Writes K.Sink sink.old sink.new result (list_text A.line items.now) }
 {
     write_lines(items, sink)?;
     write_end_of_list(items.len(), sink)

@@ -17,7 +17,7 @@ pub fn write_pair_between<K: Sink>(
     sink: &mut K,
 ) -> Result<(), WriteFault>
     requires { CanCount (K.fault_count sink.old) }
-    ensures { Writes K.taken K.flush_mark K.fault_count sink.old sink.new result (before.now ++ (pair_text held ++ behind.now)) }
+    ensures { Writes K.Sink sink.old sink.new result (before.now ++ (pair_text held ++ behind.now)) }
 {
     let token = held.pair.cell.token();
     let mut label = Buffer::new();

@@ -12,8 +12,12 @@ use Rattle.s2ix_cli_answers.proofs.meeting.write_meeting.Goals as goal
 pub overflow_add-count : goal.overflow_add-count
 overflow_add-count g c =
     let table = c.args.table.now in
-    let shown : Shown g.row.T-Place.Denot = record { pairs = g.T.RangeTable.pairs table; ranges = g.T.RangeTable.ranges table; chain = g.T.RangeTable.chain table } in
-    let few = few_meet shown c.args.target.now (record { is_collection = g.met.T.RangeTable.is_collection table; is_table = g.met.T.RangeTable.is_table table; few = g.met.T.RangeTable.few table }) in
+    let shown : Shown g.row.T-Place.Denot =
+        record { pairs = g.T.RangeTable.pairs table; ranges = g.T.RangeTable.ranges table; chain = g.T.RangeTable.chain table } in
+    let few =
+        few_meet shown c.args.target.now
+        (record { is_collection = g.met.T.RangeTable.is_collection table; is_table = g.met.T.RangeTable.is_table table; few =
+        g.met.T.RangeTable.few table }) in
     let within = c.loop-held.invariant.1 in
     omega arith
 
@@ -44,5 +48,6 @@ returns g c =
     let taken = left_none all _ c.loop-held.count c.loop-held.invariant.0 c.in_default.ensures.yields.0 in
     let within = c.loop-held.invariant.1 in
     let end : c.loop-held.count ≡ length all = omega arith in
-    let WritesEnd : ℕ → Type 0 = λ n. Writes g.K.Sink.taken g.K.Sink.flush_mark g.K.Sink.fault_count c.loop-held.sink c.write_end_of_list.new.sink c.write_end_of_list.result (end_of_list n) in
+    let WritesEnd : ℕ → Type 0 =
+        λ n. Writes g.K.Sink c.loop-held.sink c.write_end_of_list.new.sink c.write_end_of_list.result (end_of_list n) in
     Writes-then (Writes-all held_line all c.loop-held.count end c.loop-held.invariant.2) (subst WritesEnd end c.write_end_of_list.ensures)

@@ -11,7 +11,7 @@ invariant-loop-held g l =
     let all = meeting_of l.target (g.T.RangeTable.pairs l.table) in
     (left_in l.meeting ≡ drop l.count all)
     × (l.count ≤ length all)
-    × Writes {A = Unit {0}} g.K.Sink.taken g.K.Sink.flush_mark g.K.Sink.fault_count l.fn.sink l.sink (Ok tt) (flat_map held_line (take l.count all))
+    × Writes {A = Unit {0}} g.K.Sink l.fn.sink l.sink (Ok tt) (flat_map held_line (take l.count all))
 
 abbrev pub decreases-loop-held : goal.decreases-loop-held
 decreases-loop-held g l = length (left_in l.meeting)

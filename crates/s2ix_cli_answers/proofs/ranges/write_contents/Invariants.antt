@@ -11,4 +11,5 @@ invariant-loop-held g l =
     (goal.iterator-loop-held g).can_next l.held-iterator
     × (goal.iterator-loop-held g).is_finite l.held-iterator
     × (l.count ≡ length l.yielded)
-    × Writes {A = Unit {0}} g.K.Sink.taken g.K.Sink.flush_mark g.K.Sink.fault_count l.fn.sink l.sink (Ok tt) (flat_map held_line (take (length l.yielded) (contents_at (raw_of l.fn.leaf) (g.T.RangeTable.pairs l.table))))
+    × Writes {A = Unit {0}} g.K.Sink l.fn.sink l.sink (Ok tt)
+    (flat_map held_line (take (length l.yielded) (contents_at (raw_of l.fn.leaf) (g.T.RangeTable.pairs l.table))))

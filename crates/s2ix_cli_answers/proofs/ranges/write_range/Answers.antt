@@ -10,19 +10,22 @@ pub returns-in_err-write_bounds : goal.returns-in_err-write_bounds
 unfolding range_line
 returns-in_err-write_bounds g c =
     let range = range_at (g.T.RangeTable.ranges c.args.table.now) c.args.k in
-    let WritesLine : List ℕ → Type 0 = λ text. Writes g.K.Sink.taken g.K.Sink.flush_mark g.K.Sink.fault_count c.args.sink.now c.write_bounds.new.sink c.from_residual.result (text ++ (flat_map spaced_pair range.contents ++ codes "\n")) in
+    let WritesLine : List ℕ → Type 0 =
+        λ text. Writes g.K.Sink c.args.sink.now c.write_bounds.new.sink c.from_residual.result
+        (text ++ (flat_map spaced_pair range.contents ++ codes "\n")) in
     subst WritesLine (ap₂ bounds_text c.range.ensures.start c.range.ensures.limit)
     (Writes-cut _ (flat_map spaced_pair range.contents ++ codes "\n") c.from_residual.ensures.0 c.in_err-write_bounds.ensures)
 
 pub returns-in_err-write_range_pairs : goal.returns-in_err-write_range_pairs
 unfolding range_line
 returns-in_err-write_range_pairs g c =
-    let WritesBounds : List ℕ → Type 0 = λ text. Writes {A = Unit {0}} g.K.Sink.taken g.K.Sink.flush_mark g.K.Sink.fault_count c.args.sink.now c.write_bounds.new.sink (Ok tt) text in
+    let WritesBounds : List ℕ → Type 0 = λ text. Writes {A = Unit {0}} g.K.Sink c.args.sink.now c.write_bounds.new.sink (Ok tt) text in
     Writes-then (subst WritesBounds (ap₂ bounds_text c.range.ensures.start c.range.ensures.limit) c.in_ok-write_bounds.ensures)
     (Writes-cut _ (codes "\n") c.from_residual-in_err-write_range_pairs.ensures.0 c.in_err-write_range_pairs.ensures)
 
 pub returns : goal.returns
 unfolding range_line
 returns g c =
-    let WritesBounds : List ℕ → Type 0 = λ text. Writes {A = Unit {0}} g.K.Sink.taken g.K.Sink.flush_mark g.K.Sink.fault_count c.args.sink.now c.write_bounds.new.sink (Ok tt) text in
-    Writes-then (subst WritesBounds (ap₂ bounds_text c.range.ensures.start c.range.ensures.limit) c.in_ok-write_bounds.ensures) (Writes-then c.in_ok-write_range_pairs.ensures c.put_all.ensures)
+    let WritesBounds : List ℕ → Type 0 = λ text. Writes {A = Unit {0}} g.K.Sink c.args.sink.now c.write_bounds.new.sink (Ok tt) text in
+    Writes-then (subst WritesBounds (ap₂ bounds_text c.range.ensures.start c.range.ensures.limit) c.in_ok-write_bounds.ensures)
+    (Writes-then c.in_ok-write_range_pairs.ensures c.put_all.ensures)

@@ -9,4 +9,5 @@ abbrev pub invariant-loop-held : goal.invariant-loop-held
 invariant-loop-held g l =
     (goal.iterator-loop-held g).can_next l.held-iterator
     × (goal.iterator-loop-held g).is_finite l.held-iterator
-    × Writes {A = Unit {0}} g.K.Sink.taken g.K.Sink.flush_mark g.K.Sink.fault_count l.fn.sink l.sink (Ok tt) (flat_map spaced_pair (take (length l.yielded) (range_at (g.T.RangeTable.ranges l.table) l.k).contents))
+    × Writes {A = Unit {0}} g.K.Sink l.fn.sink l.sink (Ok tt)
+    (flat_map spaced_pair (take (length l.yielded) (range_at (g.T.RangeTable.ranges l.table) l.k).contents))

@@ -12,7 +12,8 @@ pub loop-k-preserved : goal.loop-k-preserved
 loop-k-preserved g c =
     let ranges = g.T.RangeTable.ranges c.args.table.now in
     let within : c.loop-k.k < length ranges = omega (arith, c.loop-k-test.true, c.range_count-k-end.ensures) in
-    Writes-item range_line ranges c.loop-k.k (range_at ranges c.loop-k.k) (slice_get-get_or ranges c.loop-k.k _ within) c.loop-k.invariant c.in_ok-write_range.ensures
+    Writes-item range_line ranges c.loop-k.k (range_at ranges c.loop-k.k) (slice_get-get_or ranges c.loop-k.k _ within) c.loop-k.invariant
+    c.in_ok-write_range.ensures
 
 pub returns-in_err-write_range : goal.returns-in_err-write_range
 unfolding list_text
@@ -20,12 +21,15 @@ returns-in_err-write_range g c =
     let ranges = g.T.RangeTable.ranges c.args.table.now in
     let within : c.loop-k.k < length ranges = omega (arith, c.loop-k-test.true, c.range_count-k-end.ensures) in
     Writes-cut _ (end_of_list (length ranges)) c.from_residual.ensures.0
-    (Writes-item_fault range_line ranges c.loop-k.k (range_at ranges c.loop-k.k) (slice_get-get_or ranges c.loop-k.k _ within) c.loop-k.invariant c.in_err-write_range.ensures)
+    (Writes-item_fault range_line ranges c.loop-k.k (range_at ranges c.loop-k.k) (slice_get-get_or ranges c.loop-k.k _ within)
+    c.loop-k.invariant c.in_err-write_range.ensures)
 
 pub returns : goal.returns
 unfolding list_text
 returns g c =
     let ranges = g.T.RangeTable.ranges c.args.table.now in
     let end : c.loop-k.k ≡ length ranges = omega (arith, c.loop-k-test.false, c.loop-k.auto.k-end, c.range_count-k-end.ensures) in
-    let WritesEnd : ℕ → Type 0 = λ n. Writes g.K.Sink.taken g.K.Sink.flush_mark g.K.Sink.fault_count c.loop-k.sink c.write_end_of_list.new.sink c.write_end_of_list.result (end_of_list n) in
-    Writes-then (Writes-all range_line ranges c.loop-k.k end c.loop-k.invariant) (subst WritesEnd c.range_count.ensures c.write_end_of_list.ensures)
+    let WritesEnd : ℕ → Type 0 =
+        λ n. Writes g.K.Sink c.loop-k.sink c.write_end_of_list.new.sink c.write_end_of_list.result (end_of_list n) in
+    Writes-then (Writes-all range_line ranges c.loop-k.k end c.loop-k.invariant)
+    (subst WritesEnd c.range_count.ensures c.write_end_of_list.ensures)

@@ -6,4 +6,4 @@ use Rattle.s2ix_cli_answers.proofs.ranges.write_ranges.Given as goal
 
 abbrev pub invariant-loop-k : goal.invariant-loop-k
 invariant-loop-k g l =
-    Writes {A = Unit {0}} g.K.Sink.taken g.K.Sink.flush_mark g.K.Sink.fault_count l.fn.sink l.sink (Ok tt) (flat_map range_line (take l.k (g.T.RangeTable.ranges l.table)))
+    Writes {A = Unit {0}} g.K.Sink l.fn.sink l.sink (Ok tt) (flat_map range_line (take l.k (g.T.RangeTable.ranges l.table)))

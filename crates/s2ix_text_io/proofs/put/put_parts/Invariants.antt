@@ -5,4 +5,4 @@ use Rattle.s2ix_text_io.proofs.put.put_parts.Given as goal
 
 abbrev pub invariant-loop-part : goal.invariant-loop-part
 invariant-loop-part g l =
-    Writes {A = Unit {0}} g.K.Sink.taken g.K.Sink.flush_mark g.K.Sink.fault_count l.fn.sink l.sink (Ok tt) (text_of_parts (take l.part-index l.parts))
+    Writes {A = Unit {0}} g.K.Sink l.fn.sink l.sink (Ok tt) (text_of_parts (take l.part-index l.parts))

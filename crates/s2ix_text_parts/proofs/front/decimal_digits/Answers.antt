@@ -19,7 +19,9 @@ overflow_add-number c =
 pub loop-place-preserved : goal.loop-place-preserved
 loop-place-preserved c =
     let l = c.loop-place in
-    decimal_more c.args.text.now l.place l.number c.decimal_worth-digit.result (omega arith) l.invariant.0 l.invariant.1 (omega arith) (decimal_when (get_or c.args.text.now l.place 0) c.decimal_worth-digit.result c.decimal_worth-digit.ensures.digit c.decimal_worth-digit.ensures.other (omega arith))
+    decimal_more c.args.text.now l.place l.number c.decimal_worth-digit.result (omega arith) l.invariant.0 l.invariant.1 (omega arith)
+    (decimal_when (get_or c.args.text.now l.place 0) c.decimal_worth-digit.result c.decimal_worth-digit.ensures.digit
+    c.decimal_worth-digit.ensures.other (omega arith))
 
 pub returns-clause-value : goal.returns-clause-value
 returns-clause-value c =

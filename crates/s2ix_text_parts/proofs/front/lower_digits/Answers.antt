@@ -20,7 +20,9 @@ overflow_add-number c =
 pub loop-place-preserved : goal.loop-place-preserved
 loop-place-preserved c =
     let l = c.loop-place in
-    lower_more c.args.text.now l.place l.number c.lower_worth-digit.result (omega arith) l.invariant.0 l.invariant.1 (lower_when (get_or c.args.text.now l.place 0) c.lower_worth-digit.result c.lower_worth-digit.ensures.digit c.lower_worth-digit.ensures.other (omega arith))
+    lower_more c.args.text.now l.place l.number c.lower_worth-digit.result (omega arith) l.invariant.0 l.invariant.1
+    (lower_when (get_or c.args.text.now l.place 0) c.lower_worth-digit.result c.lower_worth-digit.ensures.digit
+    c.lower_worth-digit.ensures.other (omega arith))
 
 pub returns-clause-digits : goal.returns-clause-digits
 returns-clause-digits c =

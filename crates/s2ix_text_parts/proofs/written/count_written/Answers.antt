@@ -4,7 +4,8 @@ use Rattle.s2ix_text_parts.proofs.Numerals.{count_from_number, count_outside, co
 use Rattle.s2ix_text_parts.proofs.written.count_written.Goals as goal
 
 pub returns-in_err-count : goal.returns-in_err-count
-returns-in_err-count c = rw c.from_residual.ensures (sym (no_count c.args.most c.ranges.most.fits c.args.text.now c.in_err-count.ensures.none))
+returns-in_err-count c =
+    rw c.from_residual.ensures (sym (no_count c.args.most c.ranges.most.fits c.args.text.now c.in_err-count.ensures.none))
 
 pub returns-then-count-eq0 : goal.returns-then-count-eq0
 returns-then-count-eq0 c =

@@ -10,4 +10,5 @@ use Rattle.s2ix_text_read_dump.proofs.pair_line.comes_behind.Goals as goal
 pub returns-in-Some : goal.returns-in-Some
 returns-in-Some c =
     ltb_from_iff c.is_before.ensures ∙ ap (λ (p : Pair). comes_before (Some p) (Some c.args.pair)) c.pair.ensures
-    ∙ ap (λ (o : Option Held). comes_before (option_map (λ (h : Held). h.pair) o) (Some c.args.pair)) (c.in-Some.ensures.value ∙ last_read c.args.before.now)
+    ∙ ap (λ (o : Option Held). comes_before (option_map (λ (h : Held). h.pair) o) (Some c.args.pair))
+    (c.in-Some.ensures.value ∙ last_read c.args.before.now)

@@ -8,16 +8,25 @@ returns-in_default c = sym (held_unless c.args.most c.args.line.now c.in_default
 
 pub returns-in_default-cell_written : goal.returns-in_default-cell_written
 returns-in_default-cell_written c =
-    sym (held_by c.args.most c.args.line.now c.in-Some.token.now c.in-Some.label.now c.in-Some.count.now None _ _ c.in-Some.ensures.some c.in-Some.ensures.parts (sym c.cell_written.ensures ∙ c.in_default-cell_written.is) refl refl)
+    sym (held_by c.args.most c.args.line.now c.in-Some.token.now c.in-Some.label.now c.in-Some.count.now None _ _ c.in-Some.ensures.some
+    c.in-Some.ensures.parts (sym c.cell_written.ensures ∙ c.in_default-cell_written.is) refl refl)
 
 pub returns-in_default-label_written : goal.returns-in_default-label_written
 returns-in_default-label_written c =
-    sym (held_by c.args.most c.args.line.now c.in-Some.token.now c.in-Some.label.now c.in-Some.count.now (Some c.in-Some-cell_written.cell) None _ c.in-Some.ensures.some c.in-Some.ensures.parts (sym c.cell_written.ensures ∙ c.in-Some-cell_written.is) (sym c.label_written.ensures ∙ c.in_default-label_written.is) refl)
+    sym (held_by c.args.most c.args.line.now c.in-Some.token.now c.in-Some.label.now c.in-Some.count.now (Some c.in-Some-cell_written.cell)
+    None _ c.in-Some.ensures.some c.in-Some.ensures.parts (sym c.cell_written.ensures ∙ c.in-Some-cell_written.is)
+    (sym c.label_written.ensures ∙ c.in_default-label_written.is) refl)
 
 pub returns-in_default-count_written : goal.returns-in_default-count_written
 returns-in_default-count_written c =
-    sym (held_by c.args.most c.args.line.now c.in-Some.token.now c.in-Some.label.now c.in-Some.count.now (Some c.in-Some-cell_written.cell) (Some c.in-Some-label_written.label) None c.in-Some.ensures.some c.in-Some.ensures.parts (sym c.cell_written.ensures ∙ c.in-Some-cell_written.is) (sym c.label_written.ensures ∙ c.in-Some-label_written.is) (sym c.count_written.ensures ∙ c.in_default-count_written.is))
+    sym (held_by c.args.most c.args.line.now c.in-Some.token.now c.in-Some.label.now c.in-Some.count.now (Some c.in-Some-cell_written.cell)
+    (Some c.in-Some-label_written.label) None c.in-Some.ensures.some c.in-Some.ensures.parts
+    (sym c.cell_written.ensures ∙ c.in-Some-cell_written.is) (sym c.label_written.ensures ∙ c.in-Some-label_written.is)
+    (sym c.count_written.ensures ∙ c.in_default-count_written.is))
 
 pub returns : goal.returns
 returns c =
-    sym (held_by c.args.most c.args.line.now c.in-Some.token.now c.in-Some.label.now c.in-Some.count.now (Some c.in-Some-cell_written.cell) (Some c.in-Some-label_written.label) (Some c.in-Some-count_written.count) c.in-Some.ensures.some c.in-Some.ensures.parts (sym c.cell_written.ensures ∙ c.in-Some-cell_written.is) (sym c.label_written.ensures ∙ c.in-Some-label_written.is) (sym c.count_written.ensures ∙ c.in-Some-count_written.is))
+    sym (held_by c.args.most c.args.line.now c.in-Some.token.now c.in-Some.label.now c.in-Some.count.now (Some c.in-Some-cell_written.cell)
+    (Some c.in-Some-label_written.label) (Some c.in-Some-count_written.count) c.in-Some.ensures.some c.in-Some.ensures.parts
+    (sym c.cell_written.ensures ∙ c.in-Some-cell_written.is) (sym c.label_written.ensures ∙ c.in-Some-label_written.is)
+    (sym c.count_written.ensures ∙ c.in-Some-count_written.is))

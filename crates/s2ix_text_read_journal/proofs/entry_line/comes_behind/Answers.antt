@@ -9,4 +9,5 @@ use Rattle.s2ix_text_read_journal.proofs.entry_line.comes_behind.Goals as goal
 pub returns-in-Some : goal.returns-in-Some
 returns-in-Some c =
     ltb_from_iff c.is_before.ensures
-    ∙ ap (λ (o : Option Entry). comes_before (option_map (λ (e : Entry). e.pair) o) (Some c.args.pair)) (c.in-Some.ensures.value ∙ last_read c.args.before.now)
+    ∙ ap (λ (o : Option Entry). comes_before (option_map (λ (e : Entry). e.pair) o) (Some c.args.pair))
+    (c.in-Some.ensures.value ∙ last_read c.args.before.now)

@@ -12,7 +12,8 @@ returns-in_err-put_all g c =
 pub returns-in_err-write_pairs : goal.returns-in_err-write_pairs
 unfolding dump_in
 returns-in_err-write_pairs g c =
-    Writes-then c.in_ok-put_all.ensures (Writes-cut _ (end_line c.args.bag.now.held) c.from_residual-in_err-write_pairs.ensures.0 c.in_err-write_pairs.ensures)
+    Writes-then c.in_ok-put_all.ensures
+    (Writes-cut _ (end_line c.args.bag.now.held) c.from_residual-in_err-write_pairs.ensures.0 c.in_err-write_pairs.ensures)
 
 pub returns : goal.returns
 unfolding dump_in

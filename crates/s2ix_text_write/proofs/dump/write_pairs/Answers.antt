@@ -14,9 +14,12 @@ pub loop-place-preserved : goal.loop-place-preserved
 loop-place-preserved g c =
     gathered_more pair_line c.args.bag.now.held c.loop-place.place c.held.result c.held.ensures c.append_pair.ensures
     (elim c.if-len.branch [
-      | then-len+in_ok-put_all w ↦ rw (w.sink-is, w.lines-is) (gathered_none c.loop-place.invariant w.as_slice.ensures.value w.in_ok-put_all.was w.clear.ensures w.put_all.ensures)
+      | then-len+in_ok-put_all w ↦ rw (w.sink-is, w.lines-is)
+      (gathered_none c.loop-place.invariant w.as_slice.ensures.value w.in_ok-put_all.was w.clear.ensures w.put_all.ensures)
       | else-len w ↦ rw (w.sink-is, w.lines-is) c.loop-place.invariant
     ])
 
 pub returns : goal.returns
-returns g c = last_put pair_line c.args.bag.now.held c.loop-place.place (omega arith) c.loop-place.invariant c.as_slice-2.ensures.value c.put_all-2.ensures
+returns g c =
+    last_put pair_line c.args.bag.now.held c.loop-place.place (omega arith) c.loop-place.invariant c.as_slice-2.ensures.value
+    c.put_all-2.ensures

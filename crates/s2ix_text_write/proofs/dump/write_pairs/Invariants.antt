@@ -7,4 +7,4 @@ use Rattle.s2ix_text_write.proofs.dump.write_pairs.Given as goal
 
 abbrev pub invariant-loop-place : goal.invariant-loop-place
 invariant-loop-place g l =
-    IsGathered g.K.Sink.taken g.K.Sink.flush_mark g.K.Sink.fault_count l.fn.sink l.sink (flat_map pair_line (take l.place l.bag.held)) l.lines.items
+    IsGathered g.K.Sink l.fn.sink l.sink (flat_map pair_line (take l.place l.bag.held)) l.lines.items

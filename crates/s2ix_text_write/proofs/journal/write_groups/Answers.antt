@@ -9,4 +9,5 @@ pub returns-in_err-write_group : goal.returns-in_err-write_group
 returns-in_err-write_group g c =
     Writes-fault _ c.from_residual.ensures.0
     (Writes-item_fault group_text c.args.changes.now c.loop-change.change-index c.change-item.result
-    (slice_get_read c.args.changes.now (length c.args.changes.now) c.loop-change.change-index c.change-item.result refl (omega arith) c.change-item.is) c.loop-change.invariant c.in_err-write_group.ensures)
+    (slice_get_read c.args.changes.now (length c.args.changes.now) c.loop-change.change-index c.change-item.result refl (omega arith)
+    c.change-item.is) c.loop-change.invariant c.in_err-write_group.ensures)

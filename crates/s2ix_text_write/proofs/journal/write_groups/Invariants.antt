@@ -6,4 +6,4 @@ use Rattle.s2ix_text_write.proofs.journal.write_groups.Given as goal
 
 abbrev pub invariant-loop-change : goal.invariant-loop-change
 invariant-loop-change g l =
-    Writes {A = Unit {0}} g.K.Sink.taken g.K.Sink.flush_mark g.K.Sink.fault_count l.fn.sink l.sink (Ok tt) (flat_map group_text (take l.change-index l.changes))
+    Writes {A = Unit {0}} g.K.Sink l.fn.sink l.sink (Ok tt) (flat_map group_text (take l.change-index l.changes))

@@ -13,7 +13,8 @@ returns-in_err-put_all g c =
 pub returns-in_err-write_groups : goal.returns-in_err-write_groups
 unfolding journal_in
 returns-in_err-write_groups g c =
-    Writes-then c.in_ok-put_all.ensures (Writes-cut _ (last_line c.args.changes.now) c.from_residual-in_err-write_groups.ensures.0 c.in_err-write_groups.ensures)
+    Writes-then c.in_ok-put_all.ensures
+    (Writes-cut _ (last_line c.args.changes.now) c.from_residual-in_err-write_groups.ensures.0 c.in_err-write_groups.ensures)
 
 pub returns : goal.returns
 unfolding journal_in last_line end_of_list

@@ -8,4 +8,5 @@ pub returns-in_err-write_line : goal.returns-in_err-write_line
 returns-in_err-write_line g c =
     Writes-fault _ c.from_residual.ensures.0
     (Writes-item_fault g.A.ListItem.line c.args.items.now c.loop-item.item-index c.item-item.result
-    (slice_get_read c.args.items.now (length c.args.items.now) c.loop-item.item-index c.item-item.result refl (omega arith) c.item-item.is) c.loop-item.invariant c.in_err-write_line.ensures)
+    (slice_get_read c.args.items.now (length c.args.items.now) c.loop-item.item-index c.item-item.result refl (omega arith) c.item-item.is)
+    c.loop-item.invariant c.in_err-write_line.ensures)

@@ -5,4 +5,4 @@ use Rattle.s2ix_text_write.proofs.list.write_lines.Given as goal
 
 abbrev pub invariant-loop-item : goal.invariant-loop-item
 invariant-loop-item g l =
-    Writes {A = Unit {0}} g.K.Sink.taken g.K.Sink.flush_mark g.K.Sink.fault_count l.fn.sink l.sink (Ok tt) (flat_map g.A.ListItem.line (take l.item-index l.items))
+    Writes {A = Unit {0}} g.K.Sink l.fn.sink l.sink (Ok tt) (flat_map g.A.ListItem.line (take l.item-index l.items))

@@ -5,4 +5,6 @@ use Rattle.s2ix_cli_fields.proofs.fields.Fields.next_wide.Goals as goal
 
 pub returns : goal.returns
 unfolding fields_of
-returns c = subst (λ fields. TakesFirstRef fields c.next-first.result c.next-first.new.self) c.fields-fields.ensures.value c.next-first.ensures.steps
+returns c =
+    subst (λ fields. TakesFirstRef fields c.next-first.result c.next-first.new.self) c.fields-fields.ensures.value
+    c.next-first.ensures.steps

@@ -7,6 +7,7 @@ use Rattle.s2ix_cli_fields.proofs.fields.FieldsIterator.next.Goals as goal
 pub returns-then-is_empty-clause-steps : goal.returns-then-is_empty-clause-steps
 returns-then-is_empty-clause-steps c =
     let none : fields_of c.self.inside.text.now ≡ [] =
-    sym c.behind_blank-text.ensures ∙ fields_of-nothing c.behind_blank-text.result.now (eqb-true _ _ (sym c.is_empty.ensures ∙ c.if-is_empty.true)) in
+    sym c.behind_blank-text.ensures
+    ∙ fields_of-nothing c.behind_blank-text.result.now (eqb-true _ _ (sym c.is_empty.ensures ∙ c.if-is_empty.true)) in
     let left = ap (fields_left c.self.inside.text.now) c.in_default.is ∙ none in
     (sym c.self.view_is ∙ left, left)
