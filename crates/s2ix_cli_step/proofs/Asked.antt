@@ -55,7 +55,8 @@ pub behind_both : (s : State) (line undo : List ℕ) (both : EditsAndUndoes s li
 behind_both s line undo both =
     let edit = both.edit in
     let asked = step_asked s line (asks.Edit edit) both.edits in
-    let edited : (step_of s line).after ≡ after_edit s edit = ap (λ (t : Step). t.after) asked ∙ edit_done s edit (sym (ap (λ (t : Step). t.is_refused) asked) ∙ both.accepted) in
+    let edited : (step_of s line).after ≡ after_edit s edit =
+        ap (λ (t : Step). t.after) asked ∙ edit_done s edit (sym (ap (λ (t : Step). t.is_refused) asked) ∙ both.accepted) in
     ap (λ (t : State). (step_of t undo).after) edited
     ∙ ap (λ (t : Step). t.after) (step_asked (after_edit s edit) undo asks.Undo both.undoes)
     ∙ undo_done (after_edit s edit)
@@ -78,10 +79,13 @@ prints_same s t asks.Forget is bag done = cc
 prints_same s t (asks.At cell) is bag done =
     at_prints (level_of cell == 30) s t _ _ _ (ap (λ (b : LimitedCollection). list_text held_line (contents_at (raw_of cell) b.held)) bag)
 prints_same s t (asks.Meet target) is bag done = ap (λ (b : LimitedCollection). list_text held_line (meeting_of target b.held)) bag
-prints_same s t (asks.Labels target) is bag done = ap (λ (b : LimitedCollection). list_text label_line (label_list (meeting_of target b.held))) bag
+prints_same s t (asks.Labels target) is bag done =
+    ap (λ (b : LimitedCollection). list_text label_line (label_list (meeting_of target b.held))) bag
 prints_same s t (asks.Region label) is bag done = ap (λ (b : LimitedCollection). list_text token_line (region_of label b.held)) bag
-prints_same s t (asks.Common first second) is bag done = ap (λ (b : LimitedCollection). list_text token_line (common_of first second b.held)) bag
-prints_same s t (asks.Only first second) is bag done = ap (λ (b : LimitedCollection). list_text token_line (only_of first second b.held)) bag
+prints_same s t (asks.Common first second) is bag done =
+    ap (λ (b : LimitedCollection). list_text token_line (common_of first second b.held)) bag
+prints_same s t (asks.Only first second) is bag done =
+    ap (λ (b : LimitedCollection). list_text token_line (only_of first second b.held)) bag
 prints_same s t asks.Ranges is bag done = ap (λ (b : LimitedCollection). list_text range_line (range_table b.held)) bag
 prints_same s t (asks.Path cell) is bag done = refl
 prints_same s t (asks.Neighbors cell) is bag done = refl

@@ -53,7 +53,8 @@ undo_stays s st = undo_at s (last_done s) st refl
 
 redo_at : (s : State) (last : Option (List Entry)) → IsStore s → last_undone s ≡ last → StaysIn s (redo_step_at s last).after
 redo_at s None st is = stays_put s st
-redo_at s (Some es) st is = let some = some_last s.undone es is in record { store = redo_keeps s st some; first = first_after_redo s st some }
+redo_at s (Some es) st is =
+    let some = some_last s.undone es is in record { store = redo_keeps s st some; first = first_after_redo s st some }
 
 redo_stays : (s : State) → IsStore s → StaysIn s (redo_step s).after
 unfolding redo_step
@@ -90,7 +91,8 @@ instruction_stays s asks.Export st keeps = stays_put s st
 meaning_stays : (s : State) (meaning : Result (Option Instruction) LineFault) → IsStore s → (meaning ≡ Ok (Some asks.Forget) → ⊥)
     → StaysIn s (step_at s meaning).after
 meaning_stays s (Ok None) st keeps = stays_put s st
-meaning_stays s (Ok (Some instruction)) st keeps = instruction_stays s instruction st (λ is. keeps (ap (λ (i : Instruction). Ok (Some i)) is))
+meaning_stays s (Ok (Some instruction)) st keeps =
+    instruction_stays s instruction st (λ is. keeps (ap (λ (i : Instruction). Ok (Some i)) is))
 meaning_stays s (Err fault) st keeps = stays_put s st
 
 pub line_stays : (s : State) (line : List ℕ) → IsStore s → ¬ AsksFor line asks.Forget → StaysIn s (step_of s line).after

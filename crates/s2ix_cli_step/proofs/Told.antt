@@ -24,7 +24,8 @@ use Rattle.s2ix_cli_step.specs.Step.{edit_step, edit_step_at, no_step, ok_step, 
 accepted_edit : (s new : State) (edit : Edit) (n : ℕ) → edit_refusal s edit ≡ None → new ≡ after_edit s edit → n ≡ length (change_of s edit)
     → edit_step s edit ≡ ok_step new n
 unfolding edit_step
-accepted_edit s new edit n e stands is = ap (edit_step_at s edit) e ∙ ap (ok_step (after_edit s edit)) (sym is) ∙ ap (λ x. ok_step x n) (sym stands)
+accepted_edit s new edit n e stands is =
+    ap (edit_step_at s edit) e ∙ ap (ok_step (after_edit s edit)) (sym is) ∙ ap (λ x. ok_step x n) (sym stands)
 
 -- an edit that is refused for another cause than memory
 refused_edit : (s : State) (edit : Edit) (error : EditError) → IsEditRefusal error (edit_refusal s edit) → error ≢ OutOfMemory
@@ -58,7 +59,8 @@ slice_get-last [] some = absurd (some refl)
 slice_get-last (x ∷ xs) some = (_, slice_get-get_or (x ∷ xs) (length (x ∷ xs) - 1) x (omega arith))
 
 -- a step that takes the last change of a list, as an undo and a redo do: there are two errors, that the list is empty and want of memory
-last_is_told : {E : Type 0} (name : E → List ℕ) (nothing want : E) (step_at : Option (List Entry) → Step) (changes : List (List Entry)) (s new after : State) (size : ℕ) (told : Result ℕ E)
+last_is_told : {E : Type 0} (name : E → List ℕ) (nothing want : E) (step_at : Option (List Entry) → Step) (changes : List (List Entry))
+    (s new after : State) (size : ℕ) (told : Result ℕ E)
     → ((error : E) → error ≢ want → error ≡ nothing) → ((es : List Entry) → step_at (Some es) ≡ ok_step after size)
     → step_at None ≡ no_step s (name nothing)
     → (told ≡ Err nothing) ↔ (changes ≡ []) → OnOk told (new ≡ after) → IfOk told (λ n. n ≡ size) → OnErr told (new ≡ s)
@@ -70,7 +72,8 @@ last_is_told name nothing want step_at changes s new after size (Err error) two 
   unchanged,
   λ other.
       let same = two error other in
-      ap (λ xs. step_at (slice_get xs (length xs - 1))) (empty.0 (ap Err same)) ∙ lacks ∙ ap (λ e. no_step s (name e)) (sym same) ∙ ap (λ x. no_step x (name error)) (sym unchanged),
+      ap (λ xs. step_at (slice_get xs (length xs - 1))) (empty.0 (ap Err same)) ∙ lacks ∙ ap (λ e. no_step s (name e)) (sym same)
+      ∙ ap (λ x. no_step x (name error)) (sym unchanged),
 )
 
 pub undo_is_told : (s new : State) (told : Result ℕ UndoError) → (told ≡ Err undo.NothingToUndo) ↔ (s.done ≡ [])
@@ -79,7 +82,8 @@ pub undo_is_told : (s new : State) (told : Result ℕ UndoError) → (told ≡ E
     → IsTold undo_error_name undo.OutOfMemory (undo_step s) s new told
 unfolding undo_step
 undo_is_told s new told nothing stands is unchanged =
-    last_is_told undo_error_name undo.NothingToUndo undo.OutOfMemory (undo_step_at s) s.done s new (after_undo s) (undo_size s) told two (λ es. refl) refl nothing stands is unchanged
+    last_is_told undo_error_name undo.NothingToUndo undo.OutOfMemory (undo_step_at s) s.done s new (after_undo s) (undo_size s) told two
+    (λ es. refl) refl nothing stands is unchanged
   where
     two : (error : UndoError) → error ≢ undo.OutOfMemory → error ≡ undo.NothingToUndo
     two undo.NothingToUndo other = refl
@@ -91,7 +95,8 @@ pub redo_is_told : (s new : State) (told : Result ℕ RedoError) → (told ≡ E
     → IsTold redo_error_name redo.OutOfMemory (redo_step s) s new told
 unfolding redo_step
 redo_is_told s new told nothing stands is unchanged =
-    last_is_told redo_error_name redo.NothingToRedo redo.OutOfMemory (redo_step_at s) s.undone s new (after_redo s) (redo_size s) told two (λ es. refl) refl nothing stands is unchanged
+    last_is_told redo_error_name redo.NothingToRedo redo.OutOfMemory (redo_step_at s) s.undone s new (after_redo s) (redo_size s) told two
+    (λ es. refl) refl nothing stands is unchanged
   where
     two : (error : RedoError) → error ≢ redo.OutOfMemory → error ≡ redo.NothingToRedo
     two redo.NothingToRedo other = refl

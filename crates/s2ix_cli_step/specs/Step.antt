@@ -81,7 +81,8 @@ redo_step s = redo_step_at s (last_undone s)
 
 -- what `at` comes to: the pairs over a leaf; a cell that is no leaf is refused
 abbrev pub at_step : State → CellId → Step
-at_step s cell = if level_of cell == 30 then text_step s (list_text held_line (contents_at (raw_of cell) s.bag.held)) else no_step s not_leaf_name
+at_step s cell =
+    if level_of cell == 30 then text_step s (list_text held_line (contents_at (raw_of cell) s.bag.held)) else no_step s not_leaf_name
 
 -- what an instruction comes to
 abbrev pub instruction_step : State → Instruction → Step

@@ -49,7 +49,8 @@ pub(crate) fn print_meeting<K: Sink>(
     target: &CellUnion,
 ) -> Result<LineOutcome, RunFault>
     requires { CanCount (K.fault_count sink.old) }
-    ensures carries { Carries (text_step store.now (list_text held_line (meeting_of target.now store.now.bag.held))) store.now store.now (K.taken sink.old) (K.taken sink.new) result }
+    ensures carries { Carries (text_step store.now (list_text held_line (meeting_of target.now store.now.bag.held)))
+        store.now store.now (K.taken sink.old) (K.taken sink.new) result }
     ensures memory { result ≢ Err RunFault.OutOfMemory }
     ensures unflushed { K.flush_mark sink.new ≡ K.flush_mark sink.old }
     ensures faults { K.fault_count sink.new ≡ K.fault_count sink.old + sink_faults result }
@@ -66,7 +67,8 @@ pub(crate) fn print_labels<K: Sink>(
     target: &CellUnion,
 ) -> Result<LineOutcome, RunFault>
     requires { CanCount (K.fault_count sink.old) }
-    ensures carries { Carries (text_step store.now (list_text label_line (label_list (meeting_of target.now store.now.bag.held)))) store.now store.now (K.taken sink.old) (K.taken sink.new) result }
+    ensures carries { Carries (text_step store.now (list_text label_line (label_list (meeting_of target.now store.now.bag.held))))
+        store.now store.now (K.taken sink.old) (K.taken sink.new) result }
     ensures unflushed { K.flush_mark sink.new ≡ K.flush_mark sink.old }
     ensures faults { K.fault_count sink.new ≡ K.fault_count sink.old + sink_faults result }
 {
@@ -77,7 +79,8 @@ pub(crate) fn print_labels<K: Sink>(
 // Prints the ranges of the store's table.
 pub(crate) fn print_ranges<K: Sink>(store: &Store, sink: &mut K) -> Result<LineOutcome, RunFault>
     requires { CanCount (K.fault_count sink.old) }
-    ensures carries { Carries (text_step store.now (list_text range_line (range_table store.now.bag.held))) store.now store.now (K.taken sink.old) (K.taken sink.new) result }
+    ensures carries { Carries (text_step store.now (list_text range_line (range_table store.now.bag.held)))
+        store.now store.now (K.taken sink.old) (K.taken sink.new) result }
     ensures memory { result ≢ Err RunFault.OutOfMemory }
     ensures unflushed { K.flush_mark sink.new ≡ K.flush_mark sink.old }
     ensures faults { K.fault_count sink.new ≡ K.fault_count sink.old + sink_faults result }
@@ -93,7 +96,8 @@ pub(crate) fn print_export<K: Sink>(
     sink: &mut K,
 ) -> Result<LineOutcome, RunFault>
     requires { CanCount (K.fault_count sink.old) }
-    ensures carries { Carries (text_step store.now (export_line store.now.bag.held)) store.now store.now (K.taken sink.old) (K.taken sink.new) result }
+    ensures carries { Carries (text_step store.now (export_line store.now.bag.held))
+        store.now store.now (K.taken sink.old) (K.taken sink.new) result }
     ensures unflushed { K.flush_mark sink.new ≡ K.flush_mark sink.old }
     ensures faults { K.fault_count sink.new ≡ K.fault_count sink.old + sink_faults result }
 {

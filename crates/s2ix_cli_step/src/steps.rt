@@ -5,7 +5,7 @@ ghost use Rattle.s2ix_edit_plan.specs.declared.errors.RedoError.{RedoError};
 ghost use Rattle.s2ix_edit_plan.specs.declared.errors.UndoError.{UndoError};
 ghost use Rattle.s2ix_edit_plan.specs.State.{State};
 ghost use Rattle.s2ix_text_io.specs.Faults.{CanCount, sink_faults, IsWantOnlyIf};
-ghost use Rattle.s2ix_cli_script.specs.RefusalNames.{edit_error_name as name_of_edit_error, redo_error_name as name_of_redo_error, undo_error_name as name_of_undo_error};
+ghost use Rattle.s2ix_cli_script.specs.RefusalNames.{edit_error_name, redo_error_name, undo_error_name};
 ghost use Rattle.s2ix_cli_step.specs.Carry.{Carries, IsTold};
 ghost use Rattle.s2ix_cli_step.specs.Step.{Step};
 
@@ -30,7 +30,7 @@ pub(crate) trait StepError: Copy {
 }
 
 impl StepError for EditError {
-    ghost printed = { name_of_edit_error };
+    ghost printed = { edit_error_name };
 
     ghost want = { EditError.OutOfMemory };
 
@@ -43,7 +43,7 @@ impl StepError for EditError {
 }
 
 impl StepError for UndoError {
-    ghost printed = { name_of_undo_error };
+    ghost printed = { undo_error_name };
 
     ghost want = { UndoError.OutOfMemory };
 
@@ -56,7 +56,7 @@ impl StepError for UndoError {
 }
 
 impl StepError for RedoError {
-    ghost printed = { name_of_redo_error };
+    ghost printed = { redo_error_name };
 
     ghost want = { RedoError.OutOfMemory };
 

@@ -49,7 +49,8 @@ decimal_digits : (n : ℕ) → n < 2 ^ 64 → All IsDigit (decimal n)
 decimal_digits =
     decimal_by_steps (λ n ds. All IsDigit ds)
     (λ n small. All-cons IsDigit (48 + n) [] (omega arith, omega arith) (All-nil IsDigit))
-    (λ n ds large digits. All-append IsDigit ds ((48 + n % 10) ∷ []) digits (All-cons IsDigit (48 + n % 10) [] (omega arith, omega arith) (All-nil IsDigit)))
+    (λ n ds large digits. All-append IsDigit ds ((48 + n % 10) ∷ []) digits
+    (All-cons IsDigit (48 + n % 10) [] (omega arith, omega arith) (All-nil IsDigit)))
 
 no_comma : (n : ℕ) → n < 2 ^ 64 → All (Differs 44) (decimal n)
 no_comma n small = All-weaker IsDigit (Differs 44) (λ byte is e. omega arith) (decimal n) (decimal_digits n small)
@@ -73,13 +74,19 @@ unfolding pair_json
 one_pair h k r s hc kc same =
     let hl : value_of h.pair.label ≤ 2147483647 = h.pair.label.in_range in
     let kl : value_of k.pair.label ≤ 2147483647 = k.pair.label.in_range in
-    let token = cut_field 34 (canonical_token (raw_of h.pair.cell)) (canonical_token (raw_of k.pair.cell)) _ _ r s (no_quote _) (no_quote _) (ap (drop 2) same) in
-    let label = cut_field 44 (decimal (value_of h.pair.label)) (decimal (value_of k.pair.label)) _ _ r s (no_comma _ (omega arith)) (no_comma _ (omega arith)) (ap (drop 1) token.1) in
-    let count = cut_field 93 (decimal h.count) (decimal k.count) [] [] r s (no_bracket _ (omega arith)) (no_bracket _ (omega arith)) label.1 in
+    let token =
+        cut_field 34 (canonical_token (raw_of h.pair.cell)) (canonical_token (raw_of k.pair.cell)) _ _ r s (no_quote _) (no_quote _)
+        (ap (drop 2) same) in
+    let label =
+        cut_field 44 (decimal (value_of h.pair.label)) (decimal (value_of k.pair.label)) _ _ r s (no_comma _ (omega arith))
+        (no_comma _ (omega arith)) (ap (drop 1) token.1) in
+    let count =
+        cut_field 93 (decimal h.count) (decimal k.count) [] [] r s (no_bracket _ (omega arith)) (no_bracket _ (omega arith)) label.1 in
     let cells = one_token (raw_of h.pair.cell) (raw_of k.pair.cell) h.pair.cell.valid k.pair.cell.valid token.0 in
     let labels = decimal_injective (value_of h.pair.label) (value_of k.pair.label) (omega arith) (omega arith) label.0 in
     let pairs = same_pair h.pair k.pair (ap₂ (λ (c v : ℕ). c * 2147483648 + v) cells labels) in (
-      ap₂ (λ (p : Pair) (n : ℕ). let made : Held = record { pair = p; count = n } in made) pairs (decimal_injective h.count k.count (omega arith) (omega arith) count.0),
+      ap₂ (λ (p : Pair) (n : ℕ). let made : Held = record { pair = p; count = n } in made) pairs
+      (decimal_injective h.count k.count (omega arith) (omega arith) count.0),
       count.1,
     )
 
@@ -121,4 +128,5 @@ pub one_export_of_bags : (bag other : LimitedCollection) → IsBag bag → IsBag
 unfolding export_text
 one_export_of_bags bag other is other_is same =
     one_list bag.held other.held _ _ (small_counts bag is) (small_counts other other_is)
-    (append_cancel_left (codes "{\"pairs\":[") (join_by pair_json (codes ",") bag.held ++ codes "],\"version\":1}") (join_by pair_json (codes ",") other.held ++ codes "],\"version\":1}") same)
+    (append_cancel_left (codes "{\"pairs\":[") (join_by pair_json (codes ",") bag.held ++ codes "],\"version\":1}")
+    (join_by pair_json (codes ",") other.held ++ codes "],\"version\":1}") same)

@@ -67,4 +67,5 @@ pub whole_text : (hs : Collection) → compact_text (export_value (items_of (map
 unfolding serde_json_on_literals digits export_text
 whole_text hs =
     ap (λ (text : List ℕ). codes "{\"pairs\":[" ++ (text ++ codes ",\"version\":1}")) (pairs_text hs)
-    ∙ ap (λ (text : List ℕ). codes "{\"pairs\":[" ++ text) (append_assoc (join_by pair_json (codes ",") hs) (93 ∷ []) (codes ",\"version\":1}"))
+    ∙ ap (λ (text : List ℕ). codes "{\"pairs\":[" ++ text)
+    (append_assoc (join_by pair_json (codes ",") hs) (93 ∷ []) (codes ",\"version\":1}"))

@@ -9,7 +9,10 @@ use Rattle.s2ix_bag_pairs.specs.Collection.{Collection}
 
 -- a held pair: ["TOKEN",LABEL,COUNT]
 unfoldable pub pair_json : Held → List ℕ
-pair_json h = concat (codes "[\"" ∷ canonical_token (raw_of h.pair.cell) ∷ codes "\"," ∷ decimal (value_of h.pair.label) ∷ codes "," ∷ decimal h.count ∷ codes "]" ∷ [])
+pair_json h =
+    concat
+    (codes "[\"" ∷ canonical_token (raw_of h.pair.cell) ∷ codes "\"," ∷ decimal (value_of h.pair.label) ∷ codes "," ∷ decimal h.count
+    ∷ codes "]" ∷ [])
 
 -- the one export of a collection: {"pairs":[..],"version":1}, with a comma between two pairs
 unfoldable pub export_text : Collection → List ℕ

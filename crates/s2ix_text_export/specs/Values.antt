@@ -9,7 +9,9 @@ use Rattle.s2ix_bag_pairs.specs.Label.{value_of}
 
 -- a held pair: a list of its token, its label and its count
 abbrev pub pair_value : Held → Data
-pair_value h = array (items_of (string (canonical_token (raw_of h.pair.cell)) ∷ number (unsigned (value_of h.pair.label)) ∷ number (unsigned h.count) ∷ []))
+pair_value h =
+    array
+    (items_of (string (canonical_token (raw_of h.pair.cell)) ∷ number (unsigned (value_of h.pair.label)) ∷ number (unsigned h.count) ∷ []))
 
 -- the whole: an object with these pairs and the version
 abbrev pub export_value : Items → Data

@@ -8,12 +8,14 @@ use Rattle.s2ix_cli_step.proofs.carry.carry_instruction.Goals as goal
 pub returns-in-Edit-clause-carries : goal.returns-in-Edit-clause-carries
 returns-in-Edit-clause-carries g c =
     let told = c.edit.ensures in
-    rw c.in-Edit.is (c.tell_step.ensures.carries _ _ _ (edit_is_told _ _ _ _ told.accepted told.state told.number told.refused told.unchanged))
+    rw c.in-Edit.is (c.tell_step.ensures.carries _ _ _
+    (edit_is_told _ _ _ _ told.accepted told.state told.number told.refused told.unchanged))
 
 pub returns-in-Edit-clause-memory : goal.returns-in-Edit-clause-memory
 returns-in-Edit-clause-memory g c =
     let told = c.edit.ensures in
-    rw c.in-Edit.is (IfErr-weaker c.tell_step.result _ _ (λ fault wants is. edit_wants _ _ _ told.refused told.nothing told.reverting (wants is)) c.tell_step.ensures.memory)
+    rw c.in-Edit.is (IfErr-weaker c.tell_step.result _ _
+    (λ fault wants is. edit_wants _ _ _ told.refused told.nothing told.reverting (wants is)) c.tell_step.ensures.memory)
 
 pub returns-in-Undo-clause-carries : goal.returns-in-Undo-clause-carries
 returns-in-Undo-clause-carries g c =

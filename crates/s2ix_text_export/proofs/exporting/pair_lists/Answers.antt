@@ -14,4 +14,6 @@ loop-place-preserved c =
     ap (map view) c.in_ok-push.ensures.items ∙ map_push view c.loop-place.lists.items c.in_ok-pair_list.field-0
     ∙ ap₂ (λ xs x. xs ++ x ∷ []) c.loop-place.invariant c.in_ok-pair_list.ensures
     ∙ sym (map_push pair_value (take place hs) held)
-    ∙ ap (map pair_value) (ap (λ x. take place hs ++ x ∷ []) (sym (get_or_from_slice_get hs place held held c.held.ensures)) ∙ sym (take_more hs place held (slice_get_within hs place held c.held.ensures)))
+    ∙ ap (map pair_value)
+    (ap (λ x. take place hs ++ x ∷ []) (sym (get_or_from_slice_get hs place held held c.held.ensures))
+    ∙ sym (take_more hs place held (slice_get_within hs place held c.held.ensures)))
