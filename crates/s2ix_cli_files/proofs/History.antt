@@ -76,7 +76,8 @@ limits_back s = limits_stay s.bag (way_back (with_numbers s.done))
 
 made : (bag : LimitedCollection) (hs : Collection) → bag.held ≡ hs → (other : LimitedCollection) → bag.limits ≡ other.limits
     → bag ≡ with_held other hs
-made bag hs held other limits = ap₂ (λ (l : Limits) (h : Collection). let b : LimitedCollection = record { limits = l; held = h } in b) limits held
+made bag hs held other limits =
+    ap₂ (λ (l : Limits) (h : Collection). let b : LimitedCollection = record { limits = l; held = h } in b) limits held
 
 pub done_leads_back : (s : State) (first : Collection) → IsStore s → slice_get (history_of s).collections 0 ≡ Some first
     → rewound s.bag s.done ≡ with_held s.bag first
@@ -84,7 +85,9 @@ done_leads_back s first st is =
     let cs = reverse (with_numbers s.done) in
     let rest = later s.bag.held (reverse s.undone) in
     let there = ap (λ ess. slice_get (earlier s.bag.held ess ++ s.bag.held ∷ rest) 0) (changes_reversed 1 s.done) in
-    let held = same_first (rewound s.bag s.done).held first (slice_get (history_of s).collections 0) (sym there ∙ first_of_earlier s.bag cs rest) is in
+    let held =
+        same_first (rewound s.bag s.done).held first (slice_get (history_of s).collections 0) (sym there ∙ first_of_earlier s.bag cs rest)
+        is in
     made (rewound s.bag s.done) first held s.bag (limits_back s)
 
 pub done_leads : (s : State) (first : Collection) → IsStore s → slice_get (history_of s).collections 0 ≡ Some first

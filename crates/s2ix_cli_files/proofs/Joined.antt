@@ -48,16 +48,19 @@ pub read_as_slice : (limits : Limits) (journal : List ℕ) (changes slice : List
 read_as_slice limits journal changes slice same read = subst (λ (x : List (List Entry)). JournalReads limits journal (Ok x)) (sym same) read
 
 -- an error of the journal's changes, where both were read
-pub refused_leading : (Leads : Leading) (limits : Limits) (dump journal : List ℕ) (bag : LimitedCollection) (changes : List (List Entry)) (found : Option ReplayError) (error : ReplayError)
+pub refused_leading : (Leads : Leading) (limits : Limits) (dump journal : List ℕ) (bag : LimitedCollection) (changes : List (List Entry))
+    (found : Option ReplayError) (error : ReplayError)
     → ((refusal : Refusal) → option_map error_of_replay found ≡ Some (texts.Refused refusal) → Leads bag changes (Err refusal))
     → DumpReads limits dump (Ok bag) → JournalReads limits journal (Ok changes) → IsReplayError error found
     → IsRefusedBy (TextsLead Leads limits dump journal) (error_of_replay error)
 refused_leading Leads limits dump journal bag changes found error comes read then is =
     refused_next (DumpReads limits dump) (λ from. Then (JournalReads limits journal) (Leads from)) bag (error_of_replay error) read
-    (refused_next (JournalReads limits journal) (Leads bag) changes (error_of_replay error) then (refused_changes (Leads bag changes) found error comes is))
+    (refused_next (JournalReads limits journal) (Leads bag) changes
+    (error_of_replay error) then (refused_changes (Leads bag changes) found error comes is))
 
 -- what the changes lead to, where both were read
-pub texts_lead : (Leads : Leading) (limits : Limits) (dump journal : List ℕ) (bag : LimitedCollection) (changes : List (List Entry)) (reached : LimitedCollection)
+pub texts_lead : (Leads : Leading) (limits : Limits) (dump journal : List ℕ) (bag : LimitedCollection) (changes : List (List Entry))
+    (reached : LimitedCollection)
     → DumpReads limits dump (Ok bag) → JournalReads limits journal (Ok changes) → Leads bag changes (Ok reached)
     → TextsLead Leads limits dump journal (Ok reached)
 texts_lead Leads limits dump journal bag changes reached read then leads = inl (bag, read, inl (changes, then, leads))

@@ -55,7 +55,8 @@ none_mapped refused None is = refl
 -- ---- a dump
 
 same_bag : (bag other : LimitedCollection) → other.limits ≡ bag.limits → other.held ≡ bag.held → other ≡ bag
-same_bag bag other limits held = ap₂ (λ (l : Limits) (h : Collection). let b : LimitedCollection = record { limits = l; held = h } in b) limits held
+same_bag bag other limits held =
+    ap₂ (λ (l : Limits) (h : Collection). let b : LimitedCollection = record { limits = l; held = h } in b) limits held
 
 one_dump_of : (limits : Limits) (text : List ℕ) → dump_fault limits text ≡ None → HasOne (IsDumpOf limits text)
 one_dump_of limits text none =
@@ -120,7 +121,8 @@ then_one {A} {B} First Next (Err refusal) is one next = (
   λ other comes.
       ⊎_elim
       (λ went. let clash : Ok went.0 ≡ Err refusal = one (Ok went.0) went.1 in cc)
-      (λ refused. let same : (let r : Result A Refusal = Err refused.0 in r) ≡ Err refusal = one (Err refused.0) refused.1 in refused.2 ∙ ap Err (same_refusal refused.0 refusal same))
+      (λ refused. let same : (let r : Result A Refusal = Err refused.0 in r) ≡ Err refusal = one (Err refused.0) refused.1 in refused.2
+      ∙ ap Err (same_refusal refused.0 refusal same))
       comes,
 )
 
@@ -154,16 +156,22 @@ leads_told refusal bag error found is told = (
 leads_at : (refusal at : Option ReplayError) (bag : LimitedCollection) → refusal ≡ at → (refusal ≡ Some told.OutOfMemory → ⊥)
     → HasOne (EndsIn refusal bag)
 leads_at refusal None bag is never = (Ok bag, (is, refl), no_other_bag refusal bag is)
-leads_at refusal (Some (told.Mismatch change entry)) bag is never = leads_told refusal bag (told.Mismatch change entry) (Mismatch change entry) is refl
-leads_at refusal (Some (told.TooManyCopies change)) bag is never = leads_told refusal bag (told.TooManyCopies change) (TooManyCopies change) is refl
-leads_at refusal (Some (told.TooManyPairs change)) bag is never = leads_told refusal bag (told.TooManyPairs change) (TooManyPairs change) is refl
+leads_at refusal (Some (told.Mismatch change entry)) bag is never =
+    leads_told refusal bag (told.Mismatch change entry) (Mismatch change entry) is refl
+leads_at refusal (Some (told.TooManyCopies change)) bag is never =
+    leads_told refusal bag (told.TooManyCopies change) (TooManyCopies change) is refl
+leads_at refusal (Some (told.TooManyPairs change)) bag is never =
+    leads_told refusal bag (told.TooManyPairs change) (TooManyPairs change) is refl
 leads_at refusal (Some told.OutOfMemory) bag is never = absurd (never is)
 
 one_replay : (bag : LimitedCollection) (changes : List (List Entry)) → HasOne (ReplayLeads bag changes)
-one_replay bag changes = leads_at (replay_refusal bag changes) (replay_refusal bag changes) (replayed bag changes) refl (never_memory bag (with_numbers changes))
+one_replay bag changes =
+    leads_at (replay_refusal bag changes) (replay_refusal bag changes) (replayed bag changes) refl (never_memory bag (with_numbers changes))
 
 one_rewind : (bag : LimitedCollection) (changes : List (List Entry)) → HasOne (RewindLeads bag changes)
-one_rewind bag changes = leads_at (rewind_refusal bag changes) (rewind_refusal bag changes) (rewound bag changes) refl (never_memory bag (way_back (with_numbers changes)))
+one_rewind bag changes =
+    leads_at (rewind_refusal bag changes) (rewind_refusal bag changes) (rewound bag changes) refl
+    (never_memory bag (way_back (with_numbers changes)))
 
 -- ---- answers
 
@@ -183,4 +191,5 @@ one_rewound = one_texts RewindLeads one_rewind
 -- what comes to one thing has one answer
 pub one_answer : (printed : LimitedCollection → List ℕ) (ComesTo : Result LimitedCollection Refusal → Type 0) → HasOne ComesTo
     → HasOne (IsAnswerTo printed ComesTo)
-one_answer printed ComesTo one = (answer_of printed one.0, (one.0, one.1, refl), λ other is. is.2 ∙ ap (answer_of printed) (one.2 is.0 is.1))
+one_answer printed ComesTo one =
+    (answer_of printed one.0, (one.0, one.1, refl), λ other is. is.2 ∙ ap (answer_of printed) (one.2 is.0 is.1))

@@ -1,9 +1,10 @@
 -- From what texts come to, to its answer.
-use Rattle.std.proofs.Common.{◌≡◌, ℕ, ◌<◌, Bool, false, List, length, Option, Result, Ok, Err, refl, ap, sym, subst, arith}
+use Rattle.std.proofs.Common.{◌≡◌, ℕ, ◌<◌, Bool, false, List, length, Result, Ok, Err, refl, ap, sym, subst, arith}
 use Rattle.std.specs.Prelude.{IfErr, IfOk}
 use Rattle.s2ix_bag_pairs.specs.Collection.{LimitedCollection}
 use Rattle.s2ix_text_write.specs.Dump.{dump_in}
 use Rattle.s2ix_text_io.specs.declared.run_fault.RunFault.{RunFault}
+use Rattle.s2ix_text_io.specs.declared.sink.Sink.{Ghosts as Sink}
 use Rattle.s2ix_text_io.specs.Faults.{IsWantOnlyIf}
 use Rattle.s2ix_cli_files.specs.declared.refusal.Refusal.{Refusal}
 use Rattle.s2ix_cli_files.specs.declared.refusal.TextsError.{TextsError}
@@ -23,10 +24,10 @@ refusal_answer printed ComesTo (Refused refusal) comes answer is = (Err refusal,
 refusal_answer printed ComesTo OutOfMemory comes answer is = absurd is
 
 -- what accepts nothing tells so
-pub told_refused : {K : Type 0} (taken : K → Option (List ℕ)) (flushes : K → K → Type 0) (error : TextsError) (old new : K) (accepted : Bool)
-    → Tells taken flushes (IsRefusalAnswer error) old new (Ok accepted) → Tells taken flushes (IsRefusalAnswer error) old new (Ok false)
-told_refused taken flushes (Refused refusal) old new accepted told = (told.0, told.1, told.2, ap (λ (a : Answer). a.accepted) (sym told.1))
-told_refused taken flushes OutOfMemory old new accepted told = absurd told.1
+pub told_refused : {K : Type 0} (sink : Sink K) (error : TextsError) (old new : K) (accepted : Bool)
+    → Tells sink (IsRefusalAnswer error) old new (Ok accepted) → Tells sink (IsRefusalAnswer error) old new (Ok false)
+told_refused sink (Refused refusal) old new accepted told = (told.0, told.1, told.2, ap (λ (a : Answer). a.accepted) (sym told.1))
+told_refused sink OutOfMemory old new accepted told = absurd told.1
 
 -- memory is wanted only where this holds, and so only where that holds
 pub want_as : {A : Type 0} (result : Result A RunFault) (Wants Others : Type 0) → (Wants → Others) → IfErr result (IsWantOnlyIf Wants)
@@ -43,7 +44,8 @@ some_counts bag = omega arith
 -- the dump of a bag is the answer of an outcome that is that bag
 pub dumped_so : (outcome : Result LimitedCollection TextsError) (bag : LimitedCollection) → outcome ≡ Ok bag
     → IsDumpAnswer outcome (answer_of dump_of (Ok bag))
-dumped_so outcome bag is = let Told : Result LimitedCollection TextsError → Type 0 = λ o. IsDumpAnswer o (answer_of dump_of (Ok bag)) in subst Told (sym is) refl
+dumped_so outcome bag is =
+    let Told : Result LimitedCollection TextsError → Type 0 = λ o. IsDumpAnswer o (answer_of dump_of (Ok bag)) in subst Told (sym is) refl
 
 -- a dump is not empty
 pub some_dump : (bag : LimitedCollection) → 0 < length (dump_of bag)

@@ -23,7 +23,8 @@ first_is_bag : (s : State) (first : Collection) → IsStore s → slice_get (his
     → IsBag (with_held s.bag first)
 first_is_bag s first st is =
     let hss = (history_of s).collections in
-    subst (λ (hs : Collection). IsBag (with_held s.bag hs)) (get_or_from_slice_get hss 0 first first is) (history_within s st 0 first (slice_get_within hss 0 first is))
+    subst (λ (hs : Collection). IsBag (with_held s.bag hs)) (get_or_from_slice_get hss 0 first first is)
+    (history_within s st 0 first (slice_get_within hss 0 first is))
 
 pub done_is_replayed : (s : State) (first : Collection) → IsStore s → slice_get (history_of s).collections 0 ≡ Some first
     → ReplayAnswers widest (dump_text first) (journal_text s.done) (record { text = dump_text s.bag.held; accepted = true })

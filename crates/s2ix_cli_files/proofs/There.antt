@@ -54,7 +54,8 @@ accepted_at Leads limits dump journal answer (Ok reached) comes is accepted =
 accepts : (Leads : Leading) (limits : Limits) (dump journal : List ℕ) (answer : Answer)
     → IsAnswerTo dump_of (TextsLead Leads limits dump journal) answer → answer.accepted ≡ true
     → Accepts Leads limits dump journal answer
-accepts Leads limits dump journal answer answers accepted = accepted_at Leads limits dump journal answer answers.0 answers.1 answers.2 accepted
+accepts Leads limits dump journal answer answers accepted =
+    accepted_at Leads limits dump journal answer answers.0 answers.1 answers.2 accepted
 
 -- ---- there and back
 
@@ -79,7 +80,8 @@ rewind_replayed limits dump journal answer answers accepted =
     let is_bag = replayed_is_bag a.bag a.changes a.dump_read.0 lists a.leads.0 in
     let text = a.text ∙ ap dump_of a.leads.1 in
     let again = read_again limits answer.text there is_bag (limits_stay a.bag (with_numbers a.changes) ∙ a.dump_read.1) text in
-    (a.bag, a.dump_read, leads_home RewindLeads limits answer.text journal a.bag there a.changes again a.journal_read (back.taken, sym back.back))
+    (a.bag, a.dump_read, leads_home RewindLeads limits answer.text journal a.bag there a.changes again a.journal_read
+    (back.taken, sym back.back))
 
 pub replay_rewound : ComesBack RewindAnswers ReplayAnswers
 replay_rewound limits dump journal answer answers accepted =
@@ -90,7 +92,8 @@ replay_rewound limits dump journal answer answers accepted =
     let is_bag = rewound_is_bag a.bag a.changes a.dump_read.0 lists a.leads.0 in
     let text = a.text ∙ ap dump_of a.leads.1 in
     let again = read_again limits answer.text there is_bag (limits_stay a.bag (way_back (with_numbers a.changes)) ∙ a.dump_read.1) text in
-    (a.bag, a.dump_read, leads_home ReplayLeads limits answer.text journal a.bag there a.changes again a.journal_read (forth.0, sym forth.1))
+    (a.bag, a.dump_read, leads_home ReplayLeads limits answer.text journal a.bag there a.changes again a.journal_read
+    (forth.0, sym forth.1))
 
 -- ---- byte for byte
 

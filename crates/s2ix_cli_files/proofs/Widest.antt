@@ -21,7 +21,8 @@ same_made p n c q m d r e f g =
 the_widest : (limits : Limits) → IsWidest limits → limits ≡ widest
 unfolding made
 the_widest limits is =
-    same_made limits.pairs limits.count limits.changes widest.pairs widest.count widest.changes limits.in_range is.0 is.1 is.2 widest.in_range
+    same_made limits.pairs limits.count limits.changes widest.pairs widest.count widest.changes limits.in_range is.0 is.1 is.2
+    widest.in_range
 
 -- what holds of limits that are as wide as may be holds of the widest
 pub as_widest : (Holds : Limits → Type 0) (limits : Limits) → IsWidest limits → Holds limits → Holds widest

@@ -6,6 +6,7 @@ use Rattle.s2ix_bag_pairs.specs.Collection.{LimitedCollection, copies_in}
 use Rattle.s2ix_bag_pairs.specs.declared.limits.Limits.{Limits}
 use Rattle.s2ix_text_io.specs.declared.run_fault.RunFault.{RunFault}
 use Rattle.s2ix_text_io.specs.declared.run_fault.RunFault.TheVariants as fault
+use Rattle.s2ix_text_io.specs.declared.sink.Sink.{Ghosts as Sink}
 use Rattle.s2ix_text_io.specs.Puts.{AppendsFront}
 use Rattle.s2ix_text_write.specs.Dump.{dump_text}
 use Rattle.s2ix_cli_files.specs.declared.refusal.Refusal.{Refusal}
@@ -71,19 +72,22 @@ IsDumpAnswer (Err error) answer = IsRefusalAnswer error answer
 -- ---- telling them
 
 -- a text went out whole, and then a flush, the last thing that the sink was asked; with no text the sink was asked nothing
-abbrev pub Sends : {K : Type 0} → (K → Option (List ℕ)) → (K → K → Type 0) → K → K → List ℕ → Type 0
-Sends taken flushes old new [] = new ≡ old
-Sends {K} taken flushes old new (byte ∷ bytes) =
-    (written : K) × Appends (taken old) (taken written) (byte ∷ bytes) × flushes written new × Keeps (taken written) (taken new)
+abbrev pub Sends : {K : Type 0} → Sink K → K → K → List ℕ → Type 0
+Sends sink old new [] = new ≡ old
+Sends {K} sink old new (byte ∷ bytes) =
+    (written : K) × Appends (sink.taken old) (sink.taken written) (byte ∷ bytes) × sink.flushes written new
+    × Keeps (sink.taken written) (sink.taken new)
 
 -- a call tells the answer: it sends its text, and its own answer is whether all was accepted. Where the sink failed, a front of the text
 -- went out; where memory was wanted, nothing did
-abbrev pub Tells : {K : Type 0} → (K → Option (List ℕ)) → (K → K → Type 0) → (Answer → Type 0) → K → K → Result Bool RunFault → Type 0
-Tells taken flushes IsAnswer old new (Ok accepted) = (answer : Answer) × IsAnswer answer × Sends taken flushes old new answer.text × (accepted ≡ answer.accepted)
-Tells taken flushes IsAnswer old new (Err fault.Write) = (answer : Answer) × IsAnswer answer × AppendsFront (taken old) (taken new) answer.text
-Tells taken flushes IsAnswer old new (Err fault.OutOfMemory) = new ≡ old
-Tells taken flushes IsAnswer old new (Err fault.Read) = ⊥
-Tells taken flushes IsAnswer old new (Err fault.ReaderTooLong) = ⊥
+abbrev pub Tells : {K : Type 0} → Sink K → (Answer → Type 0) → K → K → Result Bool RunFault → Type 0
+Tells sink IsAnswer old new (Ok accepted) =
+    (answer : Answer) × IsAnswer answer × Sends sink old new answer.text × (accepted ≡ answer.accepted)
+Tells sink IsAnswer old new (Err fault.Write) =
+    (answer : Answer) × IsAnswer answer × AppendsFront (sink.taken old) (sink.taken new) answer.text
+Tells sink IsAnswer old new (Err fault.OutOfMemory) = new ≡ old
+Tells sink IsAnswer old new (Err fault.Read) = ⊥
+Tells sink IsAnswer old new (Err fault.ReaderTooLong) = ⊥
 
 -- the answer of a call that loads: whether there is a store
 abbrev pub is_loaded : {A : Type 0} → Result (Option A) RunFault → Result Bool RunFault

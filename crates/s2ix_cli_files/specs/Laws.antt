@@ -14,12 +14,14 @@ use Rattle.s2ix_cli_files.specs.Reads.{DumpReads}
 abbrev pub ComesBack : (Limits → List ℕ → List ℕ → Answer → Type 0) → (Limits → List ℕ → List ℕ → Answer → Type 0) → Type 0
 ComesBack There Back =
     (limits : Limits) (dump journal : List ℕ) (answer : Answer) → There limits dump journal answer → answer.accepted ≡ true
-    → (bag : LimitedCollection) × DumpReads limits dump (Ok bag) × Back limits answer.text journal (record { text = dump_text bag.held; accepted = true })
+    → (bag : LimitedCollection) × DumpReads limits dump (Ok bag)
+    × Back limits answer.text journal (record { text = dump_text bag.held; accepted = true })
 
 -- and where the first dump is one that is written, it comes back byte for byte
 abbrev pub BytesComeBack : (Limits → List ℕ → List ℕ → Answer → Type 0) → (Limits → List ℕ → List ℕ → Answer → Type 0) → Type 0
 BytesComeBack There Back =
-    (limits : Limits) (hs : Collection) (journal : List ℕ) (answer : Answer) → There limits (dump_text hs) journal answer → answer.accepted ≡ true
+    (limits : Limits) (hs : Collection) (journal : List ℕ) (answer : Answer) → There limits (dump_text hs) journal answer
+    → answer.accepted ≡ true
     → Back limits answer.text journal (record { text = dump_text hs; accepted = true })
 
 abbrev pub DoneLeadsFromFirst : Type 0

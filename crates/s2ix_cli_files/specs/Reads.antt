@@ -70,7 +70,8 @@ RewindLeads bag changes = EndsIn (rewind_refusal bag changes) (rewound bag chang
 
 -- one thing first, and then the next, which goes on from what the first came to; a refusal of the first decides
 abbrev pub Then : {A B : Type 0} → (Result A Refusal → Type 0) → (A → Result B Refusal → Type 0) → Result B Refusal → Type 0
-Then {A} First Next outcome = ((a : A) × First (Ok a) × Next a outcome) ⊎ ((refusal : Refusal) × First (Err refusal) × (outcome ≡ Err refusal))
+Then {A} First Next outcome =
+    ((a : A) × First (Ok a) × Next a outcome) ⊎ ((refusal : Refusal) × First (Err refusal) × (outcome ≡ Err refusal))
 
 -- first the dump is read, then the journal, and then its changes lead on from the bag
 abbrev pub TextsLead : Leading → Limits → List ℕ → List ℕ → Result LimitedCollection Refusal → Type 0

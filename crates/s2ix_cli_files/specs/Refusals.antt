@@ -19,7 +19,8 @@ numbered_line before name number = concat (before ∷ name ∷ codes " " ∷ dec
 
 -- `no` with a name and two numbers, on a line of their own
 abbrev pub line_numbered_twice : List ℕ → ℕ → ℕ → List ℕ
-line_numbered_twice name first second = concat (codes "no " ∷ name ∷ codes " " ∷ decimal first ∷ codes " " ∷ decimal second ∷ codes "\n" ∷ [])
+line_numbered_twice name first second =
+    concat (codes "no " ∷ name ∷ codes " " ∷ decimal first ∷ codes " " ∷ decimal second ∷ codes "\n" ∷ [])
 
 -- the line of a refusal: its name and its numbers
 abbrev pub refusal_line : Refusal → List ℕ

@@ -15,7 +15,7 @@ use std::alloc::Global;
 /// answers whether the dump was accepted. O(n) for n bytes, and one growth. Errors: see the crate.
 pub fn check_text<K: Sink>(alloc: Global, text: &[u8], sink: &mut K) -> Result<bool, RunFault>
     requires { CanCount (K.fault_count sink.old) }
-    ensures told { Tells K.taken K.flushes (CheckAnswers widest text.now) sink.old sink.new result }
+    ensures told { Tells K.Sink (CheckAnswers widest text.now) sink.old sink.new result }
     ensures memory { IfErr result (IsWantOnlyIf (IsFromLine 2 (dump_fault widest text.now))) }
     ensures faults { K.fault_count sink.new ≡ K.fault_count sink.old + sink_faults result }
 {

@@ -23,7 +23,7 @@ pub fn load_text<K: Sink>(
     sink: &mut K,
 ) -> Result<Option<Store>, RunFault>
     requires { CanCount (K.fault_count sink.old) }
-    ensures told { Tells K.taken K.flushes (LoadAnswers limits text.now) sink.old sink.new (is_loaded result) }
+    ensures told { Tells K.Sink (LoadAnswers limits text.now) sink.old sink.new (is_loaded result) }
     ensures store { IfOk result (λ loaded. IfSome loaded (λ store.
         (bag : LimitedCollection) × DumpReads limits text.now (Ok bag) × (store ≡ starting_at bag))) }
     ensures memory { IfErr result (IsWantOnlyIf (IsFromLine 2 (dump_fault limits text.now))) }

@@ -1,13 +1,13 @@
 //! The names by which faults of texts are printed.
 ghost use Rattle.std.specs.Prelude.{◌≡◌};
-ghost use Rattle.s2ix_cli_files.specs.Names.{dump_fault_name as name_of_dump_fault, journal_fault_name as name_of_journal_fault};
+ghost use Rattle.s2ix_cli_files.specs.Names.{dump_fault_name, journal_fault_name};
 
 use s2ix_text_read_dump::DumpFault;
 use s2ix_text_read_journal::JournalFault;
 
 /// The name by which a dump with this fault is answered, as `no NAME LINE`.
 pub fn dump_fault_name(fault: DumpFault) -> &'static str
-    ensures { result.now ≡ name_of_dump_fault fault }
+    ensures { result.now ≡ dump_fault_name fault }
 {
     match fault {
         DumpFault::Truncated => "Truncated",
@@ -26,7 +26,7 @@ pub fn dump_fault_name(fault: DumpFault) -> &'static str
 
 /// The name by which a journal with this fault is answered, as `no journal NAME LINE`.
 pub fn journal_fault_name(fault: JournalFault) -> &'static str
-    ensures { result.now ≡ name_of_journal_fault fault }
+    ensures { result.now ≡ journal_fault_name fault }
 {
     match fault {
         JournalFault::Truncated => "Truncated",

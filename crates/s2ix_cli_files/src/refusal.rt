@@ -86,7 +86,7 @@ fn write_numbered<K: Sink>(
     sink: &mut K,
 ) -> Result<(), WriteFault>
     requires { CanCount (K.fault_count sink.old) }
-    ensures { Writes K.taken K.flush_mark K.fault_count sink.old sink.new result (numbered_line before.now name.now number) }
+    ensures { Writes K.Sink sink.old sink.new result (numbered_line before.now name.now number) }
 {
     let mut digits = Buffer::new();
     put_parts(
@@ -109,7 +109,7 @@ fn write_numbered_twice<K: Sink>(
     sink: &mut K,
 ) -> Result<(), WriteFault>
     requires { CanCount (K.fault_count sink.old) }
-    ensures { Writes K.taken K.flush_mark K.fault_count sink.old sink.new result (line_numbered_twice name.now first second) }
+    ensures { Writes K.Sink sink.old sink.new result (line_numbered_twice name.now first second) }
 {
     let mut first_digits = Buffer::new();
     let mut second_digits = Buffer::new();
@@ -130,7 +130,7 @@ fn write_numbered_twice<K: Sink>(
 // Writes the line of a refusal.
 pub(crate) fn write_refusal<K: Sink>(refusal: Refusal, sink: &mut K) -> Result<(), WriteFault>
     requires { CanCount (K.fault_count sink.old) }
-    ensures { Writes K.taken K.flush_mark K.fault_count sink.old sink.new result (refusal_line refusal) }
+    ensures { Writes K.Sink sink.old sink.new result (refusal_line refusal) }
 {
     match refusal {
         Refusal::Dump { line, fault } => write_numbered(b"no ", dump_fault_name(fault), line, sink),

@@ -22,7 +22,7 @@ pub fn replay_texts<K: Sink>(
     sink: &mut K,
 ) -> Result<bool, RunFault>
     requires { CanCount (K.fault_count sink.old) }
-    ensures told { Tells K.taken K.flushes (ReplayAnswers widest dump.now journal.now) sink.old sink.new result }
+    ensures told { Tells K.Sink (ReplayAnswers widest dump.now journal.now) sink.old sink.new result }
     ensures memory { IfErr result (IsWantOnlyIf (IsFromLine 2 (dump_fault widest dump.now))) }
     ensures faults { K.fault_count sink.new ≡ K.fault_count sink.old + sink_faults result }
 {
@@ -42,7 +42,7 @@ pub fn rewind_texts<K: Sink>(
     sink: &mut K,
 ) -> Result<bool, RunFault>
     requires { CanCount (K.fault_count sink.old) }
-    ensures told { Tells K.taken K.flushes (RewindAnswers widest dump.now journal.now) sink.old sink.new result }
+    ensures told { Tells K.Sink (RewindAnswers widest dump.now journal.now) sink.old sink.new result }
     ensures memory { IfErr result (IsWantOnlyIf (IsFromLine 2 (dump_fault widest dump.now))) }
     ensures faults { K.fault_count sink.new ≡ K.fault_count sink.old + sink_faults result }
 {

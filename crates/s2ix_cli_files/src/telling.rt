@@ -13,7 +13,7 @@ use s2ix_text_write::write_dump;
 // Writes how many pairs and copies a bag holds.
 pub(crate) fn write_counts<K: Sink>(bag: &Bag, sink: &mut K) -> Result<(), WriteFault>
     requires { CanCount (K.fault_count sink.old) }
-    ensures { Writes K.taken K.flush_mark K.fault_count sink.old sink.new result (counts_line bag.now) }
+    ensures { Writes K.Sink sink.old sink.new result (counts_line bag.now) }
 {
     let mut pairs = Buffer::new();
     let mut copies = Buffer::new();
@@ -32,7 +32,7 @@ pub(crate) fn write_counts<K: Sink>(bag: &Bag, sink: &mut K) -> Result<(), Write
 // Tells why texts do not come to a bag: the line of what is refused in them goes out, and the sink is flushed.
 pub(crate) fn tell_refusal<K: Sink>(error: TextsError, sink: &mut K) -> Result<bool, RunFault>
     requires { CanCount (K.fault_count sink.old) }
-    ensures told { Tells K.taken K.flushes (IsRefusalAnswer error) sink.old sink.new result }
+    ensures told { Tells K.Sink (IsRefusalAnswer error) sink.old sink.new result }
     ensures memory { IfErr result (IsWantOnlyIf (error ≡ TextsError.OutOfMemory)) }
     ensures faults { K.fault_count sink.new ≡ K.fault_count sink.old + sink_faults result }
 {
@@ -52,7 +52,7 @@ pub(crate) fn tell_dump<K: Sink>(
     sink: &mut K,
 ) -> Result<bool, RunFault>
     requires { CanCount (K.fault_count sink.old) }
-    ensures told { Tells K.taken K.flushes (IsDumpAnswer outcome) sink.old sink.new result }
+    ensures told { Tells K.Sink (IsDumpAnswer outcome) sink.old sink.new result }
     ensures memory { IfErr result (IsWantOnlyIf (outcome ≡ Err TextsError.OutOfMemory)) }
     ensures faults { K.fault_count sink.new ≡ K.fault_count sink.old + sink_faults result }
 {

@@ -18,7 +18,8 @@ returns-in_err-tell_refusal-in-Err-clause-told g c =
     let exit = c.from_residual-in_err-tell_refusal-in-Err in
     let p = err_from_is_err_and exit.result exit.ensures.1 in
     let as_answer = refusal_answer no_text (DumpReads c.args.limits c.args.text.now) c.in-Err.error c.in-Err.ensures.refused in
-    rw (p.1, p.2) (told_as g.K.Sink.taken g.K.Sink.flushes (IsRefusalAnswer c.in-Err.error) (LoadAnswers c.args.limits c.args.text.now) c.args.sink.now c.tell_refusal.new.sink (Err c.in_err-tell_refusal-in-Err.field-0.0) as_answer c.in_err-tell_refusal-in-Err.ensures.told)
+    rw (p.1, p.2) (told_as g.K.Sink (IsRefusalAnswer c.in-Err.error) (LoadAnswers c.args.limits c.args.text.now) c.args.sink.now
+    c.tell_refusal.new.sink (Err c.in_err-tell_refusal-in-Err.field-0.0) as_answer c.in_err-tell_refusal-in-Err.ensures.told)
 
 pub returns-in_ok-store-in-Ok-clause-told : goal.returns-in_ok-store-in-Ok-clause-told
 returns-in_ok-store-in-Ok-clause-told g c =
@@ -27,5 +28,8 @@ returns-in_ok-store-in-Ok-clause-told g c =
 pub returns-in_ok-tell_refusal-in-Err-clause-told : goal.returns-in_ok-tell_refusal-in-Err-clause-told
 returns-in_ok-tell_refusal-in-Err-clause-told g c =
     let as_answer = refusal_answer no_text (DumpReads c.args.limits c.args.text.now) c.in-Err.error c.in-Err.ensures.refused in
-    let told = told_refused g.K.Sink.taken g.K.Sink.flushes c.in-Err.error c.args.sink.now c.tell_refusal.new.sink c.in_ok-tell_refusal-in-Err.field-0 c.in_ok-tell_refusal-in-Err.ensures.told in
-    told_as g.K.Sink.taken g.K.Sink.flushes (IsRefusalAnswer c.in-Err.error) (LoadAnswers c.args.limits c.args.text.now) c.args.sink.now c.tell_refusal.new.sink (Ok false) as_answer told
+    let told =
+        told_refused g.K.Sink c.in-Err.error c.args.sink.now c.tell_refusal.new.sink c.in_ok-tell_refusal-in-Err.field-0
+        c.in_ok-tell_refusal-in-Err.ensures.told in
+    told_as g.K.Sink (IsRefusalAnswer c.in-Err.error) (LoadAnswers c.args.limits c.args.text.now) c.args.sink.now c.tell_refusal.new.sink
+    (Ok false) as_answer told

@@ -8,17 +8,21 @@ use Rattle.s2ix_cli_files.proofs.reads.texts_rewound.Goals as goal
 pub returns-in_err-changes-clause-refused : goal.returns-in_err-changes-clause-refused
 returns-in_err-changes-clause-refused c =
     let p = err_from_is_err_and c.from_residual-in_err-changes.result c.from_residual-in_err-changes.ensures.1 in
-    rw (p.1, p.2) (refused_journal RewindLeads c.args.limits c.args.dump.now c.args.journal.now c.in_ok-bag.bag c.in_err-changes.field-0.0 c.in_ok-bag.ensures.bag c.in_err-changes.ensures.refused)
+    rw (p.1, p.2) (refused_journal RewindLeads c.args.limits c.args.dump.now c.args.journal.now c.in_ok-bag.bag c.in_err-changes.field-0.0
+    c.in_ok-bag.ensures.bag c.in_err-changes.ensures.refused)
 
 pub returns-in_err-rewind-clause-refused : goal.returns-in_err-rewind-clause-refused
 returns-in_err-rewind-clause-refused c =
     let p = err_from_is_err_and c.from_residual-in_err-rewind.result c.from_residual-in_err-rewind.ensures.1 in
     let changes = c.as_slice.result.now in
     let read = read_as_slice c.args.limits c.args.journal.now _ changes c.as_slice.ensures.value c.in_ok-changes.ensures.changes in
-    rw (p.1, p.2) (refused_leading RewindLeads c.args.limits c.args.dump.now c.args.journal.now c.in_ok-bag.bag changes (rewind_refusal c.in_ok-bag.bag changes) c.in_err-rewind.field-0.0 (λ refusal is. is) c.in_ok-bag.ensures.bag read c.in_err-rewind.ensures.refused)
+    rw (p.1, p.2) (refused_leading RewindLeads c.args.limits c.args.dump.now c.args.journal.now c.in_ok-bag.bag changes
+    (rewind_refusal c.in_ok-bag.bag changes) c.in_err-rewind.field-0.0 (λ refusal is. is) c.in_ok-bag.ensures.bag read
+    c.in_err-rewind.ensures.refused)
 
 pub returns-clause-bag : goal.returns-clause-bag
 returns-clause-bag c =
     let changes = c.as_slice.result.now in
     let read = read_as_slice c.args.limits c.args.journal.now _ changes c.as_slice.ensures.value c.in_ok-changes.ensures.changes in
-    texts_lead RewindLeads c.args.limits c.args.dump.now c.args.journal.now c.in_ok-bag.bag changes _ c.in_ok-bag.ensures.bag read (c.in_ok-rewind.ensures.accepted, c.in_ok-rewind.ensures.bag)
+    texts_lead RewindLeads c.args.limits c.args.dump.now c.args.journal.now c.in_ok-bag.bag changes _ c.in_ok-bag.ensures.bag read
+    (c.in_ok-rewind.ensures.accepted, c.in_ok-rewind.ensures.bag)

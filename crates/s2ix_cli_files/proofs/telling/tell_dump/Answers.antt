@@ -9,17 +9,19 @@ pub returns-in_err-write_dump-in-Ok-clause-told : goal.returns-in_err-write_dump
 returns-in_err-write_dump-in-Ok-clause-told g c =
     let p = err_from_is_err_and c.from_residual.result c.from_residual.ensures.1 in
     let so = dumped_so c.args.outcome c.in-Ok.bag c.in-Ok.is in
-    rw (p.1, p.2) (told_front g.K.Sink.flushes (IsDumpAnswer c.args.outcome) true so c.in_err-write_dump-in-Ok.ensures)
+    rw (p.1, p.2) (told_front g.K.Sink (IsDumpAnswer c.args.outcome) true so c.in_err-write_dump-in-Ok.ensures)
 
 pub returns-in_err-flush-in-Ok-clause-told : goal.returns-in_err-flush-in-Ok-clause-told
 returns-in_err-flush-in-Ok-clause-told g c =
     let exit = c.from_residual-in_err-flush-in-Ok in
     let p = err_from_is_err_and exit.result exit.ensures.1 in
     let so = dumped_so c.args.outcome c.in-Ok.bag c.in-Ok.is in
-    rw (p.1, p.2) (told_unflushed g.K.Sink.flushes (IsDumpAnswer c.args.outcome) true so c.in_ok-write_dump-in-Ok.ensures c.in_err-flush-in-Ok.ensures.bytes)
+    rw (p.1, p.2) (told_unflushed g.K.Sink (IsDumpAnswer c.args.outcome) true so c.in_ok-write_dump-in-Ok.ensures
+    c.in_err-flush-in-Ok.ensures.bytes)
 
 pub returns-in_ok-flush-in-Ok-clause-told : goal.returns-in_ok-flush-in-Ok-clause-told
 returns-in_ok-flush-in-Ok-clause-told g c =
     let so = dumped_so c.args.outcome c.in-Ok.bag c.in-Ok.is in
     let flush = c.in_ok-flush-in-Ok.ensures in
-    told_whole g.K.Sink.flushes (IsDumpAnswer c.args.outcome) true (some_dump c.in-Ok.bag) so c.in_ok-write_dump-in-Ok.ensures flush.call flush.bytes
+    told_whole g.K.Sink (IsDumpAnswer c.args.outcome) true (some_dump c.in-Ok.bag) so c.in_ok-write_dump-in-Ok.ensures flush.call
+    flush.bytes

@@ -9,17 +9,19 @@ pub returns-in_err-write_refusal-in-Refused-clause-told :
 returns-in_err-write_refusal-in-Refused-clause-told g c =
     let p = err_from_is_err_and c.from_residual.result c.from_residual.ensures.1 in
     let so = refused_so c.args.error c.in-Refused.refusal c.in-Refused.is in
-    rw (p.1, p.2) (told_front g.K.Sink.flushes (IsRefusalAnswer c.args.error) false so c.in_err-write_refusal-in-Refused.ensures)
+    rw (p.1, p.2) (told_front g.K.Sink (IsRefusalAnswer c.args.error) false so c.in_err-write_refusal-in-Refused.ensures)
 
 pub returns-in_err-flush-in-Refused-clause-told : goal.returns-in_err-flush-in-Refused-clause-told
 returns-in_err-flush-in-Refused-clause-told g c =
     let exit = c.from_residual-in_err-flush-in-Refused in
     let p = err_from_is_err_and exit.result exit.ensures.1 in
     let so = refused_so c.args.error c.in-Refused.refusal c.in-Refused.is in
-    rw (p.1, p.2) (told_unflushed g.K.Sink.flushes (IsRefusalAnswer c.args.error) false so c.in_ok-write_refusal-in-Refused.ensures c.in_err-flush-in-Refused.ensures.bytes)
+    rw (p.1, p.2) (told_unflushed g.K.Sink (IsRefusalAnswer c.args.error) false so c.in_ok-write_refusal-in-Refused.ensures
+    c.in_err-flush-in-Refused.ensures.bytes)
 
 pub returns-in_ok-flush-in-Refused-clause-told : goal.returns-in_ok-flush-in-Refused-clause-told
 returns-in_ok-flush-in-Refused-clause-told g c =
     let so = refused_so c.args.error c.in-Refused.refusal c.in-Refused.is in
     let flush = c.in_ok-flush-in-Refused.ensures in
-    told_whole g.K.Sink.flushes (IsRefusalAnswer c.args.error) false (some_refusal c.in-Refused.refusal) so c.in_ok-write_refusal-in-Refused.ensures flush.call flush.bytes
+    told_whole g.K.Sink (IsRefusalAnswer c.args.error) false (some_refusal c.in-Refused.refusal) so c.in_ok-write_refusal-in-Refused.ensures
+    flush.call flush.bytes
