@@ -25,7 +25,8 @@ keeps_one : (stop : Bool) (s : State) (line : List ℕ) → stop && (step_of s l
 keeps_one stop s line on = λ e. rw (ap (λ b. b && (step_of s line).is_refused) (sym e) ∙ on) refl
 
 -- of the lines that end in a piece some are done; of the next one `front` has come, and the rest of the piece is left
-pub record Among (stop : Bool) (front piece rest : List ℕ) (old now : State) (held : Option (List ℕ)) (before behind : Option (List ℕ)) (start told : RunEnd) : Type 0 where
+pub record Among (stop : Bool) (front piece rest : List ℕ) (old now : State) (held : Option (List ℕ)) (before behind : Option (List ℕ))
+    (start told : RunEnd) : Type 0 where
   pub done : List (List ℕ)
   pub come : List ℕ
   pub is_held : held ≡ kept_of come
@@ -47,70 +48,95 @@ Among-none stop front piece s held out told is =
       reached = record { keeps_on = λ e. refl; stands = StandsAfter-none stop s out; counts = CountsMore-none s told };
     }
 
--- one line
-Takes-stands : (stop : Bool) (line : List ℕ) (s new : State) (before behind : Option (List ℕ)) (outcome : LineOutcome)
-    → Takes (step_of s line) new before behind outcome → StandsAfter (line ∷ []) (over stop s new before behind)
-Takes-stands stop line s new before behind outcome taken = record { store = taken.store; output = subst (Appends before behind) (sym (append-nil (step_of s line).answer)) taken.output }
+-- the rest of a piece is cut at its first line feed
+pub record IsCut (rest end behind_it : List ℕ) : Type 0 where
+  pub is : rest ≡ end ++ 10 ∷ behind_it
+  pub none : HasNoFeed end
 
-with_one : (s : State) (line : List ℕ) (told more : RunEnd) (new : State) (before behind : Option (List ℕ)) (outcome : LineOutcome)
-    → Takes (step_of s line) new before behind outcome
-    → more.lines ≡ min (told.lines + (if is_counted outcome then 1 else 0)) MOST
-    → more.refused ≡ min (told.refused + (if is_refused outcome then 1 else 0)) MOST
-    → CountsMore (line ∷ []) s told more
-with_one s line told more new before behind outcome taken lines refused =
+-- a line was carried out, and `more` counts it beside `told`
+pub record CarriesOne (line : List ℕ) (s new : State) (before behind : Option (List ℕ)) (told more : RunEnd) (outcome : LineOutcome) : Type
+    0 where
+  pub takes : Takes (step_of s line) new before behind outcome
+  pub lines : more.lines ≡ min (told.lines + (if is_counted outcome then 1 else 0)) MOST
+  pub refused : more.refused ≡ min (told.refused + (if is_refused outcome then 1 else 0)) MOST
+
+-- one line
+one_stands : (stop : Bool) (line : List ℕ) (s new : State) (before behind : Option (List ℕ)) (told more : RunEnd) (outcome : LineOutcome)
+    → CarriesOne line s new before behind told more outcome → StandsAfter (line ∷ []) (over stop s new before behind)
+one_stands stop line s new before behind told more outcome one =
+    record { store = one.takes.store; output = subst (Appends before behind) (sym (append-nil (step_of s line).answer)) one.takes.output }
+
+one_counts : (line : List ℕ) (s new : State) (before behind : Option (List ℕ)) (told more : RunEnd) (outcome : LineOutcome)
+    → CarriesOne line s new before behind told more outcome → CountsMore (line ∷ []) s told more
+one_counts line s new before behind told more outcome one =
     record {
-      lines = λ n e. counted_one n told.lines more.lines _ e lines ∙ ap (λ k. min (n + k) MOST) (ap (λ b. if b then 1 else 0) taken.counted ∙ sym (plus_none _));
-      refused = λ n e. counted_one n told.refused more.refused _ e refused ∙ ap (λ k. min (n + k) MOST) (ap (λ b. if b then 1 else 0) taken.refused ∙ sym (plus_none _));
+      lines = λ n e.
+          counted_one n told.lines more.lines _ e one.lines
+          ∙ ap (λ k. min (n + k) MOST) (ap (λ b. if b then 1 else 0) one.takes.counted ∙ sym (plus_none _));
+      refused = λ n e.
+          counted_one n told.refused more.refused _ e one.refused
+          ∙ ap (λ k. min (n + k) MOST) (ap (λ b. if b then 1 else 0) one.takes.refused ∙ sym (plus_none _));
     }
 
+-- the lines that end in a piece, of which some are done: the next one, and those behind it
+ended_next : {stop : Bool} {front piece rest end behind_it : List ℕ} {old now : State} {held before mid : Option (List ℕ)}
+    {start told : RunEnd}
+    (a : Among stop front piece rest old now held before mid start told) → IsCut rest end behind_it
+    → ended_behind front piece ≡ a.done ++ (a.come ++ end) ∷ ended_behind [] behind_it
+ended_next {end = end} {behind_it = behind_it} a cut =
+    a.ended ∙ ap (λ l. a.done ++ l) (ap (ended_behind a.come) cut.is ∙ ended_behind-line a.come end behind_it cut.none)
+
 -- the loop goes on behind a line
-pub Among-on : (stop : Bool) (front piece rest end behind_it : List ℕ) (old now new : State) (held : Option (List ℕ)) (before mid behind : Option (List ℕ)) (start told more : RunEnd) (outcome : LineOutcome)
-    → (a : Among stop front piece rest old now held before mid start told) → rest ≡ end ++ 10 ∷ behind_it → HasNoFeed end
-    → Takes (step_of now (a.come ++ end)) new mid behind outcome
-    → more.lines ≡ min (told.lines + (if is_counted outcome then 1 else 0)) MOST
-    → more.refused ≡ min (told.refused + (if is_refused outcome then 1 else 0)) MOST
+pub Among-on : (stop : Bool) (front piece rest end behind_it : List ℕ) (old now new : State) (held : Option (List ℕ))
+    (before mid behind : Option (List ℕ)) (start told more : RunEnd) (outcome : LineOutcome)
+    → (a : Among stop front piece rest old now held before mid start told) → IsCut rest end behind_it
+    → CarriesOne (a.come ++ end) now new mid behind told more outcome
     → stop && is_refused outcome ≡ false → (held' : Option (List ℕ)) → held' ≡ kept_of []
     → Among stop front piece behind_it old new held' before behind start more
-Among-on stop front piece rest end behind_it old now new held before mid behind start told more outcome a cut none taken lines refused on held' is =
+Among-on stop front piece rest end behind_it old now new held before mid behind start told more outcome a cut one on held' is =
     let line = a.come ++ end in
-    let one : Reached (line ∷ []) (over stop now new mid behind) told more =
+    let reached : Reached (line ∷ []) (over stop now new mid behind) told more =
     record {
-      keeps_on = keeps_one stop now line (ap (λ b. stop && b) (sym taken.refused) ∙ on);
-      stands = Takes-stands stop line now new mid behind outcome taken;
-      counts = with_one now line told more new mid behind outcome taken lines refused;
+      keeps_on = keeps_one stop now line (ap (λ b. stop && b) (sym one.takes.refused) ∙ on);
+      stands = one_stands stop line now new mid behind told more outcome one;
+      counts = one_counts line now new mid behind told more outcome one;
     } in
     record {
       done = a.done ++ line ∷ [];
       come = [];
       is_held = is;
-      ended = a.ended ∙ ap (λ l. a.done ++ l) (ap (ended_behind a.come) cut ∙ ended_behind-line a.come end behind_it none) ∙ sym (append_assoc a.done (line ∷ []) (ended_behind [] behind_it));
-      unended = a.unended ∙ ap (unended_behind a.come) cut ∙ unended_behind-line a.come end behind_it none;
-      reached = Reached-append stop a.done (line ∷ []) old now new before mid behind start told more a.reached one;
+      ended = ended_next a cut ∙ sym (append_assoc a.done (line ∷ []) (ended_behind [] behind_it));
+      unended = a.unended ∙ ap (unended_behind a.come) cut.is ∙ unended_behind-line a.come end behind_it cut.none;
+      reached = Reached-append stop a.done (line ∷ []) old now new before mid behind start told more a.reached reached;
     }
 
 -- a line that is refused ends the run
-pub Among-stopped : (stop : Bool) (front piece rest end behind_it : List ℕ) (old now new : State) (held : Option (List ℕ)) (before mid behind : Option (List ℕ)) (start told more : RunEnd) (outcome : LineOutcome)
-    → (a : Among stop front piece rest old now held before mid start told) → rest ≡ end ++ 10 ∷ behind_it → HasNoFeed end
-    → Takes (step_of now (a.come ++ end)) new mid behind outcome
-    → more.lines ≡ min (told.lines + (if is_counted outcome then 1 else 0)) MOST
-    → more.refused ≡ min (told.refused + (if is_refused outcome then 1 else 0)) MOST
+pub Among-stopped : (stop : Bool) (front piece rest end behind_it : List ℕ) (old now new : State) (held : Option (List ℕ))
+    (before mid behind : Option (List ℕ)) (start told more : RunEnd) (outcome : LineOutcome)
+    → (a : Among stop front piece rest old now held before mid start told) → IsCut rest end behind_it
+    → CarriesOne (a.come ++ end) now new mid behind told more outcome
     → stop ≡ true → is_refused outcome ≡ true → Stopped (ended_behind front piece) (over stop old new before behind) start more
-Among-stopped stop front piece rest end behind_it old now new held before mid behind start told more outcome a cut none taken lines refused stops is =
+Among-stopped stop front piece rest end behind_it old now new held before mid behind start told more outcome a cut one stops is =
     let line = a.come ++ end in
     record {
       done = a.done;
       line = line;
       rest = ended_behind [] behind_it;
-      are = a.ended ∙ ap (λ l. a.done ++ l) (ap (ended_behind a.come) cut ∙ ended_behind-line a.come end behind_it none);
+      are = ended_next a cut;
       keeps_on = a.reached.keeps_on;
       stops = stops;
-      refused = ap (λ s. (step_of s line).is_refused) (sym a.reached.stands.store) ∙ sym taken.refused ∙ is;
-      stands = StandsAfter-append stop a.done (line ∷ []) old now new before mid behind a.reached.stands (Takes-stands stop line now new mid behind outcome taken);
-      counts = CountsMore-append a.done (line ∷ []) old now start told more a.reached.stands.store a.reached.counts (with_one now line told more new mid behind outcome taken lines refused);
+      refused = ap (λ s. (step_of s line).is_refused) (sym a.reached.stands.store) ∙ sym one.takes.refused ∙ is;
+      stands =
+          StandsAfter-append stop a.done (line ∷ []) old now new before mid behind a.reached.stands
+          (one_stands stop line now new mid behind told more outcome one);
+      counts =
+          CountsMore-append a.done (line ∷ []) old now start told more a.reached.stands.store a.reached.counts
+          (one_counts line now new mid behind told more outcome one);
     }
 
 -- a fault ends a line of some
-FaultAmong-line : (fault : RunFault) (stop : Bool) (lines done rest : List (List ℕ)) (line : List ℕ) (old now new : State) (before mid behind : Option (List ℕ))
+FaultAmong-line : (fault : RunFault) (stop : Bool) (lines done rest : List (List ℕ)) (line : List ℕ) (old now new : State)
+    (before mid behind : Option (List ℕ))
     → lines ≡ done ++ line ∷ rest
     → KeepsOn stop old done → StandsAfter done (over stop old now before mid) → StopsAt (step_of now line) now new mid behind fault
     → IsWantOnlyIf (LineWants now line) fault
@@ -140,22 +166,25 @@ FaultAmong-line Write stop lines done rest line old now new before mid behind ar
       cut = subst (λ s. AppendsFront mid behind (step_of s line).answer) stands.store at.1;
     }
 
-pub Among-fault : (fault : RunFault) (stop : Bool) (front piece rest end behind_it : List ℕ) (old now new : State) (held : Option (List ℕ)) (before mid behind : Option (List ℕ)) (start told : RunEnd)
-    → (a : Among stop front piece rest old now held before mid start told) → rest ≡ end ++ 10 ∷ behind_it → HasNoFeed end
+pub Among-fault : (fault : RunFault) (stop : Bool) (front piece rest end behind_it : List ℕ) (old now new : State) (held : Option (List ℕ))
+    (before mid behind : Option (List ℕ)) (start told : RunEnd)
+    → (a : Among stop front piece rest old now held before mid start told) → IsCut rest end behind_it
     → StopsAt (step_of now (a.come ++ end)) now new mid behind fault
     → IsWantOnlyIf (LineWants now (a.come ++ end)) fault → FaultAmong fault (ended_behind front piece) (over stop old new before behind)
-Among-fault fault stop front piece rest end behind_it old now new held before mid behind start told a cut none at wants =
+Among-fault fault stop front piece rest end behind_it old now new held before mid behind start told a cut at wants =
     FaultAmong-line fault stop (ended_behind front piece) a.done (ended_behind [] behind_it) (a.come ++ end) old now new before mid behind
-    (a.ended ∙ ap (λ l. a.done ++ l) (ap (ended_behind a.come) cut ∙ ended_behind-line a.come end behind_it none))
-    a.reached.keeps_on a.reached.stands at wants
+    (ended_next a cut) a.reached.keeps_on a.reached.stands at wants
 
 -- no line ends in the rest, which is held
-pub Among-end : (stop : Bool) (front piece rest : List ℕ) (old now : State) (held held' : Option (List ℕ)) (before behind : Option (List ℕ)) (start told : RunEnd)
+pub Among-end : (stop : Bool) (front piece rest : List ℕ) (old now : State) (held held' : Option (List ℕ)) (before behind : Option (List ℕ))
+    (start told : RunEnd)
     → Among stop front piece rest old now held before behind start told → HasNoFeed rest → held' ≡ held_more held rest
     → Reached (ended_behind front piece) (over stop old now before behind) start told × (held' ≡ kept_of (unended_behind front piece))
 Among-end stop front piece rest old now held held' before behind start told a none is = (
-  subst (λ l. Reached l (over stop old now before behind) start told) (sym (a.ended ∙ ap (λ l. a.done ++ l) (ended_behind-none a.come rest none) ∙ append-nil a.done)) a.reached,
-  is ∙ ap (λ h. held_more h rest) a.is_held ∙ held_more-of a.come rest ∙ ap kept_of (sym (a.unended ∙ unended_behind-none a.come rest none)),
+  subst (λ l. Reached l (over stop old now before behind) start told)
+    (sym (a.ended ∙ ap (λ l. a.done ++ l) (ended_behind-none a.come rest none) ∙ append-nil a.done)) a.reached,
+  is ∙ ap (λ h. held_more h rest) a.is_held ∙ held_more-of a.come rest
+    ∙ ap kept_of (sym (a.unended ∙ unended_behind-none a.come rest none)),
 )
 
 -- ---- the last line
@@ -170,5 +199,7 @@ pub CarriesLast-fault : (fault : RunFault) (stop : Bool) (front : List ℕ) (s n
     → StopsAt (step_of s (front ++ [])) s new before behind fault → IsWantOnlyIf (LineWants s (front ++ [])) fault
     → FaultAmong fault (line_left front) (over stop s new before behind)
 CarriesLast-fault fault stop front s new before behind some at wants =
-    FaultAmong-line fault stop (line_left front) [] [] front s s new before before behind (last_is front some) (λ e. refl) (StandsAfter-none stop s before)
-    (subst (λ l. StopsAt (step_of s l) s new before behind fault) (append-nil front) at) (subst (λ l. IsWantOnlyIf (LineWants s l) fault) (append-nil front) wants)
+    FaultAmong-line fault stop (line_left front) [] [] front s s new before before behind (last_is front some) (λ e. refl)
+    (StandsAfter-none stop s before)
+    (subst (λ l. StopsAt (step_of s l) s new before behind fault) (append-nil front) at)
+    (subst (λ l. IsWantOnlyIf (LineWants s l) fault) (append-nil front) wants)

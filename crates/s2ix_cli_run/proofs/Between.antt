@@ -35,7 +35,8 @@ either_way true lines = refl
 either_way false lines = refl
 
 -- lines that are carried out to the end of a run
-Finishes-of : (stop : Bool) (input : List ℕ) (carried : List (List ℕ)) (old new : State) (before behind flushed : Option (List ℕ)) (more : RunEnd)
+Finishes-of : (stop : Bool) (input : List ℕ) (carried : List (List ℕ)) (old new : State) (before behind flushed : Option (List ℕ))
+    (more : RunEnd)
     → carried_lines stop old (script_lines input) ≡ carried
     → StandsAfter carried (over stop old new before behind) → CountsMore carried old none_told more → Keeps behind flushed
     → Finishes input (over stop old new before flushed) more
@@ -43,10 +44,15 @@ Finishes-of stop input carried old new before behind flushed more is stands coun
     record {
       stands = record {
         store = stands.store ∙ ap (after old) (sym is);
-        output = subst (λ l. Appends before flushed (output_of old l)) (sym is) (Appends-kept before behind flushed (output_of old carried) stands.output kept);
+        output =
+            subst (λ l. Appends before flushed (output_of old l)) (sym is)
+            (Appends-kept before behind flushed (output_of old carried) stands.output kept);
       };
-      lines = counts.lines 0 refl ∙ ap (λ n. min n MOST) (none_more (counted_in old carried)) ∙ ap (λ l. min (counted_in old l) MOST) (sym is);
-      refused = counts.refused 0 refl ∙ ap (λ n. min n MOST) (none_more (refused_in old carried)) ∙ ap (λ l. min (refused_in old l) MOST) (sym is);
+      lines =
+          counts.lines 0 refl ∙ ap (λ n. min n MOST) (none_more (counted_in old carried)) ∙ ap (λ l. min (counted_in old l) MOST) (sym is);
+      refused =
+          counts.refused 0 refl ∙ ap (λ n. min n MOST) (none_more (refused_in old carried))
+          ∙ ap (λ l. min (refused_in old l) MOST) (sym is);
     }
 
 -- this was read; the lines that end in it are carried out, and what is left behind them is held
@@ -60,7 +66,14 @@ Reached-kept : (stop : Bool) (lines : List (List ℕ)) (old new : State) (before
     → Reached lines (over stop old new before between) told more → Keeps between behind
     → Reached lines (over stop old new before behind) told more
 Reached-kept stop lines old new before between behind told more r kept =
-    record { keeps_on = r.keeps_on; stands = record { store = r.stands.store; output = Appends-kept before between behind (output_of old lines) r.stands.output kept }; counts = r.counts }
+    record {
+      keeps_on = r.keeps_on;
+      stands = record {
+        store = r.stands.store;
+        output = Appends-kept before between behind (output_of old lines) r.stands.output kept;
+      };
+      counts = r.counts;
+    }
 
 ended-more : (input piece : List ℕ) → ended_lines (input ++ piece) ≡ ended_lines input ++ ended_behind (unended_behind [] input) piece
 ended-more input piece = ended_behind-append [] input piece
@@ -71,7 +84,9 @@ pub Between-last : (left mid left' held : Option (List ℕ)) (run : Run) (told :
 Between-last left mid left' held run told piece b consumed none =
     record {
       input = b.input;
-      consumed = subst (Consumes left left') (ap (λ l. b.input ++ l) none ∙ append-nil b.input) (Consumes-trans left mid left' b.input piece b.consumed consumed);
+      consumed =
+          subst (Consumes left left') (ap (λ l. b.input ++ l) none ∙ append-nil b.input)
+          (Consumes-trans left mid left' b.input piece b.consumed consumed);
       is_held = b.is_held;
       reached = b.reached;
     }
@@ -117,9 +132,11 @@ carried_cut : (stop : Bool) (old mid : State) (lines done more done' rest : List
     → carried_lines stop old lines ≡ (done ++ done') ++ line ∷ drop 1 (carried_lines stop (after old (done ++ done')) (line ∷ rest))
 carried_cut stop old mid lines done more done' rest line is are on stands on' =
     ap (carried_lines stop old) (is ∙ ap (λ l. done ++ l) are ∙ sym (append_assoc done done' (line ∷ rest)))
-    ∙ carried_lines-append stop old (done ++ done') (line ∷ rest) (KeepsOn-append stop old done done' on (subst (λ s. KeepsOn stop s done') stands on'))
+    ∙ carried_lines-append stop old (done ++ done') (line ∷ rest)
+    (KeepsOn-append stop old done done' on (subst (λ s. KeepsOn stop s done') stands on'))
 
-pub FaultAmong-ran : (fault : RunFault) (end : SourceEnd) (stop : Bool) (input : List ℕ) (lines done more : List (List ℕ)) (old mid new : State) (before between behind : Option (List ℕ)) (told : RunEnd)
+pub FaultAmong-ran : (fault : RunFault) (end : SourceEnd) (stop : Bool) (input : List ℕ) (lines done more : List (List ℕ))
+    (old mid new : State) (before between behind : Option (List ℕ)) (told : RunEnd)
     → AreRead end input lines → lines ≡ done ++ more → Reached done (over stop old mid before between) none_told told
     → FaultAmong fault more (over stop mid new between behind)
     → Ran (Err fault) end input (over stop old new before behind)
@@ -127,7 +144,8 @@ unfolding Ran
 FaultAmong-ran Read end stop input lines done more old mid new before between behind told read is a f = absurd f
 FaultAmong-ran ReaderTooLong end stop input lines done more old mid new before between behind told read is a f = absurd f
 FaultAmong-ran Write end stop input lines done more old mid new before between behind told read is a f =
-    let stands = StandsAfter-append stop done f.done old mid (after mid f.done) before between f.mid a.stands (record { store = refl; output = f.output }) in (
+    let stands = StandsAfter-append stop done f.done old mid (after mid f.done) before between f.mid a.stands
+    (record { store = refl; output = f.output }) in (
       lines,
       read,
       inl (record {
@@ -181,7 +199,8 @@ refused_last : (s : State) (done : List (List ℕ)) (line : List ℕ) → (step_
     → 0 < refused_in s (done ++ line ∷ [])
 refused_last s done line is = omega (arith, refused_in-append s done (line ∷ []), ap (λ b. (if b then 1 else 0) + 0) is)
 
-Halts-of : (stop : Bool) (lines done more : List (List ℕ)) (old mid new : State) (before between behind : Option (List ℕ)) (told told' : RunEnd)
+Halts-of : (stop : Bool) (lines done more : List (List ℕ)) (old mid new : State) (before between behind : Option (List ℕ))
+    (told told' : RunEnd)
     → lines ≡ done ++ more
     → Reached done (over stop old mid before between) none_told told → Stopped more (over stop mid new between behind) told told'
     → Halts stop lines old new before behind told'
@@ -191,15 +210,20 @@ Halts-of stop lines done more old mid new before between behind told told' is a 
     let at : after mid s.done ≡ after old full = ap (λ x. after x s.done) a.stands.store ∙ sym (after-append old done s.done) in
     let refused : (step_of (after old full) s.line).is_refused ≡ true = ap (λ x. (step_of x s.line).is_refused) (sym at) ∙ s.refused in
     let are : lines ≡ full ++ s.line ∷ s.rest = is ∙ ap (λ l. done ++ l) s.are ∙ sym (append_assoc done s.done (s.line ∷ s.rest)) in
-    let on : KeepsOn stop old full = KeepsOn-append stop old done s.done a.keeps_on (subst (λ x. KeepsOn stop x s.done) a.stands.store s.keeps_on) in
+    let on : KeepsOn stop old full =
+        KeepsOn-append stop old done s.done a.keeps_on (subst (λ x. KeepsOn stop x s.done) a.stands.store s.keeps_on) in
     record {
       carried = full ++ s.line ∷ [];
       are_carried = λ tail.
           ap (λ l. carried_lines stop old (l ++ tail)) are ∙ ap (carried_lines stop old) (append_assoc full (s.line ∷ s.rest) tail)
           ∙ carried_lines-append stop old full (s.line ∷ (s.rest ++ tail)) on
           ∙ ap (λ l. full ++ l) (carried_lines-stop stop (after old full) s.line (s.rest ++ tail) s.stops refused);
-      stands = subst (λ l. StandsAfter l (over stop old new before behind)) same (StandsAfter-append stop done (s.done ++ s.line ∷ []) old mid new before between behind a.stands s.stands);
-      counts = subst (λ l. CountsMore l old none_told told') same (CountsMore-append done (s.done ++ s.line ∷ []) old mid none_told told told' a.stands.store a.counts s.counts);
+      stands =
+          subst (λ l. StandsAfter l (over stop old new before behind)) same
+          (StandsAfter-append stop done (s.done ++ s.line ∷ []) old mid new before between behind a.stands s.stands);
+      counts =
+          subst (λ l. CountsMore l old none_told told') same
+          (CountsMore-append done (s.done ++ s.line ∷ []) old mid none_told told told' a.stands.store a.counts s.counts);
       stops = s.stops;
       refused = refused_last old full s.line refused;
       ended = subst (λ l. length (full ++ s.line ∷ []) ≤ length l) (sym are) (halted_at full s.rest s.line);
@@ -219,7 +243,8 @@ stops_at end more front piece run held told is c = subst (λ e. CarriesPiece (Ok
 
 -- ---- one piece more is read behind others
 
-module _ (left mid left' : Option (List ℕ)) (stop : Bool) (old now : State) (held before between : Option (List ℕ)) (told : RunEnd) (piece : List ℕ)
+module _ (left mid left' : Option (List ℕ)) (stop : Bool) (old now : State) (held before between : Option (List ℕ)) (told : RunEnd)
+    (piece : List ℕ)
     (b : Between left mid held (over stop old now before between) told) (consumed : Consumes mid left' piece) where
   -- a fault among its lines
   pub Between-fault : (fault : RunFault) (end : SourceEnd) (new : State) (behind : Option (List ℕ))
@@ -228,7 +253,8 @@ module _ (left mid left' : Option (List ℕ)) (stop : Bool) (old now : State) (h
   Between-fault fault end new behind f = (
     b.input ++ piece,
     Consumes-trans left mid left' b.input piece b.consumed consumed,
-    FaultAmong-ran fault end stop (b.input ++ piece) (ended_lines (b.input ++ piece)) (ended_lines b.input) (ended_behind (unended_behind [] b.input) piece) old now new before between behind told
+    FaultAmong-ran fault end stop (b.input ++ piece) (ended_lines (b.input ++ piece)) (ended_lines b.input)
+      (ended_behind (unended_behind [] b.input) piece) old now new before between behind told
         (inl refl) (ended-more b.input piece) b.reached f,
   )
 
@@ -237,7 +263,8 @@ module _ (left mid left' : Option (List ℕ)) (stop : Bool) (old now : State) (h
       → Stopped (ended_behind (unended_behind [] b.input) piece) (over stop now new between behind) told more
       → Halts stop (ended_lines (b.input ++ piece)) old new before behind more
   Between-halts new behind more s =
-      Halts-of stop (ended_lines (b.input ++ piece)) (ended_lines b.input) (ended_behind (unended_behind [] b.input) piece) old now new before between behind told more (ended-more b.input piece) b.reached s
+      Halts-of stop (ended_lines (b.input ++ piece)) (ended_lines b.input) (ended_behind (unended_behind [] b.input) piece) old now new
+      before between behind told more (ended-more b.input piece) b.reached s
 
   -- what was written is flushed behind it, or the sink fails at the flush
   module _ (behind flushed : Option (List ℕ)) (kept : Keeps behind flushed) where
@@ -251,7 +278,8 @@ module _ (left mid left' : Option (List ℕ)) (stop : Bool) (old now : State) (h
           is_held = carried.1 ∙ ap kept_of (sym (unended_behind-append [] b.input piece));
           reached = subst (λ l. Reached l (over stop old new before flushed) none_told more) (sym (ended-more b.input piece))
               (Reached-kept stop _ old new before behind flushed none_told more
-              (Reached-append stop (ended_lines b.input) (ended_behind (unended_behind [] b.input) piece) old now new before between behind none_told told more b.reached carried.0) kept);
+              (Reached-append stop (ended_lines b.input) (ended_behind (unended_behind [] b.input) piece) old now new before between behind
+              none_told told more b.reached carried.0) kept);
         }
 
     pub Between-stops : (end : SourceEnd) (new : State) (more : RunEnd)
@@ -261,7 +289,8 @@ module _ (left mid left' : Option (List ℕ)) (stop : Bool) (old now : State) (h
     Between-stops end new more s last =
         let h = Between-halts new behind more s in
         let input = b.input ++ piece in
-        let is : carried_lines stop old (script_lines input) ≡ h.carried = ap (carried_lines stop old) (script_lines-ended input) ∙ h.are_carried (line_left (unended_behind [] input)) in (
+        let is : carried_lines stop old (script_lines input) ≡ h.carried = ap (carried_lines stop old) (script_lines-ended input)
+        ∙ h.are_carried (line_left (unended_behind [] input)) in (
           input,
           Consumes-trans left mid left' b.input piece b.consumed consumed,
           (
@@ -290,26 +319,30 @@ module _ (left mid left' : Option (List ℕ)) (stop : Bool) (old now : State) (h
           (
             ended_lines b'.input,
             inl refl,
-            inr (subst (λ l. StandsAfter l (over stop old new before flushed)) (sym (carried_lines-all stop old (ended_lines b'.input) b'.reached.keeps_on)) b'.reached.stands),
+            inr (subst (λ l. StandsAfter l (over stop old new before flushed))
+            (sym (carried_lines-all stop old (ended_lines b'.input) b'.reached.keeps_on)) b'.reached.stands),
           ),
         )
     Between-flushing (Stops more) end new held' carried =
         let h = Between-halts new behind more carried in
         let input = b.input ++ piece in
-        let is : carried_lines stop old (ended_lines input) ≡ h.carried = ap (carried_lines stop old) (sym (append-nil (ended_lines input))) ∙ h.are_carried [] in (
+        let is : carried_lines stop old (ended_lines input) ≡ h.carried = ap (carried_lines stop old) (sym (append-nil (ended_lines input)))
+        ∙ h.are_carried [] in (
           input,
           Consumes-trans left mid left' b.input piece b.consumed consumed,
           (
             ended_lines input,
             inl refl,
             inr (subst (λ l. StandsAfter l (over stop old new before flushed)) (sym is)
-                (record { store = h.stands.store; output = Appends-kept before behind flushed (output_of old h.carried) h.stands.output kept })),
+                (record { store = h.stands.store; output = Appends-kept before behind flushed (output_of old h.carried) h.stands.output kept
+                })),
           ),
         )
 
 -- ---- the last line is carried out at the end of the input
 
-module _ (left left' : Option (List ℕ)) (stop : Bool) (old now : State) (held before between : Option (List ℕ)) (told : RunEnd) (b : Between left left' held (over stop old now before between) told) where
+module _ (left left' : Option (List ℕ)) (stop : Bool) (old now : State) (held before between : Option (List ℕ)) (told : RunEnd)
+    (b : Between left left' held (over stop old now before between) told) where
   -- a fault in it
   pub Between-fault_last : (fault : RunFault) (end : SourceEnd) (new : State) (behind : Option (List ℕ))
       → end.IsRead → FaultAmong fault (line_left (unended_behind [] b.input)) (over stop now new between behind)
@@ -317,17 +350,21 @@ module _ (left left' : Option (List ℕ)) (stop : Bool) (old now : State) (held 
   Between-fault_last fault end new behind read f = (
     b.input,
     b.consumed,
-    FaultAmong-ran fault end stop b.input (script_lines b.input) (ended_lines b.input) (line_left (unended_behind [] b.input)) old now new before between behind told
+    FaultAmong-ran fault end stop b.input (script_lines b.input) (ended_lines b.input) (line_left (unended_behind [] b.input)) old now new
+      before between behind told
         (inr (read, refl)) (script_lines-ended b.input) b.reached f,
   )
 
   -- what was written is flushed behind it, or the sink fails at the flush
-  module _ (new : State) (behind flushed : Option (List ℕ)) (more : RunEnd) (carried : CarriesLast (Ok more) (unended_behind [] b.input) (over stop now new between behind) told) (kept : Keeps behind flushed) where
+  module _ (new : State) (behind flushed : Option (List ℕ)) (more : RunEnd)
+      (carried : CarriesLast (Ok more) (unended_behind [] b.input) (over stop now new between behind) told) (kept : Keeps behind flushed)
+      where
     Between-finishes : Finishes b.input (over stop old new before flushed) more
     Between-finishes =
         let last = line_left (unended_behind [] b.input) in
         Finishes-of stop b.input (ended_lines b.input ++ last) old new before behind flushed more
-        (ap (carried_lines stop old) (script_lines-ended b.input) ∙ carried_lines-append stop old (ended_lines b.input) last b.reached.keeps_on
+        (ap (carried_lines stop old) (script_lines-ended b.input)
+        ∙ carried_lines-append stop old (ended_lines b.input) last b.reached.keeps_on
         ∙ ap (λ l. ended_lines b.input ++ l) (carried_last stop (after old (ended_lines b.input)) (unended_behind [] b.input)))
         (StandsAfter-append stop (ended_lines b.input) last old now new before between behind b.reached.stands carried.0)
         (CountsMore-append (ended_lines b.input) last old now none_told told more b.reached.stands.store b.reached.counts carried.1)

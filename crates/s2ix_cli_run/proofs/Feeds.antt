@@ -15,12 +15,14 @@ pub ended_behind-line : (front line rest : List ℕ) → HasNoFeed line
 ended_behind-line front [] rest none = ap (λ l. l ∷ ended_behind [] rest) (sym (append-nil front))
 ended_behind-line front (byte ∷ line) rest none =
     rw (ne_eqb byte 10 (none 0 0 (omega arith)))
-    (ended_behind-line (front ++ byte ∷ []) line rest (λ k d h. none (suc k) d (omega arith)) ∙ ap (λ l. l ∷ ended_behind [] rest) (append_assoc front (byte ∷ []) line))
+    (ended_behind-line (front ++ byte ∷ []) line rest (λ k d h. none (suc k) d (omega arith))
+    ∙ ap (λ l. l ∷ ended_behind [] rest) (append_assoc front (byte ∷ []) line))
 
 pub unended_behind-line : (front line rest : List ℕ) → HasNoFeed line → unended_behind front (line ++ 10 ∷ rest) ≡ unended_behind [] rest
 unended_behind-line front [] rest none = refl
 unended_behind-line front (byte ∷ line) rest none =
-    rw (ne_eqb byte 10 (none 0 0 (omega arith))) (unended_behind-line (front ++ byte ∷ []) line rest (λ k d h. none (suc k) d (omega arith)))
+    rw (ne_eqb byte 10 (none 0 0 (omega arith)))
+    (unended_behind-line (front ++ byte ∷ []) line rest (λ k d h. none (suc k) d (omega arith)))
 
 -- nothing ends in a text without a line feed
 pub ended_behind-none : (front text : List ℕ) → HasNoFeed text → ended_behind front text ≡ []
@@ -76,7 +78,8 @@ lines_behind : (front text : List ℕ) → ended_behind front text ++ line_left 
 lines_behind front [] = refl
 lines_behind front (byte ∷ text) =
     elim (eqb_tells byte 10) [
-      | inl w ↦ rw w.0 (ap (λ lines. front ∷ lines) (lines_behind [] text ∙ onto-nil (script_lines text)) ∙ ap (λ l. l ∷ script_lines text) (sym (append-nil front)))
+      | inl w ↦ rw w.0 (ap (λ lines. front ∷ lines) (lines_behind [] text ∙ onto-nil (script_lines text))
+      ∙ ap (λ l. l ∷ script_lines text) (sym (append-nil front)))
       | inr w ↦ rw w.0 (lines_behind (front ++ byte ∷ []) text ∙ onto-with_first front byte (script_lines text))
     ]
 

@@ -33,7 +33,8 @@ kept_of-none s line e = ap (step_at s) (meaning_of-too_long line (none_held (nat
 -- what is held once more bytes have come
 held_more_at : (is_too_long : Bool) (front bytes : List ℕ) → nat_lt LONGEST (length front) ≡ is_too_long
     → held_more (if is_too_long then None else Some front) bytes ≡ kept_of (front ++ bytes)
-held_more_at true front bytes e = rw (lt-ltb LONGEST (length (front ++ bytes)) (omega (arith, ltb-true LONGEST (length front) e, length-append front bytes))) refl
+held_more_at true front bytes e =
+    rw (lt-ltb LONGEST (length (front ++ bytes)) (omega (arith, ltb-true LONGEST (length front) e, length-append front bytes))) refl
 held_more_at false front bytes e = refl
 
 pub held_more-of : (front bytes : List ℕ) → held_more (kept_of front) bytes ≡ kept_of (front ++ bytes)
@@ -53,4 +54,5 @@ Takes-no step s name before behind is out =
 
 pub StopsAt-no : (step : Step) (s : State) (name : List ℕ) (before behind : Option (List ℕ)) → step ≡ no_step s name
     → AppendsFront before behind (no_line name) → StopsAt step s s before behind Write
-StopsAt-no step s name before behind is out = (sym (ap (λ x. x.after) is), subst (AppendsFront before behind) (sym (ap (λ x. x.answer) is)) out)
+StopsAt-no step s name before behind is out =
+    (sym (ap (λ x. x.after) is), subst (AppendsFront before behind) (sym (ap (λ x. x.answer) is)) out)

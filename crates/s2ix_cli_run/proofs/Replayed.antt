@@ -37,20 +37,23 @@ dump_printed : (s : State) (dump : List ℕ) → AsksFor dump asks.Dump → outp
 dump_printed s dump asked = ap (λ (t : Step). t.answer ++ []) (step_asked s dump asks.Dump asked) ∙ append-nil (dump_text s.bag.held)
 
 journal_printed : (s : State) (journal : List ℕ) → AsksFor journal asks.Journal → output_of s (journal ∷ []) ≡ journal_text s.done
-journal_printed s journal asked = ap (λ (t : Step). t.answer ++ []) (step_asked s journal asks.Journal asked) ∙ append-nil (journal_text s.done)
+journal_printed s journal asked =
+    ap (λ (t : Step). t.answer ++ []) (step_asked s journal asks.Journal asked) ∙ append-nil (journal_text s.done)
 
 -- the dump at the start is that of the first collection of the history in which the store then stands
 first_stays : (s : State) (lines : List (List ℕ)) → IsStore s → s.done ≡ [] → NoneForgets lines
     → slice_get (history_of (after s lines)).collections 0 ≡ Some s.bag.held
 first_stays s lines st none keep =
     let t = after s lines in
-    slice_get-get_or (history_of t).collections 0 [] (omega (arith, length_of_history t)) ∙ ap Some ((lines_stay s lines st keep).first ∙ first_is_held s none)
+    slice_get-get_or (history_of t).collections 0 [] (omega (arith, length_of_history t))
+    ∙ ap Some ((lines_stay s lines st keep).first ∙ first_is_held s none)
 
 -- what is answered to the texts that three lines print
 answers_printed : (Answers : List ℕ → List ℕ → List ℕ → Type 0) (from from' changes changes' to to' : List ℕ) → from' ≡ from
     → changes' ≡ changes → to' ≡ to → Answers from changes to → Answers from' changes' to'
 answers_printed Answers from from' changes changes' to to' from_is changes_is to_is answers =
-    subst (λ text. Answers text changes' to') (sym from_is) (subst (λ text. Answers from text to') (sym changes_is) (subst (λ text. Answers from changes text) (sym to_is) answers))
+    subst (λ text. Answers text changes' to') (sym from_is)
+    (subst (λ text. Answers from text to') (sym changes_is) (subst (λ text. Answers from changes text) (sym to_is) answers))
 
 pub journal_leads_on : JournalLeadsOn
 journal_leads_on s lines dump journal st none keep is_dump is_journal =

@@ -21,7 +21,8 @@ pub output_of-append : (s : State) (done more : List (List ℕ))
     → output_of s (done ++ more) ≡ output_of s done ++ output_of (after s done) more
 output_of-append s [] more = refl
 output_of-append s (x ∷ done) more =
-    ap (λ l. (step_of s x).answer ++ l) (output_of-append (step_of s x).after done more) ∙ sym (append_assoc (step_of s x).answer (output_of (step_of s x).after done) _)
+    ap (λ l. (step_of s x).answer ++ l) (output_of-append (step_of s x).after done more)
+    ∙ sym (append_assoc (step_of s x).answer (output_of (step_of s x).after done) _)
 
 counted_in-append : (s : State) (done more : List (List ℕ))
     → counted_in s (done ++ more) ≡ counted_in s done + counted_in (after s done) more
@@ -43,14 +44,16 @@ none_refused false n e = (refl, omega arith)
 pub carried_lines-append : (stop : Bool) (s : State) (done more : List (List ℕ)) → KeepsOn stop s done
     → carried_lines stop s (done ++ more) ≡ done ++ carried_lines stop (after s done) more
 carried_lines-append stop s [] more on = refl
-carried_lines-append false s (x ∷ done) more on = ap (λ l. x ∷ l) (carried_lines-append false (step_of s x).after done more (λ e. absurd (true≢false (sym e))))
+carried_lines-append false s (x ∷ done) more on =
+    ap (λ l. x ∷ l) (carried_lines-append false (step_of s x).after done more (λ e. absurd (true≢false (sym e))))
 carried_lines-append true s (x ∷ done) more on =
     let first = none_refused (step_of s x).is_refused (refused_in (step_of s x).after done) (on refl) in
     rw first.0 (ap (λ l. x ∷ l) (carried_lines-append true (step_of s x).after done more (λ e. first.1)))
 
 pub carried_lines-all : (stop : Bool) (s : State) (done : List (List ℕ)) → KeepsOn stop s done → carried_lines stop s done ≡ done
 carried_lines-all stop s [] on = refl
-carried_lines-all false s (x ∷ done) on = ap (λ l. x ∷ l) (carried_lines-all false (step_of s x).after done (λ e. absurd (true≢false (sym e))))
+carried_lines-all false s (x ∷ done) on =
+    ap (λ l. x ∷ l) (carried_lines-all false (step_of s x).after done (λ e. absurd (true≢false (sym e))))
 carried_lines-all true s (x ∷ done) on =
     let first = none_refused (step_of s x).is_refused (refused_in (step_of s x).after done) (on refl) in
     rw first.0 (ap (λ l. x ∷ l) (carried_lines-all true (step_of s x).after done (λ e. first.1)))
@@ -75,7 +78,9 @@ pub StandsAfter-append : (stop : Bool) (done more : List (List ℕ)) (old mid ne
 StandsAfter-append stop done more old mid new before between behind a b =
     record {
       store = b.store ∙ ap (λ s. after s more) a.store ∙ sym (after-append old done more);
-      output = subst (Appends before behind) (ap (λ s. output_of old done ++ output_of s more) a.store ∙ sym (output_of-append old done more)) (Appends-trans before between behind _ _ a.output b.output);
+      output =
+          subst (Appends before behind) (ap (λ s. output_of old done ++ output_of s more) a.store ∙ sym (output_of-append old done more))
+          (Appends-trans before between behind _ _ a.output b.output);
     }
 
 -- ---- how many lines count
@@ -84,7 +89,8 @@ pub plus_none : (n : ℕ) → n + 0 ≡ n
 plus_none n = omega arith
 
 pub CountsMore-none : (s : State) (told : RunEnd) → CountsMore [] s told told
-CountsMore-none s told = record { lines = λ n e. e ∙ ap (λ k. min k MOST) (sym (plus_none n)); refused = λ n e. e ∙ ap (λ k. min k MOST) (sym (plus_none n)) }
+CountsMore-none s told =
+    record { lines = λ n e. e ∙ ap (λ k. min k MOST) (sym (plus_none n)); refused = λ n e. e ∙ ap (λ k. min k MOST) (sym (plus_none n)) }
 
 plus_twice : (n a b : ℕ) → n + a + b ≡ n + (a + b)
 plus_twice n a b = omega arith
@@ -97,7 +103,8 @@ CountsMore-append done more old mid told told' told'' is a b =
           b.lines (n + counted_in old done) (a.lines n e) ∙ ap (λ k. min k MOST) (plus_twice n (counted_in old done) (counted_in mid more)
           ∙ ap (λ k. n + k) (ap (λ s. counted_in old done + counted_in s more) is ∙ sym (counted_in-append old done more)));
       refused = λ n e.
-          b.refused (n + refused_in old done) (a.refused n e) ∙ ap (λ k. min k MOST) (plus_twice n (refused_in old done) (refused_in mid more)
+          b.refused (n + refused_in old done) (a.refused n e)
+          ∙ ap (λ k. min k MOST) (plus_twice n (refused_in old done) (refused_in mid more)
           ∙ ap (λ k. n + k) (ap (λ s. refused_in old done + refused_in s more) is ∙ sym (refused_in-append old done more)));
     }
 
@@ -107,7 +114,8 @@ counted_one n told more one e e' = omega arith
 
 -- ---- lines and then more of which none ends the run
 
-pub Reached-append : (stop : Bool) (done more : List (List ℕ)) (old mid new : State) (before between behind : Option (List ℕ)) (told told' told'' : RunEnd)
+pub Reached-append : (stop : Bool) (done more : List (List ℕ)) (old mid new : State) (before between behind : Option (List ℕ))
+    (told told' told'' : RunEnd)
     → Reached done (over stop old mid before between) told told' → Reached more (over stop mid new between behind) told' told''
     → Reached (done ++ more) (over stop old new before behind) told told''
 Reached-append stop done more old mid new before between behind told told' told'' a b =

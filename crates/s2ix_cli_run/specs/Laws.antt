@@ -30,11 +30,13 @@ JournalLeadsOn =
     (s : State) (lines : List (List ℕ)) (dump journal : List ℕ) → IsStore s → s.done ≡ [] → NoneForgets lines
     → AsksFor dump asks.Dump → AsksFor journal asks.Journal
     → let end = after s lines in
-    ReplayAnswers widest (output_of s (dump ∷ [])) (output_of end (journal ∷ [])) (record { text = output_of end (dump ∷ []); accepted = true })
+    ReplayAnswers widest (output_of s (dump ∷ [])) (output_of end (journal ∷ []))
+    (record { text = output_of end (dump ∷ []); accepted = true })
 
 abbrev pub JournalLeadsBack : Type 0
 JournalLeadsBack =
     (s : State) (lines : List (List ℕ)) (dump journal : List ℕ) → IsStore s → s.done ≡ [] → NoneForgets lines
     → AsksFor dump asks.Dump → AsksFor journal asks.Journal
     → let end = after s lines in
-    RewindAnswers widest (output_of end (dump ∷ [])) (output_of end (journal ∷ [])) (record { text = output_of s (dump ∷ []); accepted = true })
+    RewindAnswers widest (output_of end (dump ∷ [])) (output_of end (journal ∷ []))
+    (record { text = output_of s (dump ∷ []); accepted = true })

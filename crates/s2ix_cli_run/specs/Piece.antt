@@ -73,7 +73,8 @@ FaultAmong ReaderTooLong lines run = ⊥
 
 -- the lines that end in a piece were carried out, where `front` had come of the first, and this is held of the next
 abbrev pub CarriesPiece : Result PieceEnd RunFault → List ℕ → List ℕ → Run → Option (List ℕ) → RunEnd → Type 0
-CarriesPiece (Ok (GoesOn more)) front piece run held told = Reached (ended_behind front piece) run told more × (held ≡ kept_of (unended_behind front piece))
+CarriesPiece (Ok (GoesOn more)) front piece run held told =
+    Reached (ended_behind front piece) run told more × (held ≡ kept_of (unended_behind front piece))
 CarriesPiece (Ok (Stops more)) front piece run held told = Stopped (ended_behind front piece) run told more
 CarriesPiece (Err fault) front piece run held told = FaultAmong fault (ended_behind front piece) run
 

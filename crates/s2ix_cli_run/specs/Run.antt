@@ -18,7 +18,8 @@ abbrev pub EndWasRead : {S : Type 0} → (S → Option (List ℕ)) → (S → �
 EndWasRead left gives turns old new = IsAtEnd (left new) × ReadsToEnd gives turns old new
 
 -- by fewer than `turns` pieces `front` was read, and by one more `piece`
-pub record BringsLast {S : Type 0} (left : S → Option (List ℕ)) (gives : S → ℕ → S → Type 0) (turns : ℕ) (old new : S) (front piece : List ℕ) : Type 0 where
+pub record BringsLast {S : Type 0} (left : S → Option (List ℕ)) (gives : S → ℕ → S → Type 0) (turns : ℕ) (old new : S)
+    (front piece : List ℕ) : Type 0 where
   pub mid : S
   pub pieces : ℕ
   pub within : pieces < turns
@@ -99,7 +100,8 @@ unfoldable pub Ran : Result RunEnd RunFault → SourceEnd → List ℕ → Run �
 Ran (Ok told) end input run = (end.IsRead ⊎ IsStopped end input run) × Finishes input run told
 Ran (Err Read) end input run = StopsReading input run
 Ran (Err ReaderTooLong) end input run = StopsReading input run
-Ran (Err Write) end input run = (lines : List (List ℕ)) × AreRead end input lines × (StopsWriting lines run ⊎ StandsAfter (carried run lines) run)
+Ran (Err Write) end input run =
+    (lines : List (List ℕ)) × AreRead end input lines × (StopsWriting lines run ⊎ StandsAfter (carried run lines) run)
 Ran (Err OutOfMemory) end input run = (lines : List (List ℕ)) × AreRead end input lines × WantsAmong lines run
 
 -- a flush was the last thing that the sink was asked for

@@ -35,7 +35,8 @@ refused_in s (line ∷ lines) = (if (step_of s line).is_refused then 1 else 0) +
 -- the lines that are carried out: all, or with `stop` up to and with the first that is refused
 abbrev pub carried_lines : Bool → State → List (List ℕ) → List (List ℕ)
 carried_lines stop s [] = []
-carried_lines stop s (line ∷ lines) = line ∷ (if stop && (step_of s line).is_refused then [] else carried_lines stop (step_of s line).after lines)
+carried_lines stop s (line ∷ lines) =
+    line ∷ (if stop && (step_of s line).is_refused then [] else carried_lines stop (step_of s line).after lines)
 
 -- the greatest count that a run tells
 abbrev pub MOST : ℕ

@@ -1,7 +1,7 @@
 //! The lines of a script, each carried out as soon as its line feed has come.
 ghost use Rattle.std.specs.Prelude.{◌≡◌, ◌+◌, ◌++◌, ◌∷◌, ℕ, Bool, List, [], Some, IfErr, OnOk, IfSome, IfNone};
 ghost use Rattle.s2ix_text_io.specs.Faults.{CanCount, sink_faults, IsWantOnlyIf};
-ghost use Rattle.s2ix_cli_step.specs.Carry.{Carries, is_refused as is_refused_line};
+ghost use Rattle.s2ix_cli_step.specs.Carry.{Carries, is_refused};
 ghost use Rattle.s2ix_cli_step.specs.Step.{step_of};
 ghost use Rattle.s2ix_cli_step.specs.Wants.{LineWants};
 ghost use Rattle.s2ix_cli_run.specs.Coming.{kept_of};
@@ -39,7 +39,8 @@ pub(crate) fn carry_piece<K: Sink>(
     requires { CanCount (K.fault_count sink.old) }
     ensures carries { (front : List ℕ) → held.old ≡ kept_of front
         → CarriesPiece result front piece.now
-        (record { stop = stop; store_before = store.old; store_after = store.new; taken_before = K.taken sink.old; taken_after = K.taken sink.new }) held.new told }
+        (record { stop = stop; store_before = store.old; store_after = store.new;
+            taken_before = K.taken sink.old; taken_after = K.taken sink.new }) held.new told }
     ensures faults { K.fault_count sink.new ≡ K.fault_count sink.old + sink_faults result }
 {
     let mut told = told;
@@ -67,7 +68,8 @@ pub(crate) fn carry_last<K: Sink>(
     requires { CanCount (K.fault_count sink.old) }
     ensures carries { (stop : Bool) (front : List ℕ) → held.old ≡ kept_of front
         → CarriesLast result front
-        (record { stop = stop; store_before = store.old; store_after = store.new; taken_before = K.taken sink.old; taken_after = K.taken sink.new }) told }
+        (record { stop = stop; store_before = store.old; store_after = store.new;
+            taken_before = K.taken sink.old; taken_after = K.taken sink.new }) told }
     ensures faults { K.fault_count sink.new ≡ K.fault_count sink.old + sink_faults result }
 {
     if held.is_empty() {
@@ -136,7 +138,7 @@ fn first_ended(text: &[u8]) -> Option<(&[u8], &[u8])>
 
 // Whether a line that came out so was refused.
 fn is_refused(outcome: LineOutcome) -> bool
-    ensures { result ≡ is_refused_line outcome }
+    ensures { result ≡ is_refused outcome }
 {
     matches!(outcome, LineOutcome::Refused)
 }

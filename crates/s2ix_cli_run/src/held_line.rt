@@ -1,5 +1,5 @@
 ghost use Rattle.std.specs.Prelude.{◌≡◌, ◌↔◌, ℕ, if◌then◌else◌, Some, None, List, [], IfSome, IfNone, IsTrue};
-ghost use Rattle.std.specs.declared.option.Option.{Option as OptionOf};
+ghost use Rattle.std.specs.declared.option.Option.{Option};
 ghost use Rattle.s2ix_cli_run.specs.Coming.{held_more};
 
 use arrayvec::ArrayVec;
@@ -14,7 +14,7 @@ pub(crate) struct HeldLine {
 }
 
 impl Model for HeldLine {
-    ghost Value = { OptionOf (List ℕ) };
+    ghost Value = { Option (List ℕ) };
 
     ghost view = { λ s. if s.is_too_long then None else Some s.bytes.items };
 }

@@ -7,4 +7,5 @@ use Rattle.s2ix_cli_run.proofs.coming.carry_last.Goals as goal
 pub returns-in_err-outcome-clause-carries : goal.returns-in_err-outcome-clause-carries
 returns-in_err-outcome-clause-carries g c = λ stop front is.
     let p = err_from_is_err_and c.from_residual.result c.from_residual.ensures.1 in
-    rw (p.1, p.2) (CarriesLast-fault _ stop front _ _ _ _ (λ e. true≢false (sym (c.if-is_empty.ensures.1 (is ∙ sym e)))) (c.in_err-outcome.ensures.carries front is) (c.in_err-outcome.ensures.memory front is))
+    rw (p.1, p.2) (CarriesLast-fault _ stop front _ _ _ _ (λ e. true≢false (sym (c.if-is_empty.ensures.1 (is ∙ sym e))))
+    (c.in_err-outcome.ensures.carries front is) (c.in_err-outcome.ensures.memory front is))

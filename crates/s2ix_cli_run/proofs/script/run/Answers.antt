@@ -23,19 +23,24 @@ pub returns-in_err-told-clause-ran : goal.returns-in_err-told-clause-ran
 returns-in_err-told-clause-ran g c =
     let exit = c.from_residual-in_err-told in
     let p = err_from_is_err_and exit.result exit.ensures.1 in
-    let b = Between-last _ _ _ _ _ _ _ c.pieces.invariant.0 c.in_ok-count.ensures.bytes (ap (λ n. take n c.piece.new.buf) c.if-count-eq0.true) in
+    let b =
+        Between-last _ _ _ _ _ _ _ c.pieces.invariant.0 c.in_ok-count.ensures.bytes
+        (ap (λ n. take n c.piece.new.buf) c.if-count-eq0.true) in
     let end : EndWasRead g.S.Source.left g.S.Source.gives c.args.options.turns c.args.source.now c.piece.new.self = (
       c.in_ok-count.ensures.end c.if-count-eq0.true,
-      (c.pieces._turn, omega (arith, c.pieces-test.true), c.pieces.source, c.pieces.invariant.1, subst (λ n. g.S.Source.gives c.pieces.source n c.piece.new.self) c.if-count-eq0.true c.in_ok-count.ensures.call),
+      (c.pieces._turn, omega (arith, c.pieces-test.true), c.pieces.source, c.pieces.invariant.1,
+      subst (λ n. g.S.Source.gives c.pieces.source n c.piece.new.self) c.if-count-eq0.true c.in_ok-count.ensures.call),
     ) in
-    rw (p.1, p.2) (Between-fault_last _ _ _ _ _ _ _ _ _ b _ _ _ _ end (c.in_err-told.ensures.carries c.args.options.stop (unended_behind [] b.input) b.is_held))
+    rw (p.1, p.2) (Between-fault_last _ _ _ _ _ _ _ _ _ b _ _ _ _ end
+    (c.in_err-told.ensures.carries c.args.options.stop (unended_behind [] b.input) b.is_held))
 
 pub returns-in_err-told-clause-flushed : goal.returns-in_err-told-clause-flushed
 returns-in_err-told-clause-flushed g c =
     let exit = c.from_residual-in_err-told in
     let p = err_from_is_err_and exit.result exit.ensures.1 in
     let b = c.pieces.invariant.0 in
-    rw (p.1, p.2) (FaultAmong-flushes g.K.Sink.flushes _ _ _ _ _ (c.in_err-told.ensures.carries c.args.options.stop (unended_behind [] b.input) b.is_held))
+    rw (p.1, p.2) (FaultAmong-flushes g.K.Sink.flushes _ _ _ _ _
+    (c.in_err-told.ensures.carries c.args.options.stop (unended_behind [] b.input) b.is_held))
 
 pub returns-in_err-told-clause-too_long : goal.returns-in_err-told-clause-too_long
 returns-in_err-told-clause-too_long g c =
@@ -50,27 +55,36 @@ returns-in_err-told-clause-source_faults g c =
     let p = err_from_is_err_and exit.result exit.ensures.1 in
     let b = c.pieces.invariant.0 in
     rw (p.1, p.2) (c.in_ok-count.ensures.faults ∙ ap (λ n. n + 0) c.pieces.invariant.3
-    ∙ ap (λ n. g.S.Source.fault_count c.args.source.now + n) (sym (FaultAmong-source _ _ _ (c.in_err-told.ensures.carries c.args.options.stop (unended_behind [] b.input) b.is_held))))
+    ∙ ap (λ n. g.S.Source.fault_count c.args.source.now + n)
+    (sym (FaultAmong-source _ _ _ (c.in_err-told.ensures.carries c.args.options.stop (unended_behind [] b.input) b.is_held))))
 
 pub returns-in_err-flush-clause-ran : goal.returns-in_err-flush-clause-ran
 returns-in_err-flush-clause-ran g c =
     let exit = c.from_residual-in_err-flush in
     let p = err_from_is_err_and exit.result exit.ensures.1 in
-    let b = Between-last _ _ _ _ _ _ _ c.pieces.invariant.0 c.in_ok-count.ensures.bytes (ap (λ n. take n c.piece.new.buf) c.if-count-eq0.true) in
+    let b =
+        Between-last _ _ _ _ _ _ _ c.pieces.invariant.0 c.in_ok-count.ensures.bytes
+        (ap (λ n. take n c.piece.new.buf) c.if-count-eq0.true) in
     let end : EndWasRead g.S.Source.left g.S.Source.gives c.args.options.turns c.args.source.now c.piece.new.self = (
       c.in_ok-count.ensures.end c.if-count-eq0.true,
-      (c.pieces._turn, omega (arith, c.pieces-test.true), c.pieces.source, c.pieces.invariant.1, subst (λ n. g.S.Source.gives c.pieces.source n c.piece.new.self) c.if-count-eq0.true c.in_ok-count.ensures.call),
+      (c.pieces._turn, omega (arith, c.pieces-test.true), c.pieces.source, c.pieces.invariant.1,
+      subst (λ n. g.S.Source.gives c.pieces.source n c.piece.new.self) c.if-count-eq0.true c.in_ok-count.ensures.call),
     ) in
-    rw (p.1, p.2) (Between-ends_flushing _ _ _ _ _ _ _ _ _ b _ _ _ _ (c.in_ok-told.ensures.carries c.args.options.stop (unended_behind [] b.input) b.is_held) c.in_err-flush.ensures.bytes _ end)
+    rw (p.1, p.2) (Between-ends_flushing _ _ _ _ _ _ _ _ _ b _ _ _ _
+    (c.in_ok-told.ensures.carries c.args.options.stop (unended_behind [] b.input) b.is_held) c.in_err-flush.ensures.bytes _ end)
 
 pub returns-then-count-eq0-clause-ran : goal.returns-then-count-eq0-clause-ran
 returns-then-count-eq0-clause-ran g c =
-    let b = Between-last _ _ _ _ _ _ _ c.pieces.invariant.0 c.in_ok-count.ensures.bytes (ap (λ n. take n c.piece.new.buf) c.if-count-eq0.true) in
+    let b =
+        Between-last _ _ _ _ _ _ _ c.pieces.invariant.0 c.in_ok-count.ensures.bytes
+        (ap (λ n. take n c.piece.new.buf) c.if-count-eq0.true) in
     let end : EndWasRead g.S.Source.left g.S.Source.gives c.args.options.turns c.args.source.now c.piece.new.self = (
       c.in_ok-count.ensures.end c.if-count-eq0.true,
-      (c.pieces._turn, omega (arith, c.pieces-test.true), c.pieces.source, c.pieces.invariant.1, subst (λ n. g.S.Source.gives c.pieces.source n c.piece.new.self) c.if-count-eq0.true c.in_ok-count.ensures.call),
+      (c.pieces._turn, omega (arith, c.pieces-test.true), c.pieces.source, c.pieces.invariant.1,
+      subst (λ n. g.S.Source.gives c.pieces.source n c.piece.new.self) c.if-count-eq0.true c.in_ok-count.ensures.call),
     ) in
-    Between-ends _ _ _ _ _ _ _ _ _ b _ _ _ _ (c.in_ok-told.ensures.carries c.args.options.stop (unended_behind [] b.input) b.is_held) c.in_ok-flush.ensures.bytes _ end
+    Between-ends _ _ _ _ _ _ _ _ _ b _ _ _ _ (c.in_ok-told.ensures.carries c.args.options.stop (unended_behind [] b.input) b.is_held)
+    c.in_ok-flush.ensures.bytes _ end
 
 -- ---- a piece
 
@@ -79,14 +93,16 @@ returns-in_err-end-clause-ran g c =
     let exit = c.from_residual-in_err-end in
     let p = err_from_is_err_and exit.result exit.ensures.1 in
     let b = c.pieces.invariant.0 in
-    rw (p.1, p.2) (Between-fault _ _ _ _ _ _ _ _ _ _ _ b c.in_ok-count.ensures.bytes _ _ _ _ (c.in_err-end.ensures.carries (unended_behind [] b.input) b.is_held))
+    rw (p.1, p.2) (Between-fault _ _ _ _ _ _ _ _ _ _ _ b c.in_ok-count.ensures.bytes _ _ _ _
+    (c.in_err-end.ensures.carries (unended_behind [] b.input) b.is_held))
 
 pub returns-in_err-flush-2-clause-ran : goal.returns-in_err-flush-2-clause-ran
 returns-in_err-flush-2-clause-ran g c =
     let exit = c.from_residual-in_err-flush-2 in
     let p = err_from_is_err_and exit.result exit.ensures.1 in
     let b = c.pieces.invariant.0 in
-    rw (p.1, p.2) (Between-flushing _ _ _ _ _ _ _ _ _ _ _ b c.in_ok-count.ensures.bytes _ _ c.in_err-flush-2.ensures.bytes _ _ _ _ (c.in_ok-end.ensures.carries (unended_behind [] b.input) b.is_held))
+    rw (p.1, p.2) (Between-flushing _ _ _ _ _ _ _ _ _ _ _ b c.in_ok-count.ensures.bytes _ _ c.in_err-flush-2.ensures.bytes _ _ _ _
+    (c.in_ok-end.ensures.carries (unended_behind [] b.input) b.is_held))
 
 pub returns-in-Stops-clause-ran : goal.returns-in-Stops-clause-ran
 returns-in-Stops-clause-ran g c =
@@ -112,7 +128,8 @@ pieces-preserved g c =
     let front = unended_behind [] b.input in (
       Between-more _ _ _ _ _ _ _ _ _ _ _ b c.in_ok-count.ensures.bytes _ _ c.in_ok-flush-2.ensures.bytes _ _ _
           (goes_on _ _ front _ _ _ _ c.in-GoesOn.is (c.in_ok-end.ensures.carries front b.is_held)),
-      ReadsOn-more g.S.Source.gives _ _ _ _ _ c.pieces.invariant.1 (let some = c.if-count-eq0.false in omega arith) c.in_ok-count.ensures.call,
+      ReadsOn-more g.S.Source.gives _ _ _ _ _ c.pieces.invariant.1 (let some = c.if-count-eq0.false in omega arith)
+      c.in_ok-count.ensures.call,
       inr (_, c.in_ok-flush-2.ensures.call),
       c.in_ok-count.ensures.faults ∙ plus_none _ ∙ c.pieces.invariant.3,
       c.in_ok-flush-2.ensures.faults ∙ plus_none _ ∙ c.in_ok-end.ensures.faults ∙ plus_none _ ∙ c.pieces.invariant.4,

@@ -8,7 +8,8 @@ use Rattle.s2ix_cli_run.proofs.script.run.Given as goal
 
 abbrev pub invariant-pieces : goal.invariant-pieces
 invariant-pieces g l =
-    Between (g.S.Source.left l.fn.source) (g.S.Source.left l.source) l.held (over l.options.stop l.fn.store l.store (g.K.Sink.taken l.fn.sink) (g.K.Sink.taken l.sink)) l.told
+    Between (g.S.Source.left l.fn.source) (g.S.Source.left l.source) l.held
+    (over l.options.stop l.fn.store l.store (g.K.Sink.taken l.fn.sink) (g.K.Sink.taken l.sink)) l.told
     × ReadsOn g.S.Source.gives l._turn l.fn.source l.source
     × ((l.sink ≡ l.fn.sink) ⊎ IsFlushed g.K.Sink.flushes l.sink)
     × (g.S.Source.fault_count l.source ≡ g.S.Source.fault_count l.fn.source)
