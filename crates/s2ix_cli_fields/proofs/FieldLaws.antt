@@ -46,7 +46,7 @@ module _ (t : ℕ → Bool) where
       let s = (decoded bs).size in
       let place : s + (k - s) ≡ k = let le = alike.2 in omega arith in
       let later =
-          alike_more v n (k - s) (drop s bs) rest (is ∙ sym (drop-drop (k - s) s bs ∙ ap (λ i. drop i bs) place)) some same alike.3 in
+      alike_more v n (k - s) (drop s bs) rest (is ∙ sym (drop-drop (k - s) s bs ∙ ap (λ i. drop i bs) place)) some same alike.3 in
       let sum : k - s + (decoded rest).size ≡ k + (decoded rest).size - s = let le = alike.2 in omega arith in
       let le = alike.2 in
       (alike.0, alike.1, omega arith, subst (λ i. AreAlike v (suc n) i (drop s bs)) sum later)
@@ -64,7 +64,7 @@ module _ (t : ℕ → Bool) where
       let long : length (take k bs) ≡ k = length-take-le k bs within in
       let place : s + (k - s) ≡ k = omega arith in
       let left : drop s (take k bs) ≡ take (k - s) (drop s bs) =
-          subst (λ i. drop s (take i bs) ≡ take (k - s) (drop s bs)) place (drop-take s (k - s) bs) in
+      subst (λ i. drop s (take i bs) ≡ take (k - s) (drop s bs)) place (drop-take s (k - s) bs) in
       let e : lossy_chars (take k bs) ≡ or_replacement (decoded bs).char ∷ lossy_chars (take (k - s) (drop s bs)) =
       lossy_chars-step (take k bs) (omega arith) ∙ ap (λ p. or_replacement p.char ∷ lossy_chars (drop p.size (take k bs))) first
       ∙ ap (λ l. or_replacement (decoded bs).char ∷ lossy_chars l) left in
@@ -139,9 +139,9 @@ Rest hay off spans =
 rest_end : (hay : List ℕ) (off : ℕ) → off ≡ length hay → [] ≡ drop off hay → Rest hay off []
 rest_end hay off end none = (
   λ least from m le blank. subst (λ fs. Stand least fs (drop from hay)) (sym (fields-nil is_whitespace hay))
-    (stand_end hay from off m (omega arith) end blank),
+      (stand_end hay from off m (omega arith) end blank),
   λ least from a m n le some blank word. subst (λ fs. Stand least fs (drop from hay)) (sym (fields-last is_whitespace hay a off))
-    (stand_more hay [] least from a off m n le some (omega arith) blank word (blank_nothing _ none)),
+      (stand_more hay [] least from a off m n le some (omega arith) blank word (blank_nothing _ none)),
 )
 
 -- one piece more behind what is alike
@@ -166,7 +166,7 @@ rest_step hay bs off spans true is some same rest =
       λ least from m le blank. subst (λ fs. Stand least fs (drop from hay)) (sym (fields-skip is_whitespace hay span spans same))
           (rest.0 least from (suc m) (omega arith) (alike_next true hay bs m from off is some (omega arith) same blank)),
       λ least from a m n le inside blank word. subst (λ fs. Stand least fs (drop from hay))
-      (sym (fields-stop is_whitespace hay span spans a off same))
+          (sym (fields-stop is_whitespace hay span spans a off same))
           (stand_more hay _ least from a off m n le inside (omega arith) blank word
           (rest.0 1 off 1 (omega arith) (alike_next true hay bs 0 off off is some (omega arith) same (omega arith)))),
     )
@@ -176,7 +176,7 @@ rest_step hay bs off spans false is some same rest =
       λ least from m le blank. subst (λ fs. Stand least fs (drop from hay)) (sym (fields-start is_whitespace hay span spans same))
           (rest.1 least from off m 1 le (omega arith) blank (alike_next false hay bs 0 off off is some (omega arith) same (omega arith))),
       λ least from a m n le inside blank word. subst (λ fs. Stand least fs (drop from hay))
-      (sym (fields-more is_whitespace hay span spans a off same))
+          (sym (fields-more is_whitespace hay span spans a off same))
           (rest.1 least from a m (suc n) le (omega arith) blank (alike_next false hay bs n a off is some (omega arith) same word)),
     )
 

@@ -32,8 +32,13 @@ begun_step hay true off end c b spans is some later =
       begins = part_begins b hay some;
     }
 begun_step hay false off end c b spans is some later =
-    record { field = later.field; rest = later.rest; are = fields-more is_whitespace hay (off, end, c) spans 0 b is
-    ∙ later.are; begins = later.begins }
+    record {
+      field = later.field;
+      rest = later.rest;
+      are = fields-more is_whitespace hay (off, end, c) spans 0 b is
+          ∙ later.are;
+      begins = later.begins;
+    }
 
 begun_all : (hay : List ℕ) (ps : List Decoded) (off b : ℕ) → 0 < off → 0 < b
     → BeginsWith hay (fields_acc is_whitespace hay (Some (0, b)) (spans_from off ps))

@@ -55,7 +55,7 @@ module _ (t : ℕ → Bool) (byte : ℕ) (hay : List ℕ) where
   same_step false off end c moved spans is same = (
     fields-start t (byte ∷ hay) (off + 1, end + 1, c) moved is ∙ same.1 off end ∙ sym (fields-start t hay (off, end, c) spans is),
     λ a b. fields-more t (byte ∷ hay) (off + 1, end + 1, c) moved (a + 1) (b + 1) is ∙ same.1 a end
-      ∙ sym (fields-more t hay (off, end, c) spans a b is),
+        ∙ sym (fields-more t hay (off, end, c) spans a b is),
   )
 
   same_all : (ps : List Decoded) (off : ℕ) → AreSame (spans_from (off + 1) ps) (spans_from off ps)
@@ -172,9 +172,9 @@ fields_of-cut text end some inside all ends =
     let left = length-drop end text in
     let add_zero : end + 0 ≡ end = omega arith in
     let cut =
-        first_field (take end text) (drop end text) (omega arith) all
-        (λ more. subst (λ byte. is_blank byte ≡ true) (sym (get_or-drop end text 0 0 ∙ ap (λ i. get_or text i 0) (add_zero)))
-        (ends (omega arith))) in
+    first_field (take end text) (drop end text) (omega arith) all
+    (λ more. subst (λ byte. is_blank byte ≡ true) (sym (get_or-drop end text 0 0 ∙ ap (λ i. get_or text i 0) (add_zero)))
+    (ends (omega arith))) in
     subst (λ whole. fields_of whole ≡ take end text ∷ fields_of (drop end text)) (take-append-drop end text) cut
 
 -- a text with no byte has no field

@@ -86,8 +86,8 @@ done_leads_back s first st is =
     let rest = later s.bag.held (reverse s.undone) in
     let there = ap (λ ess. slice_get (earlier s.bag.held ess ++ s.bag.held ∷ rest) 0) (changes_reversed 1 s.done) in
     let held =
-        same_first (rewound s.bag s.done).held first (slice_get (history_of s).collections 0) (sym there ∙ first_of_earlier s.bag cs rest)
-        is in
+    same_first (rewound s.bag s.done).held first (slice_get (history_of s).collections 0) (sym there ∙ first_of_earlier s.bag cs rest)
+    is in
     made (rewound s.bag s.done) first held s.bag (limits_back s)
 
 pub done_leads : (s : State) (first : Collection) → IsStore s → slice_get (history_of s).collections 0 ≡ Some first

@@ -79,9 +79,12 @@ rewind_replayed limits dump journal answer answers accepted =
     let there = replayed a.bag a.changes in
     let is_bag = replayed_is_bag a.bag a.changes a.dump_read.0 lists a.leads.0 in
     let text = a.text ∙ ap dump_of a.leads.1 in
-    let again = read_again limits answer.text there is_bag (limits_stay a.bag (with_numbers a.changes) ∙ a.dump_read.1) text in
-    (a.bag, a.dump_read, leads_home RewindLeads limits answer.text journal a.bag there a.changes again a.journal_read
-    (back.taken, sym back.back))
+    let again = read_again limits answer.text there is_bag (limits_stay a.bag (with_numbers a.changes) ∙ a.dump_read.1) text in (
+      a.bag,
+      a.dump_read,
+      leads_home RewindLeads limits answer.text journal a.bag there a.changes again a.journal_read
+          (back.taken, sym back.back),
+    )
 
 pub replay_rewound : ComesBack RewindAnswers ReplayAnswers
 replay_rewound limits dump journal answer answers accepted =
@@ -91,9 +94,12 @@ replay_rewound limits dump journal answer answers accepted =
     let there = rewound a.bag a.changes in
     let is_bag = rewound_is_bag a.bag a.changes a.dump_read.0 lists a.leads.0 in
     let text = a.text ∙ ap dump_of a.leads.1 in
-    let again = read_again limits answer.text there is_bag (limits_stay a.bag (way_back (with_numbers a.changes)) ∙ a.dump_read.1) text in
-    (a.bag, a.dump_read, leads_home ReplayLeads limits answer.text journal a.bag there a.changes again a.journal_read
-    (forth.0, sym forth.1))
+    let again = read_again limits answer.text there is_bag (limits_stay a.bag (way_back (with_numbers a.changes)) ∙ a.dump_read.1) text in (
+      a.bag,
+      a.dump_read,
+      leads_home ReplayLeads limits answer.text journal a.bag there a.changes again a.journal_read
+          (forth.0, sym forth.1),
+    )
 
 -- ---- byte for byte
 

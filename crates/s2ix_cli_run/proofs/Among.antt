@@ -182,9 +182,9 @@ pub Among-end : (stop : Bool) (front piece rest : List ℕ) (old now : State) (h
     → Reached (ended_behind front piece) (over stop old now before behind) start told × (held' ≡ kept_of (unended_behind front piece))
 Among-end stop front piece rest old now held held' before behind start told a none is = (
   subst (λ l. Reached l (over stop old now before behind) start told)
-    (sym (a.ended ∙ ap (λ l. a.done ++ l) (ended_behind-none a.come rest none) ∙ append-nil a.done)) a.reached,
+      (sym (a.ended ∙ ap (λ l. a.done ++ l) (ended_behind-none a.come rest none) ∙ append-nil a.done)) a.reached,
   is ∙ ap (λ h. held_more h rest) a.is_held ∙ held_more-of a.come rest
-    ∙ ap kept_of (sym (a.unended ∙ unended_behind-none a.come rest none)),
+      ∙ ap kept_of (sym (a.unended ∙ unended_behind-none a.come rest none)),
 )
 
 -- ---- the last line

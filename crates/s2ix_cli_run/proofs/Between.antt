@@ -211,7 +211,7 @@ Halts-of stop lines done more old mid new before between behind told told' is a 
     let refused : (step_of (after old full) s.line).is_refused ≡ true = ap (λ x. (step_of x s.line).is_refused) (sym at) ∙ s.refused in
     let are : lines ≡ full ++ s.line ∷ s.rest = is ∙ ap (λ l. done ++ l) s.are ∙ sym (append_assoc done s.done (s.line ∷ s.rest)) in
     let on : KeepsOn stop old full =
-        KeepsOn-append stop old done s.done a.keeps_on (subst (λ x. KeepsOn stop x s.done) a.stands.store s.keeps_on) in
+    KeepsOn-append stop old done s.done a.keeps_on (subst (λ x. KeepsOn stop x s.done) a.stands.store s.keeps_on) in
     record {
       carried = full ++ s.line ∷ [];
       are_carried = λ tail.
@@ -254,7 +254,7 @@ module _ (left mid left' : Option (List ℕ)) (stop : Bool) (old now : State) (h
     b.input ++ piece,
     Consumes-trans left mid left' b.input piece b.consumed consumed,
     FaultAmong-ran fault end stop (b.input ++ piece) (ended_lines (b.input ++ piece)) (ended_lines b.input)
-      (ended_behind (unended_behind [] b.input) piece) old now new before between behind told
+        (ended_behind (unended_behind [] b.input) piece) old now new before between behind told
         (inl refl) (ended-more b.input piece) b.reached f,
   )
 
@@ -320,7 +320,7 @@ module _ (left mid left' : Option (List ℕ)) (stop : Bool) (old now : State) (h
             ended_lines b'.input,
             inl refl,
             inr (subst (λ l. StandsAfter l (over stop old new before flushed))
-            (sym (carried_lines-all stop old (ended_lines b'.input) b'.reached.keeps_on)) b'.reached.stands),
+                (sym (carried_lines-all stop old (ended_lines b'.input) b'.reached.keeps_on)) b'.reached.stands),
           ),
         )
     Between-flushing (Stops more) end new held' carried =
@@ -334,7 +334,9 @@ module _ (left mid left' : Option (List ℕ)) (stop : Bool) (old now : State) (h
             ended_lines input,
             inl refl,
             inr (subst (λ l. StandsAfter l (over stop old new before flushed)) (sym is)
-                (record { store = h.stands.store; output = Appends-kept before behind flushed (output_of old h.carried) h.stands.output kept
+                (record {
+                  store = h.stands.store;
+                  output = Appends-kept before behind flushed (output_of old h.carried) h.stands.output kept;
                 })),
           ),
         )
@@ -351,36 +353,36 @@ module _ (left left' : Option (List ℕ)) (stop : Bool) (old now : State) (held 
     b.input,
     b.consumed,
     FaultAmong-ran fault end stop b.input (script_lines b.input) (ended_lines b.input) (line_left (unended_behind [] b.input)) old now new
-      before between behind told
+        before between behind told
         (inr (read, refl)) (script_lines-ended b.input) b.reached f,
   )
 
   -- what was written is flushed behind it, or the sink fails at the flush
   module _ (new : State) (behind flushed : Option (List ℕ)) (more : RunEnd)
       (carried : CarriesLast (Ok more) (unended_behind [] b.input) (over stop now new between behind) told) (kept : Keeps behind flushed)
-      where
-    Between-finishes : Finishes b.input (over stop old new before flushed) more
-    Between-finishes =
-        let last = line_left (unended_behind [] b.input) in
-        Finishes-of stop b.input (ended_lines b.input ++ last) old new before behind flushed more
-        (ap (carried_lines stop old) (script_lines-ended b.input)
-        ∙ carried_lines-append stop old (ended_lines b.input) last b.reached.keeps_on
-        ∙ ap (λ l. ended_lines b.input ++ l) (carried_last stop (after old (ended_lines b.input)) (unended_behind [] b.input)))
-        (StandsAfter-append stop (ended_lines b.input) last old now new before between behind b.reached.stands carried.0)
-        (CountsMore-append (ended_lines b.input) last old now none_told told more b.reached.stands.store b.reached.counts carried.1)
-        kept
+    where
+      Between-finishes : Finishes b.input (over stop old new before flushed) more
+      Between-finishes =
+          let last = line_left (unended_behind [] b.input) in
+          Finishes-of stop b.input (ended_lines b.input ++ last) old new before behind flushed more
+          (ap (carried_lines stop old) (script_lines-ended b.input)
+          ∙ carried_lines-append stop old (ended_lines b.input) last b.reached.keeps_on
+          ∙ ap (λ l. ended_lines b.input ++ l) (carried_last stop (after old (ended_lines b.input)) (unended_behind [] b.input)))
+          (StandsAfter-append stop (ended_lines b.input) last old now new before between behind b.reached.stands carried.0)
+          (CountsMore-append (ended_lines b.input) last old now none_told told more b.reached.stands.store b.reached.counts carried.1)
+          kept
 
-    pub Between-ends : (end : SourceEnd) → end.IsRead
-        → (input : List ℕ) × Consumes left left' input × Ran (Ok more) end input (over stop old new before flushed)
-    unfolding Ran
-    Between-ends end read = (b.input, b.consumed, (inl read, Between-finishes))
+      pub Between-ends : (end : SourceEnd) → end.IsRead
+          → (input : List ℕ) × Consumes left left' input × Ran (Ok more) end input (over stop old new before flushed)
+      unfolding Ran
+      Between-ends end read = (b.input, b.consumed, (inl read, Between-finishes))
 
-    pub Between-ends_flushing : (end : SourceEnd) → end.IsRead
-        → (input : List ℕ) × Consumes left left' input × Ran (Err Write) end input (over stop old new before flushed)
-    unfolding Ran
-    Between-ends_flushing end read =
-        let f = Between-finishes in
-        (b.input, b.consumed, (script_lines b.input, inr (read, refl), inr f.stands))
+      pub Between-ends_flushing : (end : SourceEnd) → end.IsRead
+          → (input : List ℕ) × Consumes left left' input × Ran (Err Write) end input (over stop old new before flushed)
+      unfolding Ran
+      Between-ends_flushing end read =
+          let f = Between-finishes in
+          (b.input, b.consumed, (script_lines b.input, inr (read, refl), inr f.stands))
 
 -- ---- a step more of the source
 

@@ -79,7 +79,7 @@ lines_behind front [] = refl
 lines_behind front (byte ∷ text) =
     elim (eqb_tells byte 10) [
       | inl w ↦ rw w.0 (ap (λ lines. front ∷ lines) (lines_behind [] text ∙ onto-nil (script_lines text))
-      ∙ ap (λ l. l ∷ script_lines text) (sym (append-nil front)))
+          ∙ ap (λ l. l ∷ script_lines text) (sym (append-nil front)))
       | inr w ↦ rw w.0 (lines_behind (front ++ byte ∷ []) text ∙ onto-with_first front byte (script_lines text))
     ]
 

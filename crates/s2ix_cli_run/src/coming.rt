@@ -39,8 +39,13 @@ pub(crate) fn carry_piece<K: Sink>(
     requires { CanCount (K.fault_count sink.old) }
     ensures carries { (front : List ℕ) → held.old ≡ kept_of front
         → CarriesPiece result front piece.now
-        (record { stop = stop; store_before = store.old; store_after = store.new;
-            taken_before = K.taken sink.old; taken_after = K.taken sink.new }) held.new told }
+        (record {
+          stop = stop;
+          store_before = store.old;
+          store_after = store.new;
+          taken_before = K.taken sink.old;
+          taken_after = K.taken sink.new;
+        }) held.new told }
     ensures faults { K.fault_count sink.new ≡ K.fault_count sink.old + sink_faults result }
 {
     let mut told = told;
@@ -68,8 +73,13 @@ pub(crate) fn carry_last<K: Sink>(
     requires { CanCount (K.fault_count sink.old) }
     ensures carries { (stop : Bool) (front : List ℕ) → held.old ≡ kept_of front
         → CarriesLast result front
-        (record { stop = stop; store_before = store.old; store_after = store.new;
-            taken_before = K.taken sink.old; taken_after = K.taken sink.new }) told }
+        (record {
+          stop = stop;
+          store_before = store.old;
+          store_after = store.new;
+          taken_before = K.taken sink.old;
+          taken_after = K.taken sink.new;
+        }) told }
     ensures faults { K.fault_count sink.new ≡ K.fault_count sink.old + sink_faults result }
 {
     if held.is_empty() {

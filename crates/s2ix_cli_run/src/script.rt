@@ -37,8 +37,13 @@ pub fn run<S: Source, K: Sink>(
     requires sink_counts { CanCount (K.fault_count sink.old) }
     ensures ran { (input : List ℕ) × Consumes (S.left source.old) (S.left source.new) input
         × Ran result (source_end S.left S.gives options.turns source.old source.new) input
-        (record { stop = options.stop; store_before = store.old; store_after = store.new;
-            taken_before = K.taken sink.old; taken_after = K.taken sink.new }) }
+        (record {
+          stop = options.stop;
+          store_before = store.old;
+          store_after = store.new;
+          taken_before = K.taken sink.old;
+          taken_after = K.taken sink.new;
+        }) }
     ensures flushed { Flushes K.flushes result sink.old sink.new }
     ensures too_long { IfErr result (λ fault. IsPatient S.gives fault options.turns source.old source.new) }
     ensures source_faults { S.fault_count source.new ≡ S.fault_count source.old + source_faults result }

@@ -56,7 +56,7 @@ behind_both s line undo both =
     let edit = both.edit in
     let asked = step_asked s line (asks.Edit edit) both.edits in
     let edited : (step_of s line).after ≡ after_edit s edit =
-        ap (λ (t : Step). t.after) asked ∙ edit_done s edit (sym (ap (λ (t : Step). t.is_refused) asked) ∙ both.accepted) in
+    ap (λ (t : Step). t.after) asked ∙ edit_done s edit (sym (ap (λ (t : Step). t.is_refused) asked) ∙ both.accepted) in
     ap (λ (t : State). (step_of t undo).after) edited
     ∙ ap (λ (t : Step). t.after) (step_asked (after_edit s edit) undo asks.Undo both.undoes)
     ∙ undo_done (after_edit s edit)

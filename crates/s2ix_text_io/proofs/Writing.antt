@@ -14,8 +14,12 @@ pub Writes-then : {K A B : Type 0} {sink : Sink K} {old mid new : K} {x : A} {r 
     → Writes sink old mid (Ok x) text → Writes sink mid new r next
     → Writes sink old new r (text ++ next)
 Writes-then {K} {A} {B} {sink} {old} {mid} {new} {x} {r} {text} {next} p q =
-    record { puts = Puts-after (sink.taken old) (sink.taken mid) (sink.taken new) r text next p.puts q.puts; unflushed = q.unflushed
-    ∙ p.unflushed; faults = omega (arith, p.faults, q.faults) }
+    record {
+      puts = Puts-after (sink.taken old) (sink.taken mid) (sink.taken new) r text next p.puts q.puts;
+      unflushed = q.unflushed
+          ∙ p.unflushed;
+      faults = omega (arith, p.faults, q.faults);
+    }
 
 -- a fault of the sink ended a text, and so the call
 pub Writes-fault : {K A B : Type 0} {sink : Sink K} {old new : K} {fault : WriteFault} {text : List ℕ} (r : Result B WriteFault)
@@ -39,8 +43,12 @@ pub Writes-item : {K A B X : Type 0} {sink : Sink K} {old mid new : K} {x : A} {
     → Writes sink mid new (Ok y) (f item)
     → Writes sink old new (Ok x) (flat_map f (take (i + 1) xs))
 Writes-item {K} {A} {B} {X} {sink} {old} {mid} {new} {x} {y} f xs i item at p q =
-    record { puts = Appends-flat_map f (sink.taken old) (sink.taken mid) (sink.taken new) xs i item at p.puts q.puts; unflushed =
-    q.unflushed ∙ p.unflushed; faults = omega (arith, p.faults, q.faults) }
+    record {
+      puts = Appends-flat_map f (sink.taken old) (sink.taken mid) (sink.taken new) xs i item at p.puts q.puts;
+      unflushed =
+          q.unflushed ∙ p.unflushed;
+      faults = omega (arith, p.faults, q.faults);
+    }
 
 -- a fault of the sink ended the text of an item
 pub Writes-item_fault : {K A B X : Type 0} {sink : Sink K} {old mid new : K} {x : A} {fault : WriteFault} (f : X → List ℕ) (xs : List X)
@@ -49,8 +57,12 @@ pub Writes-item_fault : {K A B X : Type 0} {sink : Sink K} {old mid new : K} {x 
     → Writes {A = B} sink mid new (Err fault) (f item)
     → Writes {A = B} sink old new (Err fault) (flat_map f xs)
 Writes-item_fault {K} {A} {B} {X} {sink} {old} {mid} {new} {x} {fault} f xs i item at p q =
-    record { puts = AppendsFront-flat_map_at f (sink.taken old) (sink.taken mid) (sink.taken new) xs i item at p.puts q.puts; unflushed =
-    q.unflushed ∙ p.unflushed; faults = omega (arith, p.faults, q.faults) }
+    record {
+      puts = AppendsFront-flat_map_at f (sink.taken old) (sink.taken mid) (sink.taken new) xs i item at p.puts q.puts;
+      unflushed =
+          q.unflushed ∙ p.unflushed;
+      faults = omega (arith, p.faults, q.faults);
+    }
 
 -- the same, where `done` are the items before it
 pub Writes-turn : {K A B X : Type 0} {sink : Sink K} {old mid new : K} {x : A} {y : B} (f : X → List ℕ) (xs done : List X) (item : X)
@@ -58,8 +70,12 @@ pub Writes-turn : {K A B X : Type 0} {sink : Sink K} {old mid new : K} {x : A} {
     → Writes sink old mid (Ok x) (flat_map f (take (length done) xs)) → Writes sink mid new (Ok y) (f item)
     → Writes sink old new (Ok x) (flat_map f (take (length (done ++ item ∷ [])) xs))
 Writes-turn {K} {A} {B} {X} {sink} {old} {mid} {new} {x} {y} f xs done item at p q =
-    record { puts = Appends-flat_map_turn f (sink.taken old) (sink.taken mid) (sink.taken new) xs done item at p.puts q.puts; unflushed =
-    q.unflushed ∙ p.unflushed; faults = omega (arith, p.faults, q.faults) }
+    record {
+      puts = Appends-flat_map_turn f (sink.taken old) (sink.taken mid) (sink.taken new) xs done item at p.puts q.puts;
+      unflushed =
+          q.unflushed ∙ p.unflushed;
+      faults = omega (arith, p.faults, q.faults);
+    }
 
 pub Writes-turn_fault : {K A B X : Type 0} {sink : Sink K} {old mid new : K} {x : A} {fault : WriteFault} (f : X → List ℕ)
     (xs done : List X) (item : X)
@@ -68,8 +84,11 @@ pub Writes-turn_fault : {K A B X : Type 0} {sink : Sink K} {old mid new : K} {x 
     → Writes {A = B} sink mid new (Err fault) (f item)
     → Writes {A = B} sink old new (Err fault) (flat_map f xs)
 Writes-turn_fault {K} {A} {B} {X} {sink} {old} {mid} {new} {x} {fault} f xs done item at p q =
-    record { puts = AppendsFront-flat_map_turn f (sink.taken old) (sink.taken mid) (sink.taken new) xs done item at p.puts q.puts;
-    unflushed = q.unflushed ∙ p.unflushed; faults = omega (arith, p.faults, q.faults) }
+    record {
+      puts = AppendsFront-flat_map_turn f (sink.taken old) (sink.taken mid) (sink.taken new) xs done item at p.puts q.puts;
+      unflushed = q.unflushed ∙ p.unflushed;
+      faults = omega (arith, p.faults, q.faults);
+    }
 
 -- the texts of all items were written
 pub Writes-all : {K A X : Type 0} {sink : Sink K} {old new : K} {x : A} (f : X → List ℕ) (xs : List X) (i : ℕ)

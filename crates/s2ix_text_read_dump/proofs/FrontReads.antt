@@ -64,8 +64,8 @@ pub one_number : (text after rest : List ℕ) (m n end : ℕ) → end ≤ 32 →
     → text ≡ decimal n ++ end ∷ rest → (m ≡ n) × (after ≡ rest)
 one_number text after rest m n end low small_m small_n read is =
     let cut =
-        one_cut end _ _ after rest (graphic_lacks end _ low (decimal_graphic m small_m))
-        (graphic_lacks end _ low (decimal_graphic n small_n)) (sym read ∙ is) in
+    one_cut end _ _ after rest (graphic_lacks end _ low (decimal_graphic m small_m))
+    (graphic_lacks end _ low (decimal_graphic n small_n)) (sym read ∙ is) in
     (decimal_injective m n small_m small_n cut.0, cut.1)
 
 -- behind the token stands the label
@@ -86,7 +86,7 @@ count_stands most bounded text after behind rest m label h read read_label small
     let same = one_token text after p.0 m (raw_of h.pair.cell) read p.2.token in
     let own = common.label in
     let number =
-        one_number after behind p.1 label (value_of h.pair.label) 32 (omega arith) small (omega arith) read_label (same ∙ p.2.label) in
+    one_number after behind p.1 label (value_of h.pair.label) 32 (omega arith) small (omega arith) read_label (same ∙ p.2.label) in
     (number.0, number.1 ∙ p.2.count, subst (λ t. 9 < length t) (sym number.1) p.4)
 
 pub count_is : (most : ℕ) → most < 2 ^ 32 → (text after behind below rest : List ℕ) (m label count : ℕ) (h : Held)
@@ -103,7 +103,7 @@ count_is most bounded text after behind below rest m label count h read read_lab
 one_pair : (header : List ℕ) (g h : Held) → HasCount header g → HasCount header h → line_text g ≡ line_text h → g ≡ h
 one_pair header g h counted_g counted_h same =
     let both : Ok g ≡ Ok h =
-        sym (held_of_line header g counted_g) ∙ ap (held_written (greatest_count header)) same ∙ held_of_line header h counted_h in
+    sym (held_of_line header g counted_g) ∙ ap (held_written (greatest_count header)) same ∙ held_of_line header h counted_h in
     let own : g ≡ h = cc in own
 
 -- a pair that is read in front passes each test, where the line of the next pair stands there
@@ -118,8 +118,8 @@ pub next_passes : (limits : Limits) (header : List ℕ) (hs : Collection) (text 
 next_passes limits header hs text behind rest g h counted read common next =
     let counts : HasCount header h = (common.some, common.few) in
     let cut =
-        one_cut 10 (line_text h) (line_text g) rest behind (line_lacks_feed header h counts) (line_lacks_feed header g counted)
-        (sym common.whole ∙ read) in
+    one_cut 10 (line_text h) (line_text g) rest behind (line_lacks_feed header h counts) (line_lacks_feed header g counted)
+    (sym common.whole ∙ read) in
     subst (PassesAll limits hs) (one_pair header h g counts counted cut.0)
     (record {
       before = next_before hs h [] next.dumped.bag.rises;

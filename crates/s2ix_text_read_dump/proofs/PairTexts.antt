@@ -111,8 +111,12 @@ held_unless most line three = cond-false (has_parts 3 line) _ _ three
 pub held_of_line : (header : List ℕ) (h : Held) → HasCount header h → held_written (greatest_count header) (line_text h) ≡ Ok h
 held_of_line header h counted =
     held_from (greatest_count header) (line_text h) _ _ _ (line_has_parts header h counted) (line_parts header h counted)
-    ∙ rw (cell_of_token h.pair.cell, label_of_digits h.pair.label, count_of_digits (greatest_count header) h.count (greatest_small header)
-    counted.0 counted.1) refl
+    ∙ rw (
+      cell_of_token h.pair.cell,
+      label_of_digits h.pair.label,
+      count_of_digits (greatest_count header) h.count (greatest_small header)
+          counted.0 counted.1,
+    ) refl
 
 -- the pair and the count of that line
 pub pair_of_line : (header : List ℕ) (h : Held) → HasCount header h → pair_written (line_text h) ≡ Some h.pair
@@ -185,14 +189,14 @@ end_tested line a b c pairs_digits copies_digits pairs copies p q end are few sm
   λ both.
       let parts = and_parts p q both in
       let first : a ≡ codes "end" =
-          (bytes_eq-Decides a (codes "end")).0
-          (sym (ap (λ (ps : List (List ℕ)). bytes_eq (slice_index_or ps 0 []) (codes "end")) are) ∙ end) in
+      (bytes_eq-Decides a (codes "end")).0
+      (sym (ap (λ (ps : List (List ℕ)). bytes_eq (slice_index_or ps 0 []) (codes "end")) are) ∙ end) in
       let second : b ≡ decimal pairs = (bytes_eq-Decides b pairs_digits).0 (sym p_is ∙ parts.0) ∙ pairs_are in
       let third : c ≡ decimal copies = (bytes_eq-Decides c copies_digits).0 (sym q_is ∙ parts.1) ∙ copies_are in
       parts_joined line a b c are ∙ rw (first, second, third) refl,
   λ is.
       let same : a ∷ b ∷ c ∷ [] ≡ codes "end" ∷ decimal pairs ∷ decimal copies ∷ [] =
-          sym are ∙ ap parts_of is ∙ end_parts pairs copies few small in
+      sym are ∙ ap parts_of is ∙ end_parts pairs copies few small in
       let second : b ≡ decimal pairs = ap (λ (ps : List (List ℕ)). slice_index_or ps 1 []) same in
       let third : c ≡ decimal copies = ap (λ (ps : List (List ℕ)). slice_index_or ps 2 []) same in
       and_from p q (p_is ∙ (bytes_eq-Decides b pairs_digits).1 (second ∙ sym pairs_are))

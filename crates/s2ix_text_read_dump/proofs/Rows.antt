@@ -174,9 +174,10 @@ written_at header line h true (Some cell) (Some label) (Some n) a b c d is =
     let long : length (parts_of line) ≡ 3 = eqb-true _ _ (and_parts (length (parts_of line) == 3) _ a).0 in
     let counts = written_count (greatest_count header) (part 2 line) n d in
     let made : Held = record { pair = record { cell = cell; label = label }; count = n } in
-    subst (λ (k : Held). (line ≡ line_text k) × HasCount header k) same
-    (written_held (greatest_count header) line (part 0 line) (part 1 line) (part 2 line) made (three_list (parts_of line) long) b c d,
-    (counts.1, counts.2))
+    subst (λ (k : Held). (line ≡ line_text k) × HasCount header k) same (
+      written_held (greatest_count header) line (part 0 line) (part 1 line) (part 2 line) made (three_list (parts_of line) long) b c d,
+      (counts.1, counts.2),
+    )
 
 pub line_from_held : (header : List ℕ) (line : List ℕ) (h : Held) → held_written (greatest_count header) line ≡ Ok h
     → (line ≡ line_text h) × HasCount header h

@@ -181,7 +181,7 @@ answers limits text r accepted refused =
     let lines = lines_of text in
     let at = λ (line : ℕ). place_at limits line text in
     let told : Lines limits text r =
-        tells_lines errors faults limits text (dump_fault limits text) r (found_is limits text) accepted refused in
+    tells_lines errors faults limits text (dump_fault limits text) r (found_is limits text) accepted refused in
     record {
       no_feed = told.one_line;
       bad_header = told.other_header;

@@ -54,8 +54,8 @@ sound_left limits header hs (k ∷ ks) is =
     let small = here_has (λ (h : Held). h.count ≤ count_limit limits) hs k ks is.bag.small in
     let few : length hs < pairs_limit limits = omega (arith, length-append hs (k ∷ ks), is.bag.few) in
     let next =
-        next_is limits header hs (line_text k) k bag (line_is_no_end header k counted) (held_of_line header k counted)
-        (next_before hs k ks is.bag.rises) small few in
+    next_is limits header hs (line_text k) k bag (line_is_no_end header k counted) (held_of_line header k counted)
+    (next_before hs k ks is.bag.rises) small few in
     let With : Collection → Type 0 = λ x. IsDumped limits header x in
     let assoc : hs ++ k ∷ ks ≡ (hs ++ k ∷ []) ++ ks = sym (append_assoc hs (k ∷ []) ks) in
     fault_after_next limits header hs (line_text k)
@@ -132,9 +132,9 @@ end_from limits header hs line is end none =
     (λ same. (bytes_eq-Decides line (end_text (length hs) (copies_in hs))).0 same)
     (λ other.
     let fault =
-        end_fault limits header hs line is end
-        (λ e. both_ways (bytes_eq line (end_text (length hs) (copies_in hs))) other
-        ((bytes_eq-Decides line (end_text (length hs) (copies_in hs))).1 e)) in
+    end_fault limits header hs line is end
+    (λ e. both_ways (bytes_eq line (end_text (length hs) (copies_in hs))) other
+    ((bytes_eq-Decides line (end_text (length hs) (copies_in hs))).1 e)) in
     let clash : Some BadEnd ≡ None = sym fault ∙ none in cc)
     (cases_Bool (bytes_eq line (end_text (length hs) (copies_in hs))))
 
@@ -192,8 +192,8 @@ left_from limits header hs (line ∷ (last ∷ lines)) is some none =
     (λ no_end.
     let next = next_from limits header hs line is no_end sound in
     let later =
-        left_from limits header (hs ++ next.0 ∷ []) (last ∷ lines) next.1.dumped refl
-        (sym (fault_after_next limits header hs line (last ∷ lines) next.0 refl next.1) ∙ none) in
+    left_from limits header (hs ++ next.0 ∷ []) (last ∷ lines) next.1.dumped refl
+    (sym (fault_after_next limits header hs line (last ∷ lines) next.0 refl next.1) ∙ none) in
     (next.0 ∷ later.0, left_more limits header hs line (last ∷ lines) next.0 later.0 next.1.text later.1))
     (cases_Bool (is_end line))
 
@@ -240,13 +240,16 @@ lines_are_dump limits (header ∷ []) some none =
 lines_are_dump limits (header ∷ (next ∷ lines)) some none =
     let named = version_from limits header next lines (dump_version header) refl none in
     let later =
-        sym (found_later line_fault limits [] header (next ∷ lines) (none_here line_fault limits [] header (next ∷ lines) none)) ∙ none in
+    sym (found_later line_fault limits [] header (next ∷ lines) (none_here line_fault limits [] header (next ∷ lines) none)) ∙ none in
     let left = left_from limits header [] (next ∷ lines) (nothing_dumped limits header) refl later in
     let end = end_text (length left.0) (copies_in left.0) in
     let parts =
-        ap (join_with_byte 10) left.1.is ∙ join_left left.0 end ∙ ap (λ x. flat_map pair_line left.0 ++ x) (sym (end_with_feed left.0)) in
-    (left.0, left.1.dumped.bag, dump_put_together named.0 _ header (join_with_byte 10 (next ∷ lines)) left.0 refl named.1
-    (held_in limits header named.0 left.0 named.1 left.1.dumped) parts)
+    ap (join_with_byte 10) left.1.is ∙ join_left left.0 end ∙ ap (λ x. flat_map pair_line left.0 ++ x) (sym (end_with_feed left.0)) in (
+      left.0,
+      left.1.dumped.bag,
+      dump_put_together named.0 _ header (join_with_byte 10 (next ∷ lines)) left.0 refl named.1
+          (held_in limits header named.0 left.0 named.1 left.1.dumped) parts,
+    )
 
 pub sound_is_dump : (limits : Limits) (text : List ℕ) → dump_fault limits text ≡ None
     → (ks : Collection) × IsBag (record { limits = limits; held = ks }) × IsDump text ks

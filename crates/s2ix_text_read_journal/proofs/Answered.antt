@@ -66,9 +66,11 @@ pub written_journals_are_read_back : (limits : Limits) (changes : List (List Ent
     → All (IsWritableIn version) changes
     → (journal_fault limits (journal_in version changes) ≡ None)
     × ((others : List (List Entry)) → IsJournal limits others → IsJournalText (journal_in version changes) others → changes ≡ others)
-written_journals_are_read_back limits changes is version are =
-    (journal_is_sound limits changes is version are, λ others others_are same. one_journal (journal_in version changes) changes others
-    (version, are, refl) same)
+written_journals_are_read_back limits changes is version are = (
+  journal_is_sound limits changes is version are,
+  λ others others_are same. one_journal (journal_in version changes) changes others
+      (version, are, refl) same,
+)
 
 pub no_faulty_journal_line_is_accepted : (limits : Limits) (text : List ℕ) → journal_fault limits text ≡ None
     → (above : List (List ℕ)) (line : List ℕ) (below : List (List ℕ)) → lines_of text ≡ above ++ line ∷ below

@@ -57,8 +57,8 @@ pub end_tested : (line a b digits : List ℕ) (groups : ℕ) (r : Bool) → is_e
 end_tested line a b digits groups r end are few r_is digits_are = (
   λ holds.
       let first : a ≡ codes "end" =
-          (bytes_eq-Decides a (codes "end")).0
-          (sym (ap (λ (ps : List (List ℕ)). bytes_eq (slice_index_or ps 0 []) (codes "end")) are) ∙ end) in
+      (bytes_eq-Decides a (codes "end")).0
+      (sym (ap (λ (ps : List (List ℕ)). bytes_eq (slice_index_or ps 0 []) (codes "end")) are) ∙ end) in
       let second : b ≡ decimal groups = (bytes_eq-Decides b digits).0 (sym r_is ∙ holds) ∙ digits_are in
       two_joined line a b are ∙ rw (first, second) refl,
   λ is.

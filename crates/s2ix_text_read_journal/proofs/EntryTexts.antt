@@ -91,8 +91,12 @@ text_from_parts : (most : ℕ) (line a b c d : List ℕ) (e : Entry) → parts_o
 unfolding entry_text
 text_from_parts most line a b c d e are cell label before after =
     four_joined line a b c d are
-    ∙ rw (written_cell a e.pair.cell cell, written_label b e.pair.label label, (written_side most c e.before before).0,
-    (written_side most d e.after after).0) refl
+    ∙ rw (
+      written_cell a e.pair.cell cell,
+      written_label b e.pair.label label,
+      (written_side most c e.before before).0,
+      (written_side most d e.after after).0,
+    ) refl
 
 written_at : (most : ℕ) (line : List ℕ) (e : Entry) (four : Bool) (cell : Option CellId) (label : Option Label) (before after : Option ℕ)
     → has_parts 4 line ≡ four → cell_written (part 0 line) ≡ cell → label_written (part 1 line) ≡ label

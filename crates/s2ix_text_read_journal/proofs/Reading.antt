@@ -99,9 +99,11 @@ pub group_standing : (most : ℕ) → most < 2 ^ 32
     × IsInside most (above ++ map entry_text es) left (last_pair es) groups
 group_standing most bounded limits above groups wanted left text es rest some own standing number was =
     let inside = subst (λ n. IsInside most above n None groups) (sym number) (inside_group most above groups wanted some own standing) in
-    let passed = entries_passed most bounded limits above [] es left groups (lines_of rest) inside was.entries (lines_some rest) in
-    (ap (λ x. fault_left limits above (lines_of x)) was.cut
-    ∙ ap (fault_left limits above) (lines_of_entries most bounded es rest was.entries.sides) ∙ passed.fault, passed.inside)
+    let passed = entries_passed most bounded limits above [] es left groups (lines_of rest) inside was.entries (lines_some rest) in (
+      ap (λ x. fault_left limits above (lines_of x)) was.cut
+          ∙ ap (fault_left limits above) (lines_of_entries most bounded es rest was.entries.sides) ∙ passed.fault,
+      passed.inside,
+    )
 
 number_after : (above : List (List ℕ)) (es : List Entry) (number : ℕ) → length above + 1 ≡ number
     → length (above ++ map entry_text es) + 1 ≡ number + length es
@@ -119,8 +121,8 @@ group_fault most bounded limits above groups wanted left number at text es rest 
     lines is =
     let now = group_standing most bounded limits above groups wanted (suc left) text es rest some own standing more was in
     let row =
-        entry_row most limits (above ++ map entry_text es) line left (last_pair es) groups now.1
-        ∙ ap (λ (r : Result Entry JournalFault). result_err r) is in
+    entry_row most limits (above ++ map entry_text es) line left (last_pair es) groups now.1
+    ∙ ap (λ (r : Result Entry JournalFault). result_err r) is in
     now.0 ∙ ap (fault_left limits (above ++ map entry_text es)) lines
     ∙ stops limits (above ++ map entry_text es) line (lines_of below) fault (lines_some below) row
     ∙ at_line _ _ fault (number_after above es number is_number ∙ sym at_is)
@@ -158,11 +160,11 @@ pub journal_standing : (most : ℕ) → most < 2 ^ 32 → (limits : Limits) (hea
     × IsBetween most (lines_down_to header cs) (length cs)
 journal_standing most bounded limits header own text cs number rest was =
     let passed =
-        groups_passed most bounded limits (lines_down_to header []) 0 cs (lines_of rest) (between_start most header own) was.groups
-        (omega (arith, was.few)) (lines_some rest) in
+    groups_passed most bounded limits (lines_down_to header []) 0 cs (lines_of rest) (between_start most header own) was.groups
+    (omega (arith, was.few)) (lines_some rest) in
     let whole : 0 + length cs ≡ length cs = omega arith in (
       ap (λ x. fault_left limits (lines_down_to header []) (lines_of x)) was.cut
-      ∙ ap (fault_left limits (lines_down_to header [])) (lines_of_groups most bounded limits cs rest was.groups) ∙ passed.fault,
+          ∙ ap (fault_left limits (lines_down_to header [])) (lines_of_groups most bounded limits cs rest was.groups) ∙ passed.fault,
       subst (λ n. IsBetween most (lines_down_to header cs) n) whole passed.between,
     )
 
@@ -238,10 +240,16 @@ lines_more : (cs : List (List Entry)) (es : List Entry)
     → length (flat_map group_lines (cs ++ es ∷ [])) ≡ length (flat_map group_lines cs) + 1 + length es
 lines_more cs es =
     let more : length (flat_map group_lines (cs ++ es ∷ [])) ≡ length (flat_map group_lines cs ++ (group_lines es ++ [])) =
-        ap length (sym (flat_map_more group_lines [] cs es)
-        ∙ ap (λ ls. flat_map group_lines cs ++ ls) (sym (append-nil (group_lines es)))) in
-    omega (arith, more, length-append (flat_map group_lines cs) (group_lines es ++ []), length-append (group_lines es) [], length-map es
-    entry_text)
+    ap length (sym (flat_map_more group_lines [] cs es)
+    ∙ ap (λ ls. flat_map group_lines cs ++ ls) (sym (append-nil (group_lines es)))) in
+    omega (
+      arith,
+      more,
+      length-append (flat_map group_lines cs) (group_lines es ++ []),
+      length-append (group_lines es) [],
+      length-map es
+          entry_text,
+    )
 
 pub journal_more : (most : ℕ) (limits : Limits) (text : List ℕ) (cs : List (List Entry)) (number size : ℕ) (rest line below behind : List ℕ)
     (es : List Entry)

@@ -49,7 +49,7 @@ begun most above line groups size is no_end written =
     ∙ cond-false (is_end line) _ _ no_end
     ∙ ap
     (λ (o : Option ℕ). let made : Standing =
-      record { wanted = unwrap_or o 0; last = None; groups = (behind above).groups + 1; over = (behind above).over } in made)
+    record { wanted = unwrap_or o 0; last = None; groups = (behind above).groups + 1; over = (behind above).over } in made)
     written
     ∙ ap
     (λ (n : ℕ). let made : Standing = record { wanted = size; last = None; groups = n + 1; over = (behind above).over } in made)

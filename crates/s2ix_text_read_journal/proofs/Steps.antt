@@ -74,17 +74,17 @@ entries_passed most bounded limits above before (e ∷ es) left groups lines is 
     let writes = next_here most bounded limits before e es are in
     let next = next_from most bounded limits (last_pair before) (entry_text e) e writes in
     let sound =
-        entry_row most limits above (entry_text e) (length es + left) (last_pair before) groups here
-        ∙ ap (λ (r : Result Entry JournalFault). result_err r) writes in
+    entry_row most limits above (entry_text e) (length es + left) (last_pair before) groups here
+    ∙ ap (λ (r : Result Entry JournalFault). result_err r) writes in
     let inside =
-        inside_more most above (entry_text e) (length es + left) (last_pair before) (last_pair (before ++ e ∷ [])) groups here
-        (next.writes ∙ sym (last_pair_pushed before e)) in
+    inside_more most above (entry_text e) (length es + left) (last_pair before) (last_pair (before ++ e ∷ [])) groups here
+    (next.writes ∙ sym (last_pair_pushed before e)) in
     let assoc : before ++ e ∷ es ≡ (before ++ e ∷ []) ++ es = sym (append_assoc before (e ∷ []) es) in
     let later =
-        entries_passed most bounded limits (above ++ entry_text e ∷ []) (before ++ e ∷ []) es left groups lines inside
-        (subst (AreEntries most limits) assoc are) some in
+    entries_passed most bounded limits (above ++ entry_text e ∷ []) (before ++ e ∷ []) es left groups lines inside
+    (subst (AreEntries most limits) assoc are) some in
     let lines_assoc : (above ++ entry_text e ∷ []) ++ map entry_text es ≡ above ++ entry_text e ∷ map entry_text es =
-        append_assoc above (entry_text e ∷ []) (map entry_text es) in
+    append_assoc above (entry_text e ∷ []) (map entry_text es) in
     record {
       fault =
           passes limits above (entry_text e) (map entry_text es ++ lines) (some_joined (map entry_text es) lines some) sound
@@ -112,9 +112,9 @@ group_passed most bounded limits above groups es lines is group room some =
     let standing = group_begun most above line groups (length es) is no_end (line_from_size limits groups line (length es) size).written in
     let whole : length es ≡ length es + 0 = omega arith in
     let inside =
-        subst (λ n. IsInside most (above ++ line ∷ []) n None (groups + 1)) whole
-        (inside_group most (above ++ line ∷ []) (groups + 1) (length es) (some_behind_line above line)
-        (greatest_more most above line is.some is.greatest) standing) in
+    subst (λ n. IsInside most (above ++ line ∷ []) n None (groups + 1)) whole
+    (inside_group most (above ++ line ∷ []) (groups + 1) (length es) (some_behind_line above line)
+    (greatest_more most above line is.some is.greatest) standing) in
     let passed = entries_passed most bounded limits (above ++ line ∷ []) [] es 0 (groups + 1) lines inside group.entries some in
     let assoc : (above ++ line ∷ []) ++ map entry_text es ≡ above ++ group_lines es = append_assoc above (line ∷ []) (map entry_text es) in
     record {
@@ -140,11 +140,11 @@ groups_passed most bounded limits above groups [] lines is are room some =
 groups_passed most bounded limits above groups (c ∷ cs) lines is are room some =
     let more = flat_map group_lines cs in
     let here =
-        group_passed most bounded limits above groups c (more ++ lines) is (All-head (IsGroup most limits) c cs are) (omega (arith, room))
-        (some_joined more lines some) in
+    group_passed most bounded limits above groups c (more ++ lines) is (All-head (IsGroup most limits) c cs are) (omega (arith, room))
+    (some_joined more lines some) in
     let later =
-        groups_passed most bounded limits (above ++ group_lines c) (groups + 1) cs lines here.between
-        (All-tail (IsGroup most limits) c cs are) (omega (arith, room)) some in
+    groups_passed most bounded limits (above ++ group_lines c) (groups + 1) cs lines here.between
+    (All-tail (IsGroup most limits) c cs are) (omega (arith, room)) some in
     let assoc : (above ++ group_lines c) ++ more ≡ above ++ (group_lines c ++ more) = append_assoc above (group_lines c) more in
     let number : groups + 1 + length cs ≡ groups + length (c ∷ cs) = omega arith in
     record {

@@ -164,7 +164,7 @@ pub answers : {X : Type 0} (limits : Limits) (text : List ℕ) (r : Result X Jou
 answers limits text r accepted refused =
     let at = λ (line : ℕ). place_at limits line text in
     let told : Lines limits text r =
-        tells_lines errors faults limits text (journal_fault limits text) r (found_is limits text) accepted refused in
+    tells_lines errors faults limits text (journal_fault limits text) r (found_is limits text) accepted refused in
     record {
       no_feed = told.one_line;
       bad_header = told.other_header;

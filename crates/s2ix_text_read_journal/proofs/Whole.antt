@@ -125,11 +125,11 @@ journal_is_sound limits cs is version are =
     let below = flat_map group_text cs ++ last_line cs in
     let start = between_start most header (greatest_of_version header version named) in
     let passed =
-        groups_passed most bounded limits (lines_down_to header []) 0 cs (lines_of (last_line cs)) start groups (omega (arith, few))
-        (lines_some (last_line cs)) in
+    groups_passed most bounded limits (lines_down_to header []) 0 cs (lines_of (last_line cs)) start groups (omega (arith, few))
+    (lines_some (last_line cs)) in
     let between =
-        subst (λ n. IsBetween most (lines_down_to header cs) n) (let whole : 0 + length cs ≡ length cs = omega arith in whole)
-        passed.between in
+    subst (λ n. IsBetween most (lines_down_to header cs) n) (let whole : 0 + length cs ≡ length cs = omega arith in whole)
+    passed.between in
     below_header limits (header ++ 10 ∷ below) header below version (lines_apart header below (journal_header_lacks_feed version)) named
     ∙ ap (fault_left limits (lines_down_to header [])) (lines_of_groups most bounded limits cs (last_line cs) groups)
     ∙ passed.fault
@@ -198,8 +198,11 @@ front_after_entry most limits header above cs es zero line e is next =
     let long : length all ≡ length es + suc 0 = omega (arith, length_push es e) in
     let size = is.size in
     let group : IsGroup most limits all =
-        record { entries = entries_more most limits es line e is.entries next; some = omega (arith, long); few = omega (arith, long, size)
-        } in
+    record {
+      entries = entries_more most limits es line e is.entries next;
+      some = omega (arith, long);
+      few = omega (arith, long, size);
+    } in
     let number : length cs + 1 ≡ length (cs ++ all ∷ []) = omega (arith, length_push cs all) in
     inl (
       cs ++ all ∷ [],
@@ -283,8 +286,8 @@ end_from most limits above groups line is end none =
     (λ same. (bytes_eq-Decides line (end_text groups)).0 same)
     (λ other.
     let fault =
-        end_fault most limits above groups line is end
-        (λ e. both_ways (bytes_eq line (end_text groups)) other ((bytes_eq-Decides line (end_text groups)).1 e)) in
+    end_fault most limits above groups line is end
+    (λ e. both_ways (bytes_eq line (end_text groups)) other ((bytes_eq-Decides line (end_text groups)).1 e)) in
     let clash : Some BadEnd ≡ None = sym fault ∙ none in cc)
     (cases_Bool (bytes_eq line (end_text groups)))
 
@@ -328,8 +331,8 @@ one_line_more most bounded limits header above line last lines (inr among) none 
     let is = among.3 in
     let sound = none_here line_fault limits above line (last ∷ lines) none in
     let entry =
-        ok_from (next_entry most limits (last_pair es) line)
-        (sym (entry_row most limits above line more (last_pair es) (length cs + 1) is.inside) ∙ sound) in
+    ok_from (next_entry most limits (last_pair es) line)
+    (sym (entry_row most limits above line more (last_pair es) (length cs + 1) is.inside) ∙ sound) in
     inr (front_after_entry most limits header above cs es more line entry.0 is
     (next_from most bounded limits (last_pair es) line entry.0 entry.1))
 
@@ -345,10 +348,12 @@ whole_from most bounded limits header above (line ∷ (last ∷ lines)) front so
     (λ whole. whole)
     (λ further.
     let later =
-        whole_from most bounded limits header (above ++ line ∷ []) (last ∷ lines) further refl
-        (none_later line_fault limits above line (last ∷ lines) none) in
-    (later.0, subst (λ (ls : List (List ℕ)). IsWhole most limits header ls later.0) (append_assoc above (line ∷ []) (last ∷ lines))
-    later.1))
+    whole_from most bounded limits header (above ++ line ∷ []) (last ∷ lines) further refl
+    (none_later line_fault limits above line (last ∷ lines) none) in (
+      later.0,
+      subst (λ (ls : List (List ℕ)). IsWhole most limits header ls later.0) (append_assoc above (line ∷ []) (last ∷ lines))
+          later.1,
+    ))
     (one_line_more most bounded limits header above line last lines front none)
 
 -- ---- lines put together
@@ -418,9 +423,12 @@ lines_are_journal limits (header ∷ (next ∷ lines)) some none =
     let most = greatest_in named.0 in
     let later = none_later line_fault limits [] header (next ∷ lines) none in
     let start = front_start most limits header (greatest_of_version header named.0 named.1) in
-    let whole = whole_from most (greatest_fits named.0) limits header (header ∷ []) (next ∷ lines) start refl later in
-    (named.0, whole.0, subst (λ (h : List ℕ). IsWhole most limits h (header ∷ next ∷ lines) whole.0)
-    (journal_header_named header named.0 named.1) whole.1)
+    let whole = whole_from most (greatest_fits named.0) limits header (header ∷ []) (next ∷ lines) start refl later in (
+      named.0,
+      whole.0,
+      subst (λ (h : List ℕ). IsWhole most limits h (header ∷ next ∷ lines) whole.0)
+          (journal_header_named header named.0 named.1) whole.1,
+    )
 
 pub sound_is_journal : (limits : Limits) (text : List ℕ) → journal_fault limits text ≡ None
     → (cs : List (List Entry)) × IsJournal limits cs × IsJournalText text cs
@@ -429,6 +437,8 @@ sound_is_journal limits text none =
     let whole = lines_are_journal limits (lines_of text) (lines_some text) none in
     let version = whole.0 in
     let cs = whole.1 in
-    let is = whole.2 in
-    (cs, journal_of_groups version limits cs is.groups is.few,
-    (version, groups_writable version limits cs is.groups, sym (lines_joined text) ∙ ap (join_with_byte 10) is.are ∙ join_whole version cs))
+    let is = whole.2 in (
+      cs,
+      journal_of_groups version limits cs is.groups is.few,
+      (version, groups_writable version limits cs is.groups, sym (lines_joined text) ∙ ap (join_with_byte 10) is.are ∙ join_whole version cs),
+    )

@@ -33,7 +33,7 @@ unfoldable pub entry_written : ℕ → List ℕ → Result Entry JournalFault
 entry_written most line =
     if has_parts 4 line
     then entry_of_parts
-      (cell_written (part 0 line)) (label_written (part 1 line)) (side_written most (part 2 line)) (side_written most (part 3 line))
+    (cell_written (part 0 line)) (label_written (part 1 line)) (side_written most (part 2 line)) (side_written most (part 3 line))
     else Err BadLine
 
 -- an entry behind the last of those above it in its group, or its first fault

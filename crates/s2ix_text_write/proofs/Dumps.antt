@@ -28,7 +28,7 @@ one_held h k r s hc kc same =
     let count = cut_field 10 (decimal h.count) (decimal k.count) [] [] r s (omega arith) (decimal_graphic _ (omega arith))
     (decimal_graphic _ (omega arith)) pair.1 in (
       ap₂ (λ (p : Pair) (n : ℕ). let made : Held = record { pair = p; count = n } in made) pair.0
-      (decimal_injective h.count k.count (omega arith) (omega arith) count.0),
+          (decimal_injective h.count k.count (omega arith) (omega arith) count.0),
       count.1,
     )
 
@@ -37,10 +37,10 @@ ends_no_pair : (k : Held) (r s : List ℕ) → 101 ∷ 110 ∷ 100 ∷ 32 ∷ r 
 unfolding pair_line
 ends_no_pair k r s same =
     let graphic =
-        All-cons IsGraphic 101 (110 ∷ 100 ∷ []) (omega arith)
-        (All-cons IsGraphic 110 (100 ∷ []) (omega arith) (All-cons IsGraphic 100 [] (omega arith) (All-nil IsGraphic))) in
+    All-cons IsGraphic 101 (110 ∷ 100 ∷ []) (omega arith)
+    (All-cons IsGraphic 110 (100 ∷ []) (omega arith) (All-cons IsGraphic 100 [] (omega arith) (All-nil IsGraphic))) in
     let token =
-        cut_field 32 (101 ∷ 110 ∷ 100 ∷ []) (canonical_token (raw_of k.pair.cell)) [] _ r s (omega arith) graphic (token_graphic _) same in
+    cut_field 32 (101 ∷ 110 ∷ 100 ∷ []) (canonical_token (raw_of k.pair.cell)) [] _ r s (omega arith) graphic (token_graphic _) same in
     let lower = subst (λ (digits : List ℕ). All IsLowerHex digits) (sym token.0) (lower-canonical_token (raw_of k.pair.cell)) in
     let n : IsLowerHex 110 = All-head IsLowerHex 110 (100 ∷ []) (All-tail IsLowerHex 101 (110 ∷ 100 ∷ []) lower) in
     omega (arith, n)

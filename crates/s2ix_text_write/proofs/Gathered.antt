@@ -67,7 +67,7 @@ module _ {K : Type 0} {sink : Sink K} where
       → Writes sink old new r (flat_map f xs)
   fault_before f xs place {old} {new} r is wrote =
       let whole : flat_map f (take place xs) ++ flat_map f (drop place xs) ≡ flat_map f xs =
-          sym (flat_map-append f (take place xs) (drop place xs)) ∙ ap (flat_map f) (take-append-drop place xs) in
+      sym (flat_map-append f (take place xs) (drop place xs)) ∙ ap (flat_map f) (take-append-drop place xs) in
       subst (λ (t : List ℕ). Writes sink old new r t) whole (Writes-cut r (flat_map f (drop place xs)) is wrote)
 
   -- the last block is put

@@ -74,11 +74,11 @@ cut_pair p q t u r s same =
     let pl : value_of p.label ≤ 2147483647 = p.label.in_range in
     let ql : value_of q.label ≤ 2147483647 = q.label.in_range in
     let token =
-        cut_field 32 (canonical_token (raw_of p.cell)) (canonical_token (raw_of q.cell)) _ _ r s (omega arith) (token_graphic _)
-        (token_graphic _) same in
+    cut_field 32 (canonical_token (raw_of p.cell)) (canonical_token (raw_of q.cell)) _ _ r s (omega arith) (token_graphic _)
+    (token_graphic _) same in
     let label =
-        cut_field 32 (decimal (value_of p.label)) (decimal (value_of q.label)) t u r s (omega arith) (decimal_graphic _ (omega arith))
-        (decimal_graphic _ (omega arith)) token.1 in
+    cut_field 32 (decimal (value_of p.label)) (decimal (value_of q.label)) t u r s (omega arith) (decimal_graphic _ (omega arith))
+    (decimal_graphic _ (omega arith)) token.1 in
     let cells = one_token (raw_of p.cell) (raw_of q.cell) p.cell.valid q.cell.valid token.0 in
     let labels = decimal_injective (value_of p.label) (value_of q.label) (omega arith) (omega arith) label.0 in
     (same_pair p q (ap₂ (λ (c v : ℕ). c * 2147483648 + v) cells labels), label.1)
@@ -96,8 +96,8 @@ unfolding entry_line
 one_line e f r s eb ea fb fa same =
     let pair = cut_pair e.pair f.pair _ _ r s same in
     let before =
-        cut_field 32 (decimal e.before) (decimal f.before) _ _ r s (omega arith) (decimal_graphic _ (omega arith))
-        (decimal_graphic _ (omega arith)) pair.1 in
+    cut_field 32 (decimal e.before) (decimal f.before) _ _ r s (omega arith) (decimal_graphic _ (omega arith))
+    (decimal_graphic _ (omega arith)) pair.1 in
     let after = cut_field 10 (decimal e.after) (decimal f.after) [] [] r s (omega arith) (decimal_graphic _ (omega arith))
     (decimal_graphic _ (omega arith)) before.1 in (
       same_entry e f pair.0
@@ -123,8 +123,8 @@ one_entries (e ∷ es) (f ∷ fs) r s long eb ea fb fa same =
     (All-head AfterIsSmall e es ea) (All-head BeforeIsSmall f fs fb) (All-head AfterIsSmall f fs fa)
     (sym (append_assoc (entry_line e) (flat_map entry_line es) r) ∙ same ∙ append_assoc (entry_line f) (flat_map entry_line fs) s) in
     let rest =
-        one_entries es fs r s (omega arith) (All-tail BeforeIsSmall e es eb) (All-tail AfterIsSmall e es ea)
-        (All-tail BeforeIsSmall f fs fb) (All-tail AfterIsSmall f fs fa) line.1 in
+    one_entries es fs r s (omega arith) (All-tail BeforeIsSmall e es eb) (All-tail AfterIsSmall e es ea)
+    (All-tail BeforeIsSmall f fs fb) (All-tail AfterIsSmall f fs fa) line.1 in
     (ap₂ (λ (x : Entry) (xs : List Entry). x ∷ xs) line.0 rest.0, rest.1)
 
 -- ---- groups of changes
@@ -134,15 +134,15 @@ one_group : (es fs : List Entry) (r s : List ℕ) → IsWritable es → IsWritab
 unfolding group_text change_line
 one_group es fs r s es_is fs_is same =
     let texts =
-        sym (append_assoc (change_line es) (flat_map entry_line es) r) ∙ same ∙ append_assoc (change_line fs) (flat_map entry_line fs) s in
+    sym (append_assoc (change_line es) (flat_map entry_line es) r) ∙ same ∙ append_assoc (change_line fs) (flat_map entry_line fs) s in
     let numbers =
-        append_cancel_left (codes "change ") ((decimal (length es) ++ 10 ∷ []) ++ (flat_map entry_line es ++ r))
-        ((decimal (length fs) ++ 10 ∷ []) ++ (flat_map entry_line fs ++ s)) texts in
+    append_cancel_left (codes "change ") ((decimal (length es) ++ 10 ∷ []) ++ (flat_map entry_line es ++ r))
+    ((decimal (length fs) ++ 10 ∷ []) ++ (flat_map entry_line fs ++ s)) texts in
     let few_es = es_is.few in
     let few_fs = fs_is.few in
     let number =
-        cut_field 10 (decimal (length es)) (decimal (length fs)) [] [] (flat_map entry_line es ++ r) (flat_map entry_line fs ++ s)
-        (omega arith) (decimal_graphic _ (omega arith)) (decimal_graphic _ (omega arith)) numbers in
+    cut_field 10 (decimal (length es)) (decimal (length fs)) [] [] (flat_map entry_line es ++ r) (flat_map entry_line fs ++ s)
+    (omega arith) (decimal_graphic _ (omega arith)) (decimal_graphic _ (omega arith)) numbers in
     let long = decimal_injective (length es) (length fs) (omega arith) (omega arith) number.0 in
     one_entries es fs r s long es_is.small_before es_is.small_after fs_is.small_before fs_is.small_after number.1
 

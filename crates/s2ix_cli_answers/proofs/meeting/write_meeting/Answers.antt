@@ -13,11 +13,15 @@ pub overflow_add-count : goal.overflow_add-count
 overflow_add-count g c =
     let table = c.args.table.now in
     let shown : Shown g.row.T-Place.Denot =
-        record { pairs = g.T.RangeTable.pairs table; ranges = g.T.RangeTable.ranges table; chain = g.T.RangeTable.chain table } in
+    record { pairs = g.T.RangeTable.pairs table; ranges = g.T.RangeTable.ranges table; chain = g.T.RangeTable.chain table } in
     let few =
-        few_meet shown c.args.target.now
-        (record { is_collection = g.met.T.RangeTable.is_collection table; is_table = g.met.T.RangeTable.is_table table; few =
-        g.met.T.RangeTable.few table }) in
+    few_meet shown c.args.target.now
+    (record {
+      is_collection = g.met.T.RangeTable.is_collection table;
+      is_table = g.met.T.RangeTable.is_table table;
+      few =
+          g.met.T.RangeTable.few table;
+    }) in
     let within = c.loop-held.invariant.1 in
     omega arith
 
@@ -49,5 +53,5 @@ returns g c =
     let within = c.loop-held.invariant.1 in
     let end : c.loop-held.count ≡ length all = omega arith in
     let WritesEnd : ℕ → Type 0 =
-        λ n. Writes g.K.Sink c.loop-held.sink c.write_end_of_list.new.sink c.write_end_of_list.result (end_of_list n) in
+    λ n. Writes g.K.Sink c.loop-held.sink c.write_end_of_list.new.sink c.write_end_of_list.result (end_of_list n) in
     Writes-then (Writes-all held_line all c.loop-held.count end c.loop-held.invariant.2) (subst WritesEnd end c.write_end_of_list.ensures)

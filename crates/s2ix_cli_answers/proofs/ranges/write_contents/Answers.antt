@@ -16,9 +16,9 @@ pub overflow_add-count : goal.overflow_add-count
 overflow_add-count g c =
     let all = contents_at (raw_of c.args.leaf) (g.T.RangeTable.pairs c.args.table.now) in
     let turn =
-        yields_turn (λ (it : ChainIter g.row.T.Denot g.row.T-Place.Denot g.T.RangeTable). from_place (g.T.RangeTable.chain it.table.now)
-        it.next) _ _ _ c.next.new.self all c.loop-held.yielded _ c.in-Some.held c.chain_at-held-items.ensures
-        c.into_iter-held-iterator.ensures.into_iter_gives c.loop-held.yielded_by c.in-Some.is c.next.ensures.steps in
+    yields_turn (λ (it : ChainIter g.row.T.Denot g.row.T-Place.Denot g.T.RangeTable). from_place (g.T.RangeTable.chain it.table.now)
+    it.next) _ _ _ c.next.new.self all c.loop-held.yielded _ c.in-Some.held c.chain_at-held-items.ensures
+    c.into_iter-held-iterator.ensures.into_iter_gives c.loop-held.yielded_by c.in-Some.is c.next.ensures.steps in
     let less : length c.loop-held.yielded < length all = turn.0 in
     let within = length_contents (raw_of c.args.leaf) (g.T.RangeTable.pairs c.args.table.now) in
     let few = g.met.T.RangeTable.few c.args.table.now in
@@ -43,9 +43,9 @@ unfolding list_text
 returns-in_err-write_line g c =
     let all = contents_at (raw_of c.args.leaf) (g.T.RangeTable.pairs c.args.table.now) in
     let turn =
-        yields_turn (λ (it : ChainIter g.row.T.Denot g.row.T-Place.Denot g.T.RangeTable). from_place (g.T.RangeTable.chain it.table.now)
-        it.next) _ _ _ c.next.new.self all c.loop-held.yielded _ c.in-Some.held c.chain_at-held-items.ensures
-        c.into_iter-held-iterator.ensures.into_iter_gives c.loop-held.yielded_by c.in-Some.is c.next.ensures.steps in
+    yields_turn (λ (it : ChainIter g.row.T.Denot g.row.T-Place.Denot g.T.RangeTable). from_place (g.T.RangeTable.chain it.table.now)
+    it.next) _ _ _ c.next.new.self all c.loop-held.yielded _ c.in-Some.held c.chain_at-held-items.ensures
+    c.into_iter-held-iterator.ensures.into_iter_gives c.loop-held.yielded_by c.in-Some.is c.next.ensures.steps in
     Writes-cut _ (end_of_list (length all)) c.from_residual.ensures.0
     (Writes-turn_fault held_line all c.loop-held.yielded c.in-Some.held turn c.loop-held.invariant.3 c.in_err-write_line.ensures)
 
@@ -54,10 +54,10 @@ unfolding list_text
 returns g c =
     let all = contents_at (raw_of c.args.leaf) (g.T.RangeTable.pairs c.args.table.now) in
     let end =
-        yields_end (λ (it : ChainIter g.row.T.Denot g.row.T-Place.Denot g.T.RangeTable). from_place (g.T.RangeTable.chain it.table.now)
-        it.next) _ _ _ c.next.new.self all c.loop-held.yielded _ c.chain_at-held-items.ensures
-        c.into_iter-held-iterator.ensures.into_iter_gives c.loop-held.yielded_by c.in-None.is c.next.ensures.steps in
+    yields_end (λ (it : ChainIter g.row.T.Denot g.row.T-Place.Denot g.T.RangeTable). from_place (g.T.RangeTable.chain it.table.now)
+    it.next) _ _ _ c.next.new.self all c.loop-held.yielded _ c.chain_at-held-items.ensures
+    c.into_iter-held-iterator.ensures.into_iter_gives c.loop-held.yielded_by c.in-None.is c.next.ensures.steps in
     let WritesEnd : ℕ → Type 0 =
-        λ n. Writes g.K.Sink c.loop-held.sink c.write_end_of_list.new.sink c.write_end_of_list.result (end_of_list n) in
+    λ n. Writes g.K.Sink c.loop-held.sink c.write_end_of_list.new.sink c.write_end_of_list.result (end_of_list n) in
     Writes-then (Writes-all held_line all (length c.loop-held.yielded) end c.loop-held.invariant.3)
     (subst WritesEnd (c.loop-held.invariant.2 ∙ end) c.write_end_of_list.ensures)

@@ -11,8 +11,8 @@ unfolding range_line
 returns-in_err-write_bounds g c =
     let range = range_at (g.T.RangeTable.ranges c.args.table.now) c.args.k in
     let WritesLine : List ℕ → Type 0 =
-        λ text. Writes g.K.Sink c.args.sink.now c.write_bounds.new.sink c.from_residual.result
-        (text ++ (flat_map spaced_pair range.contents ++ codes "\n")) in
+    λ text. Writes g.K.Sink c.args.sink.now c.write_bounds.new.sink c.from_residual.result
+    (text ++ (flat_map spaced_pair range.contents ++ codes "\n")) in
     subst WritesLine (ap₂ bounds_text c.range.ensures.start c.range.ensures.limit)
     (Writes-cut _ (flat_map spaced_pair range.contents ++ codes "\n") c.from_residual.ensures.0 c.in_err-write_bounds.ensures)
 

@@ -30,6 +30,6 @@ returns g c =
     let ranges = g.T.RangeTable.ranges c.args.table.now in
     let end : c.loop-k.k ≡ length ranges = omega (arith, c.loop-k-test.false, c.loop-k.auto.k-end, c.range_count-k-end.ensures) in
     let WritesEnd : ℕ → Type 0 =
-        λ n. Writes g.K.Sink c.loop-k.sink c.write_end_of_list.new.sink c.write_end_of_list.result (end_of_list n) in
+    λ n. Writes g.K.Sink c.loop-k.sink c.write_end_of_list.new.sink c.write_end_of_list.result (end_of_list n) in
     Writes-then (Writes-all range_line ranges c.loop-k.k end c.loop-k.invariant)
     (subst WritesEnd c.range_count.ensures c.write_end_of_list.ensures)

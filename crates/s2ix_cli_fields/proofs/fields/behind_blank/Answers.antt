@@ -6,5 +6,5 @@ pub loop-start-preserved : goal.loop-start-preserved
 loop-start-preserved c = (
   omega arith,
   fields_of-blank_at c.args.text.now c.loop-start.start (omega arith) (sym c.is_blank.ensures ∙ c.if-is_blank.true)
-    ∙ c.loop-start.invariant.1,
+      ∙ c.loop-start.invariant.1,
 )

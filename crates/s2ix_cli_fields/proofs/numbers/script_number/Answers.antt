@@ -8,7 +8,7 @@ pub returns-then-is_empty : goal.returns-then-is_empty
 returns-then-is_empty c =
     elim c.then-is_empty.branch [
       | then-is_empty-via-then-is_empty w
-      ↦ sym (script_number-none c.args.text.now (inl (eqb-true _ _ (sym c.is_empty.ensures ∙ w.if-is_empty.true))))
+          ↦ sym (script_number-none c.args.text.now (inl (eqb-true _ _ (sym c.is_empty.ensures ∙ w.if-is_empty.true))))
       | then-is_empty-via-else-is_empty+then-text-gt-MOST_DIGITS w ↦ sym (script_number-none c.args.text.now (inr (omega arith)))
     ]
 

@@ -16,7 +16,7 @@ pub returns-in_err-write_counts-in-Ok-clause-told : goal.returns-in_err-write_co
 returns-in_err-write_counts-in-Ok-clause-told g c =
     let p = err_from_is_err_and c.from_residual.result c.from_residual.ensures.1 in
     let reads =
-        as_widest (λ (l : Limits). DumpReads l c.args.text.now (Ok c.in-Ok.bag)) c.default.result c.default.ensures c.in-Ok.ensures.bag in
+    as_widest (λ (l : Limits). DumpReads l c.args.text.now (Ok c.in-Ok.bag)) c.default.result c.default.ensures c.in-Ok.ensures.bag in
     let is = bag_answer counts_line (DumpReads widest c.args.text.now) c.in-Ok.bag reads in
     rw (p.1, p.2) (told_front g.K.Sink (CheckAnswers widest c.args.text.now) true is c.in_err-write_counts-in-Ok.ensures)
 
@@ -25,7 +25,7 @@ returns-in_err-flush-in-Ok-clause-told g c =
     let exit = c.from_residual-in_err-flush-in-Ok in
     let p = err_from_is_err_and exit.result exit.ensures.1 in
     let reads =
-        as_widest (λ (l : Limits). DumpReads l c.args.text.now (Ok c.in-Ok.bag)) c.default.result c.default.ensures c.in-Ok.ensures.bag in
+    as_widest (λ (l : Limits). DumpReads l c.args.text.now (Ok c.in-Ok.bag)) c.default.result c.default.ensures c.in-Ok.ensures.bag in
     let is = bag_answer counts_line (DumpReads widest c.args.text.now) c.in-Ok.bag reads in
     rw (p.1, p.2) (told_unflushed g.K.Sink (CheckAnswers widest c.args.text.now) true is c.in_ok-write_counts-in-Ok.ensures
     c.in_err-flush-in-Ok.ensures.bytes)
@@ -33,7 +33,7 @@ returns-in_err-flush-in-Ok-clause-told g c =
 pub returns-in_ok-flush-in-Ok-clause-told : goal.returns-in_ok-flush-in-Ok-clause-told
 returns-in_ok-flush-in-Ok-clause-told g c =
     let reads =
-        as_widest (λ (l : Limits). DumpReads l c.args.text.now (Ok c.in-Ok.bag)) c.default.result c.default.ensures c.in-Ok.ensures.bag in
+    as_widest (λ (l : Limits). DumpReads l c.args.text.now (Ok c.in-Ok.bag)) c.default.result c.default.ensures c.in-Ok.ensures.bag in
     let is = bag_answer counts_line (DumpReads widest c.args.text.now) c.in-Ok.bag reads in
     let flush = c.in_ok-flush-in-Ok.ensures in
     told_whole g.K.Sink (CheckAnswers widest c.args.text.now) true (some_counts c.in-Ok.bag) is c.in_ok-write_counts-in-Ok.ensures
@@ -42,8 +42,8 @@ returns-in_ok-flush-in-Ok-clause-told g c =
 pub returns-in-Err-clause-told : goal.returns-in-Err-clause-told
 returns-in-Err-clause-told g c =
     let refused =
-        as_widest (λ (l : Limits). IsRefusedBy (DumpReads l c.args.text.now) c.in-Err.error) c.default.result c.default.ensures
-        c.in-Err.ensures.refused in
+    as_widest (λ (l : Limits). IsRefusedBy (DumpReads l c.args.text.now) c.in-Err.error) c.default.result c.default.ensures
+    c.in-Err.ensures.refused in
     let as_answer = refusal_answer counts_line (DumpReads widest c.args.text.now) c.in-Err.error refused in
     told_as g.K.Sink (IsRefusalAnswer c.in-Err.error) (CheckAnswers widest c.args.text.now) c.args.sink.now c.tell_refusal.new.sink
     c.tell_refusal.result as_answer c.tell_refusal.ensures.told

@@ -29,7 +29,7 @@ pub returns-in_ok-tell_refusal-in-Err-clause-told : goal.returns-in_ok-tell_refu
 returns-in_ok-tell_refusal-in-Err-clause-told g c =
     let as_answer = refusal_answer no_text (DumpReads c.args.limits c.args.text.now) c.in-Err.error c.in-Err.ensures.refused in
     let told =
-        told_refused g.K.Sink c.in-Err.error c.args.sink.now c.tell_refusal.new.sink c.in_ok-tell_refusal-in-Err.field-0
-        c.in_ok-tell_refusal-in-Err.ensures.told in
+    told_refused g.K.Sink c.in-Err.error c.args.sink.now c.tell_refusal.new.sink c.in_ok-tell_refusal-in-Err.field-0
+    c.in_ok-tell_refusal-in-Err.ensures.told in
     told_as g.K.Sink (IsRefusalAnswer c.in-Err.error) (LoadAnswers c.args.limits c.args.text.now) c.args.sink.now c.tell_refusal.new.sink
     (Ok false) as_answer told

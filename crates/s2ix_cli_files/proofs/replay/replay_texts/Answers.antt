@@ -15,8 +15,8 @@ returns-clause-told g c =
     let made = c.texts_replayed in
     let as_answer = dump_answer (TextsReplay limits c.args.dump.now c.args.journal.now) made.result made.ensures.bag made.ensures.refused in
     let as_widest_answer =
-        as_widest (λ (l : Limits). (answer : Answer) → IsDumpAnswer made.result answer
-        → ReplayAnswers l c.args.dump.now c.args.journal.now answer) limits c.default.ensures as_answer in
+    as_widest (λ (l : Limits). (answer : Answer) → IsDumpAnswer made.result answer
+    → ReplayAnswers l c.args.dump.now c.args.journal.now answer) limits c.default.ensures as_answer in
     told_as g.K.Sink (IsDumpAnswer made.result) (ReplayAnswers widest c.args.dump.now c.args.journal.now) c.args.sink.now
     c.tell_dump.new.sink c.tell_dump.result as_widest_answer c.tell_dump.ensures.told
 

@@ -14,7 +14,7 @@ pub lines-preserved : goal.lines-preserved
 lines-preserved g c =
     let on : c.args.stop && is_refused c.in_ok-outcome.outcome ≡ false = elim c.else-stop.branch [
       | else-stop-via-then-stop+else-is_refused w ↦ ap (λ b. c.args.stop && b) (sym w.is_refused.ensures ∙ w.if-is_refused.false)
-      ∙ ap (λ b. b && false) w.if-stop.true
+          ∙ ap (λ b. b && false) w.if-stop.true
       | else-stop-via-else-stop w ↦ ap (λ b. b && is_refused c.in_ok-outcome.outcome) w.if-stop.false
     ] in (
       λ front is. (let a = c.lines.invariant.0 front is in

@@ -24,12 +24,17 @@ returns-in_err-told-clause-ran g c =
     let exit = c.from_residual-in_err-told in
     let p = err_from_is_err_and exit.result exit.ensures.1 in
     let b =
-        Between-last _ _ _ _ _ _ _ c.pieces.invariant.0 c.in_ok-count.ensures.bytes
-        (ap (λ n. take n c.piece.new.buf) c.if-count-eq0.true) in
+    Between-last _ _ _ _ _ _ _ c.pieces.invariant.0 c.in_ok-count.ensures.bytes
+    (ap (λ n. take n c.piece.new.buf) c.if-count-eq0.true) in
     let end : EndWasRead g.S.Source.left g.S.Source.gives c.args.options.turns c.args.source.now c.piece.new.self = (
       c.in_ok-count.ensures.end c.if-count-eq0.true,
-      (c.pieces._turn, omega (arith, c.pieces-test.true), c.pieces.source, c.pieces.invariant.1,
-      subst (λ n. g.S.Source.gives c.pieces.source n c.piece.new.self) c.if-count-eq0.true c.in_ok-count.ensures.call),
+      (
+        c.pieces._turn,
+        omega (arith, c.pieces-test.true),
+        c.pieces.source,
+        c.pieces.invariant.1,
+        subst (λ n. g.S.Source.gives c.pieces.source n c.piece.new.self) c.if-count-eq0.true c.in_ok-count.ensures.call,
+      ),
     ) in
     rw (p.1, p.2) (Between-fault_last _ _ _ _ _ _ _ _ _ b _ _ _ _ end
     (c.in_err-told.ensures.carries c.args.options.stop (unended_behind [] b.input) b.is_held))
@@ -63,12 +68,17 @@ returns-in_err-flush-clause-ran g c =
     let exit = c.from_residual-in_err-flush in
     let p = err_from_is_err_and exit.result exit.ensures.1 in
     let b =
-        Between-last _ _ _ _ _ _ _ c.pieces.invariant.0 c.in_ok-count.ensures.bytes
-        (ap (λ n. take n c.piece.new.buf) c.if-count-eq0.true) in
+    Between-last _ _ _ _ _ _ _ c.pieces.invariant.0 c.in_ok-count.ensures.bytes
+    (ap (λ n. take n c.piece.new.buf) c.if-count-eq0.true) in
     let end : EndWasRead g.S.Source.left g.S.Source.gives c.args.options.turns c.args.source.now c.piece.new.self = (
       c.in_ok-count.ensures.end c.if-count-eq0.true,
-      (c.pieces._turn, omega (arith, c.pieces-test.true), c.pieces.source, c.pieces.invariant.1,
-      subst (λ n. g.S.Source.gives c.pieces.source n c.piece.new.self) c.if-count-eq0.true c.in_ok-count.ensures.call),
+      (
+        c.pieces._turn,
+        omega (arith, c.pieces-test.true),
+        c.pieces.source,
+        c.pieces.invariant.1,
+        subst (λ n. g.S.Source.gives c.pieces.source n c.piece.new.self) c.if-count-eq0.true c.in_ok-count.ensures.call,
+      ),
     ) in
     rw (p.1, p.2) (Between-ends_flushing _ _ _ _ _ _ _ _ _ b _ _ _ _
     (c.in_ok-told.ensures.carries c.args.options.stop (unended_behind [] b.input) b.is_held) c.in_err-flush.ensures.bytes _ end)
@@ -76,12 +86,17 @@ returns-in_err-flush-clause-ran g c =
 pub returns-then-count-eq0-clause-ran : goal.returns-then-count-eq0-clause-ran
 returns-then-count-eq0-clause-ran g c =
     let b =
-        Between-last _ _ _ _ _ _ _ c.pieces.invariant.0 c.in_ok-count.ensures.bytes
-        (ap (λ n. take n c.piece.new.buf) c.if-count-eq0.true) in
+    Between-last _ _ _ _ _ _ _ c.pieces.invariant.0 c.in_ok-count.ensures.bytes
+    (ap (λ n. take n c.piece.new.buf) c.if-count-eq0.true) in
     let end : EndWasRead g.S.Source.left g.S.Source.gives c.args.options.turns c.args.source.now c.piece.new.self = (
       c.in_ok-count.ensures.end c.if-count-eq0.true,
-      (c.pieces._turn, omega (arith, c.pieces-test.true), c.pieces.source, c.pieces.invariant.1,
-      subst (λ n. g.S.Source.gives c.pieces.source n c.piece.new.self) c.if-count-eq0.true c.in_ok-count.ensures.call),
+      (
+        c.pieces._turn,
+        omega (arith, c.pieces-test.true),
+        c.pieces.source,
+        c.pieces.invariant.1,
+        subst (λ n. g.S.Source.gives c.pieces.source n c.piece.new.self) c.if-count-eq0.true c.in_ok-count.ensures.call,
+      ),
     ) in
     Between-ends _ _ _ _ _ _ _ _ _ b _ _ _ _ (c.in_ok-told.ensures.carries c.args.options.stop (unended_behind [] b.input) b.is_held)
     c.in_ok-flush.ensures.bytes _ end
@@ -129,7 +144,7 @@ pieces-preserved g c =
       Between-more _ _ _ _ _ _ _ _ _ _ _ b c.in_ok-count.ensures.bytes _ _ c.in_ok-flush-2.ensures.bytes _ _ _
           (goes_on _ _ front _ _ _ _ c.in-GoesOn.is (c.in_ok-end.ensures.carries front b.is_held)),
       ReadsOn-more g.S.Source.gives _ _ _ _ _ c.pieces.invariant.1 (let some = c.if-count-eq0.false in omega arith)
-      c.in_ok-count.ensures.call,
+          c.in_ok-count.ensures.call,
       inr (_, c.in_ok-flush-2.ensures.call),
       c.in_ok-count.ensures.faults ∙ plus_none _ ∙ c.pieces.invariant.3,
       c.in_ok-flush-2.ensures.faults ∙ plus_none _ ∙ c.in_ok-end.ensures.faults ∙ plus_none _ ∙ c.pieces.invariant.4,

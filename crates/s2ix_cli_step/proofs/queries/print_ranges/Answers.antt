@@ -12,7 +12,7 @@ use Rattle.s2ix_cli_step.proofs.queries.print_ranges.Goals as goal
 pub returns-clause-carries : goal.returns-clause-carries
 returns-clause-carries g c =
     let Took : List Range → Type 0 =
-        λ runs. Appends (g.K.Sink.taken c.args.sink.now) (g.K.Sink.taken c.write_ranges.new.sink) (list_text range_line runs) in
+    λ runs. Appends (g.K.Sink.taken c.args.sink.now) (g.K.Sink.taken c.write_ranges.new.sink) (list_text range_line runs) in
     let put = subst Took (is_range_table _ _ c.table.ensures.table) c.in_ok-write_ranges.ensures.puts in
     record { store = refl; output = put; counted = refl; refused = refl }
 
@@ -21,6 +21,6 @@ returns-in_err-write_ranges-clause-carries g c =
     let exit = c.from_residual in
     let p = err_from_is_err_and exit.result exit.ensures.1 in
     let Took : List Range → Type 0 =
-        λ runs. AppendsFront (g.K.Sink.taken c.args.sink.now) (g.K.Sink.taken c.write_ranges.new.sink) (list_text range_line runs) in
+    λ runs. AppendsFront (g.K.Sink.taken c.args.sink.now) (g.K.Sink.taken c.write_ranges.new.sink) (list_text range_line runs) in
     let put = subst Took (is_range_table _ _ c.table.ensures.table) c.in_err-write_ranges.ensures.puts in
     rw (p.1, p.2) (refl, put)

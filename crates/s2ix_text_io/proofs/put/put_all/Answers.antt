@@ -13,6 +13,10 @@ pub loop-rest-preserved : goal.loop-rest-preserved
 loop-rest-preserved g c =
     let (done, split, appended, unflushed, quiet) = c.loop-rest.invariant in
     let rest = c.loop-rest.rest.now in
-    let n = c.in_ok-count.count in
-    (done ++ take n rest, moves_front _ done rest n split, Appends-trans _ _ _ _ _ appended c.in_ok-count.ensures.bytes,
-    c.in_ok-count.ensures.unflushed ∙ unflushed, omega (arith, quiet, c.in_ok-count.ensures.faults))
+    let n = c.in_ok-count.count in (
+      done ++ take n rest,
+      moves_front _ done rest n split,
+      Appends-trans _ _ _ _ _ appended c.in_ok-count.ensures.bytes,
+      c.in_ok-count.ensures.unflushed ∙ unflushed,
+      omega (arith, quiet, c.in_ok-count.ensures.faults),
+    )

@@ -16,6 +16,9 @@ returns-in_err-append-clause-memory g c =
     let p = err_from_is_err_and exit.result exit.ensures.1 in
     let some = c.if-count-eq0.false in
     let more = c.pieces-test.true in
-    rw p.1 (λ _.
-    (suc c.pieces._turn, omega arith, omega arith,
-    (c.pieces.source, c.pieces.invariant.1, c.in_ok-count.count, omega arith, c.in_ok-count.ensures.call)))
+    rw p.1 (λ _. (
+      suc c.pieces._turn,
+      omega arith,
+      omega arith,
+      (c.pieces.source, c.pieces.invariant.1, c.in_ok-count.count, omega arith, c.in_ok-count.ensures.call),
+    ))

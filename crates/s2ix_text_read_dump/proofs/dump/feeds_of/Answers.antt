@@ -10,8 +10,8 @@ use Rattle.s2ix_text_read_dump.proofs.dump.feeds_of.Goals as goal
 pub loop-block-preserved : goal.loop-block-preserved
 loop-block-preserved c =
     let sum =
-        ap (count_by is_feed) c.in-Some.ensures.steps.1.0
-        ∙ sum_by-append (λ byte. cond (is_feed byte) 1 0) c.in-Some.block.now (chunks_rest c.next.new.self) in
+    ap (count_by is_feed) c.in-Some.ensures.steps.1.0
+    ∙ sum_by-append (λ byte. cond (is_feed byte) 1 0) c.in-Some.block.now (chunks_rest c.next.new.self) in
     let most = min-le_left (c.loop-block.feeds + c.feeds_in.result) 18446744073709551615 in
     omega (arith, sum, most, c.saturating_add-feeds.ensures, c.feeds_in.ensures, c.loop-block.invariant)
 

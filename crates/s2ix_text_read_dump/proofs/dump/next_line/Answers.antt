@@ -22,8 +22,8 @@ pub returns-then-not-is_end_of-clause-refused : goal.returns-then-not-is_end_of-
 returns-then-not-is_end_of-clause-refused c =
     let line = c.in-Some-cut_line.line.now in
     let end : is_end line ≡ true =
-        end_agrees line c.first_part.result.now c.as_slice.result.now c.ne.result c.ne.ensures c.first_part.ensures c.as_slice.ensures
-        c.if-ne.false in
+    end_agrees line c.first_part.result.now c.as_slice.result.now c.ne.result c.ne.ensures c.first_part.ensures c.as_slice.ensures
+    c.if-ne.false in
     bad_end c.args.limits (dump_header c.args.version) c.args.before.now c.args.copies c.args.text.now line c.in-Some-cut_line.below.now
     c.requires.dumped c.requires.sum c.in-Some-cut_line.ensures.line end (iff_false c.is_end_of.ensures c.if-not-is_end_of.true)
 
@@ -31,8 +31,8 @@ pub returns-then-not-is_empty-clause-refused : goal.returns-then-not-is_empty-cl
 returns-then-not-is_empty-clause-refused c =
     let line = c.in-Some-cut_line.line.now in
     let end : is_end line ≡ true =
-        end_agrees line c.first_part.result.now c.as_slice.result.now c.ne.result c.ne.ensures c.first_part.ensures c.as_slice.ensures
-        c.if-ne.false in
+    end_agrees line c.first_part.result.now c.as_slice.result.now c.ne.result c.ne.ensures c.first_part.ensures c.as_slice.ensures
+    c.if-ne.false in
     let number : length c.args.before.now + 3 ≡ length c.args.before.now + 2 + 1 = omega arith in
     trailing c.args.limits (dump_header c.args.version) c.args.before.now c.args.copies c.args.text.now line c.in-Some-cut_line.below.now
     c.requires.dumped c.requires.sum c.in-Some-cut_line.ensures.line end (c.is_end_of.ensures.0 c.if-not-is_end_of.false)
@@ -43,8 +43,8 @@ pub returns-clause-end : goal.returns-clause-end
 returns-clause-end c =
     let line = c.in-Some-cut_line.line.now in
     let end : is_end line ≡ true =
-        end_agrees line c.first_part.result.now c.as_slice.result.now c.ne.result c.ne.ensures c.first_part.ensures c.as_slice.ensures
-        c.if-ne.false in
+    end_agrees line c.first_part.result.now c.as_slice.result.now c.ne.result c.ne.ensures c.first_part.ensures c.as_slice.ensures
+    c.if-ne.false in
     (read_to_end c.args.limits (dump_header c.args.version) c.args.before.now c.args.copies c.args.text.now line
     c.in-Some-cut_line.below.now c.requires.dumped c.requires.sum c.in-Some-cut_line.ensures.cut c.in-Some-cut_line.ensures.line end
     (c.is_end_of.ensures.0 c.if-not-is_end_of.false)
@@ -54,8 +54,8 @@ pub returns-clause-accepted : goal.returns-clause-accepted
 returns-clause-accepted c =
     let line = c.in-Some-cut_line.line.now in
     let end : is_end line ≡ true =
-        end_agrees line c.first_part.result.now c.as_slice.result.now c.ne.result c.ne.ensures c.first_part.ensures c.as_slice.ensures
-        c.if-ne.false in
+    end_agrees line c.first_part.result.now c.as_slice.result.now c.ne.result c.ne.ensures c.first_part.ensures c.as_slice.ensures
+    c.if-ne.false in
     (read_to_end c.args.limits (dump_header c.args.version) c.args.before.now c.args.copies c.args.text.now line
     c.in-Some-cut_line.below.now c.requires.dumped c.requires.sum c.in-Some-cut_line.ensures.cut c.in-Some-cut_line.ensures.line end
     (c.is_end_of.ensures.0 c.if-not-is_end_of.false)

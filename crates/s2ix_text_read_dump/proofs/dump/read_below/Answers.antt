@@ -11,10 +11,10 @@ pub overflow_add-copies : goal.overflow_add-copies
 overflow_add-copies c =
     let fits = at_some c.in_ok-next.field-0 _ _ c.in-Some.is c.in_ok-next.ensures.fits in
     let next =
-        subst (λ (hs : Collection). IsNext c.args.limits (dump_header c.args.version) hs (line_text c.in-Some.next) c.in-Some.next)
-        c.as_slice.ensures.value fits in
+    subst (λ (hs : Collection). IsNext c.args.limits (dump_header c.args.version) hs (line_text c.in-Some.next) c.in-Some.next)
+    c.as_slice.ensures.value fits in
     let sum : copies_in c.loop-held.held.items + c.in-Some.next.count ≤ 4294967295000000 =
-        next_sum c.args.limits (dump_header c.args.version) c.loop-held.held.items (line_text c.in-Some.next) c.in-Some.next next in
+    next_sum c.args.limits (dump_header c.args.version) c.loop-held.held.items (line_text c.in-Some.next) c.in-Some.next next in
     let copies : c.loop-held.copies ≡ copies_in c.loop-held.held.items = c.loop-held.invariant.copies in
     omega (arith, sum, copies, c.from-copies.ensures)
 
@@ -29,13 +29,13 @@ loop-held-preserved c =
     let fits = at_some c.in_ok-next.field-0 _ _ c.in-Some.is c.in_ok-next.ensures.fits in
     let cut = at_some c.in_ok-next.field-0 _ _ c.in-Some.is c.in_ok-next.ensures.next in
     let next =
-        subst (λ (xs : Collection). IsNext c.args.limits (dump_header c.args.version) xs (line_text c.in-Some.next) c.in-Some.next)
-        c.as_slice.ensures.value fits in
+    subst (λ (xs : Collection). IsNext c.args.limits (dump_header c.args.version) xs (line_text c.in-Some.next) c.in-Some.next)
+    c.as_slice.ensures.value fits in
     let more =
-        read_more c.args.limits (dump_header c.args.version) c.args.text.now hs c.loop-held.copies c.loop-held.rest.now c.in-Some.below.now
-        c.in-Some.next c.loop-held.invariant cut next in
+    read_more c.args.limits (dump_header c.args.version) c.args.text.now hs c.loop-held.copies c.loop-held.rest.now c.in-Some.below.now
+    c.in-Some.next c.loop-held.invariant cut next in
     let summed =
-        subst (λ (n : ℕ). IsReadSoFar c.args.limits (dump_header c.args.version) c.args.text.now (hs ++ c.in-Some.next ∷ [])
-        (c.loop-held.copies + n) c.in-Some.below.now) (sym c.from-copies.ensures) more in
+    subst (λ (n : ℕ). IsReadSoFar c.args.limits (dump_header c.args.version) c.args.text.now (hs ++ c.in-Some.next ∷ [])
+    (c.loop-held.copies + n) c.in-Some.below.now) (sym c.from-copies.ensures) more in
     subst (λ (held : Collection). IsReadSoFar c.args.limits (dump_header c.args.version) c.args.text.now held
     (c.loop-held.copies + c.from-copies.result) c.in-Some.below.now) (sym c.in_ok-push.ensures) summed

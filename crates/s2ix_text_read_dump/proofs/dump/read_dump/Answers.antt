@@ -42,8 +42,8 @@ pub returns-in_err-room-clause-refused : goal.returns-in_err-room-clause-refused
 returns-in_err-room-clause-refused c =
     let p = err_from_is_err_and c.from_residual.result c.from_residual.ensures.1 in
     let below =
-        below_header c.args.limits c.in-Some-of_dump.version c.args.text.now c.in-Some.header.now c.in-Some.below.now c.in-Some.ensures.line
-        (sym c.of_dump.ensures ∙ c.in-Some-of_dump.is) in
+    below_header c.args.limits c.in-Some-of_dump.version c.args.text.now c.in-Some.header.now c.in-Some.below.now c.in-Some.ensures.line
+    (sym c.of_dump.ensures ∙ c.in-Some-of_dump.is) in
     rw (p.1, p.2) (subst (λ (d : Option (ℕ × DumpFault)). IsFromLine 2 d) (sym below)
     (wants_below c.args.limits (dump_header c.in-Some-of_dump.version) c.in-Some.below.now))
 
@@ -51,16 +51,16 @@ pub returns-in_err-held-clause-refused : goal.returns-in_err-held-clause-refused
 returns-in_err-held-clause-refused c =
     let p = err_from_is_err_and c.from_residual-in_err-held.result c.from_residual-in_err-held.ensures.1 in
     let below =
-        below_header c.args.limits c.in-Some-of_dump.version c.args.text.now c.in-Some.header.now c.in-Some.below.now c.in-Some.ensures.line
-        (sym c.of_dump.ensures ∙ c.in-Some-of_dump.is) in
+    below_header c.args.limits c.in-Some-of_dump.version c.args.text.now c.in-Some.header.now c.in-Some.below.now c.in-Some.ensures.line
+    (sym c.of_dump.ensures ∙ c.in-Some-of_dump.is) in
     rw (p.1, p.2) (subst (λ (d : Option (ℕ × DumpFault)). IsDumpError c.in_err-held.field-0.0 d) (sym below) c.in_err-held.ensures.refused)
 
 pub returns-in_err-held-clause-every : goal.returns-in_err-held-clause-every
 returns-in_err-held-clause-every c =
     let p = err_from_is_err_and c.from_residual-in_err-held.result c.from_residual-in_err-held.ensures.1 in
     let below =
-        below_header c.args.limits c.in-Some-of_dump.version c.args.text.now c.in-Some.header.now c.in-Some.below.now c.in-Some.ensures.line
-        (sym c.of_dump.ensures ∙ c.in-Some-of_dump.is) in
+    below_header c.args.limits c.in-Some-of_dump.version c.args.text.now c.in-Some.header.now c.in-Some.below.now c.in-Some.ensures.line
+    (sym c.of_dump.ensures ∙ c.in-Some-of_dump.is) in
     let refused = subst (λ (d : Option (ℕ × DumpFault)). IsDumpError c.in_err-held.field-0.0 d) (sym below) c.in_err-held.ensures.refused in
     λ hs is dump. rw (p.1, p.2) (only_memory c.args.limits c.args.text.now hs c.in_err-held.field-0.0 is dump refused)
 
@@ -69,11 +69,11 @@ returns-clause-text c =
     let text = c.args.text.now in
     let version = c.in-Some-of_dump.version in
     let holds =
-        held_in c.args.limits (dump_header version) version c.in_ok-held.held.items (named_by_dump_header version)
-        c.in_ok-held.ensures.dumped in
+    held_in c.args.limits (dump_header version) version c.in_ok-held.held.items (named_by_dump_header version)
+    c.in_ok-held.ensures.dumped in
     let own =
-        dump_put_together version text c.in-Some.header.now c.in-Some.below.now c.in_ok-held.held.items c.in-Some.ensures.cut
-        (sym c.of_dump.ensures ∙ c.in-Some-of_dump.is) holds c.in_ok-held.ensures.text in
+    dump_put_together version text c.in-Some.header.now c.in-Some.below.now c.in_ok-held.held.items c.in-Some.ensures.cut
+    (sym c.of_dump.ensures ∙ c.in-Some-of_dump.is) holds c.in_ok-held.ensures.text in
     subst (λ (bag : LimitedCollection). IsDump text bag.held) (sym c.in_ok-from_held.ensures)
     (subst (λ (hs : Collection). IsDump text hs) (sym c.as_slice.ensures.value) own)
 
@@ -84,8 +84,8 @@ returns-clause-every c =
     let version = c.in-Some-of_dump.version in
     let holds = held_in c.args.limits (dump_header version) version held (named_by_dump_header version) c.in_ok-held.ensures.dumped in
     let own =
-        dump_put_together version text c.in-Some.header.now c.in-Some.below.now held c.in-Some.ensures.cut
-        (sym c.of_dump.ensures ∙ c.in-Some-of_dump.is) holds c.in_ok-held.ensures.text in
+    dump_put_together version text c.in-Some.header.now c.in-Some.below.now held c.in-Some.ensures.cut
+    (sym c.of_dump.ensures ∙ c.in-Some-of_dump.is) holds c.in_ok-held.ensures.text in
     λ hs is dump. ap (λ (bag : LimitedCollection). bag.held) c.in_ok-from_held.ensures ∙ c.as_slice.ensures.value
     ∙ one_dump text held hs own dump
 
@@ -98,8 +98,8 @@ pub returns-in_err-from_held-clause-refused : goal.returns-in_err-from_held-clau
 returns-in_err-from_held-clause-refused c =
     let p = err_from_is_err_and c.from_residual-in_err-from_held.result c.from_residual-in_err-from_held.ensures.1 in
     let none =
-        below_header c.args.limits c.in-Some-of_dump.version c.args.text.now c.in-Some.header.now c.in-Some.below.now c.in-Some.ensures.line
-        (sym c.of_dump.ensures ∙ c.in-Some-of_dump.is) ∙ c.in_ok-held.ensures.accepted in
+    below_header c.args.limits c.in-Some-of_dump.version c.args.text.now c.in-Some.header.now c.in-Some.below.now c.in-Some.ensures.line
+    (sym c.of_dump.ensures ∙ c.in-Some-of_dump.is) ∙ c.in_ok-held.ensures.accepted in
     rw (p.1, p.2) (subst (λ (d : Option (ℕ × DumpFault)). IsFromLine 2 d) (sym none) tt)
 
 -- ---- each refusal by itself
@@ -120,11 +120,11 @@ pub returns-in_err-room-clause-no_feed : goal.returns-in_err-room-clause-no_feed
 returns-in_err-room-clause-no_feed c =
     let p = err_from_is_err_and c.from_residual.result c.from_residual.ensures.1 in
     let below =
-        below_header c.args.limits c.in-Some-of_dump.version c.args.text.now c.in-Some.header.now c.in-Some.below.now c.in-Some.ensures.line
-        (sym c.of_dump.ensures ∙ c.in-Some-of_dump.is) in
+    below_header c.args.limits c.in-Some-of_dump.version c.args.text.now c.in-Some.header.now c.in-Some.below.now c.in-Some.ensures.line
+    (sym c.of_dump.ensures ∙ c.in-Some-of_dump.is) in
     let wants =
-        subst (λ (d : Option (ℕ × DumpFault)). IsFromLine 2 d) (sym below)
-        (wants_below c.args.limits (dump_header c.in-Some-of_dump.version) c.in-Some.below.now) in
+    subst (λ (d : Option (ℕ × DumpFault)). IsFromLine 2 d) (sym below)
+    (wants_below c.args.limits (dump_header c.in-Some-of_dump.version) c.in-Some.below.now) in
     (answers_error c.args.limits c.args.text.now c.from_residual.result p.0 p.1
     (subst (λ (error : DumpError). IsDumpError error (dump_fault c.args.limits c.args.text.now)) (sym p.2) wants)).no_feed
 
@@ -132,8 +132,8 @@ pub returns-in_err-from_held-clause-no_feed : goal.returns-in_err-from_held-clau
 returns-in_err-from_held-clause-no_feed c =
     let p = err_from_is_err_and c.from_residual-in_err-from_held.result c.from_residual-in_err-from_held.ensures.1 in
     let none =
-        below_header c.args.limits c.in-Some-of_dump.version c.args.text.now c.in-Some.header.now c.in-Some.below.now c.in-Some.ensures.line
-        (sym c.of_dump.ensures ∙ c.in-Some-of_dump.is) ∙ c.in_ok-held.ensures.accepted in
+    below_header c.args.limits c.in-Some-of_dump.version c.args.text.now c.in-Some.header.now c.in-Some.below.now c.in-Some.ensures.line
+    (sym c.of_dump.ensures ∙ c.in-Some-of_dump.is) ∙ c.in_ok-held.ensures.accepted in
     let wants = subst (λ (d : Option (ℕ × DumpFault)). IsFromLine 2 d) (sym none) tt in
     (answers_error c.args.limits c.args.text.now c.from_residual-in_err-from_held.result p.0 p.1
     (subst (λ (error : DumpError). IsDumpError error (dump_fault c.args.limits c.args.text.now)) (sym p.2) wants)).no_feed
@@ -149,8 +149,8 @@ told_below : {X : Type 0} (c : In_err-held) (r : Result X DumpError) (error : Du
     → Answers c.args.limits c.args.text.now r
 told_below c r error is same =
     let below =
-        below_header c.args.limits c.in-Some-of_dump.version c.args.text.now c.in-Some.header.now c.in-Some.below.now c.in-Some.ensures.line
-        (sym c.of_dump.ensures ∙ c.in-Some-of_dump.is) in
+    below_header c.args.limits c.in-Some-of_dump.version c.args.text.now c.in-Some.header.now c.in-Some.below.now c.in-Some.ensures.line
+    (sym c.of_dump.ensures ∙ c.in-Some-of_dump.is) in
     let refused = subst (λ (d : Option (ℕ × DumpFault)). IsDumpError c.in_err-held.field-0.0 d) (sym below) c.in_err-held.ensures.refused in
     answers_error c.args.limits c.args.text.now r error is
     (subst (λ (e : DumpError). IsDumpError e (dump_fault c.args.limits c.args.text.now)) (sym same) refused)

@@ -19,8 +19,8 @@ returns-in_err-label-clause-none c =
     rw c.from_residual-in_err-label.ensures
     (λ h rest common.
     let stands =
-        label_stands c.args.most c.ranges.most.fits c.args.text.now c.in_ok-cell.behind.now rest (raw_of c.in_ok-cell.cell) h
-        c.in_ok-cell.ensures.cell common in
+    label_stands c.args.most c.ranges.most.fits c.args.text.now c.in_ok-cell.behind.now rest (raw_of c.in_ok-cell.cell) h
+    c.in_ok-cell.ensures.cell common in
     c.in_err-label.ensures.none stands.2 (omega arith) (value_of h.pair.label) stands.0 common.label stands.1)
 
 pub returns-in_err-count-clause-none : goal.returns-in_err-count-clause-none
@@ -29,8 +29,8 @@ returns-in_err-count-clause-none c =
     (λ h rest common.
     let label = c.in_ok-label.ensures.small in
     let stands =
-        count_stands c.args.most c.ranges.most.fits c.args.text.now c.in_ok-cell.behind.now c.in_ok-label.behind.now rest
-        (raw_of c.in_ok-cell.cell) c.in_ok-label.label h c.in_ok-cell.ensures.cell c.in_ok-label.ensures.number (omega arith) common in
+    count_stands c.args.most c.ranges.most.fits c.args.text.now c.in_ok-cell.behind.now c.in_ok-label.behind.now rest
+    (raw_of c.in_ok-cell.cell) c.in_ok-label.label h c.in_ok-cell.ensures.cell c.in_ok-label.ensures.number (omega arith) common in
     let few = common.count in
     c.in_err-count.ensures.none stands.2 (omega arith) h.count rest (omega arith) stands.1)
 
@@ -40,8 +40,8 @@ returns-in_err-label-2-clause-none c =
     (λ h rest common.
     let label = c.in_ok-label.ensures.small in
     let stands =
-        count_stands c.args.most c.ranges.most.fits c.args.text.now c.in_ok-cell.behind.now c.in_ok-label.behind.now rest
-        (raw_of c.in_ok-cell.cell) c.in_ok-label.label h c.in_ok-cell.ensures.cell c.in_ok-label.ensures.number (omega arith) common in
+    count_stands c.args.most c.ranges.most.fits c.args.text.now c.in_ok-cell.behind.now c.in_ok-label.behind.now rest
+    (raw_of c.in_ok-cell.cell) c.in_ok-label.label h c.in_ok-cell.ensures.cell c.in_ok-label.ensures.number (omega arith) common in
     let within = h.pair.label.in_range in
     absurd (false≢true (c.in_err-label-2.ensures.valid.1 (omega (arith, within, stands.0)))))
 

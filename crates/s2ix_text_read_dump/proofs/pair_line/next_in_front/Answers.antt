@@ -14,14 +14,14 @@ returns-then-not-comes_behind-clause-none c =
     let read = c.in_ok-next.ensures in
     λ h rest common next.
     let passes =
-        next_passes c.args.limits (dump_header c.args.version) c.args.before.now c.args.text.now c.in_ok-next.behind.now rest
-        c.in_ok-next.next h (read.some, omega (arith, read.few, c.greatest_count.ensures, greatest_known c.args.version)) read.line
-        (subst (λ (m : ℕ). IsCommonFront m c.args.text.now h rest) (sym (greatest_known c.args.version)) common) next in
+    next_passes c.args.limits (dump_header c.args.version) c.args.before.now c.args.text.now c.in_ok-next.behind.now rest
+    c.in_ok-next.next h (read.some, omega (arith, read.few, c.greatest_count.ensures, greatest_known c.args.version)) read.line
+    (subst (λ (m : ℕ). IsCommonFront m c.args.text.now h rest) (sym (greatest_known c.args.version)) common) next in
     elim c.then-not-comes_behind.branch [
       | then-not-comes_behind-via-then-not-comes_behind w ↦ both_ways _ (sym c.comes_behind.ensures ∙ w.if-not-comes_behind.true)
-      passes.before
+          passes.before
       | then-not-comes_behind-via-else-not-comes_behind+then-next-count w
-      ↦ omega (arith, w.if-next-count.true, w.count.ensures, passes.small)
+          ↦ omega (arith, w.if-next-count.true, w.count.ensures, passes.small)
     ]
 
 pub returns-then-before-pairs-clause-none : goal.returns-then-before-pairs-clause-none
@@ -29,9 +29,9 @@ returns-then-before-pairs-clause-none c =
     let read = c.in_ok-next.ensures in
     λ h rest common next.
     let passes =
-        next_passes c.args.limits (dump_header c.args.version) c.args.before.now c.args.text.now c.in_ok-next.behind.now rest
-        c.in_ok-next.next h (read.some, omega (arith, read.few, c.greatest_count.ensures, greatest_known c.args.version)) read.line
-        (subst (λ (m : ℕ). IsCommonFront m c.args.text.now h rest) (sym (greatest_known c.args.version)) common) next in
+    next_passes c.args.limits (dump_header c.args.version) c.args.before.now c.args.text.now c.in_ok-next.behind.now rest
+    c.in_ok-next.next h (read.some, omega (arith, read.few, c.greatest_count.ensures, greatest_known c.args.version)) read.line
+    (subst (λ (m : ℕ). IsCommonFront m c.args.text.now h rest) (sym (greatest_known c.args.version)) common) next in
     omega (arith, passes.few)
 
 pub returns-clause-line : goal.returns-clause-line
@@ -44,7 +44,7 @@ pub returns-clause-next : goal.returns-clause-next
 returns-clause-next c =
     let next = c.in_ok-next.next in
     let counted : HasCount (dump_header c.args.version) next =
-        (c.in_ok-next.ensures.some, omega (arith, c.in_ok-next.ensures.few, c.greatest_count.ensures, greatest_known c.args.version)) in
+    (c.in_ok-next.ensures.some, omega (arith, c.in_ok-next.ensures.few, c.greatest_count.ensures, greatest_known c.args.version)) in
     next_is c.args.limits (dump_header c.args.version) c.args.before.now (line_text next) next c.requires.dumped
     (line_is_no_end (dump_header c.args.version) next counted) (held_of_line (dump_header c.args.version) next counted)
     (sym c.comes_behind.ensures ∙ c.if-not-comes_behind.false) (omega arith) (omega arith)

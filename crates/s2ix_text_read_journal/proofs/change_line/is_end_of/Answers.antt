@@ -9,7 +9,7 @@ pub returns-in_default : goal.returns-in_default
 returns-in_default c = (
   λ yes_is. absurd (false≢true yes_is),
   λ is. absurd (both_ways (has_parts 2 c.args.line.now) c.in_default.ensures.none
-    (ap (has_parts 2) is ∙ end_has_parts c.args.groups (omega arith))),
+      (ap (has_parts 2) is ∙ end_has_parts c.args.groups (omega arith))),
 )
 
 pub returns : goal.returns

@@ -33,9 +33,9 @@ returns-then-next-count c =
     (sym c.comes_behind.ensures ∙ c.if-not-comes_behind.false)
     (elim c.then-next-count.branch [
       | then-next-count-via-then-next-count w ↦ or_left _ _
-      (lt-ltb (count_limit c.args.limits) c.in_ok-next.next.before (omega (arith, w.if-next-count, c.count.ensures)))
+          (lt-ltb (count_limit c.args.limits) c.in_ok-next.next.before (omega (arith, w.if-next-count, c.count.ensures)))
       | then-next-count-via-else-next-count+then-next-count-2 w ↦ or_right _ _
-      (lt-ltb (count_limit c.args.limits) c.in_ok-next.next.after (omega (arith, w.if-next-count-2, w.count-else-next-count.ensures)))
+          (lt-ltb (count_limit c.args.limits) c.in_ok-next.next.after (omega (arith, w.if-next-count-2, w.count-else-next-count.ensures)))
     ]))
 
 pub returns : goal.returns

@@ -47,7 +47,7 @@ loop-limits-preserved c =
     ap (λ (xs : List Entry). next_entry c.args.most c.args.limits (last_pair xs) c.in-Some.line.now) (sym c.as_slice.ensures.value)
     ∙ sym c.next_entry.ensures ∙ c.in-Ok.is in
     let more =
-        group_more c.args.most c.ranges.most.fits c.args.limits c.args.text.now c.args.size es c.loop-limits.rest.now c.in-Some.line.now
-        c.in-Some.below.now c.in-Ok.next c.loop-limits.invariant (omega arith) c.in-Some.ensures.cut next in
+    group_more c.args.most c.ranges.most.fits c.args.limits c.args.text.now c.args.size es c.loop-limits.rest.now c.in-Some.line.now
+    c.in-Some.below.now c.in-Ok.next c.loop-limits.invariant (omega arith) c.in-Some.ensures.cut next in
     subst (λ (xs : List Entry). IsGroupSoFar c.args.most c.args.limits c.args.text.now c.args.size xs c.in-Some.below.now)
     (sym c.in_ok-push-in-Ok.ensures) more

@@ -53,8 +53,8 @@ pub returns-clause-refused : goal.returns-clause-refused
 returns-clause-refused c =
     let named = sym c.of_journal.ensures ∙ c.in-Some-of_journal.is in
     let below =
-        below_header c.args.limits c.args.text.now c.in-Some.header.now c.in-Some.below.now c.in-Some-of_journal.version
-        c.in-Some.ensures.line named in
+    below_header c.args.limits c.args.text.now c.in-Some.header.now c.in-Some.below.now c.in-Some-of_journal.version
+    c.in-Some.ensures.line named in
     subst (λ (found : Option (ℕ × JournalFault)). IfErr c.read_groups.result (λ error. IsJournalError error found)) (sym below)
     (c.read_groups.ensures.refused c.in-Some.header.now
     (greatest_of_version c.in-Some.header.now c.in-Some-of_journal.version named ∙ sym c.greatest_count.ensures))
@@ -88,8 +88,8 @@ told_below : (c : After-read_groups) → Answers c.args.limits c.args.text.now c
 told_below c =
     let named = sym c.of_journal.ensures ∙ c.in-Some-of_journal.is in
     let below =
-        below_header c.args.limits c.args.text.now c.in-Some.header.now c.in-Some.below.now c.in-Some-of_journal.version
-        c.in-Some.ensures.line named in
+    below_header c.args.limits c.args.text.now c.in-Some.header.now c.in-Some.below.now c.in-Some-of_journal.version
+    c.in-Some.ensures.line named in
     answers c.args.limits c.args.text.now c.read_groups.result
     (IfOk-weaker c.read_groups.result (λ changes. IsJournalIn c.args.limits c.args.text.now changes.items)
     (λ _. journal_fault c.args.limits c.args.text.now ≡ None)

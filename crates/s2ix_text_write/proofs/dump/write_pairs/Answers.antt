@@ -15,7 +15,7 @@ loop-place-preserved g c =
     gathered_more pair_line c.args.bag.now.held c.loop-place.place c.held.result c.held.ensures c.append_pair.ensures
     (elim c.if-len.branch [
       | then-len+in_ok-put_all w ↦ rw (w.sink-is, w.lines-is)
-      (gathered_none c.loop-place.invariant w.as_slice.ensures.value w.in_ok-put_all.was w.clear.ensures w.put_all.ensures)
+          (gathered_none c.loop-place.invariant w.as_slice.ensures.value w.in_ok-put_all.was w.clear.ensures w.put_all.ensures)
       | else-len w ↦ rw (w.sink-is, w.lines-is) c.loop-place.invariant
     ])
 
