@@ -6,25 +6,25 @@ use Rattle.s2id_core.specs.Path.{last_digits}
 use Rattle.s2id_core.proofs.Powers.{four_step, four_pos}
 use Rattle.s2id_cube.specs.declared.face_ij.FaceIj.{FaceIj}
 use Rattle.s2id_cube.specs.Square.{quadrant, turned, quarter, whole_face, square_after}
-use Rattle.s2id_cube.specs.Steps.{four_steps}
+use Rattle.s2id_cube.specs.FourLevels.{four_levels}
 use Rattle.s2id_cube.specs.Loops.{square_at, square_in, AreWoven}
 use Rattle.s2id_cube.proofs.Squares.{IsSquare, IsSquare-square_at, face-square_at}
-use Rattle.s2id_cube.proofs.Steps.{IsSquareEntry, IsPlaceEntry, row_of_entry}
+use Rattle.s2id_cube.proofs.LevelTables.{IsSquareEntry, IsPlaceEntry, row_of_entry}
 
 -- ---- four steps from any square
 
 -- the square t lies in the square s as four positions from an orientation say
 pub record IsFourBelow (s t : FaceIj) (b : ℕ) : Type 0 where
-  pub at_i : t.i ≡ 16 * s.i + (four_steps s.orientation b).i
-  pub at_j : t.j ≡ 16 * s.j + (four_steps s.orientation b).j
-  pub at_orientation : t.orientation ≡ (four_steps s.orientation b).orientation
+  pub at_i : t.i ≡ 16 * s.i + (four_levels s.orientation b).i
+  pub at_j : t.j ≡ 16 * s.j + (four_levels s.orientation b).j
+  pub at_orientation : t.orientation ≡ (four_levels s.orientation b).orientation
 
 abbrev pub deeper : ℕ → ℕ
 deeper k = suc (suc (suc (suc k)))
 
 four_quarters : (s : FaceIj) (b : ℕ)
     → IsFourBelow s (quarter (b / 1 % 4) (quarter (b / 4 % 4) (quarter (b / 16 % 4) (quarter (b / 64 % 4) s)))) b
-unfolding four_steps square_after last_digits quarter
+unfolding four_levels square_after last_digits quarter
 four_quarters s b = record { at_i = omega arith; at_j = omega arith; at_orientation = refl }
 
 pub four_more : (k q b : ℕ) → b < 256 → IsFourBelow (square_at k q) (square_at (deeper k) (q * 256 + b)) b
@@ -234,8 +234,8 @@ down_more f d g rest square orientation e hf hd hg he h entry =
     let most : 2 ^ (4 * g) ≤ 2 ^ 28 = pow-le-pow_right {n = 2} (omega arith) {i = 4 * g} {j = 28} (omega arith) in
     let i = is.i in
     let j = is.j in
-    let turn : four_steps s.orientation b ≡ four_steps orientation b = ap (λ o. four_steps o b) (sym h.at_orientation) in
-    let both = packed_more square s.i s.j (four_steps s.orientation b).i (four_steps s.orientation b).j t.i t.j e h.at_square (omega arith) (omega arith) he (ap (λ (x : FaceIj). x.i) turn ∙ entry.steps.at_i) (ap (λ (x : FaceIj). x.j) turn ∙ entry.steps.at_j) up.at_i up.at_j narrow.0 narrow.1 in
+    let turn : four_levels s.orientation b ≡ four_levels orientation b = ap (λ o. four_levels o b) (sym h.at_orientation) in
+    let both = packed_more square s.i s.j (four_levels s.orientation b).i (four_levels s.orientation b).j t.i t.j e h.at_square (omega arith) (omega arith) he (ap (λ (x : FaceIj). x.i) turn ∙ entry.steps.at_i) (ap (λ (x : FaceIj). x.j) turn ∙ entry.steps.at_j) up.at_i up.at_j narrow.0 narrow.1 in
     record {
       fits = both.0;
       down = record {
@@ -334,13 +334,13 @@ up_more f i j g places orientation e b next hf hi hj hg h eb entry en =
     let few = few_more f i j g d orientation e b hf hi hj (start_orientation f i j g places orientation h) h.few eb entry in
     let s = square_in f g d in
     let up = square_in_more f g d (e % 2 ^ 62) entry.steps.below in
-    let turn : four_steps s.orientation (e % 2 ^ 62) ≡ four_steps orientation (e % 2 ^ 62) = ap (λ o. four_steps o (e % 2 ^ 62)) (sym h.at_orientation) in
+    let turn : four_levels s.orientation (e % 2 ^ 62) ≡ four_levels orientation (e % 2 ^ 62) = ap (λ o. four_levels o (e % 2 ^ 62)) (sym h.at_orientation) in
     let column : b / 16 ≡ i / 2 ^ (28 - 4 * g) % 16 = omega arith in
     let row : b % 16 ≡ j / 2 ^ (28 - 4 * g) % 16 = omega arith in
     record {
       few = subst (λ x. 16 * x < 256 ^ (g + 1)) (sym en) few;
-      at_i = ap (λ x. (square_in f (g + 1) x).i) en ∙ bits_more i g s.i _ (four_steps s.orientation (e % 2 ^ 62)).i hg h.at_i up.at_i (ap (λ (x : FaceIj). x.i) turn ∙ entry.steps.at_i ∙ column);
-      at_j = ap (λ x. (square_in f (g + 1) x).j) en ∙ bits_more j g s.j _ (four_steps s.orientation (e % 2 ^ 62)).j hg h.at_j up.at_j (ap (λ (x : FaceIj). x.j) turn ∙ entry.steps.at_j ∙ row);
+      at_i = ap (λ x. (square_in f (g + 1) x).i) en ∙ bits_more i g s.i _ (four_levels s.orientation (e % 2 ^ 62)).i hg h.at_i up.at_i (ap (λ (x : FaceIj). x.i) turn ∙ entry.steps.at_i ∙ column);
+      at_j = ap (λ x. (square_in f (g + 1) x).j) en ∙ bits_more j g s.j _ (four_levels s.orientation (e % 2 ^ 62)).j hg h.at_j up.at_j (ap (λ (x : FaceIj). x.j) turn ∙ entry.steps.at_j ∙ row);
       at_orientation = sym entry.steps.at_orientation ∙ ap (λ (x : FaceIj). x.orientation) (sym turn) ∙ sym up.at_orientation ∙ ap (λ x. (square_in f (g + 1) x).orientation) (sym en);
     }
 

@@ -1,7 +1,7 @@
 mod Cases
 mod Quadrants
 pub mod Squares
-mod Steps
+mod LevelTables
 mod Groups
 mod Woven
 pub mod Grid

@@ -12,7 +12,7 @@ use Rattle.s2id_cube.specs.Loops.{square_at, square_in, AreStarts, AreFirst}
 use Rattle.s2id_cube.proofs.Squares.{IsSquare, IsSquareOf, square_of_place, IsSquare-square_at, face-square_at}
 use Rattle.s2id_cube.proofs.Nesting.{IsAbove, above_at}
 use Rattle.s2id_cube.proofs.Groups.{IsDown, IsUp, AreAlike, padded, leaf_in, bytes_pow, few_groups, up_more}
-use Rattle.s2id_cube.proofs.Steps.{IsPlaceEntry, row_of_entry}
+use Rattle.s2id_cube.proofs.LevelTables.{IsPlaceEntry, row_of_entry}
 use Rattle.s2id_cube.specs.Square.{square_of}
 
 -- ---- kept on the way down

@@ -4,5 +4,5 @@ pub mod Edge
 pub mod Grid
 pub mod Neighbor
 pub mod Border
-pub mod Steps
+pub mod FourLevels
 pub mod Loops

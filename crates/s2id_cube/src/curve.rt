@@ -1,7 +1,7 @@
 //! The curve four levels at a time.
 
 ghost use Rattle.std.specs.Prelude.{◌≡◌, ℕ, ◌+◌, ◌*◌, ◌/◌, ◌%◌, ◌^◌, ◌<◌};
-ghost use Rattle.s2id_cube.specs.Steps.{AreFourSteps};
+ghost use Rattle.s2id_cube.specs.FourLevels.{AreFourLevels};
 
 // A table of four levels from codes of three hexadecimal digits: the orientation, and the two that stay together.
 macro_rules! squares {
@@ -192,7 +192,7 @@ pub(crate) fn square_entry(start: u64, positions: u64) -> u64
     requires start { start < 1024 }
     requires whole { start % 256 ≡ 0 }
     requires positions { positions < 256 }
-    ensures steps { AreFourSteps (start / 256) positions (result % 2 ^ 62 / 2 ^ 32) (result % 2 ^ 32) (result / 2 ^ 62) }
+    ensures steps { AreFourLevels (start / 256) positions (result % 2 ^ 62 / 2 ^ 32) (result % 2 ^ 32) (result / 2 ^ 62) }
     ensures column { result % 2 ^ 62 / 2 ^ 32 < 16 }
     ensures row { result % 2 ^ 32 < 16 }
     ensures next { result / 2 ^ 54 ≡ 256 * (result / 2 ^ 62) }
@@ -207,7 +207,7 @@ pub(crate) fn place_entry(start: u64, square: u64) -> u64
     requires start { start < 1024 }
     requires whole { start % 256 ≡ 0 }
     requires square { square < 256 }
-    ensures steps { AreFourSteps (start / 256) (result % 2 ^ 62) (square / 16) (square % 16) (result / 2 ^ 62) }
+    ensures steps { AreFourLevels (start / 256) (result % 2 ^ 62) (square / 16) (square % 16) (result / 2 ^ 62) }
     ensures corner { start / 256 < 2 → square / 16 < 4 → square % 16 < 4 → result % 2 ^ 62 < 16 }
     ensures next { result / 2 ^ 54 ≡ 256 * (result / 2 ^ 62) }
 {

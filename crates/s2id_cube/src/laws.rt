@@ -8,7 +8,7 @@ ghost use Rattle.s2id_cube.specs.declared.error.BorderError.{BorderError};
 ghost use Rattle.s2id_cube.specs.declared.face_ij.FaceIj.{FaceIj};
 ghost use Rattle.s2id_cube.specs.Edge.{SharesSide, ShareEdge};
 ghost use Rattle.s2id_cube.specs.Square.{square_of};
-ghost use Rattle.s2id_cube.specs.Steps.{AreFourSteps};
+ghost use Rattle.s2id_cube.specs.FourLevels.{AreFourLevels};
 
 use crate::curve::{PLACES, SQUARES};
 use crate::error::BorderError;
@@ -49,18 +49,18 @@ pub fn two_cells_share_one_side()
 {}
 
 /// Every entry of the two tables of the curve is four steps of it.
-pub fn entries_are_four_steps()
+pub fn entries_are_four_levels()
     ensures squares { (orientation positions : ℕ)
         → orientation < 4
         → positions < 256
         → let entry = slice_index SQUARES (256 * orientation + positions) in
-        AreFourSteps orientation positions (entry % 2 ^ 62 / 2 ^ 32) (entry % 2 ^ 32) (entry / 2 ^ 62) }
+        AreFourLevels orientation positions (entry % 2 ^ 62 / 2 ^ 32) (entry % 2 ^ 32) (entry / 2 ^ 62) }
     ensures places { (orientation i j : ℕ)
         → orientation < 4
         → i < 16
         → j < 16
         → let entry = slice_index PLACES (256 * orientation + (16 * i + j)) in
-        AreFourSteps orientation (entry % 2 ^ 62) i j (entry / 2 ^ 62) }
+        AreFourLevels orientation (entry % 2 ^ 62) i j (entry / 2 ^ 62) }
 {}
 
 /// Two squares are equal exactly where they are one.

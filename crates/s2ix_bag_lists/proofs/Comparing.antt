@@ -11,7 +11,7 @@ use Rattle.s2ix_bag_pairs.specs.declared.pair.Entry.{Entry}
 use Rattle.s2ix_bag_pairs.proofs.Counts.{count_head, count_tail, count_below, from_lower}
 use Rattle.s2ix_bag_pairs.proofs.Changes.{counts_head, counts_tail, counts_below, change_lower}
 use Rattle.s2ix_bag_pairs.proofs.Differences.{no_difference, some_difference, between_is_change_from, counts_between_at, only_change}
-use Rattle.s2ix_bag_pairs.proofs.Parts.{past_rises, count_past, collection_drop}
+use Rattle.s2ix_bag_pairs.proofs.CutAtRank.{past_rises, count_past, collection_drop}
 
 -- the pair of an entry may be left out where its counts are the same
 pub entry_none : (p : Pair) (before after : ℕ) (es : List Entry) → before ≡ after → entry_with p before after es ≡ es

@@ -1,32 +1,33 @@
 -- Faces by ranks, and where the pairs of a face end.
 use Rattle.std.proofs.Common.{◌≡◌, ℕ, zero, suc, ◌+◌, ◌*◌, ◌/◌, ◌<◌, ◌≤◌, ◌↔◌, List, [], ◌∷◌, take, drop, get_or, length, sym, subst, arith, add-one}
 use Rattle.std.proofs.Math.Nat.{div-lt_iff_lt-mul, div-mul-le_self}
+use Rattle.s2id_core.specs.Span.{face_numbers}
 use Rattle.s2ix_bag_pairs.specs.Change.{IsChangeListFrom}
 use Rattle.s2ix_bag_pairs.specs.Pair.{rank_of}
 use Rattle.s2ix_bag_pairs.specs.declared.pair.Entry.{Entry}
 use Rattle.s2ix_bag_lists.specs.Faces.{AreEntriesBelow, face_start}
 
 -- a number is of a face or of one before it exactly where its rank, with any label, is below the next face
-pub rank_by_face : (raw label face q : ℕ) → label < 2147483648 → q ≡ raw / 2305843009213693952
+pub rank_by_face : (raw label face q : ℕ) → label < 2147483648 → q ≡ raw / face_numbers
     → (q ≤ face) ↔ (raw * 2147483648 + label < face_start (face + 1))
 rank_by_face raw label face q small is =
-    let split : (raw / 2305843009213693952 < face + 1) ↔ (raw < (face + 1) * 2305843009213693952) = div-lt_iff_lt-mul (omega arith) in (
-      λ le. let lt : raw < (face + 1) * 2305843009213693952 = split.0 (omega (arith, le, is)) in omega (arith, lt, small),
-      λ lt. let low : raw < (face + 1) * 2305843009213693952 = omega (arith, lt) in omega (arith, split.1 low, is),
+    let split : (raw / face_numbers < face + 1) ↔ (raw < (face + 1) * face_numbers) = div-lt_iff_lt-mul (omega arith) in (
+      λ le. let lt : raw < (face + 1) * face_numbers = split.0 (omega (arith, le, is)) in omega (arith, lt, small),
+      λ lt. let low : raw < (face + 1) * face_numbers = omega (arith, lt) in omega (arith, split.1 low, is),
     )
 
 -- the rank of a pair lies on the face of its number
-pub rank_on_face : (raw label q : ℕ) → label < 2147483648 → q ≡ raw / 2305843009213693952
+pub rank_on_face : (raw label q : ℕ) → label < 2147483648 → q ≡ raw / face_numbers
     → (face_start q ≤ raw * 2147483648 + label) × (raw * 2147483648 + label < face_start (q + 1))
 rank_on_face raw label q small is =
-    let low : raw / 2305843009213693952 * 2305843009213693952 ≤ raw = div-mul-le_self raw 2305843009213693952 in
-    let low_q : q * 2305843009213693952 ≤ raw = omega (arith, low, is) in
+    let low : raw / face_numbers * face_numbers ≤ raw = div-mul-le_self raw face_numbers in
+    let low_q : q * face_numbers ≤ raw = omega (arith, low, is) in
     (omega (arith, low_q), (rank_by_face raw label q q small is).0 (omega arith))
 
 -- there are six faces
-pub face_below_six : (raw q : ℕ) → raw < 13835058055282163712 → q ≡ raw / 2305843009213693952 → q < 6
+pub face_below_six : (raw q : ℕ) → raw < 13835058055282163712 → q ≡ raw / face_numbers → q < 6
 face_below_six raw q small is =
-    let split : (raw / 2305843009213693952 < 6) ↔ (raw < 6 * 2305843009213693952) = div-lt_iff_lt-mul (omega arith) in
+    let split : (raw / face_numbers < 6) ↔ (raw < 6 * face_numbers) = div-lt_iff_lt-mul (omega arith) in
     omega (arith, split.1 (omega (arith, small)), is)
 
 -- ---- entries

@@ -11,7 +11,7 @@ use Rattle.s2ix_bag_pairs.proofs.Changes.{changed-append}
 use Rattle.s2ix_bag_lists.specs.Faces.{AreEntriesBelow}
 use Rattle.s2ix_bag_lists.specs.Apply.{AreBefore}
 use Rattle.s2ix_bag_lists.proofs.Applied.{before_rest}
-use Rattle.s2ix_bag_pairs.proofs.Parts.{held_with_append}
+use Rattle.s2ix_bag_pairs.proofs.CutAtRank.{held_with_append}
 
 -- ---- lists one after the other
 

@@ -6,7 +6,7 @@ pub mod Comparing
 pub mod Unsorted
 pub mod Reverts
 pub mod Joined
-pub mod Faces
+pub mod AmongFaces
 pub mod Ends
-pub mod Steps
-pub mod Places
+pub mod FaceByFace
+pub mod FaceAt

@@ -9,7 +9,7 @@ use Rattle.s2ix_bag_pairs.specs.Pair.{rank_of}
 use Rattle.s2ix_bag_pairs.specs.declared.pair.Entry.{Entry}
 use Rattle.s2ix_bag_pairs.proofs.Counts.{from_lower}
 use Rattle.s2ix_bag_pairs.proofs.Changes.{change_lower, changed-append}
-use Rattle.s2ix_bag_pairs.proofs.Parts.{collection_drop, count_past_below, past_rises, changed_first, held_with_append}
+use Rattle.s2ix_bag_pairs.proofs.CutAtRank.{collection_drop, count_past_below, past_rises, changed_first, held_with_append}
 use Rattle.s2ix_bag_lists.proofs.Refusals.{is_mismatch, position_is}
 
 pub change_drop : (m i : ℕ) (es : List Entry) → IsChangeListFrom m es → IsChangeList (drop i es)

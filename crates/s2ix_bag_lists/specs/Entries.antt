@@ -24,7 +24,7 @@ first_without_difference es = position (λ e. e.before == e.after) es
 abbrev pub change_fault : List Entry → Option ChangeError
 change_fault es = option_or (option_map Unsorted (first_unsorted es)) (option_map NoDifference (first_without_difference es))
 
--- the error is the fault that stands, or memory was wanted where none stands
+-- the error is the fault that is due, or memory was wanted where none is due
 abbrev pub IsChangeError : ChangeError → Option ChangeError → Type 0
 IsChangeError (Unsorted place) fault = fault ≡ Some (Unsorted place)
 IsChangeError (NoDifference place) fault = fault ≡ Some (NoDifference place)

@@ -13,12 +13,12 @@ mod apply;
 mod compare;
 mod entries;
 mod errors;
+mod face_ends;
 mod face_list;
 mod flat;
 mod held_iter;
 pub mod laws;
 mod lists;
-mod parts;
 mod same;
 mod search;
 

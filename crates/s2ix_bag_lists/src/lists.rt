@@ -6,18 +6,15 @@ ghost use Rattle.s2ix_bag_pairs.specs.Collection.{IsCollection, count_in};
 
 use crate::apply::{first_mismatch, gains, has_count_above, losses};
 use crate::errors::ApplyError;
+use crate::face_ends::{entries_up_to, held_up_to};
 use crate::face_list::FaceList;
 use crate::flat::FlatHeld;
 use crate::held_iter::HeldIter;
-use crate::parts::{entries_up_to, held_up_to};
 use crate::search::count_of;
-use s2id_core::OutOfMemory;
+use s2id_core::{FACES, OutOfMemory};
 use s2ix_bag_pairs::{Entry, Held, Limits, Pair};
 use std::alloc::{AllocError, Global};
 use std::marker::Model;
-
-// How many faces the cube has.
-const FACES: usize = 6;
 
 /// Held pairs, at most 1,000,000, in one list for each face. Contracts see the one list that they make up, in rising order of pairs.
 #[derive(Debug, Drop)]

@@ -8,4 +8,4 @@ pub mod Inverse
 pub mod Labels
 pub mod OfLabel
 pub mod TakenBack
-pub mod Parts
+pub mod CutAtRank

@@ -43,8 +43,8 @@ StandApart least (field ∷ fields) line =
     × StandApart 1 fields behind
 
 -- the same, with white space before the first or none
-abbrev pub StandInOrder : List (List ℕ) → List ℕ → Type 0
-StandInOrder fields line = StandApart 0 fields line
+abbrev pub AreInLineOrder : List (List ℕ) → List ℕ → Type 0
+AreInLineOrder fields line = StandApart 0 fields line
 
 -- the number that 1 to 10 decimal digits write; leading zeros are accepted
 unfoldable pub script_number : List ℕ → Option ℕ

@@ -1,6 +1,6 @@
 //! What holds of the fields of a line, whatever code runs.
 ghost use Rattle.std.specs.Prelude.{◌≡◌, ◌≢◌, ◌↔◌, ℕ, List, [], All};
-ghost use Rattle.s2ix_cli_fields.specs.Fields.{HasNoWhiteSpace, StandInOrder, fields_of};
+ghost use Rattle.s2ix_cli_fields.specs.Fields.{HasNoWhiteSpace, AreInLineOrder, fields_of};
 
 use crate::fields::Fields;
 
@@ -17,7 +17,7 @@ pub fn no_field_has_white_space()
 /// The fields stand in the line in their order, with white space between each two of them, and around them is nothing
 /// else.
 pub fn fields_stand_in_order()
-    ensures { (line : List ℕ) → StandInOrder (fields_of line) line }
+    ensures { (line : List ℕ) → AreInLineOrder (fields_of line) line }
 {}
 
 /// A clone of a line's fields has the same still to come.

@@ -14,7 +14,7 @@ use Rattle.s2ix_cli_step.specs.declared.outcome.LineOutcome.{LineOutcome}
 use Rattle.s2ix_cli_run.specs.declared.run_end.RunEnd.{RunEnd}
 use Rattle.s2ix_cli_run.specs.Coming.{ended_behind, unended_behind, kept_of, held_more}
 use Rattle.s2ix_cli_run.specs.Piece.{HasNoFeed, Reached, Stopped, CountsMore, FaultAmong}
-use Rattle.s2ix_cli_run.specs.Run.{KeepsOn, StandsAfter, line_left}
+use Rattle.s2ix_cli_run.specs.Run.{KeepsOn, IsStateAfter, line_left}
 use Rattle.s2ix_cli_run.specs.Script.{MOST, output_of}
 use Rattle.s2ix_cli_run.proofs.Feeds.{ended_behind-line, unended_behind-line, ended_behind-none, unended_behind-none}
 use Rattle.s2ix_cli_run.proofs.Holding.{held_more-of}
@@ -62,7 +62,7 @@ pub record CarriesOne (line : List ℕ) (s new : State) (before behind : Option 
 
 -- one line
 one_stands : (stop : Bool) (line : List ℕ) (s new : State) (before behind : Option (List ℕ)) (told more : RunEnd) (outcome : LineOutcome)
-    → CarriesOne line s new before behind told more outcome → StandsAfter (line ∷ []) (over stop s new before behind)
+    → CarriesOne line s new before behind told more outcome → IsStateAfter (line ∷ []) (over stop s new before behind)
 one_stands stop line s new before behind told more outcome one =
     record { store = one.takes.store; output = subst (Appends before behind) (sym (append-nil (step_of s line).answer)) one.takes.output }
 
@@ -138,7 +138,7 @@ Among-stopped stop front piece rest end behind_it old now new held before mid be
 FaultAmong-line : (fault : RunFault) (stop : Bool) (lines done rest : List (List ℕ)) (line : List ℕ) (old now new : State)
     (before mid behind : Option (List ℕ))
     → lines ≡ done ++ line ∷ rest
-    → KeepsOn stop old done → StandsAfter done (over stop old now before mid) → StopsAt (step_of now line) now new mid behind fault
+    → KeepsOn stop old done → IsStateAfter done (over stop old now before mid) → StopsAt (step_of now line) now new mid behind fault
     → IsWantOnlyIf (LineWants now line) fault
     → FaultAmong fault lines (over stop old new before behind)
 FaultAmong-line Read stop lines done rest line old now new before mid behind are on stands at wants = absurd at

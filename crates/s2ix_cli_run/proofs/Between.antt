@@ -15,7 +15,7 @@ use Rattle.s2ix_cli_run.specs.declared.coming.PieceEnd.{PieceEnd}
 use Rattle.s2ix_cli_run.specs.declared.coming.PieceEnd.TheVariants.{GoesOn, Stops}
 use Rattle.s2ix_cli_run.specs.Coming.{ended_behind, unended_behind, ended_lines, kept_of}
 use Rattle.s2ix_cli_run.specs.Piece.{CarriesPiece, CarriesLast, CountsMore, Reached, Stopped, FaultAmong}
-use Rattle.s2ix_cli_run.specs.Run.{SourceEnd, AreRead, Flushes, Ran, KeepsOn, StandsAfter, Finishes, line_left}
+use Rattle.s2ix_cli_run.specs.Run.{SourceEnd, AreRead, Flushes, Ran, KeepsOn, IsStateAfter, Finishes, line_left}
 use Rattle.s2ix_cli_run.specs.Script.{MOST, Run, after, carried_lines, counted_in, output_of, refused_in}
 use Rattle.s2ix_cli_run.proofs.Feeds.{ended_behind-append, unended_behind-append, script_lines-ended}
 use Rattle.s2ix_cli_run.proofs.Steps.{over, after-append, KeepsOn-append, StandsAfter-append, CountsMore-append, Reached-append, carried_lines-append, carried_lines-all, carried_lines-stop, refused_in-append}
@@ -38,7 +38,7 @@ either_way false lines = refl
 Finishes-of : (stop : Bool) (input : List ℕ) (carried : List (List ℕ)) (old new : State) (before behind flushed : Option (List ℕ))
     (more : RunEnd)
     → carried_lines stop old (script_lines input) ≡ carried
-    → StandsAfter carried (over stop old new before behind) → CountsMore carried old none_told more → Keeps behind flushed
+    → IsStateAfter carried (over stop old new before behind) → CountsMore carried old none_told more → Keeps behind flushed
     → Finishes input (over stop old new before flushed) more
 Finishes-of stop input carried old new before behind flushed more is stands counts kept =
     record {
@@ -186,7 +186,7 @@ carried_last stop s (byte ∷ front) = ap (λ l. (byte ∷ front) ∷ l) (either
 record Halts (stop : Bool) (lines : List (List ℕ)) (old new : State) (before behind : Option (List ℕ)) (more : RunEnd) : Type 0 where
   pub carried : List (List ℕ)
   pub are_carried : (tail : List (List ℕ)) → carried_lines stop old (lines ++ tail) ≡ carried
-  pub stands : StandsAfter carried (over stop old new before behind)
+  pub stands : IsStateAfter carried (over stop old new before behind)
   pub counts : CountsMore carried old none_told more
   pub stops : stop ≡ true
   pub refused : 0 < refused_in old carried
@@ -219,7 +219,7 @@ Halts-of stop lines done more old mid new before between behind told told' is a 
           ∙ carried_lines-append stop old full (s.line ∷ (s.rest ++ tail)) on
           ∙ ap (λ l. full ++ l) (carried_lines-stop stop (after old full) s.line (s.rest ++ tail) s.stops refused);
       stands =
-          subst (λ l. StandsAfter l (over stop old new before behind)) same
+          subst (λ l. IsStateAfter l (over stop old new before behind)) same
           (StandsAfter-append stop done (s.done ++ s.line ∷ []) old mid new before between behind a.stands s.stands);
       counts =
           subst (λ l. CountsMore l old none_told told') same
@@ -319,7 +319,7 @@ module _ (left mid left' : Option (List ℕ)) (stop : Bool) (old now : State) (h
           (
             ended_lines b'.input,
             inl refl,
-            inr (subst (λ l. StandsAfter l (over stop old new before flushed))
+            inr (subst (λ l. IsStateAfter l (over stop old new before flushed))
                 (sym (carried_lines-all stop old (ended_lines b'.input) b'.reached.keeps_on)) b'.reached.stands),
           ),
         )
@@ -333,7 +333,7 @@ module _ (left mid left' : Option (List ℕ)) (stop : Bool) (old now : State) (h
           (
             ended_lines input,
             inl refl,
-            inr (subst (λ l. StandsAfter l (over stop old new before flushed)) (sym is)
+            inr (subst (λ l. IsStateAfter l (over stop old new before flushed)) (sym is)
                 (record {
                   store = h.stands.store;
                   output = Appends-kept before behind flushed (output_of old h.carried) h.stands.output kept;

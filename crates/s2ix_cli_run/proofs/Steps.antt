@@ -6,7 +6,7 @@ use Rattle.s2ix_edit_plan.specs.State.{State}
 use Rattle.s2ix_cli_step.specs.Step.{step_of}
 use Rattle.s2ix_cli_run.specs.declared.run_end.RunEnd.{RunEnd}
 use Rattle.s2ix_cli_run.specs.Piece.{CountsMore, Reached}
-use Rattle.s2ix_cli_run.specs.Run.{KeepsOn, StandsAfter}
+use Rattle.s2ix_cli_run.specs.Run.{KeepsOn, IsStateAfter}
 use Rattle.s2ix_cli_run.specs.Script.{MOST, Run, after, carried_lines, counted_in, output_of, refused_in}
 
 -- what lines are carried out over
@@ -69,12 +69,12 @@ KeepsOn-append stop s done more on on' = λ e. (let a = on e in let b = on' e in
 
 -- ---- where the store stands
 
-pub StandsAfter-none : (stop : Bool) (s : State) (out : Option (List ℕ)) → StandsAfter [] (over stop s s out out)
+pub StandsAfter-none : (stop : Bool) (s : State) (out : Option (List ℕ)) → IsStateAfter [] (over stop s s out out)
 StandsAfter-none stop s out = record { store = refl; output = Appends-nil out }
 
 pub StandsAfter-append : (stop : Bool) (done more : List (List ℕ)) (old mid new : State) (before between behind : Option (List ℕ))
-    → StandsAfter done (over stop old mid before between) → StandsAfter more (over stop mid new between behind)
-    → StandsAfter (done ++ more) (over stop old new before behind)
+    → IsStateAfter done (over stop old mid before between) → IsStateAfter more (over stop mid new between behind)
+    → IsStateAfter (done ++ more) (over stop old new before behind)
 StandsAfter-append stop done more old mid new before between behind a b =
     record {
       store = b.store ∙ ap (λ s. after s more) a.store ∙ sym (after-append old done more);

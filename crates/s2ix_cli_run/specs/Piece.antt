@@ -12,7 +12,7 @@ use Rattle.s2ix_cli_run.specs.declared.run_end.RunEnd.{RunEnd}
 use Rattle.s2ix_cli_run.specs.declared.coming.PieceEnd.{PieceEnd}
 use Rattle.s2ix_cli_run.specs.declared.coming.PieceEnd.TheVariants.{GoesOn, Stops}
 use Rattle.s2ix_cli_run.specs.Coming.{ended_behind, unended_behind, kept_of}
-use Rattle.s2ix_cli_run.specs.Run.{KeepsOn, StandsAfter, line_left}
+use Rattle.s2ix_cli_run.specs.Run.{KeepsOn, IsStateAfter, line_left}
 use Rattle.s2ix_cli_run.specs.Script.{MOST, Run, after, counted_in, output_of, refused_in}
 
 -- no byte of a text is a line feed
@@ -27,7 +27,7 @@ pub record CountsMore (carried : List (List ℕ)) (old : State) (told more : Run
 -- lines were carried out, and none ends the run
 pub record Reached (lines : List (List ℕ)) (run : Run) (told more : RunEnd) : Type 0 where
   pub keeps_on : KeepsOn run.stop run.store_before lines
-  pub stands : StandsAfter lines run
+  pub stands : IsStateAfter lines run
   pub counts : CountsMore lines run.store_before told more
 
 -- lines were carried out up to and with one that is refused, which ends the run
@@ -39,7 +39,7 @@ pub record Stopped (lines : List (List ℕ)) (run : Run) (told more : RunEnd) : 
   pub keeps_on : KeepsOn run.stop run.store_before done
   pub stops : run.stop ≡ true
   pub refused : (step_of (after run.store_before done) line).is_refused ≡ true
-  pub stands : StandsAfter (done ++ line ∷ []) run
+  pub stands : IsStateAfter (done ++ line ∷ []) run
   pub counts : CountsMore (done ++ line ∷ []) run.store_before told more
 
 -- lines were carried out up to one in whose answer the sink failed
@@ -61,7 +61,7 @@ pub record Wanting (lines : List (List ℕ)) (run : Run) : Type 0 where
   pub rest : List (List ℕ)
   pub are : lines ≡ done ++ line ∷ rest
   pub keeps_on : KeepsOn run.stop run.store_before done
-  pub stands : StandsAfter done run
+  pub stands : IsStateAfter done run
   pub wants : LineWants run.store_after line
 
 -- a fault ended lines
@@ -80,5 +80,5 @@ CarriesPiece (Err fault) front piece run held told = FaultAmong fault (ended_beh
 
 -- the last line was carried out, of which this is all
 abbrev pub CarriesLast : Result RunEnd RunFault → List ℕ → Run → RunEnd → Type 0
-CarriesLast (Ok more) front run told = StandsAfter (line_left front) run × CountsMore (line_left front) run.store_before told more
+CarriesLast (Ok more) front run told = IsStateAfter (line_left front) run × CountsMore (line_left front) run.store_before told more
 CarriesLast (Err fault) front run told = FaultAmong fault (line_left front) run

@@ -53,7 +53,7 @@ abbrev pub KeepsOn : Bool → State → List (List ℕ) → Type 0
 KeepsOn stop old lines = stop ≡ true → refused_in old lines ≡ 0
 
 -- the store stands after lines, and their whole output went out
-pub record StandsAfter (lines : List (List ℕ)) (run : Run) : Type 0 where
+pub record IsStateAfter (lines : List (List ℕ)) (run : Run) : Type 0 where
   pub store : run.store_after ≡ after run.store_before lines
   pub output : Appends run.taken_before run.taken_after (output_of run.store_before lines)
 
@@ -63,7 +63,7 @@ carried run lines = carried_lines run.stop run.store_before lines
 
 -- a run carried the lines of `input` out and wrote exactly their output
 pub record Finishes (input : List ℕ) (run : Run) (told : RunEnd) : Type 0 where
-  pub stands : StandsAfter (carried run (script_lines input)) run
+  pub stands : IsStateAfter (carried run (script_lines input)) run
   pub lines : told.lines ≡ min (counted_in run.store_before (carried run (script_lines input))) MOST
   pub refused : told.refused ≡ min (refused_in run.store_before (carried run (script_lines input))) MOST
 
@@ -81,7 +81,7 @@ pub record IsStopped (end : SourceEnd) (input : List ℕ) (run : Run) : Type 0 w
 -- no more could be read: the store stands after all lines whose ends were read, and their whole output went out
 pub record StopsReading (input : List ℕ) (run : Run) : Type 0 where
   pub keeps_on : KeepsOn run.stop run.store_before (ended_lines input)
-  pub stands : StandsAfter (ended_lines input) run
+  pub stands : IsStateAfter (ended_lines input) run
 
 -- the sink failed in the answer of a line: the store stands after that line, and what went out is the output of those before it and a
 -- front of its answer
@@ -101,7 +101,7 @@ Ran (Ok told) end input run = (end.IsRead ⊎ IsStopped end input run) × Finish
 Ran (Err Read) end input run = StopsReading input run
 Ran (Err ReaderTooLong) end input run = StopsReading input run
 Ran (Err Write) end input run =
-    (lines : List (List ℕ)) × AreRead end input lines × (StopsWriting lines run ⊎ StandsAfter (carried run lines) run)
+    (lines : List (List ℕ)) × AreRead end input lines × (StopsWriting lines run ⊎ IsStateAfter (carried run lines) run)
 Ran (Err OutOfMemory) end input run = (lines : List (List ℕ)) × AreRead end input lines × WantsAmong lines run
 
 -- a flush was the last thing that the sink was asked for

@@ -17,7 +17,7 @@ use Rattle.s2ix_edit_plan.proofs.Edited.{length-earlier}
 use Rattle.s2ix_edit_plan.proofs.Plans.{between_changed}
 use Rattle.s2ix_edit.specs.Store.{IsStore, CanGoBack, CanGoOn}
 use Rattle.s2ix_edit.specs.Steps.{with_held}
-use Rattle.s2ix_edit.proofs.Places.{forth_again, taken_again}
+use Rattle.s2ix_edit.proofs.AtCursor.{forth_again, taken_again}
 use Rattle.s2ix_edit.proofs.Taken.{not_mismatched}
 
 -- ---- the changes between neighbours

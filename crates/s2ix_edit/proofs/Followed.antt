@@ -13,7 +13,7 @@ use Rattle.s2ix_edit_plan.proofs.Edited.{held_edited_is_collection}
 use Rattle.s2ix_edit.specs.Store.{IsStore}
 use Rattle.s2ix_edit.specs.Steps.{after_edit, after_forget, after_redo, after_redo_of, after_undo, after_undo_of}
 use Rattle.s2ix_edit.proofs.Along.{changes_of_history}
-use Rattle.s2ix_edit.proofs.Places.{collections_recorded, goes_on, history_alone, history_redone, history_undone}
+use Rattle.s2ix_edit.proofs.AtCursor.{collections_recorded, goes_on, history_alone, history_redone, history_undone}
 use Rattle.s2ix_edit.proofs.Redone.{ends_in_last, redo_of_last}
 use Rattle.s2ix_edit.proofs.Undone.{undo_of_last}
 

@@ -20,7 +20,7 @@ use Rattle.s2ix_edit_plan.proofs.Plans.{makes_between}
 use Rattle.s2ix_edit_plan.proofs.Refused.{some_entries}
 use Rattle.s2ix_edit.specs.Store.{IsStore}
 use Rattle.s2ix_edit.specs.Steps.{after_edit, after_forget, after_redo, after_redo_of, after_undo, after_undo_of, with_held}
-use Rattle.s2ix_edit.proofs.Places.{goes_back, goes_on, stands_recorded, stands_redone, stands_undone}
+use Rattle.s2ix_edit.proofs.AtCursor.{goes_back, goes_on, stands_recorded, stands_redone, stands_undone}
 use Rattle.s2ix_edit.proofs.Planned.{planned_state, refusal_of_entries, stand}
 use Rattle.s2ix_edit.proofs.Redone.{ends_in_last, redo_of_last}
 use Rattle.s2ix_edit.proofs.Undone.{undo_of_last}

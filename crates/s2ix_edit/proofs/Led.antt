@@ -12,7 +12,7 @@ use Rattle.s2ix_edit_plan.specs.State.{State, change_of, history_of}
 use Rattle.s2ix_edit_plan.proofs.Edited.{held_edited_is_collection}
 use Rattle.s2ix_edit.specs.Store.{IsStore}
 use Rattle.s2ix_edit.specs.Steps.{after_edit, after_redo, after_redo_of, after_undo, after_undo_of, faces_of}
-use Rattle.s2ix_edit.proofs.Places.{Redoes, Undoes}
+use Rattle.s2ix_edit.proofs.AtCursor.{Redoes, Undoes}
 use Rattle.s2ix_edit.proofs.Redone.{redo_of_last, redo_of_undo}
 use Rattle.s2ix_edit.proofs.Undone.{front_of, undo_of_edit, undo_of_last, with_faces}
 use Rattle.s2ix_table_ranges.specs.Table.{Range, IsRangeTable, leaf_end}

@@ -4,7 +4,7 @@ pub mod Followed
 pub mod Kept
 pub mod Led
 mod LimitRefusals
-pub mod Places
+pub mod AtCursor
 mod Planned
 pub mod Redone
 pub mod Recorded

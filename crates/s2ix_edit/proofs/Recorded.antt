@@ -17,7 +17,7 @@ use Rattle.s2ix_edit.specs.Recorded.{IsRecorded}
 use Rattle.s2ix_edit.specs.Steps.{with_held}
 use Rattle.s2ix_edit.specs.Store.{IsStore, CanGoBack, CanGoOn}
 use Rattle.s2ix_edit.proofs.Along.{all_back_again}
-use Rattle.s2ix_edit.proofs.Places.{taken_again}
+use Rattle.s2ix_edit.proofs.AtCursor.{taken_again}
 use Rattle.s2ix_edit.proofs.Taken.{not_mismatched}
 
 -- ---- how high their counts

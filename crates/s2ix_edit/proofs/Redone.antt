@@ -8,7 +8,7 @@ use Rattle.s2ix_bag_pairs.specs.Change.{inverse_of}
 use Rattle.s2ix_edit_plan.specs.State.{State}
 use Rattle.s2ix_edit.specs.Store.{IsStore}
 use Rattle.s2ix_edit.specs.Steps.{after_redo, after_redo_of, after_undo, after_undo_of, faces_of, with_held, last_done, last_undone}
-use Rattle.s2ix_edit.proofs.Places.{forth_again, goes_back, goes_on, slice_get_last}
+use Rattle.s2ix_edit.proofs.AtCursor.{forth_again, goes_back, goes_on, slice_get_last}
 use Rattle.s2ix_edit.proofs.Taken.{changed_back, not_mismatched}
 use Rattle.s2ix_edit.proofs.Undone.{front_of, undo_of_last, with_faces}
 

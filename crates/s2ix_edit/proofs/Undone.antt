@@ -12,7 +12,7 @@ use Rattle.s2ix_edit_plan.specs.State.{State, change_of, history_of}
 use Rattle.s2ix_edit_plan.proofs.Edited.{held_edited_is_collection}
 use Rattle.s2ix_edit.specs.Store.{IsStore}
 use Rattle.s2ix_edit.specs.Steps.{after_edit, after_undo, after_undo_of, faces_of, with_held}
-use Rattle.s2ix_edit.proofs.Places.{slice_get_last}
+use Rattle.s2ix_edit.proofs.AtCursor.{slice_get_last}
 
 -- a store with another number of faces
 abbrev pub with_faces : State → ℕ → State

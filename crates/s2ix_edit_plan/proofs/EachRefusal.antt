@@ -10,21 +10,21 @@ use Rattle.s2ix_edit_plan.specs.declared.errors.EditError.TheVariants.{JournalFu
 use Rattle.s2ix_edit_plan.specs.declared.edit.Edit.{Edit}
 use Rattle.s2ix_edit_plan.specs.declared.edit.Edit.TheVariants.{Add, AddUnion, Remove, DropLabel, Relabel, Grow, Normalise, Revert}
 use Rattle.s2ix_edit_plan.specs.Edit.{edited, edited_alone, edited_by, numbered}
-use Rattle.s2ix_edit_plan.specs.Refusals.{asks_too_fine, edit_refusal, goes_below_zero, has_count_above, lacks_change, lacks_label, refusals_with_room, reverts, stands, takes_too_many}
+use Rattle.s2ix_edit_plan.specs.Refusals.{asks_too_fine, edit_refusal, goes_below_zero, has_count_above, lacks_change, lacks_label, refusals_with_room, reverts, is_due, takes_too_many}
 use Rattle.s2ix_edit_plan.specs.State.{State, change_of, history_of}
 
--- ---- the first that stands
+-- ---- the first that is due
 
 -- it stands
-first_stands : (test : EditError → Bool) (errors : List EditError) (e : EditError) → find test errors ≡ Some e → test e ≡ true
-first_stands test [] e found = cc
-first_stands test (x ∷ errors) e found =
+first_is_due : (test : EditError → Bool) (errors : List EditError) (e : EditError) → find test errors ≡ Some e → test e ≡ true
+first_is_due test [] e found = cc
+first_is_due test (x ∷ errors) e found =
     ⊎_elim
     (λ yes.
     let both : ◌≡◌ {A = Option EditError} (Some x) (Some e) = sym (cond-true (test x) (Some x) (find test errors) yes) ∙ found in
     let same : x ≡ e = cc in
     ap test (sym same) ∙ yes)
-    (λ no. first_stands test errors e (sym (cond-false (test x) (Some x) (find test errors) no) ∙ found))
+    (λ no. first_is_due test errors e (sym (cond-false (test x) (Some x) (find test errors) no) ∙ found))
     (cases_Bool (test x))
 
 -- and one before it that is another doesn't
@@ -129,7 +129,7 @@ below_only changes edit hs below =
 -- ---- each refusal
 
 tests : State → Edit → EditError → Bool
-tests s edit = stands s.bag s.done edit (edited (history_of s) edit)
+tests s edit = is_due s.bag s.done edit (edited (history_of s) edit)
 
 -- a refusal but that of a full journal comes with room
 with_room_left : (s : State) (edit : Edit) (e : EditError) → (JournalFull ≡ e → ⊥) → edit_refusal s edit ≡ Some e
@@ -139,24 +139,24 @@ with_room_left s edit e other found =
     let past = another_fails (tests s edit) JournalFull e refusals_with_room other found in
     (leb-false _ _ past.0, past.1)
 
-pub it_stands : (s : State) (edit : Edit) (e : EditError) → edit_refusal s edit ≡ Some e
-    → stands s.bag s.done edit (edited (history_of s) edit) e ≡ true
-it_stands s edit e found = first_stands (stands s.bag s.done edit (edited (history_of s) edit)) (JournalFull ∷ refusals_with_room) e found
+pub it_is_due : (s : State) (edit : Edit) (e : EditError) → edit_refusal s edit ≡ Some e
+    → is_due s.bag s.done edit (edited (history_of s) edit) e ≡ true
+it_is_due s edit e found = first_is_due (is_due s.bag s.done edit (edited (history_of s) edit)) (JournalFull ∷ refusals_with_room) e found
 
 pub full_where : (s : State) (edit : Edit) → (edit_refusal s edit ≡ Some JournalFull) ↔ (changes_limit s.bag.limits ≤ length s.done)
-full_where s edit = (λ found. leb-true _ _ (it_stands s edit JournalFull found), λ full. cond-true _ _ _ (le-leb _ _ full))
+full_where s edit = (λ found. leb-true _ _ (it_is_due s edit JournalFull found), λ full. cond-true _ _ _ (le-leb _ _ full))
 
 pub label_where : (s : State) (edit : Edit)
     → (edit_refusal s edit ≡ Some NoSuchLabel) ↔ ((length s.done < changes_limit s.bag.limits) × (lacks_label edit s.bag.held ≡ true))
 label_where s edit = (
-  λ found. ((with_room_left s edit NoSuchLabel (λ is. cc) found).0, it_stands s edit NoSuchLabel found),
+  λ found. ((with_room_left s edit NoSuchLabel (λ is. cc) found).0, it_is_due s edit NoSuchLabel found),
   λ parts. cond-false _ _ _ (lt-leb _ _ parts.0) ∙ cond-true _ _ _ parts.1,
 )
 
 pub held_where : (s : State) (edit : Edit)
     → (edit_refusal s edit ≡ Some NotHeld) ↔ ((length s.done < changes_limit s.bag.limits) × (takes_too_many edit s.bag.held ≡ true))
 held_where s edit = (
-  λ found. ((with_room_left s edit NotHeld (λ is. cc) found).0, it_stands s edit NotHeld found),
+  λ found. ((with_room_left s edit NotHeld (λ is. cc) found).0, it_is_due s edit NotHeld found),
   λ parts. cond-false _ _ _ (lt-leb _ _ parts.0) ∙ cond-false _ _ _ (takes_only s.done edit s.bag.held parts.1) ∙ cond-true _ _ _ parts.1,
 )
 
@@ -168,7 +168,7 @@ fine_where s edit = (
   λ found.
       let past = with_room_left s edit TooFine (λ is. cc) found in
       let behind = NotHeld ∷ TooFine ∷ NoSuchChange ∷ BelowZero ∷ NoChange ∷ TooManyCopies ∷ TooManyPairs ∷ [] in
-      (past.0, (another_fails (tests s edit) NoSuchLabel TooFine behind (λ is. cc) past.1).0, it_stands s edit TooFine found),
+      (past.0, (another_fails (tests s edit) NoSuchLabel TooFine behind (λ is. cc) past.1).0, it_is_due s edit TooFine found),
   λ parts.
       cond-false _ _ _ (lt-leb _ _ parts.0) ∙ cond-false _ _ _ parts.1
       ∙ cond-false _ _ _ (fine_only s.done edit s.bag.held parts.2) ∙ cond-true _ _ _ parts.2,
@@ -177,7 +177,7 @@ fine_where s edit = (
 pub change_where : (s : State) (edit : Edit)
     → (edit_refusal s edit ≡ Some NoSuchChange) ↔ ((length s.done < changes_limit s.bag.limits) × (lacks_change s.done edit ≡ true))
 change_where s edit = (
-  λ found. ((with_room_left s edit NoSuchChange (λ is. cc) found).0, it_stands s edit NoSuchChange found),
+  λ found. ((with_room_left s edit NoSuchChange (λ is. cc) found).0, it_is_due s edit NoSuchChange found),
   λ parts.
       let others = change_only s.done edit s.bag.held parts.1 in
       cond-false _ _ _ (lt-leb _ _ parts.0) ∙ cond-false _ _ _ others.known ∙ cond-false _ _ _ others.held ∙ cond-false _ _ _ others.fits
@@ -188,7 +188,7 @@ pub below_where : (s : State) (edit : Edit)
     → (edit_refusal s edit ≡ Some BelowZero)
     ↔ ((length s.done < changes_limit s.bag.limits) × (goes_below_zero s.done edit s.bag.held ≡ true))
 below_where s edit = (
-  λ found. ((with_room_left s edit BelowZero (λ is. cc) found).0, it_stands s edit BelowZero found),
+  λ found. ((with_room_left s edit BelowZero (λ is. cc) found).0, it_is_due s edit BelowZero found),
   λ parts.
       let others = below_only s.done edit s.bag.held parts.1 in
       cond-false _ _ _ (lt-leb _ _ parts.0) ∙ cond-false _ _ _ others.known ∙ cond-false _ _ _ others.held ∙ cond-false _ _ _ others.fits
@@ -199,11 +199,11 @@ below_where s edit = (
 
 pub high_from_refusal : (s : State) (edit : Edit) → edit_refusal s edit ≡ Some TooManyCopies
     → has_count_above (count_limit s.bag.limits) (edited (history_of s) edit) ≡ true
-high_from_refusal s edit found = it_stands s edit TooManyCopies found
+high_from_refusal s edit found = it_is_due s edit TooManyCopies found
 
 pub many_from_refusal : (s : State) (edit : Edit) → edit_refusal s edit ≡ Some TooManyPairs
     → pairs_limit s.bag.limits < length (edited (history_of s) edit)
-many_from_refusal s edit found = ltb-true _ _ (it_stands s edit TooManyPairs found)
+many_from_refusal s edit found = ltb-true _ _ (it_is_due s edit TooManyPairs found)
 
 -- ---- edits that take no change back
 
@@ -218,7 +218,7 @@ others_refused s edit reads =
 
 -- ---- a revert
 
--- the first refusal, by which of them stand
+-- the first refusal, by which of them are due
 first_by : Bool → Bool → Bool → Bool → Bool → Bool → Bool → Bool → Bool → Option EditError
 first_by full label copies level change below same high many =
     cond full (Some JournalFull) (cond label (Some NoSuchLabel) (cond copies (Some NotHeld) (cond level (Some TooFine)
@@ -264,7 +264,7 @@ accepted_by false false false false true many none = cc
 accepted_by false false false false false true none = cc
 accepted_by false false false false false false none = (refl, refl, refl, refl, refl)
 
--- where one is accepted, none of these stands
+-- where one is accepted, none of these is due
 pub revert_accepted : (s : State) (number : ℕ) → edit_refusal s (Revert number) ≡ None
     → (nat_le (changes_limit s.bag.limits) (length s.done) ≡ false) × (lacks_change s.done (Revert number) ≡ false)
     × (goes_below_zero s.done (Revert number) s.bag.held ≡ false)
@@ -278,7 +278,7 @@ revert_accepted s number none =
     (length (change_of s (Revert number)) == 0) (has_count_above (count_limit s.bag.limits) new)
     (nat_lt (pairs_limit s.bag.limits) (length new)) none
 
--- and where none stands, and something would change, it is accepted
+-- and where none is due, and something would change, it is accepted
 pub revert_taken : (s : State) (number : ℕ) → nat_le (changes_limit s.bag.limits) (length s.done) ≡ false
     → lacks_change s.done (Revert number) ≡ false → goes_below_zero s.done (Revert number) s.bag.held ≡ false
     → (length (change_of s (Revert number)) == 0) ≡ false

@@ -1,4 +1,4 @@
--- Which refusal of an edit stands first.
+-- Which refusal of an edit is due first.
 use Rattle.std.proofs.Common.{◌≡◌, ℕ, ◌+◌, ◌<◌, ◌≤◌, ◌==◌, Bool, true, false, cond, ltb, ltb-true, List, [], ◌∷◌, length, find, Option, Some, None, refl, ⊎_elim, sym, ap, ◌∙◌, arith}
 use Rattle.std.proofs.lemmas.Bool.{cases_Bool, cond-false, eqb-true, lt-leb}
 use Rattle.std.specs.List.{list_any}
@@ -15,10 +15,10 @@ use Rattle.s2ix_edit_plan.specs.Edit.{edited, edited_by}
 use Rattle.s2ix_edit_plan.specs.History.{standing}
 use Rattle.s2ix_edit_plan.specs.State.{State, change_of, history_of}
 use Rattle.s2ix_edit_plan.specs.Plan.{Plans, entries_refusal}
-use Rattle.s2ix_edit_plan.specs.Refusals.{asks_too_fine, edit_refusal, goes_below_zero, has_count_above, lacks_change, lacks_label, plan_refusal, refusals_with_room, stands, takes_too_many}
+use Rattle.s2ix_edit_plan.specs.Refusals.{asks_too_fine, edit_refusal, goes_below_zero, has_count_above, lacks_change, lacks_label, plan_refusal, refusals_with_room, is_due, takes_too_many}
 use Rattle.s2ix_edit_plan.proofs.Above.{above_from_count, any_above_changed, none_above}
 use Rattle.s2ix_edit_plan.proofs.Plans.{between_changed}
-use Rattle.s2ix_edit_plan.proofs.EachRefusal.{it_stands}
+use Rattle.s2ix_edit_plan.proofs.EachRefusal.{it_is_due}
 use Rattle.s2ix_edit_plan.proofs.Edited.{edited_held, edited_is_collection, held_edited_is_collection}
 use Rattle.s2ix_bag_pairs.proofs.Collections.{count_in-set_count_same}
 use Rattle.s2ix_bag_pairs.proofs.Differences.{changed_between}
@@ -28,7 +28,7 @@ use Rattle.s2ix_bag_pairs.specs.Pair.{rank_of}
 pub with_room : (s : State) (edit : Edit) → standing (history_of s) ≡ s.done → length s.done < changes_limit s.bag.limits
     → edit_refusal s edit ≡ plan_refusal s.bag s.done edit
 with_room s edit stand room =
-    cond-false _ _ _ (lt-leb _ _ room) ∙ ap (λ new. find (stands s.bag s.done edit new) refusals_with_room) (edited_held s edit stand)
+    cond-false _ _ _ (lt-leb _ _ room) ∙ ap (λ new. find (is_due s.bag s.done edit new) refusals_with_room) (edited_held s edit stand)
 
 -- ---- the three refusals that are found while the change is made
 
@@ -172,4 +172,4 @@ pub same_from_refusal : (s : State) (edit : Edit) → IsBag s.bag → edit_refus
     → edited (history_of s) edit ≡ s.bag.held
 same_from_refusal s edit b found =
     let is = held_edited_is_collection s edit b.rises in
-    sym (same_where_none s.bag (edited (history_of s) edit) b is (it_stands s edit NoChange found))
+    sym (same_where_none s.bag (edited (history_of s) edit) b is (it_is_due s edit NoChange found))

@@ -65,27 +65,27 @@ goes_below_zero changes edit hs = false
 abbrev pub has_count_above : ℕ → Collection → Bool
 has_count_above limit hs = list_any (λ h. nat_lt limit h.count) hs
 
--- where each refusal stands, for an edit of a bag that these changes led to, and that makes this collection
-abbrev pub stands : LimitedCollection → List (List Entry) → Edit → Collection → EditError → Bool
-stands bag changes edit new JournalFull = nat_le (changes_limit bag.limits) (length changes)
-stands bag changes edit new NoSuchLabel = lacks_label edit bag.held
-stands bag changes edit new NotHeld = takes_too_many edit bag.held
-stands bag changes edit new TooFine = asks_too_fine edit bag.held
-stands bag changes edit new NoSuchChange = lacks_change changes edit
-stands bag changes edit new BelowZero = goes_below_zero changes edit bag.held
-stands bag changes edit new NoChange = length (change_between bag.held new) == 0
-stands bag changes edit new TooManyCopies = has_count_above (count_limit bag.limits) new
-stands bag changes edit new TooManyPairs = nat_lt (pairs_limit bag.limits) (length new)
-stands bag changes edit new OutOfMemory = false
+-- when each refusal is due, for an edit of a bag that these changes led to, and that makes this collection
+abbrev pub is_due : LimitedCollection → List (List Entry) → Edit → Collection → EditError → Bool
+is_due bag changes edit new JournalFull = nat_le (changes_limit bag.limits) (length changes)
+is_due bag changes edit new NoSuchLabel = lacks_label edit bag.held
+is_due bag changes edit new NotHeld = takes_too_many edit bag.held
+is_due bag changes edit new TooFine = asks_too_fine edit bag.held
+is_due bag changes edit new NoSuchChange = lacks_change changes edit
+is_due bag changes edit new BelowZero = goes_below_zero changes edit bag.held
+is_due bag changes edit new NoChange = length (change_between bag.held new) == 0
+is_due bag changes edit new TooManyCopies = has_count_above (count_limit bag.limits) new
+is_due bag changes edit new TooManyPairs = nat_lt (pairs_limit bag.limits) (length new)
+is_due bag changes edit new OutOfMemory = false
 
--- the refusals that stand where the journal has room, memory aside, in the order in which they decide
+-- the refusals that may be due where the journal has room, memory aside, in the order in which they decide
 abbrev pub refusals_with_room : List EditError
 refusals_with_room = NoSuchLabel ∷ NotHeld ∷ TooFine ∷ NoSuchChange ∷ BelowZero ∷ NoChange ∷ TooManyCopies ∷ TooManyPairs ∷ []
 
--- the refusal of an edit: a full journal, else the first that stands; `None` where the edit is accepted, memory aside
+-- the refusal of an edit: a full journal, else the first that is due; `None` where the edit is accepted, memory aside
 abbrev pub edit_refusal : State → Edit → Option EditError
-edit_refusal s edit = find (stands s.bag s.done edit (edited (history_of s) edit)) (JournalFull ∷ refusals_with_room)
+edit_refusal s edit = find (is_due s.bag s.done edit (edited (history_of s) edit)) (JournalFull ∷ refusals_with_room)
 
 -- why an edit of a bag that these changes led to is refused where the journal has room, memory aside
 abbrev pub plan_refusal : LimitedCollection → List (List Entry) → Edit → Option EditError
-plan_refusal bag changes edit = find (stands bag changes edit (edited_by changes edit bag.held)) refusals_with_room
+plan_refusal bag changes edit = find (is_due bag changes edit (edited_by changes edit bag.held)) refusals_with_room

@@ -2,7 +2,7 @@ use s2id_core::OutOfMemory;
 use s2ix_bag_lists::RevertError;
 use thiserror::Error;
 
-/// Why an edit was refused. Where several refusals stand, the first of this list is answered; `OutOfMemory`
+/// Why an edit was refused. If several refusals are due, the first of this list is answered; `OutOfMemory`
 /// may come in place of `NoChange`, `TooManyCopies` or `TooManyPairs`, and of none before them.
 #[derive(Clone, Copy, Debug, PartialEq, Eq, Error)]
 pub enum EditError {

@@ -8,7 +8,7 @@ use Rattle.s2id_core.proofs.Lists.{cons_cases, in_tail}
 use Rattle.s2ix_bag_pairs.specs.Collection.{Collection, IsCollection}
 use Rattle.s2ix_bag_pairs.specs.Pair.{rank_of}
 use Rattle.s2ix_bag_pairs.specs.declared.pair.Held.{Held}
-use Rattle.s2ix_bag_pairs.proofs.Parts.{ranks_rise}
+use Rattle.s2ix_bag_pairs.proofs.CutAtRank.{ranks_rise}
 use Rattle.s2ix_table_ranges.specs.Contents.{contents_at, depth_key}
 use Rattle.s2ix_table_ranges.specs.Bounds.{IsBound}
 use Rattle.s2ix_table_ranges.proofs.Over.{span_of}

@@ -33,8 +33,8 @@ outer_at (h ∷ hs) outer place next size are lt is =
 
 -- what a sweep has written, once the room that is left is given back
 pub nodes_of_pass : (held : Collection) (from to : ℕ) (pass : Pass) (starts firsts : List ℕ) → IsCollection held → length held ≤ 1000000
-    → IsInSpan held from to → IsSwept held from to pass → starts ≡ take pass.stand.count pass.starts.items
-    → firsts ≡ take pass.stand.count pass.firsts.items → AreNodes held from to pass.outer.items starts firsts
+    → IsInSpan held from to → IsSwept held from to pass → starts ≡ take pass.frontier.count pass.starts.items
+    → firsts ≡ take pass.frontier.count pass.firsts.items → AreNodes held from to pass.outer.items starts firsts
 nodes_of_pass held from to pass starts firsts rises few within swept starts_are firsts_are =
     record {
       rises = rises;
@@ -42,12 +42,12 @@ nodes_of_pass held from to pass starts firsts rises few within swept starts_are 
       within = within;
       table = subst (λ (ss : List ℕ). IsTableOver held from to (ranges_from held ss to)) (sym starts_are) swept.table;
       ranges_few =
-          let short = ap length starts_are ∙ length-take pass.stand.count pass.starts.items in
+          let short = ap length starts_are ∙ length-take pass.frontier.count pass.starts.items in
           let count = swept.few in
           omega arith;
       size = swept.size;
       outwards = swept.outer;
       leads =
           subst (λ (ss : List ℕ). AreFirsts held ss firsts) (sym starts_are)
-          (subst (λ (fs : List ℕ). AreFirsts held (take pass.stand.count pass.starts.items) fs) (sym firsts_are) swept.firsts);
+          (subst (λ (fs : List ℕ). AreFirsts held (take pass.frontier.count pass.starts.items) fs) (sym firsts_are) swept.firsts);
     }

@@ -1,9 +1,9 @@
 -- What a step of a sweep writes.
 use Rattle.std.specs.Prelude.{◌≡◌, ℕ, ◌+◌, nat_lt, if◌then◌else◌, List, [], ◌∷◌, ◌++◌, length, take}
 use Rattle.s2ix_table_chain.specs.declared.pass.Pass.{Pass}
-use Rattle.s2ix_table_chain.specs.declared.pass.Stand.{Stand}
+use Rattle.s2ix_table_chain.specs.declared.pass.Frontier.{Frontier}
 
--- where a sweep stands, and the ranges that it has written: their starts, and beside them the places of their innermost pairs
+-- where a sweep has come to, and the ranges that it has written: their starts, and beside them the places of their innermost pairs
 pub record Progress : Type 0 where
   pub count : ℕ
   pub at : ℕ
@@ -13,16 +13,16 @@ pub record Progress : Type 0 where
 
 abbrev pub progress_of : Pass → Progress
 progress_of pass = record {
-  count = pass.stand.count;
-  at = pass.stand.at;
-  top = pass.stand.top;
-  starts = take pass.stand.count pass.starts.items;
-  firsts = take pass.stand.count pass.firsts.items;
+  count = pass.frontier.count;
+  at = pass.frontier.at;
+  top = pass.frontier.top;
+  starts = take pass.frontier.count pass.starts.items;
+  firsts = take pass.frontier.count pass.firsts.items;
 }
 
 -- a pass that stands there
-abbrev pub standing : Stand → Pass → Pass
-standing stand pass = record { outer = pass.outer; starts = pass.starts; firsts = pass.firsts; stand = stand }
+abbrev pub with_frontier : Frontier → Pass → Pass
+with_frontier frontier pass = record { outer = pass.outer; starts = pass.starts; firsts = pass.firsts; frontier = frontier }
 
 -- the range up to a bound is written, and the sweep stands at the bound; where it stands there or behind it, nothing changes
 abbrev pub written : ℕ → Progress → Progress

@@ -12,8 +12,8 @@ use Rattle.s2ix_table_chain.specs.Starts.{ranges_from}
 
 -- nothing is open or written, and there is room for all
 pub record IsFresh (held : Collection) (pass : Pass) : Type 0 where
-  pub top : pass.stand.top ≡ length held
-  pub count : pass.stand.count ≡ 0
+  pub top : pass.frontier.top ≡ length held
+  pub count : pass.frontier.count ≡ 0
   pub outer : length pass.outer.items ≡ length held
   pub starts : length pass.starts.items ≡ 2 * length held + 1
   pub firsts : length pass.firsts.items ≡ 2 * length held + 1
@@ -24,7 +24,7 @@ pub record IsSwept (held : Collection) (from to : ℕ) (pass : Pass) : Type 0 wh
   pub size : length pass.outer.items ≡ length held
   pub firsts : AreFirsts held (progress_of pass).starts (progress_of pass).firsts
   pub table : IsTableOver held from to (ranges_from held (progress_of pass).starts to)
-  pub few : pass.stand.count ≤ 2 * length held + 1
+  pub few : pass.frontier.count ≤ 2 * length held + 1
   pub starts_room : length pass.starts.items ≡ 2 * length held + 1
   pub firsts_room : length pass.firsts.items ≡ 2 * length held + 1
 

@@ -72,8 +72,8 @@ impl SpanTable {
             to,
         )?;
         let outer = pass.outer;
-        let starts = trim(pass.starts, pass.stand.count);
-        let firsts = trim(pass.firsts, pass.stand.count);
+        let starts = trim(pass.starts, pass.frontier.count);
+        let firsts = trim(pass.firsts, pass.frontier.count);
         Ok(SpanTable {
             held,
             outer,

@@ -5,7 +5,7 @@ ghost use Rattle.s2ix_table_chain.specs.Order.{IsSweepOrder, ArePlaces};
 ghost use Rattle.s2ix_table_chain.specs.SpanTable.{IsInSpan};
 ghost use Rattle.s2ix_table_chain.specs.Sweep.{IsFresh, IsSwept, start_at, last_at};
 
-use crate::pass::{Pass, Stand};
+use crate::pass::{Frontier, Pass};
 use s2id_core::OutOfMemory;
 use s2ix_bag_lists::FlatHeld;
 use std::alloc::Global;
@@ -35,7 +35,7 @@ pub(crate) fn sweep_span(
         outer,
         starts,
         firsts,
-        stand: Stand {
+        frontier: Frontier {
             count: 0,
             at: from,
             top: len as u32,
@@ -51,30 +51,30 @@ fn sweep(held: &[FlatHeld], order: &[u32], pass: &mut Pass, lasts: &mut [u64], t
     requires rises { IsCollection held.now }
     requires few { length held.now ≤ 1000000 }
     requires order { IsSweepOrder held.now order.now }
-    requires span { IsInSpan held.now pass.old.stand.at to }
+    requires span { IsInSpan held.now pass.old.frontier.at to }
     requires fresh { IsFresh held.now pass.old }
     requires room { length lasts.old ≡ length held.now + 1 }
-    ensures { IsSwept held.now pass.old.stand.at to pass.new }
+    ensures { IsSwept held.now pass.old.frontier.at to pass.new }
 {
     lasts[0] = u64::MAX;
-    let mut stand = pass.stand;
+    let mut frontier = pass.frontier;
     let mut depth = 0;
     let mut k = 0;
     loop {
         let bound = next_start(held, order, k, to);
         while lasts[depth] < bound {
-            stand = pass.write_until(stand, lasts[depth] + 1);
-            stand.top = pass.outer[stand.top as usize];
+            frontier = pass.write_until(frontier, lasts[depth] + 1);
+            frontier.top = pass.outer[frontier.top as usize];
             depth -= 1;
         }
-        stand = pass.write_until(stand, bound);
+        frontier = pass.write_until(frontier, bound);
         if k >= order.len() {
-            pass.stand = stand;
+            pass.frontier = frontier;
             return;
         }
         let place = order[k];
-        pass.outer[place as usize] = stand.top;
-        stand.top = place;
+        pass.outer[place as usize] = frontier.top;
+        frontier.top = place;
         depth += 1;
         lasts[depth] = last_in(held, place);
         k += 1;

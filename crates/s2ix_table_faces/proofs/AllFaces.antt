@@ -15,9 +15,9 @@ use Rattle.s2ix_table_chain.specs.SpanTable.{SpanRanges}
 use Rattle.s2ix_table_faces.specs.Joined.{held_in}
 use Rattle.s2ix_table_reading.specs.Faces.{faces, held_on}
 use Rattle.s2ix_table_reading.proofs.Unchanged.{on_face, off_face}
-use Rattle.s2ix_table_faces.specs.Faces.{face_begin, AreOnFace, IsOverFace, AreOverFaces}
+use Rattle.s2ix_table_faces.specs.FaceSpans.{face_begin, AreOnFace, IsOverFace, AreOverFaces}
 use Rattle.s2ix_table_walk.proofs.OnFaces.{six_faces}
-use Rattle.s2ix_table_faces.proofs.Faces.{raw_on_face}
+use Rattle.s2ix_table_faces.proofs.InSpans.{raw_on_face}
 
 faces_from : ℕ → ℕ → List ℕ
 faces_from n zero = []

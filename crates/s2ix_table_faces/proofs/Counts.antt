@@ -6,7 +6,7 @@ use Rattle.s2ix_table_ranges.specs.Table.{range_at, leaf_end}
 use Rattle.s2ix_table_chain.specs.SpanTable.{SpanRanges}
 use Rattle.s2ix_table_chain.specs.Starts.{IsLastStart}
 use Rattle.s2ix_table_faces.specs.declared.seat.Seat.{Seat}
-use Rattle.s2ix_table_faces.specs.Faces.{no_table, table_of}
+use Rattle.s2ix_table_faces.specs.FaceSpans.{no_table, table_of}
 use Rattle.s2ix_table_faces.specs.Joined.{joined_ranges}
 use Rattle.s2ix_table_faces.specs.Seats.{places_of, place_on, HasOwn, AreInner}
 use Rattle.s2ix_table_faces.specs.Whole.{AreJoined, AreCounted}

@@ -1,10 +1,10 @@
 pub mod Appended
 pub mod Joining
 pub mod Neighbours
-pub mod Places
+pub mod JoinedPlaces
 pub mod Seating
 pub mod Seats
-pub mod Faces
+pub mod InSpans
 pub mod SeatBy
 pub mod Reading
 pub mod Stretches

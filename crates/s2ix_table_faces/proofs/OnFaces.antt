@@ -8,10 +8,10 @@ use Rattle.s2ix_bag_pairs.specs.Collection.{Collection}
 use Rattle.s2ix_table_ranges.proofs.Over.{span_of}
 use Rattle.s2ix_table_chain.specs.SpanTable.{SpanRanges, IsSpanTable}
 use Rattle.s2ix_table_reading.specs.Faces.{faces, held_on}
-use Rattle.s2ix_table_faces.specs.Faces.{face_begin, AreOnFace, IsOverFace, AreOverFaces}
+use Rattle.s2ix_table_faces.specs.FaceSpans.{face_begin, AreOnFace, IsOverFace, AreOverFaces}
 use Rattle.s2ix_table_faces.specs.Joined.{held_in, AreNeighbours}
 use Rattle.s2ix_table_faces.proofs.AllFaces.{six_parts}
-use Rattle.s2ix_table_faces.proofs.Faces.{cell_on_face}
+use Rattle.s2ix_table_faces.proofs.InSpans.{cell_on_face}
 
 -- one face begins by the end of another and ends behind its begin
 same_face : (f g first end : ℕ) → face_begin f ≤ first → end ≤ face_begin (f + 1) → first < end → face_begin g ≤ first

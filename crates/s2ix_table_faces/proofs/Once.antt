@@ -10,7 +10,7 @@ use Rattle.s2ix_table_chain.specs.SpanTable.{SpanRanges, IsSpanTable}
 use Rattle.s2ix_table_chain.specs.Chains.{chain_of, is_on_chain}
 use Rattle.s2ix_table_faces.specs.declared.face_place.FacePlace.{FacePlace}
 use Rattle.s2ix_table_faces.specs.declared.seat.Seat.{Seat}
-use Rattle.s2ix_table_faces.specs.Faces.{table_of, AreOnFace}
+use Rattle.s2ix_table_faces.specs.FaceSpans.{table_of, AreOnFace}
 use Rattle.s2ix_table_faces.specs.Whole.{AreJoined}
 use Rattle.s2ix_table_faces.proofs.OnFaces.{held_lie_on}
 use Rattle.s2ix_table_chain.specs.Once.{IsHeldAt, KeepsOnce}

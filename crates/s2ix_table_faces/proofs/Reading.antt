@@ -14,12 +14,12 @@ use Rattle.s2ix_table_faces.specs.declared.seat.Seat.{Seat}
 use Rattle.s2ix_table_chain.specs.Chains.{chain_of}
 use Rattle.s2ix_table_chain.proofs.Chains.{chain_none}
 use Rattle.s2ix_table_walk.proofs.Leads.{leads_some}
-use Rattle.s2ix_table_faces.specs.Faces.{face_begin, no_table, table_of, IsOverFace, AreOverFaces}
+use Rattle.s2ix_table_faces.specs.FaceSpans.{face_begin, no_table, table_of, IsOverFace, AreOverFaces}
 use Rattle.s2ix_table_faces.specs.Joined.{joined_ranges, AreNeighbours}
 use Rattle.s2ix_table_faces.specs.Seats.{seat_after, seats_of, places_of, place_on, HasOwn, AreInOrder}
 use Rattle.s2ix_table_faces.specs.Whole.{AreJoined}
 use Rattle.s2ix_table_walk.proofs.OnFaces.{six_faces}
-use Rattle.s2ix_table_faces.proofs.Faces.{raw_on_face}
+use Rattle.s2ix_table_faces.proofs.InSpans.{raw_on_face}
 use Rattle.s2ix_table_faces.proofs.Neighbours.{span_known}
 use Rattle.s2ix_table_faces.proofs.Seating.{IsPart}
 use Rattle.s2ix_table_faces.proofs.Seats.{high_of, seats_fit, length_seats}

@@ -3,7 +3,7 @@ use Rattle.std.proofs.Common.{◌≡◌, ℕ, zero, suc, ◌+◌, ◌<◌, ◌�
 use Rattle.std.proofs.lemmas.Bool.{cases_eq}
 use Rattle.s2ix_table_ranges.specs.Table.{Range, range_at}
 use Rattle.s2ix_table_faces.specs.declared.seat.Seat.{Seat}
-use Rattle.s2ix_table_faces.proofs.Places.{IsOne, IsTwo}
+use Rattle.s2ix_table_faces.proofs.JoinedPlaces.{IsOne, IsTwo}
 
 -- ranges stand at the end of others, from a seat on: the first may begin before
 pub record IsSeated (whole rest : List Range) (seat : Seat) : Type 0 where

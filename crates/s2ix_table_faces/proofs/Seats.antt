@@ -9,7 +9,7 @@ use Rattle.s2ix_table_faces.specs.Joined.{is_nil, put_before, joined_ranges, Are
 use Rattle.s2ix_table_faces.specs.Seats.{is_joined, last_start, seat_after, seats_from, seats_of, places_of}
 use Rattle.s2ix_table_faces.proofs.Joining.{nil_is}
 use Rattle.s2ix_table_faces.proofs.Neighbours.{joined_table}
-use Rattle.s2ix_table_faces.proofs.Places.{IsOne, BeginAlike, joined_one, joined_two, joined_nil, joined_first}
+use Rattle.s2ix_table_faces.proofs.JoinedPlaces.{IsOne, BeginAlike, joined_one, joined_two, joined_nil, joined_first}
 use Rattle.s2ix_table_faces.proofs.Seating.{IsSeated, IsPart, IsCut, last_part, two_part, two_next, one_part, one_next, one_start}
 
 seat_with : ℕ → ℕ → Seat

@@ -3,7 +3,7 @@ use Rattle.std.proofs.Common.{◌≡◌, ℕ, ◌<◌, List, [], ◌∷◌, leng
 use Rattle.std.proofs.lemmas.List.{get_or-map, length-map, map-set}
 use Rattle.std.specs.declared.rc.Rc.{Rc}
 use Rattle.s2ix_table_chain.specs.SpanTable.{SpanRanges}
-use Rattle.s2ix_table_faces.specs.Faces.{spans_of, no_table, table_of}
+use Rattle.s2ix_table_faces.specs.FaceSpans.{spans_of, no_table, table_of}
 
 pub count_of : {Z : Type 0} (tables : List (Rc SpanRanges Z)) → length (spans_of tables) ≡ 6 → length tables ≡ 6
 count_of tables six = let len = length-map tables rc_value in omega arith

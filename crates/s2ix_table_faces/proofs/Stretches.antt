@@ -4,11 +4,11 @@ use Rattle.std.proofs.Math.Seq.{take-length}
 use Rattle.std.proofs.lemmas.List.{get_or-map, length-map}
 use Rattle.s2ix_bag_pairs.specs.Collection.{Collection}
 use Rattle.s2ix_table_ranges.specs.Table.{Range, range_at, IsTableOver, leaf_end}
-use Rattle.s2ix_table_walk.specs.Faces.{HaveFace}
+use Rattle.s2ix_table_walk.specs.FaceWindows.{HaveFace}
 use Rattle.s2ix_table_queries.specs.Stretches.{IsStretch}
 use Rattle.s2ix_table_chain.specs.SpanTable.{SpanRanges, IsSpanTable}
 use Rattle.s2ix_table_faces.specs.declared.seat.Seat.{Seat}
-use Rattle.s2ix_table_faces.specs.Faces.{no_table, table_of, IsOverFace}
+use Rattle.s2ix_table_faces.specs.FaceSpans.{no_table, table_of, IsOverFace}
 use Rattle.s2ix_table_faces.specs.Joined.{held_in, joined_ranges}
 use Rattle.s2ix_table_faces.specs.Whole.{AreJoined}
 use Rattle.s2ix_table_faces.proofs.Neighbours.{joined_table}

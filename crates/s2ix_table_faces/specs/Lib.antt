@@ -1,7 +1,7 @@
 pub mod Joined
 pub mod Seats
-pub mod Faces
+pub mod FaceSpans
 pub mod Places
 pub mod Whole
 pub mod OneProof
-pub mod Parts
+pub mod SixTables

@@ -10,7 +10,7 @@ use Rattle.s2ix_table_chain.specs.OneProof.{KeepsOnce-prop, IsSpanTable-prop}
 use Rattle.s2ix_table_chain.specs.SpanTable.{SpanRanges}
 use Rattle.s2ix_table_faces.specs.declared.face_place.FacePlace.{FacePlace}
 use Rattle.s2ix_table_faces.specs.declared.seat.Seat.{Seat}
-use Rattle.s2ix_table_faces.specs.Faces.{AreOverFaces}
+use Rattle.s2ix_table_faces.specs.FaceSpans.{AreOverFaces}
 use Rattle.s2ix_table_faces.specs.Joined.{AreNeighbours}
 use Rattle.s2ix_table_faces.specs.Places.{chain_from}
 use Rattle.s2ix_table_faces.specs.Whole.{AreCounted}

@@ -4,7 +4,7 @@ use Rattle.s2ix_bag_pairs.specs.Collection.{Collection}
 use Rattle.s2ix_table_chain.specs.SpanTable.{SpanRanges}
 use Rattle.s2ix_table_chain.specs.Chains.{chain_of}
 use Rattle.s2ix_table_faces.specs.declared.face_place.FacePlace.{FacePlace}
-use Rattle.s2ix_table_faces.specs.Faces.{table_of}
+use Rattle.s2ix_table_faces.specs.FaceSpans.{table_of}
 
 -- the chain from a place of one of some tables outwards
 abbrev pub chain_from : List SpanRanges → FacePlace → Collection

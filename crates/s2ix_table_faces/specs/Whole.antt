@@ -3,7 +3,7 @@ use Rattle.std.specs.Prelude.{◌≡◌, ℕ, ◌≤◌, List, length}
 use Rattle.s2ix_table_ranges.specs.Table.{leaf_end}
 use Rattle.s2ix_table_chain.specs.SpanTable.{SpanRanges}
 use Rattle.s2ix_table_faces.specs.declared.seat.Seat.{Seat}
-use Rattle.s2ix_table_faces.specs.Faces.{AreOverFaces}
+use Rattle.s2ix_table_faces.specs.FaceSpans.{AreOverFaces}
 use Rattle.s2ix_table_faces.specs.Joined.{joined_ranges, AreNeighbours}
 use Rattle.s2ix_table_faces.specs.Seats.{seats_of, AreInner}
 

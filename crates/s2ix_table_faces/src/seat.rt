@@ -4,11 +4,9 @@ ghost use Rattle.s2ix_table_chain.specs.SpanTable.{IsSpanTable};
 ghost use Rattle.s2ix_table_chain.specs.Starts.{IsLastStart};
 ghost use Rattle.s2ix_table_faces.specs.Seats.{seat_after, places_of, AreInOrder};
 
+use s2id_core::FACES;
 use s2ix_table_chain::SpanTable;
 use s2ix_table_chain::laws::ranges_are_those_of_the_span;
-
-// How many faces the cube has.
-pub(crate) const FACES: usize = 6;
 
 // The place of a table's first range, and the leaf number at which that range begins once it is joined to what stands before it.
 #[derive(Clone, Copy, Debug)]

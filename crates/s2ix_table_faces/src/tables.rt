@@ -2,24 +2,20 @@
 ghost use Rattle.std.specs.Prelude.{◌≡◌, ◌<◌, ◌≤◌, ◌+◌, ◌*◌, length, IfOk, OnOk};
 ghost use Rattle.s2ix_bag_pairs.specs.Change.{changed};
 ghost use Rattle.s2ix_bag_pairs.specs.Collection.{IsCollection};
-ghost use Rattle.s2ix_table_faces.specs.Faces.{AreOnFace, IsOverFace, spans_of};
+ghost use Rattle.s2ix_table_faces.specs.FaceSpans.{AreOnFace, IsOverFace, spans_of};
 ghost use Rattle.s2ix_table_faces.specs.Joined.{held_in};
-ghost use Rattle.s2ix_table_faces.specs.Parts.{AreTablesOf};
+ghost use Rattle.s2ix_table_faces.specs.SixTables.{AreTablesOf};
 ghost use Rattle.s2ix_table_reading.specs.Faces.{held_on, changed_count};
 ghost use Rattle.s2ix_table_reading.specs.Reading.{HasRead, IsFaceRead, AreChangedRead, two_searches};
 
 use crate::faced_table::FacedTable;
-use crate::seat::FACES;
-use s2id_core::OutOfMemory;
+use s2id_core::{FACE_NUMBERS, FACES, OutOfMemory};
 use s2ix_bag::Change;
 use s2ix_bag_lists::FlatHeld;
 use s2ix_table_chain::SpanTable;
 use s2ix_table_reading::{PairReader, changed_faces, read_face};
 use std::alloc::Global;
 use std::rc::Rc;
-
-// How many numbers of cells a face has: the first leaf of a face is one above so many for each face before it.
-const FACE_NUMBERS: u64 = 2_305_843_009_213_693_952;
 
 // The table of these pairs, all on one face, over the span of its leaves. O(n) for n pairs.
 fn face_table(alloc: Global, face: u8, held: Vec<FlatHeld>) -> Result<Rc<SpanTable>, OutOfMemory>

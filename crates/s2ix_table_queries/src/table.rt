@@ -4,7 +4,7 @@ ghost use Rattle.s2ix_bag_pairs.specs.Collection.{Collection, IsCollection};
 ghost use Rattle.s2ix_table_ranges.specs.LabelList.{label_list};
 ghost use Rattle.s2ix_table_ranges.specs.Table.{Range, range_at, IsRangeTable};
 ghost use Rattle.s2ix_table_walk.specs.Places.{IsPlace, LeadsTo};
-ghost use Rattle.s2ix_table_walk.specs.Faces.{HaveFace};
+ghost use Rattle.s2ix_table_walk.specs.FaceWindows.{HaveFace};
 ghost use Rattle.s2ix_table_queries.specs.Stretches.{IsStretch};
 ghost use Rattle.s2ix_table_ranges.specs.Meeting.{IsMeetingList, IsLabelList, meeting_of};
 ghost use Rattle.s2ix_table_walk.specs.Calls.{MayVisit, CallsOn, Visits};

@@ -10,7 +10,7 @@ use Rattle.s2id_core.proofs.Nested.{span, same_from_level, span_from_leaf, leaf_
 use Rattle.s2id_union.specs.Region.{Meets}
 use Rattle.s2id_union.proofs.Covering.{covers_from_region}
 use Rattle.s2ix_bag_pairs.proofs.Collections.{rank_of_get}
-use Rattle.s2ix_bag_pairs.proofs.Parts.{collection_take}
+use Rattle.s2ix_bag_pairs.proofs.CutAtRank.{collection_take}
 use Rattle.s2ix_bag_pairs.specs.Collection.{Collection, IsCollection, IsCollectionFrom}
 use Rattle.s2ix_bag_pairs.specs.Label.{value_of}
 use Rattle.s2ix_bag_pairs.specs.Pair.{rank_of}

@@ -3,6 +3,7 @@ use Rattle.std.proofs.Common.{◌≡◌, ℕ, zero, suc, ◌+◌, ◌-◌, ◌*�
 use Rattle.std.proofs.lemmas.Bool.{cases_eq, cases_lt}
 use Rattle.std.proofs.lemmas.List.{length-take-le, length-drop}
 use Rattle.std.proofs.lemmas.Option.{get_or_from_slice_get, none-some, same_Some}
+use Rattle.s2id_core.specs.Span.{face_numbers}
 use Rattle.s2id_core.proofs.Bits.{face_by_bits}
 use Rattle.s2id_core.specs.CellId.{face_of, raw_of}
 use Rattle.s2ix_bag_lists.specs.Faces.{face_start}
@@ -12,11 +13,11 @@ use Rattle.s2ix_bag_pairs.specs.Label.{value_of}
 use Rattle.s2ix_bag_pairs.specs.Pair.{rank_of}
 use Rattle.s2ix_bag_pairs.specs.declared.pair.Held.{Held}
 use Rattle.s2ix_bag_pairs.specs.declared.pair.Pair.{Pair}
-use Rattle.s2ix_bag_pairs.proofs.Parts.{below_from_places, from_place, ranks_rise}
+use Rattle.s2ix_bag_pairs.proofs.CutAtRank.{below_from_places, from_place, ranks_rise}
 use Rattle.s2ix_table_reading.specs.Faces.{held_on}
 use Rattle.s2ix_table_reading.proofs.Unchanged.{on_face, off_face}
 
-by_rank : (raw label face q : ℕ) → label < 2147483648 → q ≡ raw / 2305843009213693952
+by_rank : (raw label face q : ℕ) → label < 2147483648 → q ≡ raw / face_numbers
     → (q < face) ↔ (raw * 2147483648 + label < face_start face)
 by_rank raw label zero q small is = (λ lt. absurd (omega arith), λ lt. absurd (omega arith))
 by_rank raw label (suc face) q small is =

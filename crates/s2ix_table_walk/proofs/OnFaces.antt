@@ -5,19 +5,19 @@ use Rattle.s2id_core.specs.declared.cell_id.CellId.{CellId}
 use Rattle.s2id_core.specs.CellId.{raw_of, face_of, first_of}
 use Rattle.s2id_core.specs.Cell.{IsCellNumber}
 use Rattle.s2id_core.specs.Path.{Path, path_at, number_of, first_leaf}
-use Rattle.s2id_core.specs.Span.{first_at}
+use Rattle.s2id_core.specs.Span.{face_numbers, first_at}
 use Rattle.s2id_core.proofs.Bits.{face_by_bits}
 use Rattle.s2id_core.proofs.Nested.{span}
 use Rattle.s2id_core.proofs.Numbers.{path_of_cell, path_at-number}
 use Rattle.s2id_core.proofs.Spans.{leaf_of_first}
-use Rattle.s2ix_table_walk.specs.Faces.{face_begin}
+use Rattle.s2ix_table_walk.specs.FaceWindows.{face_begin}
 
 -- what a number's face says of it
-pub face_bounds : (n face : ℕ) → face ≡ n / 2305843009213693952 → (face * 2305843009213693952 ≤ n) × (n < (face + 1) * 2305843009213693952)
+pub face_bounds : (n face : ℕ) → face ≡ n / face_numbers → (face * face_numbers ≤ n) × (n < (face + 1) * face_numbers)
 face_bounds n face is =
-    let low : n / 2305843009213693952 * 2305843009213693952 ≤ n = div-mul-le_self n 2305843009213693952 in
-    let split : (n / 2305843009213693952 < face + 1) ↔ (n < (face + 1) * 2305843009213693952) = div-lt_iff_lt-mul (omega arith) in
-    (omega (arith, low, ap (λ f. f * 2305843009213693952) is), split.0 (omega (arith, is)))
+    let low : n / face_numbers * face_numbers ≤ n = div-mul-le_self n face_numbers in
+    let split : (n / face_numbers < face + 1) ↔ (n < (face + 1) * face_numbers) = div-lt_iff_lt-mul (omega arith) in
+    (omega (arith, low, ap (λ f. f * face_numbers) is), split.0 (omega (arith, is)))
 
 pub face_of_first : (n : ℕ) → IsCellNumber n → (path_at n).face ≡ first_at n / 2 ^ 61
 unfolding first_at first_leaf
@@ -34,7 +34,7 @@ begins_on_face c =
     let first = face_bounds (first_of c) (face_of c) (face_of_first (raw_of c) c.valid) in
     (from_odd (first_of c) (face_of c) odd first.0, omega (arith, first.1))
   where
-    from_odd : (n face : ℕ) → n % 2 ≡ 1 → face * 2305843009213693952 ≤ n → face * 2305843009213693952 + 1 ≤ n
+    from_odd : (n face : ℕ) → n % 2 ≡ 1 → face * face_numbers ≤ n → face * face_numbers + 1 ≤ n
     from_odd n face odd le = omega arith
 
 -- there are six faces

@@ -7,7 +7,7 @@ use Rattle.s2ix_table_ranges.specs.Table.{Range, range_at, leaf_end, IsRangeTabl
 use Rattle.s2ix_table_ranges.proofs.Tables.{limits_rise}
 use Rattle.s2id_core.specs.BinaryDigits.{binary_digits}
 use Rattle.s2ix_table_walk.specs.Costs.{NoFewerProbes, with_probe}
-use Rattle.s2ix_table_walk.specs.Faces.{face_begin, HaveFace}
+use Rattle.s2ix_table_walk.specs.FaceWindows.{face_begin, HaveFace}
 use Rattle.s2ix_table_walk.specs.Searching.{IsWindow}
 use Rattle.s2ix_table_walk.specs.Shown.{Shown, IsShown}
 use Rattle.s2ix_table_walk.specs.declared.cost.Cost.{Cost}

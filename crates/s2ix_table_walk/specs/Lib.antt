@@ -6,4 +6,4 @@ pub mod Costs
 pub mod Walking
 pub mod Meetings
 pub mod Laws
-pub mod Faces
+pub mod FaceWindows

@@ -8,7 +8,7 @@ use Rattle.s2id_union.specs.Covers.{Covers}
 use Rattle.s2id_union.specs.NormalForm.{is_covered}
 use Rattle.s2ix_bag_pairs.specs.Collection.{Collection}
 use Rattle.s2ix_table_ranges.specs.Meeting.{meeting_from, meeting_of}
-use Rattle.s2ix_table_walk.specs.Faces.{HaveFace}
+use Rattle.s2ix_table_walk.specs.FaceWindows.{HaveFace}
 use Rattle.s2ix_table_walk.specs.Places.{IsPlace, from_place}
 use Rattle.s2ix_table_ranges.specs.Table.{Range, range_at, IsFound, leaf_end}
 use Rattle.s2ix_table_walk.specs.declared.cost.Cost.{Cost}

@@ -7,12 +7,12 @@
 //! is bounded by what the walk gives, by the ranges that the target meets and by the target's cells: see [`walk`].
 #![tactic(auto)]
 
+mod along_ranges;
 mod cost;
 pub mod laws;
 mod meeting;
 mod reader;
 mod search;
-mod steps;
 mod visit;
 mod walk_state;
 mod window;

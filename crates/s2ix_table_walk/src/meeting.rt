@@ -5,8 +5,8 @@ ghost use Rattle.s2ix_table_ranges.specs.Meeting.{first_shared, meeting_of};
 ghost use Rattle.s2ix_table_walk.specs.Costs.{no_cost, ranges_met, ranges_met_by};
 ghost use Rattle.s2ix_table_walk.specs.Walking.{IsWalk, HasPaid};
 
+use crate::along_ranges::next_met;
 use crate::reader::Reader;
-use crate::steps::next_met;
 use crate::walk_state::{KnownFace, WalkState};
 use s2id_core::CellId;
 use s2id_union::CellUnion;

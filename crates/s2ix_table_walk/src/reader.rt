@@ -2,7 +2,7 @@ ghost use Rattle.std.specs.Prelude.{◌≡◌, ◌<◌, ◌∷◌, length, drop}
 ghost use Rattle.s2ix_table_walk.specs.Places.{IsPlace, LeadsTo};
 ghost use Rattle.s2ix_table_ranges.specs.Table.{range_at};
 ghost use Rattle.s2ix_table_walk.specs.Costs.{with_look, with_probe};
-ghost use Rattle.s2ix_table_walk.specs.Faces.{HaveFace};
+ghost use Rattle.s2ix_table_walk.specs.FaceWindows.{HaveFace};
 ghost use Rattle.s2ix_table_walk.specs.Shown.{Shown, IsShown};
 ghost use Rattle.s2ix_table_walk.specs.declared.cost.Cost.{Cost as CostSpent};
 

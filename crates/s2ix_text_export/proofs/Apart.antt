@@ -75,18 +75,18 @@ one_pair h k r s hc kc same =
     let hl : value_of h.pair.label ≤ 2147483647 = h.pair.label.in_range in
     let kl : value_of k.pair.label ≤ 2147483647 = k.pair.label.in_range in
     let token =
-        cut_field 34 (canonical_token (raw_of h.pair.cell)) (canonical_token (raw_of k.pair.cell)) _ _ r s (no_quote _) (no_quote _)
-        (ap (drop 2) same) in
+    cut_field 34 (canonical_token (raw_of h.pair.cell)) (canonical_token (raw_of k.pair.cell)) _ _ r s (no_quote _) (no_quote _)
+    (ap (drop 2) same) in
     let label =
-        cut_field 44 (decimal (value_of h.pair.label)) (decimal (value_of k.pair.label)) _ _ r s (no_comma _ (omega arith))
-        (no_comma _ (omega arith)) (ap (drop 1) token.1) in
+    cut_field 44 (decimal (value_of h.pair.label)) (decimal (value_of k.pair.label)) _ _ r s (no_comma _ (omega arith))
+    (no_comma _ (omega arith)) (ap (drop 1) token.1) in
     let count =
-        cut_field 93 (decimal h.count) (decimal k.count) [] [] r s (no_bracket _ (omega arith)) (no_bracket _ (omega arith)) label.1 in
+    cut_field 93 (decimal h.count) (decimal k.count) [] [] r s (no_bracket _ (omega arith)) (no_bracket _ (omega arith)) label.1 in
     let cells = one_token (raw_of h.pair.cell) (raw_of k.pair.cell) h.pair.cell.valid k.pair.cell.valid token.0 in
     let labels = decimal_injective (value_of h.pair.label) (value_of k.pair.label) (omega arith) (omega arith) label.0 in
     let pairs = same_pair h.pair k.pair (ap₂ (λ (c v : ℕ). c * 2147483648 + v) cells labels) in (
       ap₂ (λ (p : Pair) (n : ℕ). let made : Held = record { pair = p; count = n } in made) pairs
-      (decimal_injective h.count k.count (omega arith) (omega arith) count.0),
+          (decimal_injective h.count k.count (omega arith) (omega arith) count.0),
       count.1,
     )
 

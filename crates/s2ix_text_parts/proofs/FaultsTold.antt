@@ -3,13 +3,13 @@ use Rattle.std.proofs.Common.{◌≡◌, ◌≢◌, ◌↔◌, ℕ, ◌<◌, ◌
 use Rattle.std.specs.Prelude.{slice_index_or}
 use Rattle.std.proofs.lemmas.Bool.{cases_lt, not-false}
 use Rattle.s2ix_bag_pairs.specs.declared.limits.Limits.{Limits}
-use Rattle.s2ix_text_parts.specs.Faults.{IsFromLine, Place, fault_below}
+use Rattle.s2ix_text_parts.specs.Faults.{IsFromLine, LineAt, fault_below}
 use Rattle.s2ix_text_parts.specs.Lines.{is_nil, lines_of}
-use Rattle.s2ix_text_parts.specs.Places.{line_at, place_at}
+use Rattle.s2ix_text_parts.specs.NumberedLines.{line_at, place_at}
 use Rattle.s2ix_text_parts.proofs.FirstFault.{found_here, place}
 use Rattle.s2ix_text_parts.proofs.Found.{IsOfLine, found_of_line}
 use Rattle.s2ix_text_parts.proofs.Pieces.{lines_some}
-use Rattle.s2ix_text_parts.proofs.Places.{last_line, more_lines, some_lines}
+use Rattle.s2ix_text_parts.proofs.NumberedLines.{last_line, more_lines, some_lines}
 
 -- the errors of a reader: a fault with the number of its line, or want of memory. `IsError` says which error it may answer over the first
 -- fault of its text
@@ -19,16 +19,16 @@ pub record AreErrors {F E : Type 0} (at : ℕ → F → E) (memory : E) (IsError
   pub either : (error : E) → ((named : ℕ × F) × (error ≡ at named.0 named.1)) ⊎ (error ≡ memory)
 
 -- two faults of a line, as `fault_of` finds them: it lacks its line feed, or it is the first line and names no version
-pub record AreFaults {F V : Type 0} (fault_of : Place → Option F) (truncated bad_header : F) (version : List ℕ → Option V) : Type 0 where
+pub record AreFaults {F V : Type 0} (fault_of : LineAt → Option F) (truncated bad_header : F) (version : List ℕ → Option V) : Type 0 where
   pub differ : truncated ≢ bad_header
-  pub no_feed : (p : Place) → p.above ≡ [] → p.ended ≡ false → fault_of p ≡ Some truncated
+  pub no_feed : (p : LineAt) → p.above ≡ [] → p.ended ≡ false → fault_of p ≡ Some truncated
   pub no_header : (limits : Limits) (line : List ℕ) → version line ≡ None
       → fault_of (record { limits = limits; above = []; line = line; ended = true }) ≡ Some bad_header
-  pub open_end : (p : Place) → fault_of p ≡ Some truncated → p.ended ≡ false
-  pub unnamed : (p : Place) → fault_of p ≡ Some bad_header → version p.line ≡ None
+  pub open_end : (p : LineAt) → fault_of p ≡ Some truncated → p.ended ≡ false
+  pub unnamed : (p : LineAt) → fault_of p ≡ Some bad_header → version p.line ≡ None
 
 -- what the answer tells of the lines
-pub record TellsLines {X F E V : Type 0} (at : ℕ → F → E) (memory : E) (fault_of : Place → Option F) (truncated bad_header : F)
+pub record TellsLines {X F E V : Type 0} (at : ℕ → F → E) (memory : E) (fault_of : LineAt → Option F) (truncated bad_header : F)
     (version : List ℕ → Option V) (limits : Limits) (text : List ℕ) (r : Result X E) : Type 0 where
   pub one_line : (r ≡ Err (at 1 truncated)) ↔ (length (lines_of text) ≡ 1)
   pub other_header : (r ≡ Err (at 1 bad_header)) ↔ ((1 < length (lines_of text)) × (version (line_at 1 text) ≡ None))
@@ -66,10 +66,10 @@ module _ {F E : Type 0} {at : ℕ → F → E} {memory : E} {IsError : E → Opt
   error_first error fault refused is =
       ⊎_elim
       (λ it.
-        let own = errors.at_is it.0.0 it.0.1 found (subst (λ (e : E). IsError e found) it.1 refused) in
-        let same : ◌≡◌ {A = Option (ℕ × F)} (Some (it.0.0, it.0.1)) (Some (1, fault)) = sym own ∙ is in
-        let pair : (it.0.0, it.0.1) ≡ (1, fault) = cc in
-        it.1 ∙ ap (λ (x : ℕ × F). at x.0 x.1) pair)
+      let own = errors.at_is it.0.0 it.0.1 found (subst (λ (e : E). IsError e found) it.1 refused) in
+      let same : ◌≡◌ {A = Option (ℕ × F)} (Some (it.0.0, it.0.1)) (Some (1, fault)) = sym own ∙ is in
+      let pair : (it.0.0, it.0.1) ≡ (1, fault) = cc in
+      it.1 ∙ ap (λ (x : ℕ × F). at x.0 x.1) pair)
       (λ wants. absurd (not_memory fault (subst (λ (e : E). IsError e found) wants refused) is))
       (errors.either error)
 
@@ -81,7 +81,7 @@ module _ {F E : Type 0} {at : ℕ → F → E} {memory : E} {IsError : E → Opt
 
 -- ---- the first line
 
-module _ {F V : Type 0} {fault_of : Place → Option F} {truncated bad_header : F} {version : List ℕ → Option V}
+module _ {F V : Type 0} {fault_of : LineAt → Option F} {truncated bad_header : F} {version : List ℕ → Option V}
     (faults : AreFaults fault_of truncated bad_header version) where
   -- a text without a line feed
   found_truncated : (limits : Limits) (lines : List (List ℕ)) → length lines ≡ 1
@@ -100,7 +100,7 @@ module _ {F V : Type 0} {fault_of : Place → Option F} {truncated bad_header : 
       found_here fault_of limits [] line (next ∷ lines) bad_header (faults.no_header limits line none)
 
   -- a header is bad only where its line feed has come
-  ended_first : (p : Place) (ended : Bool) → p.ended ≡ ended → p.above ≡ [] → fault_of p ≡ Some bad_header → ended ≡ true
+  ended_first : (p : LineAt) (ended : Bool) → p.ended ≡ ended → p.above ≡ [] → fault_of p ≡ Some bad_header → ended ≡ true
   ended_first p true own first is = refl
   ended_first p false own first is =
       let same : Some truncated ≡ Some bad_header = sym (faults.no_feed p first own) ∙ is in
@@ -121,7 +121,7 @@ module _ {F V : Type 0} {fault_of : Place → Option F} {truncated bad_header : 
 
 -- ---- all of it
 
-module _ {X F E V : Type 0} {at : ℕ → F → E} {memory : E} {IsError : E → Option (ℕ × F) → Type 0} {fault_of : Place → Option F}
+module _ {X F E V : Type 0} {at : ℕ → F → E} {memory : E} {IsError : E → Option (ℕ × F) → Type 0} {fault_of : LineAt → Option F}
     {truncated bad_header : F} {version : List ℕ → Option V} (errors : AreErrors at memory IsError)
     (faults : AreFaults fault_of truncated bad_header version) (limits : Limits) (text : List ℕ) (found : Option (ℕ × F)) (r : Result X E)
     (found_is : found ≡ fault_below fault_of limits [] (lines_of text)) where

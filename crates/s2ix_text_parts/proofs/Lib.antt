@@ -6,6 +6,6 @@ pub mod Rests
 pub mod Numerals
 pub mod FirstFault
 pub mod Found
-pub mod Places
+pub mod NumberedLines
 pub mod NoFronts
 pub mod FaultsTold

@@ -2,10 +2,10 @@
 use Rattle.std.proofs.Common.{◌≡◌, ℕ, ◌+◌, Option, Some, None, List, [], ◌∷◌, ◌++◌, length, refl, sym, ◌∙◌, subst, append_assoc}
 use Rattle.std.proofs.lemmas.List.{append-nil}
 use Rattle.s2ix_bag_pairs.specs.declared.limits.Limits.{Limits}
-use Rattle.s2ix_text_parts.specs.Faults.{Place, fault_below}
+use Rattle.s2ix_text_parts.specs.Faults.{LineAt, fault_below}
 use Rattle.s2ix_text_parts.proofs.FirstFault.{found_here, found_later, place}
 
-none_at : {F : Type 0} (fault : Place → Option F) (limits : Limits) (above : List (List ℕ)) (line : List ℕ) (lines : List (List ℕ))
+none_at : {F : Type 0} (fault : LineAt → Option F) (limits : Limits) (above : List (List ℕ)) (line : List ℕ) (lines : List (List ℕ))
     (o : Option F)
     → fault (place limits above line lines) ≡ o → fault_below fault limits above (line ∷ lines) ≡ None
     → fault (place limits above line lines) ≡ None
@@ -14,16 +14,16 @@ none_at {F = F} fault limits above line lines (Some it) is none =
     let clash : ◌≡◌ {A = Option (ℕ × F)} (Some (length above + 1, it)) None = sym (found_here fault limits above line lines it is) ∙ none in
     cc
 
-pub none_here : {F : Type 0} (fault : Place → Option F) (limits : Limits) (above : List (List ℕ)) (line : List ℕ) (lines : List (List ℕ))
+pub none_here : {F : Type 0} (fault : LineAt → Option F) (limits : Limits) (above : List (List ℕ)) (line : List ℕ) (lines : List (List ℕ))
     → fault_below fault limits above (line ∷ lines) ≡ None → fault (place limits above line lines) ≡ None
 none_here fault limits above line lines none = none_at fault limits above line lines (fault (place limits above line lines)) refl none
 
-pub none_later : {F : Type 0} (fault : Place → Option F) (limits : Limits) (above : List (List ℕ)) (line : List ℕ) (lines : List (List ℕ))
+pub none_later : {F : Type 0} (fault : LineAt → Option F) (limits : Limits) (above : List (List ℕ)) (line : List ℕ) (lines : List (List ℕ))
     → fault_below fault limits above (line ∷ lines) ≡ None → fault_below fault limits (above ++ line ∷ []) lines ≡ None
 none_later fault limits above line lines none =
     sym (found_later fault limits above line lines (none_here fault limits above line lines none)) ∙ none
 
-pub none_among : {F : Type 0} (fault : Place → Option F) (limits : Limits) (front above : List (List ℕ)) (line : List ℕ)
+pub none_among : {F : Type 0} (fault : LineAt → Option F) (limits : Limits) (front above : List (List ℕ)) (line : List ℕ)
     (below : List (List ℕ))
     → fault_below fault limits front (above ++ line ∷ below) ≡ None → fault (place limits (front ++ above) line below) ≡ None
 none_among fault limits front [] line below none =

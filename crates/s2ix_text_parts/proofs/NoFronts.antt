@@ -107,7 +107,7 @@ number_is_read text rest len end n is small other few inside all stop =
       first =
           λ several zero.
           let here : get_or digits 0 0 ≡ 48 =
-              sym (get_or_append_left digits (end ∷ rest) 0 0 (omega arith)) ∙ ap (λ t. get_or t 0 0) (sym is) ∙ zero in
+          sym (get_or_append_left digits (end ∷ rest) 0 0 (omega arith)) ∙ ap (λ t. get_or t 0 0) (sym is) ∙ zero in
           ⊎_elim
           (λ none. let lone : length digits ≡ 1 = ap length (decimal_digit n (omega arith)) in omega arith)
           (λ positive. let first = first_decimal n (omega arith) (omega arith) in omega arith)

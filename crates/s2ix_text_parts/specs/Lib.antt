@@ -1,5 +1,5 @@
 pub mod Faults
 pub mod Fronts
 pub mod Lines
-pub mod Places
+pub mod NumberedLines
 pub mod Written

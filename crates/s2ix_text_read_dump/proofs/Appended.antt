@@ -8,7 +8,7 @@ use Rattle.s2ix_bag_pairs.specs.Limits.{count_limit, pairs_limit}
 use Rattle.s2ix_bag_pairs.specs.Pair.{rank_of}
 use Rattle.s2ix_bag_pairs.specs.declared.limits.Limits.{Limits}
 use Rattle.s2ix_bag_pairs.specs.declared.pair.Held.{Held}
-use Rattle.s2ix_bag_pairs.proofs.Parts.{collection_take}
+use Rattle.s2ix_bag_pairs.proofs.CutAtRank.{collection_take}
 use Rattle.s2ix_text_write.specs.declared.version.Version.{Version}
 use Rattle.s2ix_text_write.specs.Dump.{CanHold}
 use Rattle.s2ix_text_write.specs.Version.{dump_header, dump_version, greatest_below}

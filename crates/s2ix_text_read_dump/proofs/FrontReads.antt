@@ -69,19 +69,19 @@ one_number text after rest m n end low small_m small_n read is =
     (decimal_injective m n small_m small_n cut.0, cut.1)
 
 -- behind the token stands the label
-pub label_stands : (most : ℕ) → most < 2 ^ 32 → (text after rest : List ℕ) (m : ℕ) (h : Held) → text ≡ canonical_token m ++ 32 ∷ after
+pub label_is_due : (most : ℕ) → most < 2 ^ 32 → (text after rest : List ℕ) (m : ℕ) (h : Held) → text ≡ canonical_token m ++ 32 ∷ after
     → IsCommonFront most text h rest
     → (after_label : List ℕ) × (after ≡ decimal (value_of h.pair.label) ++ 32 ∷ after_label) × (9 < length after)
-label_stands most bounded text after rest m h read common =
+label_is_due most bounded text after rest m h read common =
     let p = parts_of_common most bounded text rest h common in
     let same = one_token text after p.0 m (raw_of h.pair.cell) read p.2.token in
     (p.1, same ∙ p.2.label, subst (λ t. 9 < length t) (sym same) p.3)
 
 -- behind the label the count
-pub count_stands : (most : ℕ) → most < 2 ^ 32 → (text after behind rest : List ℕ) (m label : ℕ) (h : Held)
+pub count_is_due : (most : ℕ) → most < 2 ^ 32 → (text after behind rest : List ℕ) (m label : ℕ) (h : Held)
     → text ≡ canonical_token m ++ 32 ∷ after → after ≡ decimal label ++ 32 ∷ behind → label < 2 ^ 64 → IsCommonFront most text h rest
     → (label ≡ value_of h.pair.label) × (behind ≡ decimal h.count ++ 10 ∷ rest) × (9 < length behind)
-count_stands most bounded text after behind rest m label h read read_label small common =
+count_is_due most bounded text after behind rest m label h read read_label small common =
     let p = parts_of_common most bounded text rest h common in
     let same = one_token text after p.0 m (raw_of h.pair.cell) read p.2.token in
     let own = common.label in
@@ -94,9 +94,9 @@ pub count_is : (most : ℕ) → most < 2 ^ 32 → (text after behind below rest 
     → count < 2 ^ 64
     → IsCommonFront most text h rest → (label ≡ value_of h.pair.label) × (count ≡ h.count)
 count_is most bounded text after behind below rest m label count h read read_label small read_count few common =
-    let stands = count_stands most bounded text after behind rest m label h read read_label small common in
+    let is_due = count_is_due most bounded text after behind rest m label h read read_label small common in
     let few_own = common.few in
-    (stands.0, (one_number behind below rest count h.count 10 (omega arith) few (omega arith) read_count stands.1).0)
+    (is_due.0, (one_number behind below rest count h.count 10 (omega arith) few (omega arith) read_count is_due.1).0)
 
 -- ---- the pair of a line in front
 

@@ -1,7 +1,7 @@
 pub mod PairTexts
 pub mod Appended
 pub mod Rows
-pub mod Steps
+pub mod NextLines
 pub mod FrontReads
 pub mod Told
 pub mod Counted

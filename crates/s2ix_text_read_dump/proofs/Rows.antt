@@ -18,8 +18,8 @@ use Rattle.s2ix_bag_pairs.specs.declared.pair.Held.{Held}
 use Rattle.s2ix_text_write.specs.Version.{dump_version}
 use Rattle.s2ix_text_read_dump.specs.declared.errors.DumpFault.{DumpFault}
 use Rattle.s2ix_text_read_dump.specs.declared.errors.DumpFault.TheVariants.{Truncated, BadHeader, BadEnd, BadLine, BadToken, BadLabel, BadCount, Unsorted, TooManyCopies, TooManyPairs, TrailingBytes}
-use Rattle.s2ix_text_read_dump.specs.DumpFaults.{copies_above, dump_faults, end_text, greatest_count, is_end, is_first, is_inner, is_of_pair, is_over, line_fault, stands}
-use Rattle.s2ix_text_parts.specs.Faults.{Place}
+use Rattle.s2ix_text_read_dump.specs.DumpFaults.{copies_above, dump_faults, end_text, greatest_count, is_end, is_first, is_inner, is_of_pair, is_over, line_fault, is_due}
+use Rattle.s2ix_text_parts.specs.Faults.{LineAt}
 use Rattle.s2ix_text_parts.specs.Lines.{has_parts, is_nil, last_of, part, parts_of}
 use Rattle.s2ix_text_read_dump.specs.PairLines.{IsDumped, IsNext, held_of_parts, held_written, last_pair, line_text, place_below}
 use Rattle.s2ix_text_parts.specs.Written.{cell_written, comes_before, count_of_line, count_written, label_written, pair_written}
@@ -28,7 +28,7 @@ use Rattle.s2ix_text_parts.proofs.FirstFault.{applies}
 use Rattle.s2ix_text_parts.proofs.Numerals.{written_count}
 use Rattle.s2ix_text_read_dump.proofs.PairTexts.{HasCount, count_of_text, line_is_no_end, pair_of_line, written_held}
 
--- ---- the first of the faults that may stand
+-- ---- the first of the faults that may be due
 
 -- of those of a line of a pair
 abbrev pair_faults : (DumpFault → Bool) → Option DumpFault
@@ -103,35 +103,35 @@ at_parts : (limits : Limits) (header : List ℕ) (hs : Collection) (line : List 
     → All (HasCount header) hs → is_end line ≡ false
     → has_parts 3 line ≡ three → cell_written (part 0 line) ≡ cell → label_written (part 1 line) ≡ label
     → count_written (greatest_count header) (part 2 line) ≡ count
-    → pair_faults (stands (place_below limits header hs line)) ≡ next_fault limits hs
+    → pair_faults (is_due (place_below limits header hs line)) ≡ next_fault limits hs
     (cond three (held_of_parts cell label count) (Err BadLine))
-unfolding stands next_fault
+unfolding is_due next_fault
 at_parts limits header hs line false cell label count counted no_end a b c d =
     let of = of_pair limits header hs line counted no_end in
-    cond-true (stands (place_below limits header hs line) BadLine) _ _ (applies _ _ _ of (ap not a))
+    cond-true (is_due (place_below limits header hs line) BadLine) _ _ (applies _ _ _ of (ap not a))
 at_parts limits header hs line true None label count counted no_end a b c d =
     let of = of_pair limits header hs line counted no_end in
-    cond-false (stands (place_below limits header hs line) BadLine) _ _ (applies _ _ _ of (ap not a))
-    ∙ cond-true (stands (place_below limits header hs line) BadToken) _ _ (applies _ _ _ of (ap is_none b))
+    cond-false (is_due (place_below limits header hs line) BadLine) _ _ (applies _ _ _ of (ap not a))
+    ∙ cond-true (is_due (place_below limits header hs line) BadToken) _ _ (applies _ _ _ of (ap is_none b))
 at_parts limits header hs line true (Some cell) None count counted no_end a b c d =
     let of = of_pair limits header hs line counted no_end in
-    cond-false (stands (place_below limits header hs line) BadLine) _ _ (applies _ _ _ of (ap not a))
-    ∙ cond-false (stands (place_below limits header hs line) BadToken) _ _ (applies _ _ _ of (ap is_none b))
-    ∙ cond-true (stands (place_below limits header hs line) BadLabel) _ _ (applies _ _ _ of (ap is_none c))
+    cond-false (is_due (place_below limits header hs line) BadLine) _ _ (applies _ _ _ of (ap not a))
+    ∙ cond-false (is_due (place_below limits header hs line) BadToken) _ _ (applies _ _ _ of (ap is_none b))
+    ∙ cond-true (is_due (place_below limits header hs line) BadLabel) _ _ (applies _ _ _ of (ap is_none c))
 at_parts limits header hs line true (Some cell) (Some label) None counted no_end a b c d =
     let of = of_pair limits header hs line counted no_end in
-    cond-false (stands (place_below limits header hs line) BadLine) _ _ (applies _ _ _ of (ap not a))
-    ∙ cond-false (stands (place_below limits header hs line) BadToken) _ _ (applies _ _ _ of (ap is_none b))
-    ∙ cond-false (stands (place_below limits header hs line) BadLabel) _ _ (applies _ _ _ of (ap is_none c))
-    ∙ cond-true (stands (place_below limits header hs line) BadCount) _ _ (applies _ _ _ of (ap is_none d))
+    cond-false (is_due (place_below limits header hs line) BadLine) _ _ (applies _ _ _ of (ap not a))
+    ∙ cond-false (is_due (place_below limits header hs line) BadToken) _ _ (applies _ _ _ of (ap is_none b))
+    ∙ cond-false (is_due (place_below limits header hs line) BadLabel) _ _ (applies _ _ _ of (ap is_none c))
+    ∙ cond-true (is_due (place_below limits header hs line) BadCount) _ _ (applies _ _ _ of (ap is_none d))
 at_parts limits header hs line true (Some cell) (Some label) (Some n) counted no_end a b c d =
     let of = of_pair limits header hs line counted no_end in
     let pair = pair_from line cell label b c in
     let count = count_from_part (greatest_count header) line n d in
-    cond-false (stands (place_below limits header hs line) BadLine) _ _ (applies _ _ _ of (ap not a))
-    ∙ cond-false (stands (place_below limits header hs line) BadToken) _ _ (applies _ _ _ of (ap is_none b))
-    ∙ cond-false (stands (place_below limits header hs line) BadLabel) _ _ (applies _ _ _ of (ap is_none c))
-    ∙ cond-false (stands (place_below limits header hs line) BadCount) _ _ (applies _ _ _ of (ap is_none d))
+    cond-false (is_due (place_below limits header hs line) BadLine) _ _ (applies _ _ _ of (ap not a))
+    ∙ cond-false (is_due (place_below limits header hs line) BadToken) _ _ (applies _ _ _ of (ap is_none b))
+    ∙ cond-false (is_due (place_below limits header hs line) BadLabel) _ _ (applies _ _ _ of (ap is_none c))
+    ∙ cond-false (is_due (place_below limits header hs line) BadCount) _ _ (applies _ _ _ of (ap is_none d))
     ∙ last_rows _ _ _ _ _ _
     (applies _ _ _ of (ap (λ p. not (comes_before p (pair_written line))) (last_is header hs counted)
     ∙ ap (λ p. not (comes_before (last_pair hs) p)) pair))
@@ -141,10 +141,10 @@ at_parts limits header hs line true (Some cell) (Some label) (Some n) counted no
 -- the fault of a line that is to write a pair
 pub pair_row : (limits : Limits) (header : List ℕ) (hs : Collection) (line : List ℕ) → IsDumped limits header hs → is_end line ≡ false
     → line_fault (place_below limits header hs line) ≡ next_fault limits hs (held_written (greatest_count header) line)
-unfolding line_fault stands held_written
+unfolding line_fault is_due held_written
 pair_row limits header hs line is no_end =
     let counted = counts_are limits header hs is in
-    find_pair (stands (place_below limits header hs line))
+    find_pair (is_due (place_below limits header hs line))
     (and_right _ _ refl)
     refl
     (and_left _ _ (and_right _ _ no_end))
@@ -207,11 +207,11 @@ next_is limits header hs line h is no_end writes before small few =
 
 pub end_row : (limits : Limits) (header : List ℕ) (hs : Collection) (line : List ℕ) → IsDumped limits header hs → is_end line ≡ true
     → line_fault (place_below limits header hs line) ≡ cond (not (bytes_eq line (end_text (length hs) (copies_in hs)))) (Some BadEnd) None
-unfolding line_fault stands
+unfolding line_fault is_due
 end_row limits header hs line is end =
     let counted = counts_are limits header hs is in
     let p = place_below limits header hs line in
-    let t = stands p in
+    let t = is_due p in
     let other : is_of_pair p ≡ false = and_right _ _ (ap not end) in
     let over = not_over header hs counted in
     let inner : is_inner p ≡ true = and_from _ _ refl (not_from_false _ over) in
@@ -231,11 +231,11 @@ end_row limits header hs line is end =
 
 -- ---- behind the end line
 
-pub behind_row : (p : Place) → is_first p ≡ false → is_over p ≡ true
+pub behind_row : (p : LineAt) → is_first p ≡ false → is_over p ≡ true
     → line_fault p ≡ cond (p.ended || not (is_nil p.line)) (Some TrailingBytes) None
-unfolding line_fault stands
+unfolding line_fault is_due
 behind_row p first over =
-    let t = stands p in
+    let t = is_due p in
     let inner : is_inner p ≡ false = and_right _ _ (ap not over) in
     let other : is_of_pair p ≡ false = and_left _ _ inner in
     no_pair_fault t (and_left _ _ other) (and_left _ _ other) (and_left _ _ other) (and_left _ _ other) (and_left _ _ other)
@@ -250,16 +250,16 @@ over_behind hs line end = list_any-append is_end (map line_text hs) (line ∷ []
 
 -- ---- a line without a line feed, where one is wanted
 
-pub truncated_row : (p : Place) → is_over p ≡ false → p.ended ≡ false → line_fault p ≡ Some Truncated
-unfolding line_fault stands
-truncated_row p over ended = cond-true (stands p Truncated) _ _ (and_from _ _ (ap not over) (ap not ended))
+pub truncated_row : (p : LineAt) → is_over p ≡ false → p.ended ≡ false → line_fault p ≡ Some Truncated
+unfolding line_fault is_due
+truncated_row p over ended = cond-true (is_due p Truncated) _ _ (and_from _ _ (ap not over) (ap not ended))
 
 -- ---- the header
 
 pub header_row : (limits : Limits) (line : List ℕ)
     → line_fault (record { limits = limits; above = []; line = line; ended = true })
     ≡ cond (is_none (dump_version line)) (Some BadHeader) None
-unfolding line_fault stands
+unfolding line_fault is_due
 header_row limits line = refl
 
 -- ---- the faults of a line of a pair that the code finds one after the other

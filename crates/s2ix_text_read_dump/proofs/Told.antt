@@ -13,78 +13,78 @@ use Rattle.s2ix_text_read_dump.specs.declared.errors.DumpError.{DumpError}
 use Rattle.s2ix_text_read_dump.specs.declared.errors.DumpError.TheVariants.{At, OutOfMemory}
 use Rattle.s2ix_text_read_dump.specs.declared.errors.DumpFault.{DumpFault}
 use Rattle.s2ix_text_read_dump.specs.declared.errors.DumpFault.TheVariants.{Truncated, BadHeader, BadEnd, BadLine, BadToken, BadLabel, BadCount, Unsorted, TooManyCopies, TooManyPairs, TrailingBytes}
-use Rattle.s2ix_text_read_dump.specs.DumpFaults.{IsDumpError, dump_fault, dump_faults, greatest_count, is_end, is_first, is_inner, is_of_pair, is_over, line_fault, pairs_above, stands}
-use Rattle.s2ix_text_parts.specs.Faults.{Place, fault_below, header_of}
+use Rattle.s2ix_text_read_dump.specs.DumpFaults.{IsDumpError, dump_fault, dump_faults, greatest_count, is_end, is_first, is_inner, is_of_pair, is_over, line_fault, pairs_above, is_due}
+use Rattle.s2ix_text_parts.specs.Faults.{LineAt, fault_below, header_of}
 use Rattle.s2ix_text_parts.specs.Lines.{has_parts, is_nil, last_of, lines_of, part}
-use Rattle.s2ix_text_parts.specs.Places.{line_at, lines_above, place_at}
+use Rattle.s2ix_text_parts.specs.NumberedLines.{line_at, lines_above, place_at}
 use Rattle.s2ix_text_parts.specs.Written.{cell_written, comes_before, count_of_line, count_written, label_written, pair_written}
 use Rattle.s2ix_text_parts.proofs.FaultsTold.{AreErrors, AreFaults, TellsLines, tells_lines}
 use Rattle.s2ix_text_parts.proofs.Found.{find_passes}
-use Rattle.s2ix_text_parts.proofs.Places.{none_from, same_header}
+use Rattle.s2ix_text_parts.proofs.NumberedLines.{none_from, same_header}
 use Rattle.s2ix_text_read_dump.proofs.Rows.{header_row, truncated_row}
 
 -- ---- the fault of the line
 
--- the fault that is found in a line stands there
-fault_stands : (p : Place) (fault : DumpFault) → line_fault p ≡ Some fault → stands p fault ≡ true
+-- the fault that is found in a line is due there
+fault_is_due : (p : LineAt) (fault : DumpFault) → line_fault p ≡ Some fault → is_due p fault ≡ true
 unfolding line_fault
-fault_stands p fault is = find_passes (stands p) dump_faults fault is
+fault_is_due p fault is = find_passes (is_due p) dump_faults fault is
 
--- ---- where each fault stands
+-- ---- when each fault is due
 
-inner_of_pair : (p : Place) → is_of_pair p ≡ true → is_nil p.above ≡ false
+inner_of_pair : (p : LineAt) → is_of_pair p ≡ true → is_nil p.above ≡ false
 inner_of_pair p is =
     not-true (is_first p) (and_parts (not (is_first p)) (not (is_over p)) (and_parts (is_inner p) (not (is_end p.line)) is).0).0
 
-bad_end_there : (p : Place) → stands p BadEnd ≡ true → is_end p.line ≡ true
-unfolding stands
+bad_end_there : (p : LineAt) → is_due p BadEnd ≡ true → is_end p.line ≡ true
+unfolding is_due
 bad_end_there p is = (and_parts (is_inner p) (is_end p.line) (and_parts (is_inner p && is_end p.line) _ is).0).1
 
-bad_line_there : (p : Place) → stands p BadLine ≡ true → has_parts 3 p.line ≡ false
-unfolding stands
+bad_line_there : (p : LineAt) → is_due p BadLine ≡ true → has_parts 3 p.line ≡ false
+unfolding is_due
 bad_line_there p is = not-true (has_parts 3 p.line) (and_parts (is_of_pair p) _ is).1
 
-bad_token_there : (p : Place) → stands p BadToken ≡ true → cell_written (part 0 p.line) ≡ None
-unfolding stands
+bad_token_there : (p : LineAt) → is_due p BadToken ≡ true → cell_written (part 0 p.line) ≡ None
+unfolding is_due
 bad_token_there p is = none_from (cell_written (part 0 p.line)) (and_parts (is_of_pair p) _ is).1
 
-bad_label_there : (p : Place) → stands p BadLabel ≡ true → label_written (part 1 p.line) ≡ None
-unfolding stands
+bad_label_there : (p : LineAt) → is_due p BadLabel ≡ true → label_written (part 1 p.line) ≡ None
+unfolding is_due
 bad_label_there p is = none_from (label_written (part 1 p.line)) (and_parts (is_of_pair p) _ is).1
 
-bad_count_there : (p : Place) → stands p BadCount ≡ true
+bad_count_there : (p : LineAt) → is_due p BadCount ≡ true
     → (is_nil p.above ≡ false) × (count_written (greatest_count (header_of p)) (part 2 p.line) ≡ None)
-unfolding stands
+unfolding is_due
 bad_count_there p is =
     let parts = and_parts (is_of_pair p) _ is in
     (inner_of_pair p parts.0, none_from (count_written (greatest_count (header_of p)) (part 2 p.line)) parts.1)
 
-copies_there : (p : Place) → stands p TooManyCopies ≡ true
+copies_there : (p : LineAt) → is_due p TooManyCopies ≡ true
     → (is_nil p.above ≡ false) × (count_limit p.limits < count_of_line (greatest_count (header_of p)) p.line)
-unfolding stands
+unfolding is_due
 copies_there p is =
     let parts = and_parts (is_of_pair p) _ is in
     (inner_of_pair p parts.0, ltb-true (count_limit p.limits) (count_of_line (greatest_count (header_of p)) p.line) parts.1)
 
-pairs_there : (p : Place) → stands p TooManyPairs ≡ true → pairs_limit p.limits ≤ length (pairs_above p)
-unfolding stands
+pairs_there : (p : LineAt) → is_due p TooManyPairs ≡ true → pairs_limit p.limits ≤ length (pairs_above p)
+unfolding is_due
 pairs_there p is = leb-true (pairs_limit p.limits) (length (pairs_above p)) (and_parts (is_of_pair p) _ is).1
 
-trailing_there : (p : Place) → stands p TrailingBytes ≡ true → list_any is_end (pairs_above p) ≡ true
-unfolding stands
+trailing_there : (p : LineAt) → is_due p TrailingBytes ≡ true → list_any is_end (pairs_above p) ≡ true
+unfolding is_due
 trailing_there p is = (and_parts (is_over p) _ is).0
 
-unsorted_there : (p : Place) → stands p Unsorted ≡ true
+unsorted_there : (p : LineAt) → is_due p Unsorted ≡ true
     → comes_before (option_and_then pair_written (last_of (pairs_above p))) (pair_written p.line) ≡ false
-unfolding stands
+unfolding is_due
 unsorted_there p is = not-true _ (and_parts (is_of_pair p) _ is).1
 
-truncated_there : (p : Place) → stands p Truncated ≡ true → p.ended ≡ false
-unfolding stands
+truncated_there : (p : LineAt) → is_due p Truncated ≡ true → p.ended ≡ false
+unfolding is_due
 truncated_there p is = not-true p.ended (and_parts (not (is_over p)) _ is).1
 
-header_there : (p : Place) → stands p BadHeader ≡ true → dump_version p.line ≡ None
-unfolding stands
+header_there : (p : LineAt) → is_due p BadHeader ≡ true → dump_version p.line ≡ None
+unfolding is_due
 header_there p is = none_from (dump_version p.line) (and_parts (is_first p) _ is).1
 
 -- ---- the lines of a text
@@ -123,8 +123,8 @@ faults = record {
   differ = λ same. cc;
   no_feed = λ p first open_end. truncated_row p (ap (λ (above : List (List ℕ)). list_any is_end (drop 1 above)) first) open_end;
   no_header = λ limits line none. header_row limits line ∙ cond-true _ _ _ (ap is_none none);
-  open_end = λ p is. truncated_there p (fault_stands p Truncated is);
-  unnamed = λ p is. header_there p (fault_stands p BadHeader is);
+  open_end = λ p is. truncated_there p (fault_is_due p Truncated is);
+  unnamed = λ p is. header_there p (fault_is_due p BadHeader is);
 }
 
 -- a fault with the number of its line
@@ -166,8 +166,8 @@ Lines limits text r = TellsLines at_line OutOfMemory line_fault Truncated BadHea
 
 -- the line that an error names has its fault
 there : {X : Type 0} (limits : Limits) (text : List ℕ) (r : Result X DumpError) (line : ℕ) (fault : DumpFault) → Lines limits text r
-    → r ≡ Err (At line fault) → stands (place_at limits line text) fault ≡ true
-there limits text r line fault lines is = fault_stands (place_at limits line text) fault (lines.of_line line fault is).has
+    → r ≡ Err (At line fault) → is_due (place_at limits line text) fault ≡ true
+there limits text r line fault lines is = fault_is_due (place_at limits line text) fault (lines.of_line line fault is).has
 
 many_above : (limits : Limits) (text : List ℕ) (line : ℕ) → line - 1 < length (lines_of text)
     → pairs_limit limits ≤ length (drop 1 (lines_above line text)) → pairs_limit limits + 2 ≤ line

@@ -32,7 +32,7 @@ use Rattle.s2ix_text_parts.proofs.NoFault.{none_among, none_here}
 use Rattle.s2ix_text_parts.proofs.Rests.{join_more, no_lines, some_left}
 use Rattle.s2ix_text_parts.proofs.Pieces.{lines_apart, lines_joined, lines_some}
 use Rattle.s2ix_text_read_dump.proofs.Rows.{header_row, next_fault, next_is, not_over, pair_row, truncated_row}
-use Rattle.s2ix_text_read_dump.proofs.Steps.{below_header, bytes_behind, copies_small, end_fault, fault_after_next, fault_left, nothing_behind}
+use Rattle.s2ix_text_read_dump.proofs.NextLines.{below_header, bytes_behind, copies_small, end_fault, fault_after_next, fault_left, nothing_behind}
 
 -- the lines of a dump below those of some held pairs: of the others, and the end line
 abbrev pub lines_left : Collection → Collection → List (List ℕ)

@@ -13,7 +13,7 @@ use Rattle.s2ix_bag_pairs.specs.declared.pair.Pair.{Pair}
 use Rattle.s2ix_text_read_dump.specs.declared.errors.DumpFault.{DumpFault}
 use Rattle.s2ix_text_read_dump.specs.declared.errors.DumpFault.TheVariants.{BadLine, BadToken, BadLabel, BadCount}
 use Rattle.s2ix_text_read_dump.specs.DumpFaults.{greatest_count, line_fault}
-use Rattle.s2ix_text_parts.specs.Faults.{Place}
+use Rattle.s2ix_text_parts.specs.Faults.{LineAt}
 use Rattle.s2ix_text_parts.specs.Lines.{has_parts, last_of, lines_of, part}
 use Rattle.s2ix_text_parts.specs.Written.{cell_written, count_written, label_written}
 
@@ -49,7 +49,7 @@ abbrev pub last_pair : Collection → Option Pair
 last_pair hs = option_map (λ h. h.pair) (last_of hs)
 
 -- the place of a line below them, with its line feed
-abbrev pub place_below : Limits → List ℕ → Collection → List ℕ → Place
+abbrev pub place_below : Limits → List ℕ → Collection → List ℕ → LineAt
 place_below limits header hs line = record { limits = limits; above = lines_down_to header hs; line = line; ended = true }
 
 -- a line below those of some held pairs writes the next of them

@@ -8,7 +8,7 @@ ghost use Rattle.s2ix_text_write.specs.Version.{dump_header, dump_version};
 ghost use Rattle.s2ix_text_read_dump.specs.DumpFaults.{IsDumpError, dump_fault, end_text, greatest_count, is_end, line_fault};
 ghost use Rattle.s2ix_text_parts.specs.Faults.{fault_below};
 ghost use Rattle.s2ix_text_parts.specs.Lines.{has_parts, lines_of, part};
-ghost use Rattle.s2ix_text_parts.specs.Places.{line_at, lines_above};
+ghost use Rattle.s2ix_text_parts.specs.NumberedLines.{line_at, lines_above};
 ghost use Rattle.s2ix_text_parts.specs.Written.{cell_written, comes_before, count_of_line, count_written, label_written, pair_written};
 ghost use Rattle.s2ix_text_read_dump.specs.Feeds.{is_feed};
 ghost use Rattle.s2ix_text_read_dump.specs.PairLines.{IsCut, IsDumped, IsNext, line_text, lines_down_to};

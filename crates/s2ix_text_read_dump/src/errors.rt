@@ -2,7 +2,7 @@ use s2id_core::OutOfMemory;
 use std::fmt;
 use thiserror::Error;
 
-/// What is wrong with a line of a dump. On one line the first of these that stands is told.
+/// What is wrong with a line of a dump. Of those that are due on one line, the first is told.
 #[derive(Clone, Copy, Debug, PartialEq, Eq, Error)]
 pub enum DumpFault {
     /// A line is wanted here, and what is left of the text has no line feed.

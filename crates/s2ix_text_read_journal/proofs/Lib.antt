@@ -3,8 +3,8 @@ pub mod EntryTexts
 pub mod ChangeTexts
 pub mod Rows
 pub mod NextEntries
-pub mod Standings
-pub mod Steps
+pub mod SoFar
+pub mod NextLines
 pub mod Reading
 pub mod Whole
 pub mod Answered

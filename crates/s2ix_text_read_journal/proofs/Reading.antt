@@ -25,8 +25,8 @@ use Rattle.s2ix_text_read_journal.proofs.ChangeTexts.{IsSize, change_lacks_feed,
 use Rattle.s2ix_text_read_journal.proofs.EntryTexts.{entry_lacks_feed, line_with_feed}
 use Rattle.s2ix_text_read_journal.proofs.NextEntries.{entries_more, next_from}
 use Rattle.s2ix_text_read_journal.proofs.Rows.{IsBetween, IsInside, behind_row, end_row, entry_row, group_row, place_below}
-use Rattle.s2ix_text_read_journal.proofs.Standings.{between_start, group_begun, inside_group, over_behind, some_behind_line}
-use Rattle.s2ix_text_read_journal.proofs.Steps.{cut_short, entries_passed, fault_left, groups_passed, passes, stops}
+use Rattle.s2ix_text_read_journal.proofs.SoFar.{between_start, group_begun, inside_group, over_behind, some_behind_line}
+use Rattle.s2ix_text_read_journal.proofs.NextLines.{cut_short, entries_passed, fault_left, groups_passed, passes, stops}
 
 -- ---- the lines of entries and groups
 
@@ -90,15 +90,15 @@ group_more most bounded limits text wanted es rest line below e was more cut is 
           ∙ ap (λ x. x ++ below) (flat_map_more entry_line [] es e);
     }
 
-pub group_standing : (most : ℕ) → most < 2 ^ 32
+pub group_so_far : (most : ℕ) → most < 2 ^ 32
     → (limits : Limits) (above : List (List ℕ)) (groups wanted left : ℕ) (text : List ℕ) (es : List Entry) (rest : List ℕ)
     → is_nil above ≡ false → greatest_count (slice_index_or above 0 []) ≡ most → behind above ≡ at_group wanted groups
     → length es + left ≡ wanted
     → IsGroupSoFar most limits text wanted es rest
     → (fault_left limits above (lines_of text) ≡ fault_left limits (above ++ map entry_text es) (lines_of rest))
     × IsInside most (above ++ map entry_text es) left (last_pair es) groups
-group_standing most bounded limits above groups wanted left text es rest some own standing number was =
-    let inside = subst (λ n. IsInside most above n None groups) (sym number) (inside_group most above groups wanted some own standing) in
+group_so_far most bounded limits above groups wanted left text es rest some own so_far number was =
+    let inside = subst (λ n. IsInside most above n None groups) (sym number) (inside_group most above groups wanted some own so_far) in
     let passed = entries_passed most bounded limits above [] es left groups (lines_of rest) inside was.entries (lines_some rest) in (
       ap (λ x. fault_left limits above (lines_of x)) was.cut
           ∙ ap (fault_left limits above) (lines_of_entries most bounded es rest was.entries.sides) ∙ passed.fault,
@@ -117,9 +117,9 @@ pub group_fault : (most : ℕ) → most < 2 ^ 32
     → length es + suc left ≡ wanted → at ≡ number + length es → IsGroupSoFar most limits text wanted es rest
     → lines_of rest ≡ line ∷ lines_of below → next_entry most limits (last_pair es) line ≡ Err fault
     → fault_left limits above (lines_of text) ≡ Some (at, fault)
-group_fault most bounded limits above groups wanted left number at text es rest line below fault some is_number own standing more at_is was
+group_fault most bounded limits above groups wanted left number at text es rest line below fault some is_number own so_far more at_is was
     lines is =
-    let now = group_standing most bounded limits above groups wanted (suc left) text es rest some own standing more was in
+    let now = group_so_far most bounded limits above groups wanted (suc left) text es rest some own so_far more was in
     let row =
     entry_row most limits (above ++ map entry_text es) line left (last_pair es) groups now.1
     ∙ ap (λ (r : Result Entry JournalFault). result_err r) is in
@@ -133,8 +133,8 @@ pub group_truncated : (most : ℕ) → most < 2 ^ 32
     → behind above ≡ at_group wanted groups
     → length es + left ≡ wanted → at ≡ number + length es → IsGroupSoFar most limits text wanted es rest → lines_of rest ≡ rest ∷ []
     → fault_left limits above (lines_of text) ≡ Some (at, Truncated)
-group_truncated most bounded limits above groups wanted left number at text es rest some is_number own standing more at_is was lines =
-    let now = group_standing most bounded limits above groups wanted left text es rest some own standing more was in
+group_truncated most bounded limits above groups wanted left number at text es rest some is_number own so_far more at_is was lines =
+    let now = group_so_far most bounded limits above groups wanted left text es rest some own so_far more was in
     now.0 ∙ ap (fault_left limits (above ++ map entry_text es)) lines
     ∙ cut_short limits (above ++ map entry_text es) rest now.1.over
     ∙ at_line _ _ Truncated (number_after above es number is_number ∙ sym at_is)
@@ -208,7 +208,7 @@ journal_truncated most bounded limits header own text cs number rest was lines =
 pub record IsBegun (limits : Limits) (header text : List ℕ) (cs : List (List Entry)) (number size : ℕ) (line below : List ℕ) : Type 0 where
   pub fault : fault_left limits (lines_down_to header []) (lines_of text)
       ≡ fault_left limits (lines_down_to header cs ++ line ∷ []) (lines_of below)
-  pub standing : behind (lines_down_to header cs ++ line ∷ []) ≡ at_group size (length cs + 1)
+  pub so_far : behind (lines_down_to header cs ++ line ∷ []) ≡ at_group size (length cs + 1)
   pub some : is_nil (lines_down_to header cs ++ line ∷ []) ≡ false
   pub place : length (lines_down_to header cs ++ line ∷ []) + 1 ≡ number + 1
 
@@ -231,7 +231,7 @@ group_begins most bounded limits header own text cs number groups size rest line
           ∙ passes limits (lines_down_to header cs) line (lines_of below) (lines_some below)
           (group_row most limits (lines_down_to header cs) line (length cs) now.1 no_end
           ∙ ap (λ (r : Result ℕ JournalFault). result_err r) sized);
-      standing = group_begun most (lines_down_to header cs) line (length cs) size now.1 no_end writes.written;
+      so_far = group_begun most (lines_down_to header cs) line (length cs) size now.1 no_end writes.written;
       some = some_behind_line (lines_down_to header cs) line;
       place = omega (arith, length_push (lines_down_to header cs) line, at_number header cs number was.number);
     }

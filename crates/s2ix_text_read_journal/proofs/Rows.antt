@@ -11,13 +11,13 @@ use Rattle.s2ix_bag_pairs.specs.declared.label.Label.{Label}
 use Rattle.s2ix_bag_pairs.specs.declared.limits.Limits.{Limits}
 use Rattle.s2ix_bag_pairs.specs.declared.pair.Entry.{Entry}
 use Rattle.s2ix_bag_pairs.specs.declared.pair.Pair.{Pair}
-use Rattle.s2ix_text_parts.specs.Faults.{Place}
+use Rattle.s2ix_text_parts.specs.Faults.{LineAt}
 use Rattle.s2ix_text_parts.specs.Lines.{has_parts, is_nil, part}
 use Rattle.s2ix_text_parts.specs.Written.{cell_written, comes_before, label_written, pair_of_both, pair_written}
 use Rattle.s2ix_text_write.specs.Version.{journal_version}
 use Rattle.s2ix_text_read_journal.specs.declared.errors.JournalFault.{JournalFault}
 use Rattle.s2ix_text_read_journal.specs.declared.errors.JournalFault.TheVariants.{Truncated, BadHeader, BadEnd, BadLine, BadToken, BadLabel, BadCount, NoDifference, Unsorted, TooManyCopies, TooManyChanges, TrailingBytes}
-use Rattle.s2ix_text_read_journal.specs.JournalFaults.{behind, end_text, greatest_count, is_change, is_end, is_first, is_inner, is_of_entry, is_of_group, is_outside, is_over, line_fault, stands}
+use Rattle.s2ix_text_read_journal.specs.JournalFaults.{behind, end_text, greatest_count, is_change, is_end, is_first, is_inner, is_of_entry, is_of_group, is_outside, is_over, line_fault, is_due}
 use Rattle.s2ix_text_read_journal.specs.JournalLines.{entry_behind, entry_of_parts, entry_written, next_entry, next_size, size_behind, size_of_part}
 use Rattle.s2ix_text_read_journal.specs.Numbers.{side_written, size_written}
 use Rattle.s2ix_text_parts.proofs.FirstFault.{applies}
@@ -42,7 +42,7 @@ pub record IsInside (most : ℕ) (above : List (List ℕ)) (left : ℕ) (last : 
   pub over : (behind above).over ≡ false
 
 -- the place of a line below them, with its line feed
-abbrev pub place_below : Limits → List (List ℕ) → List ℕ → Place
+abbrev pub place_below : Limits → List (List ℕ) → List ℕ → LineAt
 place_below limits above line = record { limits = limits; above = above; line = line; ended = true }
 
 -- ---- the first of the faults
@@ -54,11 +54,11 @@ first_of a b c d e f g h i j k l =
     (cond g (Some BadCount) (cond h (Some NoDifference) (cond i (Some Unsorted) (cond j (Some TooManyCopies) (cond k (Some TooManyChanges)
     (cond l (Some TrailingBytes) None)))))))))))
 
-first_fault : (p : Place)
+first_fault : (p : LineAt)
     → line_fault p
-    ≡ first_of (stands p Truncated) (stands p BadHeader) (stands p BadEnd) (stands p BadLine) (stands p BadToken) (stands p BadLabel)
-    (stands p BadCount) (stands p NoDifference) (stands p Unsorted) (stands p TooManyCopies) (stands p TooManyChanges)
-    (stands p TrailingBytes)
+    ≡ first_of (is_due p Truncated) (is_due p BadHeader) (is_due p BadEnd) (is_due p BadLine) (is_due p BadToken) (is_due p BadLabel)
+    (is_due p BadCount) (is_due p NoDifference) (is_due p Unsorted) (is_due p TooManyCopies) (is_due p TooManyChanges)
+    (is_due p TrailingBytes)
 unfolding line_fault
 first_fault p = refl
 
@@ -109,7 +109,7 @@ at_entry limits last true (Some cell) (Some label) (Some m) (Some n) =
 pub entry_row : (most : ℕ) (limits : Limits) (above : List (List ℕ)) (line : List ℕ) (left : ℕ) (last : Option Pair) (groups : ℕ)
     → IsInside most above (suc left) last groups
     → line_fault (place_below limits above line) ≡ result_err (next_entry most limits last line)
-unfolding stands next_entry entry_written pair_written
+unfolding is_due next_entry entry_written pair_written
 entry_row most limits above line left last groups is =
     let own = greatest_count (slice_index_or above 0 []) in
     let p = place_below limits above line in
@@ -152,7 +152,7 @@ at_change limits groups true (Some n) = one_test (nat_le (changes_limit limits) 
 pub group_row : (most : ℕ) (limits : Limits) (above : List (List ℕ)) (line : List ℕ) (groups : ℕ) → IsBetween most above groups
     → is_end line ≡ false
     → line_fault (place_below limits above line) ≡ result_err (next_size limits groups line)
-unfolding stands next_size
+unfolding is_due next_size
 group_row most limits above line groups is no_end =
     let p = place_below limits above line in
     let inner : is_inner p ≡ true = and_from _ _ (not_from_false _ is.some) (not_from_false _ is.over) in
@@ -178,7 +178,7 @@ group_row most limits above line groups is no_end =
 pub end_row : (most : ℕ) (limits : Limits) (above : List (List ℕ)) (line : List ℕ) (groups : ℕ) → IsBetween most above groups
     → is_end line ≡ true
     → line_fault (place_below limits above line) ≡ cond (not (bytes_eq line (end_text groups))) (Some BadEnd) None
-unfolding stands
+unfolding is_due
 end_row most limits above line groups is end =
     let p = place_below limits above line in
     let inner : is_inner p ≡ true = and_from _ _ (not_from_false _ is.some) (not_from_false _ is.over) in
@@ -203,9 +203,9 @@ end_row most limits above line groups is end =
 
 -- ---- behind the end line
 
-pub behind_row : (p : Place) → is_first p ≡ false → is_over p ≡ true
+pub behind_row : (p : LineAt) → is_first p ≡ false → is_over p ≡ true
     → line_fault p ≡ cond (p.ended || not (is_nil p.line)) (Some TrailingBytes) None
-unfolding stands
+unfolding is_due
 behind_row p first over =
     let inner : is_inner p ≡ false = and_right _ _ (ap not over) in
     let entry : is_of_entry p ≡ false = and_left _ _ inner in
@@ -228,11 +228,11 @@ behind_row p first over =
 
 -- ---- a line without a line feed, where one is wanted, and the header
 
-pub truncated_row : (p : Place) → is_over p ≡ false → p.ended ≡ false → line_fault p ≡ Some Truncated
-unfolding line_fault stands
-truncated_row p over ended = cond-true (stands p Truncated) _ _ (and_from _ _ (ap not over) (ap not ended))
+pub truncated_row : (p : LineAt) → is_over p ≡ false → p.ended ≡ false → line_fault p ≡ Some Truncated
+unfolding line_fault is_due
+truncated_row p over ended = cond-true (is_due p Truncated) _ _ (and_from _ _ (ap not over) (ap not ended))
 
 pub header_row : (limits : Limits) (line : List ℕ)
     → line_fault (place_below limits [] line) ≡ cond (is_none (journal_version line)) (Some BadHeader) None
-unfolding line_fault stands behind
+unfolding line_fault is_due behind
 header_row limits line = refl

@@ -10,44 +10,44 @@ use Rattle.s2ix_text_read_journal.specs.declared.errors.JournalError.{JournalErr
 use Rattle.s2ix_text_read_journal.specs.declared.errors.JournalError.TheVariants.{At, OutOfMemory}
 use Rattle.s2ix_text_read_journal.specs.declared.errors.JournalFault.{JournalFault}
 use Rattle.s2ix_text_read_journal.specs.declared.errors.JournalFault.TheVariants.{Truncated, BadHeader, BadEnd, BadLine, BadToken, BadLabel, BadCount, NoDifference, Unsorted, TooManyCopies, TooManyChanges, TrailingBytes}
-use Rattle.s2ix_text_read_journal.specs.JournalFaults.{IsJournalError, after_of_line, before_of_line, behind, is_end, is_first, is_inner, is_of_entry, is_of_group, is_outside, is_over, journal_fault, journal_faults, line_fault, stands}
+use Rattle.s2ix_text_read_journal.specs.JournalFaults.{IsJournalError, after_of_line, before_of_line, behind, is_end, is_first, is_inner, is_of_entry, is_of_group, is_outside, is_over, journal_fault, journal_faults, line_fault, is_due}
 use Rattle.s2ix_text_read_journal.specs.Forms.{lacks_counts, lacks_form}
-use Rattle.s2ix_text_parts.specs.Faults.{Place, fault_below}
+use Rattle.s2ix_text_parts.specs.Faults.{LineAt, fault_below}
 use Rattle.s2ix_text_parts.specs.Lines.{lines_of, part}
-use Rattle.s2ix_text_parts.specs.Places.{line_at, lines_above, place_at}
+use Rattle.s2ix_text_parts.specs.NumberedLines.{line_at, lines_above, place_at}
 use Rattle.s2ix_text_parts.specs.Written.{cell_written, comes_before, label_written, pair_written}
 use Rattle.s2ix_text_parts.proofs.FaultsTold.{AreErrors, AreFaults, TellsLines, tells_lines}
 use Rattle.s2ix_text_parts.proofs.Found.{find_passes}
-use Rattle.s2ix_text_parts.proofs.Places.{none_from}
+use Rattle.s2ix_text_parts.proofs.NumberedLines.{none_from}
 use Rattle.s2ix_text_read_journal.proofs.Rows.{header_row, truncated_row}
 
 -- ---- the fault of the line
 
--- the fault that is found in a line stands there
-fault_stands : (p : Place) (fault : JournalFault) → line_fault p ≡ Some fault → stands p fault ≡ true
+-- the fault that is found in a line is due there
+fault_is_due : (p : LineAt) (fault : JournalFault) → line_fault p ≡ Some fault → is_due p fault ≡ true
 unfolding line_fault
-fault_stands p fault is = find_passes (stands p) journal_faults fault is
+fault_is_due p fault is = find_passes (is_due p) journal_faults fault is
 
--- ---- where each fault stands
+-- ---- when each fault is due
 
-bad_end_there : (p : Place) → stands p BadEnd ≡ true → is_end p.line ≡ true
-unfolding stands
+bad_end_there : (p : LineAt) → is_due p BadEnd ≡ true → is_end p.line ≡ true
+unfolding is_due
 bad_end_there p is = (and_parts (is_outside p) (is_end p.line) (and_parts (is_outside p && is_end p.line) _ is).0).1
 
-bad_token_there : (p : Place) → stands p BadToken ≡ true → cell_written (part 0 p.line) ≡ None
-unfolding stands
+bad_token_there : (p : LineAt) → is_due p BadToken ≡ true → cell_written (part 0 p.line) ≡ None
+unfolding is_due
 bad_token_there p is = none_from (cell_written (part 0 p.line)) (and_parts (is_of_entry p) _ is).1
 
-bad_label_there : (p : Place) → stands p BadLabel ≡ true → label_written (part 1 p.line) ≡ None
-unfolding stands
+bad_label_there : (p : LineAt) → is_due p BadLabel ≡ true → label_written (part 1 p.line) ≡ None
+unfolding is_due
 bad_label_there p is = none_from (label_written (part 1 p.line)) (and_parts (is_of_entry p) _ is).1
 
-no_difference_there : (p : Place) → stands p NoDifference ≡ true → before_of_line p ≡ after_of_line p
-unfolding stands
+no_difference_there : (p : LineAt) → is_due p NoDifference ≡ true → before_of_line p ≡ after_of_line p
+unfolding is_due
 no_difference_there p is = eqb-true (before_of_line p) (after_of_line p) (and_parts (is_of_entry p) _ is).1
 
-unsorted_there : (p : Place) → stands p Unsorted ≡ true → comes_before (behind p.above).last (pair_written p.line) ≡ false
-unfolding stands
+unsorted_there : (p : LineAt) → is_due p Unsorted ≡ true → comes_before (behind p.above).last (pair_written p.line) ≡ false
+unfolding is_due
 unsorted_there p is = not-true _ (and_parts (is_of_entry p) _ is).1
 
 above_either : (limit m n : ℕ) (low high : Bool) → nat_lt limit m ≡ low → nat_lt limit n ≡ high → (low || high) ≡ true → limit < max m n
@@ -55,25 +55,25 @@ above_either limit m n true high a b is = let over = ltb-true limit m a in let m
 above_either limit m n false true a b is = let over = ltb-true limit n b in let most : n ≤ max m n = le-max_right m n in omega arith
 above_either limit m n false false a b is = cc
 
-copies_there : (p : Place) → stands p TooManyCopies ≡ true → count_limit p.limits < max (before_of_line p) (after_of_line p)
-unfolding stands
+copies_there : (p : LineAt) → is_due p TooManyCopies ≡ true → count_limit p.limits < max (before_of_line p) (after_of_line p)
+unfolding is_due
 copies_there p is =
     above_either (count_limit p.limits) (before_of_line p) (after_of_line p) _ _ refl refl (and_parts (is_of_entry p) _ is).1
 
-changes_there : (p : Place) → stands p TooManyChanges ≡ true → changes_limit p.limits ≤ (behind p.above).groups
-unfolding stands
+changes_there : (p : LineAt) → is_due p TooManyChanges ≡ true → changes_limit p.limits ≤ (behind p.above).groups
+unfolding is_due
 changes_there p is = leb-true (changes_limit p.limits) (behind p.above).groups (and_parts (is_of_group p) _ is).1
 
-trailing_there : (p : Place) → stands p TrailingBytes ≡ true → (behind p.above).over ≡ true
-unfolding stands
+trailing_there : (p : LineAt) → is_due p TrailingBytes ≡ true → (behind p.above).over ≡ true
+unfolding is_due
 trailing_there p is = (and_parts (is_over p) _ is).0
 
-truncated_there : (p : Place) → stands p Truncated ≡ true → p.ended ≡ false
-unfolding stands
+truncated_there : (p : LineAt) → is_due p Truncated ≡ true → p.ended ≡ false
+unfolding is_due
 truncated_there p is = not-true p.ended (and_parts (not (is_over p)) _ is).1
 
-header_there : (p : Place) → stands p BadHeader ≡ true → journal_version p.line ≡ None
-unfolding stands
+header_there : (p : LineAt) → is_due p BadHeader ≡ true → journal_version p.line ≡ None
+unfolding is_due
 header_there p is = none_from (journal_version p.line) (and_parts (is_first p) _ is).1
 
 -- of two tests the one of the line's kind
@@ -87,12 +87,12 @@ of_kind inner false end x true is = refl
 of_kind true false end x false is = cc
 of_kind false false end x false is = cc
 
-bad_line_there : (p : Place) → stands p BadLine ≡ true → lacks_form p ≡ true
-unfolding stands
+bad_line_there : (p : LineAt) → is_due p BadLine ≡ true → lacks_form p ≡ true
+unfolding is_due
 bad_line_there p is = of_kind (is_inner p) ((behind p.above).wanted == 0) (is_end p.line) _ _ is
 
-bad_count_there : (p : Place) → stands p BadCount ≡ true → lacks_counts p ≡ true
-unfolding stands
+bad_count_there : (p : LineAt) → is_due p BadCount ≡ true → lacks_counts p ≡ true
+unfolding is_due
 bad_count_there p is = of_kind (is_inner p) ((behind p.above).wanted == 0) (is_end p.line) _ _ is
 
 -- ---- the first line
@@ -112,8 +112,8 @@ faults = record {
   differ = λ same. cc;
   no_feed = λ p first open_end. truncated_row p (not_over p.above first) open_end;
   no_header = λ limits line none. header_row limits line ∙ cond-true _ _ _ (ap is_none none);
-  open_end = λ p is. truncated_there p (fault_stands p Truncated is);
-  unnamed = λ p is. header_there p (fault_stands p BadHeader is);
+  open_end = λ p is. truncated_there p (fault_is_due p Truncated is);
+  unnamed = λ p is. header_there p (fault_is_due p BadHeader is);
 }
 
 -- a fault with the number of its line
@@ -156,8 +156,8 @@ Lines limits text r = TellsLines at_line OutOfMemory line_fault Truncated BadHea
 
 -- the line that an error names has its fault
 there : {X : Type 0} (limits : Limits) (text : List ℕ) (r : Result X JournalError) (line : ℕ) (fault : JournalFault) → Lines limits text r
-    → r ≡ Err (At line fault) → stands (place_at limits line text) fault ≡ true
-there limits text r line fault lines is = fault_stands (place_at limits line text) fault (lines.of_line line fault is).has
+    → r ≡ Err (At line fault) → is_due (place_at limits line text) fault ≡ true
+there limits text r line fault lines is = fault_is_due (place_at limits line text) fault (lines.of_line line fault is).has
 
 pub answers : {X : Type 0} (limits : Limits) (text : List ℕ) (r : Result X JournalError) → OnOk r (journal_fault limits text ≡ None)
     → IfErr r (λ error. IsJournalError error (journal_fault limits text)) → Answers limits text r

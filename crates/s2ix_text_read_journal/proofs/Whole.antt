@@ -31,8 +31,8 @@ use Rattle.s2ix_text_read_journal.proofs.EntryTexts.{line_with_feed}
 use Rattle.s2ix_text_read_journal.proofs.NextEntries.{IsNext, entries_more, last_pair_pushed, next_from, no_entries}
 use Rattle.s2ix_text_read_journal.proofs.Reading.{bytes_behind, end_fault, lines_of_groups, nothing_behind}
 use Rattle.s2ix_text_read_journal.proofs.Rows.{IsBetween, IsInside, entry_row, group_row, header_row, place_below, truncated_row}
-use Rattle.s2ix_text_read_journal.proofs.Standings.{between_start, greatest_more, group_begun, group_ended, inside_group, inside_more, some_behind_line}
-use Rattle.s2ix_text_read_journal.proofs.Steps.{fault_left, groups_passed}
+use Rattle.s2ix_text_read_journal.proofs.SoFar.{between_start, greatest_more, group_begun, group_ended, inside_group, inside_more, some_behind_line}
+use Rattle.s2ix_text_read_journal.proofs.NextLines.{fault_left, groups_passed}
 
 -- ---- groups, and what a journal holds
 

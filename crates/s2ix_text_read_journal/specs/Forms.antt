@@ -2,15 +2,15 @@
 use Rattle.std.specs.Prelude.{◌==◌, Bool, not, ◌||◌, is_none, if◌then◌else◌}
 use Rattle.s2ix_text_read_journal.specs.JournalFaults.{after_written, before_written, behind, is_change}
 use Rattle.s2ix_text_read_journal.specs.Numbers.{size_written}
-use Rattle.s2ix_text_parts.specs.Faults.{Place}
+use Rattle.s2ix_text_parts.specs.Faults.{LineAt}
 use Rattle.s2ix_text_parts.specs.Lines.{has_parts, part}
 
 -- `change` and one part more, or four parts
-abbrev pub lacks_form : Place → Bool
+abbrev pub lacks_form : LineAt → Bool
 lacks_form p = if (behind p.above).wanted == 0 then not (is_change p.line) else not (has_parts 4 p.line)
 
 -- the number of entries, or the counts before and after
-abbrev pub lacks_counts : Place → Bool
+abbrev pub lacks_counts : LineAt → Bool
 lacks_counts p =
     if (behind p.above).wanted == 0
     then is_none (size_written (part 1 p.line))

@@ -12,7 +12,7 @@ use Rattle.s2ix_bag_pairs.specs.declared.pair.Entry.{Entry}
 use Rattle.s2ix_bag_pairs.specs.declared.pair.Pair.{Pair}
 use Rattle.s2ix_text_read_journal.specs.declared.errors.JournalFault.{JournalFault}
 use Rattle.s2ix_text_read_journal.specs.declared.errors.JournalFault.TheVariants.{BadLine, BadToken, BadLabel, BadCount, NoDifference, Unsorted, TooManyCopies, TooManyChanges}
-use Rattle.s2ix_text_read_journal.specs.JournalFaults.{Standing, is_change}
+use Rattle.s2ix_text_read_journal.specs.JournalFaults.{ReadSoFar, is_change}
 use Rattle.s2ix_text_read_journal.specs.Numbers.{side_written, size_written}
 use Rattle.s2ix_text_parts.specs.Lines.{has_parts, last_of, part}
 use Rattle.s2ix_text_parts.specs.Written.{cell_written, comes_before, label_written}
@@ -69,7 +69,7 @@ unfoldable pub next_size : Limits → ℕ → List ℕ → Result ℕ JournalFau
 next_size limits groups line = size_behind limits groups (if is_change line then size_of_part (size_written (part 1 line)) else Err BadLine)
 
 -- what stands above the first entry of a group
-abbrev pub at_group : ℕ → ℕ → Standing
+abbrev pub at_group : ℕ → ℕ → ReadSoFar
 at_group size groups = record { wanted = size; last = None; groups = groups; over = false }
 
 -- ---- the lines that are written, without their line feeds

@@ -5,7 +5,7 @@ use std::alloc::AllocError;
 use std::fmt;
 use thiserror::Error;
 
-/// What is wrong with a line of a journal. On one line the first of these that stands is told.
+/// What is wrong with a line of a journal. Of those that are due on one line, the first is told.
 #[derive(Clone, Copy, Debug, PartialEq, Eq, Error)]
 pub enum JournalFault {
     /// A line is wanted here, and what is left of the text has no line feed.

@@ -12,7 +12,7 @@ ghost use Rattle.s2ix_text_read_journal.specs.JournalLines.{lines_down_to};
 ghost use Rattle.s2ix_text_read_journal.specs.Journals.{AreGroups, AreWithin, IsJournal};
 ghost use Rattle.s2ix_text_parts.specs.Faults.{fault_below};
 ghost use Rattle.s2ix_text_parts.specs.Lines.{lines_of, part};
-ghost use Rattle.s2ix_text_parts.specs.Places.{line_at, lines_above, place_at};
+ghost use Rattle.s2ix_text_parts.specs.NumberedLines.{line_at, lines_above, place_at};
 ghost use Rattle.s2ix_text_parts.specs.Written.{cell_written, comes_before, label_written, pair_written};
 
 use crate::change_line::{is_end_of, next_size};

@@ -2,7 +2,7 @@ ghost use Rattle.std.specs.Prelude.{◌≡◌, ◌≢◌, length, IsOk};
 ghost use Rattle.s2ix_edit_plan.specs.Plan.{AlwaysPlans, AlwaysRefuses};
 
 use crate::edit::Edit;
-use crate::edits::parts::push_entry;
+use crate::edits::entries::push_entry;
 use crate::errors::EditError;
 use s2id_union::CellUnion;
 use s2ix_bag::{Bag, Change};

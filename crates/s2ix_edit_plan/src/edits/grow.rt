@@ -6,7 +6,7 @@ ghost use Rattle.s2ix_edit_plan.specs.Plan.{AlwaysPlans, AlwaysRefuses, first_co
 ghost use Rattle.s2ix_edit_plan.specs.Region.{cells_of};
 
 use crate::edit::Edit;
-use crate::edits::parts::lacks_label;
+use crate::edits::entries::lacks_label;
 use crate::errors::EditError;
 use crate::region::label_cells;
 use s2id_core::{CellId, OutOfMemory};

@@ -4,9 +4,9 @@
 mod add;
 mod add_union;
 mod drop_label;
+mod entries;
 mod grow;
 mod normalise;
-mod parts;
 mod relabel;
 mod remove;
 mod revert;
@@ -25,7 +25,7 @@ use std::alloc::Global;
 /// would change. The bag stays as it is; [`Bag::applied`] makes the next one of the change. `changes` are those that led to
 /// the bag, the oldest first, of which `Revert` takes one back; no other edit reads them.
 ///
-/// Of the errors of [`EditError`] the first that stands is answered, but neither `JournalFull`, which a store tests, nor `NoChange`.
+/// Of the errors of [`EditError`] the first that is due is answered, but neither `JournalFull`, which a store tests, nor `NoChange`.
 /// Whether the counts and the pairs fit the bag is found when the change is applied; but the plan of `Revert` has tested it, and answers
 /// `TooManyCopies` and `TooManyPairs` itself, and a sum that no `u32` holds is above every limit and `TooManyCopies` here.
 /// `OutOfMemory` comes in place of no other error of `Revert`, and of no error but `TooManyCopies` of the others; an `Add` or a `Remove`

@@ -3,7 +3,7 @@ ghost use Rattle.s2ix_bag_pairs.specs.OfLabel.{held_of};
 ghost use Rattle.s2ix_edit_plan.specs.Plan.{AlwaysPlans, AlwaysRefuses, one_copy};
 
 use crate::edit::Edit;
-use crate::edits::parts::lacks_label;
+use crate::edits::entries::lacks_label;
 use crate::errors::EditError;
 use crate::region::region_of;
 use s2id_core::{CellId, OutOfMemory};

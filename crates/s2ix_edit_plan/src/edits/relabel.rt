@@ -4,7 +4,7 @@ ghost use Rattle.s2ix_edit_plan.specs.Plan.{AlwaysPlans, AlwaysRefuses, move_ent
 ghost use Rattle.s2ix_edit_plan.specs.Refusals.{holds_none};
 
 use crate::edit::Edit;
-use crate::edits::parts::{lacks_label, removal};
+use crate::edits::entries::{lacks_label, removal};
 use crate::errors::EditError;
 use s2id_core::OutOfMemory;
 use s2ix_bag::{Bag, Change};

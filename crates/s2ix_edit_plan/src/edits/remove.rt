@@ -2,7 +2,7 @@ ghost use Rattle.std.specs.Prelude.{◌≡◌, ◌≢◌, IsOk};
 ghost use Rattle.s2ix_edit_plan.specs.Plan.{AlwaysPlans, AlwaysRefuses};
 
 use crate::edit::Edit;
-use crate::edits::parts::one_pair;
+use crate::edits::entries::one_pair;
 use crate::errors::EditError;
 use s2ix_bag::{Bag, Change};
 use s2ix_bag_pairs::Pair;

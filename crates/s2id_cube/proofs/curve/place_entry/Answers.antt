@@ -1,4 +1,4 @@
-use Rattle.s2id_cube.proofs.Steps.{place_entry_from}
+use Rattle.s2id_cube.proofs.LevelTables.{place_entry_from}
 use Rattle.s2id_cube.proofs.curve.place_entry.Goals as goal
 
 pub returns-clause-steps : goal.returns-clause-steps

@@ -1,4 +1,4 @@
-use Rattle.s2id_cube.proofs.Steps.{square_entry_from}
+use Rattle.s2id_cube.proofs.LevelTables.{square_entry_from}
 use Rattle.s2id_cube.proofs.curve.square_entry.Goals as goal
 
 pub returns-clause-steps : goal.returns-clause-steps

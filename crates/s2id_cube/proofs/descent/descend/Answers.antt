@@ -1,5 +1,5 @@
 use Rattle.std.proofs.Common.{◌/◌, ◌%◌, ◌^◌, refl, arith}
-use Rattle.s2id_cube.proofs.Steps.{IsSquareEntry}
+use Rattle.s2id_cube.proofs.LevelTables.{IsSquareEntry}
 use Rattle.s2id_cube.proofs.Groups.{IsStepDown, down_none, down_orientation, down_more, leaf_written}
 use Rattle.s2id_cube.proofs.Near.{before_none, before_more, before_all}
 use Rattle.s2id_cube.proofs.descent.descend.Goals as goal

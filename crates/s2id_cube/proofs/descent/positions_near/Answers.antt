@@ -1,5 +1,5 @@
 use Rattle.std.proofs.Common.{◌+◌, ◌-◌, ◌*◌, ◌/◌, ◌%◌, ◌^◌, ◌<◌, ap₂, refl, arith}
-use Rattle.s2id_cube.proofs.Steps.{IsPlaceEntry}
+use Rattle.s2id_cube.proofs.LevelTables.{IsPlaceEntry}
 use Rattle.s2id_cube.proofs.Groups.{IsUp, up_orientation}
 use Rattle.s2id_cube.proofs.Near.{face_below, first_zeros, leaf_coordinate, parting_is, near_start, near_fewer, near_done}
 use Rattle.s2id_cube.proofs.descent.positions_near.Goals as goal

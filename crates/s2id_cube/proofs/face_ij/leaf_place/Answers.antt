@@ -1,6 +1,6 @@
 use Rattle.std.proofs.Common.{◌+◌, ◌*◌, ◌/◌, ◌%◌, ◌^◌, arith}
 use Rattle.s2id_cube.proofs.Groups.{IsPairMore, pair_none, pair_more, pair_orientation, pairs_all}
-use Rattle.s2id_cube.proofs.Steps.{IsPlaceEntry}
+use Rattle.s2id_cube.proofs.LevelTables.{IsPlaceEntry}
 use Rattle.s2id_cube.proofs.face_ij.leaf_place.Goals as goal
 use Rattle.s2id_cube.proofs.face_ij.leaf_place.Goals.{After-place_entry-lower}
 

@@ -5,7 +5,7 @@ use Rattle.std.proofs.lemmas.Option.{same_Some}
 use Rattle.s2ix_bag_pairs.specs.Pair.{rank_of}
 use Rattle.s2ix_bag_pairs.specs.declared.pair.Held.{Held}
 use Rattle.s2ix_bag_pairs.specs.declared.pair.Pair.{Pair}
-use Rattle.s2ix_bag_pairs.proofs.Parts.{count_first_none}
+use Rattle.s2ix_bag_pairs.proofs.CutAtRank.{count_first_none}
 use Rattle.s2ix_bag_lists.proofs.search.count_first.Goals as goal
 
 pub returns-in_default : goal.returns-in_default

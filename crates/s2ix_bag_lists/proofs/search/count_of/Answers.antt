@@ -2,7 +2,7 @@
 use Rattle.std.proofs.Common.{sym, ap, ◌∙◌, le_refl}
 use Rattle.s2ix_bag_pairs.specs.Collection.{count_at}
 use Rattle.s2ix_bag_pairs.specs.Pair.{rank_of}
-use Rattle.s2ix_bag_pairs.proofs.Parts.{count_past_below}
+use Rattle.s2ix_bag_pairs.proofs.CutAtRank.{count_past_below}
 use Rattle.s2ix_bag_lists.proofs.search.count_of.Goals as goal
 
 pub returns : goal.returns

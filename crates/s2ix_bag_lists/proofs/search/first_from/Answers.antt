@@ -4,7 +4,7 @@ use Rattle.std.proofs.lemmas.List.Sorted.{IsPartitionPoint-from_clause, IsPartit
 use Rattle.std.specs.List.Sorted.{IsPartitionPoint}
 use Rattle.s2ix_bag_pairs.specs.Pair.{rank_of}
 use Rattle.s2ix_bag_pairs.specs.declared.pair.Held.{Held}
-use Rattle.s2ix_bag_pairs.proofs.Parts.{ranks_non_decreasing, below_from_places, from_place}
+use Rattle.s2ix_bag_pairs.proofs.CutAtRank.{ranks_non_decreasing, below_from_places, from_place}
 use Rattle.s2ix_bag_lists.proofs.search.first_from.Goals as goal
 
 pub returns : goal.returns

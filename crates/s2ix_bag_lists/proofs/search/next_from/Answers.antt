@@ -5,7 +5,7 @@ use Rattle.s2ix_bag_pairs.specs.Collection.{Collection, IsCollection, IsCollecti
 use Rattle.s2ix_bag_pairs.specs.Pair.{rank_of}
 use Rattle.s2ix_bag_pairs.specs.declared.pair.Held.{Held}
 use Rattle.s2ix_bag_pairs.specs.declared.pair.Pair.{Pair}
-use Rattle.s2ix_bag_pairs.proofs.Parts.{collection_take, from_front, next_from_read}
+use Rattle.s2ix_bag_pairs.proofs.CutAtRank.{collection_take, from_front, next_from_read}
 use Rattle.s2ix_bag_lists.proofs.search.next_from.Goals as goal
 use Rattle.s2ix_bag_lists.proofs.search.next_from.Goals.{then-loop-high-test+else-is_before, else-loop-high-test}
 

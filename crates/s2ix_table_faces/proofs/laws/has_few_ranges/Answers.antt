@@ -1,4 +1,4 @@
-use Rattle.s2ix_table_faces.specs.Faces.{spans_of}
+use Rattle.s2ix_table_faces.specs.FaceSpans.{spans_of}
 use Rattle.s2ix_table_faces.specs.Joined.{held_in, joined_ranges}
 use Rattle.s2ix_table_faces.proofs.Few.{few_of_table}
 use Rattle.s2ix_table_faces.proofs.laws.has_few_ranges.Goals as goal

@@ -1,6 +1,6 @@
 use Rattle.std.proofs.Common.{length, sym, ap, arith, subst}
 use Rattle.s2ix_bag_pairs.specs.Collection.{IsCollection}
-use Rattle.s2ix_table_faces.specs.Faces.{AreOnFace}
+use Rattle.s2ix_table_faces.specs.FaceSpans.{AreOnFace}
 use Rattle.s2ix_table_faces.proofs.AllFaces.{held_few, held_rises, lie_on}
 use Rattle.s2ix_table_faces.proofs.tables.read_table.Goals as goal
 

@@ -3,7 +3,7 @@ use Rattle.std.proofs.Common.{◌≡◌, ℕ, List, map, ◌<◌, true, false, r
 use Rattle.s2ix_bag_pairs.specs.Collection.{Collection}
 use Rattle.s2ix_table_chain.specs.SpanTable.{SpanRanges}
 use Rattle.s2ix_table_ranges.specs.Table.{leaf_end}
-use Rattle.s2ix_table_faces.specs.Faces.{AreOverFaces, spans_of}
+use Rattle.s2ix_table_faces.specs.FaceSpans.{AreOverFaces, spans_of}
 use Rattle.s2ix_table_faces.specs.Joined.{held_in}
 use Rattle.s2ix_table_reading.specs.Faces.{held_on}
 use Rattle.s2ix_table_reading.specs.Reading.{two_searches}

@@ -1,7 +1,7 @@
 -- The tables of the faces before this one are those of what the reader shows, the others stand.
 use Rattle.std.proofs.Common.{◌≡◌, ℕ, map}
 use Rattle.s2ix_bag_pairs.specs.Collection.{Collection}
-use Rattle.s2ix_table_faces.specs.Faces.{AreOverFaces, spans_of}
+use Rattle.s2ix_table_faces.specs.FaceSpans.{AreOverFaces, spans_of}
 use Rattle.s2ix_table_faces.specs.Joined.{held_in}
 use Rattle.s2ix_table_reading.specs.Faces.{held_on}
 use Rattle.s2ix_table_reading.specs.Reading.{two_searches}

@@ -3,7 +3,7 @@ use Rattle.s2id_core.specs.declared.cell_id.CellId.{CellId}
 use Rattle.s2id_core.specs.CellId.{face_of, first_of}
 use Rattle.s2ix_bag_pairs.specs.Collection.{Collection}
 use Rattle.s2ix_table_ranges.specs.Table.{Range, range_at, IsRangeTable}
-use Rattle.s2ix_table_walk.specs.Faces.{HaveFace}
+use Rattle.s2ix_table_walk.specs.FaceWindows.{HaveFace}
 use Rattle.s2ix_table_walk.specs.Searching.{IsWindow}
 use Rattle.s2ix_table_walk.proofs.OnFaces.{begins_on_face, six_faces}
 use Rattle.s2ix_table_walk.proofs.WalkSteps.{range_fits}

@@ -11,8 +11,8 @@ returns-then-len-eq0-clause-none c =
     let pass = c.decimal_digits-number in
     λ long other number rest small is.
     let read =
-        number_is_read c.args.text.now rest pass.result.1 c.args.end number is small other pass.ensures.at_most (omega arith)
-        pass.ensures.digits pass.ensures.stop in
+    number_is_read c.args.text.now rest pass.result.1 c.args.end number is small other pass.ensures.at_most (omega arith)
+    pass.ensures.digits pass.ensures.stop in
     elim c.then-len-eq0.branch [
       | then-len-eq0-via-then-len-eq0 w ↦ omega (arith, w.if-len-eq0.true, read.some)
       | then-len-eq0-via-else-len-eq0+then-text-len w ↦ w.if-text-len.true read.end_byte
@@ -31,9 +31,11 @@ returns-clause-number c =
     rw (take_rest c.args.text.now (read.result.1 + 1))
     (number_of_front c.args.text.now read.result.1 read.result.0 c.args.end (omega arith) read.ensures.at_most (omega arith)
     read.ensures.digits read.ensures.value
-    (λ zero. elim c.else-len-gt1.branch
-    [ else-len-gt1-via-then-len-gt1+else-text-eq48 w ↦ absurd (w.if-text-eq48.false zero) | else-len-gt1-via-else-len-gt1 w
-    ↦ omega (arith, w.if-len-gt1.false) ])
+    (λ zero. elim c.else-len-gt1.branch [
+      | else-len-gt1-via-then-len-gt1+else-text-eq48 w ↦ absurd (w.if-text-eq48.false zero)
+      | else-len-gt1-via-else-len-gt1 w
+          ↦ omega (arith, w.if-len-gt1.false)
+    ])
     c.if-text-len.false)
 
 pub returns-clause-small : goal.returns-clause-small

@@ -14,8 +14,8 @@ returns-then-len-eq0-clause-none c =
     let pass = c.lower_digits-number in
     λ long cell rest is.
     let read =
-        token_is_read c.args.text.now rest pass.result.1 pass.result.0 (raw_of cell) is cell.valid pass.ensures.at_most (omega arith)
-        pass.ensures.digits pass.ensures.value pass.ensures.stop in
+    token_is_read c.args.text.now rest pass.result.1 pass.result.0 (raw_of cell) is cell.valid pass.ensures.at_most (omega arith)
+    pass.ensures.digits pass.ensures.value pass.ensures.stop in
     elim c.then-len-eq0.branch [
       | then-len-eq0-via-then-len-eq0 w ↦ omega (arith, w.if-len-eq0.true, read.some)
       | then-len-eq0-via-else-len-eq0+then-text-len-ne32 w ↦ w.if-text-len-ne32.true read.space
@@ -28,8 +28,8 @@ returns-in_err-cell-clause-none c =
     rw c.from_residual.ensures
     (λ long cell rest is.
     let read =
-        token_is_read c.args.text.now rest pass.result.1 pass.result.0 (raw_of cell) is cell.valid pass.ensures.at_most (omega arith)
-        pass.ensures.digits pass.ensures.value pass.ensures.stop in
+    token_is_read c.args.text.now rest pass.result.1 pass.result.0 (raw_of cell) is cell.valid pass.ensures.at_most (omega arith)
+    pass.ensures.digits pass.ensures.value pass.ensures.stop in
     absurd (false≢true (c.in_err-cell.ensures.found.1 (subst IsCellNumber (sym read.shifted) cell.valid))))
 
 pub returns-clause-cell : goal.returns-clause-cell

@@ -5,7 +5,7 @@ use Rattle.s2ix_text_write.specs.Version.{dump_header}
 use Rattle.s2ix_text_read_dump.specs.declared.errors.DumpFault.TheVariants.{TrailingBytes}
 use Rattle.s2ix_text_read_dump.specs.DumpFaults.{is_end}
 use Rattle.s2ix_text_parts.proofs.Rests.{none_test, some_test}
-use Rattle.s2ix_text_read_dump.proofs.Steps.{at_line, bad_end, end_agrees, read_to_end, row_fault, trailing, truncated}
+use Rattle.s2ix_text_read_dump.proofs.NextLines.{at_line, bad_end, end_agrees, read_to_end, row_fault, trailing, truncated}
 use Rattle.s2ix_text_read_dump.proofs.dump.next_line.Goals as goal
 
 pub returns-in_default-cut_line-clause-refused : goal.returns-in_default-cut_line-clause-refused

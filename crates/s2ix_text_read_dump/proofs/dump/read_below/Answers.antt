@@ -4,7 +4,7 @@ use Rattle.std.proofs.lemmas.Result.{err_from_is_err_and}
 use Rattle.s2ix_bag_pairs.specs.Collection.{Collection, copies_in}
 use Rattle.s2ix_text_write.specs.Version.{dump_header}
 use Rattle.s2ix_text_read_dump.specs.PairLines.{IsNext, line_text}
-use Rattle.s2ix_text_read_dump.proofs.Steps.{IsReadSoFar, at_some, next_sum, read_more, wants_below}
+use Rattle.s2ix_text_read_dump.proofs.NextLines.{IsReadSoFar, at_some, next_sum, read_more, wants_below}
 use Rattle.s2ix_text_read_dump.proofs.dump.read_below.Goals as goal
 
 pub overflow_add-copies : goal.overflow_add-copies

@@ -1,7 +1,7 @@
 -- The lines so far are those of what is held.
 use Rattle.std.proofs.Common.{length}
 use Rattle.s2ix_text_write.specs.Version.{dump_header}
-use Rattle.s2ix_text_read_dump.proofs.Steps.{IsReadSoFar}
+use Rattle.s2ix_text_read_dump.proofs.NextLines.{IsReadSoFar}
 use Rattle.s2ix_text_read_dump.proofs.dump.read_below.Given as goal
 
 abbrev pub invariant-loop-held : goal.invariant-loop-held

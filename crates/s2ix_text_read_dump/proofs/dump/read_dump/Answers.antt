@@ -13,7 +13,7 @@ use Rattle.s2ix_text_read_dump.specs.declared.errors.DumpFault.TheVariants.{BadH
 use Rattle.s2ix_text_read_dump.specs.DumpFaults.{IsDumpError, dump_fault}
 use Rattle.s2ix_text_parts.specs.Faults.{IsFromLine}
 use Rattle.s2ix_text_read_dump.proofs.Appended.{held_in}
-use Rattle.s2ix_text_read_dump.proofs.Steps.{bad_header, below_header, no_header, wants_below}
+use Rattle.s2ix_text_read_dump.proofs.NextLines.{bad_header, below_header, no_header, wants_below}
 use Rattle.s2ix_text_read_dump.proofs.Whole.{dump_put_together, never_refused, only_memory}
 use Rattle.s2ix_text_read_dump.proofs.Told.{Answers, answers_error, answers_read}
 use Rattle.s2ix_text_read_dump.proofs.dump.read_dump.Goals.{In_err-held}

@@ -3,7 +3,7 @@ use Rattle.std.proofs.Common.{arith}
 use Rattle.std.proofs.lemmas.Bool.{false≢true}
 use Rattle.s2id_core.specs.CellId.{raw_of}
 use Rattle.s2ix_bag_pairs.specs.Label.{value_of}
-use Rattle.s2ix_text_read_dump.proofs.FrontReads.{count_is, count_stands, label_stands, parts_of_common}
+use Rattle.s2ix_text_read_dump.proofs.FrontReads.{count_is, count_is_due, label_is_due, parts_of_common}
 use Rattle.s2ix_text_read_dump.proofs.PairTexts.{line_of_parts}
 use Rattle.s2ix_text_read_dump.proofs.pair_line.held_in_front.Goals as goal
 
@@ -18,32 +18,32 @@ pub returns-in_err-label-clause-none : goal.returns-in_err-label-clause-none
 returns-in_err-label-clause-none c =
     rw c.from_residual-in_err-label.ensures
     (λ h rest common.
-    let stands =
-    label_stands c.args.most c.ranges.most.fits c.args.text.now c.in_ok-cell.behind.now rest (raw_of c.in_ok-cell.cell) h
+    let is_due =
+    label_is_due c.args.most c.ranges.most.fits c.args.text.now c.in_ok-cell.behind.now rest (raw_of c.in_ok-cell.cell) h
     c.in_ok-cell.ensures.cell common in
-    c.in_err-label.ensures.none stands.2 (omega arith) (value_of h.pair.label) stands.0 common.label stands.1)
+    c.in_err-label.ensures.none is_due.2 (omega arith) (value_of h.pair.label) is_due.0 common.label is_due.1)
 
 pub returns-in_err-count-clause-none : goal.returns-in_err-count-clause-none
 returns-in_err-count-clause-none c =
     rw c.from_residual-in_err-count.ensures
     (λ h rest common.
     let label = c.in_ok-label.ensures.small in
-    let stands =
-    count_stands c.args.most c.ranges.most.fits c.args.text.now c.in_ok-cell.behind.now c.in_ok-label.behind.now rest
+    let is_due =
+    count_is_due c.args.most c.ranges.most.fits c.args.text.now c.in_ok-cell.behind.now c.in_ok-label.behind.now rest
     (raw_of c.in_ok-cell.cell) c.in_ok-label.label h c.in_ok-cell.ensures.cell c.in_ok-label.ensures.number (omega arith) common in
     let few = common.count in
-    c.in_err-count.ensures.none stands.2 (omega arith) h.count rest (omega arith) stands.1)
+    c.in_err-count.ensures.none is_due.2 (omega arith) h.count rest (omega arith) is_due.1)
 
 pub returns-in_err-label-2-clause-none : goal.returns-in_err-label-2-clause-none
 returns-in_err-label-2-clause-none c =
     rw c.from_residual-in_err-label-2.ensures
     (λ h rest common.
     let label = c.in_ok-label.ensures.small in
-    let stands =
-    count_stands c.args.most c.ranges.most.fits c.args.text.now c.in_ok-cell.behind.now c.in_ok-label.behind.now rest
+    let is_due =
+    count_is_due c.args.most c.ranges.most.fits c.args.text.now c.in_ok-cell.behind.now c.in_ok-label.behind.now rest
     (raw_of c.in_ok-cell.cell) c.in_ok-label.label h c.in_ok-cell.ensures.cell c.in_ok-label.ensures.number (omega arith) common in
     let within = h.pair.label.in_range in
-    absurd (false≢true (c.in_err-label-2.ensures.valid.1 (omega (arith, within, stands.0)))))
+    absurd (false≢true (c.in_err-label-2.ensures.valid.1 (omega (arith, within, is_due.0)))))
 
 pub returns-then-count-eq0-clause-none : goal.returns-then-count-eq0-clause-none
 returns-then-count-eq0-clause-none c =

@@ -10,22 +10,22 @@ use Rattle.s2ix_text_read_journal.proofs.group.read_group.Goals as goal
 pub returns-in_err-entries-clause-refused : goal.returns-in_err-entries-clause-refused
 returns-in_err-entries-clause-refused c =
     let p = err_from_is_err_and c.from_residual.result c.from_residual.ensures.1 in
-    λ above groups some number standing own. rw (p.1, p.2) (wants_memory c.args.limits above (lines_of c.args.text.now) some)
+    λ above groups some number so_far own. rw (p.1, p.2) (wants_memory c.args.limits above (lines_of c.args.text.now) some)
 
 pub returns-in_default-clause-refused : goal.returns-in_default-clause-refused
 returns-in_default-clause-refused c =
     let es = c.loop-limits.entries.items in
-    λ above groups some number standing own.
+    λ above groups some number so_far own.
     let left : length es + (c.args.size - length es) ≡ c.args.size = omega (arith, c.loop-limits.invariant.few) in
     let at : c.args.number + c.len-in-loop-limits.result ≡ c.args.number + length es = omega arith in
     group_truncated c.args.most c.ranges.most.fits c.args.limits above groups c.args.size (c.args.size - length es) c.args.number
-    (c.args.number + c.len-in-loop-limits.result) c.args.text.now es c.loop-limits.rest.now some number own standing left at
+    (c.args.number + c.len-in-loop-limits.result) c.args.text.now es c.loop-limits.rest.now some number own so_far left at
     c.loop-limits.invariant c.in_default.ensures.none
 
 pub returns-in_err-push-in-Ok-clause-refused : goal.returns-in_err-push-in-Ok-clause-refused
 returns-in_err-push-in-Ok-clause-refused c =
     let p = err_from_is_err_and c.from_residual-in_err-push-in-Ok.result c.from_residual-in_err-push-in-Ok.ensures.1 in
-    λ above groups some number standing own. rw (p.1, p.2) (wants_memory c.args.limits above (lines_of c.args.text.now) some)
+    λ above groups some number so_far own. rw (p.1, p.2) (wants_memory c.args.limits above (lines_of c.args.text.now) some)
 
 pub returns-in-Err-clause-refused : goal.returns-in-Err-clause-refused
 returns-in-Err-clause-refused c =
@@ -35,10 +35,10 @@ returns-in-Err-clause-refused c =
     let fault : next_entry c.args.most c.args.limits (last_pair es) c.in-Some.line.now ≡ Err c.in-Err.fault =
     ap (λ (xs : List Entry). next_entry c.args.most c.args.limits (last_pair xs) c.in-Some.line.now) (sym c.as_slice.ensures.value)
     ∙ sym c.next_entry.ensures ∙ c.in-Err.is in
-    λ above groups some number standing own.
+    λ above groups some number so_far own.
     group_fault c.args.most c.ranges.most.fits c.args.limits above groups c.args.size (c.args.size - length es - 1) c.args.number
     (c.args.number + c.len-in-loop-limits.result) c.args.text.now es c.loop-limits.rest.now c.in-Some.line.now c.in-Some.below.now
-    c.in-Err.fault some number own standing more at c.loop-limits.invariant c.in-Some.ensures.line fault
+    c.in-Err.fault some number own so_far more at c.loop-limits.invariant c.in-Some.ensures.line fault
 
 pub loop-limits-preserved : goal.loop-limits-preserved
 loop-limits-preserved c =

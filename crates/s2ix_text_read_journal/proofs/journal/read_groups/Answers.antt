@@ -54,7 +54,7 @@ returns-in_err-entries-in-Ok-clause-refused c =
     rw (p.1, p.2)
     (subst (λ (found : Option (ℕ × JournalFault)). IsJournalError c.in_err-entries-in-Ok.field-0.0 found) (sym begun.fault)
     (c.in_err-entries-in-Ok.ensures.refused (lines_down_to header c.loop-line.changes.items ++ c.in-Some.line.now ∷ [])
-    (length c.loop-line.changes.items + 1) begun.some begun.place begun.standing own))
+    (length c.loop-line.changes.items + 1) begun.some begun.place begun.so_far own))
 
 pub returns-in_err-push-in-Ok-clause-refused : goal.returns-in_err-push-in-Ok-clause-refused
 returns-in_err-push-in-Ok-clause-refused c =

@@ -6,7 +6,7 @@ use Rattle.s2ix_bag_pairs.specs.Collection.{Collection}
 use Rattle.s2ix_bag_pairs.specs.declared.pair.Entry.{Entry}
 use Rattle.s2ix_bag_pairs.proofs.Changes.{change_lower}
 use Rattle.s2ix_bag_lists.specs.Faces.{face_start}
-use Rattle.s2ix_bag_lists.proofs.Steps.{Changing, IsOwnChange, changing_own, changing_step, changing_end}
+use Rattle.s2ix_bag_lists.proofs.FaceByFace.{Changing, IsOwnChange, changing_own, changing_step, changing_end}
 use Rattle.s2ix_bag_lists.proofs.lists.FaceLists.after.Goals as goal
 
 pub entries_up_to-requires : goal.entries_up_to-requires

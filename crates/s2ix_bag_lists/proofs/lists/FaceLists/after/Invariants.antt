@@ -1,4 +1,4 @@
-use Rattle.s2ix_bag_lists.proofs.Steps.{Changing}
+use Rattle.s2ix_bag_lists.proofs.FaceByFace.{Changing}
 use Rattle.s2ix_bag_lists.proofs.lists.FaceLists.after.Given as goal
 
 abbrev pub invariant-loop-face : goal.invariant-loop-face

@@ -5,7 +5,7 @@ use Rattle.s2id_core.proofs.Bits.{face_by_bits}
 use Rattle.s2ix_bag_pairs.specs.Collection.{count_at}
 use Rattle.s2ix_bag_pairs.specs.Pair.{rank_of}
 use Rattle.s2ix_bag_lists.proofs.Ends.{face_below_six, rank_on_face}
-use Rattle.s2ix_bag_lists.proofs.Faces.{count_on_face, list_rises}
+use Rattle.s2ix_bag_lists.proofs.AmongFaces.{count_on_face, list_rises}
 use Rattle.s2ix_bag_lists.proofs.lists.FaceLists.count.Goals as goal
 
 pub bounds-self-inside-from : goal.bounds-self-inside-from

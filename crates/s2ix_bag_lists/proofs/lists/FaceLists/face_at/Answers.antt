@@ -3,7 +3,7 @@ use Rattle.std.proofs.Common.{[], sym, ◌∙◌, subst, arith}
 use Rattle.std.proofs.lemmas.List.{get_or_default}
 use Rattle.s2ix_bag_pairs.specs.Collection.{Collection}
 use Rattle.s2ix_bag_lists.specs.Faces.{IsFaceAt}
-use Rattle.s2ix_bag_lists.proofs.Places.{face_found}
+use Rattle.s2ix_bag_lists.proofs.FaceAt.{face_found}
 use Rattle.s2ix_bag_lists.proofs.lists.FaceLists.face_at.Goals as goal
 
 pub returns-then-place-before : goal.returns-then-place-before

@@ -3,7 +3,7 @@ use Rattle.std.proofs.Common.{◌+◌, length, set, sym, ap, ◌∙◌, subst₂
 use Rattle.s2ix_bag_pairs.specs.Collection.{Collection}
 use Rattle.s2ix_bag_pairs.proofs.Counts.{from_lower}
 use Rattle.s2ix_bag_lists.specs.Faces.{face_start}
-use Rattle.s2ix_bag_lists.proofs.Steps.{Putting, putting_start, putting_step, putting_end}
+use Rattle.s2ix_bag_lists.proofs.FaceByFace.{Putting, putting_start, putting_step, putting_end}
 use Rattle.s2ix_bag_lists.proofs.lists.FaceLists.from_held.Goals as goal
 
 pub loop-face-init : goal.loop-face-init

@@ -1,4 +1,4 @@
-use Rattle.s2ix_bag_lists.proofs.Steps.{Putting}
+use Rattle.s2ix_bag_lists.proofs.FaceByFace.{Putting}
 use Rattle.s2ix_bag_lists.proofs.lists.FaceLists.from_held.Given as goal
 
 abbrev pub invariant-loop-face : goal.invariant-loop-face

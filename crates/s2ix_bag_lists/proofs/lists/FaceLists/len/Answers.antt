@@ -1,7 +1,7 @@
 -- The faces follow each other.
 use Rattle.std.proofs.Common.{subst}
 use Rattle.s2ix_bag_pairs.specs.Collection.{IsCollection}
-use Rattle.s2ix_bag_lists.proofs.Faces.{all_rise}
+use Rattle.s2ix_bag_lists.proofs.AmongFaces.{all_rise}
 use Rattle.s2ix_bag_lists.proofs.lists.FaceLists.len.Goals as goal
 
 pub returns-clause-rises : goal.returns-clause-rises

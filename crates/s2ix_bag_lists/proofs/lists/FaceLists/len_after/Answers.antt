@@ -2,7 +2,7 @@
 use Rattle.std.proofs.Common.{length, ap, ◌∙◌, subst, arith}
 use Rattle.s2ix_bag_pairs.specs.Collection.{Collection, IsCollection}
 use Rattle.s2ix_bag_lists.proofs.Lengths.{length-changed, gains-count_by, losses-count_by}
-use Rattle.s2ix_bag_lists.proofs.Faces.{all_rise}
+use Rattle.s2ix_bag_lists.proofs.AmongFaces.{all_rise}
 use Rattle.s2ix_bag_lists.proofs.lists.FaceLists.len_after.Goals as goal
 
 pub overflow_sub-result : goal.overflow_sub-result

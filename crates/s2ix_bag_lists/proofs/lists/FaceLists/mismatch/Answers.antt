@@ -7,8 +7,8 @@ use Rattle.s2ix_bag_pairs.specs.declared.pair.Entry.{Entry}
 use Rattle.s2ix_bag_pairs.proofs.Changes.{change_lower}
 use Rattle.s2ix_bag_lists.proofs.Refusals.{is_mismatch}
 use Rattle.s2ix_bag_lists.specs.Faces.{face_start}
-use Rattle.s2ix_bag_lists.proofs.Faces.{list_rises}
-use Rattle.s2ix_bag_lists.proofs.Steps.{Compared, compared_found, compared_step, compared_end, own_of_face}
+use Rattle.s2ix_bag_lists.proofs.AmongFaces.{list_rises}
+use Rattle.s2ix_bag_lists.proofs.FaceByFace.{Compared, compared_found, compared_step, compared_end, own_of_face}
 use Rattle.s2ix_bag_lists.proofs.lists.FaceLists.mismatch.Goals as goal
 
 pub entries_up_to-requires : goal.entries_up_to-requires

@@ -1,4 +1,4 @@
-use Rattle.s2ix_bag_lists.proofs.Steps.{Compared}
+use Rattle.s2ix_bag_lists.proofs.FaceByFace.{Compared}
 use Rattle.s2ix_bag_lists.proofs.lists.FaceLists.mismatch.Given as goal
 
 abbrev pub invariant-loop-face : goal.invariant-loop-face

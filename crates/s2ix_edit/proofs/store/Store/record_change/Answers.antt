@@ -5,7 +5,7 @@ use Rattle.s2ix_edit_plan.specs.State.{State}
 use Rattle.s2ix_edit_plan.proofs.Refused.{some_entries}
 use Rattle.s2ix_edit.specs.Store.{IsStore}
 use Rattle.s2ix_edit.specs.Steps.{after_record}
-use Rattle.s2ix_edit.proofs.Places.{stands_recorded}
+use Rattle.s2ix_edit.proofs.AtCursor.{stands_recorded}
 use Rattle.s2ix_edit.proofs.store.Store.record_change.Goals.{After-clear}
 use Rattle.s2ix_edit.proofs.store.Store.record_change.Goals as goal
 

@@ -4,7 +4,7 @@ use Rattle.std.specs.List.{slice_get}
 use Rattle.s2ix_edit_plan.specs.State.{State, history_of}
 use Rattle.s2ix_edit_plan.specs.History.{one_on}
 use Rattle.s2ix_edit.proofs.Led.{undo_taken_back}
-use Rattle.s2ix_edit.proofs.Places.{Redoes, history_redone, redoes_shifted, stands_redone}
+use Rattle.s2ix_edit.proofs.AtCursor.{Redoes, history_redone, redoes_shifted, stands_redone}
 use Rattle.s2ix_edit.proofs.store.Store.redo.Goals.{In_ok-number}
 use Rattle.s2ix_edit.proofs.store.Store.redo.Goals as goal
 

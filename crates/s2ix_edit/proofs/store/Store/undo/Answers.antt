@@ -6,7 +6,7 @@ use Rattle.s2ix_edit_plan.specs.State.{State, history_of}
 use Rattle.s2ix_edit_plan.specs.History.{one_back}
 use Rattle.s2ix_edit.specs.Steps.{with_held}
 use Rattle.s2ix_edit.proofs.Led.{edit_taken_back}
-use Rattle.s2ix_edit.proofs.Places.{Undoes, history_undone, stands_undone, undoes_shifted}
+use Rattle.s2ix_edit.proofs.AtCursor.{Undoes, history_undone, stands_undone, undoes_shifted}
 use Rattle.s2ix_edit.proofs.store.Store.undo.Goals.{In_ok-number}
 use Rattle.s2ix_edit.proofs.store.Store.undo.Goals as goal
 

@@ -1,7 +1,7 @@
 use Rattle.std.proofs.Common.{◌+◌, ◌*◌, ◌∙◌, length, ap, arith, subst}
 use Rattle.s2ix_bag_pairs.specs.Collection.{Collection}
 use Rattle.s2ix_table_ranges.specs.Table.{IsRangeTable}
-use Rattle.s2ix_table_faces.specs.Faces.{spans_of}
+use Rattle.s2ix_table_faces.specs.FaceSpans.{spans_of}
 use Rattle.s2ix_table_faces.specs.Joined.{held_in, joined_ranges}
 use Rattle.s2ix_table_reading.specs.Faces.{changed_count}
 use Rattle.s2ix_table_reading.specs.Reading.{HasRead, AreChangedRead, two_searches}

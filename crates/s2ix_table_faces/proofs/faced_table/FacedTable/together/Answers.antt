@@ -2,7 +2,7 @@ use Rattle.std.proofs.Common.{◌≡◌, ℕ, ◌+◌, ◌<◌, ◌≤◌, [], �
 use Rattle.std.proofs.lemmas.List.{length-map}
 use Rattle.s2ix_table_ranges.specs.Table.{leaf_end}
 use Rattle.s2ix_table_chain.specs.SpanTable.{SpanRanges, IsSpanTable}
-use Rattle.s2ix_table_faces.specs.Faces.{spans_of, no_table, table_of}
+use Rattle.s2ix_table_faces.specs.FaceSpans.{spans_of, no_table, table_of}
 use Rattle.s2ix_table_faces.specs.Joined.{AreNeighbours}
 use Rattle.s2ix_table_faces.specs.Whole.{AreJoined}
 use Rattle.s2ix_table_faces.proofs.Counts.{six_inner}

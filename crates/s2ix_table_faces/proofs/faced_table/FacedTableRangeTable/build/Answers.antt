@@ -1,5 +1,5 @@
 use Rattle.std.proofs.Common.{length, ap, arith, ◌∙◌}
-use Rattle.s2ix_table_faces.specs.Faces.{spans_of}
+use Rattle.s2ix_table_faces.specs.FaceSpans.{spans_of}
 use Rattle.s2ix_table_faces.specs.Joined.{held_in}
 use Rattle.s2ix_table_faces.proofs.faced_table.FacedTableRangeTable.build.Goals as goal
 

@@ -2,7 +2,7 @@ use Rattle.std.proofs.Common.{◌+◌, get_or, ◌∙◌, arith}
 use Rattle.s2id_core.specs.CellId.{raw_of}
 use Rattle.s2ix_table_ranges.specs.Table.{IsFound}
 use Rattle.s2ix_table_walk.proofs.OnFaces.{six_faces}
-use Rattle.s2ix_table_faces.specs.Faces.{spans_of}
+use Rattle.s2ix_table_faces.specs.FaceSpans.{spans_of}
 use Rattle.s2ix_table_faces.specs.Joined.{joined_ranges}
 use Rattle.s2ix_table_faces.proofs.Reading.{no_seat, leaf_on, found_on}
 use Rattle.s2ix_table_faces.proofs.faced_table.FacedTableRangeTable.find.Goals as goal

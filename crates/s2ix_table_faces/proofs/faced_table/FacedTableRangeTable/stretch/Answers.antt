@@ -1,6 +1,6 @@
 use Rattle.std.proofs.Common.{◌≡◌, ◌<◌, ◌-◌, length, drop, get_or, sym, arith, rules, subst}
 use Rattle.s2ix_table_queries.specs.Stretches.{IsStretch}
-use Rattle.s2ix_table_faces.specs.Faces.{spans_of}
+use Rattle.s2ix_table_faces.specs.FaceSpans.{spans_of}
 use Rattle.s2ix_table_faces.specs.Joined.{joined_ranges}
 use Rattle.s2ix_table_faces.proofs.Counts.{behind_place}
 use Rattle.s2ix_table_faces.proofs.Stretches.{face_stretch, some_starts, rest_of}

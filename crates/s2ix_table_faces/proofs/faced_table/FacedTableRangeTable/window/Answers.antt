@@ -1,6 +1,6 @@
 use Rattle.std.proofs.Common.{get_or, sym, arith, subst}
-use Rattle.s2ix_table_walk.specs.Faces.{HaveFace}
-use Rattle.s2ix_table_faces.specs.Faces.{spans_of}
+use Rattle.s2ix_table_walk.specs.FaceWindows.{HaveFace}
+use Rattle.s2ix_table_faces.specs.FaceSpans.{spans_of}
 use Rattle.s2ix_table_faces.specs.Joined.{joined_ranges}
 use Rattle.s2ix_table_faces.proofs.Reading.{no_seat}
 use Rattle.s2ix_table_faces.proofs.Stretches.{face_window}
