@@ -1,0 +1,22 @@
+// What a side of the bench answers.
+#ifndef BENCH_ANSWERS_H_
+#define BENCH_ANSWERS_H_
+
+#include <array>
+#include <cstdint>
+#include <vector>
+
+using Four = std::array<uint64_t, 4>;
+using Text = std::array<uint8_t, 32>;
+
+// A sum, and the answers of single cells: a slot for each cell, one of four numbers, and one of a text.
+struct Answers {
+  uint64_t value = 0;
+  std::vector<uint64_t> slots;
+  std::vector<Four> fours;
+  std::vector<Text> texts;
+  // For each target how many answers there are, and then these.
+  std::vector<uint64_t> list;
+};
+
+#endif

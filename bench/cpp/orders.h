@@ -1,0 +1,48 @@
+// What a session may be ordered: the numbers are those of ours/src/orders.rt.in.
+#ifndef BENCH_ORDERS_H_
+#define BENCH_ORDERS_H_
+
+#include <cstddef>
+#include <cstdint>
+
+enum Order : uint32_t {
+  kEnd = 0,
+  kNothing = 1,
+
+  kBuild = 10,
+  kLoad = 11,
+  kEdit = 12,
+  kPointChain = 13,
+  kPointVisit = 14,
+  kFewVisit = 15,
+  kFewLabels = 16,
+  kManyVisit = 17,
+  kManyLabels = 18,
+  kTables = 19,
+
+  kTokenRead = 20,
+  kTokenPrint = 21,
+  kPathPrint = 22,
+  kToFaceIj = 23,
+  kFromFaceIj = 24,
+  kNext = 25,
+  kContains = 26,
+  kNeighborsMixed = 27,
+  kNeighborsLeaf = 28,
+  kNeighborsRim = 29,
+
+  kUnion = 30,
+  kIntersection = 31,
+  kDifference = 32,
+  kNormalise = 33,
+
+  // An order of the index or of unions, and this: all that it answers, as a list.
+  kListed = 100,
+};
+
+// How many cells a target of few cells is given by, one of many, and a shape.
+constexpr size_t kFewCells = 8;
+constexpr size_t kManyCells = 500;
+constexpr size_t kShapeCells = 1000;
+
+#endif

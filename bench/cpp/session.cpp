@@ -1,0 +1,57 @@
+// A bench of one size: session PAIRS SECONDS time|instructions [ids]. A line for each figure: its name, how many operations an order has, and
+// the nanoseconds of the processor that ours and S2 took for an order, the least of many; then the bytes that either has.
+#include <cstdio>
+#include <cstdlib>
+#include <cstring>
+
+#include "ours.h"
+#include "scene.h"
+#include "turns.h"
+
+namespace {
+
+Turns* turns = nullptr;
+
+bool HoldSession(const Scene& scene) {
+  return ours_session(scene.pair_cells.data(), scene.pair_cells.size(), scene.pair_labels.data(), scene.pair_labels.size(),
+                      scene.edited_cells.data(), scene.edited_cells.size(), scene.edited_labels.data(), scene.edited_labels.size(),
+                      reinterpret_cast<const uint8_t*>(scene.dump.data()), scene.dump.size(), scene.leaves.data(),
+                      scene.leaves.size(), scene.few.data(), scene.few.size(), scene.many.data(), scene.many.size(),
+                      scene.shapes.data(), scene.shapes.size(), scene.mixed.data(), scene.mixed.size(), scene.rim.data(),
+                      scene.rim.size());
+}
+
+}  // namespace
+
+uint32_t bench_next(uint64_t value, const uint64_t* slots, size_t slot_count, const Four* fours, size_t four_count, const Text* texts,
+                    size_t text_count, const uint64_t* list, size_t list_count) {
+  turns->Stop();
+  Answers shown;
+  shown.value = value;
+  shown.slots.assign(slots, slots + slot_count);
+  shown.fours.assign(fours, fours + four_count);
+  shown.texts.assign(texts, texts + text_count);
+  shown.list.assign(list, list + list_count);
+  return turns->Next(shown);
+}
+
+int main(int count, char** words) {
+  if (count < 4) {
+    std::fprintf(stderr, "usage: session PAIRS SECONDS time|instructions [ids]\n");
+    return 2;
+  }
+  Scene scene = MakeScene(std::strtoul(words[1], nullptr, 10));
+  Turns all(scene, std::strtod(words[2], nullptr), std::strcmp(words[3], "instructions") == 0, count > 4);
+  turns = &all;
+  if (!HoldSession(scene)) {
+    std::fprintf(stderr, "bench: ours ended with a fault\n");
+    return 1;
+  }
+  // (the first figure is what an order costs that does nothing)
+  const Figure& nothing = all.figures()[0];
+  for (const Figure& figure : all.figures()) {
+    std::printf("%s\t%zu\t%.1f\t%.1f\n", figure.name.c_str(), figure.count, figure.ours - nothing.ours, figure.s2 - nothing.s2);
+  }
+  std::printf("bytes a pair\t%zu\t%zu\t%zu\n", scene.pair_cells.size(), all.ours_bytes(), all.s2_bytes());
+  return 0;
+}

@@ -1,0 +1,124 @@
+"""What is measured: figures of both sides in one process, whole programs, and instructions."""
+import collections
+import glob
+import os
+import re
+import resource
+import subprocess
+import sys
+import tempfile
+
+import making
+from making import OUT, TOP, say
+
+# A figure of one operation, ours and S2's: nanoseconds, milliseconds, bytes or instructions.
+Figure = collections.namedtuple("Figure", "ours s2")
+MOST_COUNTED = 100_000
+# How often a script's lines are repeated, so that they take long beside a load.
+REPEATS = 5
+SCRIPTS = ("load", "at", "meet 8", "labels 8", "meet 500")
+# The figures of the index have a name of these; the others don't depend on the pairs.
+OF_INDEX = ("adds and build", "build of six tables", "load of a dump", "edit with a query", "point", "8 cells", "500 cells", "bytes a pair")
+
+
+def is_of_index(name):
+    return name.startswith(OF_INDEX)
+
+
+class Measured:
+    """What was measured, by the name of each figure and the number of pairs."""
+
+    def __init__(self, sizes):
+        self.sizes = sizes
+        self.times, self.programs, self.instructions = {}, {}, {}
+
+    def measure_sessions(self, seconds):
+        for size in self.sizes:
+            say(f"measuring {size:,} pairs in one process")
+            with_ids = ["ids"] if size == self.sizes[0] else []
+            for name, count, ours, s2 in session_lines([f"{OUT}/session", str(size), str(seconds), "time", *with_ids]):
+                self.times[name, size] = Figure(ours / count, s2 / count)
+
+    def measure_programs(self):
+        say("the program: ./s2ix, which is proved and built first if it is missing")
+        making.run([f"{TOP}/s2ix", "--version"], stdout=subprocess.DEVNULL)
+        for size in self.sizes:
+            say(f"measuring whole programs over {size:,} pairs")
+            with tempfile.TemporaryDirectory(prefix="s2ix-bench-") as folder:
+                making.run([f"{OUT}/texts", str(size), folder])
+                for name, figure in program_times(folder).items():
+                    self.programs[name, size] = figure
+
+    def count_instructions(self):
+        for size in self.sizes:
+            if size <= MOST_COUNTED:
+                say(f"counting instructions at {size:,} pairs")
+                with_ids = ["ids"] if size == self.sizes[0] else []
+                for name, figure in instructions([f"{OUT}/session", str(size), "0", "instructions", *with_ids]).items():
+                    self.instructions[name, size] = figure
+
+
+def session_lines(words):
+    """The figures that a session prints: name, operations of an order, and what ours and S2 took for an order."""
+    ran = subprocess.run(words, stdout=subprocess.PIPE, text=True)
+    if ran.returncode:
+        sys.exit("bench: a session failed")
+    for line in ran.stdout.splitlines():
+        name, count, ours, s2 = line.split("\t")
+        if name != "nothing":
+            yield name, int(count), float(ours), float(s2)
+
+
+def commands(folder):
+    return [f"{TOP}/crates/s2ix/out/s2ix", "run", "--load", f"{folder}/dump"], [f"{OUT}/script", f"{folder}/dump"]
+
+
+def of_processor():
+    """The seconds that the processor was at work for the processes that this one has waited for."""
+    used = resource.getrusage(resource.RUSAGE_CHILDREN)
+    return used.ru_utime + used.ru_stime
+
+
+def milliseconds(words, script):
+    before = of_processor()
+    making.run(words, input=script, stdout=subprocess.DEVNULL)
+    return (of_processor() - before) * 1000
+
+
+def answers(words, script):
+    """What a program answers, the lines of each answer in order."""
+    ran = subprocess.run(words, input=script, stdout=subprocess.PIPE, check=True)
+    return [sorted(answer.split(b"\n")) for answer in re.split(rb"(?m)^(?=end )", ran.stdout)]
+
+
+def program_times(folder):
+    """What each script takes beyond the load of the dump, ours and S2's: the least of some runs, in turns."""
+    ours, s2 = commands(folder)
+    least = {}
+    for name in SCRIPTS:
+        with open(f"{folder}/{name}", "rb") as file:
+            script = file.read()
+        if answers(ours, script) != answers(s2, script):
+            sys.exit(f"bench: S2 and ours answer differently: the script {name}")
+        turns = [(milliseconds(ours, script * REPEATS), milliseconds(s2, script * REPEATS)) for _ in range(7)]
+        least[name] = [min(side) for side in zip(*turns)]
+    load = least.pop("load")
+    return {"load": Figure(*load), **{name: Figure(took[0] - load[0], took[1] - load[1]) for name, took in least.items()}}
+
+
+def instructions(words):
+    """What callgrind counts for one operation of each figure, less what an order costs that does nothing."""
+    with tempfile.TemporaryDirectory(prefix="s2ix-bench-") as folder:
+        options = ["--tool=callgrind", "-q", "--instr-atstart=no", f"--callgrind-out-file={folder}/counts"]
+        counts = {name: count for name, count, _, _ in session_lines(["valgrind", *options, *words])}
+        found = {}
+        for path in glob.glob(f"{folder}/counts*"):
+            with open(path, encoding="utf-8", errors="replace") as file:
+                text = file.read()
+            side = re.search(r"^desc: Trigger: Client Request: (\w+)\t(.*)$", text, re.M)
+            total = re.search(r"^(?:summary|totals): (\d+)", text, re.M)
+            if side and total:
+                found[side[2], side[1]] = int(total[1])
+    nothing = [found["nothing", side] for side in ("ours", "S2")]
+    both = {name: [found[name, side] - base for side, base in zip(("ours", "S2"), nothing)] for name in counts if (name, "ours") in found}
+    return {name: Figure(*(number / counts[name] for number in numbers)) for name, numbers in both.items()}

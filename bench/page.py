@@ -1,0 +1,170 @@
+"""What was measured, as tables in Markdown, and the page docs/PERFORMANCE.md."""
+import os
+import platform
+import re
+import subprocess
+
+import making
+from measuring import is_of_index
+
+UNITS = {"adds and build": "a pair", "build of six tables": "a pair", "load of a dump": "a pair", "edit with a query": "an edit", "point": "a point", "8 cells": "a target",
+         "500 cells": "a target"}
+
+
+def digits(number):
+    """A number with three digits that count."""
+    return f"{number:,.0f}" if number >= 100 else f"{number:.1f}" if number >= 10 else f"{number:.2f}"
+
+
+def ratio(figure):
+    return f"{figure.ours / figure.s2:.3f}" if figure.ours < figure.s2 / 10 else f"{figure.ours / figure.s2:.2f}"
+
+
+def cell(figure):
+    """A cell of a table: the ratio, bold if S2 is ahead, and what it is made of."""
+    told = ratio(figure) if figure.ours <= figure.s2 else f"**{ratio(figure)}**"
+    return f"{told} ({digits(figure.ours)} : {digits(figure.s2)})"
+
+
+def names_of(figures, wanted=lambda name: True):
+    """The names of figures, each once, in the order in which they were measured."""
+    return [name for name in dict.fromkeys(name for name, _ in figures) if wanted(name)]
+
+
+def table_of(figures, names, sizes, head):
+    """A table with a row for each name and a column for each number of pairs."""
+    yield f"| {head} | {' | '.join(f'{size:,}' for size in sizes)} |"
+    yield f"|---|{'---|' * len(sizes)}"
+    for name in names:
+        cells = [cell(figures[name, size]) if (name, size) in figures else "" for size in sizes]
+        yield f"| {named(name)} | {' | '.join(cells)} |"
+
+
+def named(name):
+    """A figure's name, and what one operation of it is."""
+    unit = next((unit for start, unit in UNITS.items() if name.startswith(start)), "")
+    return f"{name}, {unit}" if unit else name
+
+
+def index_table(measured):
+    return table_of(measured.times, names_of(measured.times, is_of_index), measured.sizes, "ns, ours : S2")
+
+
+def ids_table(measured):
+    size = measured.sizes[0]
+    yield "| ns, ours : S2 | |"
+    yield "|---|---|"
+    for name in names_of(measured.times, lambda name: not is_of_index(name)):
+        yield f"| {name} | {cell(measured.times[name, size])} |"
+
+
+def programs_table(measured):
+    return table_of(measured.programs, names_of(measured.programs), measured.sizes, "ms, ours : S2")
+
+
+def instructions_table(measured):
+    sizes = [size for size in measured.sizes if any(counted == size for _, counted in measured.instructions)]
+    return table_of(measured.instructions, names_of(measured.instructions), sizes, "instructions, ours : S2")
+
+
+def tables(measured):
+    """All tables as one text."""
+    parts = [index_table(measured), ids_table(measured), programs_table(measured)]
+    if measured.instructions:
+        parts.append(instructions_table(measured))
+    return "\n\n".join("\n".join(part) for part in parts)
+
+
+def ahead(measured):
+    """Where S2 is ahead, a line for each figure."""
+    for figures, kind in ((measured.times, ""), (measured.programs, "the program: ")):
+        for name in names_of(figures):
+            where = [f"{size:,} ({ratio(figures[name, size])})" for size in measured.sizes
+                     if (name, size) in figures and figures[name, size].ours > figures[name, size].s2]
+            if where:
+                yield f"- {kind}{name}" + (f": at {', '.join(where)} pairs" if is_of_index(name) or kind else f" {where[0].split()[1]}")
+
+
+def said_by(*words):
+    return subprocess.run(words, capture_output=True, text=True, check=True).stdout
+
+
+def machine():
+    """The processor with its caches, and the memory."""
+    told = said_by("env", "LC_ALL=C", "lscpu")
+    find = lambda name: (re.search(rf"^{name}:\s+(.*)$", told, re.M) or [None, "unknown"])[1]
+    with open("/proc/meminfo", encoding="utf-8") as file:
+        kilobytes = int(re.search(r"MemTotal:\s+(\d+)", file.read())[1])
+    caches = ", ".join(f"{name} {find(name + ' cache').split(' (')[0]}" for name in ("L1d", "L2", "L3"))
+    return f"{find('Model name')}, {os.cpu_count()} processors ({caches} in all), {kilobytes / 2 ** 20:.0f} GB"
+
+
+def system():
+    with open("/etc/os-release", encoding="utf-8") as file:
+        return re.search(r'^PRETTY_NAME="(.*)"', file.read(), re.M)[1] + f", {platform.machine()}"
+
+
+def joined(lines):
+    return "\n".join(lines)
+
+
+def write(measured):
+    """Writes docs/PERFORMANCE.md."""
+    behind = joined(ahead(measured)) or "Nowhere in this run."
+    counted = ""
+    if measured.instructions:
+        counted = "\n".join(["", "## Instructions", "", COUNTED, "", *instructions_table(measured), ""])
+    text = PAGE.format(
+        machine=machine(), system=system(), s2=making.version_of("libs2-dev"), compiler=said_by("g++", "--version").splitlines()[0],
+        index=joined(index_table(measured)), ids=joined(ids_table(measured)), programs=joined(programs_table(measured)),
+        ahead=behind, counted=counted)
+    with open(f"{making.TOP}/docs/PERFORMANCE.md", "w", encoding="utf-8") as file:
+        file.write(text)
+
+
+COUNTED = """Counted by callgrind for one operation, less what an order costs that does nothing. Ratios far from those of the time show where
+memory is waited for."""
+
+PAGE = """# Beside S2
+
+`bench/run --page` wrote this page. It measures this index and Google's S2 in one process, over the same pairs and targets, and compares
+what they answer. Run it on your own machine: it sets itself up, and says what it does.
+
+- The machine: {machine}; {system}.
+- S2: Debian's `libs2-dev` {s2}, as Debian builds it; the bench's own C++ with `-O2` by {compiler}.
+- Ours: a static library that the toolchain builds as it builds the program.
+
+A cell has the ratio of ours to S2's, and what it is made of, ours : S2's. Below 1 ours is ahead; bold is S2. Each number is the least of many
+turns, in which S2 and ours take turns.
+
+## Where S2 is ahead
+
+{ahead}
+
+## The index
+
+{index}
+
+The pairs are nested delivery zones: each shop has three, of 1, 5 and 5 cells of the levels 11, 13 and 15, under a label of its own, and shops
+lie in towns on all six faces. Points lie in zones, targets of 8 and 500 cells in towns.
+
+- *Adds and build*: pairs in no order become a store with its six tables; S2's `Add` for each and `Build`.
+- *Load*: a dump read from memory into a store; a plain reader that tests nothing, and `Build`.
+- *Edit with a query*: a pair is removed from a store or added to it, and a point asked. S2 has no edits: its index is built again.
+- *Point*: `chain_at`, beside a `RangeIterator` and a `ContentsIterator`; `visit`, beside `VisitIntersectingCells`.
+- *Labels*: `labels`, which rise, beside `GetIntersectingLabels`, a hash set.
+- *Bytes*: what the allocator gave for bag and table of a store, which can be edited, beside S2's index.
+
+## Single cells and unions
+
+{ids}
+
+A list of 4,096 cells each: of all levels, leaves, and cells at the rims of faces. Unions are of two shapes of 1,000 cells each over one region.
+
+## Whole programs
+
+{programs}
+
+`s2ix run --load DUMP` beside a small C++ program over S2 that reads the same dump and script and tests neither. *Load* is a run with an empty
+script; the others are what their scripts take beyond it: 100,000 points, 20,000 targets of 8 cells, 500 of 500.
+{counted}"""
