@@ -116,7 +116,7 @@ def instructions(words):
             with open(path, encoding="utf-8", errors="replace") as file:
                 text = file.read()
             side = re.search(r"^desc: Trigger: Client Request: (\w+)\t(.*)$", text, re.M)
-            total = re.search(r"^(?:summary|totals): (\d+)", text, re.M)
+            total = re.search(r"^totals: (\d+)", text, re.M)
             if side and total:
                 found[side[2], side[1]] = int(total[1])
     nothing = [found["nothing", side] for side in ("ours", "S2")]

@@ -77,12 +77,13 @@ def tables(measured):
 
 def ahead(measured):
     """Where S2 is ahead, a line for each figure."""
-    for figures, kind in ((measured.times, ""), (measured.programs, "the program: ")):
+    for figures, start in ((measured.times, ""), (measured.programs, "the program, ")):
         for name in names_of(figures):
-            where = [f"{size:,} ({ratio(figures[name, size])})" for size in measured.sizes
-                     if (name, size) in figures and figures[name, size].ours > figures[name, size].s2]
-            if where:
-                yield f"- {kind}{name}" + (f": at {', '.join(where)} pairs" if is_of_index(name) or kind else f" {where[0].split()[1]}")
+            behind = [size for size in measured.sizes if (name, size) in figures and figures[name, size].ours > figures[name, size].s2]
+            by_size = bool(start) or is_of_index(name)
+            told = [ratio(figures[name, size]) + (f" at {size:,}" if by_size else "") for size in behind]
+            if told:
+                yield f"- {start}{name}: {', '.join(told)}{' pairs' if by_size else ''}"
 
 
 def said_by(*words):
@@ -134,8 +135,8 @@ what they answer. Run it on your own machine: it sets itself up, and says what i
 - S2: Debian's `libs2-dev` {s2}, as Debian builds it; the bench's own C++ with `-O2` by {compiler}.
 - Ours: a static library that the toolchain builds as it builds the program.
 
-A cell has the ratio of ours to S2's, and what it is made of, ours : S2's. Below 1 ours is ahead; bold is S2. Each number is the least of many
-turns, in which S2 and ours take turns.
+A cell has the ratio of ours to S2's, and what it is made of, ours : S2's. Below 1 ours is ahead; a bold ratio is above 1. Times are of the
+processor, and each is the least of many turns that S2 and ours take one behind the other.
 
 ## Where S2 is ahead
 
@@ -149,6 +150,7 @@ The pairs are nested delivery zones: each shop has three, of 1, 5 and 5 cells of
 lie in towns on all six faces. Points lie in zones, targets of 8 and 500 cells in towns.
 
 - *Adds and build*: pairs in no order become a store with its six tables; S2's `Add` for each and `Build`.
+- *Build of six tables*: of a bag that is there, beside the same of S2.
 - *Load*: a dump read from memory into a store; a plain reader that tests nothing, and `Build`.
 - *Edit with a query*: a pair is removed from a store or added to it, and a point asked. S2 has no edits: its index is built again.
 - *Point*: `chain_at`, beside a `RangeIterator` and a `ContentsIterator`; `visit`, beside `VisitIntersectingCells`.
@@ -166,5 +168,6 @@ A list of 4,096 cells each: of all levels, leaves, and cells at the rims of face
 {programs}
 
 `s2ix run --load DUMP` beside a small C++ program over S2 that reads the same dump and script and tests neither. *Load* is a run with an empty
-script; the others are what their scripts take beyond it: 100,000 points, 20,000 targets of 8 cells, 500 of 500.
+script, and at few pairs mostly the start of a process with S2's shared libraries. The others are what their scripts take beyond it: 100,000
+points, 20,000 targets of 8 cells, 500 of 500.
 {counted}"""

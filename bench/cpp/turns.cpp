@@ -85,23 +85,24 @@ void Turns::AddFigures(const Scene& scene, bool has_ids) {
   figures_.insert(figures_.end(), more.begin(), more.end());
 }
 
-bool Turns::Counts() const { return is_prepared_ && counts_instructions_ && !IsListing(); }
+bool Turns::Counts() const { return counts_instructions_ && !IsListing(); }
 
 void Turns::Stop() {
   stopped_ = Nanoseconds();
-  if (!Counts()) return;
-  CALLGRIND_DUMP_STATS_AT(("ours\t" + figures_[at_].name).c_str());
+  if (asked_ < 2 || !Counts()) return;
+  std::string name = "ours\t" + figures_[at_].name;
+  CALLGRIND_DUMP_STATS_AT(name.c_str());
   CALLGRIND_STOP_INSTRUMENTATION;
 }
 
 uint32_t Turns::Next(const Answers& shown) {
-  if (is_prepared_) {
-    Finish(shown);
-  } else {
+  ++asked_;
+  if (asked_ == 1) {
     ours_bytes_ = AllocatedBytes() - before_;
     s2_.Prepare();
-    is_prepared_ = true;
+    return kNothing;
   }
+  if (asked_ > 2) Finish(shown);
   return Begin();
 }
 
@@ -126,7 +127,8 @@ uint32_t Turns::Begin() {
   double start = Nanoseconds();
   s2_.CarryOut(order);
   double took = Nanoseconds() - start;
-  if (Counts()) CALLGRIND_DUMP_STATS_AT(("S2\t" + figure.name).c_str());
+  std::string name = "S2\t" + figure.name;
+  if (Counts()) CALLGRIND_DUMP_STATS_AT(name.c_str());
   if (!IsListing()) figure.s2 = figure.s2 == 0 ? took : std::min(figure.s2, took);
   spent_ += took / 1e9;
   started_ = Nanoseconds();

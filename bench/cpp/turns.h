@@ -29,7 +29,8 @@ class Turns {
   // Ends ours' turn.
   void Stop();
 
-  // The first time, ours has made its store. Then it has carried out an order, which is compared. Gives the next one, behind S2's turn.
+  // Gives the next order, behind S2's turn, and compares what the last one answered. When it is asked first, ours has made its store, and
+  // doesn't look at the answer; then ours has made its lists.
   uint32_t Next(const Answers& shown);
 
   const std::vector<Figure>& figures() const { return figures_; }
@@ -52,7 +53,8 @@ class Turns {
   bool counts_instructions_;
   size_t before_, s2_bytes_, ours_bytes_ = 0;
   S2Side s2_;
-  bool is_prepared_ = false;
+  // How often `Next` was asked.
+  size_t asked_ = 0;
   // The figure that is measured, how many turns it has had, and the seconds that they took.
   size_t at_ = 0, turns_ = 0;
   double spent_ = 0;
