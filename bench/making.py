@@ -1,4 +1,4 @@
-"""What the bench needs, made where it is missing or older than its sources: Debian's packages, the static library of ours, and the programs.
+"""What the bench needs, made if it is missing or older than its sources: Debian's packages, the static library of ours, and programs.
 
 All that is made lies in bench/out, which git ignores."""
 import os
@@ -78,7 +78,8 @@ def build_ours(folder, crates):
     words = [f"{kit()}/bin/rattle", "build", "--crate-name", "ours", "--crate-type", "staticlib", "--backend", "llvm"]
     # (what was proved of the bench's crate is kept, for when the crates below change)
     words += ["--jobs", str(len(os.sched_getaffinity(0))), "--incremental", f"{OUT}/incremental"]
-    words += ["--antt-project", f"{kit()}/rattle/logic/antt-project.json", "--logic-built", f"{kit()}/logic_built", "--toolchain", f"{kit()}/toolchain"]
+    words += ["--antt-project", f"{kit()}/rattle/logic/antt-project.json", "--logic-built", f"{kit()}/logic_built"]
+    words += ["--toolchain", f"{kit()}/toolchain"]
     words += ["--extern", f"std={kit()}/rlibs/std.rlib", "-L", f"dependency={kit()}/rlibs"]
     for rlib in rlibs.values():
         words += ["-L", f"dependency={rlib}"]

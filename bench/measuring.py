@@ -16,7 +16,7 @@ Figure = collections.namedtuple("Figure", "ours s2")
 MOST_COUNTED = 100_000
 # How often a script's lines are repeated, so that they take long beside a load.
 REPEATS = 5
-SCRIPTS = ("load", "at", "meet 8", "labels 8", "meet 500")
+SCRIPTS = ("load", "at", "meet 8", "labels 8", "meet 8 apart", "labels 8 apart", "meet 500", "meet 500 apart")
 # The figures of the index have a name of these; the others don't depend on the pairs.
 OF_INDEX = ("adds and build", "build of six tables", "load of a dump", "edit with a query", "point", "8 cells", "500 cells", "bytes a pair")
 

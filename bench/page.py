@@ -7,8 +7,8 @@ import subprocess
 import making
 from measuring import is_of_index
 
-UNITS = {"adds and build": "a pair", "build of six tables": "a pair", "load of a dump": "a pair", "edit with a query": "an edit", "point": "a point", "8 cells": "a target",
-         "500 cells": "a target"}
+UNITS = {"adds and build": "a pair", "build of six tables": "a pair", "load of a dump": "a pair", "edit with a query": "an edit",
+         "point": "a point", "8 cells": "a target", "500 cells": "a target"}
 
 
 def digits(number):
@@ -123,8 +123,8 @@ def write(measured):
         file.write(text)
 
 
-COUNTED = """Counted by callgrind for one operation, less what an order costs that does nothing. Ratios far from those of the time show where
-memory is waited for."""
+COUNTED = """Counted by callgrind for one operation, less what an order costs that does nothing. A ratio far below that of the time shows
+that memory is waited for."""
 
 PAGE = """# Beside S2
 
@@ -146,8 +146,9 @@ processor, and each is the least of many turns that S2 and ours take one behind 
 
 {index}
 
-The pairs are nested delivery zones: each shop has three, of 1, 5 and 5 cells of the levels 11, 13 and 15, under a label of its own, and shops
-lie in towns on all six faces. Points lie in zones, targets of 8 and 500 cells in towns.
+The pairs are nested delivery zones: each shop has three, of 1, 5 and 5 cells of the levels 11, 13 and 15, under a label of its own, and
+shops lie in towns on all six faces. Points lie in zones. A target of 8 or of 500 cells lies in one town, or, *apart*, in zones all over the
+world.
 
 - *Adds and build*: pairs in no order become a store with its six tables; S2's `Add` for each and `Build`.
 - *Build of six tables*: of a bag that is there, beside the same of S2.
@@ -161,13 +162,14 @@ lie in towns on all six faces. Points lie in zones, targets of 8 and 500 cells i
 
 {ids}
 
-A list of 4,096 cells each: of all levels, leaves, and cells at the rims of faces. Unions are of two shapes of 1,000 cells each over one region.
+A list of 4,096 cells each: of all levels, leaves, and cells at the rims of faces. Unions are of two shapes of 1,000 cells each over one
+region.
 
 ## Whole programs
 
 {programs}
 
-`s2ix run --load DUMP` beside a small C++ program over S2 that reads the same dump and script and tests neither. *Load* is a run with an empty
-script, and at few pairs mostly the start of a process with S2's shared libraries. The others are what their scripts take beyond it: 100,000
-points, 20,000 targets of 8 cells, 500 of 500.
+`s2ix run --load DUMP` beside a small C++ program over S2 that reads the same dump and script and tests neither. *Load* is a run with an
+empty script, and at few pairs mostly the start of a process with S2's shared libraries. The others are what their scripts take beyond it:
+100,000 points, 20,000 targets of 8 cells, 500 of 500.
 {counted}"""

@@ -3,6 +3,7 @@
 #define BENCH_ANSWERS_H_
 
 #include <array>
+#include <cstddef>
 #include <cstdint>
 #include <vector>
 
@@ -17,6 +18,21 @@ struct Answers {
   std::vector<Text> texts;
   // For each target how many answers there are, and then these.
   std::vector<uint64_t> list;
+};
+
+template <typename T>
+struct Slice {
+  const T* at;
+  size_t count;
+};
+
+// The same where it lies in memory of ours.
+struct Shown {
+  uint64_t value;
+  Slice<uint64_t> slots;
+  Slice<Four> fours;
+  Slice<Text> texts;
+  Slice<uint64_t> list;
 };
 
 #endif

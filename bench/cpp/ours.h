@@ -9,8 +9,8 @@
 
 extern "C" {
 
-// Gives the next order, and is shown what the last one answered: a sum, slots, slots of four, texts and a list. The bench defines it, and ours
-// calls it.
+// Gives the next order, and is shown what the last one answered: a sum, slots, slots of four, texts and a list. The bench defines it, and
+// ours calls it.
 uint32_t bench_next(uint64_t value, const uint64_t* slots, size_t slot_count, const Four* fours, size_t four_count, const Text* texts,
                     size_t text_count, const uint64_t* list, size_t list_count);
 
@@ -19,6 +19,7 @@ bool ours_session(const uint64_t* pair_cells, size_t pair_cell_count, const uint
                   const uint64_t* edited_cells, size_t edited_cell_count, const uint32_t* edited_labels,
                   size_t edited_label_count, const uint8_t* text, size_t text_count, const uint64_t* leaves,
                   size_t leaf_count, const uint64_t* few, size_t few_count, const uint64_t* many, size_t many_count,
+                  const uint64_t* few_apart, size_t few_apart_count, const uint64_t* many_apart, size_t many_apart_count,
                   const uint64_t* shapes, size_t shape_count, const uint64_t* mixed, size_t mixed_count,
                   const uint64_t* rim, size_t rim_count);
 }

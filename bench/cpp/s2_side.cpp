@@ -84,6 +84,8 @@ void S2Side::Prepare() {
   points_ = UnionsOf(scene_.leaves, 1);
   few_ = UnionsOf(scene_.few, kFewCells);
   many_ = UnionsOf(scene_.many, kManyCells);
+  few_apart_ = UnionsOf(scene_.few_apart, kFewCells);
+  many_apart_ = UnionsOf(scene_.many_apart, kManyCells);
   shapes_ = UnionsOf(scene_.shapes, kShapeCells);
   shape_cells_ = PartsOf(scene_.shapes, kShapeCells);
   leaves_ = CellsOf(scene_.leaves);
@@ -126,6 +128,10 @@ uint64_t S2Side::OverIndex(uint32_t order) {
     case kFewLabels: return LabelSums(few_);
     case kManyVisit: return VisitSums(many_);
     case kManyLabels: return LabelSums(many_);
+    case kFewApartVisit: return VisitSums(few_apart_);
+    case kFewApartLabels: return LabelSums(few_apart_);
+    case kManyApartVisit: return VisitSums(many_apart_);
+    case kManyApartLabels: return LabelSums(many_apart_);
     default: return 0;
   }
 }
@@ -267,6 +273,10 @@ void S2Side::List(uint32_t order) {
     case kFewLabels: return ListLabels(few_);
     case kManyVisit: return ListMet(many_);
     case kManyLabels: return ListLabels(many_);
+    case kFewApartVisit: return ListMet(few_apart_);
+    case kFewApartLabels: return ListLabels(few_apart_);
+    case kManyApartVisit: return ListMet(many_apart_);
+    case kManyApartLabels: return ListLabels(many_apart_);
   }
   size_t step = order == kNormalise ? 1 : 2;
   for (size_t k = 0; k + step <= shapes_.size(); k += step) {

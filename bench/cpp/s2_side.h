@@ -53,7 +53,7 @@ class S2Side {
   const Scene& scene_;
   std::unique_ptr<S2CellIndex> index_;
   std::vector<S2CellIndex::LabelledCell> pairs_, edited_;
-  std::vector<S2CellUnion> points_, few_, many_, shapes_;
+  std::vector<S2CellUnion> points_, few_, many_, few_apart_, many_apart_, shapes_;
   std::vector<std::vector<S2CellId>> shape_cells_;
   std::vector<S2CellId> leaves_, mixed_, rim_;
   std::vector<std::string> tokens_;

@@ -86,17 +86,19 @@ void AddCells(std::vector<uint64_t>& cells, Random& random, S2CellId within, siz
   for (size_t k = 0; k < number; ++k) cells.push_back(random.Within(within, random.Between(least, most)).id());
 }
 
+S2CellId AnyZone(const Scene& scene, Random& random) {
+  return S2CellId(scene.pair_cells[random.Below(scene.pair_cells.size())]);
+}
+
 void AddTargets(Scene& scene, Random& random, const std::vector<S2CellId>& towns) {
-  for (size_t k = 0; k < kPoints; ++k) {
-    S2CellId zone(scene.pair_cells[random.Below(scene.pair_cells.size())]);
-    scene.leaves.push_back(random.Within(zone, 30).id());
-  }
+  for (size_t k = 0; k < kPoints; ++k) scene.leaves.push_back(random.Within(AnyZone(scene, random), 30).id());
   for (size_t k = 0; k < kFewTargets; ++k) {
-    S2CellId zone(scene.pair_cells[random.Below(scene.pair_cells.size())]);
-    AddCells(scene.few, random, zone.parent(11), kFewCells, 12, 16);
+    AddCells(scene.few, random, AnyZone(scene, random).parent(11), kFewCells, 12, 16);
+    for (size_t n = 0; n < kFewCells; ++n) AddCells(scene.few_apart, random, AnyZone(scene, random), 1, 15, 18);
   }
   for (size_t k = 0; k < kManyTargets; ++k) {
     AddCells(scene.many, random, towns[random.Below(towns.size())], kManyCells, 13, 18);
+    for (size_t n = 0; n < kManyCells; ++n) AddCells(scene.many_apart, random, AnyZone(scene, random), 1, 15, 18);
   }
   for (size_t k = 0; k < kShapes; k += 2) {
     AddCells(scene.shapes, random, random.Leaf().parent(8), 2 * kShapeCells, 12, 16);

@@ -16,9 +16,9 @@ struct Scene {
   std::vector<uint32_t> edited_labels;
   // The dump of the pairs.
   std::string dump;
-  // Points as leaves; targets of kFewCells and of kManyCells cells, one behind the other; shapes of kShapeCells cells, two after two over
-  // one region.
-  std::vector<uint64_t> leaves, few, many, shapes;
+  // Points as leaves; targets of kFewCells and of kManyCells cells, one behind the other, in one town each or far apart; shapes of
+  // kShapeCells cells, two after two over one region.
+  std::vector<uint64_t> leaves, few, many, few_apart, many_apart, shapes;
   // Cells of all levels, many of which contain the one behind them, and cells at the rims of faces.
   std::vector<uint64_t> mixed, rim;
 };

@@ -1,5 +1,5 @@
-// A bench of one size: session PAIRS SECONDS time|instructions [ids]. A line for each figure: its name, how many operations an order has, and
-// the nanoseconds of the processor that ours and S2 took for an order, the least of many; then the bytes that either has.
+// A bench of one size: session PAIRS SECONDS time|instructions [ids]. A line for each figure: its name, how many operations an order has,
+// and the nanoseconds of the processor that ours and S2 took for an order, the least of many; then the bytes that either has.
 #include <cstdio>
 #include <cstdlib>
 #include <cstring>
@@ -17,6 +17,7 @@ bool HoldSession(const Scene& scene) {
                       scene.edited_cells.data(), scene.edited_cells.size(), scene.edited_labels.data(), scene.edited_labels.size(),
                       reinterpret_cast<const uint8_t*>(scene.dump.data()), scene.dump.size(), scene.leaves.data(),
                       scene.leaves.size(), scene.few.data(), scene.few.size(), scene.many.data(), scene.many.size(),
+                      scene.few_apart.data(), scene.few_apart.size(), scene.many_apart.data(), scene.many_apart.size(),
                       scene.shapes.data(), scene.shapes.size(), scene.mixed.data(), scene.mixed.size(), scene.rim.data(),
                       scene.rim.size());
 }
@@ -26,13 +27,7 @@ bool HoldSession(const Scene& scene) {
 uint32_t bench_next(uint64_t value, const uint64_t* slots, size_t slot_count, const Four* fours, size_t four_count, const Text* texts,
                     size_t text_count, const uint64_t* list, size_t list_count) {
   turns->Stop();
-  Answers shown;
-  shown.value = value;
-  shown.slots.assign(slots, slots + slot_count);
-  shown.fours.assign(fours, fours + four_count);
-  shown.texts.assign(texts, texts + text_count);
-  shown.list.assign(list, list + list_count);
-  return turns->Next(shown);
+  return turns->Next({value, {slots, slot_count}, {fours, four_count}, {texts, text_count}, {list, list_count}});
 }
 
 int main(int count, char** words) {

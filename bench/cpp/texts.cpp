@@ -38,6 +38,9 @@ int main(int count, char** words) {
   Write(folder + "/at", Script("at", scene.leaves, 1));
   Write(folder + "/meet 8", Script("meet", scene.few, kFewCells));
   Write(folder + "/labels 8", Script("labels", scene.few, kFewCells));
+  Write(folder + "/meet 8 apart", Script("meet", scene.few_apart, kFewCells));
+  Write(folder + "/labels 8 apart", Script("labels", scene.few_apart, kFewCells));
   Write(folder + "/meet 500", Script("meet", scene.many, kManyCells));
+  Write(folder + "/meet 500 apart", Script("meet", scene.many_apart, kManyCells));
   return 0;
 }

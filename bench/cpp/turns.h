@@ -31,7 +31,7 @@ class Turns {
 
   // Gives the next order, behind S2's turn, and compares what the last one answered. When it is asked first, ours has made its store, and
   // doesn't look at the answer; then ours has made its lists.
-  uint32_t Next(const Answers& shown);
+  uint32_t Next(const Shown& shown);
 
   const std::vector<Figure>& figures() const { return figures_; }
 
@@ -41,12 +41,12 @@ class Turns {
 
  private:
   void AddFigures(const Scene& scene, bool has_ids);
-  void Finish(const Answers& shown);
+  void Finish(const Shown& shown);
   uint32_t Begin();
   bool IsOver() const;
   bool IsListing() const;
   bool Counts() const;
-  void Compare(const Answers& shown) const;
+  void Compare(const Shown& shown) const;
 
   std::vector<Figure> figures_;
   double seconds_;
