@@ -56,7 +56,7 @@ def install_packages():
     say(f"installing {', '.join(missing)} by apt-get")
     as_root = [] if os.geteuid() == 0 else ["sudo"]
     for words in (["update"], ["install", "-y", "--no-install-recommends", *missing]):
-        run([*as_root, "apt-get", "-q", *words], stdout=subprocess.DEVNULL)
+        run([*as_root, "apt-get", "-q", *words], stdin=subprocess.DEVNULL, stdout=subprocess.DEVNULL)
 
 
 def lay_ours(folder):
@@ -126,6 +126,8 @@ def make_programs():
 
 
 def make_all():
+    if not shutil.which("rt"):
+        sys.exit("bench: there is no rt on the path: README says which toolchain it is of")
     os.makedirs(OUT, exist_ok=True)
     install_packages()
     make_library()

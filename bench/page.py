@@ -131,9 +131,10 @@ PAGE = """# Beside S2
 `bench/run --page` wrote this page. It measures this index and Google's S2 in one process, over the same pairs and targets, and compares
 what they answer. Run it on your own machine: it sets itself up, and says what it does.
 
-- The machine: {machine}; {system}.
+- The machine: {machine}.
+- The system: {system}.
 - S2: Debian's `libs2-dev` {s2}, as Debian builds it; the bench's own C++ with `-O2` by {compiler}.
-- Ours: a static library that the toolchain builds as it builds the program.
+- Ours: a static library that the toolchain builds as it builds the program, by LLVM with `-O3`.
 
 A cell has the ratio of ours to S2's, and what it is made of, ours : S2's. Below 1 ours is ahead; a bold ratio is above 1. Times are of the
 processor, and each is the least of many turns that S2 and ours take one behind the other.

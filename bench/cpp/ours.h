@@ -10,7 +10,7 @@
 extern "C" {
 
 // Gives the next order, and is shown what the last one answered: a sum, slots, slots of four, texts and a list. The bench defines it, and
-// ours calls it.
+// ours calls it by this name, since the toolchain gives no contract to an export that takes a function pointer.
 uint32_t bench_next(uint64_t value, const uint64_t* slots, size_t slot_count, const Four* fours, size_t four_count, const Text* texts,
                     size_t text_count, const uint64_t* list, size_t list_count);
 
