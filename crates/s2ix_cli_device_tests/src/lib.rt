@@ -1,12 +1,9 @@
-//! Tests of runs over devices that fail, that never end, and whose pieces end anywhere; and of what is done with whole files.
+//! Tests of runs over devices that fail, that never end, and whose pieces end anywhere.
 //!
-//! In `refused_run_tests`, `refused_words_tests` and `refused_text_tests` each growth is refused in turn: `tests/hostile` runs each test
-//! there once for each growth that it asks for. The call tells so and has changed nothing, or, for a run, has a store as of the lines that
-//! it carried out; made again, or gone on with, it answers as it does with memory.
+//! In `refused_run_tests` each growth is refused in turn: `tests/hostile` runs each test there once for each growth that it asks for. The
+//! run tells so, and its store is as of the lines that it carried out; gone on with, it answers as it does with memory.
 #![tactic(auto)]
 
-#[cfg(test)]
-mod check_tests;
 #[cfg(test)]
 mod endless_tests;
 #[cfg(test)]
@@ -16,10 +13,6 @@ mod flush_fault;
 #[cfg(test)]
 mod history_fault_tests;
 #[cfg(test)]
-mod load_tests;
-#[cfg(test)]
-mod load_text_tests;
-#[cfg(test)]
 mod piece_tests;
 #[cfg(test)]
 mod random_pieces;
@@ -27,11 +20,5 @@ mod random_pieces;
 mod random_tests;
 #[cfg(test)]
 mod refused_run_tests;
-#[cfg(test)]
-mod refused_text_tests;
-#[cfg(test)]
-mod refused_words_tests;
-#[cfg(test)]
-mod replay_tests;
 #[cfg(test)]
 mod stores;
