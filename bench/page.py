@@ -93,7 +93,10 @@ def said_by(*words):
 def machine():
     """The processor with its caches, and the memory."""
     told = said_by("env", "LC_ALL=C", "lscpu")
-    find = lambda name: (re.search(rf"^{name}:\s+(.*)$", told, re.M) or [None, "unknown"])[1]
+
+    def find(name):
+        return (re.search(rf"^{name}:\s+(.*)$", told, re.M) or [None, "unknown"])[1]
+
     with open("/proc/meminfo", encoding="utf-8") as file:
         kilobytes = int(re.search(r"MemTotal:\s+(\d+)", file.read())[1])
     caches = ", ".join(f"{name} {find(name + ' cache').split(' (')[0]}" for name in ("L1d", "L2", "L3"))
@@ -133,11 +136,12 @@ what they answer. Run it on your own machine: it sets itself up, and says what i
 
 - The machine: {machine}.
 - The system: {system}.
-- S2: Debian's `libs2-dev` {s2}, as Debian builds it; the bench's own C++ with `-O2` by {compiler}.
+- S2: Debian's `libs2-dev` {s2}. Debian's library has S2's checks for debugging in it (`S2_DCHECK`), so `S2CellId`, `S2CellUnion` and
+  `S2CellIndex` are compiled from Debian's source, as the bench's own C++ is: with `-O2 -DNDEBUG` by {compiler}.
 - Ours: a static library that the toolchain builds as it builds the program, by LLVM with `-O3`.
 
-A cell has the ratio of ours to S2's, and what it is made of, ours : S2's. Below 1 ours is ahead; a bold ratio is above 1. Times are of the
-processor, and each is the least of many turns that S2 and ours take one behind the other.
+The tables give the ratio of ours to S2's, and both figures behind it, ours : S2's. Below 1 ours is ahead; a bold ratio is above 1. Times
+are of the processor, and each is the least of many turns that S2 and ours take one behind the other.
 
 ## Where S2 is ahead
 
@@ -151,12 +155,12 @@ The pairs are nested delivery zones: each shop has three, of 1, 5 and 5 cells of
 shops lie in towns on all six faces. Points lie in zones. A target of 8 or of 500 cells lies in one town, or, *apart*, in zones all over the
 world.
 
-- *Adds and build*: pairs in no order become a store with its six tables; S2's `Add` for each and `Build`.
-- *Build of six tables*: of a bag that is there, beside the same of S2.
-- *Load*: a dump read from memory into a store; a plain reader that tests nothing, and `Build`.
+- *Adds and build*: pairs in no order become a store with its six tables, beside S2's `Add` for each pair and `Build`.
+- *Build of six tables*: a bag, whose pairs are sorted already, gets its tables, beside the same `Add` and `Build`, which sorts.
+- *Load*: a dump is read from memory into a store, beside a plain reader that tests nothing, and `Build`.
 - *Edit with a query*: a pair is removed from a store or added to it, and a point asked. S2 has no edits: its index is built again.
 - *Point*: `chain_at`, beside a `RangeIterator` and a `ContentsIterator`; `visit`, beside `VisitIntersectingCells`.
-- *Labels*: `labels`, which rise, beside `GetIntersectingLabels`, a hash set.
+- *Labels*: `labels`, a new rising list, beside the `GetIntersectingLabels` that returns a new hash set.
 - *Bytes*: what the allocator gave for bag and table of a store, which can be edited, beside S2's index.
 
 ## Single cells and unions

@@ -5,6 +5,8 @@
 #include <cstring>
 #include <utility>
 
+#include "read_dump.h"
+
 namespace {
 
 using Pairs = std::vector<S2CellIndex::LabelledCell>;
@@ -37,6 +39,15 @@ std::vector<S2CellUnion> UnionsOf(const std::vector<uint64_t>& numbers, size_t s
   return unions;
 }
 
+// Makes an index that of some pairs, without one of them if that is named. An index that is used again keeps its room.
+void Fill(S2CellIndex& index, const Pairs& pairs, const S2CellIndex::LabelledCell* without = nullptr) {
+  index.Clear();
+  for (const auto& pair : pairs) {
+    if (without == nullptr || !(pair == *without)) index.Add(pair.cell_id, pair.label);
+  }
+  index.Build();
+}
+
 std::unique_ptr<S2CellIndex> Built(const Pairs& pairs) {
   auto index = std::make_unique<S2CellIndex>();
   for (const auto& pair : pairs) index->Add(pair.cell_id, pair.label);
@@ -44,20 +55,9 @@ std::unique_ptr<S2CellIndex> Built(const Pairs& pairs) {
   return index;
 }
 
-// The index of a dump. Its lines are taken as they should be.
 std::unique_ptr<S2CellIndex> Loaded(const std::string& dump) {
   auto index = std::make_unique<S2CellIndex>();
-  const char* line = std::strchr(dump.c_str(), '\n') + 1;
-  while (std::strncmp(line, "end", 3) != 0) {
-    const char* space = std::strchr(line, ' ');
-    char* behind;
-    long label = std::strtol(space + 1, &behind, 10);
-    long copies = std::strtol(behind, &behind, 10);
-    S2CellId cell = S2CellId::FromToken({line, static_cast<size_t>(space - line)});
-    for (long k = 0; k < copies; ++k) index->Add(cell, static_cast<int>(label));
-    line = behind + 1;
-  }
-  index->Build();
+  ReadDump(dump, *index);
   return index;
 }
 
@@ -136,18 +136,16 @@ uint64_t S2Side::OverIndex(uint32_t order) {
   }
 }
 
-// S2 has no edits: the index is built again without the pair, and with it.
+// S2 has no edits: one index is cleared and built again without the pair, and then with it.
 uint64_t S2Side::EditEach() const {
   uint64_t sum = 0;
+  S2CellIndex index;
   for (const auto& edited : edited_) {
     S2CellId leaf = edited.cell_id.range_min();
-    S2CellIndex without;
-    for (const auto& pair : pairs_) {
-      if (!(pair == edited)) without.Add(pair.cell_id, pair.label);
-    }
-    without.Build();
-    sum += ChainSum(without, leaf);
-    sum += ChainSum(*Built(pairs_), leaf);
+    Fill(index, pairs_, &edited);
+    sum += ChainSum(index, leaf);
+    Fill(index, pairs_);
+    sum += ChainSum(index, leaf);
   }
   return sum;
 }

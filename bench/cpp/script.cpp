@@ -5,10 +5,11 @@
 #include <cstring>
 #include <fstream>
 #include <iostream>
-#include <iterator>
 #include <string>
+#include <utility>
 #include <vector>
 
+#include "read_dump.h"
 #include "s2/s2cell_id.h"
 #include "s2/s2cell_index.h"
 #include "s2/s2cell_union.h"
@@ -51,20 +52,13 @@ class Output {
   std::string text_;
 };
 
-void Load(const char* path, S2CellIndex& index) {
-  std::ifstream file(path, std::ios::binary);
-  std::string dump((std::istreambuf_iterator<char>(file)), std::istreambuf_iterator<char>());
-  const char* line = std::strchr(dump.c_str(), '\n') + 1;
-  while (std::strncmp(line, "end", 3) != 0) {
-    const char* space = std::strchr(line, ' ');
-    char* behind;
-    long label = std::strtol(space + 1, &behind, 10);
-    long copies = std::strtol(behind, &behind, 10);
-    S2CellId cell = S2CellId::FromToken({line, static_cast<size_t>(space - line)});
-    for (long k = 0; k < copies; ++k) index.Add(cell, static_cast<int>(label));
-    line = behind + 1;
-  }
-  index.Build();
+// A file whole, by one read.
+std::string TextOf(const char* path) {
+  std::ifstream file(path, std::ios::binary | std::ios::ate);
+  std::string text(static_cast<size_t>(file.tellg()), '\0');
+  file.seekg(0);
+  file.read(text.data(), static_cast<std::streamsize>(text.size()));
+  return text;
 }
 
 std::vector<S2CellId> CellsOf(const char* fields) {
@@ -123,7 +117,7 @@ int main(int count, char** words) {
   }
   std::ios::sync_with_stdio(false);
   S2CellIndex index;
-  Load(words[1], index);
+  ReadDump(TextOf(words[1]), index);
   Output output;
   std::string line;
   while (std::getline(std::cin, line)) Answer(index, line, output);
