@@ -99,8 +99,8 @@ def machine():
 
     with open("/proc/meminfo", encoding="utf-8") as file:
         kilobytes = int(re.search(r"MemTotal:\s+(\d+)", file.read())[1])
-    caches = ", ".join(f"{name} {find(name + ' cache').split(' (')[0]}" for name in ("L1d", "L2", "L3"))
-    return f"{find('Model name')}, {os.cpu_count()} processors ({caches} in all), {kilobytes / 2 ** 20:.0f} GB"
+    caches = ", ".join(re.findall(r"^L(?:1d|2|3) cache:\s+([^(\n]*\w)", told, re.M))
+    return f"{find('Model name')}, {os.cpu_count()} processors (caches of {caches} in all), {kilobytes / 2 ** 20:.0f} GB"
 
 
 def system():
