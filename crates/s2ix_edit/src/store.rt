@@ -89,10 +89,10 @@ impl Store {
     }
 
     /// Carries an edit out, and returns how many pairs changed their counts. An accepted edit records the change at the end of `done` and
-    /// empties `undone`; a refused one changes nothing. [`EditError`] says when each refusal stands. If the journal has room, an `Add` or
+    /// empties `undone`; a refused one changes nothing. [`EditError`] says when each refusal is due. If the journal has room, an `Add` or
     /// a `Remove` of no copies, or an `AddUnion` of no cells, is `NoChange` and does not allocate. An edit takes the time of [`plan`], the
-    /// time to free the undone changes, and O(m + p) for the m entries of the change and the p pairs held on their faces: bag and table
-    /// are built again only for these faces.
+    /// time to free the undone changes, and O(m + p + log n) for the m entries of the change and the p of the n pairs that are held on their
+    /// faces: bag and table are built again only for these faces.
     pub fn edit(&mut self, edit: &Edit) -> Result<usize, EditError>
         ensures state { OnOk result (self.new ≡ after_edit self.old edit.now) }
         ensures history { OnOk result (history_of self.new
@@ -168,8 +168,8 @@ impl Store {
     }
 
     /// Takes the last change back, and returns how many pairs it had. The change goes to the end of `undone`. `NothingToUndo` is tested
-    /// first; then `OutOfMemory` if a growth is refused. O(m + p) for the m entries of the change and the p pairs held on their faces: bag
-    /// and table are built again only for these faces.
+    /// first; then `OutOfMemory` if a growth is refused. O(m + p + log n) for the m entries of the change and the p of the n pairs that are
+    /// held on their faces: bag and table are built again only for these faces.
     pub fn undo(&mut self) -> Result<usize, UndoError>
         ensures state { OnOk result (self.new ≡ after_undo self.old) }
         ensures history { OnOk result (history_of self.new ≡ one_back (history_of self.old)) }
@@ -232,7 +232,7 @@ impl Store {
         self.undone.clear();
     }
 
-    /// The collection that the store stands at.
+    /// The collection that the store has come to.
     pub fn bag(&self) -> &Bag
         ensures bag { result.now ≡ self.now.bag }
         ensures within { IsBag result.now }
@@ -240,7 +240,7 @@ impl Store {
         &self.bag
     }
 
-    /// The range table of the collection that the store stands at: what queries read.
+    /// The range table of the store's collection: what queries read.
     pub fn table(&self) -> &StoreTable
         ensures pairs { ⟦<StoreTable as RangeTable>⟧.pairs result.now ≡ self.now.bag.held }
         ensures table { IsRangeTable self.now.bag.held (⟦<StoreTable as RangeTable>⟧.ranges result.now) }
@@ -267,7 +267,7 @@ impl Store {
         region_of(self.alloc, &self.bag, label)
     }
 
-    /// The changes that can be undone, the oldest first. They lead to the collection that the store stands at: from the last on, each can
+    /// The changes that can be undone, the oldest first. They lead to the store's collection: from the last on, each can
     /// be taken back.
     pub fn done(&self) -> &[Change]
         ensures done { result.now ≡ self.now.done }
@@ -279,8 +279,8 @@ impl Store {
         self.done.as_slice()
     }
 
-    /// The changes that can be redone. The one that was undone last stands at the end, and is redone first; they lead on from the
-    /// collection that the store stands at.
+    /// The changes that can be redone. The one that was undone last is the last of them, and is redone first; they lead on from the store's
+    /// collection.
     pub fn undone(&self) -> &[Change]
         ensures undone { result.now ≡ self.now.undone }
         ensures led { CanGoOn self.now.bag (reverse result.now) }

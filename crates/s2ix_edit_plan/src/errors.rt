@@ -2,11 +2,11 @@ use s2id_core::OutOfMemory;
 use s2ix_bag_lists::RevertError;
 use thiserror::Error;
 
-/// Why an edit was refused. If several refusals are due, the first of this list is answered; `OutOfMemory`
-/// may come in place of `NoChange`, `TooManyCopies` or `TooManyPairs`, and of none before them.
+/// Why an edit was refused. If several refusals are due, the first of this list is returned; only `OutOfMemory` may replace `NoChange`,
+/// `TooManyCopies` or `TooManyPairs`.
 #[derive(Clone, Copy, Debug, PartialEq, Eq, Error)]
 pub enum EditError {
-    /// As many changes as the limit can be undone.
+    /// As many changes can be undone as the limit allows.
     #[error("the journal is full")]
     JournalFull,
     /// No pair of the label is held.
@@ -18,7 +18,7 @@ pub enum EditError {
     /// The level is above 30, or more than 8 above the level of a cell of the label.
     #[error("the level is too fine")]
     TooFine,
-    /// No change with the number stands.
+    /// Fewer changes than the number can be undone, or the number is 0.
     #[error("no change with the number stands")]
     NoSuchChange,
     /// A count would be below 0.

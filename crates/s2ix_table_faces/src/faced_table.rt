@@ -35,8 +35,10 @@ use std::rc::Rc;
 pub struct FacedTable {
     tables: [Rc<SpanTable>; FACES],
     seats: [Seat; FACES],
+    // for each face the place behind that of its first range, and how many ranges are from there up to before its last one
     behind: [usize; FACES],
     inner: [usize; FACES],
+    // how many ranges there are on all faces
     count: usize,
     ghost seated: { AreCounted (spans_of tables) seats behind inner count } by { counted-prop (spans_of tables) seats behind inner count },
     ghost rises: { IsCollection (held_in (spans_of tables)) } by { IsCollection-prop 0 (held_in (spans_of tables)) },
@@ -222,7 +224,7 @@ impl FacedTable {
         &self.tables[face]
     }
 
-    // The face that has a range, that of the last seat that is not behind it, and the range's place in that face's table.
+    // The face that has a range, and the range's place in that face's table.
     #[inline]
     fn own_place(&self, k: usize) -> (usize, usize)
         requires { k < self.now.count }
@@ -233,8 +235,8 @@ impl FacedTable {
         (face, k - self.seats[face].place)
     }
 
-    // The place of a range in the table of the face at hand, if it is one of its ranges and neither the first, which may begin before the
-    // face, nor the last: one test tells.
+    // The place of a range in the table of a face, if it is one of its ranges and neither the first, which may begin before the face, nor
+    // the last: one test tells.
     #[inline]
     fn own_near(&self, k: usize, near: usize) -> Option<usize>
         ensures own { IfSome result (λ own. HasOwn self.now.seats self.now.count near own) }

@@ -1,4 +1,4 @@
-//! Where the ranges of each face's table stand among the joined ones.
+//! Where the ranges of each face's table are among the joined ones.
 ghost use Rattle.std.specs.Prelude.{◌≡◌, ◌+◌, ◌-◌, ◌<◌, ◌≤◌, length, slice_index_or};
 ghost use Rattle.s2ix_table_chain.specs.SpanTable.{IsSpanTable};
 ghost use Rattle.s2ix_table_chain.specs.Starts.{IsLastStart};
@@ -8,7 +8,8 @@ use s2id_core::FACES;
 use s2ix_table_chain::SpanTable;
 use s2ix_table_chain::laws::ranges_are_those_of_the_span;
 
-// The place of a table's first range, and the leaf number at which that range begins once it is joined to what stands before it.
+// The place of a table's first range among the joined ones, and the leaf number at which that range begins once it is joined to the last
+// one before it.
 #[derive(Clone, Copy, Debug)]
 pub(crate) struct Seat {
     pub(crate) place: usize,
@@ -16,7 +17,7 @@ pub(crate) struct Seat {
 }
 
 impl Seat {
-    // The seat of the next table, where this is that of a table. O(1).
+    // The seat of `next`, if this is the seat of `table`, the one before it. O(1).
     pub(crate) fn after(self, table: &SpanTable, next: &SpanTable) -> Seat
         requires few { self.place ≤ 100000000 }
         ensures seat { result ≡ seat_after self table.now.ranges next.now.ranges }
@@ -45,10 +46,8 @@ impl Seat {
             }
         }
     }
-}
 
-impl Seat {
-    // How many ranges stand behind this seat's first one, before the last one before the next seat. O(1).
+    // How many ranges a table has beside its first and its last one, by the place of the next seat. O(1).
     #[inline]
     pub(crate) fn inner_count(self, next: usize) -> usize
         ensures { result ≡ next - self.place - 2 }
@@ -57,7 +56,7 @@ impl Seat {
     }
 }
 
-// The last of six seats that is not behind a place. It takes five tests and no branch.
+// The face of a range: that of the last seat whose place is not behind the range's. It takes five tests and no branch.
 #[inline]
 pub(crate) fn seat_by(seats: &[Seat; FACES], k: usize) -> usize
     requires order { AreInOrder seats.now }

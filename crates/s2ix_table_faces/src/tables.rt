@@ -67,8 +67,8 @@ pub(crate) fn read_tables<B: PairReader>(
     ])
 }
 
-// The tables of the six faces after a change: of what a reader shows of a face where the change has an entry on it, else the one that
-// stands, shared.
+// The tables of the six faces after a change: a new one of what a reader shows of a face if the change has an entry on it, else the old
+// one, shared.
 pub(crate) fn tables_after<B: PairReader>(
     alloc: Global,
     table: &FacedTable,

@@ -1,5 +1,5 @@
-//! What each edit changes: the entries that carry it out. Each edit has a file of its own with its `plan`; what several of them need is in
-//! `parts`.
+//! What each edit changes: the entries that carry it out. Each edit has a file of its own with its `plan`; `entries` has what several of
+//! them need.
 
 mod add;
 mod add_union;
@@ -25,11 +25,11 @@ use std::alloc::Global;
 /// would change. The bag stays as it is; [`Bag::applied`] makes the next one of the change. `changes` are those that led to
 /// the bag, the oldest first, of which `Revert` takes one back; no other edit reads them.
 ///
-/// Of the errors of [`EditError`] the first that is due is answered, but neither `JournalFull`, which a store tests, nor `NoChange`.
-/// Whether the counts and the pairs fit the bag is found when the change is applied; but the plan of `Revert` has tested it, and answers
-/// `TooManyCopies` and `TooManyPairs` itself, and a sum that no `u32` holds is above every limit and `TooManyCopies` here.
-/// `OutOfMemory` comes in place of no other error of `Revert`, and of no error but `TooManyCopies` of the others; an `Add` or a `Remove`
-/// of no copies does not allocate, nor does an `AddUnion` of no cells.
+/// It returns the first error of [`EditError`] that is due, but neither `JournalFull`, which a store tests, nor `NoChange`. Whether counts
+/// and pairs fit the bag is found when the change is applied, with two exceptions: the plan of `Revert` tests it and returns
+/// `TooManyCopies` or `TooManyPairs` itself, and a sum that no `u32` holds is `TooManyCopies` here, since it is above every limit.
+/// `OutOfMemory` may replace `TooManyCopies`, but for a `Revert`, and no other error. An `Add` or a `Remove` of no copies does not
+/// allocate, nor does an `AddUnion` of no cells.
 ///
 /// For n pairs held, `Add` and `Remove` take O(log n), `AddUnion` O(m log n) for m cells, `DropLabel` O(n), `Relabel`
 /// O(n + m log n) and `Normalise` O(n + m log m) for m pairs of the label, and `Grow` O(n + b log b) for b cells beside those of
