@@ -12,8 +12,8 @@ use crate::walk_state::KnownFace;
 use crate::window::Window;
 use s2id_core::CellId;
 
-// The range that has a leaf, one of some that are known to have it among them: each probe halves those that are left. Among the last few
-// no branch depends on what is read.
+// The range that has a leaf, one of some that are known to have it among them: each probe halves those that are left. Among few ranges no
+// branch depends on what is read.
 #[inline(always)]
 fn search<R: Reader>(reader: &mut R, leaf: u64, among: Window) -> usize
     requires within { leaf < leaf_end }
@@ -25,8 +25,10 @@ fn search<R: Reader>(reader: &mut R, leaf: u64, among: Window) -> usize
     ensures probes { (R.spent reader.new).probes
         ≤ (R.spent reader.old).probes + binary_digits (length (R.shown reader.old).ranges + 1) }
 {
+    if among.size > FAR {
+        return jump(reader, leaf, among);
+    }
     let window = narrow(reader, leaf, among);
-    let window = jump(reader, leaf, window);
     let mut first = window.first;
     let mut half = window.size / 2;
     while half > 0 {
@@ -55,35 +57,31 @@ fn narrow<R: Reader>(reader: &mut R, leaf: u64, among: Window) -> Window
     Window { first, size }
 }
 
-// Among more ranges than this a search waits for memory at each probe.
-const FAR: usize = 16384;
+// Among more ranges than this a search waits for memory at its probes.
+const FAR: usize = 2048;
 
-// Of a power of two of ranges, if they are many, at most eight: each probe halves those that are left, by a branch, so that the processor
-// asks for the next range before it knows this one.
+// The range that has a leaf, one of many: each probe halves those that are left, by a branch, so that the processor asks for the next range
+// before it knows this one.
 #[inline(always)]
-fn jump<R: Reader>(reader: &mut R, leaf: u64, among: Window) -> Window
+fn jump<R: Reader>(reader: &mut R, leaf: u64, among: Window) -> usize
+    requires within { leaf < leaf_end }
     requires among { IsWindow (R.shown reader.old).ranges leaf among.first among.size }
-    requires power { (k : ℕ) × (among.size ≡ 2 ^ k) }
-    ensures window { IsWindow (R.shown reader.old).ranges leaf result.first result.size }
-    ensures power { (k : ℕ) × (result.size ≡ 2 ^ k) }
+    ensures found { IsFound (R.shown reader.old).ranges result leaf }
     ensures same { R.shown reader.new ≡ R.shown reader.old }
     ensures looks { (R.spent reader.new).looks ≡ (R.spent reader.old).looks }
     ensures kept { NoFewerProbes (R.spent reader.old) (R.spent reader.new) }
-    ensures probes { (R.spent reader.new).probes + binary_digits (result.size - 1)
-        ≤ (R.spent reader.old).probes + binary_digits (among.size - 1) }
+    ensures probes { (R.spent reader.new).probes ≤ (R.spent reader.old).probes + binary_digits (among.size - 1) }
 {
-    if among.size <= FAR {
-        return among;
-    }
     let mut first = among.first;
     let mut size = among.size;
-    while size > 8 {
-        size /= 2;
-        if reader.start(first + size) <= leaf {
-            first += size;
+    while size > 1 {
+        let half = size / 2;
+        if reader.start(first + half) <= leaf {
+            first += half;
         }
+        size -= half;
     }
-    Window { first, size }
+    first
 }
 
 // Some ranges, and the face that is known once they are.

@@ -1,38 +1,39 @@
-use Rattle.std.proofs.Common.{◌+◌, ◌-◌, ◌*◌, ◌/◌, ℕ, ◌∙◌, ap, subst, rules, arith}
+use Rattle.std.proofs.Common.{◌+◌, ◌-◌, ◌*◌, ◌/◌, ℕ, length, ◌∙◌, ap, subst, rules, arith}
 use Rattle.s2ix_table_ranges.specs.Table.{range_at}
 use Rattle.s2ix_table_walk.proofs.WalkSteps.{range_fits}
 use Rattle.s2id_core.specs.BinaryDigits.{binary_digits}
 use Rattle.s2ix_table_walk.specs.Searching.{IsWindow}
 use Rattle.s2ix_table_walk.specs.Shown.{Shown}
 use Rattle.s2ix_table_walk.specs.declared.cost.Cost.{Cost}
-use Rattle.s2id_core.proofs.BinaryDigits.{digits_below}
+use Rattle.s2id_core.proofs.BinaryDigits.{digits_below, digits_rise}
 use Rattle.s2ix_table_walk.proofs.Windows.{IsHalved, halved}
 use Rattle.s2ix_table_walk.proofs.search.search.Given.{Over}
 use Rattle.s2ix_table_walk.proofs.search.search.Goals as goal
 use Rattle.s2ix_table_walk.proofs.search.search.Goals.{After-begun}
 
+pub returns-then-among-gt-FAR-clause-probes : goal.returns-then-among-gt-FAR-clause-probes
+returns-then-among-gt-FAR-clause-probes g c =
+    let within = c.requires.among.within in
+    let probes = c.jump.ensures.probes in
+    omega (arith, digits_rise (c.args.among.size - 1) (length (g.R.Reader.shown c.args.reader.now).ranges + 1) (omega arith))
+
 pub loop-half-init : goal.loop-half-init
 loop-half-init g c =
     let n = c.narrow-window.ensures in
-    let j = c.jump-window.ensures in
     let ranges = (g.R.Reader.shown c.args.reader.now).ranges in
-    let k = j.power.0 in
-    let is = j.power.1 in
+    let k = n.power.0 in
+    let is = n.power.1 in
     let paid = n.probes in
-    let jumped = j.probes in
-    let same = ap (λ (size : ℕ). binary_digits (size - 1)) is in
-    let window =
-    subst (λ (z : Shown g.row.R-Place.Denot). IsWindow z.ranges c.args.leaf c.jump-window.result.first c.jump-window.result.size) n.same
-    j.window in (
+    let same = ap (λ (size : ℕ). binary_digits (size - 1)) is in (
       (
         k,
         ap (λ (size : ℕ). size / 2) is,
-        subst (λ (size : ℕ). IsWindow ranges c.args.leaf c.jump-window.result.first size) is window,
+        subst (λ (size : ℕ). IsWindow ranges c.args.leaf c.narrow-window.result.first size) is n.window,
         omega (arith, digits_below k),
       ),
-      j.same ∙ n.same,
-      j.looks ∙ n.looks,
-      let kept = n.kept in let still = j.kept in omega arith,
+      n.same,
+      n.looks,
+      n.kept,
     )
 
 -- the half that is left
