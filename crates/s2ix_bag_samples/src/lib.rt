@@ -15,6 +15,8 @@ mod random;
 pub use bags::{LimitRow, WIDEST, bag_of, holds_pairs, limits_of};
 pub use changes::{are_changes, change_of, changes_of, entries_of, lists_entries};
 pub use lists::{are_flat_pairs, are_labels, are_pairs, list_of};
-pub use nested::{all_faces, deep_bag, nested_bag, number_below, random_cells, with_more};
+pub use nested::{
+    all_faces, deep_bag, nested_bag, number_below, random_cells, wide_bag, with_more,
+};
 pub use pairs::{held_of, label_of, pair_of};
 pub use random::random_pairs;

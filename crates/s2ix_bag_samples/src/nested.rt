@@ -1,7 +1,7 @@
 use crate::changes::change_by;
 use s2id_core::CellId;
 use s2id_samples::Random;
-use s2ix_bag::{Bag, Entry, Held, Label, Limits, Pair};
+use s2ix_bag::{Bag, Change, Entry, Held, Label, Limits, Pair};
 use std::alloc::Global;
 
 /// The bag with more copies of a pair.
@@ -59,6 +59,30 @@ pub fn nested_bag(alloc: Global, random: &mut Random, pairs: u64, labels: u64) -
         bag = with_more(alloc, &bag, random_held(random, faces, labels)?)?;
     }
     Some(bag)
+}
+
+// The entry of a first copy of the k-th of the cells of level 9 on a face that are 13 apart.
+fn wide_entry(face: u8, k: u64, label: Label) -> Option<Entry> {
+    let number = (u64::from(face) << 61).wrapping_add(k.wrapping_mul(13 << 43)) | 1 << 42;
+    let cell = CellId::from_raw(number)?;
+    Some(Entry {
+        pair: Pair { cell, label },
+        before: 0,
+        after: 1,
+    })
+}
+
+/// A bag of 20,000 cells on a face that are not neighbours, under the label 7: there are more than 40,000 ranges.
+pub fn wide_bag(alloc: Global, face: u8) -> Option<Bag> {
+    let label = Label::new(7)?;
+    let mut entries = Vec::new(alloc);
+    for k in 0..20_000u64 {
+        entries.push(wide_entry(face, k, label)?).ok()?;
+    }
+    let change = Change::from_entries(alloc, &entries).ok()?;
+    Bag::empty(alloc, Limits::default())
+        .applied(alloc, &change)
+        .ok()
 }
 
 /// A bag of the leaf with a number and of all cells that have it, under the label 7.

@@ -44,4 +44,4 @@ pub use s2ix_table_ranges::RangeRow;
 pub use s2ix_table_reading::{
     BagReader, PairReader, changed_face_count, changed_faces, read_changed, read_face,
 };
-pub use s2ix_table_walk::{Cost, Meeting, Reader, Window, walk};
+pub use s2ix_table_walk::{Cost, MANY_RANGES, Meeting, Reader, SAMPLE_STEP, Window, walk};

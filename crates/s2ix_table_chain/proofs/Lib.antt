@@ -1,6 +1,7 @@
 pub mod Keys
 pub mod Chains
 pub mod Ranges
+pub mod Samples
 pub mod Passing
 pub mod Orders
 pub mod Sweeping

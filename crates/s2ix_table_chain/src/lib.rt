@@ -9,6 +9,7 @@ pub mod laws;
 mod order;
 mod pass;
 mod places;
+mod sample;
 mod shares_chains;
 mod span_table;
 mod sweep;

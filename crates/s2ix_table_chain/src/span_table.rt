@@ -1,13 +1,15 @@
-ghost use Rattle.std.specs.Prelude.{◌≡◌, ◌<◌, ◌≤◌, ◌∷◌, IfOk, length, drop, take, map};
+ghost use Rattle.std.specs.Prelude.{◌≡◌, ◌-◌, ◌<◌, ◌≤◌, ◌∷◌, IfOk, length, drop, take, map};
 ghost use Rattle.s2id_core.specs.CellId.{raw_of};
 ghost use Rattle.s2ix_bag_pairs.specs.Collection.{IsCollection};
 ghost use Rattle.s2ix_table_ranges.specs.Table.{Range, range_at, IsFound};
 ghost use Rattle.s2ix_table_walk.specs.Places.{IsPlace, LeadsTo};
+ghost use Rattle.s2ix_table_queries.specs.Stretches.{IsSample};
 ghost use Rattle.s2ix_table_chain.specs.Chains.{chain_of};
 ghost use Rattle.s2ix_table_chain.specs.SpanTable.{IsInSpan, IsSpanTable};
 
 use crate::order::sweep_order;
 use crate::places::{as_place, last_start};
+use crate::sample::sample_of;
 use crate::sweep::sweep_span;
 use s2id_core::{CellId, OutOfMemory};
 use s2ix_bag_lists::FlatHeld;
@@ -28,8 +30,10 @@ pub struct SpanTable {
     outer: Vec<u32>,
     starts: Vec<u64>,
     firsts: Vec<u32>,
+    sample: Vec<u64>,
     from: u64,
     to: u64,
+    ghost sampled: { IsSample (length starts.items - 2) (drop 1 starts.items) sample.items },
 }
 
 impl Model for SpanTable {
@@ -74,11 +78,13 @@ impl SpanTable {
         let outer = pass.outer;
         let starts = trim(pass.starts, pass.frontier.count);
         let firsts = trim(pass.firsts, pass.frontier.count);
+        let sample = sample_of(alloc, starts.as_slice())?;
         Ok(SpanTable {
             held,
             outer,
             starts,
             firsts,
+            sample,
             from,
             to,
         })
@@ -115,6 +121,14 @@ impl SpanTable {
         ensures { result.now ≡ map (λ (r : Range). r.start) self.now.ranges }
     {
         self.starts.as_slice()
+    }
+
+    /// A sample of those starts but for the first and the last one: every 16th if they are more than [`MANY_RANGES`](s2ix_table_walk::MANY_RANGES), else none. O(1).
+    #[inline]
+    pub fn sample(&self) -> &[u64]
+        ensures { IsSample (length self.now.ranges - 2) (drop 1 (map (λ (r : Range). r.start) self.now.ranges)) result.now }
+    {
+        self.sample.as_slice()
     }
 
     /// The leaves of a range. O(1).

@@ -93,11 +93,13 @@ impl RangeTable for FacedTable {
     #[inline]
     fn stretch(&self, face: u8) -> Stretch<'_> {
         let face = usize::from(face);
-        let starts = self.span(face).starts();
+        let span = self.span(face);
+        let starts = span.starts();
         Stretch {
             first: self.behind[face],
             count: starts.len().saturating_sub(2),
             starts: &starts[1..],
+            sample: span.sample(),
             note: face,
         }
     }

@@ -1,5 +1,5 @@
 -- Ranges read by where they begin.
-use Rattle.std.specs.Prelude.{◌≡◌, ℕ, ◌+◌, ◌<◌, ◌≤◌, List, length, slice_index_or}
+use Rattle.std.specs.Prelude.{◌≡◌, ℕ, ◌+◌, ◌*◌, ◌<◌, ◌≤◌, List, length, slice_index_or}
 use Rattle.s2ix_table_ranges.specs.Table.{Range, range_at}
 
 -- `count` ranges from `first` on begin at these starts, each in its turn, and each ends at the next start
@@ -8,3 +8,8 @@ pub record IsStretch (ranges : List Range) (first count : ℕ) (starts : List �
   pub room : 0 < count → count < length starts
   pub begins : (k : ℕ) → k < count → (range_at ranges (first + k)).start ≡ slice_index_or starts k 0
   pub ends : (k : ℕ) → k < count → (range_at ranges (first + k)).limit ≡ slice_index_or starts (k + 1) 0
+
+-- every 16th of the first `count` starts, as many of these as there are in `sample`
+pub record IsSample (count : ℕ) (starts sample : List ℕ) : Type 0 where
+  pub within : (j : ℕ) → j < length sample → j * 16 < count
+  pub each : (j : ℕ) → j < length sample → slice_index_or sample j 0 ≡ slice_index_or starts (j * 16) 0

@@ -1,12 +1,12 @@
 ghost use Rattle.std.specs.Prelude.{◌≡◌};
 ghost use Rattle.s2ix_table_walk.specs.Costs.{no_cost};
-ghost use Rattle.s2ix_table_queries.specs.Stretches.{IsStretch};
+ghost use Rattle.s2ix_table_queries.specs.Stretches.{IsSample, IsStretch};
 
 use crate::stretch::Stretch;
 use crate::table::RangeTable;
 use s2ix_bag_pairs::Held;
 use s2ix_table_ranges::RangeRow;
-use s2ix_table_walk::{Cost, Reader, Window};
+use s2ix_table_walk::{Cost, Reader, SAMPLE_STEP, Window};
 
 /// A reader of a table that counts what is read of it. It keeps two things at hand: the stretch of the face that was last asked for, in
 /// which a search reads where ranges begin, and the note that makes the next read of a range nearby quicker.
@@ -17,6 +17,7 @@ pub struct Meter<'a, T: RangeTable> {
     near: Stretch<'a>,
     note: usize,
     pub ghost near_is: { IsStretch (T.ranges table.now) near.first near.count near.starts.now },
+    pub ghost sample_is: { IsSample near.count near.starts.now near.sample.now },
 }
 
 // A note that no table knows a range by. A search passes it for a range outside the stretch at hand, so that the compiler keeps the
@@ -79,6 +80,19 @@ impl<T: RangeTable> Reader for Meter<'_, T> {
             return self.near.starts[own];
         }
         self.table.read_near(k, NO_NOTE).0.start
+    }
+
+    fn sampled_by(&self, k: usize) -> usize {
+        k - k.saturating_sub(self.near.first) % SAMPLE_STEP
+    }
+
+    fn sampled_start(&mut self, k: usize) -> u64 {
+        let own = k.wrapping_sub(self.near.first);
+        if own % SAMPLE_STEP == 0 && own / SAMPLE_STEP < self.near.sample.len() {
+            self.cost.add_probe();
+            return self.near.sample[own / SAMPLE_STEP];
+        }
+        self.start(k)
     }
 
     fn row_and_first(&mut self, k: usize) -> (RangeRow, Option<T::Place>) {

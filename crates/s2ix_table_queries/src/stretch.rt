@@ -1,6 +1,6 @@
 ghost use Rattle.std.specs.Prelude.{List};
 ghost use Rattle.s2ix_table_ranges.specs.Table.{Range};
-ghost use Rattle.s2ix_table_queries.specs.Stretches.{IsStretch};
+ghost use Rattle.s2ix_table_queries.specs.Stretches.{IsSample, IsStretch};
 
 /// Some ranges of a table, one behind the other, which can be read by where they begin: `count` of them, from `first` on. Each begins at
 /// its own of the `starts` and ends at the next one.
@@ -12,6 +12,8 @@ pub struct Stretch<'a> {
     pub count: usize,
     /// Where each begins, and behind the last one where it ends.
     pub starts: &'a [u64],
+    /// Every 16th of the starts, from the first on; none if the table keeps no such list.
+    pub sample: &'a [u64],
     /// A number of the table's own, for [`read_near`](crate::RangeTable::read_near).
     pub note: usize,
 }
@@ -19,12 +21,14 @@ pub struct Stretch<'a> {
 impl Stretch<'_> {
     /// The stretch that has no range.
     pub fn none() -> Stretch<'static>
-        ensures { (ranges : List Range) → IsStretch ranges result.first result.count result.starts.now }
+        ensures stretch { (ranges : List Range) → IsStretch ranges result.first result.count result.starts.now }
+        ensures sample { IsSample result.count result.starts.now result.sample.now }
     {
         Stretch {
             first: 0,
             count: 0,
             starts: &[],
+            sample: &[],
             note: 0,
         }
     }

@@ -5,7 +5,7 @@ ghost use Rattle.s2ix_table_ranges.specs.LabelList.{label_list};
 ghost use Rattle.s2ix_table_ranges.specs.Table.{Range, range_at, IsRangeTable};
 ghost use Rattle.s2ix_table_walk.specs.Places.{IsPlace, LeadsTo};
 ghost use Rattle.s2ix_table_walk.specs.FaceWindows.{HaveFace};
-ghost use Rattle.s2ix_table_queries.specs.Stretches.{IsStretch};
+ghost use Rattle.s2ix_table_queries.specs.Stretches.{IsSample, IsStretch};
 ghost use Rattle.s2ix_table_ranges.specs.Meeting.{IsMeetingList, IsLabelList, meeting_of};
 ghost use Rattle.s2ix_table_walk.specs.Calls.{MayVisit, CallsOn, Visits};
 ghost use Rattle.s2ix_table_walk.specs.Costs.{ranges_met, IsWalkCost};
@@ -70,7 +70,8 @@ pub trait RangeTable: Sized {
     /// Ranges over a face, 0 to 5, that can be read by where they begin: none, if the table keeps no such list. O(1).
     fn stretch(&self, face: u8) -> Stretch<'_>
         requires { face < 6 }
-        ensures { IsStretch (ranges self.now) result.first result.count result.starts.now }
+        ensures stretch { IsStretch (ranges self.now) result.first result.count result.starts.now }
+        ensures sample { IsSample result.count result.starts.now result.sample.now }
     {
         Stretch::none()
     }

@@ -1,5 +1,5 @@
 use s2id_core::CellId;
-use s2ix_table::{ChainIter, RangeTable, Stretch, Window, chain_at, contents};
+use s2ix_table::{ChainIter, RangeTable, SAMPLE_STEP, Stretch, Window, chain_at, contents};
 
 // Whether two chains give the same pairs.
 fn give_same<A: RangeTable, B: RangeTable>(
@@ -61,6 +61,18 @@ where
     row == own_row && same_row == own_row && first == own_first && same_first == own_first
 }
 
+// Whether a stretch has every 16th of its starts in its sample, as many as that has.
+fn has_sample(stretch: Stretch<'_>) -> bool {
+    let mut own = 0usize;
+    for start in stretch.sample {
+        if own >= stretch.count || stretch.starts.get(own) != Some(start) {
+            return false;
+        }
+        own = own.wrapping_add(SAMPLE_STEP);
+    }
+    true
+}
+
 // Whether a table answers the same of the ranges of a stretch as that tells.
 fn answers_for_stretch<T: RangeTable>(table: &T, stretch: Stretch<'_>) -> bool
 where
@@ -119,6 +131,7 @@ where
         if !has_leaf(table, window, begin | 1)
             || !has_leaf(table, window, begin | 0x1fffffffffffffff)
             || !answers_for_stretch(table, table.stretch(face))
+            || !has_sample(table.stretch(face))
         {
             return false;
         }

@@ -7,6 +7,7 @@ pub mod OnFaces
 pub mod WalkSteps
 pub mod Left
 pub mod GivenPairs
+pub mod Leaps
 pub mod Paying
 pub mod Calling
 pub mod Meets

@@ -1,4 +1,4 @@
-ghost use Rattle.std.specs.Prelude.{◌≡◌, ◌<◌, ◌∷◌, length, drop};
+ghost use Rattle.std.specs.Prelude.{◌≡◌, ◌<◌, ◌≤◌, ◌+◌, ◌∷◌, length, drop};
 ghost use Rattle.s2ix_table_walk.specs.Places.{IsPlace, LeadsTo};
 ghost use Rattle.s2ix_table_ranges.specs.Table.{range_at};
 ghost use Rattle.s2ix_table_walk.specs.Costs.{with_look, with_probe};
@@ -12,8 +12,8 @@ use s2ix_bag_pairs::Held;
 use s2ix_table_ranges::RangeRow;
 
 /// Something that reads a range table and counts what it reads. [`node`](Reader::node) gives a pair, and is one look. [`row`](Reader::row),
-/// [`start`](Reader::start), [`row_and_first`](Reader::row_and_first) and [`window`](Reader::window) tell where ranges begin or end, and
-/// each is one probe. The other calls count nothing, and tell no pair and no bound of a range.
+/// [`start`](Reader::start), [`sampled_start`](Reader::sampled_start), [`row_and_first`](Reader::row_and_first) and
+/// [`window`](Reader::window) tell where ranges begin or end, and each is one probe. The other calls count nothing, and tell no pair and no bound of a range.
 pub trait Reader {
     /// Where the table keeps a pair of a chain.
     type Place: Copy;
@@ -62,6 +62,26 @@ pub trait Reader {
         ensures counts { spent self.new ≡ with_probe (spent self.old) }
     {
         self.row(k).start
+    }
+
+    /// A range that is fewer than 16 before another, or that one itself. [`sampled_start`](Reader::sampled_start) is quickest at it and at
+    /// every 16th range behind it.
+    fn sampled_by(&self, k: usize) -> usize
+        ensures by { result ≤ k }
+        ensures near { k < result + 16 }
+    {
+        k
+    }
+
+    /// Where a range begins, as [`start`](Reader::start) gives it: one probe. A search among very many ranges first reads every 16th one so:
+    /// a reader may have their starts in a short list, which stays in the processor's cache.
+    fn sampled_start(&mut self, k: usize) -> u64
+        requires { k < length (shown self.old).ranges }
+        ensures start { result ≡ (range_at (shown self.old).ranges k).start }
+        ensures same { shown self.new ≡ shown self.old }
+        ensures counts { spent self.new ≡ with_probe (spent self.old) }
+    {
+        self.start(k)
     }
 
     /// The leaves of a range and the place of its innermost pair, as [`row`](Reader::row) and [`first`](Reader::first) give them: one probe.

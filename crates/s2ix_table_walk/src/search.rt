@@ -8,6 +8,7 @@ ghost use Rattle.s2ix_table_walk.specs.Searching.{IsWindow};
 ghost use Rattle.s2ix_table_walk.specs.Walking.{IsKnown};
 
 use crate::reader::Reader;
+use crate::sample::{MANY_RANGES, SAMPLE_STEP};
 use crate::walk_state::KnownFace;
 use crate::window::Window;
 use s2id_core::CellId;
@@ -26,6 +27,7 @@ fn search<R: Reader>(reader: &mut R, leaf: u64, among: Window) -> usize
         ≤ (R.spent reader.old).probes + binary_digits (length (R.shown reader.old).ranges + 1) }
 {
     if among.size > FAR {
+        let among = leap(reader, leaf, among);
         return jump(reader, leaf, among);
     }
     let window = narrow(reader, leaf, among);
@@ -82,6 +84,36 @@ fn jump<R: Reader>(reader: &mut R, leaf: u64, among: Window) -> usize
         size -= half;
     }
     first
+}
+
+// Of very many ranges at most 16: groups of 16 are halved, by the start of the first range of each.
+#[inline(always)]
+fn leap<R: Reader>(reader: &mut R, leaf: u64, among: Window) -> Window
+    requires { IsWindow (R.shown reader.old).ranges leaf among.first among.size }
+    ensures window { IsWindow (R.shown reader.old).ranges leaf result.first result.size }
+    ensures same { R.shown reader.new ≡ R.shown reader.old }
+    ensures looks { (R.spent reader.new).looks ≡ (R.spent reader.old).looks }
+    ensures kept { NoFewerProbes (R.spent reader.old) (R.spent reader.new) }
+    ensures probes { (R.spent reader.new).probes + binary_digits (result.size - 1)
+        ≤ (R.spent reader.old).probes + binary_digits (length (R.shown reader.old).ranges + 1) }
+{
+    if among.size <= MANY_RANGES {
+        return among;
+    }
+    let end = among.first + among.size;
+    let mut first = reader.sampled_by(among.first);
+    let mut groups = (end - first - 1) / SAMPLE_STEP + 1;
+    while groups > 1 {
+        let middle = first + groups / 2 * SAMPLE_STEP;
+        if reader.sampled_start(middle) <= leaf {
+            first = middle;
+        }
+        groups -= groups / 2;
+    }
+    Window {
+        first,
+        size: SAMPLE_STEP.min(end - first),
+    }
 }
 
 // Some ranges, and the face that is known once they are.
