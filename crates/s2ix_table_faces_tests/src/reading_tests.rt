@@ -1,4 +1,4 @@
-//! Bags that are read pair by pair, and the faces that changes have entries on.
+//! Bags that are read pair by pair or many pairs at once, and the faces that changes have entries on.
 use s2ix_bag::{Bag, Change, FlatHeld, Held};
 use s2ix_bag_samples::{LimitRow, are_flat_pairs, bag_of, change_of, held_of};
 use s2ix_table::{
@@ -76,6 +76,36 @@ fn is_read_at_places(bag: &Bag) -> bool {
 fn a_bag_is_read_to_and_fro(rt: HostRuntime) {
     let bag = bag_of(rt.alloc(), LIMITS, MIXED).expect(&rt, MIXED);
     assert!(rt; is_read_at_places(&bag));
+}
+
+// Two places of that bag, and the pairs from the one to before the other.
+const BETWEEN: [(usize, usize, &str); 7] = [
+    (0, 0, ""),
+    (0, 3, "04:7:1 1:7:2 1:9:3"),
+    (0, 5, MIXED),
+    (1, 2, "1:7:2"),
+    (1, 4, "1:7:2 1:9:3 5:7:4"),
+    (3, 5, "5:7:4 b:7:5"),
+    (5, 5, ""),
+];
+
+// Whether a reader of a bag gives these pairs from one place to before another, and counts each.
+fn reads_between(alloc: Global, bag: &Bag, from: usize, to: usize, wanted: &str) -> Option<bool> {
+    let mut reader = BagReader::new(bag);
+    if to < from || reader.len() < to {
+        return None;
+    }
+    let held = reader.read_between(alloc, from, to).ok()?;
+    Some(are_flat_pairs(held.as_slice(), wanted) && reader.reads() == (to - from) as u64)
+}
+
+#[test]
+fn pairs_between_two_places_are_read_at_once(rt: HostRuntime) {
+    let bag = bag_of(rt.alloc(), LIMITS, MIXED).expect(&rt, MIXED);
+    for &(from, to, pairs) in &BETWEEN {
+        let same = reads_between(rt.alloc(), &bag, from, to, pairs);
+        assert!(rt; same == Some(true), "wrong from {from} to {to}");
+    }
 }
 
 // Entries, whether each face has one, and how many faces have.

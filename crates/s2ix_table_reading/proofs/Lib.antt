@@ -1,3 +1,4 @@
+pub mod Blocks
 pub mod Marked
 pub mod OnFaces
 pub mod ReadCounts

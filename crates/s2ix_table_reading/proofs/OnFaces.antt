@@ -1,8 +1,8 @@
 -- Where the pairs of a face lie among all.
-use Rattle.std.proofs.Common.{◌≡◌, ℕ, zero, suc, ◌+◌, ◌-◌, ◌*◌, ◌/◌, ◌<◌, ◌≤◌, ◌↔◌, [], ◌∷◌, ◌++◌, take, drop, get_or, length, slice_get, Some, refl, sym, ap, ◌∙◌, subst, arith, ⊎_elim}
+use Rattle.std.proofs.Common.{◌≡◌, ℕ, zero, suc, ◌+◌, ◌-◌, ◌*◌, ◌/◌, ◌<◌, ◌≤◌, ◌↔◌, [], ◌∷◌, take, drop, get_or, length, slice_get, Some, refl, sym, ap, ◌∙◌, subst, arith, ⊎_elim}
 use Rattle.std.proofs.lemmas.Bool.{cases_eq, cases_lt}
 use Rattle.std.proofs.lemmas.List.{length-take-le, length-drop}
-use Rattle.std.proofs.lemmas.Option.{get_or_from_slice_get, none-some, same_Some}
+use Rattle.std.proofs.lemmas.Option.{get_or_from_slice_get}
 use Rattle.s2id_core.specs.Span.{face_numbers}
 use Rattle.s2id_core.proofs.Bits.{face_by_bits}
 use Rattle.s2id_core.specs.CellId.{face_of, raw_of}
@@ -130,17 +130,3 @@ face_cut face f a b hs xs same_face same a_within b_within below from next behin
       pairs = pairs;
       count = sym (length-take-le (b - a) (drop a hs) (omega arith)) ∙ ap (λ (zs : Collection). length zs) pairs;
     }
-
--- ---- one pair more
-
-pub take_more : (from n k : ℕ) (hs : Collection) (h : Held) → k ≡ from + n → slice_get hs k ≡ Some h
-    → take (suc n) (drop from hs) ≡ take n (drop from hs) ++ h ∷ []
-take_more zero zero zero [] h is found = absurd (none-some _ found)
-take_more zero zero zero (g ∷ hs) h is found = ap (λ (x : Held). x ∷ []) (same_Some _ _ found)
-take_more zero zero (suc k) hs h is found = absurd (omega arith)
-take_more zero (suc n) zero hs h is found = absurd (omega arith)
-take_more zero (suc n) (suc k) [] h is found = absurd (none-some _ found)
-take_more zero (suc n) (suc k) (g ∷ hs) h is found = ap (λ (x : Collection). g ∷ x) (take_more zero n k hs h (omega arith) found)
-take_more (suc from) n zero hs h is found = absurd (omega arith)
-take_more (suc from) n (suc k) [] h is found = absurd (none-some _ found)
-take_more (suc from) n (suc k) (g ∷ hs) h is found = take_more from n k hs h (omega arith) found

@@ -1,5 +1,5 @@
 -- Counts of reads, one after the other.
-use Rattle.std.proofs.Common.{◌≡◌, ℕ, zero, suc, ◌+◌, ◌-◌, ◌*◌, ◌^◌, ◌≤◌, Bool, List, length, sym, ap, ◌∙◌, arith}
+use Rattle.std.proofs.Common.{◌≡◌, ℕ, zero, suc, ◌+◌, ◌-◌, ◌*◌, ◌^◌, ◌≤◌, Bool, List, length, min, sym, ap, ◌∙◌, arith}
 use Rattle.std.proofs.Math.Nat.{min-eq_left}
 use Rattle.std.proofs.lemmas.List.Sums.{length-filter, count_by-le-length}
 use Rattle.s2id_core.specs.CellId.{face_of}
@@ -16,6 +16,13 @@ reads_join zero k n = let e : 0 + k ≡ k = omega arith in ap (λ (m : ℕ). wit
 reads_join (suc j) k n =
     let e : suc j + k ≡ suc (j + k) = omega arith in
     ap (λ (m : ℕ). with_reads m n) e ∙ ap (λ (r : ℕ). with_read r) (reads_join j k n)
+
+-- many reads counted at once
+pub reads_at_once : (k n : ℕ) → n ≤ 18446744073709551615 → min (n + k) 18446744073709551615 ≡ with_reads k n
+reads_at_once zero n fits = omega arith
+reads_at_once (suc k) n fits =
+    let one : min (n + suc k) 18446744073709551615 ≡ min (min (n + k) 18446744073709551615 + 1) 18446744073709551615 = omega arith in
+    one ∙ ap (λ (r : ℕ). with_read r) (reads_at_once k n fits)
 
 -- nothing was read
 pub none_read : (before after : ℕ) → after ≡ before → HasRead 0 0 before after

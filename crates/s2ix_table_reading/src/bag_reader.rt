@@ -1,11 +1,13 @@
-ghost use Rattle.std.specs.Prelude.{◌≡◌, ◌≤◌, length, take, drop};
+ghost use Rattle.std.specs.Prelude.{◌≡◌, ◌≤◌, ◌-◌, length, take, drop, IfOk};
 ghost use Rattle.s2ix_bag_pairs.specs.Collection.{IsCollection};
 ghost use Rattle.s2ix_bag_pairs.specs.OneProof.{IsCollection-prop};
 
 use crate::pair_reader::PairReader;
+use s2id_core::OutOfMemory;
 use s2ix_bag::Bag;
 use s2ix_bag_lists::FlatHeld;
 use s2ix_bag_pairs::Held;
+use std::alloc::Global;
 
 /// A reader of a bag that counts what is read of it.
 #[derive(Debug, Drop)]
@@ -38,6 +40,23 @@ impl<'a> BagReader<'a> {
             reads: 0,
         }
     }
+
+    // The pairs from one place to before another: a block of each face between them, in one growth.
+    fn copied(&self, alloc: Global, from: usize, to: usize) -> Result<Vec<FlatHeld>, OutOfMemory>
+        requires rises { from ≤ to }
+        requires within { to ≤ length self.now.bag.now.held }
+        ensures { IfOk result (λ held. held.items ≡ take (to - from) (drop from self.now.bag.now.held)) }
+    {
+        let mut held = Vec::with_capacity(alloc, to - from)?;
+        let mut place = from;
+        while place < to {
+            let (before, own) = self.bag.face_at(place);
+            let part = &own[place - before..own.len().min(to - before)];
+            held.extend_from_slice(part)?;
+            place += part.len();
+        }
+        Ok(held)
+    }
 }
 
 impl PairReader for BagReader<'_> {
@@ -51,8 +70,6 @@ impl PairReader for BagReader<'_> {
         self.len
     }
 
-    // compiled into its callers, so that a face is read by one loop without a call
-    #[inline(always)]
     fn read(&mut self, k: usize) -> Held {
         self.reads = self.reads.saturating_add(1);
         // a place before the face at hand is far behind it too
@@ -63,6 +80,17 @@ impl PairReader for BagReader<'_> {
         self.before = before;
         self.own = own;
         own[k - before].held()
+    }
+
+    fn read_between(
+        &mut self,
+        alloc: Global,
+        from: usize,
+        to: usize,
+    ) -> Result<Vec<FlatHeld>, OutOfMemory> {
+        let held = self.copied(alloc, from, to)?;
+        self.reads = self.reads.saturating_add((to - from) as u64);
+        Ok(held)
     }
 
     fn reads(&self) -> u64 {

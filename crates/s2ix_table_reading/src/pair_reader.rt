@@ -1,10 +1,14 @@
-ghost use Rattle.std.specs.Prelude.{◌≡◌, ℕ, ◌<◌, Some, length, slice_get};
+ghost use Rattle.std.specs.Prelude.{◌≡◌, ℕ, ◌<◌, ◌≤◌, ◌-◌, Some, length, take, drop, slice_get, IfOk, OnOk};
 ghost use Rattle.s2ix_bag_pairs.specs.Collection.{Collection};
-ghost use Rattle.s2ix_table_reading.specs.Reading.{IsRead, with_read};
+ghost use Rattle.s2ix_table_reading.specs.Reading.{HasRead, IsRead, with_read, with_reads};
 
+use s2id_core::OutOfMemory;
+use s2ix_bag_lists::FlatHeld;
 use s2ix_bag_pairs::Held;
+use std::alloc::Global;
 
-/// Something that reads the held pairs of a bag, in rising order, and counts each that it reads. No other call gives a pair.
+/// Something that reads the held pairs of a bag, in rising order, and counts each that it reads. No call gives a pair
+/// that it doesn't count.
 pub trait PairReader {
     // the held pairs that it reads
     ghost shown: { Self → Collection };
@@ -22,6 +26,21 @@ pub trait PairReader {
         ensures held { slice_get (shown self.old) k ≡ Some result }
         ensures same { shown self.new ≡ shown self.old }
         ensures counts { spent self.new ≡ with_read (spent self.old) };
+
+    /// The pairs from one place to before another, in rising order, with their counts: a read for each. `OutOfMemory` where a growth is
+    /// refused; it may have read then, never more than that.
+    fn read_between(
+        &mut self,
+        alloc: Global,
+        from: usize,
+        to: usize,
+    ) -> Result<Vec<FlatHeld>, OutOfMemory>
+        requires rises { from ≤ to }
+        requires within { to ≤ length (shown self.old) }
+        ensures pairs { IfOk result (λ held. held.items ≡ take (to - from) (drop from (shown self.old))) }
+        ensures same { shown self.new ≡ shown self.old }
+        ensures counts { OnOk result (spent self.new ≡ with_reads (to - from) (spent self.old)) }
+        ensures refused { HasRead 0 (to - from) (spent self.old) (spent self.new) };
 
     /// How many pairs were read so far, in a count that stops at 2^64 - 1.
     fn reads(&self) -> u64

@@ -1,4 +1,4 @@
-ghost use Rattle.std.specs.Prelude.{◌≡◌, ◌<◌, ◌≤◌, ◌↔◌, ◌+◌, ◌-◌, ◌*◌, IsTrue, length, take, drop, map, option_map, IfOk, OnOk};
+ghost use Rattle.std.specs.Prelude.{◌≡◌, ◌<◌, ◌≤◌, ◌↔◌, ◌+◌, ◌*◌, IsTrue, length, take, drop, map, option_map, IfOk, OnOk};
 ghost use Rattle.s2ix_bag_lists.specs.Faces.{face_start};
 ghost use Rattle.s2ix_bag_pairs.specs.Collection.{IsCollectionFrom, AreBelow};
 ghost use Rattle.s2ix_bag_pairs.specs.Pair.{rank_of};
@@ -42,27 +42,6 @@ fn first_from<B: PairReader>(reader: &mut B, face: usize) -> usize
     from
 }
 
-// The pairs from one place to before another, in one growth and a read for each.
-fn read_between<B: PairReader>(
-    alloc: Global,
-    reader: &mut B,
-    from: usize,
-    to: usize,
-) -> Result<Vec<FlatHeld>, OutOfMemory>
-    requires rises { from ≤ to }
-    requires within { to ≤ length (B.shown reader.old) }
-    ensures pairs { IfOk result (λ held. held.items ≡ take (to - from) (drop from (B.shown reader.old))) }
-    ensures same { B.shown reader.new ≡ B.shown reader.old }
-    ensures reads { OnOk result (HasRead (to - from) (to - from) (B.spent reader.old) (B.spent reader.new)) }
-    ensures refused { HasRead 0 (to - from) (B.spent reader.old) (B.spent reader.new) }
-{
-    let mut held = Vec::with_capacity(alloc, to - from)?;
-    for place in from..to {
-        held.push(FlatHeld::new(reader.read(place)))?;
-    }
-    Ok(held)
-}
-
 /// The pairs held on a face, 0 to 5, in rising order; none on a face above 5. With p pairs there and n in all it reads each of them once
 /// and O(log n) more: p + 2 * digits(n + 1) reads at most, with the binary digits of n + 1. `OutOfMemory` where its one growth is refused;
 /// it may have read then, never more than that.
@@ -80,7 +59,7 @@ pub fn read_face<B: PairReader>(
     let face = usize::from(face);
     let first = first_from(reader, face);
     let behind = first_from(reader, face + 1);
-    read_between(alloc, reader, first, behind)
+    reader.read_between(alloc, first, behind)
 }
 
 /// For each face, 0 to 5, the pairs held on it where a change has an entry there, in rising order, else `None`. With p pairs on those

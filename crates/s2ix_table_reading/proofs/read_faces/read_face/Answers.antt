@@ -46,8 +46,9 @@ returns-clause-reads g c =
     on_ok_weaker c.read_between.result
     (λ each.
     face_reads (binary_digits (length hs + 1)) (binary_digits (length (g.B.PairReader.shown c.first_from-first.new.reader) + 1)) p q q p _
-    _ _ _ same count (omega arith) first.reads c.first_from-behind.ensures.reads each)
-    c.read_between.ensures.reads
+    _ _ _ same count (omega arith) first.reads c.first_from-behind.ensures.reads
+    (record { made = q; counts = each; some = omega arith; few = omega arith }))
+    c.read_between.ensures.counts
 
 pub returns-clause-refused : goal.returns-clause-refused
 returns-clause-refused g c =
