@@ -20,6 +20,7 @@ COUNTED = [
     ("s2ix_bag_tests", "refused_growths::nothing", "refused_growths::an_empty_bag", 0),
     ("s2ix_bag_tests", "refused_growths::a_bag", "refused_growths::a_copied_bag", 0),
     ("s2ix_bag_tests", "refused_growths::a_bag_and_a_change", "refused_growths::a_changed_bag", 2),
+    ("s2ix_table_faces_tests", "refused_growths::a_bag", "refused_growths::a_face_of_a_bag", 0),
     ("s2ix_edit_history_tests", "refused_tests::refused_regions", "refused_tests::refused_regions_behind_a_forget", 0),
 ]
 

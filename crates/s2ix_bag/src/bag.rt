@@ -11,7 +11,7 @@ use crate::change::Change;
 use crate::label_iter::LabelIter;
 use crate::revert::{entries_back, refusal};
 use s2id_core::OutOfMemory;
-use s2ix_bag_lists::{ApplyError, FaceLists, FlatHeld, HeldIter, RevertError};
+use s2ix_bag_lists::{ApplyError, FaceLists, FlatHeld, HeldIter, HeldList, RevertError};
 use s2ix_bag_pairs::{Held, Label, Limits, Pair};
 use std::alloc::{AllocError, Global};
 use std::marker::Model;
@@ -110,6 +110,14 @@ impl Bag {
         ensures { IsFaceAt k self.now.held result.0 result.1.now }
     {
         self.lists.face_at(k)
+    }
+
+    /// The same, with the pairs of the face in a list that the bag shares. O(1).
+    pub fn list_at(&self, k: usize) -> (usize, &HeldList)
+        requires { k < length self.now.held }
+        ensures { IsFaceAt k self.now.held result.0 result.1.now }
+    {
+        self.lists.list_at(k)
     }
 
     /// The pairs held with a label, with their counts, by rising cell. O(n) from the first to the end, for n pairs

@@ -26,5 +26,5 @@ pub use change::Change;
 pub use label_iter::LabelIter;
 pub use replay_error::ReplayError;
 pub use replaying::{replay, rewind};
-pub use s2ix_bag_lists::{ApplyError, ChangeError, FlatHeld, HeldIter, RevertError};
+pub use s2ix_bag_lists::{ApplyError, ChangeError, FlatHeld, HeldIter, HeldList, RevertError};
 pub use s2ix_bag_pairs::{Entry, Held, Label, Limits, Pair};

@@ -2,8 +2,8 @@ ghost use Rattle.std.specs.Prelude.{◌≡◌, ◌++◌, []};
 ghost use Rattle.std.specs.Iterator.{YieldsFirst, item_count};
 ghost use Rattle.s2ix_bag_lists.specs.Faces.{all_of};
 
-use crate::face_list::FaceList;
 use crate::flat::FlatHeld;
+use crate::held_list::HeldList;
 use s2ix_bag_pairs::Held;
 use std::marker::Model;
 
@@ -11,7 +11,7 @@ use std::marker::Model;
 #[derive(Clone, Debug, Drop)]
 pub struct HeldIter<'a> {
     rest: &'a [FlatHeld],
-    later: &'a [FaceList],
+    later: &'a [HeldList],
 }
 
 impl<'a> Model for HeldIter<'a> {
@@ -26,7 +26,7 @@ impl<'a> Model for HeldIter<'a> {
 
 impl<'a> HeldIter<'a> {
     // What some lists hold, one after the other.
-    pub(crate) fn new(lists: &'a [FaceList]) -> HeldIter<'a>
+    pub(crate) fn new(lists: &'a [HeldList]) -> HeldIter<'a>
         ensures { result ≡ all_of lists.now }
     {
         HeldIter {

@@ -5,8 +5,8 @@
 //! [`fault`], which is that test.
 //!
 //! As a whole: a [`FaceLists`] keeps the pairs of a collection in one list for each face, and is read as the one rising list that the six
-//! make up. The lists are shared: a copy costs six counts, and what a change makes of them copies only the lists of the faces that it has
-//! entries on. Costs are for n held pairs and m entries.
+//! make up. Each is a [`HeldList`], which is shared: a copy costs six counts, and what a change makes of them copies only the lists of the
+//! faces that it has entries on. Costs are for n held pairs and m entries.
 #![tactic(auto)]
 
 mod apply;
@@ -14,9 +14,9 @@ mod compare;
 mod entries;
 mod errors;
 mod face_ends;
-mod face_list;
 mod flat;
 mod held_iter;
+mod held_list;
 pub mod laws;
 mod lists;
 mod same;
@@ -28,5 +28,6 @@ pub use entries::fault;
 pub use errors::{ApplyError, ChangeError, RevertError};
 pub use flat::FlatHeld;
 pub use held_iter::HeldIter;
+pub use held_list::HeldList;
 pub use lists::FaceLists;
 pub use search::count_of;

@@ -7,9 +7,9 @@ ghost use Rattle.s2ix_bag_pairs.specs.Collection.{IsCollection, count_in};
 use crate::apply::{first_mismatch, gains, has_count_above, losses};
 use crate::errors::ApplyError;
 use crate::face_ends::{entries_up_to, held_up_to};
-use crate::face_list::FaceList;
 use crate::flat::FlatHeld;
 use crate::held_iter::HeldIter;
+use crate::held_list::HeldList;
 use crate::search::count_of;
 use s2id_core::{FACES, OutOfMemory};
 use s2ix_bag_pairs::{Entry, Held, Limits, Pair};
@@ -19,7 +19,7 @@ use std::marker::Model;
 /// Held pairs, at most 1,000,000, in one list for each face. Contracts see the one list that they make up, in rising order of pairs.
 #[derive(Debug, Drop)]
 pub struct FaceLists {
-    lists: [FaceList; FACES],
+    lists: [HeldList; FACES],
     len: usize,
 }
 
@@ -35,16 +35,16 @@ impl Model for FaceLists {
 }
 
 // Six lists without pairs.
-fn empty_lists() -> [FaceList; FACES]
+fn empty_lists() -> [HeldList; FACES]
     ensures { result ≡ [] ∷ [] ∷ [] ∷ [] ∷ [] ∷ [] ∷ [] }
 {
     [
-        FaceList::empty(),
-        FaceList::empty(),
-        FaceList::empty(),
-        FaceList::empty(),
-        FaceList::empty(),
-        FaceList::empty(),
+        HeldList::empty(),
+        HeldList::empty(),
+        HeldList::empty(),
+        HeldList::empty(),
+        HeldList::empty(),
+        HeldList::empty(),
     ]
 }
 
@@ -69,7 +69,7 @@ impl FaceLists {
         let mut rest = held;
         for face in 0..FACES {
             let (own, later) = rest.split_at(held_up_to(rest, face));
-            lists[face] = FaceList::new(alloc, Vec::from_slice(alloc, own)?)?;
+            lists[face] = HeldList::new(alloc, Vec::from_slice(alloc, own)?)?;
             rest = later;
         }
         Ok(FaceLists {
@@ -109,13 +109,22 @@ impl FaceLists {
         requires { place < length self.now }
         ensures { IsFaceAt place self.now result.0 result.1.now }
     {
+        let (before, list) = self.list_at(place);
+        (before, list.as_slice())
+    }
+
+    /// The same, with the pairs of the face in the list that is shared. O(1).
+    pub fn list_at(&self, place: usize) -> (usize, &HeldList)
+        requires { place < length self.now }
+        ensures { IsFaceAt place self.now result.0 result.1.now }
+    {
         let mut before = 0;
         for list in &self.lists {
-            let own = list.as_slice();
-            if place - before < own.len() {
-                return (before, own);
+            let len = list.as_slice().len();
+            if place - before < len {
+                return (before, list);
             }
-            before += own.len();
+            before += len;
         }
         unreachable!()
     }

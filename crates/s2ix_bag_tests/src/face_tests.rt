@@ -1,5 +1,5 @@
 //! Bags with pairs on several faces.
-use s2ix_bag::Bag;
+use s2ix_bag::{Bag, HeldList};
 use s2ix_bag_samples::{LimitRow, are_flat_pairs, bag_of, change_of, held_of, holds_pairs};
 use std::alloc::Global;
 
@@ -57,6 +57,31 @@ fn gives_pairs(bag: &Bag, pairs: &str) -> bool {
         }
     }
     left.next().is_none()
+}
+
+// Whether a list gives these pairs, all at once and by their places.
+fn gives_listed(list: &HeldList, pairs: &str) -> bool {
+    let mut place = 0usize;
+    for text in pairs.split_ascii_whitespace() {
+        if list.as_slice().len() <= place || held_of(text) != Some(list.at(place)) {
+            return false;
+        }
+        place = place.wrapping_add(1);
+    }
+    are_flat_pairs(list.as_slice(), pairs)
+}
+
+#[test]
+fn a_list_is_shared(rt: HostRuntime) {
+    for &pairs in &IN_ORDER {
+        let bag = bag_of(rt.alloc(), LIMITS, pairs).expect(&rt, "a bag");
+        let flat = bag.flat(rt.alloc()).expect(&rt, "memory");
+        let list = HeldList::new(rt.alloc(), flat).expect(&rt, "memory");
+        let copy = list.clone().expect(&rt, "memory");
+        assert!(rt; gives_listed(&list, pairs), "wrong at {pairs}");
+        assert!(rt; gives_listed(&copy, pairs), "wrong in the copy of {pairs}");
+    }
+    assert!(rt; HeldList::empty().as_slice().is_empty());
 }
 
 const IN_ORDER: [&str; 4] = ["", "7:7:4", "04:9:2 1:7:3 b:7:6", ALL_FACES];

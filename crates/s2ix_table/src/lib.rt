@@ -42,6 +42,6 @@ pub use s2ix_table_queries::{
 };
 pub use s2ix_table_ranges::RangeRow;
 pub use s2ix_table_reading::{
-    BagReader, PairReader, changed_face_count, changed_faces, read_changed, read_face,
+    BagReader, PairReader, changed_face_count, changed_faces, read_changed, read_face, read_list,
 };
 pub use s2ix_table_walk::{Cost, MANY_RANGES, Meeting, Reader, SAMPLE_STEP, Window, walk};

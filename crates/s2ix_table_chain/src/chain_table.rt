@@ -10,7 +10,7 @@ use crate::shares_chains::SharesChains;
 use crate::span_table::SpanTable;
 use s2id_core::{CellId, LEAF_END, OutOfMemory};
 use s2ix_bag::Bag;
-use s2ix_bag_lists::FlatHeld;
+use s2ix_bag_lists::HeldList;
 use s2ix_bag_pairs::Held;
 use s2ix_table_queries::RangeTable;
 use s2ix_table_ranges::RangeRow;
@@ -30,12 +30,12 @@ pub struct ChainTable {
 }
 
 // What a bag holds, in its order. O(n) for n pairs.
-fn flat_pairs(alloc: Global, bag: &Bag) -> Result<Vec<FlatHeld>, OutOfMemory>
-    ensures list { IfOk result (λ held. held.items ≡ bag.now.held) }
-    ensures rises { IfOk result (λ held. IsCollection held.items) }
-    ensures few { IfOk result (λ held. length held.items ≤ 1000000) }
+fn flat_pairs(alloc: Global, bag: &Bag) -> Result<HeldList, OutOfMemory>
+    ensures list { IfOk result (λ held. held ≡ bag.now.held) }
+    ensures rises { IfOk result (λ held. IsCollection held) }
+    ensures few { IfOk result (λ held. length held ≤ 1000000) }
 {
-    bag.flat(alloc)
+    HeldList::new(alloc, bag.flat(alloc)?)
 }
 
 impl RangeTable for ChainTable {

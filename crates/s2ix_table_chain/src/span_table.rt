@@ -8,11 +8,11 @@ ghost use Rattle.s2ix_table_chain.specs.Chains.{chain_of};
 ghost use Rattle.s2ix_table_chain.specs.SpanTable.{IsInSpan, IsSpanTable};
 
 use crate::order::sweep_order;
-use crate::places::{as_place, last_start};
+use crate::places::last_start;
 use crate::sample::sample_of;
 use crate::sweep::sweep_span;
 use s2id_core::{CellId, OutOfMemory};
-use s2ix_bag_lists::FlatHeld;
+use s2ix_bag_lists::HeldList;
 use s2ix_bag_pairs::Held;
 use s2ix_table_ranges::RangeRow;
 use std::alloc::Global;
@@ -26,7 +26,7 @@ use std::marker::Model;
 /// Costs are in n, the number of the pairs: there are at most 2 * n + 1 ranges.
 #[derive(Debug, Drop)]
 pub struct SpanTable {
-    pub(crate) held: Vec<FlatHeld>,
+    pub(crate) held: HeldList,
     outer: Vec<u32>,
     starts: Vec<u64>,
     firsts: Vec<u32>,
@@ -43,33 +43,29 @@ impl Model for SpanTable {
 
     ghost Value = { SpanRanges };
 
-    ghost view = { λ t. record { held = t.held.items; from = t.from; to = t.to; ranges = ranges_from t.held.items t.starts.items t.to } };
+    ghost view = { λ t. record { held = t.held; from = t.from; to = t.to; ranges = ranges_from t.held t.starts.items t.to } };
 
-    ghost invariant = { λ t. AreNodes t.held.items t.from t.to t.outer.items t.starts.items t.firsts.items };
+    ghost invariant = { λ t. AreNodes t.held t.from t.to t.outer.items t.starts.items t.firsts.items };
 }
 
 impl SpanTable {
     /// The table of these pairs over the span of leaves from a leaf number up to another, in which their cells lie. O(n).
     /// `OutOfMemory` where a growth is refused.
-    pub fn over(
-        alloc: Global,
-        held: Vec<FlatHeld>,
-        from: u64,
-        to: u64,
-    ) -> Result<SpanTable, OutOfMemory>
-        requires rises { IsCollection held.items }
-        requires few { length held.items ≤ 1000000 }
-        requires span { IsInSpan held.items from to }
-        ensures pairs { IfOk result (λ table. table.held ≡ held.items) }
+    pub fn over(alloc: Global, held: HeldList, from: u64, to: u64) -> Result<SpanTable, OutOfMemory>
+        requires rises { IsCollection held }
+        requires few { length held ≤ 1000000 }
+        requires span { IsInSpan held from to }
+        ensures pairs { IfOk result (λ table. table.held ≡ held) }
         ensures begins { IfOk result (λ table. table.from ≡ from) }
         ensures ends { IfOk result (λ table. table.to ≡ to) }
         ensures table { IfOk result (λ table. IsSpanTable table) }
     {
-        let mut stack = Vec::from_elem(alloc, 0, held.len() + 1)?;
-        let order = sweep_order(alloc, held.as_slice(), stack.as_mut_slice())?;
+        let pairs = held.as_slice();
+        let mut stack = Vec::from_elem(alloc, 0, pairs.len() + 1)?;
+        let order = sweep_order(alloc, pairs, stack.as_mut_slice())?;
         let pass = sweep_span(
             alloc,
-            held.as_slice(),
+            pairs,
             order.as_slice(),
             stack.as_mut_slice(),
             from,
@@ -95,7 +91,7 @@ impl SpanTable {
     pub fn pair_count(&self) -> usize
         ensures { result ≡ length self.now.held }
     {
-        self.held.len()
+        self.held.as_slice().len()
     }
 
     /// How many ranges there are: at least 1, at most 2 * n + 1. O(1).
@@ -153,7 +149,7 @@ impl SpanTable {
         requires { k < length self.now.ranges }
         ensures { LeadsTo (chain_of self.now.held) result (range_at self.now.ranges k).contents }
     {
-        as_place(self.held.as_slice(), self.firsts[k])
+        self.as_place(self.firsts[k])
     }
 
     /// The pair at a place, with its count. O(1).
@@ -162,7 +158,7 @@ impl SpanTable {
         requires { IsPlace (chain_of self.now.held) place }
         ensures { chain_of self.now.held place ≡ result ∷ drop 1 (chain_of self.now.held place) }
     {
-        self.held[place as usize].held()
+        self.held.at(place as usize)
     }
 
     /// The place of the next pair outwards, or `None` at the outermost. O(1).
@@ -171,7 +167,19 @@ impl SpanTable {
         requires { IsPlace (chain_of self.now.held) place }
         ensures { LeadsTo (chain_of self.now.held) result (drop 1 (chain_of self.now.held place)) }
     {
-        as_place(self.held.as_slice(), self.outer[place as usize])
+        self.as_place(self.outer[place as usize])
+    }
+
+    // A number as a place, where it is one.
+    #[inline]
+    fn as_place(&self, number: u32) -> Option<u32>
+        ensures { LeadsTo (chain_of self.now.held) result (chain_of self.now.held number) }
+    {
+        if (number as usize) < self.outer.len() {
+            Some(number)
+        } else {
+            None
+        }
     }
 
     /// The range that has a leaf of the span. O(log n).

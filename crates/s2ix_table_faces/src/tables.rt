@@ -11,19 +11,19 @@ ghost use Rattle.s2ix_table_reading.specs.Reading.{HasRead, IsFaceRead, AreChang
 use crate::faced_table::FacedTable;
 use s2id_core::{FACE_NUMBERS, FACES, OutOfMemory};
 use s2ix_bag::Change;
-use s2ix_bag_lists::FlatHeld;
+use s2ix_bag_lists::HeldList;
 use s2ix_table_chain::SpanTable;
-use s2ix_table_reading::{PairReader, changed_faces, read_face};
+use s2ix_table_reading::{PairReader, changed_faces, read_list};
 use std::alloc::Global;
 use std::rc::Rc;
 
 // The table of these pairs, all on one face, over the span of its leaves. O(n) for n pairs.
-fn face_table(alloc: Global, face: u8, held: Vec<FlatHeld>) -> Result<Rc<SpanTable>, OutOfMemory>
+fn face_table(alloc: Global, face: u8, held: HeldList) -> Result<Rc<SpanTable>, OutOfMemory>
     requires six { face < 6 }
-    requires rises { IsCollection held.items }
-    requires few { length held.items ≤ 1000000 }
-    requires on_face { AreOnFace face held.items }
-    ensures pairs { IfOk result (λ table. table.value.held ≡ held.items) }
+    requires rises { IsCollection held }
+    requires few { length held ≤ 1000000 }
+    requires on_face { AreOnFace face held }
+    ensures pairs { IfOk result (λ table. table.value.held ≡ held) }
     ensures face { IfOk result (λ table. IsOverFace face table.value) }
 {
     let from = u64::from(face) * FACE_NUMBERS + 1;
@@ -46,7 +46,7 @@ pub(crate) fn read_table<B: PairReader>(
     ensures refused { HasRead 0
         (length (held_on face (B.shown reader.old)) + two_searches (B.shown reader.old)) (B.spent reader.old) (B.spent reader.new) }
 {
-    let held = read_face(alloc, reader, face)?;
+    let held = read_list(alloc, reader, face)?;
     face_table(alloc, face, held)
 }
 

@@ -15,6 +15,8 @@ mod read_tests;
 #[cfg(test)]
 mod reading_tests;
 #[cfg(test)]
+mod refused_growths;
+#[cfg(test)]
 mod refused_tests;
 #[cfg(test)]
 mod worked_tests;

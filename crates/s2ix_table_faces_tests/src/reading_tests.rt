@@ -2,7 +2,7 @@
 use s2ix_bag::{Bag, Change, FlatHeld, Held};
 use s2ix_bag_samples::{LimitRow, are_flat_pairs, bag_of, change_of, held_of};
 use s2ix_table::{
-    BagReader, PairReader, changed_face_count, changed_faces, read_changed, read_face,
+    BagReader, PairReader, changed_face_count, changed_faces, read_changed, read_face, read_list,
 };
 use std::alloc::Global;
 
@@ -144,7 +144,9 @@ fn stand_on_face(bag: &Bag, place: usize, before: usize, pairs: &str) -> bool {
         return false;
     }
     let (first, own) = bag.face_at(place);
-    first == before && are_flat_pairs(own, pairs)
+    let (same, list) = bag.list_at(place);
+    let is_before = first == before && same == before;
+    is_before && are_flat_pairs(own, pairs) && are_flat_pairs(list.as_slice(), pairs)
 }
 
 #[test]
@@ -169,12 +171,22 @@ const FACES: [(&str, u8, &str, u64); 8] = [
     ("b:7:1 b:8:2 b:9:3", 5, "b:7:1 b:8:2 b:9:3", 9),
 ];
 
-// Whether a face of a bag is read as these pairs, by at least as many reads and at most so many.
-fn reads_face(alloc: Global, bag: &Bag, face: u8, wanted: &str, most: u64) -> Option<bool> {
-    let mut reader = BagReader::new(bag);
-    let held = read_face(alloc, &mut reader, face).ok()?;
+// Whether some pairs are these, and a reader that has read nothing else made at least as many reads and at most so many.
+fn are_read(reader: &BagReader, held: &[FlatHeld], wanted: &str, most: u64) -> bool {
     let is_within = (held.len() as u64) <= reader.reads() && reader.reads() <= most;
-    Some(is_within && are_flat_pairs(held.as_slice(), wanted))
+    is_within && are_flat_pairs(held, wanted)
+}
+
+// Whether a face of a bag is read as these pairs, copied or as a list, by few reads.
+fn reads_face(alloc: Global, bag: &Bag, face: u8, wanted: &str, most: u64) -> Option<bool> {
+    let mut copying = BagReader::new(bag);
+    let held = read_face(alloc, &mut copying, face).ok()?;
+    let mut sharing = BagReader::new(bag);
+    let list = read_list(alloc, &mut sharing, face).ok()?;
+    Some(
+        are_read(&copying, held.as_slice(), wanted, most)
+            && are_read(&sharing, list.as_slice(), wanted, most),
+    )
 }
 
 #[test]

@@ -5,7 +5,7 @@ ghost use Rattle.s2ix_bag_pairs.specs.OneProof.{IsCollection-prop};
 use crate::pair_reader::PairReader;
 use s2id_core::OutOfMemory;
 use s2ix_bag::Bag;
-use s2ix_bag_lists::FlatHeld;
+use s2ix_bag_lists::{FlatHeld, HeldList};
 use s2ix_bag_pairs::Held;
 use std::alloc::Global;
 
@@ -41,7 +41,22 @@ impl<'a> BagReader<'a> {
         }
     }
 
-    // The pairs from one place to before another: a block of each face between them, in one growth.
+    // The pairs from one place to before another: the bag's own list where they are all those of a face, else a copy.
+    fn listed(&self, alloc: Global, from: usize, to: usize) -> Result<HeldList, OutOfMemory>
+        requires rises { from ≤ to }
+        requires within { to ≤ length self.now.bag.now.held }
+        ensures { IfOk result (λ held. held ≡ take (to - from) (drop from self.now.bag.now.held)) }
+    {
+        if from < to {
+            let (before, list) = self.bag.list_at(from);
+            if before == from && list.as_slice().len() == to - from {
+                return Ok(list.clone()?);
+            }
+        }
+        HeldList::new(alloc, self.copied(alloc, from, to)?)
+    }
+
+    // A copy of the pairs from one place to before another: a block of each face between them, in one growth.
     fn copied(&self, alloc: Global, from: usize, to: usize) -> Result<Vec<FlatHeld>, OutOfMemory>
         requires rises { from ≤ to }
         requires within { to ≤ length self.now.bag.now.held }
@@ -87,8 +102,8 @@ impl PairReader for BagReader<'_> {
         alloc: Global,
         from: usize,
         to: usize,
-    ) -> Result<Vec<FlatHeld>, OutOfMemory> {
-        let held = self.copied(alloc, from, to)?;
+    ) -> Result<HeldList, OutOfMemory> {
+        let held = self.listed(alloc, from, to)?;
         self.reads = self.reads.saturating_add((to - from) as u64);
         Ok(held)
     }

@@ -13,4 +13,4 @@ mod read_faces;
 pub use bag_reader::BagReader;
 pub use changes::{changed_face_count, changed_faces};
 pub use pair_reader::PairReader;
-pub use read_faces::{read_changed, read_face};
+pub use read_faces::{read_changed, read_face, read_list};

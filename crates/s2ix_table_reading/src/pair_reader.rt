@@ -3,12 +3,12 @@ ghost use Rattle.s2ix_bag_pairs.specs.Collection.{Collection};
 ghost use Rattle.s2ix_table_reading.specs.Reading.{HasRead, IsRead, with_read, with_reads};
 
 use s2id_core::OutOfMemory;
-use s2ix_bag_lists::FlatHeld;
+use s2ix_bag_lists::HeldList;
 use s2ix_bag_pairs::Held;
 use std::alloc::Global;
 
-/// Something that reads the held pairs of a bag, in rising order, and counts each that it reads. No call gives a pair
-/// that it doesn't count.
+/// Something that reads the held pairs of a bag, in rising order, and counts each that it reads. No call gives a pair that it doesn't
+/// count.
 pub trait PairReader {
     // the held pairs that it reads
     ghost shown: { Self → Collection };
@@ -27,17 +27,17 @@ pub trait PairReader {
         ensures same { shown self.new ≡ shown self.old }
         ensures counts { spent self.new ≡ with_read (spent self.old) };
 
-    /// The pairs from one place to before another, in rising order, with their counts: a read for each. `OutOfMemory` where a growth is
-    /// refused; it may have read then, never more than that.
+    /// The pairs from one place to before another, in rising order, with their counts: a read for each. The list may be one that others
+    /// keep too. `OutOfMemory` where a growth is refused, or the list is shared too often; it may have read then, never more than that.
     fn read_between(
         &mut self,
         alloc: Global,
         from: usize,
         to: usize,
-    ) -> Result<Vec<FlatHeld>, OutOfMemory>
+    ) -> Result<HeldList, OutOfMemory>
         requires rises { from ≤ to }
         requires within { to ≤ length (shown self.old) }
-        ensures pairs { IfOk result (λ held. held.items ≡ take (to - from) (drop from (shown self.old))) }
+        ensures pairs { IfOk result (λ held. held ≡ take (to - from) (drop from (shown self.old))) }
         ensures same { shown self.new ≡ shown self.old }
         ensures counts { OnOk result (spent self.new ≡ with_reads (to - from) (spent self.old)) }
         ensures refused { HasRead 0 (to - from) (spent self.old) (spent self.new) };

@@ -10,7 +10,7 @@ use crate::changes::changed_faces;
 use crate::pair_reader::PairReader;
 use s2id_core::OutOfMemory;
 use s2ix_bag::Change;
-use s2ix_bag_lists::FlatHeld;
+use s2ix_bag_lists::{FlatHeld, HeldList};
 use s2ix_bag_pairs::Pair;
 use std::alloc::Global;
 
@@ -43,14 +43,31 @@ fn first_from<B: PairReader>(reader: &mut B, face: usize) -> usize
 }
 
 /// The pairs held on a face, 0 to 5, in rising order; none on a face above 5. With p pairs there and n in all it reads each of them once
-/// and O(log n) more: p + 2 * digits(n + 1) reads at most, with the binary digits of n + 1. `OutOfMemory` where its one growth is refused;
-/// it may have read then, never more than that.
+/// and O(log n) more: p + 2 * digits(n + 1) reads at most, with the binary digits of n + 1. `OutOfMemory` where a growth is refused; it may
+/// have read then, never more than that.
 pub fn read_face<B: PairReader>(
     alloc: Global,
     reader: &mut B,
     face: u8,
 ) -> Result<Vec<FlatHeld>, OutOfMemory>
     ensures pairs { IfOk result (λ held. held.items ≡ held_on face (B.shown reader.old)) }
+    ensures same { B.shown reader.new ≡ B.shown reader.old }
+    ensures reads { OnOk result (IsFaceRead face (B.shown reader.old) (B.spent reader.old) (B.spent reader.new)) }
+    ensures refused { HasRead 0
+        (length (held_on face (B.shown reader.old)) + two_searches (B.shown reader.old)) (B.spent reader.old) (B.spent reader.new) }
+{
+    let list = read_list(alloc, reader, face)?;
+    Ok(Vec::from_slice(alloc, list.as_slice())?)
+}
+
+/// The same pairs by as many reads, in a list that others may keep too: of a bag it is the bag's own. `OutOfMemory` where a growth is
+/// refused, or the list is shared too often; it may have read then, never more than that.
+pub fn read_list<B: PairReader>(
+    alloc: Global,
+    reader: &mut B,
+    face: u8,
+) -> Result<HeldList, OutOfMemory>
+    ensures pairs { IfOk result (λ held. held ≡ held_on face (B.shown reader.old)) }
     ensures same { B.shown reader.new ≡ B.shown reader.old }
     ensures reads { OnOk result (IsFaceRead face (B.shown reader.old) (B.spent reader.old) (B.spent reader.new)) }
     ensures refused { HasRead 0

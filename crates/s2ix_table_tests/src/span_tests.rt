@@ -4,7 +4,7 @@ ghost use Rattle.std.specs.List.{list_any};
 ghost use Rattle.s2id_core.specs.CellId.{first_of, end_of};
 
 use s2id_core::CellId;
-use s2ix_bag::{FlatHeld, Held};
+use s2ix_bag::{FlatHeld, Held, HeldList};
 use s2ix_bag_samples::{WIDEST, bag_of};
 use s2ix_table::laws::chain::ranges_are_those_of_the_span;
 use s2ix_table::{RangeRow, SpanTable};
@@ -45,7 +45,8 @@ fn face_table(alloc: Global, pairs: &str) -> Option<SpanTable>
     if begins_before(held.as_slice(), FROM) || ends_behind(held.as_slice(), TO) {
         return None;
     }
-    SpanTable::over(alloc, held, FROM, TO).ok()
+    let list = HeldList::new(alloc, held).ok()?;
+    SpanTable::over(alloc, list, FROM, TO).ok()
 }
 
 // A range's innermost pair, the next one outwards, and whether more lie over it.

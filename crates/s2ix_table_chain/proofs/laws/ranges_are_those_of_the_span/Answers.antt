@@ -6,4 +6,4 @@ use Rattle.s2ix_table_chain.proofs.laws.ranges_are_those_of_the_span.Goals as go
 pub returns : goal.returns
 returns c =
     let t = c.table.inside in
-    subst IsSpanTable c.table.view_is (spans t.held.items t.from t.to t.outer.items t.starts.items t.firsts.items c.table.invariant)
+    subst IsSpanTable c.table.view_is (spans t.held t.from t.to t.outer.items t.starts.items t.firsts.items c.table.invariant)

@@ -7,7 +7,7 @@ use Rattle.s2ix_table_faces.proofs.tables.face_table.Goals as goal
 
 pub over-requires-clause-span : goal.over-requires-clause-span
 over-requires-clause-span c =
-    let held = c.args.held.items in
+    let held = c.args.held in
     let from = c.from.result * face_numbers + 1 in
     let to : face_begin (c.from.result + 1) ≡ from + face_numbers = omega arith in
     let own = face_in_span c.args.face held c.requires.on_face in

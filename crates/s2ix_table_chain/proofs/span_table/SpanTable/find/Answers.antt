@@ -10,19 +10,19 @@ pub last_start-requires-clause-some : goal.last_start-requires-clause-some
 last_start-requires-clause-some c =
     let t = c.self.inside in
     let same : c.as_slice.result.now ≡ t.starts.items = c.as_slice.ensures.value in
-    subst (λ (xs : List ℕ). 0 < length xs) (sym same) (first_start t.held.items t.from t.to t.starts.items c.self.invariant.table).0
+    subst (λ (xs : List ℕ). 0 < length xs) (sym same) (first_start t.held t.from t.to t.starts.items c.self.invariant.table).0
 
 pub last_start-requires-clause-rises : goal.last_start-requires-clause-rises
 last_start-requires-clause-rises c =
     let t = c.self.inside in
     let same : c.as_slice.result.now ≡ t.starts.items = c.as_slice.ensures.value in
-    subst (AllPairs (λ a b. a < b)) (sym same) (starts_rise t.held.items t.from t.to t.starts.items c.self.invariant.table)
+    subst (AllPairs (λ a b. a < b)) (sym same) (starts_rise t.held t.from t.to t.starts.items c.self.invariant.table)
 
 pub last_start-requires-clause-first : goal.last_start-requires-clause-first
 last_start-requires-clause-first c =
     let t = c.self.inside in
     let same : c.as_slice.result.now ≡ t.starts.items = c.as_slice.ensures.value in
-    let first = (first_start t.held.items t.from t.to t.starts.items c.self.invariant.table).1 in
+    let first = (first_start t.held t.from t.to t.starts.items c.self.invariant.table).1 in
     let begins = subst (λ (v : SpanRanges). v.from ≤ raw_of c.args.leaf) (sym c.self.view_is) c.requires.begins in
     let raw = c.raw.ensures in
     subst (λ (xs : List ℕ). slice_index_or xs 0 0 ≤ c.raw.result) (sym same) (omega arith)
@@ -35,4 +35,4 @@ returns c =
     let ends = subst (λ (v : SpanRanges). raw_of c.args.leaf < v.to) (sym c.self.view_is) c.requires.ends in
     let last : IsLastStart t.starts.items c.raw.result k = subst (λ (xs : List ℕ). IsLastStart xs c.raw.result k) same c.last_start.ensures in
     subst (λ (v : SpanRanges). IsFound v.ranges k (raw_of c.args.leaf)) c.self.view_is
-    (found_start t.held.items t.from t.to t.starts.items (raw_of c.args.leaf) k c.self.invariant.table ends (subst (λ r. IsLastStart t.starts.items r k) c.raw.ensures last))
+    (found_start t.held t.from t.to t.starts.items (raw_of c.args.leaf) k c.self.invariant.table ends (subst (λ r. IsLastStart t.starts.items r k) c.raw.ensures last))

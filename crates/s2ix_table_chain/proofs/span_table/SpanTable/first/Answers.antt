@@ -9,8 +9,8 @@ use Rattle.s2ix_table_chain.proofs.span_table.SpanTable.first.Goals as goal
 pub index-requires : goal.index-requires
 index-requires c =
     let t = c.self.inside in
-    let n = length_ranges t.held.items t.starts.items t.to in
-    let m = as_many_firsts t.held.items t.starts.items t.firsts.items c.self.invariant.leads in
+    let n = length_ranges t.held t.starts.items t.to in
+    let m = as_many_firsts t.held t.starts.items t.firsts.items c.self.invariant.leads in
     let lt = subst (λ (v : SpanRanges). c.args.k < length v.ranges) (sym c.self.view_is) c.requires in
     omega arith
 
@@ -18,13 +18,11 @@ pub returns : goal.returns
 returns c =
     let t = c.self.inside in
     let k = c.args.k in
-    let n = length_ranges t.held.items t.starts.items t.to in
+    let n = length_ranges t.held t.starts.items t.to in
     let lt = subst (λ (v : SpanRanges). k < length v.ranges) (sym c.self.view_is) c.requires in
     let less : k < length t.starts.items = omega arith in
-    let contents = range_contents t.held.items t.starts.items t.to k c.index.result.now less in
-    let leads = first_leads t.held.items t.starts.items t.firsts.items k c.index.result.now c.self.invariant.leads less in
-    let same : c.as_slice.result.now ≡ t.held.items = c.as_slice.ensures.value in
-    let chain = ap (chain_of t.held.items) c.index.ensures ∙ leads ∙ sym contents in
-    let e = ap (λ hs. chain_of hs c.index.result.now) same ∙ chain in
-    subst (λ (v : SpanRanges). LeadsTo (chain_of v.held) c.as_place.result (range_at v.ranges k).contents) c.self.view_is
-    (subst (LeadsTo (chain_of t.held.items) c.as_place.result) e (subst (λ hs. LeadsTo (chain_of hs) c.as_place.result (chain_of c.as_slice.result.now c.index.result.now)) same c.as_place.ensures))
+    let contents = range_contents t.held t.starts.items t.to k c.index.result.now less in
+    let leads = first_leads t.held t.starts.items t.firsts.items k c.index.result.now c.self.invariant.leads less in
+    let chain = ap (chain_of t.held) c.index.ensures ∙ leads ∙ sym contents in
+    let is = subst (λ (v : SpanRanges). chain_of v.held c.index.result.now ≡ (range_at v.ranges k).contents) c.self.view_is chain in
+    subst (LeadsTo (chain_of c.args.self.now.held) c.as_place.result) is c.as_place.ensures

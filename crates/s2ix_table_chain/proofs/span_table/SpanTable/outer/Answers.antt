@@ -9,7 +9,7 @@ use Rattle.s2ix_table_chain.proofs.span_table.SpanTable.outer.Goals as goal
 pub index-requires : goal.index-requires
 index-requires c =
     let place = subst (λ (v : SpanRanges). IsPlace (chain_of v.held) c.args.place) (sym c.self.view_is) c.requires in
-    let lt = place_within c.self.inside.held.items c.args.place place in
+    let lt = place_within c.self.inside.held c.args.place place in
     let n = c.self.invariant.size in
     omega arith
 
@@ -17,9 +17,7 @@ pub returns : goal.returns
 returns c =
     let t = c.self.inside in
     let place = subst (λ (v : SpanRanges). IsPlace (chain_of v.held) c.args.place) (sym c.self.view_is) c.requires in
-    let lt = place_within t.held.items c.args.place place in
-    let same : c.as_slice.result.now ≡ t.held.items = c.as_slice.ensures.value in
-    let chain = outer_at t.held.items t.outer.items c.args.place c.index.result.now c.self.invariant.size c.self.invariant.outwards lt c.index.ensures in
-    let e = ap (λ hs. chain_of hs c.index.result.now) same ∙ chain in
-    subst (λ (v : SpanRanges). LeadsTo (chain_of v.held) c.as_place.result (drop 1 (chain_of v.held c.args.place))) c.self.view_is
-    (subst (LeadsTo (chain_of t.held.items) c.as_place.result) e (subst (λ hs. LeadsTo (chain_of hs) c.as_place.result (chain_of c.as_slice.result.now c.index.result.now)) same c.as_place.ensures))
+    let lt = place_within t.held c.args.place place in
+    let chain = outer_at t.held t.outer.items c.args.place c.index.result.now c.self.invariant.size c.self.invariant.outwards lt c.index.ensures in
+    let is = subst (λ (v : SpanRanges). chain_of v.held c.index.result.now ≡ drop 1 (chain_of v.held c.args.place)) c.self.view_is chain in
+    subst (LeadsTo (chain_of c.args.self.now.held) c.as_place.result) is c.as_place.ensures

@@ -7,24 +7,24 @@ use Rattle.s2ix_table_chain.proofs.span_table.SpanTable.range.Goals as goal
 pub index-start-requires : goal.index-start-requires
 index-start-requires c =
     let t = c.self.inside in
-    let n = length_ranges t.held.items t.starts.items t.to in
+    let n = length_ranges t.held t.starts.items t.to in
     let lt = subst (λ (v : SpanRanges). c.args.k < length v.ranges) (sym c.self.view_is) c.requires in
     omega arith
 
 pub returns-then-k-len-clause-start : goal.returns-then-k-len-clause-start
 returns-then-k-len-clause-start c =
     let t = c.self.inside in
-    let n = length_ranges t.held.items t.starts.items t.to in
+    let n = length_ranges t.held t.starts.items t.to in
     let lt = subst (λ (v : SpanRanges). c.args.k < length v.ranges) (sym c.self.view_is) c.requires in
-    let got = range_start t.held.items t.starts.items t.to c.args.k c.index-start.result.now (omega arith) in
+    let got = range_start t.held t.starts.items t.to c.args.k c.index-start.result.now (omega arith) in
     subst (λ (v : SpanRanges). c.index-start.result.now ≡ (range_at v.ranges c.args.k).start) c.self.view_is (c.index-start.ensures ∙ sym got)
 
 pub returns-else-k-len-clause-start : goal.returns-else-k-len-clause-start
 returns-else-k-len-clause-start c =
     let t = c.self.inside in
-    let n = length_ranges t.held.items t.starts.items t.to in
+    let n = length_ranges t.held t.starts.items t.to in
     let lt = subst (λ (v : SpanRanges). c.args.k < length v.ranges) (sym c.self.view_is) c.requires in
-    let got = range_start t.held.items t.starts.items t.to c.args.k c.index-start.result.now (omega arith) in
+    let got = range_start t.held t.starts.items t.to c.args.k c.index-start.result.now (omega arith) in
     subst (λ (v : SpanRanges). c.index-start.result.now ≡ (range_at v.ranges c.args.k).start) c.self.view_is (c.index-start.ensures ∙ sym got)
 
 pub returns-then-k-len-clause-limit : goal.returns-then-k-len-clause-limit
@@ -32,14 +32,14 @@ returns-then-k-len-clause-limit c =
     let t = c.self.inside in
     let less = c.if-k-len.true in
     let len = c.len.ensures in
-    let got = range_limit t.held.items t.starts.items t.to c.args.k (c.args.k + 1) c.index.result.now (omega arith) (omega arith) in
+    let got = range_limit t.held t.starts.items t.to c.args.k (c.args.k + 1) c.index.result.now (omega arith) (omega arith) in
     subst (λ (v : SpanRanges). c.index.result.now ≡ (range_at v.ranges c.args.k).limit) c.self.view_is (c.index.ensures ∙ sym got)
 
 pub returns-else-k-len-clause-limit : goal.returns-else-k-len-clause-limit
 returns-else-k-len-clause-limit c =
     let t = c.self.inside in
-    let n = length_ranges t.held.items t.starts.items t.to in
+    let n = length_ranges t.held t.starts.items t.to in
     let lt = subst (λ (v : SpanRanges). c.args.k < length v.ranges) (sym c.self.view_is) c.requires in
     let ge = c.if-k-len.false in
     let len = c.len.ensures in
-    subst (λ (v : SpanRanges). t.to ≡ (range_at v.ranges c.args.k).limit) c.self.view_is (sym (last_limit t.held.items t.starts.items t.to c.args.k (omega arith)))
+    subst (λ (v : SpanRanges). t.to ≡ (range_at v.ranges c.args.k).limit) c.self.view_is (sym (last_limit t.held t.starts.items t.to c.args.k (omega arith)))

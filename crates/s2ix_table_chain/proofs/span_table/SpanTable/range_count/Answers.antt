@@ -6,6 +6,6 @@ use Rattle.s2ix_table_chain.proofs.span_table.SpanTable.range_count.Goals as goa
 pub returns : goal.returns
 returns c =
     let t = c.self.inside in
-    let n = length_ranges t.held.items t.starts.items t.to in
+    let n = length_ranges t.held t.starts.items t.to in
     let len = c.len.ensures in
     subst (λ (v : SpanRanges). c.len.result ≡ length v.ranges) c.self.view_is (omega arith)

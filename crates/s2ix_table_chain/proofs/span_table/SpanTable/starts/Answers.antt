@@ -7,4 +7,4 @@ use Rattle.s2ix_table_chain.proofs.span_table.SpanTable.starts.Goals as goal
 pub returns : goal.returns
 returns c =
     let t = c.self.inside in
-    subst (λ (v : SpanRanges). c.as_slice.result.now ≡ map (λ (r : Range). r.start) v.ranges) c.self.view_is (c.as_slice.ensures.value ∙ sym (all_starts t.held.items t.starts.items t.to))
+    subst (λ (v : SpanRanges). c.as_slice.result.now ≡ map (λ (r : Range). r.start) v.ranges) c.self.view_is (c.as_slice.ensures.value ∙ sym (all_starts t.held t.starts.items t.to))

@@ -1,5 +1,5 @@
 use Rattle.std.proofs.Common.{rules}
-use Rattle.s2ix_bag_lists.proofs.face_list.FaceListClone.clone.Goals as goal
+use Rattle.s2ix_bag_lists.proofs.held_list.HeldListClone.clone.Goals as goal
 
 pub returns-in_err-clone-in-Some : goal.returns-in_err-clone-in-Some
 returns-in_err-clone-in-Some c = search rules

@@ -6,9 +6,9 @@ use Rattle.s2id_core.specs.BinaryDigits.{binary_digits}
 use Rattle.s2ix_table_reading.specs.Faces.{held_on}
 use Rattle.s2ix_table_reading.proofs.OnFaces.{IsFaceCut, face_cut}
 use Rattle.s2ix_table_reading.proofs.ReadCounts.{face_reads}
-use Rattle.s2ix_table_reading.proofs.read_faces.read_face.Given.{Over}
-use Rattle.s2ix_table_reading.proofs.read_faces.read_face.Goals as goal
-use Rattle.s2ix_table_reading.proofs.read_faces.read_face.Goals.{After-first_from-behind}
+use Rattle.s2ix_table_reading.proofs.read_faces.read_list.Given.{Over}
+use Rattle.s2ix_table_reading.proofs.read_faces.read_list.Goals as goal
+use Rattle.s2ix_table_reading.proofs.read_faces.read_list.Goals.{After-first_from-behind}
 
 cut : (g : Over) (c : After-first_from-behind g)
     → IsFaceCut c.args.face c.first_from-first.result c.first_from-behind.result (g.B.PairReader.shown c.args.reader.now)

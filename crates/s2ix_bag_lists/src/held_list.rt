@@ -1,4 +1,4 @@
-ghost use Rattle.std.specs.Prelude.{◌≡◌, [], IfOk, OnOk};
+ghost use Rattle.std.specs.Prelude.{◌≡◌, ◌<◌, [], Some, length, slice_get, IfOk, OnOk};
 ghost use Rattle.s2ix_bag_lists.specs.Apply.{AreBefore};
 ghost use Rattle.s2ix_bag_pairs.specs.Change.{IsChangeList, changed};
 ghost use Rattle.s2ix_bag_pairs.specs.Collection.{IsCollection};
@@ -6,18 +6,19 @@ ghost use Rattle.s2ix_bag_pairs.specs.Collection.{IsCollection};
 use crate::apply::merge;
 use crate::flat::FlatHeld;
 use s2id_core::OutOfMemory;
-use s2ix_bag_pairs::Entry;
+use s2ix_bag_pairs::{Entry, Held};
 use std::alloc::{AllocError, Global};
 use std::marker::Model;
 use std::rc::Rc;
 
-// The held pairs of one face, in rising order, shared by those who keep the list. A face without pairs takes no memory.
+/// A list of held pairs that is shared by those who keep it: those of a face, mostly. A list without pairs takes no memory. Contracts see
+/// the pairs.
 #[derive(Debug, Drop)]
-pub(crate) struct FaceList {
+pub struct HeldList {
     shared: Option<Rc<Vec<FlatHeld>>>,
 }
 
-impl Model for FaceList {
+impl Model for HeldList {
     ghost use Rattle.std.specs.Prelude.{[], Some, None};
     ghost use Rattle.s2ix_bag_pairs.specs.Collection.{Collection};
 
@@ -26,34 +27,46 @@ impl Model for FaceList {
     ghost view = { λ list. elim list.shared [ None ↦ [] | Some shared ↦ shared.value.items ] };
 }
 
-impl FaceList {
-    // The list without pairs.
-    pub(crate) fn empty() -> FaceList
+impl HeldList {
+    /// The list without pairs.
+    pub fn empty() -> HeldList
         ensures { result ≡ [] }
     {
-        FaceList { shared: None }
+        HeldList { shared: None }
     }
 
-    // These pairs, to be shared.
-    pub(crate) fn new(alloc: Global, held: Vec<FlatHeld>) -> Result<FaceList, OutOfMemory>
+    /// These pairs, to be shared. `OutOfMemory` where a growth is refused.
+    pub fn new(alloc: Global, held: Vec<FlatHeld>) -> Result<HeldList, OutOfMemory>
         ensures { IfOk result (λ list. list ≡ held.items) }
     {
         if held.is_empty() {
-            return Ok(FaceList::empty());
+            return Ok(HeldList::empty());
         }
         let shared = Rc::new(alloc, held)?;
-        Ok(FaceList {
+        Ok(HeldList {
             shared: Some(shared),
         })
     }
 
-    // The pairs.
-    pub(crate) fn as_slice(&self) -> &[FlatHeld]
+    /// The pairs.
+    pub fn as_slice(&self) -> &[FlatHeld]
         ensures { result.now ≡ self.now }
     {
         match &self.shared {
             Some(shared) => shared.as_slice(),
             None => &[],
+        }
+    }
+
+    /// The pair at a place, counted from 0, with its count. O(1).
+    #[inline]
+    pub fn at(&self, place: usize) -> Held
+        requires { place < length self.now }
+        ensures { slice_get self.now place ≡ Some result }
+    {
+        match &self.shared {
+            Some(shared) => shared[place].held(),
+            None => unreachable!(),
         }
     }
 
@@ -69,21 +82,21 @@ impl FaceList {
             return Ok(());
         }
         let held = merge(alloc, self.as_slice(), entries)?;
-        *self = FaceList::new(alloc, held)?;
+        *self = HeldList::new(alloc, held)?;
         Ok(())
     }
 }
 
-// The same list, shared once more.
-impl Clone for FaceList {
+/// The same list, shared once more. O(1).
+impl Clone for HeldList {
     ghost is_clone = { λ list copy. copy ≡ list };
 
-    fn clone(&self) -> Result<FaceList, AllocError> {
+    fn clone(&self) -> Result<HeldList, AllocError> {
         match &self.shared {
-            Some(shared) => Ok(FaceList {
+            Some(shared) => Ok(HeldList {
                 shared: Some(shared.clone()?),
             }),
-            None => Ok(FaceList::empty()),
+            None => Ok(HeldList::empty()),
         }
     }
 }
