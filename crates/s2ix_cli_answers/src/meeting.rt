@@ -7,7 +7,7 @@ use s2id_union::CellUnion;
 use s2ix_table_queries::{Meter, RangeTable};
 use s2ix_table_walk::Meeting;
 use s2ix_text_io::{Sink, WriteFault};
-use s2ix_text_write::{ListItem, write_end_of_list};
+use s2ix_text_write::Block;
 
 /// Writes the pairs that meet a target as a list, each as it is found: by the first leaf that it shares with the target, then falling
 /// level, then rising label. O(k + r + t log n) for the k pairs, over the r ranges of n that the t cells of the target meet.
@@ -21,10 +21,11 @@ pub fn write_meeting<T: RangeTable, K: Sink>(
 {
     let mut meter = Meter::new(table);
     let mut meeting = Meeting::new(&mut meter, target);
+    let mut block = Block::new();
     let mut count = 0;
     while let Some(held) = meeting.advance() {
-        held.write_line(sink)?;
+        block.write_line(held, sink)?;
         count += 1;
     }
-    write_end_of_list(count, sink)
+    block.write_end(count, sink)
 }

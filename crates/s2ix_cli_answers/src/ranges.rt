@@ -11,7 +11,7 @@ use s2id_core::{CellId, sixteen_digits};
 use s2ix_table_queries::{RangeTable, chain_at, contents};
 use s2ix_table_ranges::RangeRow;
 use s2ix_text_io::{Sink, WriteFault, put_all, put_together};
-use s2ix_text_write::{ListItem, write_end_of_list, write_pair_between};
+use s2ix_text_write::{Block, write_end_of_list, write_pair_between};
 
 /// Writes what lies over a leaf as a list of pairs, innermost cell first, the labels of one cell rising. O(log n + m) for
 /// n ranges and m pairs over the leaf.
@@ -24,12 +24,13 @@ pub fn write_contents<T: RangeTable, K: Sink>(
     requires leaf { level_of leaf ≡ 30 }
     ensures { Writes K.Sink sink.old sink.new result (list_text held_line (contents_at (raw_of leaf) (T.pairs table.now))) }
 {
+    let mut block = Block::new();
     let mut count = 0;
     for held in chain_at(table, leaf) {
-        held.write_line(sink)?;
+        block.write_line(held, sink)?;
         count += 1;
     }
-    write_end_of_list(count, sink)
+    block.write_end(count, sink)
 }
 
 // Writes the bounds of a range.

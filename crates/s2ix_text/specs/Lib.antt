@@ -4,6 +4,7 @@ pub use Rattle.s2ix_text_io.specs.Faults
 pub use Rattle.s2ix_text_io.specs.Pieces
 pub use Rattle.s2ix_text_io.specs.Puts
 pub use Rattle.s2ix_text_write.specs.Dump
+pub use Rattle.s2ix_text_write.specs.Gathered
 pub use Rattle.s2ix_text_write.specs.Journal
 pub use Rattle.s2ix_text_write.specs.Lists
 pub use Rattle.s2ix_text_write.specs.Version

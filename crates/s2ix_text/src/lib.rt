@@ -39,5 +39,6 @@ pub use s2ix_text_parts::{
 pub use s2ix_text_read_dump::{DumpError, DumpFault, read_dump};
 pub use s2ix_text_read_journal::{JournalError, JournalFault, read_journal};
 pub use s2ix_text_write::{
-    ListItem, Version, write_dump, write_end_of_list, write_journal, write_list, write_pair_between,
+    Block, ListItem, Version, write_dump, write_end_of_list, write_journal, write_list,
+    write_pair_between,
 };

@@ -7,7 +7,7 @@ const NESTED: &str = "1:7:1 04:9:2";
 // Cells on two faces, of which a target with a gap misses one.
 const APART: &str = "04:9:1 44:6:1 4c:1:3 5:3:1";
 
-const LISTS: [Row; 9] = [
+const LISTS: [Row; 10] = [
     // a list has its items and their number
     Row {
         texts: &[
@@ -42,6 +42,13 @@ const LISTS: [Row; 9] = [
         put_len: 9,
         fault_at: 0,
         kept: b"end 0\n",
+    },
+    // a short list goes out at once: the fault is the next list's
+    Row {
+        texts: &[Text::Labels("7 9"), Text::Cells("04")],
+        put_len: 1000,
+        fault_at: 2,
+        kept: b"7\n9\nend 2\n",
     },
     // what lies over a leaf, and the ranges of a table
     Row {
@@ -79,7 +86,7 @@ const LISTS: [Row; 9] = [
         texts: &[Text::Meeting(APART, "04 4c")],
         put_len: 3,
         fault_at: 5,
-        kept: b"04:9:1\n4c:",
+        kept: b"04:9:1\n4c:1:",
     },
     // a fault ends a list
     Row {

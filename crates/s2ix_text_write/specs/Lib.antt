@@ -3,3 +3,4 @@ pub mod Dump
 pub mod Journal
 pub mod Laws
 pub mod Lists
+pub mod Gathered

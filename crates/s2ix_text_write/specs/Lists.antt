@@ -24,6 +24,12 @@ pair_text h = concat (canonical_token (raw_of h.pair.cell) ∷ codes ":" ∷ dec
 unfoldable pub held_line : Held → List ℕ
 held_line h = pair_text h ++ codes "\n"
 
+-- a held pair on a line of its own, with a byte between its parts
+unfoldable pub line_between : ℕ → Held → List ℕ
+line_between between h =
+    concat
+    (canonical_token (raw_of h.pair.cell) ∷ (between ∷ []) ∷ decimal (value_of h.pair.label) ∷ (between ∷ []) ∷ decimal h.count ∷ codes "\n" ∷ [])
+
 -- a label on a line of its own
 unfoldable pub label_line : Label → List ℕ
 label_line label = decimal (value_of label) ++ codes "\n"

@@ -4,6 +4,7 @@ ghost use Rattle.s2ix_text_write.specs.Journal.{change_line, entry_line, group_t
 ghost use Rattle.s2ix_text_io.specs.Puts.{Writes};
 
 use crate::list::{ListItem, write_end_of_list, write_lines};
+use crate::places::{byte_at, number_at, token_at};
 use itoa::Buffer;
 use s2ix_bag::Change;
 use s2ix_bag_pairs::Entry;
@@ -12,25 +13,15 @@ use s2ix_text_io::{Sink, WriteFault, put_all, put_together};
 impl ListItem for Entry {
     ghost line = { entry_line };
 
-    #[tactic(auto, unfolding(crate::specs::Journal::entry_line))]
-    fn write_line<K: Sink>(self, sink: &mut K) -> Result<(), WriteFault> {
-        let token = self.pair.cell.token();
-        let mut label = Buffer::new();
-        let mut before = Buffer::new();
-        let mut after = Buffer::new();
-        put_together(
-            sink,
-            &[
-                token.as_bytes(),
-                b" ",
-                label.format(self.pair.label.get()).as_bytes(),
-                b" ",
-                before.format(self.before).as_bytes(),
-                b" ",
-                after.format(self.after).as_bytes(),
-                b"\n",
-            ],
-        )
+    fn line_at(self, room: &mut [u8], place: usize) -> usize {
+        let place = token_at(room, place, self.pair.cell);
+        let place = byte_at(room, place, b' ');
+        let place = number_at(room, place, self.pair.label.get() as u64);
+        let place = byte_at(room, place, b' ');
+        let place = number_at(room, place, self.before as u64);
+        let place = byte_at(room, place, b' ');
+        let place = number_at(room, place, self.after as u64);
+        byte_at(room, place, b'\n')
     }
 }
 

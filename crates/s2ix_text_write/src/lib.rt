@@ -4,13 +4,16 @@
 //! A call that writes does not allocate and does not flush. It ends at the first fault of the sink, when a front of its text went out.
 #![tactic(auto)]
 
+mod block;
 mod dump;
 mod journal;
 pub mod laws;
 mod list;
 mod pair;
+mod places;
 mod version;
 
+pub use block::Block;
 pub use dump::write_dump;
 pub use journal::write_journal;
 pub use list::{ListItem, write_end_of_list, write_list};

@@ -1,11 +1,10 @@
--- The line of this pair is written behind those before it, or a fault ends it; then the end line.
-use Rattle.std.proofs.Common.{◌≡◌, ℕ, length, subst, arith, rules}
-use Rattle.s2ix_text_io.specs.Puts.{Writes}
+-- The line of this pair is gathered behind those before it, or the sink fails; then the end line.
+use Rattle.std.proofs.Common.{◌≡◌, ℕ, length, arith, rules}
 use Rattle.s2ix_table_ranges.specs.Meeting.{meeting_of}
 use Rattle.s2ix_table_walk.specs.Shown.{Shown}
 use Rattle.s2ix_table_walk.proofs.Paying.{few_meet}
-use Rattle.s2ix_text_write.specs.Lists.{end_of_list, held_line, list_text}
-use Rattle.s2ix_text_io.proofs.Writing.{Writes-all, Writes-cut, Writes-item, Writes-item_fault, Writes-then}
+use Rattle.s2ix_text_write.specs.Lists.{held_line}
+use Rattle.s2ix_text_write.proofs.Gathered.{gathered_first, gathered_item, list_fault, list_put}
 use Rattle.s2ix_table_walk.proofs.Left.{left_first, left_none}
 use Rattle.s2ix_cli_answers.proofs.meeting.write_meeting.Goals as goal
 
@@ -26,7 +25,7 @@ overflow_add-count g c =
     omega arith
 
 pub loop-held-init : goal.loop-held-init
-loop-held-init g c = search rules
+loop-held-init g c = (search (rules, c.new-meeting.ensures.left), search rules, gathered_first c.new-block.ensures)
 
 pub loop-held-preserved : goal.loop-held-preserved
 loop-held-preserved g c =
@@ -34,24 +33,20 @@ loop-held-preserved g c =
     let item = left_first all _ _ c.loop-held.count c.in-Some.held c.loop-held.invariant.0 c.in-Some.ensures.yields in (
       item.2,
       let within = item.0 in omega arith,
-      Writes-item held_line all c.loop-held.count c.in-Some.held item.1 c.loop-held.invariant.2 c.in_ok-write_line.ensures,
+      gathered_item held_line all c.loop-held.count c.in-Some.held item.1 c.loop-held.invariant.2 c.in_ok-write_line.ensures,
     )
 
 pub returns-in_err-write_line : goal.returns-in_err-write_line
-unfolding list_text
 returns-in_err-write_line g c =
     let all = meeting_of c.args.target.now (g.T.RangeTable.pairs c.args.table.now) in
     let item = left_first all _ _ c.loop-held.count c.in-Some.held c.loop-held.invariant.0 c.in-Some.ensures.yields in
-    Writes-cut _ (end_of_list (length all)) c.from_residual.ensures.0
-    (Writes-item_fault held_line all c.loop-held.count c.in-Some.held item.1 c.loop-held.invariant.2 c.in_err-write_line.ensures)
+    list_fault held_line all c.loop-held.count c.in-Some.held c.from_residual.result c.from_residual.ensures.0 item.1
+    c.loop-held.invariant.2 c.in_err-write_line.ensures
 
 pub returns : goal.returns
-unfolding list_text
 returns g c =
     let all = meeting_of c.args.target.now (g.T.RangeTable.pairs c.args.table.now) in
     let taken = left_none all _ c.loop-held.count c.loop-held.invariant.0 c.in_default.ensures.yields.0 in
     let within = c.loop-held.invariant.1 in
     let end : c.loop-held.count ≡ length all = omega arith in
-    let WritesEnd : ℕ → Type 0 =
-    λ n. Writes g.K.Sink c.loop-held.sink c.write_end_of_list.new.sink c.write_end_of_list.result (end_of_list n) in
-    Writes-then (Writes-all held_line all c.loop-held.count end c.loop-held.invariant.2) (subst WritesEnd end c.write_end_of_list.ensures)
+    list_put held_line all c.loop-held.count end c.loop-held.invariant.2 c.write_end.ensures.text

@@ -1,14 +1,17 @@
--- The lines of the items and the end line are written one after the other.
+-- All lines are gathered, and put with the end line.
 use Rattle.std.proofs.Common.{length}
 use Rattle.s2ix_text_write.specs.Lists.{end_of_list, list_text}
-use Rattle.s2ix_text_io.proofs.Writing.{Writes-cut, Writes-then}
+use Rattle.s2ix_text_io.proofs.Writing.{Writes-cut}
+use Rattle.s2ix_text_write.proofs.Gathered.{gathered_last}
 use Rattle.s2ix_text_write.proofs.list.write_list.Goals as goal
 
-pub returns-in_err-write_lines : goal.returns-in_err-write_lines
+pub returns-in_err-gather_lines : goal.returns-in_err-gather_lines
 unfolding list_text
-returns-in_err-write_lines g c =
-    Writes-cut _ (end_of_list (length c.args.items.now)) c.from_residual.ensures.0 c.in_err-write_lines.ensures
+returns-in_err-gather_lines g c =
+    Writes-cut _ (end_of_list (length c.args.items.now)) c.from_residual.ensures.0
+    (rw c.new-block.ensures at c.in_err-gather_lines.ensures)
 
 pub returns : goal.returns
 unfolding list_text
-returns g c = Writes-then c.in_ok-write_lines.ensures c.write_end_of_list.ensures
+returns g c =
+    gathered_last (end_of_list (length c.args.items.now)) (rw c.new-block.ensures at c.in_ok-gather_lines.ensures) c.write_end.ensures.text

@@ -1,0 +1,64 @@
+-- A number has a digit more for each power of ten that it reaches.
+use Rattle.std.proofs.Common.{arith}
+use Rattle.s2ix_text_write.proofs.Placed.{digits_between, one_digit}
+use Rattle.s2ix_text_write.proofs.places.digits_of.Goals as goal
+
+pub returns-in-0-to-9-clause-digits : goal.returns-in-0-to-9-clause-digits
+returns-in-0-to-9-clause-digits c = one_digit c.args.number (omega arith)
+
+pub returns-in-10-to-99-clause-digits : goal.returns-in-10-to-99-clause-digits
+returns-in-10-to-99-clause-digits c = digits_between 1 c.args.number (omega arith) (omega arith) (omega arith)
+
+pub returns-in-100-to-999-clause-digits : goal.returns-in-100-to-999-clause-digits
+returns-in-100-to-999-clause-digits c = digits_between 2 c.args.number (omega arith) (omega arith) (omega arith)
+
+pub returns-in-1000-to-9999-clause-digits : goal.returns-in-1000-to-9999-clause-digits
+returns-in-1000-to-9999-clause-digits c = digits_between 3 c.args.number (omega arith) (omega arith) (omega arith)
+
+pub returns-in-10000-to-99999-clause-digits : goal.returns-in-10000-to-99999-clause-digits
+returns-in-10000-to-99999-clause-digits c = digits_between 4 c.args.number (omega arith) (omega arith) (omega arith)
+
+pub returns-in-100000-to-999999-clause-digits : goal.returns-in-100000-to-999999-clause-digits
+returns-in-100000-to-999999-clause-digits c = digits_between 5 c.args.number (omega arith) (omega arith) (omega arith)
+
+pub returns-in-1000000-to-9999999-clause-digits : goal.returns-in-1000000-to-9999999-clause-digits
+returns-in-1000000-to-9999999-clause-digits c = digits_between 6 c.args.number (omega arith) (omega arith) (omega arith)
+
+pub returns-in-10000000-to-99999999-clause-digits : goal.returns-in-10000000-to-99999999-clause-digits
+returns-in-10000000-to-99999999-clause-digits c = digits_between 7 c.args.number (omega arith) (omega arith) (omega arith)
+
+pub returns-in-100000000-to-999999999-clause-digits : goal.returns-in-100000000-to-999999999-clause-digits
+returns-in-100000000-to-999999999-clause-digits c = digits_between 8 c.args.number (omega arith) (omega arith) (omega arith)
+
+pub returns-in-1000000000-to-9999999999-clause-digits : goal.returns-in-1000000000-to-9999999999-clause-digits
+returns-in-1000000000-to-9999999999-clause-digits c = digits_between 9 c.args.number (omega arith) (omega arith) (omega arith)
+
+pub returns-in-10000000000-to-99999999999-clause-digits : goal.returns-in-10000000000-to-99999999999-clause-digits
+returns-in-10000000000-to-99999999999-clause-digits c = digits_between 10 c.args.number (omega arith) (omega arith) (omega arith)
+
+pub returns-in-100000000000-to-999999999999-clause-digits : goal.returns-in-100000000000-to-999999999999-clause-digits
+returns-in-100000000000-to-999999999999-clause-digits c = digits_between 11 c.args.number (omega arith) (omega arith) (omega arith)
+
+pub returns-in-1000000000000-to-9999999999999-clause-digits : goal.returns-in-1000000000000-to-9999999999999-clause-digits
+returns-in-1000000000000-to-9999999999999-clause-digits c = digits_between 12 c.args.number (omega arith) (omega arith) (omega arith)
+
+pub returns-in-10000000000000-to-99999999999999-clause-digits : goal.returns-in-10000000000000-to-99999999999999-clause-digits
+returns-in-10000000000000-to-99999999999999-clause-digits c = digits_between 13 c.args.number (omega arith) (omega arith) (omega arith)
+
+pub returns-in-100000000000000-to-999999999999999-clause-digits : goal.returns-in-100000000000000-to-999999999999999-clause-digits
+returns-in-100000000000000-to-999999999999999-clause-digits c = digits_between 14 c.args.number (omega arith) (omega arith) (omega arith)
+
+pub returns-in-1000000000000000-to-9999999999999999-clause-digits : goal.returns-in-1000000000000000-to-9999999999999999-clause-digits
+returns-in-1000000000000000-to-9999999999999999-clause-digits c = digits_between 15 c.args.number (omega arith) (omega arith) (omega arith)
+
+pub returns-in-10000000000000000-to-99999999999999999-clause-digits : goal.returns-in-10000000000000000-to-99999999999999999-clause-digits
+returns-in-10000000000000000-to-99999999999999999-clause-digits c = digits_between 16 c.args.number (omega arith) (omega arith) (omega arith)
+
+pub returns-in-100000000000000000-to-999999999999999999-clause-digits : goal.returns-in-100000000000000000-to-999999999999999999-clause-digits
+returns-in-100000000000000000-to-999999999999999999-clause-digits c = digits_between 17 c.args.number (omega arith) (omega arith) (omega arith)
+
+pub returns-in-1000000000000000000-to-9999999999999999999-clause-digits : goal.returns-in-1000000000000000000-to-9999999999999999999-clause-digits
+returns-in-1000000000000000000-to-9999999999999999999-clause-digits c = digits_between 18 c.args.number (omega arith) (omega arith) (omega arith)
+
+pub returns-in_default-clause-digits : goal.returns-in_default-clause-digits
+returns-in_default-clause-digits c = digits_between 19 c.args.number (omega arith) (omega arith) (omega arith)

@@ -1,0 +1,8 @@
+-- The parts stand one behind the other.
+use Rattle.s2ix_text_write.proofs.Placed.{line_placed}
+use Rattle.s2ix_text_write.proofs.places.pair_at.Goals as goal
+
+pub returns-clause-line : goal.returns-clause-line
+returns-clause-line c =
+    line_placed c.args.between c.args.held _ _ _ _ _ _ _ _ c.get.ensures c.token_at-place.ensures.token c.byte_at-place.ensures.byte
+    c.number_at-place.ensures.number c.byte_at-place-2.ensures.byte c.number_at-place-2.ensures.number c.byte_at.ensures.byte
