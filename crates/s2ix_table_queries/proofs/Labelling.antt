@@ -1,10 +1,10 @@
--- The labels of pairs, sorted and then rid of repeats.
-use Rattle.std.proofs.Common.{◌≡◌, inl, inr, List, [], ◌∷◌, map, Contains, nat_eq, refl, sym, ◌∙◌, ap, arith, subst}
+-- The labels of pairs, gathered, sorted and then rid of repeats.
+use Rattle.std.proofs.Common.{◌≡◌, ◌↔◌, ◌⊎◌, inl, inr, List, [], ◌∷◌, Contains, nat_eq, sym, ap, subst}
 use Rattle.std.specs.Ordering.{nat_cmp, on}
 use Rattle.std.specs.List.Retain.{IsFiltered, DiffersFromLast}
 use Rattle.std.specs.List.Sorted.{IsSorted, IsPermutation}
 use Rattle.s2id_core.proofs.Sorted.{rising_by, same_members}
-use Rattle.s2id_core.proofs.Lists.{cons_cases, in_tail, none_in_nil}
+use Rattle.s2id_core.proofs.Lists.{cons_cases, in_tail, at_head, none_in_nil}
 use Rattle.s2ix_bag_pairs.proofs.Pairs.{same_label}
 use Rattle.s2ix_bag_pairs.specs.Collection.{Collection}
 use Rattle.s2ix_bag_pairs.specs.Label.{value_of}
@@ -12,33 +12,64 @@ use Rattle.s2ix_bag_pairs.specs.declared.label.Label.{Label}
 use Rattle.s2ix_bag_pairs.specs.declared.pair.Held.{Held}
 use Rattle.s2ix_table_ranges.specs.Meeting.{IsLabelList}
 
-abbrev pub label_of : Held → Label
-label_of h = h.pair.label
+-- one of the pairs has the label
+abbrev pub IsLabelOf : Collection → Label → Type 0
+IsLabelOf pairs label = (held : Held) × Contains pairs held × (held.pair.label ≡ label)
 
-label_held : (hs : Collection) (l : Label) → Contains (map label_of hs) l → (h : Held) × Contains hs h × (h.pair.label ≡ l)
-label_held [] l c = absurd (none_in_nil l c)
-label_held (h ∷ hs) l c =
-    elim (cons_cases h.pair.label (map label_of hs) l c) [
-      | inl e ↦ (h, (0, omega arith, refl), e)
-      | inr t ↦ let r = label_held hs l t in (r.0, in_tail h hs r.0 r.1, r.2)
-    ]
+-- labels are those of all pairs but of some that are left
+pub record IsGathered (all left : Collection) (labels : List Label) : Type 0 where
+  pub met : (label : Label) → Contains labels label → IsLabelOf all label
+  pub within : (held : Held) → Contains left held → Contains all held
+  pub each : (held : Held) → Contains all held → Contains labels held.pair.label ⊎ Contains left held
 
-held_label : (hs : Collection) (l : Label) (h : Held) → Contains hs h → h.pair.label ≡ l → Contains (map label_of hs) l
-held_label [] l h c e = absurd (none_in_nil h c)
-held_label (x ∷ hs) l h c e =
-    elim (cons_cases x hs h c) [
-      | inl f ↦ (0, omega arith, ap (λ (y : Held). y.pair.label) f ∙ e)
-      | inr t ↦ in_tail x.pair.label (map label_of hs) l (held_label hs l h t e)
-    ]
+pub none_gathered : (all : Collection) → IsGathered all all []
+none_gathered all = record {
+  met = λ label c. absurd (none_in_nil label c);
+  within = λ held c. c;
+  each = λ held c. inr c;
+}
 
--- the sorted labels of a meeting list, each once, are its label list
-pub label_list_from_sorted : (meeting : Collection) (xs ys zs : List Label) → xs ≡ map label_of meeting → IsPermutation xs ys
-    → IsSorted (on value_of nat_cmp) ys → IsFiltered (DiffersFromLast (on value_of nat_eq)) [] ys zs → IsLabelList meeting zs
+pub next_gathered : (all left next : Collection) (held : Held) (labels more : List Label) → left ≡ held ∷ next
+    → ((other : Label) → Contains more other ↔ (Contains labels other ⊎ (other ≡ held.pair.label))) → IsGathered all left labels
+    → IsGathered all next more
+next_gathered all left next held labels more is put gathered =
+    let in_left : (h : Held) → Contains (held ∷ next) h → Contains left h = λ h c. subst (λ hs. Contains hs h) (sym is) c in
+    record {
+      met = λ label c.
+          elim ((put label).0 c) [
+            | inl old ↦ gathered.met label old
+            | inr new ↦ (held, gathered.within held (in_left held (at_head held next)), sym new)
+          ];
+      within = λ h c. gathered.within h (in_left h (in_tail held next h c));
+      each = λ h c.
+          elim (gathered.each h c) [
+            | inl old ↦ inl ((put h.pair.label).1 (inl old))
+            | inr rest ↦
+                elim (cons_cases held next h (subst (λ hs. Contains hs h) is rest)) [
+                  | inl same ↦ inl ((put h.pair.label).1 (inr (ap (λ (x : Held). x.pair.label) (sym same))))
+                  | inr later ↦ inr later
+                ]
+          ];
+    }
+
+pub all_gathered : (all left : Collection) (labels : List Label) → left ≡ [] → IsGathered all left labels → (label : Label)
+    → Contains labels label ↔ IsLabelOf all label
+all_gathered all left labels is gathered label = (
+  gathered.met label,
+  λ r.
+      elim (gathered.each r.0 r.1) [
+        | inl c ↦ subst (Contains labels) r.2 c
+        | inr rest ↦ absurd (none_in_nil r.0 (subst (λ hs. Contains hs r.0) is rest))
+      ],
+)
+
+-- the labels of a meeting list, sorted and each once, are its label list
+pub label_list_from_sorted : (meeting : Collection) (xs ys zs : List Label) → ((label : Label) → Contains xs label ↔ IsLabelOf meeting label)
+    → IsPermutation xs ys → IsSorted (on value_of nat_cmp) ys → IsFiltered (DiffersFromLast (on value_of nat_eq)) [] ys zs
+    → IsLabelList meeting zs
 label_list_from_sorted meeting xs ys zs is permutes sorted filtered = record {
   rises = rising_by value_of ys zs sorted filtered;
   each = λ l.
-      let same = same_members value_of same_label xs ys zs permutes filtered l in (
-        λ c. label_held meeting l (subst (λ ls. Contains ls l) is (same.1 c)),
-        λ r. same.0 (subst (λ ls. Contains ls l) (sym is) (held_label meeting l r.0 r.1 r.2)),
-      );
+      let same = same_members value_of same_label xs ys zs permutes filtered l in
+      (λ c. (is l).0 (same.1 c), λ r. same.0 ((is l).1 r));
 }

@@ -1,21 +1,63 @@
 //! The labels of the pairs that a target meets.
-ghost use Rattle.std.specs.Prelude.{◌≡◌, ◌++◌, IsTrue, map};
+ghost use Rattle.std.specs.Prelude.{◌≡◌, ◌↔◌, ◌⊎◌, ◌<◌, IfOk, OnOk, Contains};
+ghost use Rattle.s2ix_bag_pairs.specs.declared.label.Label.{Label as LabelHeld};
 ghost use Rattle.s2ix_bag_pairs.specs.declared.pair.Held.{Held};
 ghost use Rattle.s2ix_table_ranges.specs.Meeting.{meeting_of};
 
+use crate::meter::Meter;
 use crate::table::RangeTable;
-use crate::visit::visit_all;
+use s2id_core::OutOfMemory;
 use s2id_union::CellUnion;
 use s2ix_bag_pairs::Label;
+use s2ix_table_walk::Meeting;
+use std::alloc::Global;
 
-// Pushes the labels of the target's meeting list, in its order, and returns whether there was memory for all of them.
-pub(crate) fn gather<T: RangeTable>(table: &T, target: &CellUnion, labels: &mut Vec<Label>) -> bool
-    ensures { IsTrue result
-        → labels.new.items ≡ labels.old.items ++ map (λ (held : Held). held.pair.label) (meeting_of target.now (T.pairs table.now)) }
+// How many labels a list has room for from the start.
+const ROOM: usize = 16;
+
+// Labels are spread over slots. For each slot, the place in a list at which a label of that slot was put last.
+type Places = [usize; 128];
+
+// The labels of the target's meeting list, in its order, few of them twice: the pairs of a label mostly come near one another.
+pub(crate) fn gather<T: RangeTable>(
+    alloc: Global,
+    table: &T,
+    target: &CellUnion,
+) -> Result<Vec<Label>, OutOfMemory>
+    ensures { IfOk result (λ labels. (label : LabelHeld)
+        → Contains labels.items label
+        ↔ ((held : Held) × Contains (meeting_of target.now (T.pairs table.now)) held × (held.pair.label ≡ label))) }
 {
-    visit_all(
-        table,
-        target,
-        &mut |held| labels.push(held.pair.label).is_ok(),
-    )
+    let mut meter = Meter::new(table);
+    let mut meeting = Meeting::new(&mut meter, target);
+    let mut labels = Vec::with_capacity(alloc, ROOM)?;
+    let mut places = [0; 128];
+    while let Some(held) = meeting.advance() {
+        put(held.pair.label, &mut labels, &mut places)?;
+    }
+    Ok(labels)
+}
+
+// Puts a label behind those of a list, unless it is found at the place that its slot has.
+#[inline(always)]
+fn put(label: Label, labels: &mut Vec<Label>, places: &mut Places) -> Result<(), OutOfMemory>
+    ensures { OnOk result ((other : LabelHeld)
+        → Contains labels.new.items other ↔ (Contains labels.old.items other ⊎ (other ≡ label))) }
+{
+    let slot = slot_of(label);
+    let place = places[slot];
+    if place < labels.len() && labels[place] == label {
+        return Ok(());
+    }
+    places[slot] = labels.len();
+    labels.push(label)?;
+    Ok(())
+}
+
+// The slot of a label, by the top bits of a product, so that labels at equal distances don't crowd into a few slots.
+#[inline(always)]
+fn slot_of(label: Label) -> usize
+    ensures { result < 128 }
+{
+    (label.get().wrapping_mul(0x9e3779b1) >> 25) as usize
 }

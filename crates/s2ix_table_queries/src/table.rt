@@ -164,16 +164,13 @@ pub trait RangeTable: Sized {
     }
 
     /// The labels of the target's meeting list, once each and rising (S2's `GetIntersectingLabels()`). `OutOfMemory` if a growth is
-    /// refused. It takes as long as `visit`, then O(m log m) for the m pairs met; and O(m) memory however few labels it returns, since it
-    /// gathers the label of each pair before it drops repeats.
+    /// refused. It takes as long as `visit`, then O(m log m) for the m pairs met, and at worst O(m) memory however few labels it returns: it
+    /// drops most repeats as they come, and the others at the end.
     final fn labels(&self, alloc: Global, target: &CellUnion) -> Result<Vec<Label>, OutOfMemory>
         ensures labels { IfOk result (λ labels. IsLabelList (meeting_of target.now (pairs self.now)) labels.items) }
         ensures list { IfOk result (λ labels. labels.items ≡ label_list (meeting_of target.now (pairs self.now))) }
     {
-        let mut labels = Vec::new(alloc);
-        if !gather(self, target, &mut labels) {
-            return Err(OutOfMemory);
-        }
+        let mut labels = gather(alloc, self, target)?;
         labels.sort_unstable();
         labels.dedup();
         Ok(labels)
