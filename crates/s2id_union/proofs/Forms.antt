@@ -10,7 +10,7 @@ use Rattle.s2id_union.specs.NormalForm.{is_covered, cells_where, normal_form}
 use Rattle.s2id_union.specs.Operation.{Keeps}
 use Rattle.s2id_union.specs.Region.{IsNormal}
 use Rattle.s2id_union.specs.declared.sweep.Operation.{Operation}
-use Rattle.s2id_union.specs.declared.sweep.Operation.TheVariants.{Union, Intersection, Difference}
+use Rattle.s2id_union.specs.declared.sweep.Operation.TheVariants.{Union, Difference}
 use Rattle.s2id_union.proofs.Covering.{covers_nil}
 use Rattle.s2id_union.proofs.Made.{normal_from_added}
 use Rattle.s2id_union.proofs.NormalForm.{covers_from_test, test_from_covers, form_itself}
@@ -33,14 +33,12 @@ form_by_test cells passes normal h =
 
 abbrev pub keeps_both : Operation → Bool → Bool → Bool
 keeps_both Union a b = a || b
-keeps_both Intersection a b = a && b
 keeps_both Difference a b = a && not b
 
 test_from_keeps : (o : Operation) (xs ys : List CellId) (q : ℕ) → Keeps o (Covers xs q) (Covers ys q)
     → keeps_both o (is_covered xs q) (is_covered ys q) ≡ true
 test_from_keeps Union xs ys q (inl x) = or_left (is_covered xs q) (is_covered ys q) (test_from_covers xs q x)
 test_from_keeps Union xs ys q (inr y) = or_right (is_covered xs q) (is_covered ys q) (test_from_covers ys q y)
-test_from_keeps Intersection xs ys q (x, y) = and_from (is_covered xs q) (is_covered ys q) (test_from_covers xs q x) (test_from_covers ys q y)
 test_from_keeps Difference xs ys q (x, y) =
     and_from (is_covered xs q) (not (is_covered ys q)) (test_from_covers xs q x) (not_from_false (is_covered ys q) (false_from_ne_true (is_covered ys q) (λ e. y (covers_from_test ys q e))))
 
@@ -48,9 +46,6 @@ keeps_from_test : (o : Operation) (xs ys : List CellId) (q : ℕ) → keeps_both
     → Keeps o (Covers xs q) (Covers ys q)
 keeps_from_test Union xs ys q e =
     elim (or_cases (is_covered xs q) (is_covered ys q) e) [ inl x ↦ inl (covers_from_test xs q x) | inr y ↦ inr (covers_from_test ys q y) ]
-keeps_from_test Intersection xs ys q e =
-    let both = and_parts (is_covered xs q) (is_covered ys q) e in
-    (covers_from_test xs q both.0, covers_from_test ys q both.1)
 keeps_from_test Difference xs ys q e =
     let both = and_parts (is_covered xs q) (not (is_covered ys q)) e in
     (covers_from_test xs q both.0, λ y. both_ways (is_covered ys q) (not-true (is_covered ys q) both.1) (test_from_covers ys q y))
@@ -68,6 +63,25 @@ pub swept_form : (o : Operation) (as_first as_second xs ys cells : List CellId) 
     → cells ≡ cells_where (λ q. keeps_both o (is_covered as_first q) (is_covered as_second q))
 swept_form o as_first as_second xs ys cells e f normal h =
     subst (λ x. cells ≡ cells_where (λ q. keeps_both o (is_covered x q) (is_covered as_second q))) e (subst (λ y. cells ≡ cells_where (λ q. keeps_both o (is_covered xs q) (is_covered y q))) f (operation_form o xs ys cells normal h))
+
+-- ---- what two unions share
+
+both_covered : (xs ys cells : List CellId) → IsNormal cells → ((q : ℕ) → Covers cells q ↔ (Covers xs q × Covers ys q))
+    → cells ≡ cells_where (λ q. is_covered xs q && is_covered ys q)
+both_covered xs ys cells normal h =
+    form_by_test cells (λ q. is_covered xs q && is_covered ys q) normal (λ q. (
+      λ c.
+          let both = (h q).0 c in
+          and_from (is_covered xs q) (is_covered ys q) (test_from_covers xs q both.0) (test_from_covers ys q both.1),
+      λ e.
+          let both = and_parts (is_covered xs q) (is_covered ys q) e in
+          (h q).1 (covers_from_test xs q both.0, covers_from_test ys q both.1),
+    ))
+
+pub shared_form : (as_first as_second xs ys cells : List CellId) → xs ≡ as_first → ys ≡ as_second → IsNormal cells
+    → ((q : ℕ) → Covers cells q ↔ (Covers xs q × Covers ys q)) → cells ≡ cells_where (λ q. is_covered as_first q && is_covered as_second q)
+shared_form as_first as_second xs ys cells e f normal h =
+    subst (λ x. cells ≡ cells_where (λ q. is_covered x q && is_covered as_second q)) e (subst (λ y. cells ≡ cells_where (λ q. is_covered xs q && is_covered y q)) f (both_covered xs ys cells normal h))
 
 -- ---- a span of leaves
 

@@ -5,6 +5,7 @@ mod Normal
 mod Greatest
 pub mod Searching
 mod Sweeping
+mod Sharing
 mod Made
 pub mod Largest
 pub mod NormalForm

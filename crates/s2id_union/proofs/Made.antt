@@ -7,7 +7,7 @@ use Rattle.s2id_union.specs.Region.{InRegion, IsNormal}
 use Rattle.s2id_union.specs.Covers.{Covers}
 use Rattle.s2id_union.specs.Loops.{IsAdded}
 use Rattle.s2id_union.specs.declared.sweep.Operation.{Operation}
-use Rattle.s2id_union.specs.declared.sweep.Operation.TheVariants.{Union, Intersection, Difference}
+use Rattle.s2id_union.specs.declared.sweep.Operation.TheVariants.{Union, Difference}
 use Rattle.s2id_union.specs.Operation.{Keeps}
 use Rattle.s2id_union.proofs.Sweeping.{keeps_same}
 use Rattle.s2id_union.proofs.Covering.{region_from_covers, covers_from_region, covers_nil}
@@ -49,11 +49,21 @@ pub union_leaves : (as_first as_second xs ys cells : List CellId) → xs ≡ as_
 union_leaves as_first as_second xs ys cells e f h leaf deep =
     subst (λ x. InRegion cells leaf ↔ Keeps Union (InRegion x leaf) (InRegion as_second leaf)) e (subst (λ y. InRegion cells leaf ↔ Keeps Union (InRegion xs leaf) (InRegion y leaf)) f (union_or Union xs ys cells h leaf deep))
 
-pub intersection_leaves : (as_first as_second xs ys cells : List CellId) → xs ≡ as_first → ys ≡ as_second
-    → ((q : ℕ) → Covers cells q ↔ Keeps Intersection (Covers xs q) (Covers ys q)) → (leaf : Path) → IsLeafPath leaf
+both_leaves : (xs ys cells : List CellId) → ((q : ℕ) → Covers cells q ↔ (Covers xs q × Covers ys q)) → (leaf : Path) → IsLeafPath leaf
+    → InRegion cells leaf ↔ (InRegion xs leaf × InRegion ys leaf)
+both_leaves xs ys cells h leaf deep =
+    let q = number_of leaf in (
+      λ i.
+          let both = (h q).0 (covers_from_region cells leaf i) in
+          (region_from_covers xs leaf deep both.0, region_from_covers ys leaf deep both.1),
+      λ both. region_from_covers cells leaf deep ((h q).1 (covers_from_region xs leaf both.0, covers_from_region ys leaf both.1)),
+    )
+
+pub shared_leaves : (as_first as_second xs ys cells : List CellId) → xs ≡ as_first → ys ≡ as_second
+    → ((q : ℕ) → Covers cells q ↔ (Covers xs q × Covers ys q)) → (leaf : Path) → IsLeafPath leaf
     → InRegion cells leaf ↔ (InRegion as_first leaf × InRegion as_second leaf)
-intersection_leaves as_first as_second xs ys cells e f h leaf deep =
-    subst (λ x. InRegion cells leaf ↔ Keeps Intersection (InRegion x leaf) (InRegion as_second leaf)) e (subst (λ y. InRegion cells leaf ↔ Keeps Intersection (InRegion xs leaf) (InRegion y leaf)) f (union_or Intersection xs ys cells h leaf deep))
+shared_leaves as_first as_second xs ys cells e f h leaf deep =
+    subst (λ x. InRegion cells leaf ↔ (InRegion x leaf × InRegion as_second leaf)) e (subst (λ y. InRegion cells leaf ↔ (InRegion xs leaf × InRegion y leaf)) f (both_leaves xs ys cells h leaf deep))
 
 pub difference_leaves : (as_first as_second xs ys cells : List CellId) → xs ≡ as_first → ys ≡ as_second
     → ((q : ℕ) → Covers cells q ↔ Keeps Difference (Covers xs q) (Covers ys q)) → (leaf : Path) → IsLeafPath leaf

@@ -8,7 +8,7 @@ use Rattle.s2id_core.specs.CellId.{raw_of, first_of, end_of}
 use Rattle.s2id_core.specs.Span.{leaf_end}
 use Rattle.s2id_core.proofs.Nested.{span}
 use Rattle.s2id_union.specs.declared.sweep.Operation.{Operation}
-use Rattle.s2id_union.specs.declared.sweep.Operation.TheVariants.{Union, Intersection, Difference}
+use Rattle.s2id_union.specs.declared.sweep.Operation.TheVariants.{Union, Difference}
 use Rattle.s2id_union.specs.Operation.{Keeps}
 use Rattle.s2id_union.specs.Loops.{InSpan, AreMaximalBelow, IsAdded, IsAhead, IsReached, IsConstant}
 use Rattle.s2id_union.specs.Region.{IsNormal}
@@ -144,13 +144,11 @@ ahead_stays cells follow k at end h le more = record {
 pub keeps_same : (o : Operation) {A B C D : Type 0} → A ↔ C → B ↔ D → Keeps o A B → Keeps o C D
 keeps_same Union a b (inl x) = inl (a.0 x)
 keeps_same Union a b (inr y) = inr (b.0 y)
-keeps_same Intersection a b (x, y) = (a.0 x, b.0 y)
 keeps_same Difference a b (x, y) = (a.0 x, λ z. y (b.1 z))
 
 keeps_bounds : (o : Operation) (xs ys : List CellId) (q : ℕ) → Keeps o (Covers xs q) (Covers ys q) → (1 ≤ q) × (q < leaf_end)
 keeps_bounds Union xs ys q (inl x) = covers_bounds xs q x
 keeps_bounds Union xs ys q (inr y) = covers_bounds ys q y
-keeps_bounds Intersection xs ys q (x, y) = covers_bounds xs q x
 keeps_bounds Difference xs ys q (x, y) = covers_bounds xs q x
 
 pub swept_start : (o : Operation) (xs ys : List CellId) → IsSwept o xs ys [] 1 1

@@ -1,7 +1,7 @@
 -- Private words: what the private functions promise that this crate's loops call. No public contract cites them.
-use Rattle.std.specs.Prelude.{◌≡◌, ◌↔◌, ◌⊎◌, ℕ, ◌<◌, ◌≤◌, ◌+◌, List, Contains as HasElement, Bool, IsTrue, slice_index_or, length}
+use Rattle.std.specs.Prelude.{◌≡◌, ◌↔◌, ◌⊎◌, ℕ, ◌<◌, ◌≤◌, ◌+◌, List, [], ◌∷◌, ◌++◌, Contains as HasElement, Bool, IsTrue, slice_index_or, length}
 use Rattle.s2id_core.specs.declared.cell_id.CellId.{CellId}
-use Rattle.s2id_core.specs.CellId.{raw_of, end_of}
+use Rattle.s2id_core.specs.CellId.{raw_of, first_of, end_of}
 use Rattle.s2id_core.specs.Cell.{IsCellNumber}
 use Rattle.s2id_core.specs.Span.{first_at, end_at, IsNested}
 use Rattle.s2id_union.specs.Covers.{Covers, FollowOneAnother}
@@ -45,3 +45,15 @@ IsReached cells k end = (j : ℕ) (d : CellId) → k ≤ j → j < length cells 
 -- the numbers from `at` up to and without `end` are all in the spans of the cells, or all outside them
 abbrev pub IsConstant : List CellId → ℕ → ℕ → Bool → Type 0
 IsConstant cells at end inside = (q : ℕ) → at ≤ q → q < end → Covers cells q ↔ IsTrue inside
+
+-- a cell is one of two, and lies within both
+pub record IsShared (one other cell : CellId) : Type 0 where
+  pub either : (cell ≡ one) ⊎ (cell ≡ other)
+  pub in_one : IsNested (raw_of cell) (raw_of one)
+  pub in_other : IsNested (raw_of cell) (raw_of other)
+
+-- what two cells share is added: the one that lies within both, or nothing where they share no leaf
+abbrev pub AreShared : CellId → CellId → List CellId → List CellId → Type 0
+AreShared one other old cells =
+    ((cells ≡ old) × ((q : ℕ) → InSpan (first_of one) (end_of one) q → InSpan (first_of other) (end_of other) q → ⊥))
+    ⊎ ((cell : CellId) × (cells ≡ old ++ cell ∷ []) × IsShared one other cell)

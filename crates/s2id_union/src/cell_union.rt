@@ -10,6 +10,7 @@ use crate::count::count_leaves;
 use crate::error::RangeError;
 use crate::join::normal_list;
 use crate::search::{has_all, meets};
+use crate::shared::shared_cells;
 use crate::span::add_span;
 use crate::sweep::{Operation, sweep_both};
 use s2id_core::{CellId, LEAF_END, OutOfMemory};
@@ -116,7 +117,7 @@ impl CellUnion {
     {
         let first = self.cells();
         let second = other.cells();
-        let cells = sweep_both(alloc, Operation::Intersection, first, second)?;
+        let cells = shared_cells(alloc, first, second)?;
         Ok(CellUnion { cells })
     }
 

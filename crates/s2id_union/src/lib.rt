@@ -14,6 +14,7 @@ mod join;
 pub mod laws;
 mod same;
 mod search;
+mod shared;
 mod span;
 mod sweep;
 

@@ -16,7 +16,6 @@ use std::alloc::Global;
 #[derive(Clone, Copy)]
 pub(crate) enum Operation {
     Union,
-    Intersection,
     Difference,
 }
 
@@ -26,7 +25,6 @@ fn keeps(operation: Operation, first: bool, second: bool) -> bool
 {
     match operation {
         Operation::Union => first || second,
-        Operation::Intersection => first && second,
         Operation::Difference => first && !second,
     }
 }
