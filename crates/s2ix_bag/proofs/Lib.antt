@@ -4,3 +4,4 @@ pub mod Back
 pub mod Forth
 pub mod Inverted
 pub mod Last
+pub mod CountsSet

@@ -11,4 +11,5 @@ pub use Rattle.s2ix_bag_pairs.specs.Pair
 pub use Rattle.s2ix_bag_pairs.specs.Ranges
 pub use Rattle.s2ix_bag_pairs.specs.TakenBack
 pub mod Laws
+pub mod Reached
 pub mod Replay

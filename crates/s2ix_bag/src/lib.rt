@@ -15,6 +15,7 @@ mod bag;
 mod change;
 mod label_iter;
 pub mod laws;
+mod reached;
 mod replay_error;
 mod replay_refusal;
 mod replaying;

@@ -6,6 +6,7 @@ ghost use Rattle.s2ix_bag.specs.Replay.{IsReplayError, after_change, first_refus
 
 use crate::bag::Bag;
 use crate::change::Change;
+use crate::reached::Reached;
 use crate::replay_error::ReplayError;
 use crate::replay_refusal::refusal_back;
 use s2ix_bag_lists::ApplyError;
@@ -40,11 +41,32 @@ fn next_bag(alloc: Global, bag: &Bag, change: &Change, number: usize) -> Result<
     }
 }
 
+// The same on the way. A change of many entries is applied to the bag itself, one of few to the counts beside it.
+fn next_reached(
+    alloc: Global,
+    reached: Reached,
+    change: &Change,
+    number: usize,
+) -> Result<Reached, ReplayError>
+    ensures bag { IfOk result (λ next. next ≡ after_change reached change.now) }
+    ensures accepted { OnOk result (apply_refusal reached change.now ≡ None) }
+    ensures refused { IfErr result (λ error. IsReplayError error (option_map (refusal_numbered number) (apply_refusal reached change.now))) }
+{
+    if reached.is_quicker_copied(change) {
+        let bag = reached.bag(alloc)?;
+        return Ok(Reached::new(alloc, next_bag(alloc, &bag, change, number)?));
+    }
+    match reached.refusal_so_far(change) {
+        Some(refusal) => Err(numbered(number, change.entries().len(), refusal)),
+        None => Ok(reached.led_on(change)?),
+    }
+}
+
 /// The bag after these changes, with the bag's limits: each is done to what those before it made. The first change that is refused decides,
 /// and is told by its number, counted from 1.
 ///
-/// `OutOfMemory` where a growth is refused; it may come in place of the refusal of any change but the first. O(k n + m) for k changes with m
-/// entries in all and at most n pairs held on the way.
+/// `OutOfMemory` where a growth is refused; it may come in place of the refusal of any change but the first. O(n + m log n) for changes with m
+/// entries in all, and at most n pairs held before them or had by them.
 #[tactic(auto, using(crate::proofs::Forth::limits_stay))]
 pub fn replay(alloc: Global, bag: &Bag, changes: &[Change]) -> Result<Bag, ReplayError>
     ensures limits { IfOk result (λ after. after.limits ≡ bag.now.limits) }
@@ -56,11 +78,11 @@ pub fn replay(alloc: Global, bag: &Bag, changes: &[Change]) -> Result<Bag, Repla
     let Some((first, rest)) = changes.split_first() else {
         return Ok(bag.copied(alloc)?);
     };
-    let mut reached = next_bag(alloc, bag, first, 1)?;
+    let mut reached = Reached::new(alloc, next_bag(alloc, bag, first, 1)?);
     for (place, change) in rest.iter().enumerate() {
-        reached = next_bag(alloc, &reached, change, place + 2)?;
+        reached = next_reached(alloc, reached, change, place + 2)?;
     }
-    Ok(reached)
+    Ok(reached.bag(alloc)?)
 }
 
 // Tests whether a bag takes the inverse of the last change, before anything grows. O(m log n) for its m entries and n pairs held.
@@ -80,8 +102,8 @@ fn test_last(bag: &Bag, changes: &[Change]) -> Result<(), ReplayError>
 /// The bag before these changes, with the bag's limits: the inverse of each is done, from the last change to the first. The change that is
 /// refused first on this way decides, and is told by its number in the list, counted from 1.
 ///
-/// `OutOfMemory` where a growth is refused; it may come in place of the refusal of any change but the last. O(k n + m log n) for k changes
-/// with m entries in all and at most n pairs held on the way.
+/// `OutOfMemory` where a growth is refused; it may come in place of the refusal of any change but the last. O(n + m log n) for changes with
+/// m entries in all, and at most n pairs held before them or had by them.
 #[tactic(auto, using(crate::proofs::Forth::limits_stay))]
 pub fn rewind(alloc: Global, bag: &Bag, changes: &[Change]) -> Result<Bag, ReplayError>
     ensures limits { IfOk result (λ before. before.limits ≡ bag.now.limits) }
@@ -91,10 +113,10 @@ pub fn rewind(alloc: Global, bag: &Bag, changes: &[Change]) -> Result<Bag, Repla
     ensures last { result ≡ Err OutOfMemory → first_refusal bag.now (take 1 (way_back (with_numbers changes.now))) ≡ None }
 {
     test_last(bag, changes)?;
-    let mut reached = bag.copied(alloc)?;
+    let mut reached = Reached::new(alloc, bag.copied(alloc)?);
     for place in (0..changes.len()).rev() {
         let inverse = changes[place].inverse(alloc)?;
-        reached = next_bag(alloc, &reached, &inverse, place + 1)?;
+        reached = next_reached(alloc, reached, &inverse, place + 1)?;
     }
-    Ok(reached)
+    Ok(reached.bag(alloc)?)
 }

@@ -1,0 +1,21 @@
+-- The pairs that are gained and lost.
+use Rattle.std.proofs.Common.{length, ap, ◌∙◌, subst, arith}
+use Rattle.s2ix_bag_pairs.specs.Collection.{LimitedCollection, IsBag}
+use Rattle.s2ix_bag_lists.proofs.Lengths.{length-changed, gains-count_by, losses-count_by}
+use Rattle.s2ix_bag.proofs.reached.Reached.len_with.Goals as goal
+
+pub overflow_sub-result : goal.overflow_sub-result
+overflow_sub-result c =
+    let es = c.args.entries.now in
+    let is_bag = subst IsBag c.self.view_is c.self.invariant.is_bag in
+    let lengths = length-changed c.args.self.now.held es is_bag.rises c.requires.entries_rise c.requires.before in
+    let counted = c.self.invariant.counted ∙ ap (λ (b : LimitedCollection). length b.held) c.self.view_is in
+    omega (arith, lengths, counted, gains-count_by es, losses-count_by es, c.gains.ensures, c.losses.ensures)
+
+pub returns : goal.returns
+returns c =
+    let es = c.args.entries.now in
+    let is_bag = subst IsBag c.self.view_is c.self.invariant.is_bag in
+    let lengths = length-changed c.args.self.now.held es is_bag.rises c.requires.entries_rise c.requires.before in
+    let counted = c.self.invariant.counted ∙ ap (λ (b : LimitedCollection). length b.held) c.self.view_is in
+    omega (arith, lengths, counted, gains-count_by es, losses-count_by es, c.gains.ensures, c.losses.ensures)
