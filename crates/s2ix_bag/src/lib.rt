@@ -2,7 +2,7 @@
 //!
 //! A [`Bag`] is a finite map from pairs of a cell and a label to counts above 0, within stated [`Limits`]. A [`Change`] lists what differs
 //! between two bags: each pair with its count before and after. A change is applied to a bag whose counts are those before, and gives the
-//! bag whose counts are those after. It can be taken back from a bag that other changes led on to, if no count falls below 0 and the
+//! bag whose counts are those after. Changes that came later don't keep it from being taken back, if no count falls below 0 and the
 //! limits hold: each count is then less by the change's difference.
 //!
 //! [`Bag::applied`] and [`Bag::reverted`] leave their bag as it is and give another one, which shares the pairs of each face that the

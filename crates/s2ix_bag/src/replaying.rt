@@ -12,7 +12,7 @@ use crate::replay_refusal::refusal_back;
 use s2ix_bag_lists::ApplyError;
 use std::alloc::Global;
 
-// A refusal of the change with this number and so many entries, as it is told.
+// A refusal with the number of its change, and the number of an entry counted from 1. The change has so many entries.
 fn numbered(number: usize, entries: usize, refusal: ApplyError) -> ReplayError
     requires { (place : ℕ) → refusal ≡ ApplyError.Mismatch place → place < entries }
     ensures { result ≡ refusal_numbered number refusal }
@@ -41,7 +41,7 @@ fn next_bag(alloc: Global, bag: &Bag, change: &Change, number: usize) -> Result<
     }
 }
 
-// The same on the way. A change of many entries is applied to the bag itself, one of few to the counts beside it.
+// The same for a bag on the way: a change of many entries is applied to the bag itself, one of few to the counts beside it.
 fn next_reached(
     alloc: Global,
     reached: Reached,

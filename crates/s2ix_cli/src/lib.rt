@@ -2,7 +2,8 @@
 //!
 //! [`run`] reads a script from a source piece by piece, carries out one line after the other over a store, and writes the answers. What it
 //! writes is a function of what it reads: a refused line prints `no` with its reason and changes nothing, and after a fault the store is as
-//! the last whole line left it. The program around it is [`command_of`], which reads the words, and calls on whole texts.
+//! the last whole line left it. [`command_of`] reads the program's words, and other calls do what
+//! they ask of whole texts.
 //!
 //! ```
 //! let Some(mut store) = load_text(alloc, dump_bytes, limits, &mut sink)? else { return Ok(()) };

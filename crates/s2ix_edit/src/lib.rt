@@ -5,9 +5,8 @@
 //! only the collection. A refused step leaves the store as it was. The store keeps the range table of its collection
 //! beside it, for queries.
 //!
-//! Each step builds again what the bag and that table have of the faces of its change, in a time that rises with the pairs held there. A
-//! store drops no change by itself: once as many can be undone as its limits allow, edits are refused until one is undone or all are
-//! forgotten.
+//! Each step rebuilds only the faces that it changes, in a time that grows with the pairs held there. A store drops no change by itself:
+//! once as many can be undone as its limits allow, edits are refused until one is undone or all are forgotten.
 #![tactic(auto)]
 
 pub mod laws;

@@ -2,7 +2,7 @@
 //!
 //! The cells of a bag cut the curve into ranges of leaves over which the same pairs lie. A [`RangeTable`] keeps these ranges in order, and
 //! for each of them a chain of the pairs over it, the innermost cell first. A table is built of a bag and never changes. A query
-//! reads the ranges that its target meets, and O(log n) more for each cell of the target; it allocates only the list that it returns.
+//! reads the ranges that its target meets, and O(log n) more for each cell of the target; it allocates only for the list that it returns.
 //!
 //! ```
 //! let table = ChainTable::build(alloc, &bag)?;
@@ -10,7 +10,7 @@
 //! let met: Vec<Held> = table.meeting(alloc, &target)?; // the pairs that share a leaf with the target, each once
 //! let labels: Vec<Label> = table.labels(alloc, &target)?; // their labels, each once, rising
 //! let none_twice = table.visit(&target, &mut |held: Held| held.count < 2); // one call for each pair, until it returns false
-//! let innermost = chain_at(&table, leaf).next(); // the pairs over one leaf
+//! let innermost = chain_at(&table, leaf).next(); // the innermost pair over one leaf
 //! for (k, row) in ranges(&table) { /* contents(&table, k) lie over the leaves from row.start up to row.limit */ }
 //! ```
 //!

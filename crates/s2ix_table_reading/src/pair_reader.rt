@@ -28,7 +28,7 @@ pub trait PairReader {
         ensures counts { spent self.new ≡ with_read (spent self.old) };
 
     /// The pairs from one place to before another, in rising order, with their counts: a read for each. The list may be one that others
-    /// keep too. `OutOfMemory` where a growth is refused, or the list is shared too often; it may have read then, never more than that.
+    /// keep too. `OutOfMemory` if a growth is refused or the list is shared too often; then at most `to - from` reads were counted.
     fn read_between(
         &mut self,
         alloc: Global,

@@ -13,8 +13,8 @@ use crate::walk_state::KnownFace;
 use crate::window::Window;
 use s2id_core::CellId;
 
-// The range that has a leaf, one of some that are known to have it among them: each probe halves those that are left. Among few ranges no
-// branch depends on what is read.
+// The range that has a leaf, of some that have it among them: each probe halves those that are left. Among few ranges no branch depends on
+// what is read.
 #[inline(always)]
 fn search<R: Reader>(reader: &mut R, leaf: u64, among: Window) -> usize
     requires within { leaf < leaf_end }
@@ -86,7 +86,7 @@ fn jump<R: Reader>(reader: &mut R, leaf: u64, among: Window) -> usize
     first
 }
 
-// Of very many ranges at most 16: groups of 16 are halved, by the start of the first range of each.
+// Of very many ranges at most 16, and fewer ranges as they are: groups of 16 are halved, by the start of the first range of each.
 #[inline(always)]
 fn leap<R: Reader>(reader: &mut R, leaf: u64, among: Window) -> Window
     requires { IsWindow (R.shown reader.old).ranges leaf among.first among.size }
@@ -123,7 +123,7 @@ struct Candidates {
     known: KnownFace,
 }
 
-// The ranges among which the one with a cell's first leaf is: those over the cell's face, from one on that begins by that leaf. It takes one
+// The ranges in which to search for a cell's first leaf: those over the cell's face, from one on that begins by that leaf. It takes one
 // probe at most: on the known face a range near at hand, on another the window of that face.
 #[inline(always)]
 fn ahead<R: Reader>(reader: &mut R, cell: CellId, from: usize, known: KnownFace) -> Candidates
@@ -196,7 +196,7 @@ fn power_within(number: usize) -> usize
     1 << (63 - number.leading_zeros())
 }
 
-// 1 where what begins at a leaf number has begun by a leaf, else 0: the top bit of a difference, so that no branch depends on it.
+// 1 if what begins at a leaf number has begun by a leaf, else 0: the top bit of a difference, so that no branch depends on it.
 #[inline(always)]
 fn begun(start: u64, leaf: u64) -> usize
     requires odd { start % 2 ≡ 1 }

@@ -86,7 +86,7 @@ impl Block {
         put_all(sink, &self.bytes[..self.len])
     }
 
-    // Has room for one more line: where it may not fit, what is gathered is put.
+    // Makes room for one more line: if it may not fit, what is gathered is put.
     #[inline]
     fn make_room<K: Sink>(&mut self, sink: &mut K) -> Result<(), WriteFault>
         requires { CanCount (K.fault_count sink.old) }

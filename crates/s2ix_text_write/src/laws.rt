@@ -11,7 +11,7 @@ pub fn dumps_tell_collections_apart()
     ensures bags { DumpsTellBagsApart }
 {}
 
-/// A dump is one of one version alone.
+/// No text is a dump of both versions.
 pub fn dumps_tell_versions_apart()
     ensures { DumpsTellVersionsApart }
 {}
