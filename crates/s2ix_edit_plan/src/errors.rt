@@ -2,8 +2,8 @@ use s2id_core::OutOfMemory;
 use s2ix_bag_lists::RevertError;
 use thiserror::Error;
 
-/// Why an edit was refused. If several refusals are due, the first of this list is returned; only `OutOfMemory` may replace `NoChange`,
-/// `TooManyCopies` or `TooManyPairs`.
+/// Why an edit was refused. If several refusals are due, the first of this list is returned. `OutOfMemory` may replace `NoChange`,
+/// `TooManyCopies` or `TooManyPairs`, and none of the others.
 #[derive(Clone, Copy, Debug, PartialEq, Eq, Error)]
 pub enum EditError {
     /// As many changes can be undone as the limit allows.
