@@ -47,7 +47,7 @@ on_at held place from h is = ap (λ (o : Option Held). unwrap_or (option_map (λ
 pub none_on : (held : Collection) (place : ℕ) (h : Held) → slice_get held place ≡ None → is_on_chain held place h ≡ false
 none_on held place h is = ap (λ (o : Option Held). unwrap_or (option_map (λ (x : Held). is_outward x h) o) false) is
 
-same_bool : (a b : Bool) → (a ≡ true → b ≡ true) → (b ≡ true → a ≡ true) → a ≡ b
+pub same_bool : (a b : Bool) → (a ≡ true → b ≡ true) → (b ≡ true → a ≡ true) → a ≡ b
 same_bool true b to back = sym (to refl)
 same_bool false true to back = absurd (both_ways false refl (back refl))
 same_bool false false to back = refl

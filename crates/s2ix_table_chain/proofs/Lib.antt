@@ -1,4 +1,6 @@
 pub mod Keys
+pub mod InCommon
+pub mod Exchanges
 pub mod Chains
 pub mod Ranges
 pub mod Samples
@@ -13,3 +15,10 @@ pub mod Lasts
 pub mod Turning
 pub mod OnePlace
 pub mod Spans
+pub mod Blocks
+pub mod BlockChains
+pub mod BlockSplices
+pub mod Few
+pub mod Splicing
+pub mod Spliced
+pub mod Bases

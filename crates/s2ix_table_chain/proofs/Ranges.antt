@@ -14,12 +14,17 @@ length_ranges held (s ∷ ss) to = ap suc (length_ranges held ss to)
 abbrev pub row_from : Collection → ℕ → ℕ → Range
 row_from held start limit = record { start = start; limit = limit; contents = contents_at start held }
 
+-- starts one behind the other
+pub ranges_append : (held : Collection) (starts more : List ℕ) (to : ℕ)
+    → ranges_from held (starts ++ more) to ≡ ranges_from held starts (get_or more 0 to) ++ ranges_from held more to
+ranges_append held [] more to = refl
+ranges_append held (s ∷ []) more to = refl
+ranges_append held (s ∷ t ∷ ts) more to = ap (λ rs. row_from held s t ∷ rs) (ranges_append held (t ∷ ts) more to)
+
 -- one start more at the end
 pub ranges_push : (held : Collection) (starts : List ℕ) (start to : ℕ)
     → ranges_from held (starts ++ start ∷ []) to ≡ ranges_from held starts start ++ row_from held start to ∷ []
-ranges_push held [] start to = refl
-ranges_push held (s ∷ []) start to = refl
-ranges_push held (s ∷ t ∷ ts) start to = ap (λ rs. row_from held s t ∷ rs) (ranges_push held (t ∷ ts) start to)
+ranges_push held starts start to = ranges_append held starts (start ∷ []) to
 
 pub range_start : (held : Collection) (starts : List ℕ) (to k d : ℕ) → k < length starts
     → (range_at (ranges_from held starts to) k).start ≡ get_or starts k d

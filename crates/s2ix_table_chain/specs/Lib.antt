@@ -2,6 +2,7 @@ pub mod Chains
 pub mod Starts
 pub mod SpanTable
 pub mod Nodes
+pub mod Blocks
 pub mod Order
 pub mod Pass
 pub mod Sweep

@@ -4,14 +4,17 @@
 //! all leaves is the law of [`SharesChains`].
 #![tactic(auto)]
 
+mod block;
 mod chain_table;
 pub mod laws;
+mod nodes;
 mod order;
 mod pass;
 mod places;
 mod sample;
 mod shares_chains;
 mod span_table;
+mod splice;
 mod sweep;
 
 pub use chain_table::ChainTable;

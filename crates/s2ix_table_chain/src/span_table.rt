@@ -5,12 +5,13 @@ ghost use Rattle.s2ix_table_ranges.specs.Table.{Range, range_at, IsFound};
 ghost use Rattle.s2ix_table_walk.specs.Places.{IsPlace, LeadsTo};
 ghost use Rattle.s2ix_table_queries.specs.Stretches.{IsSample};
 ghost use Rattle.s2ix_table_chain.specs.Chains.{chain_of};
+ghost use Rattle.s2ix_table_chain.specs.Nodes.{AreNodes};
 ghost use Rattle.s2ix_table_chain.specs.SpanTable.{IsInSpan, IsSpanTable};
 
-use crate::order::sweep_order;
+use crate::nodes::Nodes;
 use crate::places::last_start;
 use crate::sample::sample_of;
-use crate::sweep::sweep_span;
+use crate::splice::Before;
 use s2id_core::{CellId, OutOfMemory};
 use s2ix_bag_lists::HeldList;
 use s2ix_bag_pairs::Held;
@@ -60,26 +61,57 @@ impl SpanTable {
         ensures ends { IfOk result (λ table. table.to ≡ to) }
         ensures table { IfOk result (λ table. IsSpanTable table) }
     {
-        let pairs = held.as_slice();
-        let mut stack = Vec::from_elem(alloc, 0, pairs.len() + 1)?;
-        let order = sweep_order(alloc, pairs, stack.as_mut_slice())?;
-        let pass = sweep_span(
-            alloc,
-            pairs,
-            order.as_slice(),
-            stack.as_mut_slice(),
-            from,
-            to,
-        )?;
-        let outer = pass.outer;
-        let starts = trim(pass.starts, pass.frontier.count);
-        let firsts = trim(pass.firsts, pass.frontier.count);
-        let sample = sample_of(alloc, starts.as_slice())?;
+        let nodes = Nodes::over(alloc, held.as_slice(), from, to)?;
+        SpanTable::with_nodes(alloc, held, nodes, from, to)
+    }
+
+    /// The table of these pairs over the same span, as [`over`](SpanTable::over) makes it, but quicker if most of them are this table's: if
+    /// a cell that both hold has all pairs in which they differ, only that cell's leaves are swept, and the rest is copied. O(n) for n pairs
+    /// in both. `OutOfMemory` where a growth is refused.
+    pub fn after(&self, alloc: Global, held: HeldList) -> Result<SpanTable, OutOfMemory>
+        requires rises { IsCollection held }
+        requires few { length held ≤ 1000000 }
+        requires span { IsInSpan held self.now.from self.now.to }
+        ensures pairs { IfOk result (λ table. table.held ≡ held) }
+        ensures begins { IfOk result (λ table. table.from ≡ self.now.from) }
+        ensures ends { IfOk result (λ table. table.to ≡ self.now.to) }
+        ensures table { IfOk result (λ table. IsSpanTable table) }
+    {
+        let before = Before {
+            held: self.held.as_slice(),
+            outer: self.outer.as_slice(),
+            starts: self.starts.as_slice(),
+            firsts: self.firsts.as_slice(),
+            from: self.from,
+            to: self.to,
+        };
+        let nodes = match before.changed_block(held.as_slice()) {
+            Some(block) => before.spliced(alloc, held.as_slice(), block)?,
+            None => Nodes::over(alloc, held.as_slice(), self.from, self.to)?,
+        };
+        SpanTable::with_nodes(alloc, held, nodes, self.from, self.to)
+    }
+
+    // The table of pairs, of their nodes.
+    fn with_nodes(
+        alloc: Global,
+        held: HeldList,
+        nodes: Nodes,
+        from: u64,
+        to: u64,
+    ) -> Result<SpanTable, OutOfMemory>
+        requires { AreNodes held from to nodes.outer.items nodes.starts.items nodes.firsts.items }
+        ensures pairs { IfOk result (λ table. table.held ≡ held) }
+        ensures begins { IfOk result (λ table. table.from ≡ from) }
+        ensures ends { IfOk result (λ table. table.to ≡ to) }
+        ensures table { IfOk result (λ table. IsSpanTable table) }
+    {
+        let sample = sample_of(alloc, nodes.starts.as_slice())?;
         Ok(SpanTable {
             held,
-            outer,
-            starts,
-            firsts,
+            outer: nodes.outer,
+            starts: nodes.starts,
+            firsts: nodes.firsts,
             sample,
             from,
             to,
@@ -191,13 +223,4 @@ impl SpanTable {
     {
         last_start(self.starts.as_slice(), leaf.raw())
     }
-}
-
-// The first elements of a list, in no more room than they need; where a smaller block is refused, they stay where they are.
-fn trim<T: Drop>(mut list: Vec<T>, len: usize) -> Vec<T>
-    ensures { result.items ≡ take len list.items }
-{
-    list.truncate(len);
-    list.shrink_to_fit();
-    list
 }

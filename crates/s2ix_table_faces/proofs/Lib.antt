@@ -13,4 +13,3 @@ pub mod OnFaces
 pub mod Shared
 pub mod Once
 pub mod AllFaces
-pub mod Few

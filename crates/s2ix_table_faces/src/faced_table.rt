@@ -219,7 +219,7 @@ impl FacedTable {
 
     // The table of a face.
     #[inline]
-    fn span(&self, face: usize) -> &SpanTable
+    pub(crate) fn span(&self, face: usize) -> &SpanTable
         requires { face < 6 }
         ensures { result.now ≡ table_of (spans_of self.now.tables) face }
     {

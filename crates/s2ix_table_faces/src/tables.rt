@@ -50,6 +50,28 @@ pub(crate) fn read_table<B: PairReader>(
     face_table(alloc, face, held)
 }
 
+// The table of a face after a change, of what a reader shows of it: by the table of that face before.
+fn read_table_after<B: PairReader>(
+    alloc: Global,
+    reader: &mut B,
+    face: u8,
+    before: &SpanTable,
+) -> Result<Rc<SpanTable>, OutOfMemory>
+    requires six { face < 6 }
+    requires before { IsOverFace face before.now }
+    ensures over { IfOk result (λ table. IsOverFace face table.value) }
+    ensures pairs { IfOk result (λ table. table.value.held ≡ held_on face (B.shown reader.old)) }
+    ensures same { B.shown reader.new ≡ B.shown reader.old }
+    ensures reads { OnOk result (IsFaceRead face (B.shown reader.old) (B.spent reader.old) (B.spent reader.new)) }
+    ensures refused { HasRead 0
+        (length (held_on face (B.shown reader.old)) + two_searches (B.shown reader.old)) (B.spent reader.old) (B.spent reader.new) }
+{
+    let held = read_list(alloc, reader, face)?;
+    let table = before.after(alloc, held)?;
+    let shared = Rc::new(alloc, table)?;
+    Ok(shared)
+}
+
 // The tables of the six faces, of what a reader shows.
 pub(crate) fn read_tables<B: PairReader>(
     alloc: Global,
@@ -85,8 +107,9 @@ pub(crate) fn tables_after<B: PairReader>(
     let changed = changed_faces(change);
     let mut after = table.shared()?;
     for face in 0..6u8 {
-        if changed[usize::from(face)] {
-            after[usize::from(face)] = read_table(alloc, reader, face)?;
+        let at = usize::from(face);
+        if changed[at] {
+            after[at] = read_table_after(alloc, reader, face, table.span(at))?;
         }
     }
     Ok(after)

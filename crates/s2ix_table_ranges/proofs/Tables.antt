@@ -63,35 +63,43 @@ table_rises hs from (r ∷ rs) to t =
     let lt = t.0.rises in
     omega arith
 
--- one more range at the end
-pub table_push : (hs : Collection) (from : ℕ) (ranges : List Range) (mid : ℕ) (r : Range) → IsTable hs from ranges mid
-    → IsRangeFrom hs mid r → ((q : ℕ) → from ≤ q → q + 2 ≡ mid → contents_at q hs ≢ contents_at mid hs)
-    → IsTable hs from (ranges ++ r ∷ []) r.limit
-table_push hs from [] mid r t range changes =
-    let a = range.start in
-    let b = range.odd in
-    let c = range.rises in (
-      record { start = a ∙ sym t; odd = omega arith; rises = omega arith; shared = λ q odd le lt. range.shared q odd (omega arith) lt },
-      tt,
-      refl,
-    )
-table_push hs from (s ∷ []) mid r t range changes =
+-- at each bound contents change, whatever leaf comes before it
+pub changes_by : (hs : Collection) (b : ℕ) → IsBound hs b → (q : ℕ) → q + 2 ≡ b → contents_at q hs ≢ contents_at b hs
+changes_by hs b (h, held, inl e) q next =
+    let odd = (span_of h).odd in
+    changes_at hs q b (omega arith) next (h, held, inl e)
+changes_by hs b (h, held, inr e) q next =
+    let odd = (span_of h).odd_end in
+    changes_at hs q b (omega arith) next (h, held, inr e)
+
+-- two tables that meet where contents change are one
+pub table_join : (hs : Collection) (from : ℕ) (rs : List Range) (mid : ℕ) (ss : List Range) (to : ℕ) → IsTable hs from rs mid
+    → IsTable hs mid ss to → ((q : ℕ) → from ≤ q → q + 2 ≡ mid → contents_at q hs ≢ contents_at mid hs) → IsTable hs from (rs ++ ss) to
+table_join hs from [] mid ss to t u changes = subst (λ n. IsTable hs n ss to) (sym t) u
+table_join hs from (r ∷ []) mid [] to t u changes = (t.0, tt, t.2 ∙ u)
+table_join hs from (r ∷ []) mid (s ∷ ss) to t u changes =
     let a = t.0.odd in
     let b = t.0.rises in
-    let c = range.odd in
-    let d = range.rises in
+    let c = u.0.odd in
+    let d = u.0.rises in
     let e = t.2 in
     let last : ℕ = mid - 2 in
     let two : last + 2 ≡ mid = omega arith in (
       t.0,
       λ same.
           changes last (omega arith) two
-          (t.0.shared last (omega arith) (omega arith) (omega arith) ∙ same ∙ sym (range.shared mid c (omega arith) d)),
-      table_push hs s.limit [] mid r t.2 range (λ q le f. absurd (omega arith)),
+          (t.0.shared last (omega arith) (omega arith) (omega arith) ∙ same ∙ sym (u.0.shared mid c (omega arith) d)),
+      subst (λ n. IsTable hs n (s ∷ ss) to) (sym e) u,
     )
-table_push hs from (s ∷ u ∷ us) mid r t range changes =
+table_join hs from (r ∷ s ∷ rs) mid ss to t u changes =
     let a = t.0.rises in
-    (t.0, t.1, table_push hs s.limit (u ∷ us) mid r t.2 range (λ q le f. changes q (omega arith) f))
+    (t.0, t.1, table_join hs r.limit (s ∷ rs) mid ss to t.2 u (λ q le f. changes q (omega arith) f))
+
+-- one more range at the end
+pub table_push : (hs : Collection) (from : ℕ) (ranges : List Range) (mid : ℕ) (r : Range) → IsTable hs from ranges mid
+    → IsRangeFrom hs mid r → ((q : ℕ) → from ≤ q → q + 2 ≡ mid → contents_at q hs ≢ contents_at mid hs)
+    → IsTable hs from (ranges ++ r ∷ []) r.limit
+table_push hs from ranges mid r t range changes = table_join hs from ranges mid (r ∷ []) r.limit t (range, tt, refl) changes
 
 -- ---- and by places
 

@@ -3,7 +3,7 @@ use Rattle.std.proofs.Common.{◌≡◌, ℕ, List, map, ◌<◌, true, false, r
 use Rattle.s2ix_bag_pairs.specs.Collection.{Collection}
 use Rattle.s2ix_table_chain.specs.SpanTable.{SpanRanges}
 use Rattle.s2ix_table_ranges.specs.Table.{leaf_end}
-use Rattle.s2ix_table_faces.specs.FaceSpans.{AreOverFaces, spans_of}
+use Rattle.s2ix_table_faces.specs.FaceSpans.{AreOverFaces, IsOverFace, spans_of, table_of}
 use Rattle.s2ix_table_faces.specs.Joined.{held_in}
 use Rattle.s2ix_table_reading.specs.Faces.{held_on}
 use Rattle.s2ix_table_reading.specs.Reading.{two_searches}
@@ -12,9 +12,10 @@ use Rattle.s2ix_table_reading.proofs.Summing.{face_was_read, face_was_left, face
 use Rattle.s2ix_table_reading.proofs.Unchanged.{unchanged_stay}
 use Rattle.s2ix_table_faces.proofs.AllFaces.{all_parts, over_set}
 use Rattle.s2ix_table_faces.proofs.OnFaces.{own_parts}
+use Rattle.s2ix_table_faces.proofs.Reading.{face_over}
 use Rattle.s2ix_table_faces.proofs.Shared.{spans_set}
 use Rattle.s2ix_table_faces.proofs.tables.tables_after.Goals as goal
-use Rattle.s2ix_table_faces.proofs.tables.tables_after.Goals.{then-changed-from+in_ok-after-2, else-changed-from}
+use Rattle.s2ix_table_faces.proofs.tables.tables_after.Goals.{then-changed-at+in_ok-after-2, else-changed-at}
 
 pub loop-face-init : goal.loop-face-init
 loop-face-init g c =
@@ -40,22 +41,22 @@ loop-face-preserved g c =
     let i = c.loop-face.invariant in
     let test = c.loop-face-test.true in
     let within : face < 6 = omega (arith, test) in
-    elim c.if-changed-from.branch [
-      | then-changed-from+in_ok-after-2 w ↦
+    elim c.if-changed-at.branch [
+      | then-changed-at+in_ok-after-2 w ↦
           (let changed = c.changed_faces-changed in
-          let on = tested change changed.result face c.from.result true changed.ensures c.from.ensures within w.if-changed-from.true in
-          let is : face ≡ w.from-then-changed-from.result = sym w.from-then-changed-from.ensures in
+          let on = tested change changed.result face c.from-at.result true changed.ensures c.from-at.ensures within w.if-changed-at.true in
+          let is : face ≡ c.from-at.result = sym c.from-at.ensures in
           let put = ap (λ ts. spans_of ts) w.after-is ∙ spans_set _ _ _ in
           let r = w.in_ok-after-2.ensures in
           let pairs = r.pairs ∙ ap (λ (xs : Collection). held_on face xs) i.2 in (
-            put_next held_of face _ own old _ _ _ within w.from-then-changed-from.ensures put i.0 pairs,
+            put_next held_of face _ own old _ _ _ within c.from-at.ensures put i.0 pairs,
             face_was_read change hs _ face _ _ _ _ on i.2 (ap g.B.PairReader.spent w.reader-is) i.1 r.reads,
             ap g.B.PairReader.shown w.reader-is ∙ r.same ∙ i.2,
             subst (AreOverFaces 0) (sym put) (over_set 0 _ face _ _ (omega arith) i.3 r.over),
           ))
-      | else-changed-from w ↦
+      | else-changed-at w ↦
           (let changed = c.changed_faces-changed in
-          let none = tested change changed.result face c.from.result false changed.ensures c.from.ensures within w.if-changed-from.false in
+          let none = tested change changed.result face c.from-at.result false changed.ensures c.from-at.ensures within w.if-changed-at.false in
           let stays = unchanged_stay (held_in (spans_of c.args.table.now.tables)) change face none in
           let same = sym (ap (λ (xs : Collection). held_on face xs) c.requires.made) ∙ stays in
           let put = ap (λ ts. spans_of ts) w.after-is in (
@@ -95,8 +96,14 @@ returns-in_err-after-2-clause-refused g c =
     let within : face < 6 = omega (arith, test) in
     let i = c.loop-face.invariant in
     let changed = c.changed_faces-changed in
-    let on = tested change changed.result face c.from.result true changed.ensures c.from.ensures within c.if-changed-from.true in
-    face_was_refused change hs _ face _ _ _ within on i.2 i.1 c.read_table.ensures.refused
+    let on = tested change changed.result face c.from-at.result true changed.ensures c.from-at.ensures within c.if-changed-at.true in
+    face_was_refused change hs _ face _ _ _ within on i.2 i.1 c.read_table_after.ensures.refused
 
 pub returns-in_err-after-clause-refused : goal.returns-in_err-after-clause-refused
 returns-in_err-after-clause-refused g c = read_within 0 0 0 _ _ _ (omega arith) (omega arith) (none_read _ _ refl)
+
+pub read_table_after-requires-clause-before : goal.read_table_after-requires-clause-before
+read_table_after-requires-clause-before g c =
+    let t = c.args.table.now in
+    let over = face_over (spans_of t.tables) t.seats t.count c.loop-face.face t.seated.joined c.loop-face-test.true in
+    subst (IsOverFace c.loop-face.face) (sym (c.span.ensures ∙ ap (table_of (spans_of t.tables)) c.from-at.ensures)) over

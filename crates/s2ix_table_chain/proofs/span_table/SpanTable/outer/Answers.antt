@@ -1,4 +1,4 @@
-use Rattle.std.proofs.Common.{◌≡◌, ◌∙◌, sym, drop, ap, arith, subst}
+use Rattle.std.proofs.Common.{◌≡◌, sym, drop, arith, subst}
 use Rattle.s2ix_table_walk.specs.Places.{IsPlace, LeadsTo}
 use Rattle.s2ix_table_chain.specs.Chains.{chain_of}
 use Rattle.s2ix_table_chain.specs.SpanTable.{SpanRanges}

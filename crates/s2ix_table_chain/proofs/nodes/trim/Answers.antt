@@ -1,5 +1,5 @@
 use Rattle.std.proofs.Common.{rules}
-use Rattle.s2ix_table_chain.proofs.span_table.trim.Goals as goal
+use Rattle.s2ix_table_chain.proofs.nodes.trim.Goals as goal
 
 pub returns : goal.returns
 returns g c = search rules
