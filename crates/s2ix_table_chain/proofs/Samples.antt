@@ -1,5 +1,5 @@
 -- Every 16th start.
-use Rattle.std.proofs.Common.{◌≡◌, ℕ, ◌+◌, ◌*◌, ◌<◌, inl, inr, List, [], ◌∷◌, ◌++◌, length, drop, slice_index_or, refl, sym, ◌∙◌, ap, add-one, arith}
+use Rattle.std.proofs.Common.{◌≡◌, ℕ, ◌+◌, ◌*◌, ◌<◌, ◌≤◌, inl, inr, List, [], ◌∷◌, ◌++◌, length, drop, slice_index_or, refl, sym, ◌∙◌, ap, add-one, arith}
 use Rattle.std.proofs.lemmas.Bool.{cases_lt}
 use Rattle.std.proofs.Math.ListN.{get_or-append}
 use Rattle.std.proofs.Math.Seq.{get_or-append_seam}
@@ -15,10 +15,10 @@ behind_first [] k = refl
 behind_first (s ∷ ss) k = ap (λ n. slice_index_or (s ∷ ss) n 0) (sym (add-one k))
 
 -- a sample and one start more
-pub one_more : (starts sample : List ℕ) (count k : ℕ) → IsSample count (drop 1 starts) sample → k ≡ length sample * 16 → k < count
-    → IsSample count (drop 1 starts) (sample ++ slice_index_or starts (k + 1) 0 ∷ [])
+pub one_more : (starts sample : List ℕ) (count k : ℕ) → IsSample count (drop 1 starts) sample → k ≡ length sample * 16 + 16 → k ≤ count
+    → IsSample count (drop 1 starts) (sample ++ slice_index_or starts k 0 ∷ [])
 one_more starts sample count k is at lt =
-    let start = slice_index_or starts (k + 1) 0 in
+    let start = slice_index_or starts k 0 in
     let many = length-append sample (start ∷ []) in
     record {
       within = λ j less. elim (cases_lt j (length sample)) [ inl old ↦ is.within j old | inr new ↦ omega arith ];
@@ -27,10 +27,10 @@ one_more starts sample count k is at lt =
             | inl old ↦ get_or-append sample (start ∷ []) 0 j old ∙ is.each j old
             | inr new ↦
                 (let last : j ≡ length sample = omega arith in
-                let place : j * 16 ≡ k = omega arith in
+                let place : k ≡ j * 16 + 15 + 1 = omega arith in
                 ap (λ n. slice_index_or (sample ++ start ∷ []) n 0) last
                 ∙ get_or-append_seam sample start [] 0
-                ∙ sym (behind_first starts k)
-                ∙ ap (λ n. slice_index_or (drop 1 starts) n 0) (sym place))
+                ∙ ap (λ n. slice_index_or starts n 0) place
+                ∙ sym (behind_first starts (j * 16 + 15)))
           ];
     }

@@ -6,7 +6,7 @@ use s2id_core::OutOfMemory;
 use s2ix_table_walk::{MANY_RANGES, SAMPLE_STEP};
 use std::alloc::Global;
 
-// A sample of the starts but for the first and the last one: none if they are so few that no search reads it.
+// The starts at 16, 32 and so on but for the last start: none if they are so few that no search reads them.
 pub(crate) fn sample_of(alloc: Global, starts: &[u64]) -> Result<Vec<u64>, OutOfMemory>
     ensures { IfOk result (λ sample. IsSample (length starts.now - 2) (drop 1 starts.now) sample.items) }
 {
@@ -14,10 +14,10 @@ pub(crate) fn sample_of(alloc: Global, starts: &[u64]) -> Result<Vec<u64>, OutOf
     if count <= MANY_RANGES {
         return Ok(Vec::new(alloc));
     }
-    let mut sample = Vec::with_capacity(alloc, count / SAMPLE_STEP + 1)?;
-    let mut k = 0;
-    while k < count {
-        sample.push(starts[k + 1])?;
+    let mut sample = Vec::with_capacity(alloc, count / SAMPLE_STEP)?;
+    let mut k = SAMPLE_STEP;
+    while k <= count {
+        sample.push(starts[k])?;
         k += SAMPLE_STEP;
     }
     Ok(sample)

@@ -28,9 +28,9 @@ near_is hs ranges first count starts k own t s fits is lt =
     }
 
 -- a start of a sample, by its place among all of them
-pub sampled : (count : ℕ) (starts sample : List ℕ) (own : ℕ) → IsSample count starts sample → own % 16 ≡ 0 → own / 16 < length sample
+pub sampled : (count : ℕ) (starts sample : List ℕ) (own : ℕ) → IsSample count starts sample → own % 16 ≡ 15 → own / 16 < length sample
     → (own < count) × (slice_index_or sample (own / 16) 0 ≡ slice_index_or starts own 0)
 sampled count starts sample own is whole lt =
-    let e : own / 16 * 16 ≡ own = omega arith in
+    let e : own / 16 * 16 + 15 ≡ own = omega arith in
     let within = is.within (own / 16) lt in
     (omega arith, is.each (own / 16) lt ∙ ap (λ k. slice_index_or starts k 0) e)

@@ -9,7 +9,7 @@ pub record IsStretch (ranges : List Range) (first count : ℕ) (starts : List �
   pub begins : (k : ℕ) → k < count → (range_at ranges (first + k)).start ≡ slice_index_or starts k 0
   pub ends : (k : ℕ) → k < count → (range_at ranges (first + k)).limit ≡ slice_index_or starts (k + 1) 0
 
--- every 16th of the first `count` starts, as many of these as there are in `sample`
+-- every 16th of the first `count` starts, those at 15, 31 and so on, as many of these as there are in `sample`
 pub record IsSample (count : ℕ) (starts sample : List ℕ) : Type 0 where
-  pub within : (j : ℕ) → j < length sample → j * 16 < count
-  pub each : (j : ℕ) → j < length sample → slice_index_or sample j 0 ≡ slice_index_or starts (j * 16) 0
+  pub within : (j : ℕ) → j < length sample → j * 16 + 15 < count
+  pub each : (j : ℕ) → j < length sample → slice_index_or sample j 0 ≡ slice_index_or starts (j * 16 + 15) 0

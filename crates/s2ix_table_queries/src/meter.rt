@@ -83,12 +83,13 @@ impl<T: RangeTable> Reader for Meter<'_, T> {
     }
 
     fn sampled_by(&self, k: usize) -> usize {
-        k - k.saturating_sub(self.near.first) % SAMPLE_STEP
+        let own = k.wrapping_sub(self.near.first);
+        k.saturating_sub(own.wrapping_add(1) % SAMPLE_STEP)
     }
 
     fn sampled_start(&mut self, k: usize) -> u64 {
         let own = k.wrapping_sub(self.near.first);
-        if own % SAMPLE_STEP == 0 && own / SAMPLE_STEP < self.near.sample.len() {
+        if own % SAMPLE_STEP == SAMPLE_STEP - 1 && own / SAMPLE_STEP < self.near.sample.len() {
             self.cost.add_probe();
             return self.near.sample[own / SAMPLE_STEP];
         }

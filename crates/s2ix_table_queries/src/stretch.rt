@@ -12,7 +12,7 @@ pub struct Stretch<'a> {
     pub count: usize,
     /// Where each begins, and behind the last one where it ends.
     pub starts: &'a [u64],
-    /// Every 16th of the starts, from the first on; none if the table keeps no such list.
+    /// Every 16th of the starts: the 16th, the 32nd and so on. None if the table keeps no such list.
     pub sample: &'a [u64],
     /// A number of the table's own, for [`read_near`](crate::RangeTable::read_near).
     pub note: usize,

@@ -61,9 +61,9 @@ where
     row == own_row && same_row == own_row && first == own_first && same_first == own_first
 }
 
-// Whether a stretch has every 16th of its starts in its sample, as many as that has.
+// Whether a stretch has every 16th of its starts in its sample, from the 16th on, as many as that has.
 fn has_sample(stretch: Stretch<'_>) -> bool {
-    let mut own = 0usize;
+    let mut own = SAMPLE_STEP - 1;
     for start in stretch.sample {
         if own >= stretch.count || stretch.starts.get(own) != Some(start) {
             return false;

@@ -22,7 +22,7 @@ loop-k-preserved c =
     let more = c.loop-k-test.true in
     let items = c.in_ok-push.ensures.items in
     let many = ap length items in
-    let longer = length-append old (slice_index_or starts (c.loop-k.k + 1) 0 ∷ []) in
+    let longer = length-append old (slice_index_or starts c.loop-k.k 0 ∷ []) in
     let at = i.1 in (
       subst (IsSample (length starts - 2) (drop 1 starts)) (sym items)
           (one_more starts old (length starts - 2) c.loop-k.k i.0 i.1 (omega arith)),
