@@ -7,8 +7,8 @@ use Rattle.s2id_core.proofs.Powers.{four_step, four_pos}
 use Rattle.s2id_cube.specs.declared.face_ij.FaceIj.{FaceIj}
 use Rattle.s2id_cube.specs.Square.{quadrant, turned, quarter, whole_face, square_after}
 use Rattle.s2id_cube.specs.FourLevels.{four_levels}
-use Rattle.s2id_cube.specs.Loops.{square_at, square_in, AreWoven}
-use Rattle.s2id_cube.proofs.Squares.{IsSquare, IsSquare-square_at, face-square_at}
+use Rattle.s2id_cube.specs.Loops.{IsSquare, square_at, square_in, AreWoven}
+use Rattle.s2id_cube.proofs.Squares.{IsSquare-square_at, face-square_at}
 use Rattle.s2id_cube.proofs.LevelTables.{IsSquareEntry, IsPlaceEntry, row_of_entry}
 
 -- ---- four steps from any square

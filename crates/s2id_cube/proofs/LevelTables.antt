@@ -5,11 +5,12 @@ use Rattle.std.proofs.Math.Dec.{eqb, ltb}
 use Rattle.std.proofs.lemmas.Bool.{eqb-true, ltb-true}
 use Rattle.std.proofs.lemmas.List.FromFn.{get_or-map-range_with_len}
 use Rattle.s2id_core.specs.Path.{last_digits}
+use Rattle.s2id_cube.specs.Loops.{IsSquare}
 use Rattle.s2id_cube.specs.declared.curve.TheConstants.{SQUARES, PLACES}
 use Rattle.s2id_cube.specs.declared.face_ij.FaceIj.{FaceIj}
 use Rattle.s2id_cube.specs.Square.{quadrant, turned, quarter, square_after}
 use Rattle.s2id_cube.specs.FourLevels.{uncut, four_levels, AreFourLevels}
-use Rattle.s2id_cube.proofs.Squares.{IsSquare, IsSquare-quarter}
+use Rattle.s2id_cube.proofs.Squares.{IsSquare-quarter}
 
 -- four steps end in one of 16 columns and 16 rows
 pub four_is : (o b : ℕ) → o < 4 → IsSquare 4 (four_levels o b)

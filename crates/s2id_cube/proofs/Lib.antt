@@ -12,7 +12,8 @@ pub mod OverSides
 mod Loop
 mod Nesting
 mod Leaves
-mod Near
+mod Turns
+mod Tiles
 mod Perimeter
 mod Round
 pub mod Gathering

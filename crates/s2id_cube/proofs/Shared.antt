@@ -10,8 +10,8 @@ use Rattle.s2id_cube.specs.declared.face_ij.FaceIj.{FaceIj}
 use Rattle.s2id_cube.specs.Square.{square_of}
 use Rattle.s2id_cube.specs.Edge.{SharesSide}
 use Rattle.s2id_cube.specs.Grid.{middle, IsBeside}
-use Rattle.s2id_cube.specs.Loops.{square_at}
-use Rattle.s2id_cube.proofs.Squares.{IsSquare, square_of_place, IsSquare-square_at, one_place}
+use Rattle.s2id_cube.specs.Loops.{IsSquare, square_at}
+use Rattle.s2id_cube.proofs.Squares.{square_of_place, IsSquare-square_at, one_place}
 use Rattle.s2id_cube.proofs.Grid.{AtSide, one_beside}
 use Rattle.s2id_cube.proofs.Sides.{middle_from_side, side_from_middle}
 

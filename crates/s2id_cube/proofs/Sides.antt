@@ -3,13 +3,13 @@ use Rattle.std.proofs.Common.{◌≡◌, ℕ, zero, suc, ◌+◌, ◌-◌, ◌*�
 use Rattle.std.proofs.lemmas.Int.{ints}
 use Rattle.std.proofs.Math.Nat.{mul-div_cancel}
 use Rattle.std.proofs.lemmas.Nat.{pow-add, pow_pos}
+use Rattle.s2id_cube.specs.Loops.{IsSquare}
 use Rattle.s2id_cube.specs.declared.face_ij.FaceIj.{FaceIj}
 use Rattle.s2id_cube.specs.Point.{Point, point_of}
 use Rattle.s2id_cube.specs.Edge.{corner, side_start, side_end, AreOneSide}
 use Rattle.s2id_cube.specs.Grid.{Spot, spot, mid_u, mid_v, middle}
 use Rattle.s2id_cube.proofs.Cases.{four, six}
 use Rattle.s2id_cube.proofs.Grid.{AreOneSpot, spot_is}
-use Rattle.s2id_cube.proofs.Squares.{IsSquare}
 
 -- a coordinate in squares of width w, counted from the cube's lowest corner
 abbrev place : ℕ → ℕ → ℤ

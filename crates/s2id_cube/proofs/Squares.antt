@@ -8,7 +8,7 @@ use Rattle.s2id_core.proofs.Powers.{four_step, two_step, four_pos, four_split}
 use Rattle.s2id_core.proofs.Numbers.{place_below}
 use Rattle.s2id_cube.specs.declared.face_ij.FaceIj.{FaceIj}
 use Rattle.s2id_cube.specs.Square.{quadrant, quarter, whole_face, square_after, square_of}
-use Rattle.s2id_cube.specs.Loops.{square_at}
+use Rattle.s2id_cube.specs.Loops.{square_at, IsSquare}
 use Rattle.s2id_cube.proofs.Quadrants.{positions, quadrant_below, turned_below, position_of_quadrant}
 
 -- one more digit
@@ -32,14 +32,6 @@ square_after_at (d ∷ ds) k q h =
 pub square_of_place : (p : Path) → IsPath p → square_of p ≡ square_at (length p.digits) (place_of p)
 unfolding square_of square_at place_of
 square_of_place p path = square_after_at p.digits 0 p.face path.digits_below ∙ ap (λ k. square_at k (p.face * 4 ^ length p.digits + base_four p.digits)) (let e : length p.digits + 0 ≡ length p.digits = omega arith in e)
-
--- what every square of a cell is
-pub record IsSquare (k : ℕ) (s : FaceIj) : Type 0 where
-  pub level : s.level ≡ k
-  pub face : s.face < 6
-  pub i : s.i < 2 ^ k
-  pub j : s.j < 2 ^ k
-  pub orientation : s.orientation < 4
 
 pub IsSquare-whole_face : (f : ℕ) → f < 6 → IsSquare 0 (whole_face f)
 unfolding whole_face

@@ -1,5 +1,5 @@
 -- Private words: what the private functions promise that find squares and that gather a border. No public contract cites them.
-use Rattle.std.specs.Prelude.{◌≡◌, ℕ, zero, suc, ◌+◌, ◌-◌, ◌*◌, ◌/◌, ◌%◌, ◌^◌, ◌<◌, List, length, slice_index}
+use Rattle.std.specs.Prelude.{◌≡◌, ℕ, zero, suc, ◌+◌, ◌-◌, ◌*◌, ◌/◌, ◌%◌, ◌^◌, ◌<◌, ◌≤◌}
 use Rattle.s2id_core.specs.Path.{Path}
 use Rattle.s2id_cube.specs.declared.face_ij.FaceIj.{FaceIj}
 use Rattle.s2id_cube.specs.Square.{quarter, whole_face, square_of}
@@ -14,22 +14,42 @@ square_at (suc k) place = quarter (place % 4) (square_at k (place / 4))
 unfoldable pub square_in : ℕ → ℕ → ℕ → FaceIj
 square_in f g positions = square_at (4 * g) (f * 256 ^ g + positions)
 
--- for each of the eight groups on the way to the leaf at a place, the last group first, 256 times how the curve runs where it begins
-pub record AreStarts (place : ℕ) (starts : List ℕ) : Type 0 where
-  pub long : length starts ≡ 8
-  pub at : (n : ℕ) → n < 8 → slice_index starts n ≡ 256 * (square_in (place / 2 ^ 60) (7 - n) (place % 2 ^ 60 / 256 ^ (n + 1))).orientation
-
--- the positions of the first g groups lead as far towards leaf column i and leaf row j as these groups do
-pub record AreFirst (f i j g positions : ℕ) : Type 0 where
-  pub few : 16 * positions < 256 ^ g
-  pub column : (square_in f g positions).i ≡ i / 2 ^ (32 - 4 * g)
-  pub row : (square_in f g positions).j ≡ j / 2 ^ (32 - 4 * g)
-
 -- the bytes of two words, the highest first, are four bits of i and four of j each: those that stand in the upper halves of the bytes of
 -- i and j, and those in the lower halves
 pub record AreWoven (i j upper lower : ℕ) : Type 0 where
   pub at_upper : (k : ℕ) → k < 4 → upper * 256 ^ k % 2 ^ 32 / 2 ^ 24 ≡ 16 * (i / 2 ^ (28 - 8 * k) % 16) + j / 2 ^ (28 - 8 * k) % 16
   pub at_lower : (k : ℕ) → k < 4 → lower * 256 ^ k % 2 ^ 32 / 2 ^ 24 ≡ 16 * (i / 2 ^ (24 - 8 * k) % 16) + j / 2 ^ (24 - 8 * k) % 16
+
+-- what every square of a cell of level k is
+pub record IsSquare (k : ℕ) (s : FaceIj) : Type 0 where
+  pub level : s.level ≡ k
+  pub face : s.face < 6
+  pub i : s.i < 2 ^ k
+  pub j : s.j < 2 ^ k
+  pub orientation : s.orientation < 4
+
+-- the square is one of a cell
+pub record IsCellSquare (s : FaceIj) : Type 0 where
+  pub fine : s.level ≤ 30
+  pub is : IsSquare s.level s
+
+-- the square is that of the cell of a level at a place, in this column and row of its ancestor four levels up, where the tables' row starts
+pub record IsInTile (s : FaceIj) (level place start column row : ℕ) : Type 0 where
+  pub fine : 4 ≤ level
+  pub most : level ≤ 30
+  pub below : place < 6 * 4 ^ level
+  pub row_starts : start ≡ 256 * (square_at (level - 4) (place / 256)).orientation
+  pub column_below : column < 16
+  pub row_below : row < 16
+  pub is_square : IsSquare level s
+  pub face : s.face ≡ (square_at (level - 4) (place / 256)).face
+  pub at_i : s.i ≡ 16 * (square_at (level - 4) (place / 256)).i + column
+  pub at_j : s.j ≡ 16 * (square_at (level - 4) (place / 256)).j + row
+
+-- the cell is of the square's level, and lies over a side of it
+pub record IsOverSide (s : FaceIj) (side : ℕ) (q : Path) : Type 0 where
+  pub level_is : (square_of q).level ≡ s.level
+  pub beside : let t = square_of q in IsBeside (2 ^ s.level) side s.face s.i s.j t.face t.i t.j
 
 -- Of a square that is cut into 2 ^ depth columns and rows:
 

@@ -3,8 +3,7 @@ ghost use Rattle.s2id_core.specs.CellId.{path_of};
 ghost use Rattle.s2id_cube.specs.Square.{square_of};
 ghost use Rattle.s2id_cube.specs.Loops.{square_at, AreWoven};
 
-use crate::curve::place_entry;
-use crate::descent::descend;
+use crate::curve::{place_entry, square_entry};
 use s2id_core::CellId;
 
 /// A cell as a square of its level's grid on its face (S2's `(face, i, j)` coordinates, there of leaves).
@@ -29,7 +28,7 @@ pub fn to_face_ij(cell: CellId) -> FaceIj
     let level = cell.level();
     let below = 30 - level;
     let place = cell.place_at(level);
-    let leaf = descend(place << (2 * below)).leaf;
+    let leaf = leaf_square(place << (2 * below));
     FaceIj {
         face: leaf.face,
         i: leaf.i >> below,
@@ -69,6 +68,32 @@ pub(crate) fn cell_of_square(face: u8, i: u32, j: u32, level: u8) -> CellId
     let below = 30 - level;
     let leaf = leaf_place(face, i << below, j << below);
     CellId::at_place(level, leaf >> (2 * below))
+}
+
+// The square of the leaf at a place along the whole curve, eight groups of four levels from the face down. Two positions 0 stand before
+// the 30 of the leaf, which lead back to where they began.
+#[inline(always)]
+fn leaf_square(place: u64) -> FaceIj
+    requires { place < 6 * 2 ^ 60 }
+    ensures { result ≡ square_at 30 place }
+{
+    let face = (place >> 60) as u8;
+    let mut rest = place % (1 << 60);
+    let mut square = 0;
+    let mut start = 256 * (face % 2) as u64;
+    for group in 0u8..8 {
+        let entry = square_entry(start, rest >> 56);
+        square = (square << 4) + entry;
+        start = entry >> 54;
+        rest <<= 8;
+    }
+    FaceIj {
+        face,
+        i: ((square >> 32) % (1 << 30)) as u32,
+        j: (square % (1 << 32)) as u32,
+        level: 30,
+        orientation: (start >> 8) as u8,
+    }
 }
 
 // The place along the whole curve of the leaf of a square, two groups of four levels at a time.

@@ -10,11 +10,11 @@
 
 mod borders;
 pub mod curve;
-mod descent;
 mod error;
 mod face_ij;
 pub mod laws;
 mod neighbors;
+mod tile;
 
 pub use borders::border;
 pub use error::BorderError;

@@ -1,14 +1,14 @@
-ghost use Rattle.std.specs.Prelude.{◌≡◌, ◌≢◌, ℕ, ◌+◌, ◌-◌, ◌*◌, ◌/◌, ◌^◌, ◌<◌, ◌≤◌, slice_index_or, AllPairs};
+ghost use Rattle.std.specs.Prelude.{◌≡◌, ◌≢◌, ℕ, ◌+◌, ◌-◌, ◌*◌, ◌/◌, ◌^◌, ◌<◌, ◌≤◌, length, slice_index_or, AllPairs};
 ghost use Rattle.s2id_core.specs.Path.{Path, IsPath};
-ghost use Rattle.s2id_core.specs.CellId.{path_of, raw_of};
+ghost use Rattle.s2id_core.specs.CellId.{path_of, raw_of, level_of};
 ghost use Rattle.s2id_cube.specs.Square.{square_of};
 ghost use Rattle.s2id_cube.specs.Edge.{SharesSide, ShareEdge};
 ghost use Rattle.s2id_cube.specs.Neighbor.{neighbor_number};
 ghost use Rattle.s2id_cube.specs.Grid.{IsBeside, column_on, row_on};
-ghost use Rattle.s2id_cube.specs.Loops.{square_at, AreStarts};
+ghost use Rattle.s2id_cube.specs.Loops.{IsInTile, IsCellSquare, IsOverSide};
 
-use crate::descent::{Descent, cell_near, descend};
-use crate::face_ij::cell_of_square;
+use crate::face_ij::{FaceIj, cell_of_square, to_face_ij};
+use crate::tile::{InTile, cell_in, in_tile};
 use s2id_core::CellId;
 
 // The face over each side of a face, in the order down, right, up, left, four for each face.
@@ -27,8 +27,8 @@ const REVERSALS: [u8; 24] = [
 ];
 
 /// The cells of the cell's level that share an edge with it: down (`j` less), right (`i` more), up (`j` more) and
-/// left (`i` less), over the edges of the cube too (S2's `GetEdgeNeighbors`). Eight steps of four levels for the cell, mostly
-/// one more for each neighbour on its face, and eight for each over an edge of the cube.
+/// left (`i` less), over the edges of the cube too (S2's `GetEdgeNeighbors`). One step of four levels for the cell, and one for each
+/// neighbour that has the same ancestor four levels up; 16 for each other one.
 pub fn edge_neighbors(cell: CellId) -> [CellId; 4]
     ensures sides { (side : ℕ)
         → side < 4
@@ -42,42 +42,99 @@ pub fn edge_neighbors(cell: CellId) -> [CellId; 4]
         → raw_of (slice_index_or result side cell) ≡ neighbor_number side (path_of cell) }
     ensures distinct { AllPairs (λ x y. x ≢ y) result }
 {
-    let level = cell.level();
-    let way = descend(cell.place_at(level) << (2 * (30 - level)));
+    if cell.level() < 4 {
+        coarse_neighbors(cell)
+    } else {
+        fine_neighbors(cell)
+    }
+}
+
+// The cells over the four sides of a cell that is coarser than level 4.
+#[inline(never)]
+fn coarse_neighbors(cell: CellId) -> [CellId; 4]
+    ensures long { length result ≡ 4 }
+    ensures over { (side : ℕ)
+        → side < 4
+        → IsOverSide (square_of (path_of cell)) side (path_of (slice_index_or result side cell)) }
+{
+    let square = to_face_ij(cell);
     [
-        cell_over(&way, level, 0),
-        cell_over(&way, level, 1),
-        cell_over(&way, level, 2),
-        cell_over(&way, level, 3),
+        over_side(&square, 0),
+        over_side(&square, 1),
+        over_side(&square, 2),
+        over_side(&square, 3),
     ]
 }
 
-// The cell over one side of the cell of a level that the way's leaf lies in.
+// The cells over the four sides of a cell of level 4 or finer.
 #[inline(always)]
-fn cell_over(way: &Descent, level: u8, side: u8) -> CellId
-    requires place { way.now.place < 6 * 2 ^ 60 }
-    requires leaf { way.now.leaf ≡ square_at 30 way.now.place }
-    requires starts { AreStarts way.now.place way.now.starts }
-    requires level { level ≤ 30 }
-    requires side { side < 4 }
-    ensures level { (square_of (path_of result)).level ≡ level }
-    ensures beside { let other = square_of (path_of result)
-        in IsBeside (2 ^ level) side way.now.leaf.face (way.now.leaf.i / 2 ^ (30 - level)) (way.now.leaf.j / 2 ^ (30 - level)) other.face other.i other.j }
+fn fine_neighbors(cell: CellId) -> [CellId; 4]
+    requires { 4 ≤ level_of cell }
+    ensures long { length result ≡ 4 }
+    ensures over { (side : ℕ)
+        → side < 4
+        → IsOverSide (square_of (path_of cell)) side (path_of (slice_index_or result side cell)) }
 {
-    let below = 30 - level;
-    let last = (1 << level) - 1;
-    let (face, i, j) = beside(
-        way.leaf.face,
-        way.leaf.i >> below,
-        way.leaf.j >> below,
-        last,
-        side,
-    );
-    if face == way.leaf.face {
-        cell_near(way, i, j, level)
+    let tile = in_tile(cell);
+    [
+        cell_over(cell, &tile, 0),
+        cell_over(cell, &tile, 1),
+        cell_over(cell, &tile, 2),
+        cell_over(cell, &tile, 3),
+    ]
+}
+
+// The cell over one side of a cell, in its tile or out of it.
+#[inline(always)]
+fn cell_over(cell: CellId, tile: &InTile, side: u8) -> CellId
+    requires tile { IsInTile (square_of (path_of cell)) tile.now.level tile.now.place tile.now.start tile.now.column tile.now.row }
+    requires side { side < 4 }
+    ensures { IsOverSide (square_of (path_of cell)) side (path_of result) }
+{
+    if side == 0 {
+        if tile.row > 0 {
+            cell_in(tile, tile.column, tile.row - 1)
+        } else {
+            far_neighbor(cell, 0)
+        }
+    } else if side == 1 {
+        if tile.column < 15 {
+            cell_in(tile, tile.column + 1, tile.row)
+        } else {
+            far_neighbor(cell, 1)
+        }
+    } else if side == 2 {
+        if tile.row < 15 {
+            cell_in(tile, tile.column, tile.row + 1)
+        } else {
+            far_neighbor(cell, 2)
+        }
     } else {
-        cell_of_square(face, i, j, level)
+        if tile.column > 0 {
+            cell_in(tile, tile.column - 1, tile.row)
+        } else {
+            far_neighbor(cell, 3)
+        }
     }
+}
+
+// The cell over one side of any cell, by its square.
+#[inline(never)]
+fn far_neighbor(cell: CellId, side: u8) -> CellId
+    requires { side < 4 }
+    ensures { IsOverSide (square_of (path_of cell)) side (path_of result) }
+{
+    let square = to_face_ij(cell);
+    over_side(&square, side)
+}
+
+// The cell over one side of the square of a cell.
+fn over_side(square: &FaceIj, side: u8) -> CellId
+    requires square { IsCellSquare square.now }
+    requires side { side < 4 }
+    ensures { IsOverSide square.now side (path_of result) }
+{
+    neighbor(square.face, square.i, square.j, square.level, side)
 }
 
 // The cell over one side of a square of a level.
