@@ -1,6 +1,6 @@
 -- The search for the range that has a leaf.
-use Rattle.std.proofs.Common.{◌≡◌, ℕ, zero, suc, ◌+◌, ◌-◌, ◌/◌, ◌<◌, ◌≤◌, inl, inr, List, length, slice_index_or, AllPairs, ap, arith}
-use Rattle.std.proofs.lemmas.Bool.{cases_eq}
+use Rattle.std.proofs.Common.{◌≡◌, ℕ, zero, suc, ◌+◌, ◌-◌, ◌/◌, ◌*◌, ◌%◌, ◌<◌, ◌≤◌, inl, inr, List, length, slice_index_or, AllPairs, ap, sym, ◌∙◌, subst, arith}
+use Rattle.std.proofs.lemmas.Bool.{cases_eq, cases_lt}
 use Rattle.s2ix_bag_pairs.specs.Collection.{Collection}
 use Rattle.s2ix_table_ranges.specs.Table.{IsTableOver, IsFound}
 use Rattle.s2ix_table_ranges.proofs.Tables.{limits_rise}
@@ -45,7 +45,29 @@ window_down starts leaf first size lt w behind rises =
       ];
     }
 
+-- half of a window, by whether its second half begins by the leaf
+pub window_by : (starts : List ℕ) (leaf first size one : ℕ) → 1 < size → IsWindow starts leaf first size
+    → (slice_index_or starts (first + size / 2) 0 ≤ leaf → one ≡ 1) → (leaf < slice_index_or starts (first + size / 2) 0 → one ≡ 0)
+    → AllPairs (λ a b. a < b) starts → IsWindow starts leaf (first + size / 2 * one) (size - size / 2)
+window_by starts leaf first size one lt w by behind rises =
+    elim (cases_lt leaf (slice_index_or starts (first + size / 2) 0)) [
+      | inl less ↦
+          (let e : first ≡ first + size / 2 * one = (omega arith) ∙ ap (λ k. first + size / 2 * k) (sym (behind less)) in
+          subst (λ k. IsWindow starts leaf k (size - size / 2)) e (window_down starts leaf first size lt w less rises))
+      | inr le ↦
+          (let e : first + size / 2 ≡ first + size / 2 * one = (omega arith) ∙ ap (λ k. first + size / 2 * k) (sym (by le)) in
+          subst (λ k. IsWindow starts leaf k (size - size / 2)) e (window_up starts leaf first size lt w le))
+    ]
+
 -- ---- the starts of a table
+
+pub starts_odd : (held : Collection) (from to : ℕ) (starts : List ℕ) → IsTableOver held from to (ranges_from held starts to)
+    → (k : ℕ) → k < length starts → slice_index_or starts k 0 % 2 ≡ 1
+starts_odd held from to starts t k within =
+    let n = length_ranges held starts to in
+    let odd = t.odd k (omega arith) in
+    let e = range_start held starts to k 0 within in
+    omega arith
 
 pub starts_rise : (held : Collection) (from to : ℕ) (starts : List ℕ) → IsTableOver held from to (ranges_from held starts to)
     → AllPairs (λ a b. a < b) starts

@@ -1,5 +1,5 @@
 use Rattle.s2ix_table_chain.proofs.Windows.{IsWindow}
-use Rattle.s2ix_table_chain.proofs.places.last_start.Given as goal
+use Rattle.s2ix_table_chain.proofs.places.near_last.Given as goal
 
 abbrev pub invariant-loop-size : goal.invariant-loop-size
 invariant-loop-size l = IsWindow l.starts l.leaf l.first l.size

@@ -1,7 +1,7 @@
 use Rattle.std.proofs.Common.{◌-◌, ◌/◌, sym, subst}
 use Rattle.s2ix_table_chain.proofs.Windows.{IsWindow, window_up, window_down}
-use Rattle.s2ix_table_chain.proofs.places.last_start.Goals.{then-starts-first, else-starts-first}
-use Rattle.s2ix_table_chain.proofs.places.last_start.Goals as goal
+use Rattle.s2ix_table_chain.proofs.places.far_last.Goals.{then-starts-first, else-starts-first}
+use Rattle.s2ix_table_chain.proofs.places.far_last.Goals as goal
 
 pub loop-size-preserved : goal.loop-size-preserved
 loop-size-preserved c =
