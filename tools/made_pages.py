@@ -1,13 +1,16 @@
 """What pages of docs/ repeat of the sources, made from them.
 
-Of docs/CALLS.md all behind its introduction, from the public items of the eight doors and their rooms; of docs/DEFINITIONS.md the index,
-from the comments above the definitions; of docs/PROMISES.md the column of wrong bodies and the list of them, from crates/*/wrong-bodies and
-crates/*/must-fail. Each page is made of the page that is there, since a part of it is written by hand."""
+Of ADDING where the sources name its examples; of ARCHITECTURE the crates and the ways of two lines; of CALLS all behind its introduction, from
+the public items of the eight doors and their rooms; of DEFINITIONS the index, from the comments above the definitions; of FORMATS the
+instructions and when each refusal comes; of PROMISES the column of wrong bodies and the list of contracts. Each page is made of the page that
+is there, since a part of it is written by hand."""
 import fnmatch
 import functools
+import os
 import re
 import textwrap
 
+import places
 import sources
 import workspace
 
@@ -18,7 +21,31 @@ QUIET_TRAITS = ("Drop", "Model")
 # Behind these lines all of a page is made.
 CALLS_MADE = "*All below this line is made by `tools/make_pages` from the sources of the doors and their rooms.*"
 INDEX_MADE = "*All below this line is made by `tools/make_pages` from the comments above the definitions in `crates/*/specs`.*"
-BODIES_MADE = "*All below this line is made by `tools/make_pages` from `crates/*/wrong-bodies` and `crates/*/must-fail`.*"
+CONTRACTS_MADE = "*All below this line is made by `tools/make_pages` from the contracts, the docs of laws, and the wrong bodies of all crates.*"
+# The functions that two lines of a script come to, in their order: the crate, and the function with its type.
+WAY = {
+    "Both lines come in:": """s2ix/main s2ix_cli_words/command_of s2ix/run s2ix_cli_run/run s2ix_text_io/FromRead::piece s2ix_cli_run/carry_piece
+        s2ix_cli_step/carry_out s2ix_cli_script/meaning s2ix_cli_fields/Fields::next s2ix_cli_script/asked_by""",
+    "`relabel 9 3` changes the store:": """s2ix_cli_script/relabel_named s2ix_cli_step/carry_instruction s2ix_edit/Store::edit s2ix_edit_plan/plan
+        s2ix_edit/apply_planned s2ix_bag/Bag::applied s2ix_bag_lists/FaceLists::after s2ix_table_faces/FacedTable::rebuilt
+        s2ix_table_reading/read_list s2ix_table_chain/SpanTable::over s2ix_table_faces/Seat::after s2ix_cli_step/tell_step
+        s2ix_cli_answers/write_ok s2ix_text_io/put_together""",
+    "`meet 1c 04` reads it:": """s2ix_cli_script/union_named s2id_core/CellId::from_token s2id_union/CellUnion::normalise s2ix_cli_step/print_meeting
+        s2ix_cli_answers/write_meeting s2ix_table_walk/Meeting::advance s2ix_table_queries/Meter::node s2ix_table_faces/FacedTable::read_near
+        s2ix_text_write/Block::write_line s2ix_text_write/Block::write_end s2ix_text_io/put_all""",
+    "Both go out:": "s2ix_text_io/ToWrite::put s2ix_text_io/ToWrite::flush",
+}
+# The words by which the sources name the examples of docs/ADDING.md.
+EXAMPLES = {
+    "an edit": r"\bGrow\b|\bgrow_named\b|grow_adds_a_copy_each|[\"']grow\b|\bgrow [A-Z0-9]",
+    "a refusal": r"\bTooFine\b|\basks_too_fine\b",
+    "a query": r"\b(region_of|label_cells|print_region|region_is_the_labels)\b|\bRegion\b(?! *[.])|[\"']region[ \"']|\bregion [A-Z0-9]",
+    "a step": r"\b(Forget|after_forget)\b|[\"']forget\b|^ *forget  |fn forget",
+}
+# The enums whose variants a section of docs/FORMATS.md lists.
+REASONS = {"### Refusals": ("LineFault", "EditError", "UndoError", "RedoError"), "## Dump": ("DumpFault",), "## Journal": ("JournalFault",)}
+# How many words of its contract a function has on the way.
+MOST_CITED = 4
 # How many wrong bodies a row of docs/PROMISES.md names; of more it has the number.
 MOST_NAMED = 8
 
@@ -281,32 +308,45 @@ def is_named(item, owner, name):
     return is_law or (owner in (item.owner, trait_of(item)) if owner else not item.owner)
 
 
-def crates_of(cells):
-    """The crates of a row."""
-    return re.findall(r"`(s2i\w+)`", cells[2])
+@functools.cache
+def product_crates():
+    """The crates that a program may be built on: all but those of samples and of tests."""
+    return [crate for crate in workspace.CRATES if not re.search("_(samples|tests)$", crate)]
 
 
-def functions_in(cells):
-    """The functions of a row's crates."""
-    return [item for crate in crates_of(cells) for item in functions_of(crate)]
+@functools.cache
+def product_functions():
+    return [item for crate in product_crates() for item in functions_of(crate)]
+
+
+def is_of_kind(item, kind):
+    """Whether a function is one that a type or a trait has; a trait's are also those of its impls."""
+    return kind in (item.owner, trait_of(item)) and item.kind != "ghost"
+
+
+def readings_of(word, owner):
+    """What a word of a row may be, the first reading that is anything: a crate or a type stands for all that it offers."""
+    kind, _, name = word.rpartition("::")
+    every = [item for item in product_functions() if item.kind != "ghost"]
+    if word in workspace.CRATES:
+        return [[item for item in functions_of(word) if is_offered(item)]]
+    if not kind and word[0].isupper() and not word.isupper():
+        return [[item for item in product_functions() if is_of_kind(item, word)]]
+    found = [[item for item in every if is_named(item, reading, name)] for reading in ([kind] if kind else [owner, ""])]
+    found += [] if kind else [[item for item in every if item.name == name]]
+    return [[item for item in items if is_offered(item)] for items in found] + found
 
 
 def words_of(cells):
     """The calls that a row of the table names, each with the functions that it is: those of a trait of a type first. A name alone is of the
     type named last, or of no type, or else of any."""
-    text, every, owner = re.sub(r"\([^)]*\)", "", cells[1]), functions_in(cells), ""
+    text, owner = re.sub(r"\([^)]*\)", "", cells[1]), ""
     for trait, kind in re.findall(r"`(\w+)` of `(\w+)`", text):
-        yield f"{trait} of {kind}", [item for item in every if item.owner == kind and trait_of(item) == trait]
-    every = [item for item in every if item.kind != "ghost"]
+        yield f"{trait} of {kind}", [item for item in product_functions() if item.owner == kind and trait_of(item) == trait]
     for word in re.findall(r"`([\w:.]+)`", re.sub(r"`\w+` of `\w+`", "", text)):
-        kind, _, name = word.rpartition("::")
-        if not kind and word[0].isupper() and not word.isupper():
-            owner = word
-            continue
-        owner = owner if kind in ("", "laws") else kind
-        readings = [[item for item in every if is_named(item, reading, name)] for reading in ([kind] if kind else [owner, ""])]
-        readings.append([item for item in every if item.name == name and item.is_public and not kind])
-        yield word, next(filter(None, readings), [])
+        kind = word.rpartition("::")[0]
+        yield word, next(filter(None, readings_of(word, owner)), [])
+        owner = word if word[0].isupper() and not kind else owner if kind in ("", "laws") else kind
 
 
 def calls_of(cells):
@@ -314,11 +354,16 @@ def calls_of(cells):
     return [item for _, found in words_of(cells) for item in found]
 
 
+def calls_by_name(rows):
+    """The functions that some row names one by one, and not as a part of a crate or of a type."""
+    named = [(word, found) for cells in rows.values() for word, found in words_of(cells)]
+    return {id(item) for word, found in named if "::" in word or " of " in word or word not in workspace.CRATES and word[0].islower() for item in found}
+
+
 def unknown_in(cells):
-    """What a row names as a call, a law or a clause, and is none in its crates."""
-    ghosts = {item.name for crate in crates_of(cells) for item in sources.items_of(crate) if item.kind == "ghost"}
-    known = {name for item in calls_of(cells) for _, name, _ in item.clauses} | ghosts
-    yield from (word for word, found in words_of(cells) if not found and word not in ghosts)
+    """What a row names as a call, a law or a clause, and is none."""
+    known = {name for item in calls_of(cells) for _, name, _ in item.clauses}
+    yield from (word for word, found in words_of(cells) if not found)
     yield from (name for part in re.findall(r"\(([^)]*)\)", cells[1]) for name in re.findall(r"`(\w+)`", part) if name not in known)
 
 
@@ -336,9 +381,10 @@ def reached(calls, among):
 
 def bodies_of(cells, named):
     """The wrong bodies of a row: those that change a call that it names, or what such a call uses and no row names."""
-    among = [item for item in functions_in(cells) if id(item) not in named]
-    changed = reached(calls_of(cells), among)
-    found = [bodies_by_function().get(id(item), ()) for item in functions_in(cells) if id(item) in changed]
+    crates = {item.crate for item in calls_of(cells)}
+    every = [item for item in product_functions() if item.crate in crates]
+    changed = reached(calls_of(cells), [item for item in every if id(item) not in named])
+    found = [bodies_by_function().get(id(item), ()) for item in every if id(item) in changed]
     return list(dict.fromkeys(name for names in found for name in names))
 
 
@@ -359,42 +405,178 @@ def shown_name(item):
     return f"`{owner + '::' if owner else ''}{item.name}`{f' of `{item.owner}`' if item.trait else ''}"
 
 
-def body_lines(crate):
-    """The wrong bodies of a crate, by the function that each changes; with a private one the calls that come to it."""
+def is_listed(item):
+    """Whether the list of a crate has a function though no wrong body changes it: one with a contract of its own."""
+    return is_offered(item) and item.kind == "fn" and (item.clauses or not item.trait)
+
+
+def contract_lines(crate):
+    """The calls of a crate with their clauses, its laws with what they say, and the wrong bodies of each; with a private function the calls
+    that come to it."""
     private = [item for item in functions_of(crate) if not is_offered(item)]
     ways = [(item, reached([item], private)) for item in functions_of(crate) if is_offered(item)]
     told = {}
     for item in functions_of(crate):
-        by = ", ".join(shown_name(call) for call, way in ways if id(item) in way and call is not item)
-        for name in bodies_by_function().get(id(item), ()):
-            told.setdefault(shown_name(item) + (f" (for {by})" if by else ""), {})[name] = None
-    for call, names in told.items():
-        yield from wrapped(f"{call}: {quoted(names)}", "- ", "  ")
+        names = bodies_by_function().get(id(item), ())
+        if names or is_listed(item):
+            clauses = quoted([name for word, name, _ in item.clauses if word == "ensures" and name]) if is_offered(item) else ""
+            by = ", ".join(shown_name(call) for call, way in ways if id(item) in way and call is not item)
+            said = f": {item.doc.rstrip('.')}" if item.path.endswith("/laws.rt") else ""
+            head = shown_name(item) + (f" ({clauses})" if clauses else "") + (f", for {by}" if by else "") + said
+            told.setdefault(head, {}).update(dict.fromkeys(names))
+    for head, names in told.items():
+        yield from wrapped(head + (f". Refused: {quoted(names)}" if names else ""), "- ", "  ")
 
 
 def rows_of(page):
-    """The rows of the table of promises by the line that each is on: promise, calls, crate, wrong bodies, state."""
-    lines = enumerate(page.split("\n"))
+    """The rows of the table of promises by the line that each is on: promise, calls, wrong bodies."""
+    lines = enumerate(page.split(CONTRACTS_MADE)[0].split("\n"))
     return {at: [cell.strip() for cell in line[1:-1].split("|")] for at, line in lines if re.match(r"\| (?!Promise)", line)}
 
 
+def unnamed(page):
+    """The calls and laws that no row of the table names."""
+    named = {id(item) for cells in rows_of(page).values() for item in calls_of(cells)}
+    return [item for item in product_functions() if item.kind == "fn" and is_offered(item) and not item.trait and id(item) not in named]
+
+
 def promises_page(page):
-    """docs/PROMISES.md: the table, with the wrong bodies of each row in their column, and all wrong bodies by the calls."""
-    page = page.split(BODIES_MADE)[0].rstrip("\n")
+    """docs/PROMISES.md: the table, with the wrong bodies of each row in their column, and the contracts by crate."""
+    page = page.split(CONTRACTS_MADE)[0].rstrip("\n")
     lines, rows = page.split("\n"), rows_of(page)
-    named = {id(item) for cells in rows.values() for item in calls_of(cells)}
+    named = calls_by_name(rows)
     for at, cells in rows.items():
-        lines[at] = f"| {' | '.join([*cells[:3], column_of(cells, named), cells[4]])} |"
-    lines += ["", BODIES_MADE]
-    for crate in workspace.CRATES:
-        made = [*body_lines(crate)] if any(body.crate == crate for body in sources.wrong_bodies()) else []
+        lines[at] = f"| {' | '.join([*cells[:2], column_of(cells, named)])} |".replace("|  |", "| |")
+    lines += ["", CONTRACTS_MADE]
+    for crate in product_crates():
+        made = [*contract_lines(crate)]
         lines += ["", f"### {crate}", "", *made] if made else []
     return "\n".join(lines) + "\n"
 
 
+# ---- docs/ARCHITECTURE.md
+
+
+def first_sentence(text):
+    """The first sentence of a text; the two dots of `TOKEN..` end none."""
+    return re.match(r".*?(?<!\.)\.(?= |$)|.*", text)[0]
+
+
+def crate_doc(crate):
+    """The first sentence of a crate's doc."""
+    file = next(file for file in ("lib", "main") if os.path.exists(f"{workspace.TOP}/crates/{crate}/src/{file}.rt"))
+    lines = sources.read(f"crates/{crate}/src/{file}.rt").split("\n")
+    return first_sentence(sources.prose(line for line in lines if line.startswith("//!")))
+
+
+def crate_lines(crates):
+    """A line for each crate, with the first sentence of its doc; a room lies below its door."""
+    for crate in crates:
+        is_room = crate in product_crates() and any(crate.startswith(f"{door}_") for door in HOUSES)
+        yield from wrapped(f"`{crate}`: {crate_doc(crate)}", "  - " if is_room else "- ", "    " if is_room else "  ")
+
+
+def product_lines():
+    """The houses, each with its door first, and then the program and the example."""
+    houses = [crate for door in HOUSES for crate in [door, *[room for room in product_crates() if room.startswith(f"{door}_")]]]
+    return crate_lines([*houses, *[crate for crate in product_crates() if crate not in houses]])
+
+
+def step_lines(crate, path):
+    """A function on the way of a line: its file, the first sentence of its doc, and the words in which its contract speaks."""
+    owner, _, name = path.rpartition("::")
+    found = [item for item in functions_of(crate) if item.kind == "fn" and item.name == name and owner == item.owner]
+    item = next(filter(is_offered, found), found[0])
+    kind = sources.item_named(crate, owner) if owner else None
+    said = first_sentence(item.doc or item.comment or (kind.doc if kind else ""))
+    text = " ".join(text for word, _, text in item.clauses if word == "ensures")
+    words = [word for word in dict.fromkeys(re.findall(r"(?<![.\w])[A-Za-z_]\w*", text)) if sources.definition_of(item.path, word)]
+    cited = f" ({quoted(words[:MOST_CITED])})" if words else ""
+    return wrapped(f"`{item.path.removeprefix('crates/')}`, `{path}`: {said.rstrip('.')}{cited}", "- ", "  ")
+
+
+def way_lines():
+    """The ways of two lines, step by step."""
+    for title, steps in WAY.items():
+        yield from [title, ""]
+        for step in steps.split():
+            yield from step_lines(*step.split("/"))
+        yield ""
+
+
+def with_made(page, name, lines):
+    """A page with what is made of one name in it."""
+    begin, end = f"<!-- {name}: made by tools/make_pages -->", "<!-- end -->"
+    before, _, rest = page.partition(f"{begin}\n")
+    return f"{before}{begin}\n" + "\n".join(lines).rstrip("\n") + f"\n{end}" + rest.partition(end)[2]
+
+
+def map_page(page):
+    """docs/ARCHITECTURE.md: the crates, and the ways of two lines."""
+    tests = [crate for crate in workspace.CRATES if crate not in product_crates()]
+    made = {"crates": product_lines(), "crates of tests": crate_lines(tests), "ways": way_lines()}
+    for name, lines in made.items():
+        page = with_made(page, name, lines)
+    return page
+
+
+# ---- docs/ADDING.md
+
+
+def place_lines(word):
+    """Where the sources name something: a line for each crate."""
+    for group, shown in places.places(word):
+        yield from wrapped(f"`{group}`: {', '.join(shown)}", "- ", "  ")
+
+
+def adding_page(page):
+    """docs/ADDING.md: where the sources name each of its examples."""
+    for name, word in EXAMPLES.items():
+        page = with_made(page, name, place_lines(word))
+    return page
+
+
+# ---- docs/FORMATS.md
+
+
+def instruction_lines():
+    """The instructions of a script, as the help of `run` lists them."""
+    text = re.search(r'AFTER_RUN: &str = "(.*?)\n\n', sources.read("crates/s2ix_cli_words/src/help.rt"), re.S)[1]
+    return ["```", *[line.strip() for line in text.split("\n")[1:]], "```"]
+
+
+def with_reasons(section, types):
+    """A section whose table names refusals in its first column, with what the docs of their variants say in its second."""
+    said = {part.name: part.doc for crate in product_crates() for item in sources.items_of(crate) if item.kind == "enum" and item.name in types for part in item.members}
+    lines = section.split("\n")
+    for at, line in enumerate(lines):
+        name = re.match(r"\| `(\w+)` \|", line)
+        if name and name[1] in said:
+            lines[at] = f"| `{name[1]}` | {said[name[1]].rstrip('.')} | {line[1:-1].split('|')[-1].strip()} |".replace("|  |", "| |")
+    return "\n".join(lines)
+
+
+def formats_page(page):
+    """docs/FORMATS.md: the instructions, and when each refusal comes."""
+    page = with_made(page, "instructions", instruction_lines())
+    sections = re.split(r"(?m)^(?=##)", page)
+    return "".join(with_reasons(section, REASONS.get(section.split("\n")[0], ())) for section in sections)
+
+
 # ---- all of them
 
-PAGES = {"docs/CALLS.md": calls_page, "docs/DEFINITIONS.md": definitions_page, "docs/PROMISES.md": promises_page}
+PAGES = {"docs/ADDING.md": adding_page, "docs/ARCHITECTURE.md": map_page, "docs/CALLS.md": calls_page, "docs/DEFINITIONS.md": definitions_page, "docs/FORMATS.md": formats_page, "docs/PROMISES.md": promises_page}
+
+
+def by_hand(path):
+    """What of a page is written by hand: not what is made below a line, between two marks, or in a column; nor the bench's page."""
+    page = re.split(r"\*All below this line is made by|`bench/run --page` wrote this page", sources.read(path))[0]
+    page = re.sub(r"<!-- [^>]*: made by tools/make_pages -->.*?<!-- end -->", "", page, flags=re.S)
+    if path == "docs/PROMISES.md":
+        page = re.sub(r"(?m)^(\| .*\|)[^|]*\|$", r"\1", page)
+    if path == "docs/FORMATS.md":
+        page = re.sub(r"(?m)^(\| `[A-Z][a-z]\w+` \|)[^|]*", r"\1", page)
+    return page
 
 
 def stale():
