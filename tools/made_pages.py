@@ -2,7 +2,7 @@
 
 Of ADDING where the sources name its examples; of ARCHITECTURE the crates and the ways of two lines; of CALLS all behind its introduction, from
 the public items of the eight doors and their rooms; of DEFINITIONS the index, from the comments above the definitions; of FORMATS the
-instructions and when each refusal comes; of PROMISES the column of wrong bodies and the list of contracts. Each page is made of the page that
+instructions and when each refusal comes; of FROM_S2 the names that docs give; of PROMISES the column of wrong bodies and the list of contracts. Each page is made of the page that
 is there, since a part of it is written by hand."""
 import fnmatch
 import functools
@@ -235,6 +235,25 @@ def definitions_page(page):
         made = [] if re.search("_(samples|tests)$", crate) else [*index_lines(crate)]
         lines += ["", f"### {crate}", *made] if made else []
     return "\n".join(lines) + "\n"
+
+
+# ---- docs/FROM_S2.md
+
+
+def name_lines():
+    """S2's names and ours, as the docs of public items tell them: `id()` is `CellId::raw`."""
+    yield from ["| S2 | Here | Crate |", "|---|---|---|"]
+    for crate in [crate for crate in product_crates() if not re.match("s2ix_(text|cli|edit)", crate)]:
+        for item in sources.items_of(crate):
+            said = re.search(r"\(S2's ((?:[^()]|\([^()]*\))*)\)", item.doc)
+            if said and item.kind in ("fn", "struct", "trait") and is_offered(item):
+                owner = f"{item.owner}::" if item.kind == "fn" and item.owner else ""
+                yield f"| {said[1]} | `{owner}{item.name}` | `{next(door for door in HOUSES if crate.startswith(door))}` |"
+
+
+def from_s2_page(page):
+    """docs/FROM_S2.md: S2's names and ours."""
+    return with_made(page, "names", name_lines())
 
 
 # ---- docs/PROMISES.md
@@ -565,7 +584,7 @@ def formats_page(page):
 
 # ---- all of them
 
-PAGES = {"docs/ADDING.md": adding_page, "docs/ARCHITECTURE.md": map_page, "docs/CALLS.md": calls_page, "docs/DEFINITIONS.md": definitions_page, "docs/FORMATS.md": formats_page, "docs/PROMISES.md": promises_page}
+PAGES = {"docs/ADDING.md": adding_page, "docs/ARCHITECTURE.md": map_page, "docs/CALLS.md": calls_page, "docs/DEFINITIONS.md": definitions_page, "docs/FORMATS.md": formats_page, "docs/FROM_S2.md": from_s2_page, "docs/PROMISES.md": promises_page}
 
 
 def by_hand(path):
