@@ -2,7 +2,7 @@
 
 Of ADDING where the sources name its examples; of ARCHITECTURE the crates and the ways of two lines; of CALLS all behind its introduction, from
 the public items of the eight doors and their rooms; of DEFINITIONS the index, from the comments above the definitions; of FORMATS the
-instructions and when each refusal comes; of FROM_S2 the names that docs give; of PROMISES the column of wrong bodies and the list of contracts. Each page is made of the page that
+instructions, the examples and when each refusal comes; of FROM_S2 the names that docs give; of PROMISES the column of wrong bodies and the list of contracts. Each page is made of the page that
 is there, since a part of it is written by hand."""
 import fnmatch
 import functools
@@ -11,6 +11,7 @@ import re
 import textwrap
 
 import places
+import sessions
 import sources
 import workspace
 
@@ -42,8 +43,6 @@ EXAMPLES = {
     "a query": r"\b(region_of|label_cells|print_region|region_is_the_labels)\b|\bRegion\b(?! *[.])|[\"']region[ \"']|\bregion [A-Z0-9]",
     "a step": r"\b(Forget|after_forget)\b|[\"']forget\b|^ *forget  |fn forget",
 }
-# The enums whose variants a section of docs/FORMATS.md lists.
-REASONS = {"### Refusals": ("LineFault", "EditError", "UndoError", "RedoError"), "## Dump": ("DumpFault",), "## Journal": ("JournalFault",)}
 # How many words of its contract a function has on the way.
 MOST_CITED = 4
 # How many wrong bodies a row of docs/PROMISES.md names; of more it has the number.
@@ -564,22 +563,32 @@ def instruction_lines():
     return ["```", *[line.strip() for line in text.split("\n")[1:]], "```"]
 
 
-def with_reasons(section, types):
-    """A section whose table names refusals in its first column, with what the docs of their variants say in its second."""
-    said = {part.name: part.doc for crate in product_crates() for item in sources.items_of(crate) if item.kind == "enum" and item.name in types for part in item.members}
-    lines = section.split("\n")
-    for at, line in enumerate(lines):
-        name = re.match(r"\| `(\w+)` \|", line)
-        if name and name[1] in said:
-            lines[at] = f"| `{name[1]}` | {said[name[1]].rstrip('.')} | {line[1:-1].split('|')[-1].strip()} |".replace("|  |", "| |")
-    return "\n".join(lines)
+def reason_lines(types, example):
+    """A table of refusals: the variants of some enums, with what their docs say, and an example of each."""
+    yield from ["| Name | When | Example |", "|---|---|---|"]
+    enums = [item for name in types for crate in product_crates() for item in sources.items_of(crate) if item.kind == "enum" and item.name == name]
+    for part in [part for item in enums for part in item.members if part.name != "OutOfMemory"]:
+        yield f"| `{part.name}` | {part.doc.rstrip('.')} | {example(part.name)} |".replace("|  |", "| |")
+
+
+def refusal_lines():
+    """The refusals of lines, in the order in which they decide."""
+    fields = [*reason_lines(("LineFault",), sessions.refused_by)]
+    steps = [*reason_lines(("EditError", "UndoError", "RedoError"), sessions.refused_by)][2:]
+    return [*fields, f"| `NotLeaf` | At `at`, the cell is not a leaf | {sessions.refused_by('NotLeaf')} |", *steps]
 
 
 def formats_page(page):
-    """docs/FORMATS.md: the instructions, and when each refusal comes."""
-    page = with_made(page, "instructions", instruction_lines())
-    sections = re.split(r"(?m)^(?=##)", page)
-    return "".join(with_reasons(section, REASONS.get(section.split("\n")[0], ())) for section in sections)
+    """docs/FORMATS.md: the instructions, the answers of examples, and when each refusal comes."""
+    paired, dumped = ["add 1 7", "add 04 9"], ["add 1 7", "add 04 9 2"]
+    made = {"instructions": instruction_lines(), **{name: sessions.session(name) for name in sessions.SESSIONS},
+            "ranges": sessions.answer_to("ranges", paired), "refusals": refusal_lines(), "a dump": sessions.answer_to("dump", dumped),
+            "faults of dumps": reason_lines(("DumpFault",), sessions.dump_fault), "a journal": sessions.answer_to("journal", sessions.CHANGES),
+            "faults of journals": reason_lines(("JournalFault",), sessions.journal_fault), "an export": sessions.answer_to("export", dumped),
+            "commands": sessions.commands()}
+    for name, lines in made.items():
+        page = with_made(page, name, lines)
+    return page
 
 
 # ---- all of them
@@ -593,8 +602,6 @@ def by_hand(path):
     page = re.sub(r"<!-- [^>]*: made by tools/make_pages -->.*?<!-- end -->", "", page, flags=re.S)
     if path == "docs/PROMISES.md":
         page = re.sub(r"(?m)^(\| .*\|)[^|]*\|$", r"\1", page)
-    if path == "docs/FORMATS.md":
-        page = re.sub(r"(?m)^(\| `[A-Z][a-z]\w+` \|)[^|]*", r"\1", page)
     return page
 
 
