@@ -506,7 +506,7 @@ def step_lines(crate, path):
     found = [item for item in functions_of(crate) if item.kind == "fn" and item.name == name and owner == item.owner]
     item = next(filter(is_offered, found), found[0])
     kind = sources.item_named(crate, owner) if owner else None
-    said = first_sentence(item.doc or item.comment or (kind.doc if kind else ""))
+    said = first_sentence(item.doc or item.comment or (kind.doc if kind else crate_doc(crate)))
     text = " ".join(text for word, _, text in item.clauses if word == "ensures")
     words = [word for word in dict.fromkeys(re.findall(r"(?<![.\w])[A-Za-z_]\w*", text)) if sources.definition_of(item.path, word)]
     cited = f" ({quoted(words[:MOST_CITED])})" if words else ""
