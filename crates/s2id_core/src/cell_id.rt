@@ -4,10 +4,10 @@ ghost use Rattle.s2id_core.specs.Cell.{IsCellNumber};
 /// How many faces the cube has (S2's `kNumFaces`).
 pub const FACES: usize = 6;
 
-/// How many numbers a face has: the numbers of its cells begin with its three bits (S2's `kPosBits` is their other 61).
+/// How many numbers begin with the three bits of a face: 2^61 (S2's `kPosBits` is 61).
 pub const FACE_NUMBERS: u64 = 1 << 61;
 
-/// The leaf number that would come next after that of the last leaf: an end for spans of leaves, and no cell's number.
+/// The leaf number that would come next after that of the last leaf. Spans may end with it; no cell has it.
 pub const LEAF_END: u64 = 0xc000000000000001;
 
 // The number where face 5 ends.
@@ -26,7 +26,7 @@ impl CellId {
     ghost use Rattle.s2id_core.specs.Path.{place_of, ancestor};
     ghost use Rattle.s2id_core.specs.CellId.{raw_of, path_of, face_of, level_of};
 
-    /// The cell of a number, or `None` where no cell has it (S2's constructor and `is_valid`).
+    /// The cell of a number, or `None` if no cell has it (S2's constructor and `is_valid`).
     pub fn from_raw(raw: u64) -> Option<CellId>
         ensures found { IsSome result ↔ IsCellNumber raw }
         ensures number { IfSome result (λ cell. raw_of cell ≡ raw) }
@@ -61,7 +61,7 @@ impl CellId {
         30 - (self.raw.trailing_zeros() / 2) as u8
     }
 
-    /// The lowest 1 of the number, by itself: how many leaves the cell has (S2's `lsb()`).
+    /// The lowest bit of the number that is 1, by itself. It is also how many leaves the cell has (S2's `lsb()`).
     pub fn lsb(self) -> u64
         ensures { result ≡ 4 ^ (30 - level_of self) }
     {
@@ -75,7 +75,7 @@ impl CellId {
         self.raw % 2 == 1
     }
 
-    /// Which cell of a level, counted from 0 along the whole curve, this cell lies in.
+    /// The place of the cell of a level that this cell lies in, counted from 0 along the whole curve.
     pub fn place_at(self, level: u8) -> u64
         requires { level ≤ level_of self }
         ensures place { result ≡ place_of (ancestor level (path_of self)) }
@@ -96,8 +96,7 @@ impl CellId {
             raw: (2 * place + 1) << (60 - 2 * level),
         }
     }
-    /// The next cell of its level along the curve, where the first of face 0 comes after the last of face 5
-    /// (S2's `next_wrap()`).
+    /// The next cell of its level along the curve; after the last of face 5 comes the first of face 0 (S2's `next_wrap()`).
     pub fn next_wrap(self) -> CellId
         ensures level { level_of result ≡ level_of self }
         ensures place { place_of (path_of result)

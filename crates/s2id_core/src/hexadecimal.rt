@@ -13,7 +13,7 @@ const PAIRS: [u8; 512] = *b"\
     c0c1c2c3c4c5c6c7c8c9cacbcccdcecfd0d1d2d3d4d5d6d7d8d9dadbdcdddedf\
     e0e1e2e3e4e5e6e7e8e9eaebecedeeeff0f1f2f3f4f5f6f7f8f9fafbfcfdfeff";
 
-/// A number in sixteen lower-case hexadecimal digits, the highest first. It takes no memory.
+/// A number in sixteen lower-case hexadecimal digits, the highest first. It does not allocate.
 pub fn sixteen_digits(number: u64) -> [u8; 16]
     ensures { result ≡ digits_of number }
 {

@@ -17,7 +17,7 @@ use crate::memory::OutOfMemory;
 use crate::path::PathText;
 use crate::token::{Token, TokenError};
 
-/// A number is a cell's exactly where it is the number of some path.
+/// A number is a cell's exactly if it is the number of some path.
 pub fn cells_are_paths()
     ensures { (n : ℕ) → IsCellNumber n ↔ ((p : Path) × IsPath p × (number_of p ≡ n)) }
 {}
@@ -69,7 +69,7 @@ pub fn leaf_end_follows_last_leaf()
     ensures none { IsCellNumber LEAF_END → ⊥ }
 {}
 
-/// Two cells are equal exactly where they are one.
+/// Two cells are equal exactly if they are one.
 pub fn equal_cells_are_one()
     ensures { (a b : CellId) → IsTrue (⟦<CellId as PartialEq>⟧.eq a b) ↔ (a ≡ b) }
 {}
@@ -79,7 +79,7 @@ pub fn cloned_cells_are_the_same()
     ensures { (a copy : CellId) → ⟦<CellId as Clone>⟧.is_clone a copy ↔ (copy ≡ a) }
 {}
 
-/// Two faults of a token are equal exactly where they are one.
+/// Two faults of a token are equal exactly if they are one.
 pub fn equal_token_errors_are_one()
     ensures { (a b : TokenError) → IsTrue (⟦<TokenError as PartialEq>⟧.eq a b) ↔ (a ≡ b) }
 {}
@@ -89,7 +89,7 @@ pub fn cloned_token_errors_are_the_same()
     ensures { (a copy : TokenError) → ⟦<TokenError as Clone>⟧.is_clone a copy ↔ (copy ≡ a) }
 {}
 
-/// Two refusals of memory are equal exactly where they are one.
+/// Two refusals of memory are equal exactly if they are one.
 pub fn equal_memory_errors_are_one()
     ensures { (a b : OutOfMemory) → IsTrue (⟦<OutOfMemory as PartialEq>⟧.eq a b) ↔ (a ≡ b) }
 {}

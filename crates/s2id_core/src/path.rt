@@ -2,8 +2,8 @@ ghost use Rattle.std.specs.Prelude.{◌≡◌, ◌↔◌, ◌≤◌, IsSome, IfS
 
 use crate::cell_id::CellId;
 
-/// A cell's path for people: the face, a slash, and the child positions from level 1 down, as `0/32`
-/// (S2's `ToString`). It takes no memory of its own.
+/// A cell's path for people: the face, a slash, and the child positions from level 1 down, as `0/32` (S2's `ToString`). It does not
+/// allocate.
 #[derive(Clone, Copy, Debug)]
 pub struct PathText {
     bytes: [u8; 32],

@@ -9,7 +9,7 @@ impl CellId {
     ghost use Rattle.s2id_core.specs.Leaves.{IsCommonLevel};
     ghost use Rattle.s2id_core.specs.CellId.{path_of, face_of, level_of};
 
-    /// The cell of a level that this cell lies in, itself at its own level; `None` for a finer level (S2's `parent()`).
+    /// The cell of a level that this cell lies in: at its own level the cell itself, `None` for a finer level (S2's `parent()`).
     pub fn parent(self, level: u8) -> Option<CellId>
         ensures found { IsSome result ↔ (level ≤ level_of self) }
         ensures path { IfSome result (λ cell. path_of cell ≡ ancestor level (path_of self)) }
@@ -34,8 +34,8 @@ impl CellId {
         }
     }
 
-    /// The position, among its siblings, of the cell of a level that this cell lies in; `None` for level 0 and for a
-    /// finer level (S2's `child_position()`).
+    /// The position, 0 to 3, that the cell's path has at a level; `None` for level 0 and for a level finer than the cell's (S2's
+    /// `child_position()`).
     pub fn child_position(self, level: u8) -> Option<u8>
         ensures found { IsSome result ↔ ((0 < level) × (level ≤ level_of self)) }
         ensures digit { IfSome result (λ position.

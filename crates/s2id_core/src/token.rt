@@ -24,8 +24,8 @@ pub enum TokenError {
     NotACell,
 }
 
-/// A cell's canonical token: its number in 16 lower-case hexadecimal digits without the zeros at the end
-/// (S2's `ToToken`). It takes no memory of its own.
+/// A cell's canonical token: its number in 16 lower-case hexadecimal digits without the zeros at the end (S2's `ToToken`). It does not
+/// allocate.
 #[derive(Clone, Copy, Debug)]
 pub struct Token {
     bytes: [u8; 16],
@@ -66,8 +66,8 @@ impl CellId {
     ghost use Rattle.s2id_core.specs.Spelled.{cell_spelled};
     ghost use Rattle.s2id_core.specs.TokenText.{text_of_token};
 
-    /// The cell that a text spells: 1 to 16 hexadecimal digits of either case, where digits missing on the right
-    /// are zeros (S2's `FromToken`). Faults are named in the order of `TokenError`.
+    /// The cell that a text spells: 1 to 16 hexadecimal digits of either case; digits missing on the right are zeros (S2's `FromToken`).
+    /// The faults are tested in the order of `TokenError`.
     pub fn from_token(text: &[u8]) -> Result<CellId, TokenError>
         ensures spelled { IfOk result (λ cell. Spells text.now (raw_of cell)) }
         ensures accepted { (cell : CellId) → Spells text.now (raw_of cell) → result ≡ Ok cell }

@@ -11,11 +11,11 @@ use crate::neighbors::{neighbor, on_side};
 use s2id_core::{CellId, OutOfMemory};
 use std::alloc::Global;
 
-/// The cells of a level outside the cell that share an edge with a cell of that level inside it, each once, in
-/// rising order: at the cell's own level its four edge neighbours (S2 has `AppendAllNeighbors`, which counts
-/// corners too). O(n log n) in the `n = 4 * 2^(level - cell's level)` cells along its sides, at most
+/// The cells of a level just outside the cell: each shares an edge with a cell of that level inside it. Each comes once, in rising order.
+/// At the cell's own level these are its four edge neighbours (S2 has `AppendAllNeighbors`, which counts corners too). O(n log n) in the `n
+/// = 4 * 2^(level - cell's level)` cells along its sides, at most
 /// 1024. `Coarser` for a level below the cell's; `TooFine` for one above 30, or more than 8 above the cell's;
-/// `OutOfMemory` where a growth is refused.
+/// `OutOfMemory` if a growth is refused.
 pub fn border(alloc: Global, cell: CellId, level: u8) -> Result<Vec<CellId>, BorderError>
     ensures coarser { IsErrOf result BorderError.Coarser ↔ (level < level_of cell) }
     ensures too_fine { IsErrOf result BorderError.TooFine

@@ -17,7 +17,7 @@ pub struct FaceIj {
     pub j: u32,
     /// The level, 0 to 30.
     pub level: u8,
-    /// How the curve runs through the square: bit 0 where `i` and `j` are swapped, bit 1 where both are inverted.
+    /// How the curve runs through the square: bit 0 if `i` and `j` are swapped, bit 1 if both are inverted.
     pub orientation: u8,
 }
 

@@ -63,7 +63,7 @@ pub fn entries_are_four_levels()
         AreFourLevels orientation (entry % 2 ^ 62) i j (entry / 2 ^ 62) }
 {}
 
-/// Two squares are equal exactly where they are one.
+/// Two squares are equal exactly if they are one.
 pub fn equal_squares_are_one()
     ensures { (a b : FaceIj) → IsTrue (⟦<FaceIj as PartialEq>⟧.eq a b) ↔ (a ≡ b) }
 {}
@@ -73,7 +73,7 @@ pub fn cloned_squares_are_the_same()
     ensures { (a copy : FaceIj) → ⟦<FaceIj as Clone>⟧.is_clone a copy ↔ (copy ≡ a) }
 {}
 
-/// Two refusals of a border are equal exactly where they are one.
+/// Two refusals of a border are equal exactly if they are one.
 pub fn equal_border_errors_are_one()
     ensures { (a b : BorderError) → IsTrue (⟦<BorderError as PartialEq>⟧.eq a b) ↔ (a ≡ b) }
 {}

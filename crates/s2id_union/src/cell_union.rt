@@ -37,10 +37,9 @@ impl Model for CellUnion {
 }
 
 impl CellUnion {
-    /// The leaves from the number `start` up to and without `limit` (S2's `FromBeginEnd()`). Leaf numbers are odd;
-    /// equal bounds give the empty union. `BadRange` where a bound is even, or not
-    /// `1 <= start <= limit <= LEAF_END`. O(cells made): at most 184, three of each level 1 to 30 at either end of the
-    /// span and four whole faces between. `OutOfMemory` where a growth is refused.
+    /// The leaves whose numbers are at least `start` and below `limit` (S2's `FromBeginEnd()`). Leaf numbers are odd; equal bounds give the
+    /// empty union. `BadRange` if a bound is even, or not `1 <= start <= limit <= LEAF_END`. O(cells made): at most 184, three of each
+    /// level 1 to 30 at either end of the span and four whole faces between. `OutOfMemory` if a growth is refused.
     pub fn from_leaves(alloc: Global, start: u64, limit: u64) -> Result<CellUnion, RangeError>
         ensures leaves { IfOk result (λ union. (leaf : Path) → IsLeafPath leaf → InRegion union leaf
             ↔ ((start ≤ number_of leaf) × (number_of leaf < limit))) }
@@ -80,8 +79,8 @@ impl CellUnion {
         meets(self.cells.as_slice(), cell)
     }
 
-    /// The union of the leaves of any cells, in any order and repeated or not (S2's constructor from ids).
-    /// O(n log n), and the cells made. `OutOfMemory` where a growth is refused.
+    /// The union of the leaves of any cells, in any order and repeated or not (S2's constructor from ids). O(n log n), and the cells made.
+    /// `OutOfMemory` if a growth is refused.
     pub fn normalise(alloc: Global, cells: &[CellId]) -> Result<CellUnion, OutOfMemory>
         ensures region { IfOk result (λ union. HaveSameRegion union cells.now) }
         ensures normal { IfOk result IsNormal }
@@ -91,8 +90,8 @@ impl CellUnion {
         Ok(CellUnion { cells })
     }
 
-    /// The leaves that are in this union, in the other, or in both (S2's `Union()`). O(n + m), and the cells made.
-    /// `OutOfMemory` where a growth is refused.
+    /// The leaves that are in this union, in the other, or in both (S2's `Union()`). O(n + m), and the cells made. `OutOfMemory` if a
+    /// growth is refused.
     pub fn union(&self, alloc: Global, other: &CellUnion) -> Result<CellUnion, OutOfMemory>
         ensures leaves { IfOk result (λ union. (leaf : Path) → IsLeafPath leaf → InRegion union leaf
             ↔ (InRegion self.now leaf ⊎ InRegion other.now leaf)) }
@@ -106,8 +105,7 @@ impl CellUnion {
         Ok(CellUnion { cells })
     }
 
-    /// The leaves that are in both unions (S2's `Intersection()`). O(n + m), and the cells made.
-    /// `OutOfMemory` where a growth is refused.
+    /// The leaves that are in both unions (S2's `Intersection()`). O(n + m), and the cells made. `OutOfMemory` if a growth is refused.
     pub fn intersection(&self, alloc: Global, other: &CellUnion) -> Result<CellUnion, OutOfMemory>
         ensures leaves { IfOk result (λ union. (leaf : Path) → IsLeafPath leaf → InRegion union leaf
             ↔ (InRegion self.now leaf × InRegion other.now leaf)) }
@@ -121,8 +119,8 @@ impl CellUnion {
         Ok(CellUnion { cells })
     }
 
-    /// The leaves that are in this union and not in the other (S2's `Difference()`). O(n + m), and the cells made.
-    /// `OutOfMemory` where a growth is refused.
+    /// The leaves that are in this union and not in the other (S2's `Difference()`). O(n + m), and the cells made. `OutOfMemory` if a
+    /// growth is refused.
     pub fn difference(&self, alloc: Global, other: &CellUnion) -> Result<CellUnion, OutOfMemory>
         ensures leaves { IfOk result (λ union. (leaf : Path) → IsLeafPath leaf → InRegion union leaf
             ↔ (InRegion self.now leaf × (InRegion other.now leaf → ⊥))) }

@@ -35,7 +35,7 @@ pub fn cells_where_is_normal()
         ↔ (IsTrue (passes (number_of leaf)) × IsTrue (passes (number_of leaf + 1))) }
 {}
 
-/// Two unions are equal exactly where their cells are the same, which is where their leaves are.
+/// Two unions are equal exactly if their cells are the same, which is so exactly if their leaves are.
 pub fn equal_unions_are_one()
     ensures cells { (xs ys : List CellId) → IsTrue (⟦<CellUnion as PartialEq>⟧.eq xs ys) ↔ (xs ≡ ys) }
     ensures leaves { (xs ys : List CellId)
@@ -49,7 +49,7 @@ pub fn cloned_unions_are_the_same()
     ensures { (a copy : List CellId) → ⟦<CellUnion as Clone>⟧.is_clone a copy ↔ (copy ≡ a) }
 {}
 
-/// Two refusals of a span are equal exactly where they are one.
+/// Two refusals of a span are equal exactly if they are one.
 pub fn equal_range_errors_are_one()
     ensures { (a b : RangeError) → IsTrue (⟦<RangeError as PartialEq>⟧.eq a b) ↔ (a ≡ b) }
 {}

@@ -8,7 +8,7 @@ ghost use Rattle.s2id_core.specs.CellId.{raw_of};
 
 use crate::cell_union::CellUnion;
 
-/// Unions with the same cells, which are those with the same leaves.
+/// Equal if the cells are the same, which is so exactly if the leaves are.
 impl PartialEq for CellUnion {
     ghost eq = { pointwise (on raw_of nat_eq) };
 

@@ -35,7 +35,7 @@ impl Model for Bag {
 }
 
 impl Bag {
-    /// The bag that holds no pair. It takes no memory.
+    /// The bag that holds no pair. It does not allocate.
     pub fn empty(_alloc: Global, limits: Limits) -> Bag
         ensures { result ≡ record { limits = limits; held = [] } }
     {
@@ -45,7 +45,7 @@ impl Bag {
         }
     }
 
-    /// The bag with these limits that holds these pairs with these counts. O(n) for n pairs. `OutOfMemory` where a growth is refused.
+    /// The bag with these limits that holds these pairs with these counts. O(n) for n pairs. `OutOfMemory` if a growth is refused.
     pub fn from_held(alloc: Global, limits: Limits, held: &[FlatHeld]) -> Result<Bag, OutOfMemory>
         requires { IsBag (record { limits = limits; held = held.now }) }
         ensures { IfOk result (λ bag. bag ≡ record { limits = limits; held = held.now }) }
@@ -61,7 +61,7 @@ impl Bag {
         self.limits
     }
 
-    /// The count of a pair: 0 where it is not held. O(log n) for n pairs.
+    /// The count of a pair: 0 if it is not held. O(log n) for n pairs.
     pub fn count(&self, pair: Pair) -> u32
         ensures count { result ≡ count_in self.now.held pair }
         ensures within { IsBag self.now }
@@ -103,7 +103,7 @@ impl Bag {
         self.lists.held(k)
     }
 
-    /// How many pairs stand before the face that the pair at a place is of, counted from 0, and all pairs held on that face, with their
+    /// For the pair at a place, counted from 0: the number of pairs on earlier faces, and the pairs held on its own face, with their
     /// counts, in rising order. O(1).
     pub fn face_at(&self, k: usize) -> (usize, &[FlatHeld])
         requires { k < length self.now.held }
@@ -144,7 +144,7 @@ impl Bag {
         &self.lists
     }
 
-    /// A copy of the held pairs with their counts, in rising order. O(n) for n pairs. `OutOfMemory` where a growth is refused.
+    /// A copy of the held pairs with their counts, in rising order. O(n) for n pairs. `OutOfMemory` if a growth is refused.
     pub fn flat(&self, alloc: Global) -> Result<Vec<FlatHeld>, OutOfMemory>
         ensures list { IfOk result (λ flat. flat.items ≡ self.now.held) }
         ensures within { IsBag self.now }
@@ -152,18 +152,17 @@ impl Bag {
         self.lists.flat(alloc)
     }
 
-    /// A bag with the same limits that holds the same pairs with the same counts, which the two bags share. O(1). `OutOfMemory` where
-    /// they are shared too often.
+    /// A bag with the same limits that holds the same pairs with the same counts, which the two bags share. O(1). `OutOfMemory` if they are
+    /// shared too often.
     pub fn copied(&self, _alloc: Global) -> Result<Bag, OutOfMemory>
         ensures { IfOk result (λ bag. bag ≡ self.now) }
     {
         Ok(self.clone()?)
     }
 
-    /// The bag that a change makes of this one: each pair of the change has its count after, and no other count
-    /// differs. The three refusals are each tested over all entries, in their order, before any growth; `OutOfMemory` where
-    /// a growth is refused. The pairs of the faces without an entry are shared, the others copied: O(k + m) for m entries and the k pairs on
-    /// their faces.
+    /// The bag that a change makes of this one: each pair of the change has its count after, and no other count differs. Before it
+    /// allocates, it tests the three refusals in their order, each over all entries. `OutOfMemory` if a growth is refused. The pairs of the
+    /// faces without an entry are shared, the others copied: O(k + m) for m entries and the k pairs on their faces.
     pub fn applied(&self, alloc: Global, change: &Change) -> Result<Bag, ApplyError>
         ensures limits { IfOk result (λ bag. bag.limits ≡ self.now.limits) }
         ensures held { IfOk result (λ bag. bag.held ≡ changed self.now.held change.now) }
@@ -182,11 +181,10 @@ impl Bag {
         })
     }
 
-    /// The change that takes another one back from this bag, wherever in the bag's past that stands: it leads each of the change's pairs
-    /// from the count that the bag has now to that count less the change's difference, after less before. The three refusals are each
-    /// tested over all entries, in their order, before any growth; `OutOfMemory` where a growth is refused. The clauses
-    /// `within` and `rises` speak of this bag and of the change that is taken back. O(m log n) for m entries and n pairs. This project's
-    /// own.
+    /// The change that takes another one back from this bag, however long ago that was made. For each pair of the other change it has the
+    /// count that the bag has now, and that count less the difference (the count after less the count before). Before it allocates, it
+    /// tests the three refusals in their order, each over all entries. `OutOfMemory` if a growth is refused. The clauses `within` and
+    /// `rises` speak of this bag and of the change that is taken back. O(m log n) for m entries and n pairs. This project's own.
     pub fn reverting(&self, alloc: Global, change: &Change) -> Result<Change, RevertError>
         ensures entries { IfOk result (λ back. back ≡ change_back self.now.held change.now) }
         ensures accepted { OnOk result (revert_refusal self.now change.now ≡ None) }
@@ -201,10 +199,10 @@ impl Bag {
         Ok(Change::from_vec(entries_back(alloc, self, entries)?))
     }
 
-    /// The bag with a change taken back: the count of each pair of the change is less by the change's difference, after less before, and
-    /// no other count differs. Refusals are those of [`Bag::reverting`], whose change leads there; `OutOfMemory` where a growth is refused.
-    /// The pairs of the faces without an entry are shared, the others copied: O(k + m log n) for m entries, n pairs and the k of them on
-    /// the entries' faces.
+    /// The bag with a change taken back: the difference (the count after less the count before) is subtracted from the count of each of its
+    /// pairs, and no other count differs. It refuses what [`Bag::reverting`] refuses, and returns `OutOfMemory` if a growth is refused. The
+    /// pairs of the faces without an entry are shared, the others copied: O(k + m log n) for m entries, n pairs and the k of them on the
+    /// entries' faces.
     pub fn reverted(&self, alloc: Global, change: &Change) -> Result<Bag, RevertError>
         ensures limits { IfOk result (λ bag. bag.limits ≡ self.now.limits) }
         ensures held { IfOk result (λ bag. bag.held ≡ taken_back self.now.held change.now) }

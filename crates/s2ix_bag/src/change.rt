@@ -30,7 +30,7 @@ impl Model for Change {
 }
 
 impl Change {
-    /// The change with these entries. It takes no memory.
+    /// The change with these entries. It does not allocate.
     pub fn from_vec(entries: Vec<Entry>) -> Change
         requires { IsChangeList entries.items }
         ensures { result ≡ entries.items }
@@ -38,8 +38,8 @@ impl Change {
         Change { entries }
     }
 
-    /// The change with a copy of these entries, the empty list among them. The two faults are each tested over all entries, in their
-    /// order, before any growth. `OutOfMemory` where one is refused. O(n).
+    /// The change with a copy of these entries, the empty list among them. Before it allocates, it tests the two faults in their order,
+    /// each over all entries. `OutOfMemory` if a growth is refused. O(n).
     pub fn from_entries(alloc: Global, entries: &[Entry]) -> Result<Change, ChangeError>
         ensures list { IfOk result (λ change. change ≡ entries.now) }
         ensures accepted { OnOk result (change_fault entries.now ≡ None) }
@@ -52,8 +52,8 @@ impl Change {
         Ok(Change { entries })
     }
 
-    /// The change that leads from `old` to `new`: exactly the pairs whose counts differ. O(n + m) for their n and m pairs.
-    /// `OutOfMemory` where a growth is refused.
+    /// The change that leads from `old` to `new`: exactly the pairs whose counts differ. O(n + m) for their n and m pairs. `OutOfMemory` if
+    /// a growth is refused.
     pub fn between(alloc: Global, old: &Bag, new: &Bag) -> Result<Change, OutOfMemory>
         ensures { IfOk result (λ change. change ≡ change_between old.now.held new.now.held) }
     {
@@ -62,8 +62,8 @@ impl Change {
         Change::between_lists(alloc, &old, &new)
     }
 
-    /// The same between two lists of held pairs, each rising strictly with counts above 0: what a bag holds, or a part of it.
-    /// O(n + m) for their n and m pairs. `OutOfMemory` where a growth is refused.
+    /// The same between two lists of held pairs, each rising strictly with counts above 0: what a bag holds, or a part of it. O(n + m) for
+    /// their n and m pairs. `OutOfMemory` if a growth is refused.
     pub fn between_lists(
         alloc: Global,
         old: &[FlatHeld],
@@ -85,8 +85,8 @@ impl Change {
         self.entries.as_slice()
     }
 
-    /// The change that takes this one back: the same pairs with their two counts exchanged. O(n) for n entries.
-    /// `OutOfMemory` where a growth is refused.
+    /// The change that takes this one back: the same pairs with their two counts exchanged. O(n) for n entries. `OutOfMemory` if a growth
+    /// is refused.
     pub fn inverse(&self, alloc: Global) -> Result<Change, OutOfMemory>
         ensures { IfOk result (λ change. change ≡ inverse_of self.now) }
     {

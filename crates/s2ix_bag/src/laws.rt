@@ -10,12 +10,12 @@ use crate::change::Change;
 use crate::label_iter::LabelIter;
 use crate::replay_error::ReplayError;
 
-/// Two bags are equal exactly where their limits are, and what they hold.
+/// Two bags are equal exactly if their limits are, and so is what they hold.
 pub fn equal_bags_are_one()
     ensures { (a b : LimitedCollection) → IsTrue (⟦<Bag as PartialEq>⟧.eq a b) ↔ (a ≡ b) }
 {}
 
-/// Two changes are equal exactly where their entries are.
+/// Two changes are equal exactly if their entries are.
 pub fn equal_changes_are_one()
     ensures { (a b : List Entry) → IsTrue (⟦<Change as PartialEq>⟧.eq a b) ↔ (a ≡ b) }
 {}
@@ -35,17 +35,17 @@ pub fn cloned_label_iterators_have_the_same_rest<'a>()
     ensures { (it copy : Collection) → ⟦<LabelIter<'a> as Clone>⟧.is_clone it copy → copy ≡ it }
 {}
 
-/// Where a bag takes changes, what it becomes takes their way back, and that leads to the bag.
+/// If a bag takes changes, what it becomes takes their way back, and that leads to the bag.
 pub fn rewind_takes_replay_back()
     ensures { RewindTakesReplayBack }
 {}
 
-/// Where changes can be taken back from a bag, what is before them takes them again, and they lead to the bag.
+/// If changes can be taken back from a bag, what is before them takes them again, and they lead to the bag.
 pub fn replay_takes_rewind_back()
     ensures { ReplayTakesRewindBack }
 {}
 
-/// Two refusals of a list of changes are equal exactly where they are one.
+/// Two refusals of a list of changes are equal exactly if they are one.
 pub fn equal_replay_errors_are_one()
     ensures { (a b : ReplayError) → IsTrue (⟦<ReplayError as PartialEq>⟧.eq a b) ↔ (a ≡ b) }
 {}

@@ -1,14 +1,14 @@
 //! Bags: collections of labelled cells with counts, and the changes between two of them.
 //!
 //! A [`Bag`] is a finite map from pairs of a cell and a label to counts above 0, within stated [`Limits`]. A [`Change`] lists what differs
-//! between two bags: each pair with its count before and after. A change is applied to a bag whose counts are those before, and gives the
-//! bag whose counts are those after. Changes that came later don't keep it from being taken back, if no count falls below 0 and the
-//! limits hold: each count is then less by the change's difference.
+//! between two bags: each pair with its count before and after. Applied to a bag that has the counts before, a change gives the bag that
+//! has the counts after. It can be taken back even after later changes, if no count falls below 0 and the limits hold: that subtracts the
+//! change's difference from each count.
 //!
 //! [`Bag::applied`] and [`Bag::reverted`] leave their bag as it is and give another one, which shares the pairs of each face that the
-//! change leaves alone. [`Change::between`], [`Change::from_entries`] and [`Change::inverse`] make changes, and [`Bag::reverting`] the one
-//! that takes another back. [`replay`] does changes in their order, [`rewind`] takes them back from the last to the first; a [`ReplayError`]
-//! names the one that doesn't fit by its number. A bag has no history: `s2ix_edit` keeps one.
+//! change leaves alone. [`Change::between`], [`Change::from_entries`] and [`Change::inverse`] make changes, and [`Bag::reverting`] makes
+//! the change that takes another one back. [`replay`] does changes in their order, [`rewind`] takes them back from the last to the first; a
+//! [`ReplayError`] has the number of the one that doesn't fit. A bag has no history: `s2ix_edit` keeps one.
 #![tactic(auto)]
 
 mod bag;

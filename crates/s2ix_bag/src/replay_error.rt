@@ -2,11 +2,10 @@ use s2id_core::OutOfMemory;
 use thiserror::Error;
 
 /// Why [`replay`](crate::replay) or [`rewind`](crate::rewind) refused a list of changes: the first change that is refused, by its number in
-/// the list counted from 1, and why. On one change the first of these that stands is told.
+/// the list counted from 1, and why. If several reasons are due on one change, the first of this list is returned.
 #[derive(Clone, Copy, Debug, PartialEq, Eq, Error)]
 pub enum ReplayError {
-    /// The entry with this number, counted from 1, is the first of the change whose count before is not the bag's; for `rewind`, whose
-    /// count after is not.
+    /// The number, counted from 1, of the change's first entry whose count before is not the bag's; for `rewind`, whose count after is not.
     #[error("change {change}: entry {entry} has another count than the bag")]
     Mismatch { change: usize, entry: usize },
     /// The change would make a count greater than the limit.

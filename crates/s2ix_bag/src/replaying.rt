@@ -62,11 +62,11 @@ fn next_reached(
     }
 }
 
-/// The bag after these changes, with the bag's limits: each is done to what those before it made. The first change that is refused decides,
-/// and is told by its number, counted from 1.
+/// The bag after these changes, with the bag's limits: each is applied to what the changes before it made. The first change that is refused
+/// decides, and the error has its number, counted from 1.
 ///
-/// `OutOfMemory` where a growth is refused; it may come in place of the refusal of any change but the first. O(n + m log n) for changes with m
-/// entries in all, and at most n pairs held before them or had by them.
+/// `OutOfMemory` if a growth is refused; it may come in place of the refusal of any change but the first. O(n + m log n) for m entries in
+/// all, and n pairs that the bag holds or the changes have.
 #[tactic(auto, using(crate::proofs::Forth::limits_stay))]
 pub fn replay(alloc: Global, bag: &Bag, changes: &[Change]) -> Result<Bag, ReplayError>
     ensures limits { IfOk result (λ after. after.limits ≡ bag.now.limits) }
@@ -100,10 +100,10 @@ fn test_last(bag: &Bag, changes: &[Change]) -> Result<(), ReplayError>
 }
 
 /// The bag before these changes, with the bag's limits: the inverse of each is done, from the last change to the first. The change that is
-/// refused first on this way decides, and is told by its number in the list, counted from 1.
+/// refused first on this way decides, and the error has its number in the list, counted from 1.
 ///
-/// `OutOfMemory` where a growth is refused; it may come in place of the refusal of any change but the last. O(n + m log n) for changes with
-/// m entries in all, and at most n pairs held before them or had by them.
+/// `OutOfMemory` if a growth is refused; it may come in place of the refusal of any change but the last. O(n + m log n) for m entries in
+/// all, and n pairs that the bag holds or the changes have.
 #[tactic(auto, using(crate::proofs::Forth::limits_stay))]
 pub fn rewind(alloc: Global, bag: &Bag, changes: &[Change]) -> Result<Bag, ReplayError>
     ensures limits { IfOk result (λ before. before.limits ≡ bag.now.limits) }

@@ -28,7 +28,7 @@ fn equal_place(entries: &[Entry]) -> Option<usize>
     entries.iter().position(|e| e.before == e.after)
 }
 
-/// Why a list of entries is no change, or `None` where it is one: each test goes over all entries, in the order of the errors. It never
+/// Why a list of entries is no change, or `None` if it is one: each test goes over all entries, in the order of the errors. It never
 /// answers `OutOfMemory`. O(m).
 pub fn fault(entries: &[Entry]) -> Option<ChangeError>
     ensures { result ≡ change_fault entries.now }

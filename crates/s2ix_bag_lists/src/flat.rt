@@ -4,7 +4,7 @@ use s2id_core::CellId;
 use s2ix_bag_pairs::{Held, Label, Pair};
 use std::marker::Model;
 
-/// A held pair in 16 bytes, where `Held` takes 24: what long lists of them are made of. Contracts see the [`Held`] that it stands for.
+/// A held pair in 16 bytes, for long lists; `Held` takes 24. Contracts see the [`Held`] that it stands for.
 #[derive(Clone, Copy, Debug)]
 pub struct FlatHeld {
     cell: CellId,

@@ -11,8 +11,7 @@ use std::alloc::{AllocError, Global};
 use std::marker::Model;
 use std::rc::Rc;
 
-/// A list of held pairs that is shared by those who keep it: those of a face, mostly. A list without pairs takes no memory. Contracts see
-/// the pairs.
+/// A shared list of held pairs, mostly those of one face. A list without pairs does not allocate. Contracts see the pairs.
 #[derive(Debug, Drop)]
 pub struct HeldList {
     shared: Option<Rc<Vec<FlatHeld>>>,
@@ -35,7 +34,7 @@ impl HeldList {
         HeldList { shared: None }
     }
 
-    /// These pairs, to be shared. `OutOfMemory` where a growth is refused.
+    /// These pairs, to be shared. `OutOfMemory` if a growth is refused.
     pub fn new(alloc: Global, held: Vec<FlatHeld>) -> Result<HeldList, OutOfMemory>
         ensures { IfOk result (λ list. list ≡ held.items) }
     {

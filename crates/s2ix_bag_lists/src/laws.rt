@@ -12,7 +12,7 @@ use crate::flat::FlatHeld;
 use crate::held_iter::HeldIter;
 use crate::lists::FaceLists;
 
-/// A list of entries is a change exactly where it has no fault.
+/// A list of entries is a change exactly if it has no fault.
 pub fn changes_have_no_fault()
     ensures { ChangesHaveNoFault }
 {}
@@ -27,7 +27,7 @@ pub fn inverse_takes_back_at_once()
     ensures { InverseTakesBackAtOnce }
 {}
 
-/// Two errors of one type are equal exactly where they are one.
+/// Two errors of one type are equal exactly if they are one.
 pub fn equal_errors_are_one()
     ensures apply { (a b : ApplyError) → IsTrue (⟦<ApplyError as PartialEq>⟧.eq a b) ↔ (a ≡ b) }
     ensures revert { (a b : RevertError) → IsTrue (⟦<RevertError as PartialEq>⟧.eq a b) ↔ (a ≡ b) }
@@ -46,7 +46,7 @@ pub fn cloned_flat_pairs_are_the_same()
     ensures { (held copy : Held) → ⟦<FlatHeld as Clone>⟧.is_clone held copy ↔ (copy ≡ held) }
 {}
 
-/// Two lists of held pairs are equal exactly where they hold the same pairs with the same counts.
+/// Two lists of held pairs are equal exactly if they hold the same pairs with the same counts.
 pub fn equal_lists_are_one()
     ensures { (a b : Collection) → IsTrue (⟦<FaceLists as PartialEq>⟧.eq a b) ↔ (a ≡ b) }
 {}

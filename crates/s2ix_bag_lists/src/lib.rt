@@ -1,12 +1,11 @@
 //! What bags and changes are made of: rising lists of held pairs and of entries.
 //!
-//! As slices: a count is found in a list of held pairs, a change is compared with one, or merged with one, two lists are compared, and a
-//! list of entries is tested for being a change. Each call states the order that it asks of its lists and tests none of it, but for
-//! [`fault`], which is that test.
+//! Over slices: calls find a count in a list of held pairs, compare a change with a list or merge it into one, compare two lists, and test
+//! whether a list of entries is a change ([`fault`]). The other calls require that their lists are in order, and do not test it.
 //!
 //! As a whole: a [`FaceLists`] keeps the pairs of a collection in one list for each face, and is read as the one rising list that the six
-//! make up. Each is a [`HeldList`], which is shared: a copy costs six counts, and what a change makes of them copies only the lists of the
-//! faces that it has entries on. Costs are for n held pairs and m entries.
+//! make up. Each is a shared [`HeldList`]: a copy raises six counters, and a change copies only the lists of the faces on which it has
+//! entries. Costs are for n held pairs and m entries.
 #![tactic(auto)]
 
 mod apply;

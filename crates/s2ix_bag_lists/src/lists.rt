@@ -49,7 +49,7 @@ fn empty_lists() -> [HeldList; FACES]
 }
 
 impl FaceLists {
-    /// The lists that hold no pair. They take no memory.
+    /// The lists that hold no pair. They do not allocate.
     pub fn empty() -> FaceLists
         ensures { result ≡ [] }
     {
@@ -59,7 +59,7 @@ impl FaceLists {
         }
     }
 
-    /// The lists that hold these pairs with these counts. O(n) for n pairs. `OutOfMemory` where a growth is refused.
+    /// The lists that hold these pairs with these counts. O(n) for n pairs. `OutOfMemory` if a growth is refused.
     pub fn from_held(alloc: Global, held: &[FlatHeld]) -> Result<FaceLists, OutOfMemory>
         requires rises { IsCollection held.now }
         requires few { length held.now ≤ 1000000 }
@@ -78,7 +78,7 @@ impl FaceLists {
         })
     }
 
-    /// The count of a pair: 0 where it is not held. O(log n) for n pairs.
+    /// The count of a pair: 0 if it is not held. O(log n) for n pairs.
     pub fn count(&self, pair: Pair) -> u32
         ensures { result ≡ count_in self.now pair }
     {
@@ -136,7 +136,7 @@ impl FaceLists {
         HeldIter::new(&self.lists)
     }
 
-    /// A copy of all pairs in one list. O(n) for n pairs. `OutOfMemory` where a growth is refused.
+    /// A copy of all pairs in one list. O(n) for n pairs. `OutOfMemory` if a growth is refused.
     pub fn flat(&self, alloc: Global) -> Result<Vec<FlatHeld>, OutOfMemory>
         ensures { IfOk result (λ all. all.items ≡ self.now) }
     {
@@ -194,7 +194,7 @@ impl FaceLists {
     }
 
     /// What a change that has the right counts before makes of the pairs. The lists of the faces without an entry are shared, the others
-    /// copied: O(k + m) for m entries and the k pairs held on their faces. `OutOfMemory` where a growth is refused.
+    /// copied: O(k + m) for m entries and the k pairs held on their faces. `OutOfMemory` if a growth is refused.
     pub fn after(&self, alloc: Global, entries: &[Entry]) -> Result<FaceLists, OutOfMemory>
         requires entries_rise { IsChangeList entries.now }
         requires before { AreBefore self.now entries.now }

@@ -49,7 +49,7 @@ pub(crate) fn count_first(held: &[FlatHeld], pair: Pair) -> u32
     }
 }
 
-/// The count of a pair: 0 where it is not held. O(log n).
+/// The count of a pair: 0 if it is not held. O(log n).
 pub fn count_of(held: &[FlatHeld], pair: Pair) -> u32
     requires { IsCollection held.now }
     ensures { result ≡ count_in held.now pair }

@@ -13,8 +13,8 @@ pub struct Limits {
 impl Limits {
     ghost use Rattle.s2ix_bag_pairs.specs.Limits.{pairs_limit, count_limit, changes_limit};
 
-    /// Limits of at most `pairs` distinct pairs (1 to 1,000,000), `count` copies of a pair (1 to 4,294,967,295) and
-    /// `changes` that can be undone (1 to 100,000), or `None` where one of them is out of its range.
+    /// Limits of at most `pairs` distinct pairs (1 to 1,000,000), `count` copies of a pair (1 to 4,294,967,295) and `changes` that can be
+    /// undone (1 to 100,000), or `None` if one of them is out of its range.
     pub fn new(pairs: u32, count: u32, changes: u32) -> Option<Limits>
         ensures valid { IsSome result ↔ AreLimits pairs count changes }
         ensures pairs { IfSome result (λ limits. pairs_limit limits ≡ pairs) }

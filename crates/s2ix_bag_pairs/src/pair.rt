@@ -38,6 +38,6 @@ pub struct Entry {
     pub pair: Pair,
     /// Its count before the change, in copies.
     pub before: u32,
-    /// Its count after the change, in copies: in a change another than before.
+    /// Its count after the change, in copies. In a change it differs from `before`.
     pub after: u32,
 }

@@ -10,7 +10,7 @@ use s2ix_text_io::{Sink, WriteFault};
 use s2ix_text_write::Block;
 
 /// Writes the pairs that meet a target as a list, each as it is found: by the first leaf that it shares with the target, then falling
-/// level, then rising label. O(k + r + t log n) for the k pairs, over the r ranges of n that the t cells of the target meet.
+/// level, then rising label. O(k + r + t log n) for k pairs, if the t cells of the target meet r of the n ranges.
 pub fn write_meeting<T: RangeTable, K: Sink>(
     table: &T,
     target: &CellUnion,

@@ -1,7 +1,7 @@
 //! The fields of a line, and the numbers that they write.
 //!
-//! [`Fields`] gives what stands between a line's white space, one field after the other. A number is read from a field by what it is for:
-//! each call has its own range, and answers `None` for all else. No call takes memory, and none knows a word of a script.
+//! [`Fields`] gives the fields of a line one after the other; white space separates them. There is a call for each kind of number, with a
+//! range of its own: it returns `None` for any other text. No call allocates, and none knows the words of scripts.
 #![tactic(auto)]
 
 mod fields;

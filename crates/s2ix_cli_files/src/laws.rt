@@ -27,15 +27,15 @@ pub fn texts_have_one_answer()
     ensures rewind { (limits : Limits) (dump journal : List ℕ) → HasOne (RewindAnswers limits dump journal) }
 {}
 
-/// Where all of a dump and a journal is accepted, what was replayed and the same journal are rewound to the dump that is written of the
-/// same collection: a dump of the second version comes back byte for byte, one of the first as that of the second.
+/// If all of a dump and a journal is accepted, what was replayed and the same journal are rewound to the dump that is written of the same
+/// collection: a dump of the second version comes back byte for byte, one of the first as that of the second.
 pub fn rewind_takes_replayed_text_back()
     ensures collection { ComesBack ReplayAnswers RewindAnswers }
     ensures bytes { BytesComeBack ReplayAnswers RewindAnswers }
 {}
 
-/// Where all of a dump and a journal is accepted, what was rewound and the same journal are replayed to the dump that is written of the
-/// same collection, byte for byte where the dump is of the second version.
+/// If all of a dump and a journal is accepted, what was rewound and the same journal are replayed to the dump that is written of the same
+/// collection, byte for byte if the dump is of the second version.
 pub fn replay_takes_rewound_text_back()
     ensures collection { ComesBack RewindAnswers ReplayAnswers }
     ensures bytes { BytesComeBack RewindAnswers ReplayAnswers }
@@ -84,7 +84,7 @@ pub fn undo_restores_the_dump()
         → dump_text (after_undo (after_edit s edit)).bag.held ≡ dump_text s.bag.held }
 {}
 
-/// Two refusals of texts are equal exactly where they are one.
+/// Two refusals of texts are equal exactly if they are one.
 pub fn equal_refusals_are_one()
     ensures { (a b : Refusal) → IsTrue (⟦<Refusal as PartialEq>⟧.eq a b) ↔ (a ≡ b) }
 {}
@@ -94,7 +94,7 @@ pub fn cloned_refusals_are_the_same()
     ensures { (a copy : Refusal) → ⟦<Refusal as Clone>⟧.is_clone a copy ↔ (copy ≡ a) }
 {}
 
-/// Two errors of texts are equal exactly where they are one.
+/// Two errors of texts are equal exactly if they are one.
 pub fn equal_texts_errors_are_one()
     ensures { (a b : TextsError) → IsTrue (⟦<TextsError as PartialEq>⟧.eq a b) ↔ (a ≡ b) }
 {}

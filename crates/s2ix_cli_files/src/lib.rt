@@ -3,8 +3,8 @@
 //! Each call makes an answer: a text, and whether all was accepted. If a file or a change is refused, the text is one line with the name
 //! of the refusal and its numbers. A call reads the texts and does the changes before it puts the first byte, and flushes behind the last.
 //!
-//! Each call answers `OutOfMemory` if a growth was refused; then nothing went out. It never does so if line 1 of the dump is faulty. It
-//! answers `Write` if the sink failed, in a call of `put` or of `flush`; then a front of the text went out.
+//! Each call returns `OutOfMemory` if a growth was refused; then nothing went out. It never does so if line 1 of the dump is faulty. It
+//! returns `Write` if the sink failed, in a call of `put` or of `flush`; then a front of the text went out.
 #![tactic(auto)]
 
 mod check;

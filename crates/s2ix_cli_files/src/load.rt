@@ -14,8 +14,8 @@ use s2ix_edit::Store;
 use s2ix_text_io::{RunFault, Sink};
 use std::alloc::Global;
 
-/// Reads a dump under limits, and gives the store that starts from its bag. Where the dump is refused it tells `no NAME LINE` for the first
-/// faulty line, and gives `None`. O(n) for n bytes, and what [`Store::from_bag`] takes. Errors: see the crate.
+/// Reads a dump under limits, and gives the store that starts from its bag. If the dump is refused, it prints `no NAME LINE` for the first
+/// faulty line, and returns `None`. O(n) for n bytes, and what [`Store::from_bag`] takes. Errors: see the crate.
 pub fn load_text<K: Sink>(
     alloc: Global,
     text: &[u8],

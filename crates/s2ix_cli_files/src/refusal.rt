@@ -26,7 +26,7 @@ pub enum Refusal {
     TooManyPairs { change: usize },
 }
 
-/// Why texts lead to no bag. No public call answers it: a call prints the refusal, or answers want of memory.
+/// Why texts lead to no bag. No public call returns it: a call prints the refusal, or returns `OutOfMemory`.
 #[derive(Clone, Copy, Debug, PartialEq, Eq)]
 pub enum TextsError {
     /// Something in them is refused.

@@ -20,7 +20,7 @@ pub fn journal_leads_from_dump_to_dump()
     ensures rewind { JournalLeadsBack }
 {}
 
-/// Two ends of runs are equal exactly where they are one.
+/// Two ends of runs are equal exactly if they are one.
 pub fn equal_run_ends_are_one()
     ensures { (a b : RunEnd) → IsTrue (⟦<RunEnd as PartialEq>⟧.eq a b) ↔ (a ≡ b) }
 {}
@@ -30,7 +30,7 @@ pub fn cloned_run_ends_are_the_same()
     ensures { (a copy : RunEnd) → ⟦<RunEnd as Clone>⟧.is_clone a copy ↔ (copy ≡ a) }
 {}
 
-/// Two runs' options are equal exactly where they are one.
+/// Two runs' options are equal exactly if they are one.
 pub fn equal_run_options_are_one()
     ensures { (a b : RunOptions) → IsTrue (⟦<RunOptions as PartialEq>⟧.eq a b) ↔ (a ≡ b) }
 {}

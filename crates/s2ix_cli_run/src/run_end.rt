@@ -4,16 +4,16 @@ ghost use Rattle.s2ix_cli_run.specs.Script.{MOST};
 
 use s2ix_cli_step::LineOutcome;
 
-/// How a run goes on.
+/// Whether a refused line ends a run, and how many pieces it may read.
 #[derive(Clone, Copy, Debug, PartialEq, Eq)]
 pub struct RunOptions {
     /// Whether the first refused line ends the run.
     pub stop: bool,
-    /// How many pieces may be read, the empty one at the end counted. With 0 none is, and the reader is too long.
+    /// How many pieces may be read, the empty one at the end counted. With 0 none is read, and the reader is too long.
     pub turns: u64,
 }
 
-/// What a run that came to its end tells. Both numbers stay at 2^64 - 1 once there.
+/// What a run returns that came to its end. Both numbers stop at 2^64 - 1.
 #[derive(Clone, Copy, Debug, PartialEq, Eq)]
 pub struct RunEnd {
     /// How many lines were carried out or refused; blank lines and comments do not count.

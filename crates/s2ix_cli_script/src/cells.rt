@@ -11,10 +11,10 @@ use s2ix_cli_fields::Fields;
 use s2ix_edit_plan::Edit;
 use std::alloc::Global;
 
-/// The edit of `addunion`, whose label and cells the fields LABEL TOKEN.. name, of which one token at least stands there.
+/// The edit of `addunion`, whose label and cells the fields LABEL TOKEN.. name; there is at least one token.
 ///
-/// Errors, the first that applies: `BadArguments` for less than two fields, `BadLabel`, `BadToken`; `OutOfMemory` where room for the cells
-/// was wanted. O(n) for n bytes, and what it takes to normalise the cells.
+/// Errors, the first that applies: `BadArguments` for less than two fields, `BadLabel`, `BadToken`; `OutOfMemory` if room for the cells is
+/// refused. O(n) for n bytes, and what it takes to normalise the cells.
 #[tactic(auto, using(crate::proofs::WantedFields::wanting))]
 pub fn add_union_named(alloc: Global, mut fields: Fields<'_>) -> Result<Edit, LineError>
     ensures { Means is_add_union result (add_union_named fields.entry) }
@@ -27,9 +27,9 @@ pub fn add_union_named(alloc: Global, mut fields: Fields<'_>) -> Result<Edit, Li
     Ok(Edit::AddUnion { union, label })
 }
 
-/// The normal union of the cells that the fields TOKEN.. name, of which one at least stands there.
+/// The normal union of the cells that the fields TOKEN.. name; there is at least one.
 ///
-/// Errors, the first that applies: `BadArguments` for no field, `BadToken`; `OutOfMemory` where room for the cells was wanted. O(n) for n
+/// Errors, the first that applies: `BadArguments` for no field, `BadToken`; `OutOfMemory` if room for the cells is refused. O(n) for n
 /// bytes, and what it takes to normalise the cells.
 pub fn union_named(alloc: Global, mut fields: Fields<'_>) -> Result<CellUnion, LineError>
     ensures { Means (λ _. true) result (union_named fields.entry) }

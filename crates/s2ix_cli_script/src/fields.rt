@@ -73,7 +73,7 @@ pub fn labels_named(fields: &mut Fields<'_>) -> Result<(Label, Label), LineFault
     Ok((label_from_field(first)?, label_from_field(second)?))
 }
 
-/// The pair and the copies that the fields TOKEN LABEL or TOKEN LABEL COPIES name; one copy where none are named.
+/// The pair and the copies that the fields TOKEN LABEL or TOKEN LABEL COPIES name; one copy if none are named.
 ///
 /// Errors, the first that applies: `BadArguments` for another number of fields, `BadToken`, `BadLabel`, `BadCount`.
 pub fn pair_named(fields: &mut Fields<'_>) -> Result<(Pair, u32), LineFault>

@@ -14,7 +14,7 @@ pub enum Instruction {
     Redo,
     /// `forget`.
     Forget,
-    /// `at`: the pairs over a leaf. Any cell stands here; one that is no leaf is refused when it is carried out.
+    /// `at`: the pairs over a leaf. The cell may be any; if it is no leaf, it is refused when it is carried out.
     At(CellId),
     /// `meet`: the pairs that meet the normal union of the cells.
     Meet(CellUnion),

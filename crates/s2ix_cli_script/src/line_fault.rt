@@ -3,8 +3,8 @@ ghost use Rattle.std.specs.Prelude.{◌≡◌};
 use s2id_core::{OutOfMemory, TokenError};
 use thiserror::Error;
 
-/// What is wrong with a line: the first thing that is, of its length, its word, the number of its further fields, and then each of these
-/// fields from the left.
+/// What is wrong with a line. Its length is tested first, then its word, the number of its further fields, and each of these fields from
+/// the left.
 #[derive(Clone, Copy, Debug, PartialEq, Eq, Error)]
 pub enum LineFault {
     /// The line has more than 65,536 bytes.

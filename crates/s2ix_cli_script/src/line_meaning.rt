@@ -12,13 +12,12 @@ use std::alloc::Global;
 /// The most bytes that a line of a script may have, its line feed not counted.
 pub const LONGEST_LINE: usize = 65536;
 
-/// What a line asks for: nothing where it has no field, or its first field begins with `#`. The line comes
-/// without its line feed. Its fields are what stands between Unicode's white space; bytes that are no
-/// UTF-8 separate nothing. O(n) for n bytes, and what it takes to normalise a list of cells. Memory is taken for such a list alone, and only
-/// where the line asks for something.
+/// What a line asks for: nothing if it has no field, or its first field begins with `#`. The line comes without its line feed. Unicode's
+/// white space separates its fields; bytes that are no UTF-8 separate nothing. O(n) for n bytes, and what it takes to normalise a list of
+/// cells. It allocates only for such a list, and only if the line asks for something.
 ///
-/// The first of these faults that applies is answered: too long, no word of a script, a number of fields that does
-/// not fit the word, then the first unfit field from the left.
+/// The first of these faults that applies is returned: too long, no word of a script, a number of fields that does not fit the word, then
+/// the first unfit field from the left.
 #[tactic(auto, using(crate::proofs::Comments::comment_means), unfolding(crate::specs::Meaning::meaning_of))]
 pub fn meaning(alloc: Global, line: &[u8]) -> Result<Option<Instruction>, LineError>
     ensures { Means asks_on_union result (meaning_of line.now) }

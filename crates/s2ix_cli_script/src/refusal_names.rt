@@ -42,7 +42,7 @@ pub fn redo_error_name(error: RedoError) -> &'static str
     }
 }
 
-/// The name by which a line `at` is answered where its cell is no leaf, as `no NAME`.
+/// The name by which a line `at` is answered if its cell is no leaf, as `no NAME`.
 #[tactic(auto, unfolding(crate::specs::RefusalNames::not_leaf_name))]
 pub fn not_leaf_name() -> &'static str
     ensures { result.now ≡ not_leaf_name }

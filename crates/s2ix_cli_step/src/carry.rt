@@ -17,12 +17,12 @@ use s2ix_text_io::{RunFault, Sink};
 use s2ix_text_write::{write_dump, write_journal};
 use std::alloc::Global;
 
-/// Carries a line out over a store, and prints its answer. The line comes without its line feed. A line that is refused prints `no`
-/// with the refusal's name, and changes nothing. Nothing is flushed. It takes what the line's instruction takes, and O(n) for a line of n
+/// Carries a line out over a store, and prints its answer. The line comes without its line feed. A line that is refused prints `no` with
+/// the refusal's name, and changes nothing. Nothing is flushed. It takes the time of the line's instruction, and O(n) for a line of n
 /// bytes.
 ///
-/// `OutOfMemory` where a growth was refused: nothing has changed then, and nothing was printed. `Write` where the sink failed: what
-/// the line does is done, and a front of its answer went out.
+/// `OutOfMemory` if a growth was refused: nothing has changed then, and nothing was printed. `Write` if the sink failed: what the line does
+/// is done, and a front of its answer went out.
 #[tactic(auto, using(crate::proofs::WantedMemory::line_wants), unfolding(crate::specs::Step::step_of))]
 pub fn carry_out<K: Sink>(
     alloc: Global,
@@ -49,11 +49,11 @@ pub fn carry_out<K: Sink>(
     }
 }
 
-/// Carries an instruction out over a store, and prints its answer, as [`carry_out`] does for a line that asks for it. It takes what its
-/// edit, step or query takes; `at`, `meet`, `ranges`, `dump` and `journal` print as they go.
+/// Carries an instruction out over a store, and prints its answer, as [`carry_out`] does for a line that asks for it. It takes the time of
+/// its edit, step or query; `at`, `meet`, `ranges`, `dump` and `journal` print as they go.
 ///
-/// `OutOfMemory` where a growth was refused: nothing has changed then, and nothing was printed. `Write` where the sink failed: what
-/// the instruction does is done, and a front of its answer went out.
+/// `OutOfMemory` if a growth was refused: nothing has changed then, and nothing was printed. `Write` if the sink failed: what the
+/// instruction does is done, and a front of its answer went out.
 pub fn carry_instruction<K: Sink>(
     alloc: Global,
     store: &mut Store,

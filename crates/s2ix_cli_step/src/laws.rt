@@ -4,7 +4,7 @@ ghost use Rattle.s2ix_cli_step.specs.declared.outcome.LineOutcome.{LineOutcome};
 
 use crate::outcome::LineOutcome;
 
-/// Two outcomes of lines are equal exactly where they are one.
+/// Two outcomes of lines are equal exactly if they are one.
 pub fn equal_line_outcomes_are_one()
     ensures { (a b : LineOutcome) → IsTrue (⟦<LineOutcome as PartialEq>⟧.eq a b) ↔ (a ≡ b) }
 {}

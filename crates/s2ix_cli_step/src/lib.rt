@@ -1,8 +1,8 @@
 //! One line of a script, carried out over a store: what it asks for is done, and its answer printed.
 //!
 //! [`carry_out`] goes from the line's bytes to what it asks for, and [`carry_instruction`] from there to the store's step or a query, and
-//! to the bytes of the answer. What a line comes to is said once, as a step: the store behind it, its answer, and whether it counts and
-//! is refused. A run is such steps, one after the other.
+//! to the bytes of the answer. One definition says what a line comes to, as a step: the store after it, its answer, whether it counts, and
+//! whether it is refused. A run is such steps, one after the other.
 #![tactic(auto)]
 
 mod carry;

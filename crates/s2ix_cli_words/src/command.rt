@@ -12,7 +12,7 @@ pub enum Command {
         /// To end after the first refused line.
         stop: bool,
     },
-    /// To read a dump, and tell how many pairs and copies it has.
+    /// To read a dump, and print how many pairs and copies it has.
     Check {
         /// The file with the dump.
         file: String,

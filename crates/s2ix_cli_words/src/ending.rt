@@ -8,7 +8,7 @@ use std::process::ExitCode;
 /// What the program came to.
 #[derive(Clone, Copy, Debug, PartialEq, Eq)]
 pub enum Ending {
-    /// All was accepted, or help or the version was asked and told.
+    /// All was accepted, or help or the version was asked for and printed.
     Accepted,
     /// A refusal was printed.
     Refused,
@@ -18,8 +18,7 @@ pub enum Ending {
     Fault(RunFault),
 }
 
-/// The exit status: 0 where all was accepted, 1 where a refusal was printed, 2 for usage, 4 for want of memory, and 3 for any other
-/// fault.
+/// The exit status: 0 if all was accepted, 1 if a refusal was printed, 2 for usage, 4 for `OutOfMemory`, and 3 for any other fault.
 pub fn status(ending: Ending) -> ExitCode
     ensures { exit_status result ≡ status_of ending }
 {

@@ -4,7 +4,7 @@ ghost use Rattle.s2ix_cli_words.specs.declared.ending.Ending.{Ending};
 
 use crate::ending::Ending;
 
-/// Two ends of the program are equal exactly where they are one.
+/// Two ends of the program are equal exactly if they are one.
 pub fn equal_endings_are_one()
     ensures { (a b : Ending) → IsTrue (⟦<Ending as PartialEq>⟧.eq a b) ↔ (a ≡ b) }
 {}

@@ -1,14 +1,14 @@
-//! The program's words: what they ask for, what is told when they ask for nothing, and the status with which the program ends.
+//! The program's words: what they ask for, what is printed if they ask for no command, and the status with which the program ends.
 //!
 //! [`command_of`] gives the [`Command`] that the words ask for, with its files and limits, or a [`WordsFault`] with the text of the usage,
-//! of the help or of the version; [`not_utf8`] is the usage of a word that is no text. It opens no file: whether one is there is found when
-//! the command is carried out. What is told of a word has its control characters as escapes.
+//! of the help or of the version; [`not_utf8`] is the usage of a word that is no text. It opens no file: that is done when the command is
+//! carried out. A word is printed with escapes for its control characters.
 //!
 //! [`program`] is the tree of the words as clap knows it, by which they are matched: it says which words belong together, as an option and
 //! its value. The text of a limit's range ([`range_text`]) is made from the limit itself, for the help ([`LimitHelp`]) and for a limit that
 //! is refused ([`limit_error`]).
 //!
-//! [`first_fault`] says how a run came out whose output was flushed, and [`status`] gives each [`Ending`] its exit status, 0 to 4.
+//! [`first_fault`] says how a run came out after its output was flushed, and [`status`] gives each [`Ending`] its exit status, 0 to 4.
 //! [`turns`] is the number of pieces after which an input is too long.
 #![tactic(auto)]
 

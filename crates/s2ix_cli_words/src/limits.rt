@@ -16,8 +16,8 @@ pub struct LimitHelp {
 }
 
 impl LimitHelp {
-    /// The help on each limit: what it bounds, its range, and its default, which is the greatest of the range.
-    /// An error says that memory was wanted.
+    /// The help on each limit: what it bounds, its range, and its default, which is the greatest of the range. It fails only if a growth is
+    /// refused.
     pub fn new(alloc: Global) -> Result<LimitHelp, AllocError>
         ensures pairs { IfOk result (λ help. string_bytes help.pairs ≡ limit_text (codes "Holds N pairs at most") 1000000) }
         ensures count { IfOk result (λ help. string_bytes help.count ≡ limit_text (codes "Holds N copies of a pair at most") 4294967295) }
@@ -43,7 +43,7 @@ fn limit_help(alloc: Global, what: &str, greatest: u32) -> Result<String, AllocE
     format!(in alloc; "{what}: {range} [default: {greatest}]")
 }
 
-/// The range of a limit, from 1 to the greatest, as help and the refusal of a limit tell it. An error says that memory was wanted.
+/// The range of a limit, from 1 to the greatest, as help and the refusal of a limit tell it. It fails only if a growth is refused.
 pub fn range_text(alloc: Global, greatest: u32) -> Result<String, AllocError>
     ensures text { IfOk result (λ text. string_bytes text ≡ range_of greatest) }
 {

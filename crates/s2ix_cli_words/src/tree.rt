@@ -23,8 +23,8 @@ use clap::{Arg, ArgAction, Command, Error};
 use std::alloc::{AllocError, Global};
 
 /// All the words that the program knows: `run`, `check`, `replay` and `rewind` with their options and files, one of which must be named,
-/// and those that ask for help or the version. They are read without the program's own name before them. An error says that memory was
-/// wanted.
+/// and those that ask for help or the version. They are read without the program's own name before them. It fails only if a growth is
+/// refused.
 pub fn program<'a>(alloc: Global, limits: &'a LimitHelp) -> Result<Command<'a>, AllocError>
     ensures { IfOk result (λ command. app_of command ≡ program) }
 {
@@ -79,7 +79,7 @@ fn run<'a>(alloc: Global, limits: &'a LimitHelp) -> Result<Command<'a>, AllocErr
         .arg(flag(alloc, "stop", "Ends after the first refused line"))
 }
 
-/// What clap says of a value that is no number in the range of its option, a limit of `run`. An error says that memory was wanted.
+/// What clap says of a value that is no number in the range of its option, a limit of `run`. It fails only if a growth is refused.
 pub fn limit_error(
     alloc: Global,
     option: &str,

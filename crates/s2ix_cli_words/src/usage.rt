@@ -34,7 +34,8 @@ fn limit_text(
     )
 }
 
-/// What is told of a word that is no UTF-8: usage that names it, with escapes for its bytes, or want of memory. O(n) for a word of n bytes.
+/// What is printed for a word that is no UTF-8: usage that names it, with escapes for its bytes, or `OutOfMemory`. O(n) for a word of n
+/// bytes.
 pub fn not_utf8(alloc: Global, word: &[u8]) -> WordsFault
     ensures usage { IsUsage result }
 {

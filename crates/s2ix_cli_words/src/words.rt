@@ -17,10 +17,10 @@ use std::alloc::Global;
 /// behind `--` each word is a file. A limit is read as Rust reads a `u32`, and one that is not given is as wide as it may be.
 /// O(n) for words of n bytes.
 ///
-/// What is told of a word has an escape for each of its control characters.
+/// A word is printed with escapes for its control characters.
 ///
-/// It answers `HelpAsked` and `VersionAsked` where the words ask for these, `Usage` where they ask for no command, a limit out of its range
-/// too, and `OutOfMemory` where a growth was refused.
+/// It returns `HelpAsked` and `VersionAsked` if the words ask for these, `Usage` if they ask for no command or a limit is out of its range,
+/// and `OutOfMemory` if a growth was refused.
 pub fn command_of(alloc: Global, words: &[String]) -> Result<Command, WordsFault>
     ensures asked { IfOk result (AskFor (map string_bytes words.now)) }
     ensures refused { IfErr result (AreRefused (map string_bytes words.now)) }

@@ -7,7 +7,7 @@ use thiserror::Error;
 /// Why the program's words name no command.
 #[derive(Debug, Drop, Error)]
 pub enum WordsFault {
-    /// The words have no form that the program knows. The text says what is wrong with them.
+    /// The words ask for nothing that the program knows. The text says what is wrong with them.
     #[error("{0}")]
     Usage(String),
     /// The words ask for help. This is it.

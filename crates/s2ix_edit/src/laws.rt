@@ -88,11 +88,10 @@ pub fn steps_lead_to_stores()
     ensures forget { (s : State) → IsStore s → IsStore (after_forget s) }
 {}
 
-/// A store stands at one place of its history: the bag holds the collection at the cursor, each collection is
-/// within the limits, and the changes between neighbouring collections are those that were done and then,
-/// the last undone first, those that were undone, each of them with entries; so those that were done are the changes
-/// up to the cursor. It stands at the history's start where nothing was done, and
-/// at its end where nothing was undone.
+/// A store stands at one place of its history: the bag holds the collection at the cursor, each collection is within the limits, and the
+/// changes between neighbouring collections are those that were done and then, the last undone first, those that were undone, each of them
+/// with entries; so those that were done are the changes up to the cursor. It stands at the history's start if nothing was done, and at its
+/// end if nothing was undone.
 pub fn store_stands_in_history()
     ensures place { (s : State)
         → slice_get (history_of s).collections (history_of s).cursor ≡ Some s.bag.held }
@@ -141,8 +140,8 @@ pub fn counts_are_first_and_standing()
         → pos (count_in s.bag.held pair) ≡ pos (count_in (first_collection s) pair) +ℤ gain_along s.done pair }
 {}
 
-/// Edits, undos and redos keep the first collection. It is the one that the bag holds where a store starts, and after its
-/// changes are forgotten.
+/// Edits, undos and redos keep the first collection. It is the one that the bag holds when a store starts, and after its changes are
+/// forgotten.
 pub fn steps_keep_the_first_collection()
     ensures start { (bag : LimitedCollection) → first_collection (starting_at bag) ≡ bag.held }
     ensures edit { (s : State) (edit : Edit)
@@ -169,8 +168,8 @@ pub fn revert_leaves_a_change_out()
         ≡ pos (count_in (first_collection s) pair) +ℤ gain_along (without_numbered number s.done) pair }
 {}
 
-/// Memory aside, a store takes a change back exactly where its journal has room, a change with the number stands, no count would
-/// be below 0, and what is left is within the limits.
+/// Memory aside, a store takes a change back exactly if its journal has room, a change with the number stands, no count would be below 0,
+/// and what is left is within the limits.
 pub fn standing_changes_can_be_taken_back()
     ensures { (s : State) (number : ℕ)
         → IsStore s

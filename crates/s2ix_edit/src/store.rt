@@ -89,10 +89,10 @@ impl Store {
     }
 
     /// Carries an edit out, and returns how many pairs changed their counts. An accepted edit records the change at the end of `done` and
-    /// empties `undone`; a refused one changes nothing. [`EditError`] says when each refusal is due. If the journal has room, an `Add` or
-    /// a `Remove` of no copies, or an `AddUnion` of no cells, is `NoChange` and does not allocate. An edit takes the time of [`plan`], the
-    /// time to free the undone changes, and O(m + p + log n) for the m entries of the change and the p of the n pairs that are held on their
-    /// faces: bag and table are built again only for these faces.
+    /// empties `undone`; a refused one changes nothing. [`EditError`] says when each refusal is due. If the journal has room, an `Add` or a
+    /// `Remove` of no copies, or an `AddUnion` of no cells, is `NoChange` and does not allocate. An edit takes the time of [`plan`], the
+    /// time to free the undone changes, and O(m + p + log n) if the change has m entries, and p of the n pairs are held on their faces.
+    /// Only for these faces bag and table are built again.
     pub fn edit(&mut self, edit: &Edit) -> Result<usize, EditError>
         ensures state { OnOk result (self.new ≡ after_edit self.old edit.now) }
         ensures history { OnOk result (history_of self.new
@@ -168,8 +168,8 @@ impl Store {
     }
 
     /// Takes the last change back, and returns how many pairs it had. The change goes to the end of `undone`. `NothingToUndo` is tested
-    /// first; then `OutOfMemory` if a growth is refused. O(m + p + log n) for the m entries of the change and the p of the n pairs that are
-    /// held on their faces: bag and table are built again only for these faces.
+    /// first; then `OutOfMemory` if a growth is refused. O(m + p + log n) if the change has m entries, and p of the n pairs are held on
+    /// their faces. Only for these faces bag and table are built again.
     pub fn undo(&mut self) -> Result<usize, UndoError>
         ensures state { OnOk result (self.new ≡ after_undo self.old) }
         ensures history { OnOk result (history_of self.new ≡ one_back (history_of self.old)) }
@@ -196,8 +196,8 @@ impl Store {
     }
 
     /// Does the last undone change again, and returns how many pairs it has. The change goes back to the end of `done`. `NothingToRedo` is
-    /// tested first; then `OutOfMemory` if a growth is refused. The journal is never full: an undo keeps the room of its change.
-    /// O(m + p), as `undo`.
+    /// tested first; then `OutOfMemory` if a growth is refused. It never finds the journal full, since an undo keeps the room of its
+    /// change. O(m + p), as `undo`.
     pub fn redo(&mut self) -> Result<usize, RedoError>
         ensures state { OnOk result (self.new ≡ after_redo self.old) }
         ensures history { OnOk result (history_of self.new ≡ one_on (history_of self.old)) }

@@ -20,7 +20,7 @@ pub enum Edit {
     Grow { label: Label, level: u8 },
     /// Replaces the label's pairs by one copy at each cell of the label's region.
     Normalise { label: Label },
-    /// Takes back the change with the number, counted from 1 among those that stand: subtracts the count after less the
-    /// count before at each of its pairs, and leaves the changes that followed it.
+    /// Takes back the change with the number, counted from 1 among those that can be undone: at each of its pairs it subtracts the
+    /// difference (the count after less the count before). The changes that followed it stay.
     Revert { number: u32 },
 }

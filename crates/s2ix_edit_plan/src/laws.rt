@@ -24,7 +24,7 @@ ghost use Rattle.s2ix_edit_plan.specs.declared.errors.UndoError.{UndoError};
 use crate::edit::Edit;
 use crate::errors::{EditError, RedoError, UndoError};
 
-/// Two edits are equal exactly where they are one.
+/// Two edits are equal exactly if they are one.
 pub fn equal_edits_are_one()
     ensures { (a b : Edit) → IsTrue (⟦<Edit as PartialEq>⟧.eq a b) ↔ (a ≡ b) }
 {}
@@ -166,7 +166,7 @@ pub fn normalise_leaves_a_copy_each()
         → region_of label (edited_alone (Normalise label) hs) ≡ region_of label hs }
 {}
 
-/// Two errors are equal exactly where they are one.
+/// Two errors are equal exactly if they are one.
 pub fn equal_errors_are_one()
     ensures edit { (a b : EditError) → IsTrue (⟦<EditError as PartialEq>⟧.eq a b) ↔ (a ≡ b) }
     ensures undo { (a b : UndoError) → IsTrue (⟦<UndoError as PartialEq>⟧.eq a b) ↔ (a ≡ b) }

@@ -50,8 +50,8 @@ impl Model for SpanTable {
 }
 
 impl SpanTable {
-    /// The table of these pairs over the span of leaves from a leaf number up to another, in which their cells lie. O(n).
-    /// `OutOfMemory` where a growth is refused.
+    /// The table of these pairs over the leaves whose numbers are at least `from` and below `to`; their cells lie in that span. O(n).
+    /// `OutOfMemory` if a growth is refused.
     pub fn over(alloc: Global, held: HeldList, from: u64, to: u64) -> Result<SpanTable, OutOfMemory>
         requires rises { IsCollection held }
         requires few { length held ≤ 1000000 }
@@ -175,7 +175,7 @@ impl SpanTable {
         RangeRow { start, limit }
     }
 
-    /// The place of a range's innermost pair, or `None` where nothing lies over it. O(1).
+    /// The place of a range's innermost pair, or `None` if nothing lies over it. O(1).
     #[inline]
     pub fn first(&self, k: usize) -> Option<u32>
         requires { k < length self.now.ranges }

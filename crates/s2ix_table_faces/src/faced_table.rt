@@ -145,10 +145,10 @@ impl SharesChains for FacedTable {
 }
 
 impl FacedTable {
-    /// The table of what a reader shows, which a change has made of this table's pairs: the tables of the faces that the change has
-    /// entries on are built again, the others are shared. With p pairs on those faces and n in all it reads p to p + 12 * digits(n + 1)
-    /// pairs, with the binary digits of n + 1. O(m + p) besides, for m entries. `OutOfMemory` where a growth is refused; pairs may have
-    /// been read then, never more than that.
+    /// The table after a change: `bag` reads the pairs that the change has made of this table's. The tables of the faces on which the
+    /// change has entries are built again, the others are shared. With p pairs on those faces and n in all it reads p to p + 12 *
+    /// digits(n + 1) pairs, for the binary digits of n + 1. O(m + p) besides, for m entries. `OutOfMemory` if a growth is refused; then too
+    /// it has read at most so many.
     pub fn rebuilt<B: PairReader>(
         &self,
         alloc: Global,

@@ -60,7 +60,7 @@ pub fn same_region_meets_the_same()
     ensures { (xs ys : List CellId) (held : Collection) → HaveSameRegion xs ys → meeting_of xs held ≡ meeting_of ys held }
 {}
 
-/// Two ranges' spans are equal exactly where they are one.
+/// Two ranges' spans are equal exactly if they are one.
 pub fn equal_range_rows_are_one()
     ensures { (a b : RangeRow) → IsTrue (⟦<RangeRow as PartialEq>⟧.eq a b) ↔ (a ≡ b) }
 {}

@@ -1,7 +1,8 @@
 //! Reading what a bag holds, pair by pair or many at once, with a count of what is read, and which faces a change has entries on.
 //!
-//! A [`PairReader`] gives the held pairs of a bag, one for each place or all between two places, and counts them. Where a change has no entry on a face, the bag
-//! before it and the bag after it hold the same pairs there, so that only the faces of [`changed_faces`] need to be read again.
+//! A [`PairReader`] gives the held pairs of a bag, one for each place or all between two places, and counts them. If a change has no entry
+//! on a face, the bag before it and the bag after it hold the same pairs there, so that only the faces of [`changed_faces`] need to be read
+//! again.
 #![tactic(auto)]
 
 mod bag_reader;

@@ -43,8 +43,8 @@ fn first_from<B: PairReader>(reader: &mut B, face: usize) -> usize
 }
 
 /// The pairs held on a face, 0 to 5, in rising order; none on a face above 5. With p pairs there and n in all it reads each of them once
-/// and O(log n) more: p + 2 * digits(n + 1) reads at most, with the binary digits of n + 1. `OutOfMemory` where a growth is refused; it may
-/// have read then, never more than that.
+/// and O(log n) more: at most p + 2 * digits(n + 1) reads, for the binary digits of n + 1. `OutOfMemory` if a growth is refused; then too
+/// it has read at most so many.
 pub fn read_face<B: PairReader>(
     alloc: Global,
     reader: &mut B,
@@ -60,8 +60,8 @@ pub fn read_face<B: PairReader>(
     Ok(Vec::from_slice(alloc, list.as_slice())?)
 }
 
-/// The same pairs by as many reads, in a list that others may keep too: of a bag it is the bag's own. `OutOfMemory` where a growth is
-/// refused, or the list is shared too often; it may have read then, never more than that.
+/// The pairs held on a face, as `read_face` gives them and by as many reads, in a list that others may keep too: of a bag it is the bag's
+/// own. `OutOfMemory` if a growth is refused, or the list is shared too often; then too it has read at most so many.
 pub fn read_list<B: PairReader>(
     alloc: Global,
     reader: &mut B,
@@ -79,10 +79,9 @@ pub fn read_list<B: PairReader>(
     reader.read_between(alloc, first, behind)
 }
 
-/// For each face, 0 to 5, the pairs held on it where a change has an entry there, in rising order, else `None`. With p pairs on those
-/// faces and n in all it reads each of the p once and O(log n) more: p + 12 * digits(n + 1) reads at most, with the binary digits of
-/// n + 1, so that a caller needs no sum of its own. O(m) besides, for m entries. `OutOfMemory` where a growth is refused; it may have read
-/// then, never more than that.
+/// For each face, 0 to 5, on which a change has an entry: the pairs held there, in rising order. `None` for the other faces. With p pairs
+/// on those faces and n in all it reads each of the p once and O(log n) more: at most p + 12 * digits(n + 1) reads, for the binary digits
+/// of n + 1. O(m) besides, for m entries. `OutOfMemory` if a growth is refused; then too it has read at most so many.
 pub fn read_changed<B: PairReader>(
     alloc: Global,
     reader: &mut B,

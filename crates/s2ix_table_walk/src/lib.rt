@@ -3,7 +3,7 @@
 //! A [`Reader`] gives the ranges of a table and the pairs over them, and counts both. [`walk`] finds the meeting list of a target through
 //! it alone, and so does [`Meeting`], its loop as an iterator.
 //!
-//! A walk takes no memory. It begins with a reader that has read nothing: a reader serves for one walk, whose cost it then tells. That cost
+//! A walk does not allocate. It begins with a reader that has read nothing, so a reader serves one walk, and then has its cost. That cost
 //! is bounded by what the walk gives, by the ranges that the target meets and by the target's cells: see [`walk`].
 #![tactic(auto)]
 

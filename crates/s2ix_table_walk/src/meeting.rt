@@ -12,8 +12,8 @@ use s2id_core::CellId;
 use s2id_union::CellUnion;
 use s2ix_bag_pairs::Held;
 
-/// The meeting list of a target, pair by pair in order, read as it is asked for. It does not allocate. O(k + r + t log n) for all of the k
-/// pairs, over the r ranges of n that the t cells of the target meet.
+/// The meeting list of a target, pair by pair in order, read as it is asked for. It does not allocate. All k pairs take O(k + r + t log n),
+/// if the t cells of the target meet r of the n ranges.
 pub struct Meeting<'a, R: Reader> {
     reader: &'a mut R,
     cells: &'a [CellId],
@@ -50,8 +50,8 @@ impl<'a, R: Reader> Meeting<'a, R> {
         }
     }
 
-    /// The next pair, or `None` behind the last one. At a pair, the reader has counted at least as many probes as the target meets ranges up
-    /// to the first leaf that it shares with the pair; at `None`, at least as many as the target meets ranges at all.
+    /// The next pair, or `None` behind the last one. With a pair, the reader has counted at least a probe for each range that the target
+    /// meets up to the first leaf that it shares with the pair; with `None`, at least one for each range that it meets.
     #[inline(always)]
     pub fn advance(&mut self) -> Option<Held>
         ensures reference { (reader_in self.new).ghost_name ≡ (reader_in self.old).ghost_name }

@@ -28,15 +28,14 @@ pub trait Reader {
     fn range_count(&self) -> usize
         ensures { result ≡ length (shown self.now).ranges };
 
-    /// The ranges among which all of those over a face, 0 to 5, are: one probe, since it tells on which side of the face's ends they begin
-    /// and end.
+    /// Ranges among which are all that lie over a face, 0 to 5: one probe, since it says something of where they begin and end.
     fn window(&mut self, face: u8) -> Window
         requires { face < 6 }
         ensures window { HaveFace (shown self.old).ranges face result.first result.size }
         ensures same { shown self.new ≡ shown self.old }
         ensures counts { spent self.new ≡ with_probe (spent self.old) };
 
-    /// The place of a range's innermost pair, or `None` where nothing lies over it.
+    /// The place of a range's innermost pair, or `None` if nothing lies over it.
     fn first(&self, k: usize) -> Option<Self::Place>
         requires { k < length (shown self.now).ranges }
         ensures { LeadsTo (shown self.now).chain result (range_at (shown self.now).ranges k).contents };
@@ -54,7 +53,7 @@ pub trait Reader {
         ensures same { shown self.new ≡ shown self.old }
         ensures counts { spent self.new ≡ with_probe (spent self.old) };
 
-    /// Where a range begins, as [`row`](Reader::row) gives it: one probe. A search reads ranges so.
+    /// Where a range begins, as [`row`](Reader::row) gives it: one probe. A search reads ranges by it.
     fn start(&mut self, k: usize) -> u64
         requires { k < length (shown self.old).ranges }
         ensures start { result ≡ (range_at (shown self.old).ranges k).start }
@@ -64,8 +63,8 @@ pub trait Reader {
         self.row(k).start
     }
 
-    /// A range that is fewer than 16 before another, or that one itself. [`sampled_start`](Reader::sampled_start) is quickest at it and at
-    /// every 16th range behind it.
+    /// A range at most 15 places before the given one, or that one itself. [`sampled_start`](Reader::sampled_start) is quickest at it and
+    /// at every 16th range behind it.
     fn sampled_by(&self, k: usize) -> usize
         ensures by { result ≤ k }
         ensures near { k < result + 16 }

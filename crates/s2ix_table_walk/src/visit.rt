@@ -11,10 +11,10 @@ use s2ix_bag_pairs::Held;
 /// Calls `f` on each pair of the target's meeting list, in order, up to and with the first call that answers false, and returns whether
 /// every call answered true (S2's `VisitIntersectingCells()`). It does not allocate. O(k + r + t log n).
 ///
-/// The reader must have read nothing. Let k be the number of calls, t that of the target's cells, n that of the table's ranges, r that of
-/// those which the target meets, and d the number of binary digits of n + 1. Then the reader has counted at least k and at most k + r + t
-/// looks, and at most t * d + r + t probes. The probes are at least as many as those of the r ranges that begin by the first leaf which the
-/// target shares with the last pair called, and at least r if every call answered true.
+/// The reader must have read nothing. Let there be k calls, t cells in the target, n ranges in the table, r of which the target meets, and
+/// d binary digits in n + 1. Then the reader has counted at least k and at most k + r + t looks, and at most t * d + r + t probes. It has
+/// counted at least a probe for each of the r ranges up to the first leaf that the target shares with the last pair called, and at least r
+/// probes if every call answered true.
 pub fn walk<R: Reader, F: FnMut(Held) -> bool>(
     reader: &mut R,
     target: &CellUnion,

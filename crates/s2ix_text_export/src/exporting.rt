@@ -41,7 +41,7 @@ fn whole(alloc: Global, pairs: Vec<Value>) -> Result<Value, AllocError>
 
 /// The export of a bag: one line of compact JSON, an object with the keys `pairs` and `version` in this order. `pairs` is a list with one
 /// list of token, label and count for each held pair, in rising order; `version` is 1. There is no line feed. O(n) time and memory for n
-/// pairs, some 200 bytes a pair beside the text; `OutOfMemory` where a growth is refused.
+/// pairs, some 200 bytes a pair beside the text; `OutOfMemory` if a growth is refused.
 pub fn export(alloc: Global, bag: &Bag) -> Result<String, OutOfMemory>
     ensures { IfOk result (λ text. string_bytes text ≡ export_text bag.now.held) }
 {

@@ -5,8 +5,8 @@ ghost use Rattle.s2ix_text_io.specs.Pieces.{Gave};
 use crate::{ReadFault, Source};
 use std::io::Read;
 
-/// A source over a reader of std's. What the reader gives is the source's, and each error of the reader's is a fault. Each
-/// piece is one call of the reader's.
+/// A source over a reader of std's. It gives what the reader gives, and each error of the reader is a fault. Each piece is one call of the
+/// reader.
 #[derive(Debug, Drop)]
 pub struct FromRead<R> {
     inner: R,
@@ -22,7 +22,7 @@ impl<R: Read> FromRead<R> {
         FromRead { inner, faults: 0 }
     }
 
-    /// The reader, at what it has left.
+    /// The reader, with the bytes that it has left.
     pub fn into_inner(self) -> R
         ensures { result ≡ reader_of self }
     {

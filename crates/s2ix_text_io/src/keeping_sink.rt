@@ -6,7 +6,7 @@ use crate::{Sink, WriteFault};
 use std::alloc::Global;
 
 /// A sink that keeps what it takes; a call of `put` fails too if there is no memory to keep it. Hand it to a run, or to a call over texts,
-/// to have what that prints in memory: [`KeepingSink::kept`] gives it. With short puts and calls that fail it tests how code bears such a
+/// to get in memory what that prints: [`KeepingSink::kept`] gives it. With short puts and calls that fail it tests how code bears such a
 /// sink.
 #[derive(Debug, Drop)]
 pub struct KeepingSink {
@@ -23,7 +23,7 @@ impl KeepingSink {
     ghost use Rattle.s2ix_text_io.specs.Devices.{flush_fails, flushed_len_of, put_len_of, sink_fault_at};
 
     /// A sink that takes at most `put_len` bytes a call (at least one), whose call number `fault_at` of `put` fails, and whose `flush`
-    /// fails where `is_flush_failing`. Calls count from 1: at 0 none fails.
+    /// fails if `is_flush_failing`. Calls count from 1: at 0 none fails.
     pub fn new(alloc: Global, put_len: usize, fault_at: u64, is_flush_failing: bool) -> KeepingSink
         ensures taken { ⟦<KeepingSink as Sink>⟧.taken result ≡ Some [] }
         ensures flushed { flushed_len_of result ≡ 0 }

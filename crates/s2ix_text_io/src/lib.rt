@@ -1,9 +1,9 @@
 //! Sources and sinks of bytes. A source gives bytes piece by piece, a sink takes them; each tells how often it failed. Beside the two
-//! traits stand adapters of std's readers and writers, devices in memory that can be made to fail, and the calls that read a whole input
-//! and put a whole text.
+//! traits are adapters of std's readers and writers, devices in memory that can be made to fail, and calls that read a whole input and put
+//! a whole text.
 //!
-//! A failed call may be made again, and each failure is counted. A call asks that the count has room for one more, which a count of 64 bits
-//! always has in practice: so a caller who starts with a new device has nothing to test.
+//! A failed call may be made again, and each failure is counted. A call requires that the count can rise by one. It has 64 bits, so a
+//! caller who starts with a new device has nothing to test.
 #![tactic(auto)]
 
 mod from_read;

@@ -19,10 +19,10 @@ fn append(text: &mut Vec<u8>, piece: &[u8]) -> Result<(), OutOfMemory>
     Ok(())
 }
 
-/// Reads a source to its end, and answers all its bytes in order. O(n) for n bytes, and at most `turns` calls of `piece`.
+/// Reads a source to its end, and returns all its bytes in order. O(n) for n bytes, and at most `turns` calls of `piece`.
 ///
-/// It answers `Read` at the first fault of the source, `OutOfMemory` if a growth was refused, and `ReaderTooLong` if `turns` pieces were
-/// read and none was the end. At 0 turns it asks the source nothing, and always answers `ReaderTooLong`. After a fault, what was read is
+/// It returns `Read` at the first fault of the source, `OutOfMemory` if a growth was refused, and `ReaderTooLong` if `turns` pieces were
+/// read and none was the end. With 0 turns it asks the source nothing, and always returns `ReaderTooLong`. After a fault, what was read is
 /// lost.
 pub fn read_whole<S: Source>(alloc: Global, source: &mut S, turns: u64) -> Result<Vec<u8>, RunFault>
     requires { CanCount (S.fault_count source.old) }

@@ -24,8 +24,8 @@ pub trait Sink {
     // How many calls of `put` and `flush` have failed so far.
     ghost fault_count: { Self → ℕ };
 
-    /// Offers `bytes`, and answers how many of them the sink took, from their front: at least one. A call that fails took none, and
-    /// counts as one fault.
+    /// Offers `bytes`, and returns how many of them the sink took, from the front: at least one. A call that fails took none, and counts as
+    /// one fault.
     fn put(&mut self, bytes: &[u8]) -> Result<usize, WriteFault>
         requires room { 0 < length bytes.now }
         requires counts { CanCount (fault_count self.old) }

@@ -5,7 +5,7 @@ ghost use Rattle.s2ix_text_io.specs.Pieces.{Gave};
 
 use crate::{ReadFault, Source};
 
-/// A source over a slice. It takes no memory. Use it to run a script, or to read a file, that is in memory already. With short pieces and
+/// A source over a slice. It does not allocate. Use it to run a script, or to read a file, that is in memory already. With short pieces and
 /// a call that fails it tests how code bears such a source.
 #[derive(Debug, Drop)]
 pub struct SliceSource<'a> {

@@ -21,8 +21,8 @@ pub trait Source {
     // How many calls of `piece` have failed so far.
     ghost fault_count: { Self → ℕ };
 
-    /// Reads the next bytes into the front of `buf`, and answers how many: at most as many as `buf` has room for, and none only at the
-    /// end of the input. A call that fails has read nothing, and counts as one fault.
+    /// Reads the next bytes into the front of `buf`, and returns how many: at most as many as `buf` has room for, and none only at the end
+    /// of the input. A call that fails has read nothing, and counts as one fault.
     fn piece(&mut self, buf: &mut [u8]) -> Result<usize, ReadFault>
         requires room { 0 < length buf.old }
         requires counts { CanCount (fault_count self.old) }

@@ -5,9 +5,8 @@ ghost use Rattle.s2ix_text_io.specs.Adapters.{writer_of, writer_faults};
 use crate::{Sink, WriteFault};
 use std::io::Write;
 
-/// A sink over a writer of std's. What the writer takes is what the sink took, and each error of the writer's is a fault. A writer
-/// that takes none of a piece that has bytes would never be done: that is a fault too. Each put and each flush is one call of the
-/// writer's.
+/// A sink over a writer of std's. The sink takes what the writer takes, and each error of the writer is a fault. If the writer takes none
+/// of a piece, that is a fault too, since the sink would never be done. Each put and each flush is one call of the writer.
 #[derive(Debug, Drop)]
 pub struct ToWrite<W> {
     inner: W,

@@ -9,8 +9,8 @@ use arrayvec::ArrayVec;
 // How many bytes are gathered at most: no line of an answer has more.
 const LONGEST: usize = 80;
 
-/// Puts the texts of `parts` one after the other, as one text: up to 80 bytes at once, so that the sink is called once for a short line. O(n)
-/// for n bytes. `WriteFault` when the sink fails; then a front of the text went out.
+/// Puts the texts of `parts` one after the other, as one text: up to 80 bytes at once, so that the sink is called once for a short line.
+/// O(n) for n bytes. `WriteFault` if the sink fails; then a front of the text went out.
 #[inline(always)]
 pub fn put_together<K: Sink>(sink: &mut K, parts: &[&[u8]]) -> Result<(), WriteFault>
     requires { CanCount (K.fault_count sink.old) }

@@ -28,7 +28,7 @@ const LOWER_VALUES: [u8; 256] = [
 
 /// The cell whose canonical token stands at the front of a text, up to a space, and what is behind that space.
 ///
-/// It answers nothing too of a text of less than 17 bytes. One look at each byte of the token, so O(1).
+/// `None` also for a text of less than 17 bytes. One look at each byte of the token, so O(1).
 #[inline]
 pub fn token_in_front(text: &[u8]) -> Option<(CellId, &[u8])>
     ensures cell { IfSome result (λ read. text.now ≡ canonical_token (raw_of read.0) ++ 32 ∷ read.1.now) }
@@ -47,8 +47,8 @@ pub fn token_in_front(text: &[u8]) -> Option<(CellId, &[u8])>
 
 /// The number whose canonical digits stand at the front of a text, up to the byte `end`, and what is behind that byte.
 ///
-/// It answers nothing too of a number of ten digits or more, and of a text of less than 10 bytes. The byte `end` is to be no digit: no
-/// number ends before one. One look at each byte of the number, so O(1).
+/// `None` also for a number of ten digits or more, and for a text of less than 10 bytes. The byte `end` must be no digit, since no number
+/// ends before one. One look at each byte of the number, so O(1).
 #[inline]
 pub fn number_in_front(text: &[u8], end: u8) -> Option<(u32, &[u8])>
     ensures number { IfSome result (λ read. text.now ≡ decimal read.0 ++ end ∷ read.1.now) }

@@ -2,7 +2,7 @@
 //! writes, and what stands at the front of a text, read in one pass. Its definitions find the first faulty line of a text, given what is
 //! wrong with each line.
 //!
-//! No call here takes memory. Each reads exactly what the writers of `s2ix_text_write` print: no other spelling of a number or a token.
+//! No call here allocates. Each reads exactly what the writers of `s2ix_text_write` print: no other spelling of a number or a token.
 #![tactic(auto)]
 
 mod cuts;

@@ -7,8 +7,8 @@ use s2id_core::CellId;
 use s2ix_bag_pairs::Label;
 use std::str;
 
-/// The cell whose canonical token a text is: what `CellId::token` prints for it, and no other spelling. O(1): no text of more than 16 bytes
-/// is one.
+/// The cell that a text names by its canonical token: what `CellId::token` prints, and no other spelling. O(1): no text of more than 16
+/// bytes is one.
 pub fn cell_written(text: &[u8]) -> Option<CellId>
     ensures { result ≡ cell_written text.now }
 {
@@ -20,7 +20,7 @@ pub fn cell_written(text: &[u8]) -> Option<CellId>
     }
 }
 
-/// The number below 2^32 whose canonical digits a text is: those that printing it gives. O(n) for n bytes.
+/// The number below 2^32 that a text writes in canonical digits, as printing gives them. O(n) for n bytes.
 pub fn number_written(text: &[u8]) -> Option<u32>
     ensures some { IfSome result (λ n. number_written text.now ≡ Some n) }
     ensures none { IfNone result ((n : ℕ) → n < 2 ^ 32 → number_written text.now ≢ Some n) }

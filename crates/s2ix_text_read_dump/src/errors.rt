@@ -2,10 +2,10 @@ use s2id_core::OutOfMemory;
 use std::fmt;
 use thiserror::Error;
 
-/// What is wrong with a line of a dump. Of those that are due on one line, the first is told.
+/// What is wrong with a line of a dump. If several are due on one line, the first of this list is returned.
 #[derive(Clone, Copy, Debug, PartialEq, Eq, Error)]
 pub enum DumpFault {
-    /// A line is wanted here, and what is left of the text has no line feed.
+    /// A line is expected here, and what is left of the text has no line feed.
     Truncated,
     /// The first line is neither `s2ix 1` nor `s2ix 2`.
     BadHeader,
@@ -23,7 +23,7 @@ pub enum DumpFault {
     Unsorted,
     /// The count is above the limit.
     TooManyCopies,
-    /// As many pairs as the limit allows stand above.
+    /// The lines above have as many pairs as the limit allows.
     TooManyPairs,
     /// Bytes follow the end line.
     TrailingBytes,

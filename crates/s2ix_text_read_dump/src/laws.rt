@@ -6,7 +6,7 @@ ghost use Rattle.s2ix_text_read_dump.specs.Laws.{DumpsHaveNoFault, NoFaultyLineI
 
 use crate::{DumpError, DumpFault};
 
-/// A text has no fault exactly where it is a dump, in either version, of a collection within the limits.
+/// A text has no fault exactly if it is a dump, in either version, of a collection within the limits.
 pub fn dumps_have_no_fault()
     ensures { DumpsHaveNoFault }
 {}
@@ -22,7 +22,7 @@ pub fn no_faulty_line_is_accepted()
     ensures { NoFaultyLineIsAccepted }
 {}
 
-/// Two faults of dumps are equal exactly where they are one.
+/// Two faults of dumps are equal exactly if they are one.
 pub fn equal_dump_faults_are_one()
     ensures { (a b : DumpFault) → IsTrue (⟦<DumpFault as PartialEq>⟧.eq a b) ↔ (a ≡ b) }
 {}
@@ -32,7 +32,7 @@ pub fn cloned_dump_faults_are_the_same()
     ensures { (a copy : DumpFault) → ⟦<DumpFault as Clone>⟧.is_clone a copy ↔ (copy ≡ a) }
 {}
 
-/// Two errors of `read_dump` are equal exactly where they are one.
+/// Two errors of `read_dump` are equal exactly if they are one.
 pub fn equal_dump_errors_are_one()
     ensures { (a b : DumpError) → IsTrue (⟦<DumpError as PartialEq>⟧.eq a b) ↔ (a ≡ b) }
 {}

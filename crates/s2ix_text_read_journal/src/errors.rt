@@ -5,14 +5,14 @@ use std::alloc::AllocError;
 use std::fmt;
 use thiserror::Error;
 
-/// What is wrong with a line of a journal. Of those that are due on one line, the first is told.
+/// What is wrong with a line of a journal. If several are due on one line, the first of this list is returned.
 #[derive(Clone, Copy, Debug, PartialEq, Eq, Error)]
 pub enum JournalFault {
-    /// A line is wanted here, and what is left of the text has no line feed.
+    /// A line is expected here, and what is left of the text has no line feed.
     Truncated,
     /// The first line is neither `s2ix-journal 1` nor `s2ix-journal 2`.
     BadHeader,
-    /// The line stands outside a group, its first part is `end`, and it is not `end CHANGES` with the right number.
+    /// The line is outside a group, its first part is `end`, and it is not `end CHANGES` with the right number.
     BadEnd,
     /// The line is not `change` and one part more outside a group, or has not exactly four parts inside one, or a part is empty.
     BadLine,
@@ -29,7 +29,7 @@ pub enum JournalFault {
     Unsorted,
     /// A count is above the limit.
     TooManyCopies,
-    /// As many changes as the limit allows stand above.
+    /// The groups above are as many changes as the limit allows.
     TooManyChanges,
     /// Bytes follow the end line.
     TrailingBytes,

@@ -82,11 +82,11 @@ fn read_groups(
     })
 }
 
-/// Reads a journal of either version under limits: the changes whose journal the text is, the oldest first, or the first line that has a
-/// fault and the first fault of that line.
+/// Reads a journal of either version under limits. It returns the changes whose journal the text is, the oldest first, or the first line
+/// that has a fault, with the first fault of that line.
 ///
-/// Lines count from 1. Want of memory may be told in place of a fault of line 2 or a later one. O(n) for n bytes; a growth for each group,
-/// of at most three bytes for each byte of the text, and those of the list.
+/// Lines count from 1. `OutOfMemory` may be returned instead of a fault on line 2 or later. O(n) for n bytes; a growth for each group, of
+/// at most three bytes for each byte of the text, and those of the list.
 pub fn read_journal(alloc: Global, text: &[u8], limits: Limits) -> Result<Vec<Change>, JournalError>
     ensures changes { IfOk result (λ changes. All IsChangeList changes.items) }
     ensures within { IfOk result (λ changes. AreWithin limits changes.items) }

@@ -6,7 +6,7 @@ ghost use Rattle.s2ix_text_read_journal.specs.Laws.{JournalsHaveNoFault, NoFault
 
 use crate::{JournalError, JournalFault};
 
-/// A text has no fault exactly where it is a journal, in either version, of a list of changes within the limits.
+/// A text has no fault exactly if it is a journal, in either version, of a list of changes within the limits.
 pub fn journals_have_no_fault()
     ensures { JournalsHaveNoFault }
 {}
@@ -22,7 +22,7 @@ pub fn no_faulty_journal_line_is_accepted()
     ensures { NoFaultyJournalLineIsAccepted }
 {}
 
-/// Two faults of journals are equal exactly where they are one.
+/// Two faults of journals are equal exactly if they are one.
 pub fn equal_journal_faults_are_one()
     ensures { (a b : JournalFault) → IsTrue (⟦<JournalFault as PartialEq>⟧.eq a b) ↔ (a ≡ b) }
 {}
@@ -32,7 +32,7 @@ pub fn cloned_journal_faults_are_the_same()
     ensures { (a copy : JournalFault) → ⟦<JournalFault as Clone>⟧.is_clone a copy ↔ (copy ≡ a) }
 {}
 
-/// Two errors of `read_journal` are equal exactly where they are one.
+/// Two errors of `read_journal` are equal exactly if they are one.
 pub fn equal_journal_errors_are_one()
     ensures { (a b : JournalError) → IsTrue (⟦<JournalError as PartialEq>⟧.eq a b) ↔ (a ≡ b) }
 {}

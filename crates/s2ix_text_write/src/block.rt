@@ -34,7 +34,7 @@ impl Block {
         }
     }
 
-    /// Gathers the line of an item. Where it may not fit, what is gathered is put first. O(1) beside that. `WriteFault` when the sink fails;
+    /// Gathers the line of an item. If it may not fit, what is gathered is put first. O(1) beside that. `WriteFault` if the sink fails;
     /// then a front of what was gathered went out.
     pub fn write_line<A: ListItem, K: Sink>(
         &mut self,
@@ -65,7 +65,7 @@ impl Block {
     }
 
     /// Puts what is gathered and, behind it, the last line of a list of `count` items: `end` with their number. Nothing is gathered then.
-    /// `WriteFault` when the sink fails; then a front of all that went out.
+    /// `WriteFault` if the sink fails; then a front of all that went out.
     pub fn write_end<K: Sink>(&mut self, count: usize, sink: &mut K) -> Result<(), WriteFault>
         requires { CanCount (K.fault_count sink.old) }
         ensures text { Writes K.Sink sink.old sink.new result (gathered_in self.old ++ end_of_list count) }

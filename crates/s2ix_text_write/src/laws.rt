@@ -36,7 +36,7 @@ pub fn writable_changes_have_journals()
     ensures { WritableChangesHaveJournals }
 {}
 
-/// Two versions are equal exactly where they are one.
+/// Two versions are equal exactly if they are one.
 pub fn equal_versions_are_one()
     ensures { (a b : Version) → IsTrue (⟦<Version as PartialEq>⟧.eq a b) ↔ (a ≡ b) }
 {}

@@ -10,12 +10,12 @@ use s2id_core::CellId;
 use s2ix_bag_pairs::{Held, Label};
 use s2ix_text_io::{Sink, WriteFault, put_all};
 
-/// An item of a list: it stands there on a line of its own.
+/// An item of a list, on a line of its own.
 pub trait ListItem: Copy {
     // the line, with its line feed
     ghost line: { Self → List ℕ };
 
-    /// Writes the line at a place of an array, which has room there for 80 bytes, and answers where it ends.
+    /// Writes the line at a place of an array, which has room there for 80 bytes, and returns where it ends.
     fn line_at(self, room: &mut [u8], place: usize) -> usize
         requires { place + 80 ≤ length room.old }
         ensures line { take result room.new ≡ take place room.old ++ line self }
@@ -85,8 +85,8 @@ pub(crate) fn write_lines<A: ListItem, K: Sink>(items: &[A], sink: &mut K) -> Re
     block.put(sink)
 }
 
-/// Writes the last line of a list of `count` items: `end` with their number. `WriteFault` when the sink fails; then a front of the line
-/// went out.
+/// Writes the last line of a list of `count` items: `end` with their number. `WriteFault` if the sink fails; then a front of the line went
+/// out.
 pub fn write_end_of_list<K: Sink>(count: usize, sink: &mut K) -> Result<(), WriteFault>
     requires { CanCount (K.fault_count sink.old) }
     ensures { Writes K.Sink sink.old sink.new result (end_of_list count) }

@@ -4,8 +4,7 @@ ghost use Rattle.s2ix_text_write.specs.Version.{dump_version, greatest_in, journ
 
 /// A version of the formats of dumps and journals, which a text names on its first line.
 ///
-/// The versions differ in their headers and in the greatest count that they write; all else of their grammar is one. The
-/// second is the one that is written.
+/// The versions differ only in their headers and in the greatest count. The second is the one that is written.
 #[derive(Clone, Copy, Debug, PartialEq, Eq)]
 pub enum Version {
     /// Counts up to 65,535.
@@ -15,7 +14,7 @@ pub enum Version {
 }
 
 impl Version {
-    /// The version whose dumps have this first line, without its line feed, or `None` where no dump has it.
+    /// The version whose dumps have this first line, without its line feed, or `None` if no dump has it.
     #[tactic(auto, unfolding(crate::specs::Version::dump_version))]
     pub fn of_dump(header: &[u8]) -> Option<Version>
         ensures { result ≡ dump_version header.now }
@@ -29,7 +28,7 @@ impl Version {
         }
     }
 
-    /// The version whose journals have this first line, without its line feed, or `None` where no journal has it.
+    /// The version whose journals have this first line, without its line feed, or `None` if no journal has it.
     #[tactic(auto, unfolding(crate::specs::Version::journal_version))]
     pub fn of_journal(header: &[u8]) -> Option<Version>
         ensures { result ≡ journal_version header.now }

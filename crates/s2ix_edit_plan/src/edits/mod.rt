@@ -21,11 +21,11 @@ use crate::errors::EditError;
 use s2ix_bag::{Bag, Change};
 use std::alloc::Global;
 
-/// The change that carries an edit out on a bag: an entry for each pair whose count the edit changes, and none where nothing
-/// would change. The bag stays as it is; [`Bag::applied`] makes the next one of the change. `changes` are those that led to
-/// the bag, the oldest first, of which `Revert` takes one back; no other edit reads them.
+/// The change that carries an edit out on a bag: an entry for each pair whose count the edit changes, and none if nothing would change. The
+/// bag stays as it is; [`Bag::applied`] makes the next one of the change. `changes` are those that led to the bag, the oldest first.
+/// `Revert` takes one of them back; no other edit reads them.
 ///
-/// It returns the first error of [`EditError`] that is due, but neither `JournalFull`, which a store tests, nor `NoChange`. Whether counts
+/// It returns the first error of [`EditError`] that is due, but never `JournalFull`, which a store tests, nor `NoChange`. Whether counts
 /// and pairs fit the bag is found when the change is applied, with two exceptions: the plan of `Revert` tests it and returns
 /// `TooManyCopies` or `TooManyPairs` itself, and a sum that no `u32` holds is `TooManyCopies` here, since it is above every limit.
 /// `OutOfMemory` may replace `TooManyCopies`, but for a `Revert`, and no other error. An `Add` or a `Remove` of no copies does not
