@@ -66,7 +66,7 @@ fn next_reached(
 /// decides, and the error has its number, counted from 1.
 ///
 /// `OutOfMemory` if a growth is refused; it may come in place of the refusal of any change but the first. O(n + m log n) for m entries in
-/// all, and n pairs that the bag holds or the changes have.
+/// all changes, and n pairs that the bag holds or an entry has.
 #[tactic(auto, using(crate::proofs::Forth::limits_stay))]
 pub fn replay(alloc: Global, bag: &Bag, changes: &[Change]) -> Result<Bag, ReplayError>
     ensures limits { IfOk result (λ after. after.limits ≡ bag.now.limits) }
@@ -103,7 +103,7 @@ fn test_last(bag: &Bag, changes: &[Change]) -> Result<(), ReplayError>
 /// refused first on this way decides, and the error has its number in the list, counted from 1.
 ///
 /// `OutOfMemory` if a growth is refused; it may come in place of the refusal of any change but the last. O(n + m log n) for m entries in
-/// all, and n pairs that the bag holds or the changes have.
+/// all changes, and n pairs that the bag holds or an entry has.
 #[tactic(auto, using(crate::proofs::Forth::limits_stay))]
 pub fn rewind(alloc: Global, bag: &Bag, changes: &[Change]) -> Result<Bag, ReplayError>
     ensures limits { IfOk result (λ before. before.limits ≡ bag.now.limits) }

@@ -10,6 +10,7 @@ ghost use Rattle.s2ix_bag_pairs.specs.Collection.{Collection};
 use crate::errors::{ApplyError, ChangeError, RevertError};
 use crate::flat::FlatHeld;
 use crate::held_iter::HeldIter;
+use crate::held_list::HeldList;
 use crate::lists::FaceLists;
 
 /// A list of entries is a change exactly if it has no fault.
@@ -49,6 +50,11 @@ pub fn cloned_flat_pairs_are_the_same()
 /// Two lists of held pairs are equal exactly if they hold the same pairs with the same counts.
 pub fn equal_lists_are_one()
     ensures { (a b : Collection) → IsTrue (⟦<FaceLists as PartialEq>⟧.eq a b) ↔ (a ≡ b) }
+{}
+
+/// A clone of a list of held pairs holds the same pairs with the same counts.
+pub fn cloned_held_lists_are_the_same()
+    ensures { (list copy : Collection) → ⟦<HeldList as Clone>⟧.is_clone list copy ↔ (copy ≡ list) }
 {}
 
 /// A clone of the lists holds the same pairs with the same counts.

@@ -104,7 +104,7 @@ impl FaceLists {
         own[place - before].held()
     }
 
-    /// How many pairs stand before the face that the pair at a place is of, counted from 0, and all pairs held on that face. O(1).
+    /// How many pairs come before the face that the pair at a place is of, counted from 0, and all pairs held on that face. O(1).
     pub fn face_at(&self, place: usize) -> (usize, &[FlatHeld])
         requires { place < length self.now }
         ensures { IsFaceAt place self.now result.0 result.1.now }

@@ -151,7 +151,7 @@ impl SpanTable {
         self.starts.as_slice()
     }
 
-    /// A sample of those starts but for the first and the last one: every 16th if they are more than [`MANY_RANGES`](s2ix_table_walk::MANY_RANGES), else none. O(1).
+    /// Of those starts the ones at 16, 32 and so on, as many as the list has; the last start is none of them. O(1).
     #[inline]
     pub fn sample(&self) -> &[u64]
         ensures { IsSample (length self.now.ranges - 2) (drop 1 (map (λ (r : Range). r.start) self.now.ranges)) result.now }

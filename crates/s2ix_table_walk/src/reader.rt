@@ -13,7 +13,8 @@ use s2ix_table_ranges::RangeRow;
 
 /// Something that reads a range table and counts what it reads. [`node`](Reader::node) gives a pair, and is one look. [`row`](Reader::row),
 /// [`start`](Reader::start), [`sampled_start`](Reader::sampled_start), [`row_and_first`](Reader::row_and_first) and
-/// [`window`](Reader::window) tell where ranges begin or end, and each is one probe. The other calls count nothing, and tell no pair and no bound of a range.
+/// [`window`](Reader::window) tell where ranges begin or end, and each is one probe. The other calls count nothing, and tell no pair and
+/// no bound of a range.
 pub trait Reader {
     /// Where the table keeps a pair of a chain.
     type Place: Copy;
