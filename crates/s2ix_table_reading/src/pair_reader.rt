@@ -3,7 +3,7 @@ ghost use Rattle.s2ix_bag_pairs.specs.Collection.{Collection};
 ghost use Rattle.s2ix_table_reading.specs.Reading.{HasRead, IsRead, with_read, with_reads};
 
 use s2id_core::OutOfMemory;
-use s2ix_bag_lists::HeldList;
+use s2ix_bag_lists::{FlatHeld, HeldList};
 use s2ix_bag_pairs::Held;
 use std::alloc::Global;
 
@@ -28,7 +28,8 @@ pub trait PairReader {
         ensures counts { spent self.new ≡ with_read (spent self.old) };
 
     /// The pairs from one place to before another, in rising order, with their counts: a read for each. The list may be one that others
-    /// keep too. `OutOfMemory` if a growth is refused or the list is shared too often; then at most `to - from` reads were counted.
+    /// keep too; that of the default body, which reads pair by pair, is a new one. `OutOfMemory` if a growth is refused or the list is
+    /// shared too often; then at most `to - from` reads were counted.
     fn read_between(
         &mut self,
         alloc: Global,
@@ -40,7 +41,16 @@ pub trait PairReader {
         ensures pairs { IfOk result (λ held. held ≡ take (to - from) (drop from (shown self.old))) }
         ensures same { shown self.new ≡ shown self.old }
         ensures counts { OnOk result (spent self.new ≡ with_reads (to - from) (spent self.old)) }
-        ensures refused { HasRead 0 (to - from) (spent self.old) (spent self.new) };
+        ensures refused { HasRead 0 (to - from) (spent self.old) (spent self.new) }
+    {
+        let mut held = Vec::with_capacity(alloc, to - from)?;
+        let mut place = from;
+        while place < to {
+            held.push(FlatHeld::new(self.read(place)))?;
+            place += 1;
+        }
+        HeldList::new(alloc, held)
+    }
 
     /// How many pairs were read so far, in a count that stops at 2^64 - 1.
     fn reads(&self) -> u64
