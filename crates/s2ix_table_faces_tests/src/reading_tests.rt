@@ -1,4 +1,8 @@
 //! Bags that are read pair by pair or many pairs at once, and the faces that changes have entries on.
+ghost use Rattle.std.specs.Prelude.{◌≤◌, length};
+ghost use Rattle.s2ix_bag_pairs.specs.Collection.{IsCollection};
+ghost use Rattle.s2ix_bag_pairs.specs.OneProof.{IsCollection-prop};
+
 use s2ix_bag::{Bag, Change, FlatHeld, Held};
 use s2ix_bag_samples::{LimitRow, are_flat_pairs, bag_of, change_of, held_of};
 use s2ix_table::{
@@ -7,6 +11,37 @@ use s2ix_table::{
 use std::alloc::Global;
 
 const LIMITS: LimitRow = (12, 9, 1);
+
+// A reader of a bag that keeps the trait's body for the pairs between two places.
+#[derive(Drop)]
+struct ByPairs<'a> {
+    bag: &'a Bag,
+    reads: u64,
+    ghost rises: { IsCollection bag.now.held } by { IsCollection-prop 0 bag.now.held },
+    ghost few: { length bag.now.held ≤ 1000000 },
+}
+
+impl PairReader for ByPairs<'_> {
+    ghost shown = { λ reader. reader.bag.now.held };
+
+    ghost spent = { λ reader. reader.reads };
+
+    ghost is_read = { λ reader. record { is_collection = reader.rises; few = reader.few } };
+
+    fn len(&self) -> usize {
+        self.bag.len()
+    }
+
+    fn read(&mut self, k: usize) -> Held {
+        self.reads = self.reads.saturating_add(1);
+        let (before, own) = self.bag.face_at(k);
+        own[k - before].held()
+    }
+
+    fn reads(&self) -> u64 {
+        self.reads
+    }
+}
 
 // Whether a reader gives a pair at a place.
 fn reads_pair<R: PairReader>(reader: &mut R, place: usize, wanted: Held) -> bool {
@@ -89,9 +124,14 @@ const BETWEEN: [(usize, usize, &str); 7] = [
     (5, 5, ""),
 ];
 
-// Whether a reader of a bag gives these pairs from one place to before another, and counts each.
-fn reads_between(alloc: Global, bag: &Bag, from: usize, to: usize, wanted: &str) -> Option<bool> {
-    let mut reader = BagReader::new(bag);
+// Whether a reader that has read nothing gives these pairs from one place to before another, and counts each.
+fn gives_between<R: PairReader>(
+    alloc: Global,
+    reader: &mut R,
+    from: usize,
+    to: usize,
+    wanted: &str,
+) -> Option<bool> {
     if to < from || reader.len() < to {
         return None;
     }
@@ -99,8 +139,15 @@ fn reads_between(alloc: Global, bag: &Bag, from: usize, to: usize, wanted: &str)
     Some(are_flat_pairs(held.as_slice(), wanted) && reader.reads() == (to - from) as u64)
 }
 
+// Whether a bag's reader gives these pairs at once, and another pair by pair.
+fn reads_between(alloc: Global, bag: &Bag, from: usize, to: usize, wanted: &str) -> Option<bool> {
+    let at_once = gives_between(alloc, &mut BagReader::new(bag), from, to, wanted)?;
+    let mut by_pairs = ByPairs { bag, reads: 0 };
+    Some(at_once && gives_between(alloc, &mut by_pairs, from, to, wanted)?)
+}
+
 #[test]
-fn pairs_between_two_places_are_read_at_once(rt: HostRuntime) {
+fn pairs_between_two_places_are_read(rt: HostRuntime) {
     let bag = bag_of(rt.alloc(), LIMITS, MIXED).expect(&rt, MIXED);
     for &(from, to, pairs) in &BETWEEN {
         let same = reads_between(rt.alloc(), &bag, from, to, pairs);
