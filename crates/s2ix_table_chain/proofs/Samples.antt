@@ -1,9 +1,9 @@
 -- Every 16th start.
-use Rattle.std.proofs.Common.{◌≡◌, ℕ, ◌+◌, ◌*◌, ◌<◌, ◌≤◌, inl, inr, List, [], ◌∷◌, ◌++◌, length, drop, slice_index_or, refl, sym, ◌∙◌, ap, add-one, arith}
+use Rattle.std.proofs.Common.{◌≡◌, ℕ, ◌+◌, ◌-◌, ◌*◌, ◌<◌, ◌≤◌, inl, inr, List, [], ◌∷◌, ◌++◌, length, drop, slice_index_or, AllPairs, refl, sym, ◌∙◌, ap, add-one, arith}
 use Rattle.std.proofs.lemmas.Bool.{cases_lt}
 use Rattle.std.proofs.Math.ListN.{get_or-append}
 use Rattle.std.proofs.Math.Seq.{get_or-append_seam}
-use Rattle.std.proofs.lemmas.List.{length-append}
+use Rattle.std.proofs.lemmas.List.{get_or_default, length-append}
 use Rattle.s2ix_table_queries.specs.Stretches.{IsSample}
 
 -- a sample of no start
@@ -34,3 +34,20 @@ one_more starts sample count k is at lt =
                 ∙ sym (behind_first starts (j * 16 + 15)))
           ];
     }
+
+-- ---- a search that begins with the sample
+
+at_sample : (starts sample : List ℕ) (j : ℕ) → IsSample (length starts - 2) (drop 1 starts) sample → j < length sample
+    → slice_index_or sample j 0 ≡ slice_index_or starts (j * 16 + 15 + 1) 0
+at_sample starts sample j is lt = is.each j lt ∙ behind_first starts (j * 16 + 15)
+
+pub sample_rises : (starts sample : List ℕ) → IsSample (length starts - 2) (drop 1 starts) sample → AllPairs (λ a b. a < b) starts
+    → AllPairs (λ a b. a < b) sample
+sample_rises starts sample is rises i j d lt within =
+    let last = is.within j within in
+    let a = get_or_default sample i d 0 (omega arith) in
+    let b = get_or_default sample j d 0 within in
+    let e = at_sample starts sample i is (omega arith) in
+    let f = at_sample starts sample j is within in
+    let r = rises (i * 16 + 15 + 1) (j * 16 + 15 + 1) 0 (omega arith) (omega arith) in
+    omega arith

@@ -4,21 +4,14 @@ use Rattle.std.proofs.lemmas.Bool.{cases_eq, cases_lt}
 use Rattle.s2ix_bag_pairs.specs.Collection.{Collection}
 use Rattle.s2ix_table_ranges.specs.Table.{IsTableOver, IsFound}
 use Rattle.s2ix_table_ranges.proofs.Tables.{limits_rise}
-use Rattle.s2ix_table_chain.specs.Starts.{ranges_from, IsLastStart}
+use Rattle.s2ix_table_chain.specs.Starts.{ranges_from, IsAmong, IsLastStart}
 use Rattle.s2ix_table_chain.proofs.Ranges.{length_ranges, range_start, range_limit, last_limit}
-
--- the start that is looked for is among `size` from `first` on
-pub record IsWindow (starts : List ℕ) (leaf first size : ℕ) : Type 0 where
-  pub some : 0 < size
-  pub within : first + size ≤ length starts
-  pub by : slice_index_or starts first 0 ≤ leaf
-  pub behind : first + size < length starts → leaf < slice_index_or starts (first + size) 0
 
 halves : (n : ℕ) → 1 < n → (0 < n / 2) × (n / 2 < n) × (n / 2 ≤ n - n / 2)
 halves n lt = (omega arith, omega arith, omega arith)
 
-pub window_up : (starts : List ℕ) (leaf first size : ℕ) → 1 < size → IsWindow starts leaf first size
-    → slice_index_or starts (first + size / 2) 0 ≤ leaf → IsWindow starts leaf (first + size / 2) (size - size / 2)
+pub window_up : (starts : List ℕ) (leaf first size : ℕ) → 1 < size → IsAmong starts leaf first size
+    → slice_index_or starts (first + size / 2) 0 ≤ leaf → IsAmong starts leaf (first + size / 2) (size - size / 2)
 window_up starts leaf first size lt w by =
     let h = halves size lt in
     let e : first + size / 2 + (size - size / 2) ≡ first + size = omega (arith, h.1) in
@@ -30,8 +23,8 @@ window_up starts leaf first size lt w by =
       behind = λ less. let b = w.behind (omega (arith, e)) in let same = ap (λ k. slice_index_or starts k 0) e in omega arith;
     }
 
-pub window_down : (starts : List ℕ) (leaf first size : ℕ) → 1 < size → IsWindow starts leaf first size
-    → leaf < slice_index_or starts (first + size / 2) 0 → AllPairs (λ a b. a < b) starts → IsWindow starts leaf first (size - size / 2)
+pub window_down : (starts : List ℕ) (leaf first size : ℕ) → 1 < size → IsAmong starts leaf first size
+    → leaf < slice_index_or starts (first + size / 2) 0 → AllPairs (λ a b. a < b) starts → IsAmong starts leaf first (size - size / 2)
 window_down starts leaf first size lt w behind rises =
     let h = halves size lt in
     let within = w.within in
@@ -46,17 +39,17 @@ window_down starts leaf first size lt w behind rises =
     }
 
 -- half of a window, by whether its second half begins by the leaf
-pub window_by : (starts : List ℕ) (leaf first size one : ℕ) → 1 < size → IsWindow starts leaf first size
+pub window_by : (starts : List ℕ) (leaf first size one : ℕ) → 1 < size → IsAmong starts leaf first size
     → (slice_index_or starts (first + size / 2) 0 ≤ leaf → one ≡ 1) → (leaf < slice_index_or starts (first + size / 2) 0 → one ≡ 0)
-    → AllPairs (λ a b. a < b) starts → IsWindow starts leaf (first + size / 2 * one) (size - size / 2)
+    → AllPairs (λ a b. a < b) starts → IsAmong starts leaf (first + size / 2 * one) (size - size / 2)
 window_by starts leaf first size one lt w by behind rises =
     elim (cases_lt leaf (slice_index_or starts (first + size / 2) 0)) [
       | inl less ↦
           (let e : first ≡ first + size / 2 * one = (omega arith) ∙ ap (λ k. first + size / 2 * k) (sym (behind less)) in
-          subst (λ k. IsWindow starts leaf k (size - size / 2)) e (window_down starts leaf first size lt w less rises))
+          subst (λ k. IsAmong starts leaf k (size - size / 2)) e (window_down starts leaf first size lt w less rises))
       | inr le ↦
           (let e : first + size / 2 ≡ first + size / 2 * one = (omega arith) ∙ ap (λ k. first + size / 2 * k) (sym (by le)) in
-          subst (λ k. IsWindow starts leaf k (size - size / 2)) e (window_up starts leaf first size lt w le))
+          subst (λ k. IsAmong starts leaf k (size - size / 2)) e (window_up starts leaf first size lt w le))
     ]
 
 -- ---- the starts of a table

@@ -15,3 +15,10 @@ pub record IsLastStart (starts : List ℕ) (leaf k : ℕ) : Type 0 where
   pub within : k < length starts
   pub by : slice_index_or starts k 0 ≤ leaf
   pub next : k + 1 < length starts → leaf < slice_index_or starts (k + 1) 0
+
+-- that start is one of `size` starts from `first` on
+pub record IsAmong (starts : List ℕ) (leaf first size : ℕ) : Type 0 where
+  pub some : 0 < size
+  pub within : first + size ≤ length starts
+  pub by : slice_index_or starts first 0 ≤ leaf
+  pub behind : first + size < length starts → leaf < slice_index_or starts (first + size) 0

@@ -1,36 +1,69 @@
 //! Places of ranges in a table.
-ghost use Rattle.std.specs.Prelude.{◌≡◌, ℕ, ◌%◌, ◌<◌, ◌≤◌, length, slice_index_or, AllPairs};
-ghost use Rattle.s2ix_table_chain.specs.Starts.{IsLastStart};
+ghost use Rattle.std.specs.Prelude.{◌≡◌, ℕ, ◌-◌, ◌%◌, ◌<◌, ◌≤◌, drop, length, slice_index_or, AllPairs};
+ghost use Rattle.s2ix_table_queries.specs.Stretches.{IsSample};
+ghost use Rattle.s2ix_table_chain.specs.Starts.{IsAmong, IsLastStart};
+
+use s2ix_table_walk::{SAMPLE_STEP, Window};
 
 // Of more starts than this, most that a search reads are out of the processor's near cache.
 const FAR: usize = 4096;
 
 // The last of rising starts that is not behind a leaf. O(log n). Of few starts, none of its branches depends on one; of more, each does, so
-// that the processor asks for the next start before it knows this one.
-#[inline(always)]
-pub(crate) fn last_start(starts: &[u64], leaf: u64) -> usize
+// that the processor asks for the next start before it knows this one. It is not inlined, so that a caller's iterator is.
+#[inline(never)]
+pub(crate) fn last_start(starts: &[u64], sample: &[u64], leaf: u64) -> usize
     requires some { 0 < length starts.now }
     requires rises { AllPairs (λ a b. a < b) starts.now }
     requires odd { (k : ℕ) → k < length starts.now → slice_index_or starts.now k 0 % 2 ≡ 1 }
     requires first { slice_index_or starts.now 0 0 ≤ leaf }
+    requires sample { IsSample (length starts.now - 2) (drop 1 starts.now) sample.now }
     ensures { IsLastStart starts.now leaf result }
 {
     if starts.len() > FAR {
-        far_last(starts, leaf)
+        let among = sampled(starts, sample, leaf);
+        far_last(starts, leaf, among)
     } else {
         near_last(starts, leaf)
     }
 }
 
-// The last of many rising starts that is not behind a leaf.
-fn far_last(starts: &[u64], leaf: u64) -> usize
+// Of very many starts a few, and fewer starts as they are.
+#[inline(always)]
+fn sampled(starts: &[u64], sample: &[u64], leaf: u64) -> Window
     requires some { 0 < length starts.now }
     requires rises { AllPairs (λ a b. a < b) starts.now }
     requires first { slice_index_or starts.now 0 0 ≤ leaf }
+    requires sample { IsSample (length starts.now - 2) (drop 1 starts.now) sample.now }
+    ensures { IsAmong starts.now leaf result.first result.size }
+{
+    if sample.len() == 0 || leaf < sample[0] {
+        let size = starts.len();
+        return Window { first: 0, size };
+    }
+    let all = Window {
+        first: 0,
+        size: sample.len(),
+    };
+    let group = far_last(sample, leaf, all);
+    let first = SAMPLE_STEP * (group + 1);
+    if group + 1 < sample.len() {
+        let size = SAMPLE_STEP;
+        Window { first, size }
+    } else {
+        let size = starts.len() - first;
+        Window { first, size }
+    }
+}
+
+// The last of rising starts that is not behind a leaf, if it is among some of them.
+#[inline(always)]
+fn far_last(starts: &[u64], leaf: u64, among: Window) -> usize
+    requires rises { AllPairs (λ a b. a < b) starts.now }
+    requires among { IsAmong starts.now leaf among.first among.size }
     ensures { IsLastStart starts.now leaf result }
 {
-    let mut first = 0;
-    let mut size = starts.len();
+    let mut first = among.first;
+    let mut size = among.size;
     while size > 1 {
         let half = size / 2;
         if starts[first + half] <= leaf {

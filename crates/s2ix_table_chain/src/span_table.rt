@@ -82,6 +82,7 @@ impl SpanTable {
             outer: self.outer.as_slice(),
             starts: self.starts.as_slice(),
             firsts: self.firsts.as_slice(),
+            sample: self.sample.as_slice(),
             from: self.from,
             to: self.to,
         };
@@ -221,6 +222,6 @@ impl SpanTable {
         requires ends { raw_of leaf < self.now.to }
         ensures { IsFound self.now.ranges result (raw_of leaf) }
     {
-        last_start(self.starts.as_slice(), leaf.raw())
+        last_start(self.starts.as_slice(), self.sample.as_slice(), leaf.raw())
     }
 }

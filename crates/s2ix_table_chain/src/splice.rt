@@ -1,10 +1,11 @@
 //! A table after a change, of the one before it: only the leaves of one cell are swept.
-ghost use Rattle.std.specs.Prelude.{◌≡◌, ◌⊎◌, ◌+◌, ◌<◌, ◌≤◌, ◌++◌, IfOk, IfSome, OnOk, Contains, length, take, drop, map};
+ghost use Rattle.std.specs.Prelude.{◌≡◌, ◌⊎◌, ◌+◌, ◌-◌, ◌<◌, ◌≤◌, ◌++◌, IfOk, IfSome, OnOk, Contains, length, take, drop, map};
 ghost use Rattle.s2ix_bag_pairs.specs.Collection.{IsCollection};
 ghost use Rattle.s2ix_table_chain.specs.Blocks.{HoldsCell, IsBeside, IsBlockAt, IsCut, IsExchange, around, moved, placed, joined_places};
 ghost use Rattle.s2ix_table_chain.specs.Chains.{chain_of};
 ghost use Rattle.s2ix_table_chain.specs.Nodes.{AreNodes};
 ghost use Rattle.s2ix_table_chain.specs.SpanTable.{IsInSpan};
+ghost use Rattle.s2ix_table_queries.specs.Stretches.{IsSample};
 
 use crate::block::{Block, Common, block_of, in_common};
 use crate::nodes::Nodes;
@@ -20,6 +21,7 @@ pub(crate) struct Before<'a> {
     pub(crate) outer: &'a [u32],
     pub(crate) starts: &'a [u64],
     pub(crate) firsts: &'a [u32],
+    pub(crate) sample: &'a [u64],
     pub(crate) from: u64,
     pub(crate) to: u64,
 }
@@ -36,6 +38,7 @@ impl Before<'_> {
     // lists hold and which has all changes.
     pub(crate) fn changed_block(self, next: &[FlatHeld]) -> Option<Block>
         requires nodes { AreNodes self.held.now self.from self.to self.outer.now self.starts.now self.firsts.now }
+        requires sample { IsSample (length self.starts.now - 2) (drop 1 self.starts.now) self.sample.now }
         requires rises { IsCollection next.now }
         requires span { IsInSpan next.now self.from self.to }
         ensures block { IfSome result (λ block. IsExchange self.entry.held.now next.now block.cell block.start block.old block.new) }
@@ -43,7 +46,7 @@ impl Before<'_> {
     {
         let common = in_common(self.held, next);
         let changed = first_change(self.held, next, common)?;
-        let range = last_start(self.starts, changed.cell().span_start());
+        let range = last_start(self.starts, self.sample, changed.cell().span_start());
         let mut place = self.firsts[range] as usize;
         while place < self.held.len() {
             if let Some(own) = place_in_next(self.held, next, common, place) {
@@ -65,6 +68,7 @@ impl Before<'_> {
         block: Block,
     ) -> Result<Nodes, OutOfMemory>
         requires nodes { AreNodes self.held.now self.from self.to self.outer.now self.starts.now self.firsts.now }
+        requires sample { IsSample (length self.starts.now - 2) (drop 1 self.starts.now) self.sample.now }
         requires rises { IsCollection next.now }
         requires few { length next.now ≤ 1000000 }
         requires span { IsInSpan next.now self.from self.to }
@@ -99,13 +103,14 @@ impl Before<'_> {
     // The ranges over a cell that is held.
     fn cut(self, cell: CellId) -> Cut
         requires nodes { AreNodes self.held.now self.from self.to self.outer.now self.starts.now self.firsts.now }
+        requires sample { IsSample (length self.starts.now - 2) (drop 1 self.starts.now) self.sample.now }
         requires holds { HoldsCell self.held.now cell }
         ensures { IsCut self.entry.starts.now cell self.entry.to result.first result.last }
     {
-        let first = last_start(self.starts, cell.span_start());
+        let first = last_start(self.starts, self.sample, cell.span_start());
         let end = cell.span_end();
         let last = if end < self.to {
-            last_start(self.starts, end)
+            last_start(self.starts, self.sample, end)
         } else {
             self.starts.len()
         };

@@ -1,5 +1,6 @@
 use Rattle.std.proofs.Common.{◌-◌, ◌/◌, sym, subst}
-use Rattle.s2ix_table_chain.proofs.Windows.{IsWindow, window_up, window_down}
+use Rattle.s2ix_table_chain.specs.Starts.{IsAmong}
+use Rattle.s2ix_table_chain.proofs.Windows.{window_up, window_down}
 use Rattle.s2ix_table_chain.proofs.places.far_last.Goals.{then-starts-first, else-starts-first}
 use Rattle.s2ix_table_chain.proofs.places.far_last.Goals as goal
 
@@ -11,7 +12,7 @@ loop-size-preserved c =
     let test = c.loop-size-test.true in
     elim c.if-starts-first.branch [
       | then-starts-first v ↦
-          subst (λ k. IsWindow starts c.args.leaf k (size - size / 2)) (sym v.first-is) (window_up starts c.args.leaf c.loop-size.first size test w v.if-starts-first.true)
+          subst (λ k. IsAmong starts c.args.leaf k (size - size / 2)) (sym v.first-is) (window_up starts c.args.leaf c.loop-size.first size test w v.if-starts-first.true)
       | else-starts-first v ↦
-          subst (λ k. IsWindow starts c.args.leaf k (size - size / 2)) (sym v.first-is) (window_down starts c.args.leaf c.loop-size.first size test w v.if-starts-first.false c.requires.rises)
+          subst (λ k. IsAmong starts c.args.leaf k (size - size / 2)) (sym v.first-is) (window_down starts c.args.leaf c.loop-size.first size test w v.if-starts-first.false c.requires.rises)
     ]

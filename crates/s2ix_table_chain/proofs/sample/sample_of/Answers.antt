@@ -1,4 +1,4 @@
-use Rattle.std.proofs.Common.{◌+◌, ◌-◌, [], ◌∷◌, length, drop, slice_index_or, sym, ap, arith, subst}
+use Rattle.std.proofs.Common.{◌-◌, [], ◌∷◌, length, drop, slice_index_or, sym, ap, arith, subst}
 use Rattle.std.proofs.lemmas.List.{length-append}
 use Rattle.s2ix_table_queries.specs.Stretches.{IsSample}
 use Rattle.s2ix_table_chain.proofs.Samples.{none_sampled, one_more}

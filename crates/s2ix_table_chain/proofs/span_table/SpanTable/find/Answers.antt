@@ -1,6 +1,7 @@
-use Rattle.std.proofs.Common.{◌≡◌, ℕ, ◌%◌, ◌<◌, ◌≤◌, List, AllPairs, length, slice_index_or, sym, arith, subst}
+use Rattle.std.proofs.Common.{◌≡◌, ℕ, ◌-◌, ◌%◌, ◌<◌, ◌≤◌, List, AllPairs, drop, length, slice_index_or, sym, arith, subst}
 use Rattle.s2id_core.specs.CellId.{raw_of}
 use Rattle.s2ix_table_ranges.specs.Table.{IsFound}
+use Rattle.s2ix_table_queries.specs.Stretches.{IsSample}
 use Rattle.s2ix_table_chain.specs.SpanTable.{SpanRanges}
 use Rattle.s2ix_table_chain.specs.Starts.{IsLastStart}
 use Rattle.s2ix_table_chain.proofs.Windows.{starts_rise, starts_odd, first_start, found_start}
@@ -32,6 +33,13 @@ last_start-requires-clause-first c =
     let begins = subst (λ (v : SpanRanges). v.from ≤ raw_of c.args.leaf) (sym c.self.view_is) c.requires.begins in
     let raw = c.raw.ensures in
     subst (λ (xs : List ℕ). slice_index_or xs 0 0 ≤ c.raw.result) (sym same) (omega arith)
+
+pub last_start-requires-clause-sample : goal.last_start-requires-clause-sample
+last_start-requires-clause-sample c =
+    let t = c.self.inside in
+    let same : c.as_slice.result.now ≡ t.starts.items = c.as_slice.ensures.value in
+    let own = subst (IsSample (length t.starts.items - 2) (drop 1 t.starts.items)) (sym c.as_slice-2.ensures.value) t.sampled in
+    subst (λ (xs : List ℕ). IsSample (length xs - 2) (drop 1 xs) c.as_slice-2.result.now) (sym same) own
 
 pub returns : goal.returns
 returns c =
