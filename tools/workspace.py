@@ -23,13 +23,15 @@ class NotProved(Exception):
 
 
 def read_crates():
-    """The lines of crates.txt by the crate that each is of, with the libraries that it uses, the lowest first."""
+    """The lines of crates.txt by the crate that each is of: what it is, a static library or nothing that is said, and the libraries that
+    it uses, the lowest first."""
     with open(f"{TOP}/crates.txt", encoding="utf-8") as file:
-        lines = [line.strip() for line in file if ":" in line and not line.startswith("#")]
-    return {line.split(":")[0]: line.split(":")[1].split() for line in lines}
+        lines = [line.strip().split(":") for line in file if ":" in line and not line.startswith("#")]
+    return {head.split()[0]: (head.split()[1:], used.split()) for head, used in lines}
 
 
-CRATES = read_crates()
+KINDS = {crate: kind for crate, (kind, _) in read_crates().items()}
+CRATES = {crate: used for crate, (_, used) in read_crates().items()}
 
 
 def with_below(names):
@@ -58,7 +60,7 @@ def sources(names):
 def add_crates(names, folder):
     """Adds these crates to a folder, with their lines of crates.txt."""
     with open(f"{folder}/crates.txt", "a", encoding="utf-8") as file:
-        file.writelines(f"{crate}: {' '.join(CRATES[crate])}\n" for crate in names)
+        file.writelines(f"{' '.join([crate, *KINDS[crate]])}: {' '.join(CRATES[crate])}\n" for crate in names)
     for path in sources(names):
         shutil.copytree(f"{TOP}/{path}", f"{folder}/{path}")
 

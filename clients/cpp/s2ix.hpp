@@ -1,0 +1,650 @@
+// The S2 cell index that can be edited, for C++17: a header over s2ix.h, which needs libs2ix.
+//
+// Index holds a store of pairs of cells and labels, with counts, and has each call of s2ix.h as a method. S2CellIndex has the names of S2's
+// own class over such a store: a program changes one include and one type, and has edits and undo besides.
+//
+// Cells are S2's 64-bit ids. A call that is refused throws and leaves the store as it was: std::bad_alloc for want of memory, Error for each
+// other reason. An Index stays on the thread that made it, also for its queries: stores share what they hold without a lock.
+//
+// cell:: has calls on single cells, and cell_union:: on unions of cells.
+//
+// Not here yet: S2CellIndex's RangeIterator, NonEmptyRangeIterator and ContentsIterator, and the journal.
+#ifndef S2IX_HPP
+#define S2IX_HPP
+
+#include "s2ix.h"
+
+#include <array>
+#include <cstddef>
+#include <cstdint>
+#include <functional>
+#include <initializer_list>
+#include <iterator>
+#include <limits>
+#include <new>
+#include <stdexcept>
+#include <string>
+#include <string_view>
+#include <type_traits>
+#include <unordered_set>
+#include <utility>
+#include <vector>
+
+namespace s2ix {
+
+// A pair of a cell and a label that a store holds, with its count: row.cell, row.label, row.count.
+using Row = ::s2ix_row;
+
+// What a status says, in words.
+inline std::string status_text(std::uint32_t status) {
+  std::uint8_t bytes[128];
+  std::size_t number = 0;
+  const bool has_room = s2ix_status_text(status, bytes, sizeof bytes, &number) == S2IX_DONE;
+  return std::string(bytes, bytes + (has_room ? number : 0));
+}
+
+// Why a call was refused. It left the store as it was.
+class Error : public std::runtime_error {
+ public:
+  explicit Error(std::uint32_t status, std::size_t line = 0) : std::runtime_error(text(status, line)), status_(status), line_(line) {}
+
+  // The status that s2ix.h has for the reason, as S2IX_NOT_HELD.
+  std::uint32_t status() const noexcept { return status_; }
+
+  // The first line of a dump that has a fault, from 1; 0 if the call read no dump.
+  std::size_t line() const noexcept { return line_; }
+
+ private:
+  static std::string text(std::uint32_t status, std::size_t line) {
+    return "s2ix: " + status_text(status) + (line == 0 ? "" : ": line " + std::to_string(line));
+  }
+
+  std::uint32_t status_;
+  std::size_t line_;
+};
+
+namespace detail {
+
+inline void check(std::uint32_t status, std::size_t line = 0) {
+  if (status == S2IX_OUT_OF_MEMORY) throw std::bad_alloc();
+  if (status != S2IX_DONE) throw Error(status, line);
+}
+
+// What a call puts where it is shown, if it is not refused.
+template <class Answer, class Call>
+Answer answer(Call call) {
+  Answer given{};
+  check(call(&given));
+  return given;
+}
+
+// The number that a call gives.
+template <class Call>
+std::size_t number(Call call) {
+  return answer<std::size_t>(call);
+}
+
+// Puts a list in place of what `items` held: first into the memory that they have, and if that is too short, into as much as it takes.
+template <class Items, class Call>
+void fill(Items& items, Call call) {
+  std::size_t number = 0;
+  items.resize(items.capacity() < 16 ? 16 : items.capacity());
+  std::uint32_t status = call(items.data(), items.size(), &number);
+  if (status == S2IX_NO_ROOM) {
+    items.resize(number);
+    status = call(items.data(), items.size(), &number);
+  }
+  if (status != S2IX_DONE) items.clear();
+  check(status);
+  items.resize(number);
+}
+
+// A new list, as a call puts it.
+template <class Items, class Call>
+Items filled(Call call) {
+  Items items;
+  fill(items, call);
+  return items;
+}
+
+}  // namespace detail
+
+// What a store may hold. The widest limits are those that a plain Limits{} has.
+struct Limits {
+  std::uint32_t pairs = 1000000;                                    // distinct pairs, 1 to 1,000,000
+  std::uint32_t copies = std::numeric_limits<std::uint32_t>::max();  // copies of each, 1 and up
+  std::uint32_t changes = 100000;                                   // changes that can be undone, 1 to 100,000
+};
+
+// Some cells of the caller, in any order and repeated or not: a vector, a list in braces, or a pointer with a number. It copies none of them.
+class Cells {
+ public:
+  Cells(const std::vector<std::uint64_t>& cells) : Cells(cells.data(), cells.size()) {}
+  Cells(std::initializer_list<std::uint64_t> cells) : Cells(cells.begin(), cells.size()) {}
+  Cells(const std::uint64_t* data, std::size_t size) : data_(size == 0 ? &none : data), size_(size) {}
+
+  // Never a null pointer, also of no cells.
+  const std::uint64_t* data() const noexcept { return data_; }
+  std::size_t size() const noexcept { return size_; }
+
+ private:
+  static constexpr std::uint64_t none = 0;
+
+  const std::uint64_t* data_;
+  std::size_t size_;
+};
+
+// Single cells. Each call takes O(1), if nothing else is said. The calls that answer yes or no answer no if a number is no cell's; each other
+// throws with S2IX_NO_CELL, and for the reasons that are named.
+namespace cell {
+
+// A cell as a square of the grid of its level on its face: square.i, square.j, square.face, square.level, square.orientation.
+using Square = ::s2ix_square;
+
+// Whether a number is a cell's.
+inline bool is_valid(std::uint64_t cell) noexcept { return s2ix_cell_is_valid(cell); }
+
+// Whether a cell is of level 30.
+inline bool is_leaf(std::uint64_t cell) noexcept { return s2ix_cell_is_leaf(cell); }
+
+// Whether each leaf of the other cell is one of the cell's.
+inline bool contains(std::uint64_t cell, std::uint64_t other) noexcept { return s2ix_cell_contains(cell, other); }
+
+// Whether two cells share a leaf: then one contains the other.
+inline bool intersects(std::uint64_t cell, std::uint64_t other) noexcept { return s2ix_cell_intersects(cell, other); }
+
+// The cell that a text spells: 1 to 16 hexadecimal digits of either case; those missing on the right are zeros.
+inline std::uint64_t from_token(std::string_view token) {
+  const auto* text = reinterpret_cast<const std::uint8_t*>(token.empty() ? "" : token.data());
+  return detail::answer<std::uint64_t>([&](std::uint64_t* cell) { return s2ix_cell_from_token(text, token.size(), cell); });
+}
+
+// A cell's token, of 1 to 16 digits.
+inline std::string to_token(std::uint64_t cell) {
+  std::uint8_t text[16];
+  const std::size_t length = detail::number([&](std::size_t* to) { return s2ix_cell_to_token(cell, text, to); });
+  return std::string(text, text + length);
+}
+
+// A cell's path for people, as 0/32: the face, a slash, and the child positions from level 1 down.
+inline std::string path(std::uint64_t cell) {
+  std::uint8_t text[32];
+  const std::size_t length = detail::number([&](std::size_t* to) { return s2ix_cell_path(cell, text, to); });
+  return std::string(text, text + length);
+}
+
+// The cell of a level that a cell lies in, itself at its own level. S2IX_NO_CELL, for a finer level too.
+inline std::uint64_t parent(std::uint64_t cell, std::uint8_t level) {
+  return detail::answer<std::uint64_t>([&](std::uint64_t* to) { return s2ix_cell_parent(cell, level, to); });
+}
+
+// The child at a position, 0 to 3 along the curve. S2IX_NO_CELL, for a leaf and for another position too.
+inline std::uint64_t child(std::uint64_t cell, std::uint8_t position) {
+  return detail::answer<std::uint64_t>([&](std::uint64_t* to) { return s2ix_cell_child(cell, position, to); });
+}
+
+// The level, 0 for a whole face to 30 for a leaf.
+inline std::uint8_t level(std::uint64_t cell) {
+  return detail::answer<std::uint8_t>([&](std::uint8_t* to) { return s2ix_cell_level(cell, to); });
+}
+
+// The face, 0 to 5.
+inline std::uint8_t face(std::uint64_t cell) {
+  return detail::answer<std::uint8_t>([&](std::uint8_t* to) { return s2ix_cell_face(cell, to); });
+}
+
+// The cell's first leaf along the curve, and its last.
+inline std::uint64_t range_min(std::uint64_t cell) {
+  return detail::answer<std::uint64_t>([&](std::uint64_t* to) { return s2ix_cell_range_min(cell, to); });
+}
+inline std::uint64_t range_max(std::uint64_t cell) {
+  return detail::answer<std::uint64_t>([&](std::uint64_t* to) { return s2ix_cell_range_max(cell, to); });
+}
+
+// The level of the smallest cell that contains both. S2IX_NO_CELL, for cells of two faces too.
+inline std::uint8_t common_level(std::uint64_t cell, std::uint64_t other) {
+  return detail::answer<std::uint8_t>([&](std::uint8_t* to) { return s2ix_cell_common_level(cell, other, to); });
+}
+
+// The next cell of its level along the curve; the first of face 0 comes after the last of face 5.
+inline std::uint64_t next(std::uint64_t cell) {
+  return detail::answer<std::uint64_t>([&](std::uint64_t* to) { return s2ix_cell_next(cell, to); });
+}
+
+// The four cells of its level that share an edge with a cell: down, right, up, left.
+inline std::array<std::uint64_t, 4> edge_neighbors(std::uint64_t cell) {
+  return detail::answer<std::array<std::uint64_t, 4>>([&](auto* to) { return s2ix_cell_edge_neighbors(cell, to->data()); });
+}
+
+// The cells of a level outside a cell that share an edge with a cell of that level inside it: each once, rising, at most 1024.
+// O(n log n) for n cells. S2IX_COARSER, S2IX_TOO_FINE.
+inline std::vector<std::uint64_t> border(std::uint64_t cell, std::uint8_t level) {
+  return detail::filled<std::vector<std::uint64_t>>(
+      [&](std::uint64_t* to, std::size_t room, std::size_t* number) { return s2ix_cell_border(cell, level, to, room, number); });
+}
+
+// The square of a cell.
+inline Square to_face_ij(std::uint64_t cell) {
+  return detail::answer<Square>([&](Square* to) { return s2ix_cell_to_face_ij(cell, to); });
+}
+
+// The cell of a square. S2IX_NO_CELL, for a face above 5, a level above 30, or a column or row of 2^level or more.
+inline std::uint64_t from_face_ij(std::uint8_t face, std::uint32_t i, std::uint32_t j, std::uint8_t level) {
+  return detail::answer<std::uint64_t>([&](std::uint64_t* to) { return s2ix_cell_from_face_ij(face, i, j, level, to); });
+}
+
+}  // namespace cell
+
+// Unions of cells: sets of leaves. A list that a call returns is normal: it rises, no cell lies within another, and no four are all the
+// children of one. Each call first normalises its lists, in O(n log n) for n cells, and throws with S2IX_NO_CELL if a number is no cell's.
+namespace cell_union {
+
+// The normal list of the same leaves: never longer than the list.
+inline std::vector<std::uint64_t> normalise(Cells cells) {
+  return detail::filled<std::vector<std::uint64_t>>([&](std::uint64_t* to, std::size_t room, std::size_t* number) {
+    return s2ix_union_normalise(cells.data(), cells.size(), to, room, number);
+  });
+}
+
+// The leaves with numbers from `start` up to and without `limit`: at most 184 cells. Bounds are odd; equal ones give no cells. S2IX_NO_SPAN.
+inline std::vector<std::uint64_t> from_leaves(std::uint64_t start, std::uint64_t limit) {
+  return detail::filled<std::vector<std::uint64_t>>(
+      [&](std::uint64_t* to, std::size_t room, std::size_t* number) { return s2ix_union_from_leaves(start, limit, to, room, number); });
+}
+
+// The leaves of either union.
+inline std::vector<std::uint64_t> union_of(Cells first, Cells second) {
+  return detail::filled<std::vector<std::uint64_t>>([&](std::uint64_t* to, std::size_t room, std::size_t* number) {
+    return s2ix_union_union(first.data(), first.size(), second.data(), second.size(), to, room, number);
+  });
+}
+
+// The leaves of both unions.
+inline std::vector<std::uint64_t> intersection(Cells first, Cells second) {
+  return detail::filled<std::vector<std::uint64_t>>([&](std::uint64_t* to, std::size_t room, std::size_t* number) {
+    return s2ix_union_intersection(first.data(), first.size(), second.data(), second.size(), to, room, number);
+  });
+}
+
+// The leaves of the first union without those of the second.
+inline std::vector<std::uint64_t> difference(Cells first, Cells second) {
+  return detail::filled<std::vector<std::uint64_t>>([&](std::uint64_t* to, std::size_t room, std::size_t* number) {
+    return s2ix_union_difference(first.data(), first.size(), second.data(), second.size(), to, room, number);
+  });
+}
+
+// Whether each leaf of a cell is one of the union's.
+inline bool contains(Cells cells, std::uint64_t cell) {
+  return detail::answer<bool>([&](bool* to) { return s2ix_union_contains(cells.data(), cells.size(), cell, to); });
+}
+
+// Whether some leaf of a cell is one of the union's.
+inline bool intersects(Cells cells, std::uint64_t cell) {
+  return detail::answer<bool>([&](bool* to) { return s2ix_union_intersects(cells.data(), cells.size(), cell, to); });
+}
+
+// How many leaves the union has.
+inline std::uint64_t leaf_count(Cells cells) {
+  return detail::answer<std::uint64_t>([&](std::uint64_t* to) { return s2ix_union_leaf_count(cells.data(), cells.size(), to); });
+}
+
+}  // namespace cell_union
+
+// A store of pairs of cells and labels. It can be moved, but not copied; one that was moved from or closed refuses each call with S2IX_CLOSED.
+class Index {
+ public:
+  // An index of no pairs. S2IX_NO_LIMITS.
+  explicit Index(Limits limits = Limits()) { detail::check(s2ix_open(&handle_, limits.pairs, limits.copies, limits.changes)); }
+
+  // The index that starts from a dump's pairs. S2IX_NO_LIMITS; S2IX_NO_DUMP, with the first line that has a fault. O(n) for n bytes.
+  static Index load(std::string_view dump, Limits limits = Limits()) {
+    Index index{Closed()};
+    std::size_t line = 0;
+    const char* bytes = dump.empty() ? "" : dump.data();
+    std::uint32_t status = s2ix_load(&index.handle_, reinterpret_cast<const std::uint8_t*>(bytes), dump.size(), limits.pairs, limits.copies,
+                                     limits.changes, &line);
+    detail::check(status, line);
+    return index;
+  }
+
+  Index(Index&& other) noexcept : handle_(std::exchange(other.handle_, ::s2ix_handle{})) {}
+  Index& operator=(Index&& other) noexcept {
+    if (this != &other) {
+      close();
+      handle_ = std::exchange(other.handle_, ::s2ix_handle{});
+    }
+    return *this;
+  }
+  Index(const Index&) = delete;
+  Index& operator=(const Index&) = delete;
+  ~Index() { close(); }
+
+  // An index that starts from what this one holds, with nothing to undo or redo. The two share memory: both stay on one thread. O(1), and the
+  // table's O(n). S2IX_CLOSED.
+  Index copy() const {
+    Index index{Closed()};
+    detail::check(s2ix_copy(&handle_, &index.handle_));
+    return index;
+  }
+
+  // Closes the index and frees all that its store had; a closed one stays closed. O(n).
+  void close() noexcept { s2ix_close(&handle_); }
+
+  bool is_open() const noexcept { return handle_.is_open; }
+
+  // The handle, for calls of s2ix.h that have no method here.
+  ::s2ix_handle* handle() noexcept { return &handle_; }
+
+  // Edits: each is one change, which can be undone, and returns how many pairs changed their counts. Beside the statuses named, each may
+  // throw with S2IX_CLOSED, S2IX_JOURNAL_FULL, S2IX_NO_CHANGE, S2IX_TOO_MANY_COPIES or S2IX_TOO_MANY_PAIRS. The time grows with the pairs
+  // held on the faces that change.
+
+  // Adds copies to the count of a cell under a label. S2IX_NO_CELL, S2IX_NO_LABEL.
+  std::size_t add(std::uint64_t cell, std::uint32_t label, std::uint32_t copies = 1) {
+    return detail::number([&](std::size_t* to) { return s2ix_add(&handle_, cell, label, copies, to); });
+  }
+
+  // Takes copies from the count of a cell under a label. S2IX_NO_CELL, S2IX_NO_LABEL, S2IX_NOT_HELD.
+  std::size_t remove(std::uint64_t cell, std::uint32_t label, std::uint32_t copies = 1) {
+    return detail::number([&](std::size_t* to) { return s2ix_remove(&handle_, cell, label, copies, to); });
+  }
+
+  // Adds one copy under a label for each cell of the normal form of a union. S2IX_NO_CELL, S2IX_NO_LABEL.
+  std::size_t add_union(Cells cells, std::uint32_t label) {
+    return detail::number([&](std::size_t* to) { return s2ix_add_union(&handle_, cells.data(), cells.size(), label, to); });
+  }
+
+  // Takes away all copies of a label's pairs. S2IX_NO_LABEL, S2IX_NO_SUCH_LABEL.
+  std::size_t drop_label(std::uint32_t label) {
+    return detail::number([&](std::size_t* to) { return s2ix_drop_label(&handle_, label, to); });
+  }
+
+  // Moves all copies of one label to another, cell by cell. S2IX_NO_LABEL, S2IX_NO_SUCH_LABEL.
+  std::size_t relabel(std::uint32_t source, std::uint32_t target) {
+    return detail::number([&](std::size_t* to) { return s2ix_relabel(&handle_, source, target, to); });
+  }
+
+  // Adds one copy under a label for each cell of a level that overlaps no cell of the label and shares an edge with a cell of the level that
+  // overlaps one. S2IX_NO_LABEL, S2IX_NO_SUCH_LABEL, S2IX_TOO_FINE.
+  std::size_t grow(std::uint32_t label, std::uint8_t level) {
+    return detail::number([&](std::size_t* to) { return s2ix_grow(&handle_, label, level, to); });
+  }
+
+  // Replaces a label's pairs by one copy at each cell of the label's region. S2IX_NO_LABEL, S2IX_NO_SUCH_LABEL.
+  std::size_t normalise_label(std::uint32_t label) {
+    return detail::number([&](std::size_t* to) { return s2ix_normalise_label(&handle_, label, to); });
+  }
+
+  // Takes back the change with a number, counted from 1 among those that can be undone, and leaves those that followed it.
+  // S2IX_NO_SUCH_CHANGE, S2IX_BELOW_ZERO.
+  std::size_t revert(std::uint32_t change) {
+    return detail::number([&](std::size_t* to) { return s2ix_revert(&handle_, change, to); });
+  }
+
+  // Takes the last change back, and returns how many pairs it had. S2IX_CLOSED, S2IX_NOTHING_TO_UNDO.
+  std::size_t undo() {
+    return detail::number([&](std::size_t* to) { return s2ix_undo(&handle_, to); });
+  }
+
+  // Does the change that was undone last again, and returns how many pairs it had. S2IX_CLOSED, S2IX_NOTHING_TO_REDO.
+  std::size_t redo() {
+    return detail::number([&](std::size_t* to) { return s2ix_redo(&handle_, to); });
+  }
+
+  // Keeps what is held and drops all changes: nothing is left to undo or redo. S2IX_CLOSED.
+  void forget() { detail::check(s2ix_forget(&handle_)); }
+
+  // Lists. One form of each call puts the list in place of what a vector of the caller held, and uses its memory again; if the call throws,
+  // the vector is empty. The other form returns a new vector.
+
+  // The pairs over a leaf, the innermost cell first, the labels of one cell rising. O(log n + k) for k pairs. S2IX_CLOSED, S2IX_NO_CELL.
+  void at(std::uint64_t leaf, std::vector<Row>& rows) const {
+    detail::fill(rows, [&](Row* to, std::size_t room, std::size_t* number) { return s2ix_at(&handle_, leaf, to, room, number); });
+  }
+  std::vector<Row> at(std::uint64_t leaf) const {
+    std::vector<Row> rows;
+    at(leaf, rows);
+    return rows;
+  }
+
+  // The pairs that share a leaf with a union of cells: each once, by first shared leaf, then falling level, then rising label.
+  // O(k + r + t log n) for k pairs, r ranges and t cells. S2IX_CLOSED, S2IX_NO_CELL.
+  void meet(Cells cells, std::vector<Row>& rows) const {
+    detail::fill(rows, [&](Row* to, std::size_t room, std::size_t* number) {
+      return s2ix_meet(&handle_, cells.data(), cells.size(), to, room, number);
+    });
+  }
+  std::vector<Row> meet(Cells cells) const {
+    std::vector<Row> rows;
+    meet(cells, rows);
+    return rows;
+  }
+
+  // The labels of those pairs: each once, rising. S2IX_CLOSED, S2IX_NO_CELL.
+  void labels(Cells cells, std::vector<std::uint32_t>& labels) const {
+    detail::fill(labels, [&](std::uint32_t* to, std::size_t room, std::size_t* number) {
+      return s2ix_labels(&handle_, cells.data(), cells.size(), to, room, number);
+    });
+  }
+  std::vector<std::uint32_t> labels(Cells cells) const {
+    std::vector<std::uint32_t> found;
+    labels(cells, found);
+    return found;
+  }
+
+  // The region of a label: the normal union of its cells, rising. O(n + m log m) for m pairs of the label. S2IX_CLOSED, S2IX_NO_LABEL.
+  void region(std::uint32_t label, std::vector<std::uint64_t>& cells) const {
+    detail::fill(cells, [&](std::uint64_t* to, std::size_t room, std::size_t* number) { return s2ix_region(&handle_, label, to, room, number); });
+  }
+  std::vector<std::uint64_t> region(std::uint32_t label) const {
+    std::vector<std::uint64_t> cells;
+    region(label, cells);
+    return cells;
+  }
+
+  // How many copies of a cell are held under a label: 0 if the pair is not held. O(log n). S2IX_CLOSED, S2IX_NO_CELL, S2IX_NO_LABEL.
+  std::uint32_t count(std::uint64_t cell, std::uint32_t label) const {
+    return detail::answer<std::uint32_t>([&](std::uint32_t* count) { return s2ix_count(&handle_, cell, label, count); });
+  }
+
+  // How many pairs are held. O(1). S2IX_CLOSED.
+  std::size_t len() const {
+    return detail::number([&](std::size_t* to) { return s2ix_len(&handle_, to); });
+  }
+
+  // The sum of the counts. O(n). S2IX_CLOSED.
+  std::uint64_t copies() const {
+    return detail::answer<std::uint64_t>([&](std::uint64_t* copies) { return s2ix_copies(&handle_, copies); });
+  }
+
+  // How many changes can be undone, and how many redone. O(1). S2IX_CLOSED.
+  std::size_t done_count() const {
+    return detail::number([&](std::size_t* to) { return s2ix_done_count(&handle_, to); });
+  }
+  std::size_t undone_count() const {
+    return detail::number([&](std::size_t* to) { return s2ix_undone_count(&handle_, to); });
+  }
+
+  // How many faces, 0 to 6, the last accepted edit, undo or redo read again. O(1). S2IX_CLOSED.
+  std::size_t faces_rebuilt() const {
+    return detail::number([&](std::size_t* to) { return s2ix_faces_rebuilt(&handle_, to); });
+  }
+
+  // How many ranges of leaves there are over which the same pairs lie: at least 1. O(1). S2IX_CLOSED.
+  std::size_t range_count() const {
+    return detail::number([&](std::size_t* to) { return s2ix_range_count(&handle_, to); });
+  }
+
+  // The dump of what is held (docs/FORMATS.md). O(n). S2IX_CLOSED.
+  std::string dump() const {
+    return detail::filled<std::string>([&](char* bytes, std::size_t room, std::size_t* number) {
+      return s2ix_dump(&handle_, reinterpret_cast<std::uint8_t*>(bytes), room, number);
+    });
+  }
+
+ private:
+  struct Closed {};
+  explicit Index(Closed) noexcept {}
+
+  // (a query changes no store, but s2ix.h takes each handle as one that may change)
+  mutable ::s2ix_handle handle_{};
+};
+
+// S2's own class over an Index: the same names, arguments and meanings. What differs from S2:
+//
+//   S2                                            here
+//   Build() comes once, between adds and queries  does nothing: each Add takes effect at once, also after queries
+//   Clear()                                       drops the changes too: nothing is left to undo
+//   any number of pairs                           limits: at most 1,000,000 distinct pairs; Add throws above them
+//   an invalid cell, a label below 0: undefined   Add and the queries throw Error
+//   Add(cells, label) adds each cell of a union   each of its normal form, as of a union that S2 has normalised
+//   a repeated pair is kept so many times         is kept once with a count; a visit and a CellIterator give it so many times, as S2 does
+//   a visit comes in no stated order              by first shared leaf, then falling level, then rising label
+//   a CellIterator reads the index                has its own copy of the pairs, as they were when it was made
+//   GetIntersectingLabels gives absl's set        a std::unordered_set, or any set that is passed
+//   RangeIterator, NonEmptyRangeIterator,
+//   ContentsIterator                              not here yet: s2ix.h has no calls for ranges
+//
+// Each Add is a change that index() can undo. When as many changes can be undone as the limit allows, Add forgets them, and goes on.
+//
+// An Id is a std::uint64_t, or a class such as S2CellId: explicitly made of one, and with id() that gives it back. A union is any range of
+// Ids. So BasicS2CellIndex<S2CellId> takes what S2's headers have, an S2CellUnion too.
+template <class Id>
+class BasicS2CellIndex {
+ public:
+  using Label = std::int32_t;
+
+  struct LabelledCell {
+    Id cell_id{};
+    Label label = -1;
+
+    LabelledCell() = default;
+    LabelledCell(Id cell, Label its_label) : cell_id(cell), label(its_label) {}
+
+    bool operator==(const LabelledCell& other) const { return cell_id == other.cell_id && label == other.label; }
+    bool operator<(const LabelledCell& other) const { return cell_id != other.cell_id ? cell_id < other.cell_id : label < other.label; }
+  };
+
+  BasicS2CellIndex() = default;
+  explicit BasicS2CellIndex(Limits limits) : limits_(limits), index_(limits) {}
+
+  // The index beneath, for edits, undo and all else that S2 has not.
+  Index& index() noexcept { return index_; }
+  const Index& index() const noexcept { return index_; }
+
+  // How many pairs were added, repeated ones included. O(n).
+  int num_cells() const { return static_cast<int>(index_.copies()); }
+
+  // Adds a pair, or one more copy of it.
+  void Add(Id cell_id, Label label) {
+    change([&] { index_.add(raw(cell_id), static_cast<std::uint32_t>(label)); });
+  }
+
+  // Adds a pair for each cell of a union.
+  template <class Union, class = decltype(std::begin(std::declval<const Union&>()))>
+  void Add(const Union& cell_ids, Label label) {
+    const std::vector<std::uint64_t> cells = raws(cell_ids);
+    if (!cells.empty()) change([&] { index_.add_union(cells, static_cast<std::uint32_t>(label)); });
+  }
+
+  // Does nothing: the index is always built.
+  void Build() {}
+
+  // Drops all pairs and all changes.
+  void Clear() { index_ = Index(limits_); }
+
+  // A function that gets each pair of a visit. It returns false to end the visit.
+  using CellVisitor = std::function<bool(Id cell_id, Label label)>;
+
+  // Visits the pairs that share a leaf with a union, each copy of each, until the visitor returns false; whether it never did.
+  template <class Union>
+  bool VisitIntersectingCells(const Union& target, const CellVisitor& visitor) const {
+    for (const Row& row : index_.meet(raws(target))) {
+      for (std::uint32_t copy = 0; copy < row.count; copy++) {
+        if (!visitor(Id(row.cell), static_cast<Label>(row.label))) return false;
+      }
+    }
+    return true;
+  }
+
+  // The labels of those pairs.
+  template <class Union>
+  std::unordered_set<Label> GetIntersectingLabels(const Union& target) const {
+    std::unordered_set<Label> labels;
+    GetIntersectingLabels(target, &labels);
+    return labels;
+  }
+
+  // Puts the labels of those pairs in place of what a set held.
+  template <class Union, class Set>
+  void GetIntersectingLabels(const Union& target, Set* labels) const {
+    labels->clear();
+    for (std::uint32_t label : index_.labels(raws(target))) labels->insert(static_cast<Label>(label));
+  }
+
+  // Gives all pairs, each copy of each.
+  class CellIterator {
+   public:
+    explicit CellIterator(const BasicS2CellIndex* index) : rows_(index->index_.meet(Cells(faces, 6))) {}
+
+    Id cell_id() const { return Id(rows_[row_].cell); }
+    Label label() const { return static_cast<Label>(rows_[row_].label); }
+    LabelledCell labelled_cell() const { return LabelledCell(cell_id(), label()); }
+
+    // Whether all pairs have been given. If so, call no other method.
+    bool done() const { return row_ == rows_.size(); }
+
+    void Next() {
+      if (++copy_ == rows_[row_].count) {
+        row_++;
+        copy_ = 0;
+      }
+    }
+
+   private:
+    std::vector<Row> rows_;
+    std::size_t row_ = 0;
+    std::uint32_t copy_ = 0;
+  };
+
+ private:
+  // The cells of the six faces, which share a leaf with each cell.
+  static constexpr std::uint64_t faces[6] = {0x1000000000000000, 0x3000000000000000, 0x5000000000000000,
+                                             0x7000000000000000, 0x9000000000000000, 0xb000000000000000};
+
+  static std::uint64_t raw(const Id& id) {
+    if constexpr (std::is_same_v<Id, std::uint64_t>) {
+      return id;
+    } else {
+      return id.id();
+    }
+  }
+
+  template <class Union>
+  static std::vector<std::uint64_t> raws(const Union& ids) {
+    std::vector<std::uint64_t> cells;
+    for (const Id& id : ids) cells.push_back(raw(id));
+    return cells;
+  }
+
+  // Makes a change, if need be after the earlier ones are forgotten.
+  template <class Change>
+  void change(Change make) {
+    try {
+      make();
+    } catch (const Error& error) {
+      if (error.status() != S2IX_JOURNAL_FULL) throw;
+      index_.forget();
+      make();
+    }
+  }
+
+  Limits limits_;
+  Index index_;
+};
+
+using S2CellIndex = BasicS2CellIndex<std::uint64_t>;
+
+}  // namespace s2ix
+
+#endif

@@ -1,0 +1,125 @@
+"""Questions about cells, without an index. A cell is a number or a token; each function raises NoCell for what is none.
+
+>>> [hex(cell) for cell in edge_neighbors("1")]
+['0xb000000000000000', '0x3000000000000000', '0x5000000000000000', '0x9000000000000000']
+"""
+from __future__ import annotations
+
+import ctypes
+from typing import Any, NamedTuple
+
+from . import library
+from .given import MOST_U8, MOST_U32, check, check_natural, number_of
+from .refusals import NoCell, TooFine, expect
+from .tokens import Cell
+from .unions import listed
+
+
+class Square(NamedTuple):
+    """A cell as a square of the grid of its level on its face: its column, its row, its face (0 to 5), its level (0 to 30), and how what lies
+    in it is turned (bit 0: i and j are swapped, bit 1: both are inverted)."""
+
+    i: int
+    j: int
+    face: int
+    level: int
+    orientation: int
+
+
+def path(cell: Cell) -> str:
+    """The path for people, as 0/32: the face, a slash, and the child positions from level 1 down."""
+    text, many = (ctypes.c_uint8 * 32)(), ctypes.c_size_t()
+    expect(library.load().s2ix_cell_path(number_of(cell), ctypes.addressof(text), ctypes.addressof(many)))
+    return str(bytes(text)[: many.value], "ascii")
+
+
+def parent(cell: Cell, level: int) -> int:
+    """The cell of a level that a cell lies in, itself at its own level. Raises NoCell for a finer level too."""
+    check(level, MOST_U8, NoCell)
+    return _told(ctypes.c_uint64, "s2ix_cell_parent", number_of(cell), level)
+
+
+def child(cell: Cell, position: int) -> int:
+    """The child at a position, 0 to 3 along the curve. Raises NoCell for a leaf and for another position too."""
+    check(position, MOST_U8, NoCell)
+    return _told(ctypes.c_uint64, "s2ix_cell_child", number_of(cell), position)
+
+
+def level(cell: Cell) -> int:
+    """The level, 0 for a whole face to 30 for a leaf."""
+    return _told(ctypes.c_uint8, "s2ix_cell_level", number_of(cell))
+
+
+def face(cell: Cell) -> int:
+    """The face, 0 to 5."""
+    return _told(ctypes.c_uint8, "s2ix_cell_face", number_of(cell))
+
+
+def is_leaf(cell: Cell) -> bool:
+    """Whether a cell is of level 30. It is False of a number that is no cell's."""
+    return library.load().s2ix_cell_is_leaf(number_of(cell))
+
+
+def range_min(cell: Cell) -> int:
+    """The cell's first leaf along the curve."""
+    return _told(ctypes.c_uint64, "s2ix_cell_range_min", number_of(cell))
+
+
+def range_max(cell: Cell) -> int:
+    """The cell's last leaf along the curve."""
+    return _told(ctypes.c_uint64, "s2ix_cell_range_max", number_of(cell))
+
+
+def contains(cell: Cell, other: Cell) -> bool:
+    """Whether each leaf of the other cell is one of the cell's. It is False if a number is no cell's."""
+    return library.load().s2ix_cell_contains(number_of(cell), number_of(other))
+
+
+def intersects(cell: Cell, other: Cell) -> bool:
+    """Whether two cells share a leaf: then one contains the other. It is False if a number is no cell's."""
+    return library.load().s2ix_cell_intersects(number_of(cell), number_of(other))
+
+
+def common_level(cell: Cell, other: Cell) -> int:
+    """The level of the smallest cell that contains both. Raises NoCell for cells of two faces too."""
+    return _told(ctypes.c_uint8, "s2ix_cell_common_level", number_of(cell), number_of(other))
+
+
+def next_cell(cell: Cell) -> int:
+    """The next cell of its level along the curve; the first of face 0 comes after the last of face 5."""
+    return _told(ctypes.c_uint64, "s2ix_cell_next", number_of(cell))
+
+
+def edge_neighbors(cell: Cell) -> list[int]:
+    """The four cells of its level that share an edge with a cell: down, right, up, left."""
+    cells = (ctypes.c_uint64 * 4)()
+    expect(library.load().s2ix_cell_edge_neighbors(number_of(cell), ctypes.addressof(cells)))
+    return list(cells)
+
+
+def border(cell: Cell, level: int) -> list[int]:
+    """The cells of a level outside a cell that share an edge with a cell of that level inside it: each once, rising, at most 1024.
+    O(n log n) for n cells. Raises NoCell, Coarser, TooFine or OutOfMemory."""
+    check_natural(level, MOST_U8, TooFine, "level")
+    return listed(library.load().s2ix_cell_border, number_of(cell), level)
+
+
+def to_face_ij(cell: Cell) -> Square:
+    """The square of a cell."""
+    square = library.Square()
+    expect(library.load().s2ix_cell_to_face_ij(number_of(cell), ctypes.addressof(square)))
+    return Square(square.i, square.j, square.face, square.level, square.orientation)
+
+
+def from_face_ij(face: int, i: int, j: int, level: int) -> int:
+    """The cell of a square. Raises NoCell for a face above 5, a level above 30, or a column or row of 2^level or more."""
+    for number, most in ((face, MOST_U8), (i, MOST_U32), (j, MOST_U32), (level, MOST_U8)):
+        check(number, most, NoCell)
+    return _told(ctypes.c_uint64, "s2ix_cell_from_face_ij", face, i, j, level)
+
+
+def _told(kind: Any, name: str, *given: int) -> int:
+    """The number that a call tells, of a kind of C."""
+    told = kind()
+    expect(getattr(library.load(), name)(*given, ctypes.addressof(told)))
+    return told.value

@@ -1,0 +1,82 @@
+"""What callers give: cells in each form, and numbers that may be too great for the library."""
+from __future__ import annotations
+
+import ctypes
+import operator
+from array import array
+from typing import Any, Iterable, Optional, Union
+
+from .refusals import NoCell, S2ixError
+from .tokens import Cell, cell_of
+
+#: One cell, or many: of any order, and repeated or not. A memoryview or array of 64-bit numbers is passed on as it lies.
+Cells = Union[Cell, Iterable[Cell], memoryview, "array[int]"]
+
+MOST_U8, MOST_U32 = 255, 4_294_967_295
+_WORD = 8
+# Where no cells lie.
+_NONE = ctypes.c_uint64()
+
+
+def cells_in(cells: Cells) -> tuple[int, int, object]:
+    """Where cells lie, how many there are, and what keeps them there."""
+    words: Any = cells
+    if isinstance(cells, array):
+        if cells.typecode not in "QL" or cells.itemsize != _WORD:
+            raise TypeError(f"cells are 64-bit numbers without sign, not an array of {cells.typecode!r}")
+    elif isinstance(cells, (int, str)):
+        words = array("Q", (number_of(cells),))
+    else:
+        view = _view_of(cells)
+        if view is None:
+            words = _array_of(cells)
+        elif view.readonly or not view.c_contiguous or not len(view):
+            words = array("Q", view.tobytes())
+        else:
+            first = ctypes.c_char.from_buffer(view)
+            return ctypes.addressof(first), len(view), first
+    start, many = words.buffer_info()
+    return (start, many, words) if many else (ctypes.addressof(_NONE), 0, words)
+
+
+def _view_of(cells: Any) -> Optional[memoryview]:
+    """The memory of cells, if they are given as such."""
+    try:
+        view = memoryview(cells)
+    except TypeError:
+        return None
+    if view.itemsize != _WORD or view.format.lstrip("@=<") not in ("Q", "L") or view.ndim != 1:
+        raise TypeError(f"cells are 64-bit numbers without sign in one row, not memory of {view.format!r}")
+    return view
+
+
+def _array_of(cells: Iterable[Cell]) -> array[int]:
+    kept = list(cells)
+    try:
+        return array("Q", kept)
+    except (TypeError, OverflowError):
+        return array("Q", map(number_of, kept))
+
+
+def number_of(cell: Cell) -> int:
+    """The number of a cell, which the library checks further."""
+    if isinstance(cell, str):
+        return cell_of(cell)
+    number = operator.index(cell)
+    if number >> 64:
+        raise NoCell(f"{number} is no 64-bit number")
+    return number
+
+
+def check(number: int, most: int, refusal: type[S2ixError]) -> None:
+    """Refuses what would come to the library as another number."""
+    if not 0 <= number <= most:
+        raise refusal
+
+
+def check_natural(number: int, most: int, refusal: type[S2ixError], name: str) -> None:
+    """The same, where a number below 0 has no refusal."""
+    if number < 0:
+        raise ValueError(f"{name} below 0: {number}")
+    if number > most:
+        raise refusal

@@ -1,0 +1,294 @@
+"""The index: a store of the library, with methods for its calls."""
+from __future__ import annotations
+
+import ctypes
+import functools
+import struct
+import weakref
+from array import array
+from ctypes import addressof
+from typing import Any, Callable, NamedTuple, Union
+
+from . import library
+from .given import MOST_U8, MOST_U32, Cells, cells_in, check, check_natural, number_of
+from .refusals import NoCell, NoDump, NoLabel, NoLimits, NoRoom, NoSuchChange, NotHeld, TooFine, TooManyCopies, expect
+from .tokens import Cell
+
+# How many bytes a packed row has, a cell and a label.
+_PACKED, _WORD, _HALF = 16, 8, 4
+
+
+class Row(NamedTuple):
+    """A pair of a cell and a label that is held, with its count."""
+
+    cell: int
+    label: int
+    count: int
+
+
+_row_in, _rows_in = struct.Struct("=QII").unpack_from, struct.Struct("=QII").iter_unpack
+_row_of = functools.partial(tuple.__new__, Row)
+
+
+class Index:
+    """A collection of S2 cells under labels that can be edited, undone and asked. Each pair of a cell and a label has a count.
+
+    Cells are S2's 64-bit ids, or tokens; labels are 0 to 2147483647. Each edit is one change, which can be undone or reverted. A refused
+    call raises a class of S2ixError and changes nothing. Cells spelled wrong, and numbers out of range, are refused first.
+
+    Close an index by `close`, or use it in a `with`. Use it from the thread that made it.
+
+    >>> with Index() as index:
+    ...     index.add_union(["04", "0c"], 9)
+    ...     index.add("04", 3)
+    ...     index.labels("04")
+    2
+    1
+    [3, 9]
+    """
+
+    __slots__ = (
+        "_calls", "_handle", "_count", "_leaf", "_words", "_close", "_at_handle", "_at_count", "_at_words", "_bytes", "_view", "_ask_at", "_asked_at",
+        "__weakref__",
+    )
+
+    def __init__(self, pairs: int = 1_000_000, copies: int = MOST_U32, changes: int = 100_000) -> None:
+        """Opens an empty index of at most `pairs` pairs (1 to 1,000,000), `copies` copies of each (1 to 4294967295), and `changes` changes that can
+        be undone (1 to 100,000). Raises NoLimits or OutOfMemory, and OSError if the library isn't found."""
+        self._prepare()
+        for limit in (pairs, copies, changes):
+            check(limit, MOST_U32, NoLimits)
+        expect(self._calls.s2ix_open(self._at_handle, pairs, copies, changes))
+
+    def _prepare(self) -> None:
+        """Makes a closed handle, and what its calls want beside it."""
+        self._calls: Any = library.load()
+        self._handle, self._count, self._leaf = library.Handle(), ctypes.c_size_t(), ctypes.c_uint64()
+        # A second s2ix_at, which takes objects of ctypes as they are: to look at their types takes a third of a call's time.
+        self._ask_at = self._calls["s2ix_at"]
+        self._at_handle, self._at_count = addressof(self._handle), addressof(self._count)
+        self._close = weakref.finalize(self, self._calls.s2ix_close, ctypes.byref(self._handle))
+        self._take_buffer(4096)
+
+    @classmethod
+    def load(cls, text: Union[str, bytes], pairs: int = 1_000_000, copies: int = MOST_U32, changes: int = 100_000) -> Index:
+        """Opens an index of what a dump holds, under limits as those of a new index. O(n) for n bytes. Raises NoDump, whose `line` is the first
+        with a fault, NoLimits or OutOfMemory."""
+        index = cls(pairs, copies, changes)
+        given = text.encode("utf-8", "surrogatepass") if isinstance(text, str) else bytes(text)
+        status = index._calls.s2ix_load(index._at_handle, given, len(given), pairs, copies, changes, index._at_count)
+        if status == NoDump.status:
+            raise NoDump(index._count.value)
+        expect(status)
+        return index
+
+    def __enter__(self) -> Index:
+        return self
+
+    def __exit__(self, *_: object) -> None:
+        self.close()
+
+    def copy(self) -> Index:
+        """An index of its own that starts from what is held, under the same limits, with nothing to undo or redo. Both share memory, so use both
+        from one thread. Raises Closed or OutOfMemory."""
+        other = type(self).__new__(type(self))
+        other._prepare()
+        expect(self._calls.s2ix_copy(self._at_handle, other._at_handle))
+        return other
+
+    __copy__ = copy
+
+    def __reduce__(self) -> Any:
+        raise TypeError("an Index can't be pickled: its dump can")
+
+    def __repr__(self) -> str:
+        return f"<s2ix.Index, {'open' if self._handle.is_open else 'closed'}>"
+
+    def close(self) -> None:
+        """Frees all that is held. Each later call raises Closed, but a second `close` does nothing."""
+        self._close()
+
+    # Edits. Each may raise Closed, JournalFull, NoChange, TooManyCopies, TooManyPairs and OutOfMemory beside what it names.
+
+    def add(self, cell: Cell, label: int, copies: int = 1) -> int:
+        """Adds copies to the count of a cell under a label; returns how many pairs changed. Raises NoCell, NoLabel, and what each edit may."""
+        number = number_of(cell)
+        check(label, MOST_U32, NoLabel)
+        check_natural(copies, MOST_U32, TooManyCopies, "copies")
+        return self._number_of(self._calls.s2ix_add, number, label, copies)
+
+    def remove(self, cell: Cell, label: int, copies: int = 1) -> int:
+        """Takes copies from the count of a cell under a label; returns how many pairs changed. Raises NoCell, NoLabel, NotHeld, and what each
+        edit may."""
+        number = number_of(cell)
+        check(label, MOST_U32, NoLabel)
+        check_natural(copies, MOST_U32, NotHeld, "copies")
+        return self._number_of(self._calls.s2ix_remove, number, label, copies)
+
+    def add_union(self, cells: Cells, label: int) -> int:
+        """Adds one copy under a label for each cell of the normal form of a union; returns how many pairs changed. Raises NoCell, NoLabel, and
+        what each edit may."""
+        check(label, MOST_U32, NoLabel)
+        start, many, _kept = cells_in(cells)
+        return self._number_of(self._calls.s2ix_add_union, start, many, label)
+
+    def drop_label(self, label: int) -> int:
+        """Takes away all copies of a label's pairs; returns how many pairs there were. Raises NoLabel, NoSuchLabel, and what each edit may."""
+        check(label, MOST_U32, NoLabel)
+        return self._number_of(self._calls.s2ix_drop_label, label)
+
+    def relabel(self, source: int, target: int) -> int:
+        """Moves all copies of one label to another, cell by cell; returns how many pairs changed. Raises NoLabel, NoSuchLabel, and what each
+        edit may."""
+        check(source, MOST_U32, NoLabel)
+        check(target, MOST_U32, NoLabel)
+        return self._number_of(self._calls.s2ix_relabel, source, target)
+
+    def grow(self, label: int, level: int) -> int:
+        """Adds one copy under a label for each cell of a level that overlaps no cell of the label and shares an edge with a cell of the level
+        that overlaps one; returns how many pairs changed. Raises NoLabel, NoSuchLabel, TooFine, and what each edit may."""
+        check(label, MOST_U32, NoLabel)
+        check_natural(level, MOST_U8, TooFine, "level")
+        return self._number_of(self._calls.s2ix_grow, label, level)
+
+    def normalise_label(self, label: int) -> int:
+        """Replaces a label's pairs by one copy at each cell of the label's region; returns how many pairs changed. Raises NoLabel, NoSuchLabel,
+        and what each edit may."""
+        check(label, MOST_U32, NoLabel)
+        return self._number_of(self._calls.s2ix_normalise_label, label)
+
+    def revert(self, change: int) -> int:
+        """Takes back the change with a number, counted from 1 among those that can be undone, and leaves those that followed it; returns how many
+        pairs changed. This is a change of its own. Raises NoSuchChange, BelowZero, and what each edit may."""
+        check(change, MOST_U32, NoSuchChange)
+        return self._number_of(self._calls.s2ix_revert, change)
+
+    # Steps.
+
+    def undo(self) -> int:
+        """Takes the last change back; returns how many pairs it had. Raises Closed, NothingToUndo or OutOfMemory."""
+        return self._number_of(self._calls.s2ix_undo)
+
+    def redo(self) -> int:
+        """Does the change that was undone last again; returns how many pairs it has. Raises Closed, NothingToRedo or OutOfMemory."""
+        return self._number_of(self._calls.s2ix_redo)
+
+    def forget(self) -> None:
+        """Keeps what is held and drops all changes: nothing is left to undo or redo. Raises Closed."""
+        expect(self._calls.s2ix_forget(self._at_handle))
+
+    # Queries.
+
+    def at(self, leaf: Cell) -> list[Row]:
+        """The pairs over a leaf, the innermost cell first, the labels of one cell rising. O(log n + k) for k pairs. Raises Closed, NoCell or
+        OutOfMemory."""
+        if leaf.__class__ is not int:
+            leaf = number_of(leaf)
+        elif leaf >> 64:
+            raise NoCell
+        self._leaf.value = leaf
+        if self._ask_at(*self._asked_at):
+            return _rows_of(self._list(self._calls.s2ix_at, _PACKED, leaf))
+        many = self._count.value
+        return [_row_of(_row_in(self._view))] if many == 1 else _rows_of(self._view[: many * _PACKED])
+
+    def meet(self, cells: Cells) -> list[Row]:
+        """The pairs that share a leaf with a union of cells: each once, by first shared leaf, then falling level, then rising label.
+        O(k + r + t log n) for k pairs, r ranges and t cells. Raises Closed, NoCell or OutOfMemory."""
+        return _rows_of(self._of_cells(self._calls.s2ix_meet, _PACKED, cells))
+
+    def meet_view(self, cells: Cells) -> memoryview:
+        """What `meet` returns, packed: each item is a cell of 8 bytes, a label of 4 and a count of 4. numpy.asarray makes a table of it."""
+        rows = self._of_cells(self._calls.s2ix_meet, _PACKED, cells)
+        return memoryview((library.PackedRow * self._count.value).from_buffer_copy(rows))
+
+    def labels(self, cells: Cells) -> list[int]:
+        """The labels of the pairs that share a leaf with a union of cells: each once, rising. Raises as `meet` does."""
+        return self._of_cells(self._calls.s2ix_labels, _HALF, cells).cast("I").tolist()
+
+    def region(self, label: int) -> list[int]:
+        """The region of a label: the normal union of its cells, rising; none if no pair of it is held. O(n + m log m) for m pairs of the label.
+        Raises Closed, NoLabel or OutOfMemory."""
+        return self._region(label).tolist()
+
+    def region_view(self, label: int) -> memoryview:
+        """What `region` returns, as a memoryview of 64-bit numbers; other methods take it for cells."""
+        return memoryview(array("Q", self._region(label).tobytes()))
+
+    def count(self, cell: Cell, label: int) -> int:
+        """How many copies of a cell are held under a label: 0 if the pair is not held. O(log n). Raises Closed, NoCell or NoLabel."""
+        number, copies = number_of(cell), ctypes.c_uint32()
+        check(label, MOST_U32, NoLabel)
+        expect(self._calls.s2ix_count(self._at_handle, number, label, addressof(copies)))
+        return copies.value
+
+    def __contains__(self, pair: tuple[Cell, int]) -> bool:
+        """Whether a copy of a cell is held under a label, as in `("04", 9) in index`. Raises as `count` does."""
+        return self.count(*pair) > 0
+
+    def __len__(self) -> int:
+        """How many pairs are held. O(1). Raises Closed."""
+        return self._number_of(self._calls.s2ix_len)
+
+    def copies(self) -> int:
+        """The sum of the counts. O(n). Raises Closed."""
+        copies = ctypes.c_uint64()
+        expect(self._calls.s2ix_copies(self._at_handle, addressof(copies)))
+        return copies.value
+
+    def done_count(self) -> int:
+        """How many changes can be undone. O(1). Raises Closed."""
+        return self._number_of(self._calls.s2ix_done_count)
+
+    def undone_count(self) -> int:
+        """How many changes can be redone. O(1). Raises Closed."""
+        return self._number_of(self._calls.s2ix_undone_count)
+
+    def faces_rebuilt(self) -> int:
+        """How many faces, 0 to 6, the last accepted edit, undo or redo read again. O(1). Raises Closed."""
+        return self._number_of(self._calls.s2ix_faces_rebuilt)
+
+    def range_count(self) -> int:
+        """How many ranges of leaves there are over which the same pairs lie: at least 1. O(1). Raises Closed."""
+        return self._number_of(self._calls.s2ix_range_count)
+
+    def dump(self) -> str:
+        """The dump of what is held, which `load` and the program read. O(n). Raises Closed or OutOfMemory."""
+        return str(self._list(self._calls.s2ix_dump, 1), "ascii")
+
+    # How calls are made.
+
+    def _region(self, label: int) -> memoryview:
+        check(label, MOST_U32, NoLabel)
+        return self._list(self._calls.s2ix_region, _WORD, label).cast("Q")
+
+    def _of_cells(self, call: Callable[..., int], size: int, cells: Cells) -> memoryview:
+        """The bytes of what a query about cells finds."""
+        start, many, _kept = cells_in(cells)
+        return self._list(call, size, start, many)
+
+    def _list(self, call: Callable[..., int], size: int, *given: int) -> memoryview:
+        """The bytes of a list whose items have so many, in the buffer that is kept; it grows if the call finds that there is too little room."""
+        while True:
+            status = call(self._at_handle, *given, self._at_words, self._bytes // size, self._at_count)
+            if status != NoRoom.status:
+                expect(status)
+                return self._view[: self._count.value * size]
+            self._take_buffer(max(2 * self._bytes, self._count.value * size))
+
+    def _take_buffer(self, many: int) -> None:
+        """Takes a buffer for lists of so many bytes, and keeps it."""
+        self._words = (ctypes.c_uint64 * -(-many // _WORD))()
+        self._at_words, self._bytes = addressof(self._words), many
+        self._view = memoryview(self._words).cast("B")
+        room = ctypes.c_size_t(self._bytes // _PACKED)
+        self._asked_at = ctypes.byref(self._handle), self._leaf, ctypes.byref(self._words), room, ctypes.byref(self._count)
+
+    def _number_of(self, call: Callable[..., int], *given: int) -> int:
+        """Makes a call that answers one number."""
+        expect(call(self._at_handle, *given, self._at_count))
+        return self._count.value
+
+
+def _rows_of(packed: memoryview) -> list[Row]:
+    return list(map(_row_of, _rows_in(packed)))

@@ -1,0 +1,124 @@
+"""The library for C, as include/s2ix.h declares it: where it lies, and how its calls are typed."""
+from __future__ import annotations
+
+import ctypes
+import ctypes.util
+import functools
+import os
+from ctypes import c_size_t as size
+from ctypes import c_uint8 as u8
+from ctypes import c_uint32 as u32
+from ctypes import c_uint64 as u64
+from ctypes import c_void_p as address
+
+
+class Handle(ctypes.Structure):
+    """A store, or none: it starts closed."""
+
+    _fields_ = [("address", address), ("is_open", ctypes.c_bool)]
+
+
+class PackedRow(ctypes.Structure):
+    """A pair with its count, as it lies in a buffer."""
+
+    _fields_ = [("cell", u64), ("label", u32), ("count", u32)]
+
+
+class Square(ctypes.Structure):
+    """A cell as a square of the grid of its level on its face."""
+
+    _fields_ = [("i", u32), ("j", u32), ("face", u8), ("level", u8), ("orientation", u8)]
+
+
+#: What each call takes. All answer a status but those of ANSWERS.
+CALLS = {
+    "s2ix_status_text": [u32, address, size, address],
+    "s2ix_open": [address, u32, u32, u32],
+    "s2ix_load": [address, address, size, u32, u32, u32, address],
+    "s2ix_copy": [address, address],
+    "s2ix_close": [address],
+    "s2ix_add": [address, u64, u32, u32, address],
+    "s2ix_remove": [address, u64, u32, u32, address],
+    "s2ix_add_union": [address, address, size, u32, address],
+    "s2ix_drop_label": [address, u32, address],
+    "s2ix_relabel": [address, u32, u32, address],
+    "s2ix_grow": [address, u32, u8, address],
+    "s2ix_normalise_label": [address, u32, address],
+    "s2ix_revert": [address, u32, address],
+    "s2ix_undo": [address, address],
+    "s2ix_redo": [address, address],
+    "s2ix_forget": [address],
+    "s2ix_at": [address, u64, address, size, address],
+    "s2ix_meet": [address, address, size, address, size, address],
+    "s2ix_labels": [address, address, size, address, size, address],
+    "s2ix_region": [address, u32, address, size, address],
+    "s2ix_count": [address, u64, u32, address],
+    "s2ix_len": [address, address],
+    "s2ix_copies": [address, address],
+    "s2ix_done_count": [address, address],
+    "s2ix_undone_count": [address, address],
+    "s2ix_faces_rebuilt": [address, address],
+    "s2ix_range_count": [address, address],
+    "s2ix_dump": [address, address, size, address],
+    "s2ix_cell_is_valid": [u64],
+    "s2ix_cell_from_token": [address, size, address],
+    "s2ix_cell_to_token": [u64, address, address],
+    "s2ix_cell_path": [u64, address, address],
+    "s2ix_cell_parent": [u64, u8, address],
+    "s2ix_cell_child": [u64, u8, address],
+    "s2ix_cell_level": [u64, address],
+    "s2ix_cell_face": [u64, address],
+    "s2ix_cell_is_leaf": [u64],
+    "s2ix_cell_range_min": [u64, address],
+    "s2ix_cell_range_max": [u64, address],
+    "s2ix_cell_contains": [u64, u64],
+    "s2ix_cell_intersects": [u64, u64],
+    "s2ix_cell_common_level": [u64, u64, address],
+    "s2ix_cell_next": [u64, address],
+    "s2ix_cell_edge_neighbors": [u64, address],
+    "s2ix_cell_border": [u64, u8, address, size, address],
+    "s2ix_cell_to_face_ij": [u64, address],
+    "s2ix_cell_from_face_ij": [u8, u32, u32, u8, address],
+    "s2ix_union_normalise": [address, size, address, size, address],
+    "s2ix_union_from_leaves": [u64, u64, address, size, address],
+    "s2ix_union_union": [address, size, address, size, address, size, address],
+    "s2ix_union_intersection": [address, size, address, size, address, size, address],
+    "s2ix_union_difference": [address, size, address, size, address, size, address],
+    "s2ix_union_contains": [address, size, u64, address],
+    "s2ix_union_intersects": [address, size, u64, address],
+    "s2ix_union_leaf_count": [address, size, address],
+}
+#: What those calls answer that answer no status.
+ANSWERS = {
+    "s2ix_close": None,
+    "s2ix_cell_is_valid": ctypes.c_bool,
+    "s2ix_cell_is_leaf": ctypes.c_bool,
+    "s2ix_cell_contains": ctypes.c_bool,
+    "s2ix_cell_intersects": ctypes.c_bool,
+}
+
+
+def places() -> list[str]:
+    """Where the library may lie: as S2IX_LIBRARY says; else in the package, beside it, or where the system looks."""
+    named = os.environ.get("S2IX_LIBRARY")
+    if named:
+        return [named]
+    package = os.path.dirname(os.path.abspath(__file__))
+    near = [os.path.join(folder, "libs2ix.so") for folder in (package, os.path.dirname(package))]
+    return [path for path in near if os.path.exists(path)] or [path for path in [ctypes.util.find_library("s2ix")] if path]
+
+
+@functools.lru_cache(maxsize=None)
+def load() -> ctypes.PyDLL:
+    """The library, with each call typed.
+
+    Python's lock is kept during a call, so that two threads never call at once with one handle. If the library is nowhere, OSError is raised.
+    """
+    found = places()
+    if not found:
+        raise OSError("there is no libs2ix.so: S2IX_LIBRARY may name it")
+    library = ctypes.PyDLL(found[0])
+    for name, takes in CALLS.items():
+        call = getattr(library, name)
+        call.argtypes, call.restype = takes, ANSWERS.get(name, u32)
+    return library

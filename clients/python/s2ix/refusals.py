@@ -1,0 +1,58 @@
+"""The refusals of the index, one class for each status of include/s2ix.h, with the words of s2ix_status_text. A refused call changes
+nothing."""
+from __future__ import annotations
+
+
+class S2ixError(Exception):
+    """What each refusal of the index is; `status` is its number in C."""
+
+    status = 0
+
+    def __init__(self, *words: object) -> None:
+        super().__init__(*(words or (type(self).__doc__,)))
+
+
+class NoDump(S2ixError):
+    """the text is no dump"""
+
+    status = 9
+
+    def __init__(self, line: int = 0) -> None:
+        super().__init__(f"{self.__doc__}: line {line} is the first with a fault")
+        self.line = line
+
+
+#: The class of each status.
+REFUSALS: dict[int, type[S2ixError]] = {NoDump.status: NoDump}
+
+
+def _refusal(status: int, name: str, text: str) -> type[S2ixError]:
+    REFUSALS[status] = type(name, (S2ixError,), {"__doc__": text, "__module__": __name__, "status": status})
+    return REFUSALS[status]
+
+
+Closed = _refusal(1, "Closed", "the handle is closed")
+OutOfMemory = _refusal(2, "OutOfMemory", "out of memory")
+NoCell = _refusal(3, "NoCell", "a number is no cell's, or no leaf's")
+NoLabel = _refusal(4, "NoLabel", "a number is no label's")
+NoLimits = _refusal(5, "NoLimits", "limits are out of their ranges")
+NothingToUndo = _refusal(6, "NothingToUndo", "nothing to undo")
+NothingToRedo = _refusal(7, "NothingToRedo", "nothing to redo")
+NoRoom = _refusal(8, "NoRoom", "the buffer is too short")
+JournalFull = _refusal(16, "JournalFull", "the journal is full")
+NoSuchLabel = _refusal(17, "NoSuchLabel", "no pair of the label is held")
+NotHeld = _refusal(18, "NotHeld", "fewer copies are held")
+TooFine = _refusal(19, "TooFine", "the level is too fine")
+NoSuchChange = _refusal(20, "NoSuchChange", "no change with the number stands")
+BelowZero = _refusal(21, "BelowZero", "a count would be below 0")
+NoChange = _refusal(22, "NoChange", "nothing would change")
+TooManyCopies = _refusal(23, "TooManyCopies", "a count would pass the limit")
+TooManyPairs = _refusal(24, "TooManyPairs", "the number of pairs would pass the limit")
+Coarser = _refusal(25, "Coarser", "the level is coarser than the cell's")
+NoSpan = _refusal(26, "NoSpan", "the bounds are no span of leaves")
+
+
+def expect(status: int) -> None:
+    """Raises the class of a status, unless that is 0."""
+    if status:
+        raise REFUSALS.get(status, S2ixError)()

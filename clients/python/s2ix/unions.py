@@ -1,0 +1,90 @@
+"""Unions of cells, without an index: sets of leaves, given as cells in any order, repeated or not.
+
+A list that is returned is normal: it rises, no cell lies within another, and no four are all the children of one. Each function first puts
+what it is given into that form, in O(n log n) for n cells. Each raises NoCell or OutOfMemory.
+
+>>> [hex(cell) for cell in normalise(["1c", "14", "0c", "04"])]
+['0x1000000000000000']
+"""
+from __future__ import annotations
+
+import ctypes
+from array import array
+from typing import Callable
+
+from . import library
+from .given import Cells, cells_in, number_of
+from .refusals import NoRoom, NoSpan, expect
+from .tokens import Cell
+
+
+def normalise(cells: Cells) -> list[int]:
+    """The normal list of the same leaves: never longer than the list."""
+    start, many, _kept = cells_in(cells)
+    return listed(library.load().s2ix_union_normalise, start, many)
+
+
+def from_leaves(start: int, limit: int) -> list[int]:
+    """The leaves with numbers from `start` up to and without `limit`: at most 184 cells. Bounds are odd; equal ones give no cells. Raises
+    NoSpan or OutOfMemory."""
+    if start >> 64 or limit >> 64:
+        raise NoSpan
+    return listed(library.load().s2ix_union_from_leaves, start, limit)
+
+
+def union(first: Cells, second: Cells) -> list[int]:
+    """The leaves of either union."""
+    return _of_two(library.load().s2ix_union_union, first, second)
+
+
+def intersection(first: Cells, second: Cells) -> list[int]:
+    """The leaves of both unions."""
+    return _of_two(library.load().s2ix_union_intersection, first, second)
+
+
+def difference(first: Cells, second: Cells) -> list[int]:
+    """The leaves of the first union without those of the second."""
+    return _of_two(library.load().s2ix_union_difference, first, second)
+
+
+def contains(cells: Cells, cell: Cell) -> bool:
+    """Whether each leaf of a cell is one of the union's."""
+    return _is_so(library.load().s2ix_union_contains, cells, cell)
+
+
+def intersects(cells: Cells, cell: Cell) -> bool:
+    """Whether some leaf of a cell is one of the union's."""
+    return _is_so(library.load().s2ix_union_intersects, cells, cell)
+
+
+def leaf_count(cells: Cells) -> int:
+    """How many leaves the union has."""
+    start, many, _kept = cells_in(cells)
+    count = ctypes.c_uint64()
+    expect(library.load().s2ix_union_leaf_count(start, many, ctypes.addressof(count)))
+    return count.value
+
+
+def listed(call: Callable[..., int], *given: int) -> list[int]:
+    """The cells that a call puts into a buffer, which is taken again if it was too short."""
+    room, number = 256, ctypes.c_size_t()
+    while True:
+        words = array("Q", bytes(8 * room))
+        status = call(*given, words.buffer_info()[0], room, ctypes.addressof(number))
+        if status != NoRoom.status:
+            expect(status)
+            return words[: number.value].tolist()
+        room = number.value
+
+
+def _of_two(call: Callable[..., int], first: Cells, second: Cells) -> list[int]:
+    start, many, _kept = cells_in(first)
+    other, more, _also_kept = cells_in(second)
+    return listed(call, start, many, other, more)
+
+
+def _is_so(call: Callable[..., int], cells: Cells, cell: Cell) -> bool:
+    start, many, _kept = cells_in(cells)
+    answer = ctypes.c_bool()
+    expect(call(start, many, number_of(cell), ctypes.addressof(answer)))
+    return answer.value

@@ -1,0 +1,4 @@
+pub mod Through
+mod Numbers
+mod OfUnion
+mod OfCells

@@ -1,0 +1,79 @@
+-- What calls on a handle make of its store.
+use Rattle.std.specs.Prelude.{◌≡◌, ◌≢◌, ◌⊎◌, ℕ, Option, Some, None, Result, Ok, Err, [], length, List}
+use Rattle.s2id_core.specs.declared.cell_id.CellId.{CellId}
+use Rattle.s2ix_bag_pairs.specs.declared.limits.Limits.{Limits}
+use Rattle.s2ix_bag_pairs.specs.Limits.{pairs_limit, count_limit, changes_limit}
+use Rattle.s2ix_edit_plan.specs.declared.edit.Edit.{Edit}
+use Rattle.s2ix_edit_plan.specs.Refusals.{edit_refusal}
+use Rattle.s2ix_edit_plan.specs.State.{State, change_of, starting_at}
+use Rattle.s2ix_bag_pairs.specs.Collection.{Collection}
+use Rattle.s2ix_text_write.specs.Dump.{IsDump}
+use Rattle.s2ix_text_read_dump.specs.declared.errors.DumpFault.{DumpFault}
+use Rattle.s2ix_text_read_dump.specs.DumpFaults.{dump_fault}
+use Rattle.s2ix_edit.specs.Steps.{after_edit, after_undo, after_redo, undo_size, redo_size}
+use Rattle.s2ix_c.specs.Asked.{AreCells, LacksCell, asked_add_union}
+use Rattle.s2ix_c.specs.Status.{done, closed, no_cell, out_of_memory, nothing_to_undo, nothing_to_redo, IsRefusal}
+
+-- a call on a handle: a closed one stays closed, and C holds; an open one stays open, and P holds of its store's states before and after
+abbrev pub Through : (State → State → Type 0) → Type 0 → Option State → Option State → Type 0
+Through P C None new = (new ≡ None) × C
+Through P C (Some s) new = (t : State) × (new ≡ Some t) × P s t
+
+-- a call that tells a number of the store of a handle, and leaves it; a closed one has none
+abbrev pub Tells : (State → ℕ) → ℕ → ℕ → Option State → Option State → Type 0
+Tells number_of status number old new =
+    Through (λ s t. (t ≡ s) × (status ≡ done) × (number ≡ number_of s)) ((status ≡ closed) × (number ≡ 0)) old new
+
+-- a call that is refused before it looks at the store
+abbrev pub Refuses : ℕ → ℕ → ℕ → Option State → Option State → Type 0
+Refuses why status number old new = (status ≡ why) × (number ≡ 0) × (new ≡ old)
+
+-- an edit of a store: if it is done, the store is the one after it; else it is as it was, and the status says why
+pub record IsEdited (edit : Edit) (status number : ℕ) (s t : State) : Type 0 where
+  pub accepted : status ≡ done → (t ≡ after_edit s edit) × (number ≡ length (change_of s edit)) × (edit_refusal s edit ≡ None)
+  pub refused : status ≢ done → (t ≡ s) × (number ≡ 0) × IsRefusal status (edit_refusal s edit)
+
+-- what is asked for, carried out on a handle: an edit, or the status of what is wrong with its numbers
+abbrev pub DoesEdit : Result Edit ℕ → ℕ → ℕ → Option State → Option State → Type 0
+DoesEdit (Ok edit) status number old new = Through (IsEdited edit status number) ((status ≡ closed) × (number ≡ 0)) old new
+DoesEdit (Err why) status number old new = Refuses why status number old new
+
+-- an undo of a store
+pub record IsUndone (status number : ℕ) (s t : State) : Type 0 where
+  pub accepted : status ≡ done → (t ≡ after_undo s) × (number ≡ undo_size s) × (s.done ≢ [])
+  pub refused : status ≢ done → (t ≡ s) × (number ≡ 0) × ((status ≡ nothing_to_undo) ⊎ (status ≡ out_of_memory))
+  pub nothing : (status ≡ nothing_to_undo → s.done ≡ []) × (s.done ≡ [] → status ≡ nothing_to_undo)
+
+-- a redo of a store
+pub record IsRedone (status number : ℕ) (s t : State) : Type 0 where
+  pub accepted : status ≡ done → (t ≡ after_redo s) × (number ≡ redo_size s) × (s.undone ≢ [])
+  pub refused : status ≢ done → (t ≡ s) × (number ≡ 0) × ((status ≡ nothing_to_redo) ⊎ (status ≡ out_of_memory))
+  pub nothing : (status ≡ nothing_to_redo → s.undone ≡ []) × (s.undone ≡ [] → status ≡ nothing_to_redo)
+
+-- the handle is open, and its store is in the state that the limits with these numbers have
+abbrev pub Opens : ℕ → ℕ → ℕ → (Limits → State) → Option State → Type 0
+Opens pairs copies changes state new =
+    (limits : Limits) × (pairs_limit limits ≡ pairs) × (count_limit limits ≡ copies) × (changes_limit limits ≡ changes) × (new ≡ Some (state limits))
+
+-- a union of cells under a label, carried out on a handle; or one of the numbers is no cell's, or memory is wanted
+abbrev pub DoesUnion : List ℕ → ℕ → ℕ → ℕ → Option State → Option State → Type 0
+DoesUnion ids label status number old new =
+    ((cells : List CellId) × AreCells ids cells × DoesEdit (asked_add_union cells label) status number old new)
+    ⊎ (LacksCell ids × Refuses no_cell status number old new)
+    ⊎ Refuses out_of_memory status number old new
+
+-- the handle is open, and its store starts from the collection that the text is a dump of
+abbrev pub Loads : List ℕ → ℕ → ℕ → ℕ → Option State → Type 0
+Loads text pairs copies changes new =
+    (hs : Collection) × IsDump text hs × Opens pairs copies changes (λ limits. starting_at (record { limits = limits; held = hs })) new
+
+-- under the limits with these numbers the text is no dump, and the first of its lines that has a fault is this
+abbrev pub HasFaultIn : List ℕ → ℕ → ℕ → ℕ → ℕ → Type 0
+HasFaultIn text pairs copies changes line =
+    (limits : Limits) × (pairs_limit limits ≡ pairs) × (count_limit limits ≡ copies) × (changes_limit limits ≡ changes)
+    × (fault : DumpFault) × (dump_fault limits text ≡ Some (line, fault))
+
+-- another handle is open, and its store starts from what a store holds; or memory is wanted, and it is as it was
+pub record IsCopied (s : State) (status : ℕ) (old new : Option State) : Type 0 where
+  pub accepted : status ≡ done → new ≡ Some (starting_at s.bag)
+  pub refused : status ≢ done → (status ≡ out_of_memory) × (new ≡ old)

@@ -1,0 +1,7 @@
+pub mod Status
+pub mod Calls
+pub mod Asked
+pub mod Lists
+pub mod Texts
+pub mod Cells
+pub mod CellUnions

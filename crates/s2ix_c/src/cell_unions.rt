@@ -1,0 +1,205 @@
+//! Unions of cells by their numbers, without a handle. A list may have its cells in any order, and repeated or not.
+
+ghost use Rattle.std.specs.Prelude.{◌≡◌, ◌⊎◌, ◌&&◌, ◌||◌, not, List, IfErr, IfOk};
+ghost use Rattle.s2id_core.specs.declared.cell_id.CellId.{CellId};
+ghost use Rattle.s2id_union.specs.NormalForm.{normal_form};
+ghost use Rattle.s2id_union.specs.Region.{HasAllOf, Meets};
+ghost use Rattle.s2ix_c.specs.CellUnions.{CountsLeaves, Decides, ListsOfTwo, ListsSpan, normal_numbers, numbers_by};
+ghost use Rattle.s2ix_c.specs.Asked.{AreCells, LacksCell};
+ghost use Rattle.s2ix_c.specs.Lists.{ListsOf};
+ghost use Rattle.s2ix_c.specs.Status.{no_cell, out_of_memory};
+
+use crate::rows::put_cells;
+use crate::status::{DONE, NO_CELL, NO_SPAN, OUT_OF_MEMORY};
+use crate::unions::cells_of;
+use s2id_core::CellId;
+use s2id_union::{CellUnion, RangeError};
+use std::alloc::Global;
+
+// The union of cells by their numbers, or why there is none: a number that is no cell's, or want of memory.
+fn normal_of(alloc: Global, ids: &[u64]) -> Result<CellUnion, u32>
+    ensures union { IfOk result (λ union. (cells : List CellId) × AreCells ids.now cells × (union ≡ normal_form cells)) }
+    ensures refused { IfErr result (λ why. ((why ≡ no_cell) × LacksCell ids.now) ⊎ (why ≡ out_of_memory)) }
+{
+    let cells = match cells_of(alloc, ids) {
+        Ok(cells) => cells,
+        Err(why) => return Err(why),
+    };
+    match CellUnion::normalise(alloc, cells.as_slice()) {
+        Ok(union) => Ok(union),
+        Err(_) => Err(OUT_OF_MEMORY),
+    }
+}
+
+/// The normal list of the cells: rising, no cell within another, and no four that are all the children of one.
+#[unsafe(no_mangle)]
+pub extern "C" fn s2ix_union_normalise(
+    alloc: Global,
+    ids: &[u64],
+    out: &mut [u64],
+    number: &mut usize,
+) -> u32
+    ensures { ListsOf normal_numbers ids.now result number.new out.old out.new }
+{
+    *number = 0;
+    match normal_of(alloc, ids) {
+        Ok(normal) => put_cells(normal.cells(), out, number),
+        Err(why) => why,
+    }
+}
+
+/// The normal list of the leaves from the number `start` up to and without `limit`.
+#[unsafe(no_mangle)]
+pub extern "C" fn s2ix_union_from_leaves(
+    alloc: Global,
+    start: u64,
+    limit: u64,
+    out: &mut [u64],
+    number: &mut usize,
+) -> u32
+    ensures { ListsSpan start limit result number.new out.old out.new }
+{
+    *number = 0;
+    match CellUnion::from_leaves(alloc, start, limit) {
+        Ok(union) => put_cells(union.cells(), out, number),
+        Err(RangeError::BadRange) => NO_SPAN,
+        Err(RangeError::OutOfMemory) => OUT_OF_MEMORY,
+    }
+}
+
+/// The normal list of the leaves of either union.
+#[unsafe(no_mangle)]
+pub extern "C" fn s2ix_union_union(
+    alloc: Global,
+    first: &[u64],
+    second: &[u64],
+    out: &mut [u64],
+    number: &mut usize,
+) -> u32
+    ensures { ListsOfTwo (numbers_by (λ a b. a || b)) first.now second.now result number.new out.old out.new }
+{
+    *number = 0;
+    let first = match normal_of(alloc, first) {
+        Ok(union) => union,
+        Err(why) => return why,
+    };
+    let second = match normal_of(alloc, second) {
+        Ok(union) => union,
+        Err(why) => return why,
+    };
+    match first.union(alloc, &second) {
+        Ok(union) => put_cells(union.cells(), out, number),
+        Err(_) => OUT_OF_MEMORY,
+    }
+}
+
+/// The normal list of the leaves of both unions.
+#[unsafe(no_mangle)]
+pub extern "C" fn s2ix_union_intersection(
+    alloc: Global,
+    first: &[u64],
+    second: &[u64],
+    out: &mut [u64],
+    number: &mut usize,
+) -> u32
+    ensures { ListsOfTwo (numbers_by (λ a b. a && b)) first.now second.now result number.new out.old out.new }
+{
+    *number = 0;
+    let first = match normal_of(alloc, first) {
+        Ok(union) => union,
+        Err(why) => return why,
+    };
+    let second = match normal_of(alloc, second) {
+        Ok(union) => union,
+        Err(why) => return why,
+    };
+    match first.intersection(alloc, &second) {
+        Ok(union) => put_cells(union.cells(), out, number),
+        Err(_) => OUT_OF_MEMORY,
+    }
+}
+
+/// The normal list of the leaves of the first union that are not the second's.
+#[unsafe(no_mangle)]
+pub extern "C" fn s2ix_union_difference(
+    alloc: Global,
+    first: &[u64],
+    second: &[u64],
+    out: &mut [u64],
+    number: &mut usize,
+) -> u32
+    ensures { ListsOfTwo (numbers_by (λ a b. a && not b)) first.now second.now result number.new out.old out.new }
+{
+    *number = 0;
+    let first = match normal_of(alloc, first) {
+        Ok(union) => union,
+        Err(why) => return why,
+    };
+    let second = match normal_of(alloc, second) {
+        Ok(union) => union,
+        Err(why) => return why,
+    };
+    match first.difference(alloc, &second) {
+        Ok(union) => put_cells(union.cells(), out, number),
+        Err(_) => OUT_OF_MEMORY,
+    }
+}
+
+/// Whether each leaf of a cell is one of the union's.
+#[unsafe(no_mangle)]
+pub extern "C" fn s2ix_union_contains(
+    alloc: Global,
+    ids: &[u64],
+    cell: u64,
+    answer: &mut bool,
+) -> u32
+    ensures { Decides HasAllOf ids.now cell result answer.new }
+{
+    *answer = false;
+    let union = match normal_of(alloc, ids) {
+        Ok(union) => union,
+        Err(why) => return why,
+    };
+    let Some(cell) = CellId::from_raw(cell) else {
+        return NO_CELL;
+    };
+    *answer = union.contains(cell);
+    DONE
+}
+
+/// Whether some leaf of a cell is one of the union's.
+#[unsafe(no_mangle)]
+pub extern "C" fn s2ix_union_intersects(
+    alloc: Global,
+    ids: &[u64],
+    cell: u64,
+    answer: &mut bool,
+) -> u32
+    ensures { Decides Meets ids.now cell result answer.new }
+{
+    *answer = false;
+    let union = match normal_of(alloc, ids) {
+        Ok(union) => union,
+        Err(why) => return why,
+    };
+    let Some(cell) = CellId::from_raw(cell) else {
+        return NO_CELL;
+    };
+    *answer = union.intersects(cell);
+    DONE
+}
+
+/// How many leaves the union has.
+#[unsafe(no_mangle)]
+pub extern "C" fn s2ix_union_leaf_count(alloc: Global, ids: &[u64], count: &mut u64) -> u32
+    ensures { CountsLeaves ids.now result count.new }
+{
+    *count = 0;
+    match normal_of(alloc, ids) {
+        Ok(union) => {
+            *count = union.leaf_count();
+            DONE
+        }
+        Err(why) => why,
+    }
+}

@@ -1,0 +1,153 @@
+//! What a store holds, in numbers.
+
+ghost use Rattle.std.specs.Prelude.{◌≡◌, length};
+ghost use Rattle.s2ix_bag_pairs.specs.Collection.{copies_in};
+ghost use Rattle.s2ix_handle.specs.Handle.{held_of};
+ghost use Rattle.s2ix_table_ranges.specs.RangeList.{range_table};
+ghost use Rattle.s2ix_c.specs.Asked.{pair_numbered};
+ghost use Rattle.s2ix_c.specs.Calls.{Tells, Through};
+ghost use Rattle.s2ix_c.specs.Lists.{Counts};
+ghost use Rattle.s2ix_c.specs.Status.{closed};
+
+use crate::asked::pair_of;
+use crate::status::{CLOSED, DONE};
+use s2ix_edit::Store;
+use s2ix_handle::Handle;
+use s2ix_table_queries::RangeTable;
+use s2ix_table_ranges::laws::range_table_is_the_collections;
+use std::alloc::Global;
+
+fn count_store(store: &Store, cell: u64, label: u32, count: &mut u32) -> u32
+    ensures { Counts (pair_numbered cell label) store.now result count.new }
+{
+    match pair_of(cell, label) {
+        Ok(pair) => {
+            *count = store.bag().count(pair);
+            DONE
+        }
+        Err(why) => {
+            *count = 0;
+            why
+        }
+    }
+}
+
+/// How many copies of a cell are held under a label: 0 if the pair is not held.
+#[tactic(auto, using(crate::proofs::Through::through_open, crate::proofs::Through::through_closed))]
+#[unsafe(no_mangle)]
+pub extern "C" fn s2ix_count(
+    alloc: Global,
+    handle: &mut Handle,
+    cell: u64,
+    label: u32,
+    count: &mut u32,
+) -> u32
+    ensures { Through (λ s t. (t ≡ s) × Counts (pair_numbered cell label) s result count.new)
+        ((result ≡ closed) × (count.new ≡ 0)) (held_of handle.old) (held_of handle.new) }
+{
+    let Some(store) = handle.take(alloc) else {
+        *count = 0;
+        return CLOSED;
+    };
+    let status = count_store(&store, cell, label, count);
+    *handle = Handle::of(alloc, store);
+    status
+}
+
+/// How many distinct pairs are held.
+#[tactic(auto, using(crate::proofs::Through::through_open, crate::proofs::Through::through_closed))]
+#[unsafe(no_mangle)]
+pub extern "C" fn s2ix_len(alloc: Global, handle: &mut Handle, number: &mut usize) -> u32
+    ensures { Tells (λ s. length s.bag.held) result number.new (held_of handle.old) (held_of handle.new) }
+{
+    *number = 0;
+    let Some(store) = handle.take(alloc) else {
+        return CLOSED;
+    };
+    *number = store.bag().len();
+    *handle = Handle::of(alloc, store);
+    DONE
+}
+
+/// The sum of the counts, in copies.
+#[tactic(auto, using(crate::proofs::Through::through_open, crate::proofs::Through::through_closed))]
+#[unsafe(no_mangle)]
+pub extern "C" fn s2ix_copies(alloc: Global, handle: &mut Handle, copies: &mut u64) -> u32
+    ensures { Tells (λ s. copies_in s.bag.held) result copies.new (held_of handle.old) (held_of handle.new) }
+{
+    *copies = 0;
+    let Some(store) = handle.take(alloc) else {
+        return CLOSED;
+    };
+    *copies = store.bag().copies();
+    *handle = Handle::of(alloc, store);
+    DONE
+}
+
+// How many ranges the table of a store has.
+fn ranges_of(store: &Store) -> usize
+    ensures { result ≡ length (range_table store.now.bag.held) }
+{
+    range_table_is_the_collections();
+    store.table().range_count()
+}
+
+/// How many ranges of leaves there are over which the same pairs lie.
+#[tactic(auto, using(crate::proofs::Through::through_open, crate::proofs::Through::through_closed))]
+#[unsafe(no_mangle)]
+pub extern "C" fn s2ix_range_count(alloc: Global, handle: &mut Handle, number: &mut usize) -> u32
+    ensures { Tells (λ s. length (range_table s.bag.held)) result number.new (held_of handle.old) (held_of handle.new) }
+{
+    *number = 0;
+    let Some(store) = handle.take(alloc) else {
+        return CLOSED;
+    };
+    *number = ranges_of(&store);
+    *handle = Handle::of(alloc, store);
+    DONE
+}
+
+/// How many changes can be undone.
+#[tactic(auto, using(crate::proofs::Through::through_open, crate::proofs::Through::through_closed))]
+#[unsafe(no_mangle)]
+pub extern "C" fn s2ix_done_count(alloc: Global, handle: &mut Handle, number: &mut usize) -> u32
+    ensures { Tells (λ s. length s.done) result number.new (held_of handle.old) (held_of handle.new) }
+{
+    *number = 0;
+    let Some(store) = handle.take(alloc) else {
+        return CLOSED;
+    };
+    *number = store.done().len();
+    *handle = Handle::of(alloc, store);
+    DONE
+}
+
+/// How many changes can be redone.
+#[tactic(auto, using(crate::proofs::Through::through_open, crate::proofs::Through::through_closed))]
+#[unsafe(no_mangle)]
+pub extern "C" fn s2ix_undone_count(alloc: Global, handle: &mut Handle, number: &mut usize) -> u32
+    ensures { Tells (λ s. length s.undone) result number.new (held_of handle.old) (held_of handle.new) }
+{
+    *number = 0;
+    let Some(store) = handle.take(alloc) else {
+        return CLOSED;
+    };
+    *number = store.undone().len();
+    *handle = Handle::of(alloc, store);
+    DONE
+}
+
+/// How many faces, 0 to 6, the last accepted edit, undo or redo read again.
+#[tactic(auto, using(crate::proofs::Through::through_open, crate::proofs::Through::through_closed))]
+#[unsafe(no_mangle)]
+pub extern "C" fn s2ix_faces_rebuilt(alloc: Global, handle: &mut Handle, number: &mut usize) -> u32
+    ensures { Tells (λ s. s.faces_rebuilt) result number.new (held_of handle.old) (held_of handle.new) }
+{
+    *number = 0;
+    let Some(store) = handle.take(alloc) else {
+        return CLOSED;
+    };
+    *number = usize::from(store.faces_rebuilt());
+    *handle = Handle::of(alloc, store);
+    DONE
+}

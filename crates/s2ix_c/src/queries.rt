@@ -1,0 +1,200 @@
+//! Queries of the store of a handle. None changes it.
+
+ghost use Rattle.std.specs.Prelude.{◌≡◌, ◌≢◌, ℕ, IfSome, IfOk, length};
+ghost use Rattle.s2id_core.specs.CellId.{level_of, raw_of};
+ghost use Rattle.s2ix_bag_pairs.specs.Label.{label_numbered};
+ghost use Rattle.s2ix_table_ranges.specs.Contents.{contents_at};
+ghost use Rattle.s2ix_handle.specs.Handle.{held_of};
+ghost use Rattle.s2ix_c.specs.Calls.{Through};
+ghost use Rattle.s2ix_c.specs.Lists.{leaf_numbered, labels_met, Lists, ListsOf, region_cells, rows_met, rows_over};
+ghost use Rattle.s2ix_c.specs.Status.{closed};
+
+use crate::asked::cell_of;
+use crate::rows::{Row, put_cells, put_labels, put_rows};
+use crate::status::{CLOSED, NO_CELL, NO_LABEL, OUT_OF_MEMORY};
+use crate::unions::cells_of;
+use s2id_core::{CellId, OutOfMemory};
+use s2id_union::CellUnion;
+use s2ix_bag_pairs::{Held, Label};
+use s2ix_edit::Store;
+use s2ix_handle::Handle;
+use s2ix_table_queries::{RangeTable, chain_at};
+use std::alloc::Global;
+
+// The leaf of a number.
+fn leaf_of(number: u64) -> Option<CellId>
+    ensures leaf { result ≡ leaf_numbered number }
+    ensures level { IfSome result (λ leaf. level_of leaf ≡ 30) }
+{
+    match cell_of(number) {
+        Some(cell) if cell.is_leaf() => Some(cell),
+        _ => None,
+    }
+}
+
+// The pairs over a leaf.
+fn contents_of<T: RangeTable>(
+    alloc: Global,
+    table: &T,
+    leaf: CellId,
+) -> Result<Vec<Held>, OutOfMemory>
+    requires { level_of leaf ≡ 30 }
+    ensures { IfOk result (λ list. list.items ≡ contents_at (raw_of leaf) (T.pairs table.now)) }
+{
+    Ok(chain_at(table, leaf).collect(alloc)?)
+}
+
+fn at_store(alloc: Global, store: &Store, leaf: u64, out: &mut [Row], number: &mut usize) -> u32
+    ensures { Lists (rows_over (leaf_numbered leaf) store.now) result number.new out.old out.new }
+{
+    *number = 0;
+    let Some(leaf) = leaf_of(leaf) else {
+        return NO_CELL;
+    };
+    let Ok(list) = contents_of(alloc, store.table(), leaf) else {
+        return OUT_OF_MEMORY;
+    };
+    put_rows(list.as_slice(), out, number)
+}
+
+/// The pairs over a leaf, the innermost cell first, the labels of one cell rising.
+#[tactic(auto, using(crate::proofs::Through::through_open, crate::proofs::Through::through_closed))]
+#[unsafe(no_mangle)]
+pub extern "C" fn s2ix_at(
+    alloc: Global,
+    handle: &mut Handle,
+    leaf: u64,
+    out: &mut [Row],
+    number: &mut usize,
+) -> u32
+    ensures { Through (λ s t. (t ≡ s) × Lists (rows_over (leaf_numbered leaf) s) result number.new out.old out.new)
+        ((result ≡ closed) × (number.new ≡ 0) × (out.new ≡ out.old)) (held_of handle.old) (held_of handle.new) }
+{
+    let Some(store) = handle.take(alloc) else {
+        *number = 0;
+        return CLOSED;
+    };
+    let status = at_store(alloc, &store, leaf, out, number);
+    *handle = Handle::of(alloc, store);
+    status
+}
+
+fn meet_store(alloc: Global, store: &Store, ids: &[u64], out: &mut [Row], number: &mut usize) -> u32
+    ensures { ListsOf (λ cells. rows_met cells store.now) ids.now result number.new out.old out.new }
+{
+    *number = 0;
+    let cells = match cells_of(alloc, ids) {
+        Ok(cells) => cells,
+        Err(why) => return why,
+    };
+    let Ok(target) = CellUnion::normalise(alloc, cells.as_slice()) else {
+        return OUT_OF_MEMORY;
+    };
+    let Ok(list) = store.table().meeting(alloc, &target) else {
+        return OUT_OF_MEMORY;
+    };
+    put_rows(list.as_slice(), out, number)
+}
+
+/// The pairs that share a leaf with a union of cells, given in any order and repeated or not: each once, by first shared leaf, then
+/// falling level, then rising label.
+#[tactic(auto, using(crate::proofs::Through::through_open, crate::proofs::Through::through_closed))]
+#[unsafe(no_mangle)]
+pub extern "C" fn s2ix_meet(
+    alloc: Global,
+    handle: &mut Handle,
+    ids: &[u64],
+    out: &mut [Row],
+    number: &mut usize,
+) -> u32
+    ensures { Through (λ s t. (t ≡ s) × ListsOf (λ cells. rows_met cells s) ids.now result number.new out.old out.new)
+        ((result ≡ closed) × (number.new ≡ 0) × (out.new ≡ out.old)) (held_of handle.old) (held_of handle.new) }
+{
+    let Some(store) = handle.take(alloc) else {
+        *number = 0;
+        return CLOSED;
+    };
+    let status = meet_store(alloc, &store, ids, out, number);
+    *handle = Handle::of(alloc, store);
+    status
+}
+
+fn labels_store(
+    alloc: Global,
+    store: &Store,
+    ids: &[u64],
+    out: &mut [u32],
+    number: &mut usize,
+) -> u32
+    ensures { ListsOf (λ cells. labels_met cells store.now) ids.now result number.new out.old out.new }
+{
+    *number = 0;
+    let cells = match cells_of(alloc, ids) {
+        Ok(cells) => cells,
+        Err(why) => return why,
+    };
+    let Ok(target) = CellUnion::normalise(alloc, cells.as_slice()) else {
+        return OUT_OF_MEMORY;
+    };
+    let Ok(list) = store.table().labels(alloc, &target) else {
+        return OUT_OF_MEMORY;
+    };
+    put_labels(list.as_slice(), out, number)
+}
+
+/// The labels of the pairs that share a leaf with a union of cells: each once, rising.
+#[tactic(auto, using(crate::proofs::Through::through_open, crate::proofs::Through::through_closed))]
+#[unsafe(no_mangle)]
+pub extern "C" fn s2ix_labels(
+    alloc: Global,
+    handle: &mut Handle,
+    ids: &[u64],
+    out: &mut [u32],
+    number: &mut usize,
+) -> u32
+    ensures { Through (λ s t. (t ≡ s) × ListsOf (λ cells. labels_met cells s) ids.now result number.new out.old out.new)
+        ((result ≡ closed) × (number.new ≡ 0) × (out.new ≡ out.old)) (held_of handle.old) (held_of handle.new) }
+{
+    let Some(store) = handle.take(alloc) else {
+        *number = 0;
+        return CLOSED;
+    };
+    let status = labels_store(alloc, &store, ids, out, number);
+    *handle = Handle::of(alloc, store);
+    status
+}
+
+fn region_store(store: &Store, label: u32, out: &mut [u64], number: &mut usize) -> u32
+    ensures { Lists (region_cells (label_numbered label) store.now) result number.new out.old out.new }
+{
+    *number = 0;
+    let Some(label) = Label::new(label) else {
+        return NO_LABEL;
+    };
+    let Ok(region) = store.region(label) else {
+        return OUT_OF_MEMORY;
+    };
+    put_cells(region.cells(), out, number)
+}
+
+/// The region of a label: the normal union of the cells that are held with it, rising.
+#[tactic(auto, using(crate::proofs::Through::through_open, crate::proofs::Through::through_closed))]
+#[unsafe(no_mangle)]
+pub extern "C" fn s2ix_region(
+    alloc: Global,
+    handle: &mut Handle,
+    label: u32,
+    out: &mut [u64],
+    number: &mut usize,
+) -> u32
+    ensures { Through (λ s t. (t ≡ s) × Lists (region_cells (label_numbered label) s) result number.new out.old out.new)
+        ((result ≡ closed) × (number.new ≡ 0) × (out.new ≡ out.old)) (held_of handle.old) (held_of handle.new) }
+{
+    let Some(store) = handle.take(alloc) else {
+        *number = 0;
+        return CLOSED;
+    };
+    let status = region_store(&store, label, out, number);
+    *handle = Handle::of(alloc, store);
+    status
+}

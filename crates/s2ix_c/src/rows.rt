@@ -1,0 +1,88 @@
+//! Lists in buffers of the caller.
+
+ghost use Rattle.std.specs.Prelude.{◌≡◌, ◌≤◌, length, map};
+ghost use Rattle.s2ix_c.specs.Lists.{IsPut, row_of};
+ghost use Rattle.s2id_core.specs.CellId.{raw_of};
+ghost use Rattle.s2ix_bag_pairs.specs.Label.{value_of};
+
+use crate::status::{DONE, NO_ROOM};
+use s2id_core::CellId;
+use s2ix_bag_pairs::{Held, Label};
+
+/// A pair that a store holds, with its count.
+#[repr(C)]
+#[derive(Clone, Copy)]
+pub struct Row {
+    /// The number of the cell.
+    pub cell: u64,
+    /// The label.
+    pub label: u32,
+    /// How many copies are held.
+    pub count: u32,
+}
+
+// A held pair as a row.
+#[inline]
+fn row_for(held: Held) -> Row
+    ensures { result ≡ row_of held }
+{
+    Row {
+        cell: held.pair.cell.raw(),
+        label: held.pair.label.get(),
+        count: held.count,
+    }
+}
+
+// Puts pairs to the front of `out`, if it has room for them; `number` is how many there are.
+pub(crate) fn put_rows(list: &[Held], out: &mut [Row], number: &mut usize) -> u32
+    ensures { IsPut (map row_of list.now) result number.new out.old out.new }
+{
+    *number = list.len();
+    if list.len() > out.len() {
+        return NO_ROOM;
+    }
+    for (place, held) in list.iter().enumerate() {
+        out[place] = row_for(*held);
+    }
+    DONE
+}
+
+// Puts labels to the front of `out`, if it has room for them; `number` is how many there are.
+pub(crate) fn put_labels(list: &[Label], out: &mut [u32], number: &mut usize) -> u32
+    ensures { IsPut (map value_of list.now) result number.new out.old out.new }
+{
+    *number = list.len();
+    if list.len() > out.len() {
+        return NO_ROOM;
+    }
+    for (place, label) in list.iter().enumerate() {
+        out[place] = label.get();
+    }
+    DONE
+}
+
+// Puts cells to the front of `out`, if it has room for them; `number` is how many there are.
+pub(crate) fn put_cells(list: &[CellId], out: &mut [u64], number: &mut usize) -> u32
+    ensures { IsPut (map raw_of list.now) result number.new out.old out.new }
+{
+    *number = list.len();
+    if list.len() > out.len() {
+        return NO_ROOM;
+    }
+    for (place, cell) in list.iter().enumerate() {
+        out[place] = cell.raw();
+    }
+    DONE
+}
+
+// Puts a text to the front of `out`, if it has room for it; `number` is how many bytes it has.
+pub(crate) fn put_bytes(text: &[u8], out: &mut [u8], number: &mut usize) -> u32
+    ensures { IsPut text.now result number.new out.old out.new }
+{
+    *number = text.len();
+    if text.len() > out.len() {
+        return NO_ROOM;
+    }
+    out[..text.len()].copy_from_slice(text);
+    DONE
+}

@@ -1,0 +1,95 @@
+//! The numbers that calls answer with. `include/s2ix.h` names them.
+
+ghost use Rattle.std.specs.Prelude.{◌≡◌};
+ghost use Rattle.s2ix_c.specs.Lists.{IsPut};
+ghost use Rattle.s2ix_c.specs.Status.{edit_status};
+ghost use Rattle.s2ix_c.specs.Texts.{status_text};
+
+use crate::rows::put_bytes;
+use s2ix_edit_plan::EditError;
+
+/// The call is carried out.
+pub(crate) const DONE: u32 = 0;
+/// The handle is closed.
+pub(crate) const CLOSED: u32 = 1;
+/// A growth was refused.
+pub(crate) const OUT_OF_MEMORY: u32 = 2;
+/// A number is no cell's, or no leaf's where a leaf is asked for.
+pub(crate) const NO_CELL: u32 = 3;
+/// A number is no label's.
+pub(crate) const NO_LABEL: u32 = 4;
+/// Limits are out of their ranges.
+pub(crate) const NO_LIMITS: u32 = 5;
+/// No change can be undone.
+pub(crate) const NOTHING_TO_UNDO: u32 = 6;
+/// No change can be redone.
+pub(crate) const NOTHING_TO_REDO: u32 = 7;
+
+/// The caller's buffer is too short.
+pub(crate) const NO_ROOM: u32 = 8;
+
+/// A text is no dump.
+pub(crate) const NO_DUMP: u32 = 9;
+
+/// A level is too fine.
+pub(crate) const TOO_FINE: u32 = 19;
+/// A level is coarser than the cell's.
+pub(crate) const COARSER: u32 = 25;
+/// The bounds are no span of leaves.
+pub(crate) const NO_SPAN: u32 = 26;
+
+/// The status of a refused edit.
+pub(crate) fn status_of(error: EditError) -> u32
+    ensures { result ≡ edit_status error }
+{
+    match error {
+        EditError::JournalFull => 16,
+        EditError::NoSuchLabel => 17,
+        EditError::NotHeld => 18,
+        EditError::TooFine => TOO_FINE,
+        EditError::NoSuchChange => 20,
+        EditError::BelowZero => 21,
+        EditError::NoChange => 22,
+        EditError::TooManyCopies => 23,
+        EditError::TooManyPairs => 24,
+        EditError::OutOfMemory => OUT_OF_MEMORY,
+    }
+}
+
+// What a status says, in words.
+fn text_of(status: u32) -> &'static str
+    ensures { result.now ≡ status_text status }
+{
+    match status {
+        0 => "done",
+        1 => "the handle is closed",
+        2 => "out of memory",
+        3 => "a number is no cell's, or no leaf's",
+        4 => "a number is no label's",
+        5 => "limits are out of their ranges",
+        6 => "nothing to undo",
+        7 => "nothing to redo",
+        8 => "the buffer is too short",
+        9 => "the text is no dump",
+        16 => "the journal is full",
+        17 => "no pair of the label is held",
+        18 => "fewer copies are held",
+        19 => "the level is too fine",
+        20 => "no change with the number stands",
+        21 => "a count would be below 0",
+        22 => "nothing would change",
+        23 => "a count would pass the limit",
+        24 => "the number of pairs would pass the limit",
+        25 => "the level is coarser than the cell's",
+        26 => "the bounds are no span of leaves",
+        _ => "no status",
+    }
+}
+
+/// What a status says, in words, as bytes with no zero behind them.
+#[unsafe(no_mangle)]
+pub extern "C" fn s2ix_status_text(status: u32, out: &mut [u8], number: &mut usize) -> u32
+    ensures { IsPut (status_text status) result number.new out.old out.new }
+{
+    put_bytes(text_of(status).as_bytes(), out, number)
+}

@@ -1,0 +1,97 @@
+//! Undo, redo and forget over a handle.
+
+ghost use Rattle.std.specs.Prelude.{◌≡◌};
+ghost use Rattle.s2ix_edit.specs.Steps.{after_forget};
+ghost use Rattle.s2ix_handle.specs.Handle.{held_of};
+ghost use Rattle.s2ix_c.specs.Calls.{IsRedone, IsUndone, Through};
+ghost use Rattle.s2ix_c.specs.Status.{closed, done};
+
+use crate::status::{CLOSED, DONE, NOTHING_TO_REDO, NOTHING_TO_UNDO, OUT_OF_MEMORY};
+use s2ix_edit::Store;
+use s2ix_edit_plan::{RedoError, UndoError};
+use s2ix_handle::Handle;
+use std::alloc::Global;
+
+// Takes the last change of a store back; `number` is how many pairs it had.
+fn undo_store(store: &mut Store, number: &mut usize) -> u32
+    ensures { IsUndone result number.new store.old store.new }
+{
+    match store.undo() {
+        Ok(changed) => {
+            *number = changed;
+            DONE
+        }
+        Err(UndoError::NothingToUndo) => {
+            *number = 0;
+            NOTHING_TO_UNDO
+        }
+        Err(UndoError::OutOfMemory) => {
+            *number = 0;
+            OUT_OF_MEMORY
+        }
+    }
+}
+
+// Does the change of a store that was undone last again; `number` is how many pairs it has.
+fn redo_store(store: &mut Store, number: &mut usize) -> u32
+    ensures { IsRedone result number.new store.old store.new }
+{
+    match store.redo() {
+        Ok(changed) => {
+            *number = changed;
+            DONE
+        }
+        Err(RedoError::NothingToRedo) => {
+            *number = 0;
+            NOTHING_TO_REDO
+        }
+        Err(RedoError::OutOfMemory) => {
+            *number = 0;
+            OUT_OF_MEMORY
+        }
+    }
+}
+
+/// Takes the last change back; `number` is how many pairs it had.
+#[tactic(auto, using(crate::proofs::Through::through_open, crate::proofs::Through::through_closed))]
+#[unsafe(no_mangle)]
+pub extern "C" fn s2ix_undo(alloc: Global, handle: &mut Handle, number: &mut usize) -> u32
+    ensures { Through (IsUndone result number.new) ((result ≡ closed) × (number.new ≡ 0)) (held_of handle.old) (held_of handle.new) }
+{
+    let Some(mut store) = handle.take(alloc) else {
+        *number = 0;
+        return CLOSED;
+    };
+    let status = undo_store(&mut store, number);
+    *handle = Handle::of(alloc, store);
+    status
+}
+
+/// Does the change that was undone last again; `number` is how many pairs it has.
+#[tactic(auto, using(crate::proofs::Through::through_open, crate::proofs::Through::through_closed))]
+#[unsafe(no_mangle)]
+pub extern "C" fn s2ix_redo(alloc: Global, handle: &mut Handle, number: &mut usize) -> u32
+    ensures { Through (IsRedone result number.new) ((result ≡ closed) × (number.new ≡ 0)) (held_of handle.old) (held_of handle.new) }
+{
+    let Some(mut store) = handle.take(alloc) else {
+        *number = 0;
+        return CLOSED;
+    };
+    let status = redo_store(&mut store, number);
+    *handle = Handle::of(alloc, store);
+    status
+}
+
+/// Keeps the collection and drops all changes: nothing is left to undo or redo.
+#[tactic(auto, using(crate::proofs::Through::through_open, crate::proofs::Through::through_closed))]
+#[unsafe(no_mangle)]
+pub extern "C" fn s2ix_forget(alloc: Global, handle: &mut Handle) -> u32
+    ensures { Through (λ s t. (t ≡ after_forget s) × (result ≡ done)) (result ≡ closed) (held_of handle.old) (held_of handle.new) }
+{
+    let Some(mut store) = handle.take(alloc) else {
+        return CLOSED;
+    };
+    store.forget();
+    *handle = Handle::of(alloc, store);
+    DONE
+}

@@ -1,0 +1,19 @@
+-- What lies at an address.
+use Rattle.std.specs.Prelude.{Option, Some, None}
+use Rattle.std.specs.Coded.{Coded, coded_option}
+use Rattle.std.specs.Box.Ownership.{box_owns}
+use Rattle.std.specs.Global.{Global}
+use Rattle.std.specs.contracts.impls.GlobalAllocator.TheImpl.{ghosts}
+use Rattle.s2ix_edit.specs.contracts.store.Store.{the_row}
+use Rattle.s2ix_edit_plan.specs.State.{State}
+use base.Fml.{Fml, ftrue}
+use denote.RawPtr.{Ptr}
+
+-- the logic's code of a state that may be there
+abbrev pub code_of_state : Coded (Option State)
+code_of_state = coded_option the_row.coded
+
+-- a store in this state with the right to free its block, or nothing
+abbrev pub owned_at : Option State → Global → Ptr → Fml
+owned_at (Some state) alloc at = box_owns (ghosts.dealloc_token alloc) the_row at state
+owned_at None alloc at = ftrue

@@ -1,0 +1,7 @@
+//! A store for a caller that is not Rattle. A [`Handle`] is open, and owns a store, or closed; its caller passes it on and never looks inside.
+#![tactic(auto)]
+
+mod address;
+mod handle;
+
+pub use handle::Handle;

@@ -1,0 +1,58 @@
+/* A day of a delivery service: zones are laid, a courier is asked about, and one zone is withdrawn by its change. It prints courier.txt.
+
+       cc courier.c $(pkg-config --cflags --libs s2ix) -o courier && ./courier */
+#include <stdio.h>
+#include <stdlib.h>
+
+#include "s2ix.h"
+
+enum { CENTRE = 1, STATION = 2, CLOSED_ROADS = 3, ROOM = 64 };
+
+static const uint64_t centre[] = {0x4786590000000000, 0x4786570000000000, 0x47865f0000000000};
+static const uint64_t station[] = {0x4786596c00000000, 0x4786596400000000};
+static const uint64_t road = 0x4786596c4f000000, courier = 0x4786596c4f1d6f9b;
+
+/* Ends the program if a call was refused. */
+static void done(uint32_t status) {
+    if (status != S2IX_DONE) exit(1);
+}
+
+static void print_token(uint64_t cell) {
+    uint8_t text[16];
+    size_t length;
+    done(s2ix_cell_to_token(cell, text, &length)), fwrite(text, 1, length, stdout);
+}
+
+static void show(const char *question, s2ix_handle *zones) {
+    s2ix_row rows[ROOM];
+    size_t number;
+    done(s2ix_at(zones, courier, rows, ROOM, &number)), puts(question);
+    for (size_t k = 0; k < number; k++) printf("  "), print_token(rows[k].cell), printf(" zone %u, %u\n", rows[k].label, rows[k].count);
+}
+
+int main(void) {
+    s2ix_handle zones = {0};
+    size_t number;
+    uint32_t labels[ROOM];
+    uint64_t cells[ROOM];
+    uint8_t dump[1024];
+    done(s2ix_open(&zones, 1000, 100, 100));
+    /* Each edit is a change: these are the first to the fourth. */
+    done(s2ix_add_union(&zones, centre, 3, CENTRE, &number)), printf("the centre has %zu cells\n", number);
+    done(s2ix_add_union(&zones, station, 2, STATION, &number)), printf("the station has %zu cells\n", number);
+    done(s2ix_add(&zones, road, CLOSED_ROADS, 1, &number)), printf("roads are closed in %zu cell\n", number);
+    done(s2ix_add(&zones, station[0], STATION, 1, &number)), printf("the station is counted twice: %zu pair\n", number);
+    show("where is the courier?", &zones);
+    done(s2ix_labels(&zones, station, 2, labels, ROOM, &number)), printf("zones near the station:");
+    for (size_t k = 0; k < number; k++) printf(" %u", labels[k]);
+    puts("");
+    done(s2ix_revert(&zones, 3, &number)), printf("the roads are open again: %zu pair changed\n", number);
+    show("where is the courier now?", &zones);
+    if (s2ix_remove(&zones, road, CLOSED_ROADS, 1, &number) == S2IX_NOT_HELD) puts("a second time is refused: none is held");
+    done(s2ix_undo(&zones, &number)), printf("the last change is undone: %zu pair is back\n", number);
+    done(s2ix_region(&zones, STATION, cells, ROOM, &number)), printf("the station's region:");
+    for (size_t k = 0; k < number; k++) printf(" "), print_token(cells[k]);
+    puts("");
+    done(s2ix_dump(&zones, dump, sizeof dump, &number)), fwrite(dump, 1, number, stdout);
+    s2ix_close(&zones);
+}

@@ -1,0 +1,345 @@
+/* The S2 cell index that can be edited: stores behind handles, cells and unions of cells. docs/FROM_C.md says how to build the library, and
+   what C must see to.
+
+   Cells are S2's 64-bit ids, labels are 0 to 2147483647. Each call returns a status, but s2ix_close none, and some on cells a yes or no; a
+   status other than S2IX_DONE leaves the store as it was. A list goes to a buffer of the caller: *number says how many items there are, and
+   if there is room for all, they are put to its front; else the status is S2IX_NO_ROOM, and the buffer is as it was. If a call is refused
+   for another reason, *number is 0. A pointer to no items may be any pointer but NULL. */
+#ifndef S2IX_H
+#define S2IX_H
+
+#include <stdbool.h>
+#include <stddef.h>
+#include <stdint.h>
+
+#ifdef __cplusplus
+extern "C" {
+#endif
+
+/* A store, or none. It starts as {0}, which is closed. Copy it never, and pass it to one call at a time, from the thread that opened it. */
+typedef struct s2ix_handle {
+    void *address;
+    bool is_open;
+} s2ix_handle;
+
+/* A pair of a cell and a label that a store holds, with its count. */
+typedef struct s2ix_row {
+    uint64_t cell;
+    uint32_t label;
+    uint32_t count;
+} s2ix_row;
+
+enum s2ix_status {
+    S2IX_DONE = 0,
+    S2IX_CLOSED = 1,          /* the handle is closed */
+    S2IX_OUT_OF_MEMORY = 2,   /* a growth was refused */
+    S2IX_NO_CELL = 3,         /* a number is no cell's, or no leaf's where a leaf is asked for; or a call on cells finds none */
+    S2IX_NO_LABEL = 4,        /* a number is no label's */
+    S2IX_NO_LIMITS = 5,       /* limits are out of their ranges */
+    S2IX_NOTHING_TO_UNDO = 6,
+    S2IX_NOTHING_TO_REDO = 7,
+    S2IX_NO_ROOM = 8,         /* the buffer is too short */
+    S2IX_NO_DUMP = 9,         /* the text is no dump under the limits */
+    S2IX_JOURNAL_FULL = 16,   /* as many changes can be undone as the limit allows */
+    S2IX_NO_SUCH_LABEL = 17,  /* no pair of the label is held */
+    S2IX_NOT_HELD = 18,       /* fewer copies are held */
+    S2IX_TOO_FINE = 19,       /* the level is above 30, or more than 8 above that of the cell, or of a cell of the label */
+    S2IX_NO_SUCH_CHANGE = 20, /* fewer changes stand, or the number is 0 */
+    S2IX_BELOW_ZERO = 21,     /* a count would be below 0 */
+    S2IX_NO_CHANGE = 22,      /* nothing would change */
+    S2IX_TOO_MANY_COPIES = 23,
+    S2IX_TOO_MANY_PAIRS = 24,
+    S2IX_COARSER = 25,        /* the level is below the cell's */
+    S2IX_NO_SPAN = 26         /* a bound is even, or not 1 <= start <= limit <= 0xc000000000000001 */
+};
+
+/* What a status says, in words, as bytes with no zero behind them. S2IX_NO_ROOM. */
+uint32_t s2ix_status_text(uint32_t status, uint8_t *text, size_t room, size_t *number);
+
+/* Opens a handle of an empty store of at most `pairs` pairs (1 to 1,000,000), `copies` copies of each (1 and up) and `changes` changes to
+   undo (1 to 100,000). A store that the handle had is freed, if the call is not refused. O(1), and the freeing.
+   S2IX_NO_LIMITS, S2IX_OUT_OF_MEMORY. */
+uint32_t s2ix_open(s2ix_handle *handle, uint32_t pairs, uint32_t copies, uint32_t changes);
+
+/* Opens a handle of the store that starts from a dump's collection, under limits as those of s2ix_open. A store that the handle had is freed,
+   if the call is not refused. If the text is no dump, *line is the first line with a fault, from 1; else it is 0. O(n) for n bytes.
+   S2IX_NO_LIMITS, S2IX_NO_DUMP, S2IX_OUT_OF_MEMORY. */
+uint32_t s2ix_load(s2ix_handle *handle, const uint8_t *text, size_t len, uint32_t pairs, uint32_t copies, uint32_t changes, size_t *line);
+
+/* Opens `copy` of a store that starts from what the handle's holds, with nothing to undo or redo. A store that `copy` had is freed, if the
+   call is not refused. The two stores share memory: both stay on one thread. O(1), and the table's O(n).
+   S2IX_CLOSED, S2IX_OUT_OF_MEMORY. */
+uint32_t s2ix_copy(s2ix_handle *handle, s2ix_handle *copy);
+
+/* Closes a handle and frees all that its store had; a closed one stays closed. O(n). */
+void s2ix_close(s2ix_handle *handle);
+
+/* Edits: each is one change, which can be undone. *number is how many pairs changed their counts. Beside the statuses named, each may answer
+   S2IX_CLOSED, S2IX_JOURNAL_FULL, S2IX_NO_CHANGE, S2IX_TOO_MANY_COPIES, S2IX_TOO_MANY_PAIRS or S2IX_OUT_OF_MEMORY. The time grows with
+   the pairs held on the faces that change. */
+
+/* Adds copies to the count of a cell under a label. S2IX_NO_CELL, S2IX_NO_LABEL. */
+uint32_t s2ix_add(s2ix_handle *handle, uint64_t cell, uint32_t label, uint32_t copies, size_t *number);
+
+/* Takes copies from the count of a cell under a label. S2IX_NO_CELL, S2IX_NO_LABEL, S2IX_NOT_HELD. */
+uint32_t s2ix_remove(s2ix_handle *handle, uint64_t cell, uint32_t label, uint32_t copies, size_t *number);
+
+/* Adds one copy under a label for each cell of the normal form of a union. S2IX_NO_CELL, S2IX_NO_LABEL. */
+uint32_t s2ix_add_union(s2ix_handle *handle, const uint64_t *cells, size_t len, uint32_t label, size_t *number);
+
+/* Takes away all copies of a label's pairs. S2IX_NO_LABEL, S2IX_NO_SUCH_LABEL. */
+uint32_t s2ix_drop_label(s2ix_handle *handle, uint32_t label, size_t *number);
+
+/* Moves all copies of one label to another, cell by cell. S2IX_NO_LABEL, S2IX_NO_SUCH_LABEL. */
+uint32_t s2ix_relabel(s2ix_handle *handle, uint32_t source, uint32_t target, size_t *number);
+
+/* Adds one copy under a label for each cell of a level that overlaps no cell of the label and shares an edge with a cell of the level
+   that overlaps one. S2IX_NO_LABEL, S2IX_NO_SUCH_LABEL, S2IX_TOO_FINE. */
+uint32_t s2ix_grow(s2ix_handle *handle, uint32_t label, uint8_t level, size_t *number);
+
+/* Replaces a label's pairs by one copy at each cell of the label's region. S2IX_NO_LABEL, S2IX_NO_SUCH_LABEL. */
+uint32_t s2ix_normalise_label(s2ix_handle *handle, uint32_t label, size_t *number);
+
+/* Takes back the change with a number, counted from 1 among those that can be undone, and leaves those that followed it.
+   S2IX_NO_SUCH_CHANGE, S2IX_BELOW_ZERO. */
+uint32_t s2ix_revert(s2ix_handle *handle, uint32_t change, size_t *number);
+
+/* Takes the last change back; *number is how many pairs it had. S2IX_CLOSED, S2IX_NOTHING_TO_UNDO, S2IX_OUT_OF_MEMORY. */
+uint32_t s2ix_undo(s2ix_handle *handle, size_t *number);
+
+/* Does the change that was undone last again. S2IX_CLOSED, S2IX_NOTHING_TO_REDO, S2IX_OUT_OF_MEMORY. */
+uint32_t s2ix_redo(s2ix_handle *handle, size_t *number);
+
+/* Keeps what is held and drops all changes: nothing is left to undo or redo. S2IX_CLOSED. */
+uint32_t s2ix_forget(s2ix_handle *handle);
+
+/* The pairs over a leaf, the innermost cell first, the labels of one cell rising. O(log n + k) for k pairs.
+   S2IX_CLOSED, S2IX_NO_CELL, S2IX_NO_ROOM, S2IX_OUT_OF_MEMORY. */
+uint32_t s2ix_at(s2ix_handle *handle, uint64_t leaf, s2ix_row *rows, size_t room, size_t *number);
+
+/* The pairs that share a leaf with a union of cells, in any order and repeated or not: each once, by first shared leaf, then falling level,
+   then rising label. O(k + r + t log n) for k pairs, r ranges and t cells. S2IX_CLOSED, S2IX_NO_CELL, S2IX_NO_ROOM, S2IX_OUT_OF_MEMORY. */
+uint32_t s2ix_meet(s2ix_handle *handle, const uint64_t *cells, size_t len, s2ix_row *rows, size_t room, size_t *number);
+
+/* The labels of those pairs: each once, rising. The same statuses. */
+uint32_t s2ix_labels(s2ix_handle *handle, const uint64_t *cells, size_t len, uint32_t *labels, size_t room, size_t *number);
+
+/* The region of a label: the normal union of its cells, rising. O(n + m log m) for m pairs of the label.
+   S2IX_CLOSED, S2IX_NO_LABEL, S2IX_NO_ROOM, S2IX_OUT_OF_MEMORY. */
+uint32_t s2ix_region(s2ix_handle *handle, uint32_t label, uint64_t *cells, size_t room, size_t *number);
+
+/* How many copies of a cell are held under a label: 0 if the pair is not held. O(log n). S2IX_CLOSED, S2IX_NO_CELL, S2IX_NO_LABEL. */
+uint32_t s2ix_count(s2ix_handle *handle, uint64_t cell, uint32_t label, uint32_t *count);
+
+/* How many pairs are held. O(1). S2IX_CLOSED. */
+uint32_t s2ix_len(s2ix_handle *handle, size_t *number);
+
+/* The sum of the counts. O(n). S2IX_CLOSED. */
+uint32_t s2ix_copies(s2ix_handle *handle, uint64_t *copies);
+
+/* How many changes can be undone, and how many redone. O(1). S2IX_CLOSED. */
+uint32_t s2ix_done_count(s2ix_handle *handle, size_t *number);
+uint32_t s2ix_undone_count(s2ix_handle *handle, size_t *number);
+
+/* How many faces, 0 to 6, the last accepted edit, undo or redo read again. O(1). S2IX_CLOSED. */
+uint32_t s2ix_faces_rebuilt(s2ix_handle *handle, size_t *number);
+
+/* How many ranges of leaves there are over which the same pairs lie: at least 1. O(1). S2IX_CLOSED. */
+uint32_t s2ix_range_count(s2ix_handle *handle, size_t *number);
+
+/* The dump of what is held, as bytes (docs/FORMATS.md). O(n). S2IX_CLOSED, S2IX_NO_ROOM, S2IX_OUT_OF_MEMORY. */
+uint32_t s2ix_dump(s2ix_handle *handle, uint8_t *text, size_t room, size_t *number);
+
+/* Cells, without a handle. Each call takes O(1), if nothing else is said, and never wants memory but for a border. A call that tells a cell,
+   a level or a face tells 0 if it is refused. The calls that answer yes or no answer no if a number is no cell's. */
+
+/* A cell as a square of the grid of its level on its face. */
+typedef struct s2ix_square {
+    uint32_t i;          /* the column, in squares of the cell's own level */
+    uint32_t j;          /* the row */
+    uint8_t face;        /* 0 to 5 */
+    uint8_t level;       /* 0 to 30 */
+    uint8_t orientation; /* bit 0: i and j are swapped, bit 1: both are inverted */
+} s2ix_square;
+
+/* Whether a number is a cell's. */
+bool s2ix_cell_is_valid(uint64_t cell);
+
+/* The cell that a text spells: 1 to 16 hexadecimal digits of either case; those missing on the right are zeros. S2IX_NO_CELL. */
+uint32_t s2ix_cell_from_token(const uint8_t *text, size_t len, uint64_t *cell);
+
+/* A cell's token, as *number bytes, 1 to 16, with no zero behind them. If it is refused, `text` is as it was. S2IX_NO_CELL. */
+uint32_t s2ix_cell_to_token(uint64_t cell, uint8_t text[16], size_t *number);
+
+/* A cell's path for people, as 0/32: the face, a slash, and the child positions from level 1 down, 2 to 32 bytes. S2IX_NO_CELL. */
+uint32_t s2ix_cell_path(uint64_t cell, uint8_t text[32], size_t *number);
+
+/* The cell of a level that a cell lies in, itself at its own level. S2IX_NO_CELL, for a finer level too. */
+uint32_t s2ix_cell_parent(uint64_t cell, uint8_t level, uint64_t *parent);
+
+/* The child at a position, 0 to 3 along the curve. S2IX_NO_CELL, for a leaf and for another position too. */
+uint32_t s2ix_cell_child(uint64_t cell, uint8_t position, uint64_t *child);
+
+/* The level, 0 for a whole face to 30 for a leaf. S2IX_NO_CELL. */
+uint32_t s2ix_cell_level(uint64_t cell, uint8_t *level);
+
+/* The face, 0 to 5. S2IX_NO_CELL. */
+uint32_t s2ix_cell_face(uint64_t cell, uint8_t *face);
+
+/* Whether a cell is of level 30. */
+bool s2ix_cell_is_leaf(uint64_t cell);
+
+/* The cell's first leaf along the curve, and its last. S2IX_NO_CELL. */
+uint32_t s2ix_cell_range_min(uint64_t cell, uint64_t *leaf);
+uint32_t s2ix_cell_range_max(uint64_t cell, uint64_t *leaf);
+
+/* Whether each leaf of the other cell is one of the cell's. */
+bool s2ix_cell_contains(uint64_t cell, uint64_t other);
+
+/* Whether two cells share a leaf: then one contains the other. */
+bool s2ix_cell_intersects(uint64_t cell, uint64_t other);
+
+/* The level of the smallest cell that contains both. S2IX_NO_CELL, for cells of two faces too. */
+uint32_t s2ix_cell_common_level(uint64_t cell, uint64_t other, uint8_t *level);
+
+/* The next cell of its level along the curve; the first of face 0 comes after the last of face 5. S2IX_NO_CELL. */
+uint32_t s2ix_cell_next(uint64_t cell, uint64_t *next);
+
+/* The four cells of its level that share an edge with a cell: down, right, up, left. If it is refused, `cells` is as it was. S2IX_NO_CELL. */
+uint32_t s2ix_cell_edge_neighbors(uint64_t cell, uint64_t cells[4]);
+
+/* The cells of a level outside a cell that share an edge with a cell of that level inside it: each once, rising, at most 1024.
+   O(n log n) for n cells. S2IX_NO_CELL, S2IX_COARSER, S2IX_TOO_FINE, S2IX_NO_ROOM, S2IX_OUT_OF_MEMORY. */
+uint32_t s2ix_cell_border(uint64_t cell, uint8_t level, uint64_t *cells, size_t room, size_t *number);
+
+/* The square of a cell. If it is refused, *square is as it was. S2IX_NO_CELL. */
+uint32_t s2ix_cell_to_face_ij(uint64_t cell, s2ix_square *square);
+
+/* The cell of a square. S2IX_NO_CELL, for a face above 5, a level above 30, or a column or row of 2^level or more. */
+uint32_t s2ix_cell_from_face_ij(uint8_t face, uint32_t i, uint32_t j, uint8_t level, uint64_t *cell);
+
+/* Unions of cells, without a handle: sets of leaves, as lists of cells in any order, repeated or not. A list that a call puts is normal: it
+   rises, no cell lies within another, and no four are all the children of one. A buffer may not overlap a list that is read. Each call
+   first normalises its lists, in O(n log n) for n cells. S2IX_NO_CELL and S2IX_OUT_OF_MEMORY, and S2IX_NO_ROOM of those with a buffer. */
+
+/* The normal list of the same leaves: never longer than the list. */
+uint32_t s2ix_union_normalise(const uint64_t *cells, size_t len, uint64_t *out, size_t room, size_t *number);
+
+/* The leaves with numbers from `start` up to and without `limit`: at most 184 cells. Bounds are odd; equal ones give no cells.
+   S2IX_NO_SPAN, S2IX_NO_ROOM, S2IX_OUT_OF_MEMORY. */
+uint32_t s2ix_union_from_leaves(uint64_t start, uint64_t limit, uint64_t *out, size_t room, size_t *number);
+
+/* The leaves of either union, of both, and of the first without those of the second. */
+uint32_t s2ix_union_union(const uint64_t *first, size_t first_len, const uint64_t *second, size_t second_len, uint64_t *out, size_t room,
+                          size_t *number);
+uint32_t s2ix_union_intersection(const uint64_t *first, size_t first_len, const uint64_t *second, size_t second_len, uint64_t *out, size_t room,
+                                 size_t *number);
+uint32_t s2ix_union_difference(const uint64_t *first, size_t first_len, const uint64_t *second, size_t second_len, uint64_t *out, size_t room,
+                               size_t *number);
+
+/* Whether each leaf of a cell is one of the union's, and whether some leaf is; *answer is false if the call is refused. */
+uint32_t s2ix_union_contains(const uint64_t *cells, size_t len, uint64_t cell, bool *answer);
+uint32_t s2ix_union_intersects(const uint64_t *cells, size_t len, uint64_t cell, bool *answer);
+
+/* How many leaves the union has; 0 if the call is refused. */
+uint32_t s2ix_union_leaf_count(const uint64_t *cells, size_t len, uint64_t *count);
+
+/* Cells, without a handle. Each call takes O(1), if nothing else is said, and never wants memory but for a border. A call that tells a cell,
+   a level or a face tells 0 if it is refused. The calls that answer yes or no answer no if a number is no cell's. */
+
+/* A cell as a square of the grid of its level on its face. */
+typedef struct s2ix_square {
+    uint32_t i;          /* the column, in squares of the cell's own level */
+    uint32_t j;          /* the row */
+    uint8_t face;        /* 0 to 5 */
+    uint8_t level;       /* 0 to 30 */
+    uint8_t orientation; /* bit 0: i and j are swapped, bit 1: both are inverted */
+} s2ix_square;
+
+/* Whether a number is a cell's. */
+bool s2ix_cell_is_valid(uint64_t cell);
+
+/* The cell that a text spells: 1 to 16 hexadecimal digits of either case; those missing on the right are zeros. S2IX_NO_CELL. */
+uint32_t s2ix_cell_from_token(const uint8_t *text, size_t len, uint64_t *cell);
+
+/* A cell's token, as *number bytes, 1 to 16, with no zero behind them. If it is refused, `text` is as it was. S2IX_NO_CELL. */
+uint32_t s2ix_cell_to_token(uint64_t cell, uint8_t text[16], size_t *number);
+
+/* A cell's path for people, as 0/32: the face, a slash, and the child positions from level 1 down, 2 to 32 bytes. S2IX_NO_CELL. */
+uint32_t s2ix_cell_path(uint64_t cell, uint8_t text[32], size_t *number);
+
+/* The cell of a level that a cell lies in, itself at its own level. S2IX_NO_CELL, for a finer level too. */
+uint32_t s2ix_cell_parent(uint64_t cell, uint8_t level, uint64_t *parent);
+
+/* The child at a position, 0 to 3 along the curve. S2IX_NO_CELL, for a leaf and for another position too. */
+uint32_t s2ix_cell_child(uint64_t cell, uint8_t position, uint64_t *child);
+
+/* The level, 0 for a whole face to 30 for a leaf. S2IX_NO_CELL. */
+uint32_t s2ix_cell_level(uint64_t cell, uint8_t *level);
+
+/* The face, 0 to 5. S2IX_NO_CELL. */
+uint32_t s2ix_cell_face(uint64_t cell, uint8_t *face);
+
+/* Whether a cell is of level 30. */
+bool s2ix_cell_is_leaf(uint64_t cell);
+
+/* The cell's first leaf along the curve, and its last. S2IX_NO_CELL. */
+uint32_t s2ix_cell_range_min(uint64_t cell, uint64_t *leaf);
+uint32_t s2ix_cell_range_max(uint64_t cell, uint64_t *leaf);
+
+/* Whether each leaf of the other cell is one of the cell's. */
+bool s2ix_cell_contains(uint64_t cell, uint64_t other);
+
+/* Whether two cells share a leaf: then one contains the other. */
+bool s2ix_cell_intersects(uint64_t cell, uint64_t other);
+
+/* The level of the smallest cell that contains both. S2IX_NO_CELL, for cells of two faces too. */
+uint32_t s2ix_cell_common_level(uint64_t cell, uint64_t other, uint8_t *level);
+
+/* The next cell of its level along the curve; the first of face 0 comes after the last of face 5. S2IX_NO_CELL. */
+uint32_t s2ix_cell_next(uint64_t cell, uint64_t *next);
+
+/* The four cells of its level that share an edge with a cell: down, right, up, left. If it is refused, `cells` is as it was. S2IX_NO_CELL. */
+uint32_t s2ix_cell_edge_neighbors(uint64_t cell, uint64_t cells[4]);
+
+/* The cells of a level outside a cell that share an edge with a cell of that level inside it: each once, rising, at most 1024.
+   O(n log n) for n cells. S2IX_NO_CELL, S2IX_COARSER, S2IX_TOO_FINE, S2IX_NO_ROOM, S2IX_OUT_OF_MEMORY. */
+uint32_t s2ix_cell_border(uint64_t cell, uint8_t level, uint64_t *cells, size_t room, size_t *number);
+
+/* The square of a cell. If it is refused, *square is as it was. S2IX_NO_CELL. */
+uint32_t s2ix_cell_to_face_ij(uint64_t cell, s2ix_square *square);
+
+/* The cell of a square. S2IX_NO_CELL, for a face above 5, a level above 30, or a column or row of 2^level or more. */
+uint32_t s2ix_cell_from_face_ij(uint8_t face, uint32_t i, uint32_t j, uint8_t level, uint64_t *cell);
+
+/* Unions of cells, without a handle: sets of leaves, as lists of cells in any order, repeated or not. A list that a call puts is normal: it
+   rises, no cell lies within another, and no four are all the children of one. A buffer may not overlap a list that is read. Each call
+   first normalises its lists, in O(n log n) for n cells. S2IX_NO_CELL and S2IX_OUT_OF_MEMORY, and S2IX_NO_ROOM of those with a buffer. */
+
+/* The normal list of the same leaves: never longer than the list. */
+uint32_t s2ix_union_normalise(const uint64_t *cells, size_t len, uint64_t *out, size_t room, size_t *number);
+
+/* The leaves with numbers from `start` up to and without `limit`: at most 184 cells. Bounds are odd; equal ones give no cells.
+   S2IX_NO_SPAN, S2IX_NO_ROOM, S2IX_OUT_OF_MEMORY. */
+uint32_t s2ix_union_from_leaves(uint64_t start, uint64_t limit, uint64_t *out, size_t room, size_t *number);
+
+/* The leaves of either union, of both, and of the first without those of the second. */
+uint32_t s2ix_union_union(const uint64_t *first, size_t first_len, const uint64_t *second, size_t second_len, uint64_t *out, size_t room,
+                          size_t *number);
+uint32_t s2ix_union_intersection(const uint64_t *first, size_t first_len, const uint64_t *second, size_t second_len, uint64_t *out, size_t room,
+                                 size_t *number);
+uint32_t s2ix_union_difference(const uint64_t *first, size_t first_len, const uint64_t *second, size_t second_len, uint64_t *out, size_t room,
+                               size_t *number);
+
+/* Whether each leaf of a cell is one of the union's, and whether some leaf is; *answer is false if the call is refused. */
+uint32_t s2ix_union_contains(const uint64_t *cells, size_t len, uint64_t cell, bool *answer);
+uint32_t s2ix_union_intersects(const uint64_t *cells, size_t len, uint64_t cell, bool *answer);
+
+/* How many leaves the union has; 0 if the call is refused. */
+uint32_t s2ix_union_leaf_count(const uint64_t *cells, size_t len, uint64_t *count);
+
+#ifdef __cplusplus
+}
+#endif
+
+#endif

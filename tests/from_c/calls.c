@@ -1,0 +1,335 @@
+/* Calls each export of the library, with its refusals, and says 'c library: well', or the first lines at which an answer was another. */
+#include "s2ix.h"
+
+#include <stdint.h>
+#include <stdio.h>
+#include <string.h>
+
+/* How many calls of cells and unions answer other than they should: in cells.c. */
+int cell_faults(void);
+
+static int faults;
+
+static void expect(int line, long long found, long long wanted) {
+    if (found != wanted) {
+        printf("calls.c:%d: %lld in place of %lld\n", line, found, wanted);
+        faults++;
+    }
+}
+
+#define EXPECT(found, wanted) expect(__LINE__, (long long)(found), (long long)(wanted))
+
+/* Two neighbours on face 0, the face, a leaf below the first, and numbers that are no cells. */
+static const uint64_t first = 0x0400000000000000, second = 0x0c00000000000000, face = 0x1000000000000000, leaf = 0x0400000000000001;
+static const uint64_t no_cell = 6, highest_label = 2147483647;
+
+static void refused_while_closed(void) {
+    s2ix_handle handle = {0};
+    size_t number = 7;
+    s2ix_row row = {1, 2, 3};
+    uint32_t label = 9;
+    uint64_t cell = 9;
+    uint8_t byte[1] = {9};
+    EXPECT(s2ix_add(&handle, first, 1, 1, &number), S2IX_CLOSED);
+    EXPECT(number, 0);
+    EXPECT(s2ix_remove(&handle, first, 1, 1, &number), S2IX_CLOSED);
+    EXPECT(s2ix_add_union(&handle, &first, 1, 1, &number), S2IX_CLOSED);
+    EXPECT(s2ix_drop_label(&handle, 1, &number), S2IX_CLOSED);
+    EXPECT(s2ix_relabel(&handle, 1, 2, &number), S2IX_CLOSED);
+    EXPECT(s2ix_grow(&handle, 1, 2, &number), S2IX_CLOSED);
+    EXPECT(s2ix_normalise_label(&handle, 1, &number), S2IX_CLOSED);
+    EXPECT(s2ix_revert(&handle, 1, &number), S2IX_CLOSED);
+    EXPECT(s2ix_undo(&handle, &number), S2IX_CLOSED);
+    EXPECT(s2ix_redo(&handle, &number), S2IX_CLOSED);
+    EXPECT(s2ix_forget(&handle), S2IX_CLOSED);
+    number = 7;
+    EXPECT(s2ix_at(&handle, leaf, &row, 1, &number), S2IX_CLOSED);
+    EXPECT(number, 0);
+    EXPECT(s2ix_meet(&handle, &face, 1, &row, 1, &number), S2IX_CLOSED);
+    EXPECT(row.cell + row.label + row.count, 6);
+    EXPECT(s2ix_labels(&handle, &face, 1, &label, 1, &number), S2IX_CLOSED);
+    EXPECT(label, 9);
+    EXPECT(s2ix_region(&handle, 1, &cell, 1, &number), S2IX_CLOSED);
+    EXPECT(cell, 9);
+    EXPECT(s2ix_dump(&handle, byte, 1, &number), S2IX_CLOSED);
+    EXPECT(byte[0], 9);
+    s2ix_close(&handle);
+    s2ix_close(&handle);
+    EXPECT(handle.is_open, false);
+}
+
+static void untold_while_closed(void) {
+    s2ix_handle handle = {0}, other = {0};
+    size_t number = 7;
+    uint32_t count = 9;
+    uint64_t copies = 9;
+    EXPECT(s2ix_count(&handle, first, 1, &count), S2IX_CLOSED);
+    EXPECT(count, 0);
+    EXPECT(s2ix_len(&handle, &number), S2IX_CLOSED);
+    EXPECT(s2ix_copies(&handle, &copies), S2IX_CLOSED);
+    EXPECT(copies, 0);
+    EXPECT(s2ix_range_count(&handle, &number), S2IX_CLOSED);
+    EXPECT(number, 0);
+    EXPECT(s2ix_done_count(&handle, &number), S2IX_CLOSED);
+    EXPECT(s2ix_undone_count(&handle, &number), S2IX_CLOSED);
+    EXPECT(s2ix_faces_rebuilt(&handle, &number), S2IX_CLOSED);
+    EXPECT(number, 0);
+    EXPECT(s2ix_copy(&handle, &other), S2IX_CLOSED);
+    EXPECT(other.is_open, false);
+    EXPECT(handle.is_open, false);
+}
+
+static void opened(void) {
+    s2ix_handle handle = {0};
+    size_t number;
+    EXPECT(s2ix_open(&handle, 0, 1, 1), S2IX_NO_LIMITS);
+    EXPECT(s2ix_open(&handle, 1000001, 1, 1), S2IX_NO_LIMITS);
+    EXPECT(s2ix_open(&handle, 1, 0, 1), S2IX_NO_LIMITS);
+    EXPECT(s2ix_open(&handle, 1, 1, 0), S2IX_NO_LIMITS);
+    EXPECT(s2ix_open(&handle, 1, 1, 100001), S2IX_NO_LIMITS);
+    EXPECT(handle.is_open, false);
+    EXPECT(s2ix_open(&handle, 1000000, UINT32_MAX, 100000), S2IX_DONE);
+    EXPECT(handle.is_open, true);
+    EXPECT(s2ix_add(&handle, first, 1, 1, &number), S2IX_DONE);
+    EXPECT(s2ix_open(&handle, 0, 0, 0), S2IX_NO_LIMITS);
+    EXPECT(s2ix_len(&handle, &number), S2IX_DONE);
+    EXPECT(number, 1);
+    EXPECT(s2ix_open(&handle, 5, 5, 5), S2IX_DONE);
+    EXPECT(s2ix_len(&handle, &number), S2IX_DONE);
+    EXPECT(number, 0);
+    s2ix_close(&handle);
+    s2ix_close(&handle);
+}
+
+/* The steps of a store with three changes, of which the journal holds four. */
+static void stepped(s2ix_handle *handle) {
+    size_t number;
+    EXPECT(s2ix_revert(handle, 0, &number), S2IX_NO_SUCH_CHANGE);
+    EXPECT(s2ix_revert(handle, 2, &number), S2IX_DONE);
+    EXPECT(s2ix_revert(handle, 1, &number), S2IX_JOURNAL_FULL);
+    EXPECT(s2ix_undo(handle, &number), S2IX_DONE);
+    EXPECT(number, 1);
+    EXPECT(s2ix_done_count(handle, &number), S2IX_DONE);
+    EXPECT(number, 3);
+    EXPECT(s2ix_undone_count(handle, &number), S2IX_DONE);
+    EXPECT(number, 1);
+    EXPECT(s2ix_faces_rebuilt(handle, &number), S2IX_DONE);
+    EXPECT(number, 1);
+    EXPECT(s2ix_redo(handle, &number), S2IX_DONE);
+    EXPECT(s2ix_redo(handle, &number), S2IX_NOTHING_TO_REDO);
+    EXPECT(number, 0);
+    EXPECT(s2ix_forget(handle), S2IX_DONE);
+    EXPECT(s2ix_undo(handle, &number), S2IX_NOTHING_TO_UNDO);
+}
+
+static void edited(void) {
+    s2ix_handle handle = {0};
+    size_t number;
+    uint32_t count;
+    uint64_t copies, both[2] = {second, first};
+    EXPECT(s2ix_open(&handle, 4, 5, 4), S2IX_DONE);
+    EXPECT(s2ix_add(&handle, no_cell, 1, 1, &number), S2IX_NO_CELL);
+    EXPECT(number, 0);
+    EXPECT(s2ix_add(&handle, first, (uint32_t)highest_label + 1, 1, &number), S2IX_NO_LABEL);
+    EXPECT(s2ix_add(&handle, first, 1, 0, &number), S2IX_NO_CHANGE);
+    EXPECT(s2ix_add(&handle, first, 1, 6, &number), S2IX_TOO_MANY_COPIES);
+    EXPECT(s2ix_add(&handle, first, (uint32_t)highest_label, 2, &number), S2IX_DONE);
+    EXPECT(number, 1);
+    EXPECT(s2ix_remove(&handle, first, (uint32_t)highest_label, 3, &number), S2IX_NOT_HELD);
+    EXPECT(s2ix_remove(&handle, no_cell, 1, 1, &number), S2IX_NO_CELL);
+    EXPECT(s2ix_remove(&handle, first, (uint32_t)highest_label, 2, &number), S2IX_DONE);
+    EXPECT(s2ix_len(&handle, &number), S2IX_DONE);
+    EXPECT(number, 0);
+    EXPECT(s2ix_add_union(&handle, both, 2, 1, &number), S2IX_DONE);
+    EXPECT(number, 2);
+    both[1] = no_cell;
+    EXPECT(s2ix_add_union(&handle, both, 2, 1, &number), S2IX_NO_CELL);
+    EXPECT(s2ix_add_union(&handle, both, 1, (uint32_t)highest_label + 1, &number), S2IX_NO_LABEL);
+    EXPECT(s2ix_add_union(&handle, both, 0, 1, &number), S2IX_NO_CHANGE);
+    EXPECT(s2ix_count(&handle, second, 1, &count), S2IX_DONE);
+    EXPECT(count, 1);
+    EXPECT(s2ix_count(&handle, leaf, 1, &count), S2IX_DONE);
+    EXPECT(count, 0);
+    EXPECT(s2ix_count(&handle, no_cell, 1, &count), S2IX_NO_CELL);
+    EXPECT(s2ix_count(&handle, first, (uint32_t)highest_label + 1, &count), S2IX_NO_LABEL);
+    EXPECT(s2ix_copies(&handle, &copies), S2IX_DONE);
+    EXPECT(copies, 2);
+    stepped(&handle);
+    s2ix_close(&handle);
+}
+
+static void edited_labels(void) {
+    s2ix_handle handle = {0};
+    size_t number;
+    uint64_t both[2] = {first, second}, region[64];
+    EXPECT(s2ix_open(&handle, 100, 5, 100), S2IX_DONE);
+    EXPECT(s2ix_add_union(&handle, both, 2, 1, &number), S2IX_DONE);
+    EXPECT(s2ix_drop_label(&handle, 2, &number), S2IX_NO_SUCH_LABEL);
+    EXPECT(s2ix_drop_label(&handle, UINT32_MAX, &number), S2IX_NO_LABEL);
+    EXPECT(s2ix_relabel(&handle, 2, 3, &number), S2IX_NO_SUCH_LABEL);
+    EXPECT(s2ix_relabel(&handle, UINT32_MAX, 3, &number), S2IX_NO_LABEL);
+    EXPECT(s2ix_relabel(&handle, 1, UINT32_MAX, &number), S2IX_NO_LABEL);
+    EXPECT(s2ix_relabel(&handle, 1, 1, &number), S2IX_NO_CHANGE);
+    EXPECT(s2ix_relabel(&handle, 1, 2, &number), S2IX_DONE);
+    EXPECT(number, 4);
+    EXPECT(s2ix_grow(&handle, 2, 31, &number), S2IX_TOO_FINE);
+    EXPECT(s2ix_grow(&handle, 1, 1, &number), S2IX_NO_SUCH_LABEL);
+    EXPECT(s2ix_grow(&handle, UINT32_MAX, 1, &number), S2IX_NO_LABEL);
+    EXPECT(s2ix_grow(&handle, 2, 1, &number), S2IX_DONE);
+    EXPECT(number > 0, true);
+    EXPECT(s2ix_normalise_label(&handle, 1, &number), S2IX_NO_SUCH_LABEL);
+    EXPECT(s2ix_normalise_label(&handle, UINT32_MAX, &number), S2IX_NO_LABEL);
+    EXPECT(s2ix_add(&handle, leaf, 2, 1, &number), S2IX_DONE);
+    EXPECT(s2ix_normalise_label(&handle, 2, &number), S2IX_DONE);
+    EXPECT(s2ix_region(&handle, 2, region, 64, &number), S2IX_DONE);
+    EXPECT(s2ix_drop_label(&handle, 2, &number), S2IX_DONE);
+    EXPECT(s2ix_len(&handle, &number), S2IX_DONE);
+    EXPECT(number, 0);
+    EXPECT(s2ix_region(&handle, 2, region, 0, &number), S2IX_DONE);
+    EXPECT(number, 0);
+    s2ix_close(&handle);
+}
+
+static void asked_for_labels(s2ix_handle *handle) {
+    size_t number;
+    uint32_t labels[3];
+    uint64_t region[3];
+    EXPECT(s2ix_labels(handle, &face, 1, labels, 2, &number), S2IX_NO_ROOM);
+    EXPECT(number, 3);
+    EXPECT(s2ix_labels(handle, &face, 1, labels, 3, &number), S2IX_DONE);
+    EXPECT(labels[0] == 3 && labels[1] == 5 && labels[2] == 9, true);
+    EXPECT(s2ix_labels(handle, &no_cell, 1, labels, 3, &number), S2IX_NO_CELL);
+
+    EXPECT(s2ix_region(handle, 9, region, 0, &number), S2IX_NO_ROOM);
+    EXPECT(number, 1);
+    EXPECT(s2ix_region(handle, 9, region, 1, &number), S2IX_DONE);
+    EXPECT(region[0], first);
+    EXPECT(s2ix_region(handle, UINT32_MAX, region, 1, &number), S2IX_NO_LABEL);
+}
+
+static void asked(void) {
+    s2ix_handle handle = {0};
+    size_t number;
+    s2ix_row rows[4];
+    uint64_t both[2] = {second, first};
+    EXPECT(s2ix_open(&handle, 10, 10, 10), S2IX_DONE);
+    EXPECT(s2ix_add(&handle, face, 3, 2, &number), S2IX_DONE);
+    EXPECT(s2ix_add(&handle, first, 9, 4, &number), S2IX_DONE);
+    EXPECT(s2ix_add(&handle, first, 5, 1, &number), S2IX_DONE);
+
+    memset(rows, 7, sizeof rows);
+    EXPECT(s2ix_at(&handle, leaf, rows, 2, &number), S2IX_NO_ROOM);
+    EXPECT(number, 3);
+    EXPECT(rows[0].label, 0x07070707);
+    EXPECT(s2ix_at(&handle, leaf, rows, 3, &number), S2IX_DONE);
+    EXPECT(number, 3);
+    EXPECT(rows[0].cell == first && rows[0].label == 5 && rows[0].count == 1, true);
+    EXPECT(rows[1].cell == first && rows[1].label == 9 && rows[1].count == 4, true);
+    EXPECT(rows[2].cell == face && rows[2].label == 3 && rows[2].count == 2, true);
+    EXPECT(rows[3].label, 0x07070707);
+    EXPECT(s2ix_at(&handle, first, rows, 3, &number), S2IX_NO_CELL);
+    EXPECT(s2ix_at(&handle, no_cell, rows, 3, &number), S2IX_NO_CELL);
+    EXPECT(number, 0);
+    EXPECT(s2ix_at(&handle, 0x5000000000000001, rows, 0, &number), S2IX_DONE);
+
+    memset(rows, 7, sizeof rows);
+    EXPECT(s2ix_meet(&handle, both, 2, rows, 2, &number), S2IX_NO_ROOM);
+    EXPECT(number, 3);
+    EXPECT(rows[0].label, 0x07070707);
+    EXPECT(s2ix_meet(&handle, both, 2, rows, 3, &number), S2IX_DONE);
+    EXPECT(rows[2].label, 3);
+    EXPECT(s2ix_meet(&handle, both, 0, rows, 0, &number), S2IX_DONE);
+    EXPECT(number, 0);
+    both[0] = no_cell;
+    EXPECT(s2ix_meet(&handle, both, 2, rows, 3, &number), S2IX_NO_CELL);
+
+    asked_for_labels(&handle);
+    s2ix_close(&handle);
+}
+
+static void told(void) {
+    uint8_t text[64];
+    size_t number;
+    memset(text, 7, sizeof text);
+    EXPECT(s2ix_status_text(S2IX_DONE, text, 3, &number), S2IX_NO_ROOM);
+    EXPECT(number, 4);
+    EXPECT(text[0], 7);
+    EXPECT(s2ix_status_text(S2IX_DONE, text, 4, &number), S2IX_DONE);
+    EXPECT(memcmp(text, "done\7", 5), 0);
+    EXPECT(s2ix_status_text(S2IX_TOO_MANY_PAIRS, text, sizeof text, &number), S2IX_DONE);
+    EXPECT(number, 40);
+    EXPECT(s2ix_status_text(10, text, sizeof text, &number), S2IX_DONE);
+    EXPECT(memcmp(text, "no status", number), 0);
+}
+
+static void copied(void) {
+    s2ix_handle handle = {0}, copy = {0};
+    size_t number;
+    EXPECT(s2ix_open(&handle, 10, 10, 10), S2IX_DONE);
+    EXPECT(s2ix_range_count(&handle, &number), S2IX_DONE);
+    EXPECT(number, 1);
+    EXPECT(s2ix_add(&handle, first, 3, 2, &number), S2IX_DONE);
+    EXPECT(s2ix_range_count(&handle, &number), S2IX_DONE);
+    EXPECT(number, 2);
+    EXPECT(s2ix_open(&copy, 1, 1, 1), S2IX_DONE);
+    EXPECT(s2ix_copy(&handle, &copy), S2IX_DONE);
+    EXPECT(s2ix_undo(&copy, &number), S2IX_NOTHING_TO_UNDO);
+    EXPECT(s2ix_add(&copy, second, 3, 2, &number), S2IX_DONE);
+    EXPECT(s2ix_len(&copy, &number), S2IX_DONE);
+    EXPECT(number, 2);
+    EXPECT(s2ix_len(&handle, &number), S2IX_DONE);
+    EXPECT(number, 1);
+    s2ix_close(&handle);
+    EXPECT(s2ix_undo(&copy, &number), S2IX_DONE);
+    EXPECT(s2ix_len(&copy, &number), S2IX_DONE);
+    EXPECT(number, 1);
+    s2ix_close(&copy);
+}
+
+static void written_and_read(void) {
+    static const char wanted[] = "s2ix 2\n1 3 2\nend 1 2\n";
+    const size_t len = sizeof wanted - 1;
+    s2ix_handle handle = {0}, other = {0};
+    size_t number, line;
+    uint8_t text[64];
+    EXPECT(s2ix_open(&handle, 10, 10, 10), S2IX_DONE);
+    EXPECT(s2ix_add(&handle, face, 3, 2, &number), S2IX_DONE);
+    memset(text, 7, sizeof text);
+    EXPECT(s2ix_dump(&handle, text, len - 1, &number), S2IX_NO_ROOM);
+    EXPECT(number, len);
+    EXPECT(text[0], 7);
+    EXPECT(s2ix_dump(&handle, text, len, &number), S2IX_DONE);
+    EXPECT(memcmp(text, wanted, len), 0);
+    EXPECT(text[len], 7);
+    EXPECT(s2ix_load(&other, text, len, 0, 10, 10, &line), S2IX_NO_LIMITS);
+    EXPECT(s2ix_load(&other, text, len - 1, 10, 10, 10, &line), S2IX_NO_DUMP);
+    EXPECT(line, 3);
+    EXPECT(s2ix_load(&other, text, 0, 10, 10, 10, &line), S2IX_NO_DUMP);
+    EXPECT(line, 1);
+    EXPECT(other.is_open, false);
+    EXPECT(s2ix_load(&other, text, len, 10, 10, 10, &line), S2IX_DONE);
+    EXPECT(line, 0);
+    EXPECT(s2ix_load(&other, text, len, 10, 1, 10, &line), S2IX_NO_DUMP);
+    EXPECT(line, 2);
+    EXPECT(s2ix_len(&other, &number), S2IX_DONE);
+    EXPECT(number, 1);
+    EXPECT(s2ix_undo(&other, &number), S2IX_NOTHING_TO_UNDO);
+    s2ix_close(&handle);
+    s2ix_close(&other);
+}
+
+int main(void) {
+    faults = cell_faults();
+    refused_while_closed();
+    untold_while_closed();
+    opened();
+    edited();
+    edited_labels();
+    asked();
+    told();
+    copied();
+    written_and_read();
+    if (faults == 0)
+        printf("c library: well\n");
+    return faults != 0;
+}

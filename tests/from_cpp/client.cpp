@@ -1,0 +1,330 @@
+// Calls each method of s2ix.hpp with its exceptions, and ends with 'N passed, M failed', after a line for each answer that was another.
+#include "s2ix.hpp"
+
+#include <iostream>
+#include <set>
+
+namespace {
+
+int passed, failed;
+
+void Expect(int line, bool holds) {
+  (holds ? passed : failed)++;
+  if (!holds) std::cout << "client.cpp:" << line << ": another answer\n";
+}
+
+#define EXPECT(holds) Expect(__LINE__, holds)
+#define REFUSED(status, call) Expect(__LINE__, StatusOf([&] { (void)(call); }) == (status))
+
+// The status with which a call throws; 0 if it doesn't.
+template <class Call>
+std::uint32_t StatusOf(Call call) {
+  try {
+    call();
+  } catch (const s2ix::Error& error) {
+    return error.status();
+  }
+  return S2IX_DONE;
+}
+
+// Two neighbours on face 0, the face, a leaf below the first, and numbers that are no cell's and no label's.
+constexpr std::uint64_t kFirst = 0x0400000000000000, kSecond = 0x0c00000000000000, kFace = 0x1000000000000000, kLeaf = 0x0400000000000001;
+constexpr std::uint64_t kNoCell = 6;
+constexpr std::uint32_t kNoLabel = 2147483648;
+
+bool IsRow(const s2ix::Row& row, std::uint64_t cell, std::uint32_t label, std::uint32_t count) {
+  return row.cell == cell && row.label == label && row.count == count;
+}
+
+void Opened() {
+  REFUSED(S2IX_NO_LIMITS, s2ix::Index(s2ix::Limits{0, 1, 1}));
+  REFUSED(S2IX_NO_LIMITS, s2ix::Index(s2ix::Limits{1, 0, 1}));
+  REFUSED(S2IX_NO_LIMITS, s2ix::Index(s2ix::Limits{1, 1, 100001}));
+  s2ix::Index widest;
+  EXPECT(widest.is_open() && widest.len() == 0 && widest.handle()->is_open);
+  EXPECT(widest.add(kFirst, 2147483647, 4294967295) == 1);
+  EXPECT(widest.copies() == 4294967295);
+}
+
+void Moved() {
+  s2ix::Index first;
+  first.add(kFirst, 1);
+  s2ix::Index second(std::move(first));
+  EXPECT(!first.is_open() && second.is_open() && second.len() == 1);
+  s2ix::Index third;
+  third = std::move(second);
+  EXPECT(!second.is_open() && third.len() == 1);
+  s2ix::Index& itself = third;
+  third = std::move(itself);
+  EXPECT(third.len() == 1);
+  static_assert(!std::is_copy_constructible_v<s2ix::Index> && !std::is_copy_assignable_v<s2ix::Index>);
+  third.close();
+  third.close();
+  EXPECT(!third.is_open());
+}
+
+void Closed() {
+  s2ix::Index index;
+  index.close();
+  std::vector<s2ix::Row> rows(3);
+  REFUSED(S2IX_CLOSED, index.add(kFirst, 1));
+  REFUSED(S2IX_CLOSED, index.remove(kFirst, 1));
+  REFUSED(S2IX_CLOSED, index.add_union({kFirst}, 1));
+  REFUSED(S2IX_CLOSED, index.drop_label(1));
+  REFUSED(S2IX_CLOSED, index.relabel(1, 2));
+  REFUSED(S2IX_CLOSED, index.grow(1, 2));
+  REFUSED(S2IX_CLOSED, index.normalise_label(1));
+  REFUSED(S2IX_CLOSED, index.revert(1));
+  REFUSED(S2IX_CLOSED, index.undo());
+  REFUSED(S2IX_CLOSED, index.redo());
+  REFUSED(S2IX_CLOSED, index.forget());
+  REFUSED(S2IX_CLOSED, index.at(kLeaf));
+  REFUSED(S2IX_CLOSED, index.at(kLeaf, rows));
+  EXPECT(rows.empty());
+  REFUSED(S2IX_CLOSED, index.meet({kFace}));
+  REFUSED(S2IX_CLOSED, index.labels({kFace}));
+  REFUSED(S2IX_CLOSED, index.region(1));
+  REFUSED(S2IX_CLOSED, index.count(kFirst, 1));
+  REFUSED(S2IX_CLOSED, index.len());
+  REFUSED(S2IX_CLOSED, index.copies());
+  REFUSED(S2IX_CLOSED, index.done_count());
+  REFUSED(S2IX_CLOSED, index.undone_count());
+  REFUSED(S2IX_CLOSED, index.faces_rebuilt());
+  REFUSED(S2IX_CLOSED, index.range_count());
+  REFUSED(S2IX_CLOSED, index.copy());
+  REFUSED(S2IX_CLOSED, index.dump());
+}
+
+void Edited() {
+  s2ix::Index index(s2ix::Limits{4, 5, 4});
+  REFUSED(S2IX_NO_CELL, index.add(kNoCell, 1));
+  REFUSED(S2IX_NO_LABEL, index.add(kFirst, kNoLabel));
+  REFUSED(S2IX_NO_CHANGE, index.add(kFirst, 1, 0));
+  REFUSED(S2IX_TOO_MANY_COPIES, index.add(kFirst, 1, 6));
+  EXPECT(index.add(kFirst, 1, 2) == 1 && index.count(kFirst, 1) == 2);
+  REFUSED(S2IX_NOT_HELD, index.remove(kFirst, 1, 3));
+  EXPECT(index.remove(kFirst, 1) == 1 && index.count(kFirst, 1) == 1 && index.count(kLeaf, 1) == 0);
+  REFUSED(S2IX_NO_CELL, index.count(kNoCell, 1));
+  EXPECT(index.add_union({kSecond, kFirst, kSecond}, 2) == 2 && index.len() == 3 && index.copies() == 3);
+  REFUSED(S2IX_NO_CHANGE, index.add_union({}, 2));
+  REFUSED(S2IX_NO_CELL, index.add_union({kFirst, kNoCell}, 2));
+  EXPECT(index.done_count() == 3 && index.undone_count() == 0 && index.faces_rebuilt() == 1);
+  EXPECT(index.revert(3) == 2 && index.len() == 1);
+  REFUSED(S2IX_JOURNAL_FULL, index.revert(1));
+  EXPECT(index.undo() == 2 && index.undone_count() == 1 && index.redo() == 2);
+  REFUSED(S2IX_NOTHING_TO_REDO, index.redo());
+  index.forget();
+  REFUSED(S2IX_NOTHING_TO_UNDO, index.undo());
+  REFUSED(S2IX_NO_SUCH_CHANGE, index.revert(1));
+  EXPECT(index.relabel(1, 7) == 2 && index.count(kFirst, 7) == 1);
+  REFUSED(S2IX_NO_SUCH_LABEL, index.relabel(1, 7));
+  EXPECT(index.drop_label(7) == 1 && index.len() == 0);
+  REFUSED(S2IX_NO_SUCH_LABEL, index.drop_label(7));
+  EXPECT(index.undo() == 1 && index.undo() == 2 && index.count(kFirst, 1) == 1);
+  REFUSED(S2IX_TOO_MANY_PAIRS, index.add_union({0x3400000000000000, 0x5400000000000000, 0x7400000000000000, 0x9400000000000000}, 8));
+}
+
+void ChangedByTheirLabels() {
+  s2ix::Index index;
+  for (std::uint64_t child : {0x0100000000000000, 0x0300000000000000, 0x0500000000000000, 0x0700000000000000}) index.add(child, 3, 2);
+  EXPECT(index.normalise_label(3) == 5 && index.count(kFirst, 3) == 1 && index.len() == 1);
+  REFUSED(S2IX_NO_CHANGE, index.normalise_label(3));
+  REFUSED(S2IX_NO_SUCH_LABEL, index.normalise_label(4));
+  EXPECT(index.grow(3, 1) > 0);
+  REFUSED(S2IX_TOO_FINE, index.grow(3, 31));
+  REFUSED(S2IX_NO_LABEL, index.grow(kNoLabel, 1));
+  index.undo();
+  REFUSED(S2IX_BELOW_ZERO, index.revert(1));
+}
+
+void Asked() {
+  s2ix::Index index;
+  index.add(kFirst, 9, 2);
+  index.add(kFace, 3);
+  index.add(kSecond, 1);
+  std::vector<s2ix::Row> rows = index.at(kLeaf);
+  EXPECT(rows.size() == 2 && IsRow(rows[0], kFirst, 9, 2) && IsRow(rows[1], kFace, 3, 1));
+  REFUSED(S2IX_NO_CELL, index.at(kFirst));
+  REFUSED(S2IX_NO_CELL, index.at(kLeaf + 1, rows));
+  EXPECT(rows.empty());
+  rows = index.meet({kSecond, kFirst});
+  EXPECT(rows.size() == 3 && IsRow(rows[0], kFirst, 9, 2) && IsRow(rows[1], kFace, 3, 1) && IsRow(rows[2], kSecond, 1, 1));
+  EXPECT(index.meet({}).empty() && index.labels(std::vector<std::uint64_t>()).empty() && index.meet(s2ix::Cells(nullptr, 0)).empty());
+  REFUSED(S2IX_NO_CELL, index.meet({kFirst, kNoCell}));
+  EXPECT((index.labels({kFace}) == std::vector<std::uint32_t>{1, 3, 9}));
+  REFUSED(S2IX_NO_CELL, index.labels({kNoCell}));
+  EXPECT((index.region(9) == std::vector<std::uint64_t>{kFirst}) && index.region(2).empty());
+  REFUSED(S2IX_NO_LABEL, index.region(kNoLabel));
+  EXPECT(index.range_count() >= 3);
+  s2ix::Index copy = index.copy();
+  copy.add(kLeaf, 5);
+  EXPECT(copy.len() == 4 && index.len() == 3 && copy.done_count() == 1);
+}
+
+// Lists that are longer than the first room, in a new vector and in one that had less, as much and more.
+void AskedForMany() {
+  s2ix::Index index;
+  std::vector<s2ix::Row> rows;
+  std::vector<std::uint32_t> labels;
+  for (std::uint32_t label = 0; label < 40; label++) {
+    index.add(kFirst, label);
+    index.at(kLeaf, rows);
+    index.labels({kFirst}, labels);
+    EXPECT(rows.size() == label + 1 && rows.back().label == label && labels.size() == label + 1 && labels.back() == label);
+    EXPECT(index.at(kLeaf).size() == label + 1);
+  }
+  std::vector<std::uint64_t> cells(100);
+  index.region(1, cells);
+  EXPECT(cells == std::vector<std::uint64_t>{kFirst});
+}
+
+void WrittenAndRead() {
+  s2ix::Index index;
+  for (std::uint32_t label = 0; label < 30; label++) index.add(kFirst, label, label + 1);
+  const std::string dump = index.dump();
+  EXPECT(dump.substr(0, 14) == "s2ix 2\n04 0 1\n" && s2ix::Index::load(dump).dump() == dump);
+  EXPECT(s2ix::Index().dump() == "s2ix 2\nend 0 0\n");
+  REFUSED(S2IX_NO_LIMITS, s2ix::Index::load(dump, s2ix::Limits{0, 1, 1}));
+  REFUSED(S2IX_NO_DUMP, s2ix::Index::load(dump, s2ix::Limits{1, 100, 1}));
+  REFUSED(S2IX_NO_DUMP, s2ix::Index::load({}));
+  try {
+    s2ix::Index::load("s2ix 2\n04 0 0\n");
+    EXPECT(false);
+  } catch (const s2ix::Error& error) {
+    EXPECT(error.line() == 2 && std::string(error.what()) == "s2ix: " + s2ix::status_text(S2IX_NO_DUMP) + ": line 2");
+  }
+  EXPECT(s2ix::status_text(S2IX_DONE) == "done" && !s2ix::status_text(77).empty());
+}
+
+void Cells() {
+  namespace cell = s2ix::cell;
+  EXPECT(cell::is_valid(kFirst) && !cell::is_valid(kNoCell) && cell::is_leaf(kLeaf) && !cell::is_leaf(kFirst));
+  EXPECT(cell::contains(kFace, kFirst) && !cell::contains(kFirst, kFace) && cell::intersects(kFirst, kFace) && !cell::intersects(kFirst, kSecond));
+  EXPECT(cell::from_token("0C") == kSecond && cell::from_token("0400000000000001") == kLeaf);
+  for (const char* text : {"", "0", "x", "04000000000000010"}) REFUSED(S2IX_NO_CELL, cell::from_token(text));
+  REFUSED(S2IX_NO_CELL, cell::from_token({}));
+  EXPECT(cell::to_token(kFirst) == "04" && cell::to_token(kLeaf) == "0400000000000001");
+  EXPECT(cell::path(kFace) == "0/" && cell::path(kSecond) == "0/1" && cell::path(kLeaf).size() == 32);
+  EXPECT(cell::parent(kLeaf, 0) == kFace && cell::child(kFace, 1) == kSecond && cell::level(kFirst) == 1 && cell::face(kFirst) == 0);
+  REFUSED(S2IX_NO_CELL, cell::parent(kFace, 1));
+  REFUSED(S2IX_NO_CELL, cell::child(kLeaf, 0));
+  EXPECT(cell::range_min(kFirst) == 1 && cell::range_max(kFirst) == 0x07ffffffffffffff);
+  EXPECT(cell::common_level(kFirst, kSecond) == 0 && cell::next(kFirst) == kSecond);
+  REFUSED(S2IX_NO_CELL, cell::common_level(kFirst, 0x3000000000000000));
+  for (std::uint64_t neighbor : cell::edge_neighbors(kFace)) EXPECT(cell::level(neighbor) == 0 && neighbor != kFace);
+  EXPECT(cell::border(kFace, 0).size() == 4 && cell::border(kFace, 3).size() == 32);
+  REFUSED(S2IX_COARSER, cell::border(kFirst, 0));
+  REFUSED(S2IX_TOO_FINE, cell::border(kFirst, 10));
+  const cell::Square square = cell::to_face_ij(kSecond);
+  EXPECT(square.level == 1 && square.face == 0 && cell::from_face_ij(0, square.i, square.j, 1) == kSecond);
+  REFUSED(S2IX_NO_CELL, cell::from_face_ij(6, 0, 0, 1));
+  REFUSED(S2IX_NO_CELL, cell::path(kNoCell));
+  REFUSED(S2IX_NO_CELL, cell::to_token(kNoCell));
+  REFUSED(S2IX_NO_CELL, cell::level(kNoCell));
+  REFUSED(S2IX_NO_CELL, cell::face(kNoCell));
+  REFUSED(S2IX_NO_CELL, cell::range_min(kNoCell));
+  REFUSED(S2IX_NO_CELL, cell::range_max(kNoCell));
+  REFUSED(S2IX_NO_CELL, cell::next(kNoCell));
+  REFUSED(S2IX_NO_CELL, cell::edge_neighbors(kNoCell));
+  REFUSED(S2IX_NO_CELL, cell::border(kNoCell, 0));
+  REFUSED(S2IX_NO_CELL, cell::to_face_ij(kNoCell));
+}
+
+void Unions() {
+  using List = std::vector<std::uint64_t>;
+  namespace cell_union = s2ix::cell_union;
+  EXPECT((cell_union::normalise({kFirst, kFace, kLeaf}) == List{kFace}) && cell_union::normalise({}).empty());
+  EXPECT((cell_union::from_leaves(1, 0x0800000000000001) == List{kFirst}) && cell_union::from_leaves(1, 1).empty());
+  EXPECT(cell_union::from_leaves(3, 0xbfffffffffffffff).size() > 100);
+  REFUSED(S2IX_NO_SPAN, cell_union::from_leaves(2, 5));
+  EXPECT((cell_union::union_of({kSecond}, {kFirst}) == List{kFirst, kSecond}));
+  EXPECT((cell_union::intersection({kFace}, {kFirst}) == List{kFirst}));
+  EXPECT((cell_union::difference({kFirst, kSecond}, {kFirst}) == List{kSecond}));
+  EXPECT(cell_union::contains({kFace}, kFirst) && !cell_union::contains({kFirst}, kFace));
+  EXPECT(cell_union::intersects({kFirst}, kFace) && !cell_union::intersects({kFirst}, kSecond));
+  EXPECT(cell_union::leaf_count({kLeaf, kLeaf}) == 1 && cell_union::leaf_count({}) == 0);
+  REFUSED(S2IX_NO_CELL, cell_union::normalise({kNoCell}));
+  REFUSED(S2IX_NO_CELL, cell_union::union_of({kNoCell}, {}));
+  REFUSED(S2IX_NO_CELL, cell_union::intersection({}, {kNoCell}));
+  REFUSED(S2IX_NO_CELL, cell_union::difference({kNoCell}, {}));
+  REFUSED(S2IX_NO_CELL, cell_union::contains({kFirst}, kNoCell));
+  REFUSED(S2IX_NO_CELL, cell_union::intersects({kNoCell}, kFirst));
+  REFUSED(S2IX_NO_CELL, cell_union::leaf_count({kNoCell}));
+}
+
+// A class of ids, as S2's.
+struct SomeId {
+  explicit SomeId(std::uint64_t raw = 0) : raw_(raw) {}
+  std::uint64_t id() const { return raw_; }
+  bool operator==(const SomeId& other) const { return raw_ == other.raw_; }
+  bool operator!=(const SomeId& other) const { return raw_ != other.raw_; }
+  bool operator<(const SomeId& other) const { return raw_ < other.raw_; }
+
+ private:
+  std::uint64_t raw_;
+};
+
+std::uint64_t RawOf(std::uint64_t id) { return id; }
+std::uint64_t RawOf(const SomeId& id) { return id.id(); }
+
+// S2's names over one kind of ids.
+template <class Id>
+void NamedAsInS2() {
+  using S2Index = s2ix::BasicS2CellIndex<Id>;
+  using Label = typename S2Index::Label;
+  const std::vector<Id> both = {Id(kSecond), Id(kFirst)};
+  S2Index index(s2ix::Limits{100, 10, 2});
+  index.Add(Id(kFirst), 4);
+  index.Add(Id(kFirst), 4);
+  index.Add(both, 7);
+  index.Add(std::vector<Id>(), 8);
+  index.Build();
+  EXPECT(index.num_cells() == 4 && index.index().len() == 3 && index.index().done_count() == 1);
+  REFUSED(S2IX_NO_LABEL, index.Add(Id(kFirst), -1));
+  REFUSED(S2IX_NO_CELL, index.Add(Id(kNoCell), 1));
+
+  std::multiset<std::pair<std::uint64_t, Label>> given;
+  for (typename S2Index::CellIterator cells(&index); !cells.done(); cells.Next()) {
+    EXPECT(cells.labelled_cell() == typename S2Index::LabelledCell(cells.cell_id(), cells.label()));
+    given.insert({RawOf(cells.cell_id()), cells.label()});
+  }
+  EXPECT((given == std::multiset<std::pair<std::uint64_t, Label>>{{kFirst, 4}, {kFirst, 4}, {kFirst, 7}, {kSecond, 7}}));
+
+  std::vector<Label> visited;
+  EXPECT(index.VisitIntersectingCells(both, [&](Id, Label label) { return visited.push_back(label), true; }));
+  EXPECT((visited == std::vector<Label>{4, 4, 7, 7}));
+  visited.clear();
+  EXPECT(!index.VisitIntersectingCells(both, [&](Id, Label label) { return visited.push_back(label), visited.size() < 2; }));
+  EXPECT((visited == std::vector<Label>{4, 4}));
+  EXPECT(index.VisitIntersectingCells(std::vector<Id>(), [](Id, Label) { return false; }));
+
+  EXPECT((index.GetIntersectingLabels(std::vector<Id>{Id(kSecond)}) == std::unordered_set<Label>{7}));
+  std::set<Label> labels = {55};
+  index.GetIntersectingLabels(both, &labels);
+  EXPECT((labels == std::set<Label>{4, 7}));
+
+  EXPECT(index.index().undo() == 2 && index.num_cells() == 2);
+  index.Clear();
+  EXPECT(index.num_cells() == 0 && typename S2Index::CellIterator(&index).done());
+  const typename S2Index::LabelledCell less(Id(kFirst), 2), more(Id(kFirst), 3);
+  EXPECT(less < more && !(more < less) && !(less == more) && typename S2Index::LabelledCell().label == -1);
+}
+
+}  // namespace
+
+int main() {
+  Opened();
+  Moved();
+  Closed();
+  Edited();
+  ChangedByTheirLabels();
+  Asked();
+  AskedForMany();
+  WrittenAndRead();
+  Cells();
+  Unions();
+  NamedAsInS2<std::uint64_t>();
+  NamedAsInS2<SomeId>();
+  std::cout << passed << " passed, " << failed << " failed\n";
+  return failed == 0 ? 0 : 1;
+}

@@ -1,0 +1,127 @@
+// Refuses each growth of memory in turn, in each call of s2ix.hpp that may want memory: the call must throw std::bad_alloc and leave its
+// index, or answer and change as it does with all its growths. It ends with 'N passed, M failed', after a line for each other outcome.
+#include "s2ix.hpp"
+
+#include <functional>
+#include <iostream>
+
+extern "C" void* __libc_malloc(std::size_t size);
+extern "C" void* __libc_realloc(void* old, std::size_t size);
+
+namespace {
+
+// How many growths are left up to the one that is refused; 0 if none is. Whether one was refused.
+long left;
+bool was_refused;
+
+bool IsRefused() {
+  if (left == 0 || --left > 0) return false;
+  was_refused = true;
+  return true;
+}
+
+}  // namespace
+
+extern "C" void* malloc(std::size_t size) { return IsRefused() ? nullptr : __libc_malloc(size); }
+extern "C" void* realloc(void* old, std::size_t size) { return IsRefused() ? nullptr : __libc_realloc(old, size); }
+
+namespace {
+
+constexpr std::uint64_t kFirst = 0x0400000000000000, kSecond = 0x0c00000000000000, kFace = 0x1000000000000000, kLeaf = 0x0400000000000001;
+
+s2ix::Index Zones() {
+  s2ix::Index index;
+  index.add_union({kFirst, kSecond}, 7);
+  index.add(kLeaf, 8, 2);
+  index.add(0x3000000000000000, 9);
+  index.undo();
+  return index;
+}
+
+// Answers as texts, to be compared.
+std::string TextOf(std::uint64_t number) { return std::to_string(number); }
+std::string TextOf(const std::string& text) { return text; }
+std::string TextOf(const s2ix::Row& row) { return TextOf(row.cell) + ":" + TextOf(row.label) + ":" + TextOf(row.count); }
+std::string TextOf(const s2ix::Index& index) { return index.dump(); }
+template <class Item>
+std::string TextOf(const std::vector<Item>& items) {
+  std::string text;
+  for (const Item& item : items) text += TextOf(item) + "\n";
+  return text;
+}
+
+// A call, whose answer becomes a text when no growth is refused any more.
+struct Call {
+  template <class Made>
+  Call(const char* its_name, Made made) : name(its_name) {
+    make = [made](s2ix::Index& index) {
+      const auto answer = made(index);
+      left = 0;
+      return TextOf(answer);
+    };
+  }
+
+  const char* name;
+  std::function<std::string(s2ix::Index&)> make;
+};
+
+const Call kCalls[] = {
+    {"Index", [](s2ix::Index&) { return s2ix::Index(); }},
+    {"load", [](s2ix::Index&) { return s2ix::Index::load("s2ix 2\n04 7 1\nend 1 1\n"); }},
+    {"copy", [](s2ix::Index& index) { return index.copy(); }},
+    {"add", [](s2ix::Index& index) { return index.add(kFace, 1); }},
+    {"remove", [](s2ix::Index& index) { return index.remove(kFirst, 7); }},
+    {"add_union", [](s2ix::Index& index) { return index.add_union({kFace, kSecond}, 7); }},
+    {"drop_label", [](s2ix::Index& index) { return index.drop_label(7); }},
+    {"relabel", [](s2ix::Index& index) { return index.relabel(7, 9); }},
+    {"grow", [](s2ix::Index& index) { return index.grow(7, 1); }},
+    {"normalise_label", [](s2ix::Index& index) { return index.normalise_label(8); }},
+    {"revert", [](s2ix::Index& index) { return index.revert(1); }},
+    {"undo", [](s2ix::Index& index) { return index.undo(); }},
+    {"redo", [](s2ix::Index& index) { return index.redo(); }},
+    {"at", [](s2ix::Index& index) { return index.at(kLeaf); }},
+    {"meet", [](s2ix::Index& index) { return index.meet({kFace, kSecond}); }},
+    {"labels", [](s2ix::Index& index) { return index.labels({kFace, kSecond}); }},
+    {"region", [](s2ix::Index& index) { return index.region(7); }},
+    {"dump", [](s2ix::Index& index) { return index.dump(); }},
+    {"border", [](s2ix::Index&) { return s2ix::cell::border(kFirst, 3); }},
+    {"normalise", [](s2ix::Index&) { return s2ix::cell_union::normalise({kFirst, kSecond}); }},
+    {"from_leaves", [](s2ix::Index&) { return s2ix::cell_union::from_leaves(3, 77); }},
+    {"union_of", [](s2ix::Index&) { return s2ix::cell_union::union_of({kFirst}, {kSecond}); }},
+    {"intersection", [](s2ix::Index&) { return s2ix::cell_union::intersection({kFace}, {kSecond}); }},
+    {"difference", [](s2ix::Index&) { return s2ix::cell_union::difference({kFace}, {kSecond}); }},
+    {"contains", [](s2ix::Index&) { return s2ix::cell_union::contains({kFace}, kFirst); }},
+    {"leaf_count", [](s2ix::Index&) { return s2ix::cell_union::leaf_count({kFace}); }},
+};
+
+// What a call answers on a fresh index, or that it throws, and what it leaves there.
+std::string OutcomeOf(const Call& call, long growth) {
+  s2ix::Index index = Zones();
+  std::string outcome;
+  was_refused = false;
+  left = growth;
+  try {
+    outcome = call.make(index);
+  } catch (const std::bad_alloc&) {
+    outcome = "thrown";
+  }
+  left = 0;
+  return outcome + "\n" + index.dump();
+}
+
+}  // namespace
+
+int main() {
+  int passed = 0, failed = 0;
+  for (const Call& call : kCalls) {
+    const std::string answered = OutcomeOf(call, 0), thrown = "thrown\n" + Zones().dump();
+    for (long growth = 1; growth == 1 || was_refused; growth++) {
+      const std::string outcome = OutcomeOf(call, growth);
+      const bool holds = outcome == answered || (was_refused && outcome == thrown);
+      (holds ? passed : failed)++;
+      if (!holds) std::cout << "refused.cpp: " << call.name << ", growth " << growth << ": another outcome\n";
+    }
+  }
+  std::cout << passed << " passed, " << failed << " failed\n";
+  return failed == 0 ? 0 : 1;
+}
