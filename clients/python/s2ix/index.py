@@ -198,7 +198,7 @@ class Index:
         return _rows_of(self._of_cells(self._calls.s2ix_meet, _PACKED, cells))
 
     def meet_view(self, cells: Cells) -> memoryview:
-        """What `meet` returns, packed: each item is a cell of 8 bytes, a label of 4 and a count of 4. numpy.asarray makes a table of it."""
+        """What `meet` returns, packed: each item is a cell of 8 bytes, a label of 4 and a count of 4."""
         rows = self._of_cells(self._calls.s2ix_meet, _PACKED, cells)
         return memoryview((library.PackedRow * self._count.value).from_buffer_copy(rows))
 
