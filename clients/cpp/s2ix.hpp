@@ -37,7 +37,7 @@ using Row = ::s2ix_row;
 
 // What a status says, in words.
 inline std::string status_text(std::uint32_t status) {
-  std::uint8_t bytes[128];
+  std::uint8_t bytes[128] = {};
   std::size_t number = 0;
   const bool has_room = s2ix_status_text(status, bytes, sizeof bytes, &number) == S2IX_DONE;
   return std::string(bytes, bytes + (has_room ? number : 0));
@@ -91,6 +91,7 @@ void fill(Items& items, Call call) {
   items.resize(items.capacity() < 16 ? 16 : items.capacity());
   std::uint32_t status = call(items.data(), items.size(), &number);
   if (status == S2IX_NO_ROOM) {
+    items.clear();  // (so that nothing is left if there is no memory for more)
     items.resize(number);
     status = call(items.data(), items.size(), &number);
   }
@@ -161,14 +162,14 @@ inline std::uint64_t from_token(std::string_view token) {
 
 // A cell's token, of 1 to 16 digits.
 inline std::string to_token(std::uint64_t cell) {
-  std::uint8_t text[16];
+  std::uint8_t text[16] = {};
   const std::size_t length = detail::number([&](std::size_t* to) { return s2ix_cell_to_token(cell, text, to); });
   return std::string(text, text + length);
 }
 
 // A cell's path for people, as 0/32: the face, a slash, and the child positions from level 1 down.
 inline std::string path(std::uint64_t cell) {
-  std::uint8_t text[32];
+  std::uint8_t text[32] = {};
   const std::size_t length = detail::number([&](std::size_t* to) { return s2ix_cell_path(cell, text, to); });
   return std::string(text, text + length);
 }
@@ -627,7 +628,7 @@ class BasicS2CellIndex {
     return cells;
   }
 
-  // Makes a change, if need be after the earlier ones are forgotten.
+  // Makes a change, if need be after the earlier ones are forgotten: they stay forgotten if it is refused then.
   template <class Change>
   void change(Change make) {
     try {

@@ -24,6 +24,10 @@ def cells_in(cells: Cells) -> tuple[int, int, object]:
     if isinstance(cells, array):
         if cells.typecode not in "QL" or cells.itemsize != _WORD:
             raise TypeError(f"cells are 64-bit numbers without sign, not an array of {cells.typecode!r}")
+        if cells:
+            # (while `first` lives, the array can't be resized, by another thread or by what an argument's __index__ does)
+            first = ctypes.c_char.from_buffer(cells)
+            return ctypes.addressof(first), len(cells), first
     elif isinstance(cells, (int, str)):
         words = array("Q", (number_of(cells),))
     else:
