@@ -17,6 +17,10 @@ pub record IsBlock (cell : CellId) (before block behind : Collection) : Type 0 w
 abbrev pub around : CellId → Collection → Collection → Collection
 around cell before behind = contents_at (first_of cell) (before ++ behind)
 
+-- pairs lie within a cell
+abbrev pub AreWithin : CellId → Collection → Type 0
+AreWithin cell pairs = (h : Held) → Contains pairs h → (first_of cell ≤ raw_of h.pair.cell) × (raw_of h.pair.cell + 1 < end_of cell)
+
 -- a place is none of those of a block
 abbrev pub IsBeside : ℕ → ℕ → ℕ → Type 0
 IsBeside start len place = (place < start) ⊎ (start + len ≤ place)

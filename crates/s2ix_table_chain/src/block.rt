@@ -3,7 +3,7 @@ ghost use Rattle.std.specs.Prelude.{◌≡◌, ◌⊎◌, ◌+◌, ◌-◌, ◌<
 ghost use Rattle.s2id_core.specs.CellId.{raw_of, first_of, end_of};
 ghost use Rattle.s2ix_bag_pairs.specs.Collection.{IsCollection};
 ghost use Rattle.s2ix_bag_pairs.specs.declared.pair.Held.{Held};
-ghost use Rattle.s2ix_table_chain.specs.Blocks.{IsBeside, IsExchange, moved, placed};
+ghost use Rattle.s2ix_table_chain.specs.Blocks.{AreWithin, IsBeside, IsExchange, moved, placed};
 
 use s2id_core::CellId;
 use s2ix_bag_lists::FlatHeld;
@@ -141,6 +141,9 @@ pub(crate) fn block_of(
     if next[own].cell() != cell {
         return None;
     }
+    if !has_changes(held, next, common, cell) {
+        return None;
+    }
     let end = held.len() - common.end;
     let start = lesser_count(&held[..common.front], cell.span_start());
     let behind = common.end - lesser_count(&held[end..], cell.span_end() - 1);
@@ -158,6 +161,20 @@ pub(crate) fn block_of(
         return None;
     }
     Some(block)
+}
+
+// Whether all that two lists don't have in common is within a cell. O(1).
+#[inline]
+fn has_changes(held: &[FlatHeld], next: &[FlatHeld], common: Common, cell: CellId) -> bool
+    requires rises { IsCollection held.now }
+    requires next_rises { IsCollection next.now }
+    requires held { common.front + common.end ≤ length held.now }
+    requires next { common.front + common.end ≤ length next.now }
+    ensures old { IsTrue result → AreWithin cell (take (length held.now - common.end - common.front) (drop common.front held.now)) }
+    ensures new { IsTrue result → AreWithin cell (take (length next.now - common.end - common.front) (drop common.front next.now)) }
+{
+    are_within(&held[common.front..held.len() - common.end], cell)
+        && are_within(&next[common.front..next.len() - common.end], cell)
 }
 
 // How many of rising pairs have cells with a lesser number. O(log n).
