@@ -33,7 +33,8 @@ pub record IsCellSquare (s : FaceIj) : Type 0 where
   pub fine : s.level ≤ 30
   pub is : IsSquare s.level s
 
--- the square is that of the cell of a level at a place, in this column and row of its ancestor four levels up, where the tables' row starts
+-- the square is that of the cell of a level at a place, in this column and row of its ancestor four levels up; `start` is where
+-- the tables' row for that ancestor starts
 pub record IsInTile (s : FaceIj) (level place start column row : ℕ) : Type 0 where
   pub fine : 4 ≤ level
   pub most : level ≤ 30

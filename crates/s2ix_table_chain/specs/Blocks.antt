@@ -25,11 +25,11 @@ AreWithin cell pairs = (h : Held) → Contains pairs h → (first_of cell ≤ ra
 abbrev pub IsBeside : ℕ → ℕ → ℕ → Type 0
 IsBeside start len place = (place < start) ⊎ (start + len ≤ place)
 
--- a place beside a block of `count` pairs in all, once the block has `new` pairs for `old` ones; behind all places, behind all new ones
+-- where a place beside a block is, once `new` pairs replace `old` ones; a place behind all `count` pairs is just behind them then
 abbrev pub moved : ℕ → ℕ → ℕ → ℕ → ℕ → ℕ
 moved start old new count place = if nat_lt place start then place else min place count - old + new
 
--- a place of a block among all pairs; what is none leads to `base`
+-- a place within a block, among all pairs; `base` if it is none
 abbrev pub placed : ℕ → ℕ → ℕ → ℕ → ℕ
 placed start new base place = if nat_lt place new then start + place else base
 
@@ -48,7 +48,7 @@ IsBlockAt held cell start len = IsBlock cell (take start held) (take len (drop s
 abbrev pub HoldsCell : Collection → CellId → Type 0
 HoldsCell held cell = (h : Held) × Contains held h × (h.pair.cell ≡ cell)
 
--- `next` has `new` pairs within a cell where `held` has `old` ones, and else the same pairs; both hold the cell itself
+-- within a cell `next` has `new` pairs and `held` has `old` ones; otherwise they have the same pairs, and both hold the cell itself
 pub record IsExchange (held next : Collection) (cell : CellId) (start old new : ℕ) : Type 0 where
   pub old_fits : start + old ≤ length held
   pub new_fits : start + new ≤ length next

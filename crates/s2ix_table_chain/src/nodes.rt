@@ -51,7 +51,7 @@ impl Nodes {
     }
 }
 
-// The first elements of a list, in no more room than they need; where a smaller block is refused, they stay where they are.
+// The first elements of a list, in no more room than they need; if a smaller block is refused, they stay where they are.
 fn trim<T: Drop>(mut list: Vec<T>, len: usize) -> Vec<T>
     ensures { result.items ≡ take len list.items }
 {

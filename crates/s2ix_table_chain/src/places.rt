@@ -8,7 +8,7 @@ use s2ix_table_walk::{SAMPLE_STEP, Window};
 // Of more starts than this, most that a search reads are out of the processor's near cache.
 const FAR: usize = 4096;
 
-// The last of rising starts that is not behind a leaf. O(log n). Of few starts, none of its branches depends on one; of more, each does, so
+// The last of rising starts that is not behind a leaf. O(log n). Of few starts, no branch depends on a start; of more, each does, so
 // that the processor asks for the next start before it knows this one. It is not inlined, so that a caller's iterator is.
 #[inline(never)]
 pub(crate) fn last_start(starts: &[u64], sample: &[u64], leaf: u64) -> usize
@@ -27,7 +27,7 @@ pub(crate) fn last_start(starts: &[u64], sample: &[u64], leaf: u64) -> usize
     }
 }
 
-// Of very many starts a few, and fewer starts as they are.
+// The starts among which it is: a group of 16 if there is a sample, else all.
 #[inline(always)]
 fn sampled(starts: &[u64], sample: &[u64], leaf: u64) -> Window
     requires some { 0 < length starts.now }

@@ -67,7 +67,7 @@ impl SpanTable {
 
     /// The table of these pairs over the same span, as [`over`](SpanTable::over) makes it, but quicker if most of them are this table's: if
     /// a cell that both hold has all pairs in which they differ, only that cell's leaves are swept, and the rest is copied. O(n) for n pairs
-    /// in both. `OutOfMemory` where a growth is refused.
+    /// in both. `OutOfMemory` if a growth is refused.
     pub fn after(&self, alloc: Global, held: HeldList) -> Result<SpanTable, OutOfMemory>
         requires rises { IsCollection held }
         requires few { length held ≤ 1000000 }
@@ -152,7 +152,7 @@ impl SpanTable {
         self.starts.as_slice()
     }
 
-    /// Of those starts the ones at 16, 32 and so on, as many as the list has; the last start is none of them. O(1).
+    /// Every 16th start, from the one at place 16 on, but never the last one; it may be empty. O(1).
     #[inline]
     pub fn sample(&self) -> &[u64]
         ensures { IsSample (length self.now.ranges - 2) (drop 1 (map (λ (r : Range). r.start) self.now.ranges)) result.now }
@@ -203,7 +203,7 @@ impl SpanTable {
         self.as_place(self.outer[place as usize])
     }
 
-    // A number as a place, where it is one.
+    // A number as a place, if it is one.
     #[inline]
     fn as_place(&self, number: u32) -> Option<u32>
         ensures { LeadsTo (chain_of self.now.held) result (chain_of self.now.held number) }

@@ -34,8 +34,8 @@ struct Cut {
 }
 
 impl Before<'_> {
-    // The block in which new pairs differ from the table's: that of the innermost cell on the chain over the first change, which both
-    // lists hold and which has all changes.
+    // The block in which new pairs differ from the table's: that of the innermost cell over the first change that both lists hold and that
+    // has all changes.
     pub(crate) fn changed_block(self, next: &[FlatHeld]) -> Option<Block>
         requires nodes { AreNodes self.held.now self.from self.to self.outer.now self.starts.now self.firsts.now }
         requires sample { IsSample (length self.starts.now - 2) (drop 1 self.starts.now) self.sample.now }
@@ -198,7 +198,7 @@ fn first_change(held: &[FlatHeld], next: &[FlatHeld], common: Common) -> Option<
     }
 }
 
-// The places beside a block, each where it is now, round those of the block itself.
+// The places beside a block, each where it is now, around those of the block itself.
 fn joined_places(
     alloc: Global,
     block: Block,
