@@ -1,10 +1,11 @@
 /* The S2 cell index that can be edited: stores behind handles, cells and unions of cells. docs/FROM_C.md says how to build the library, and
    what C must see to.
 
-   Cells are S2's 64-bit ids, labels are 0 to 2147483647. Each call returns a status, but s2ix_close none, and some on cells a yes or no; a
-   status other than S2IX_DONE leaves the store as it was. A list goes to a buffer of the caller: *number says how many items there are, and
-   if there is room for all, they are put to its front; else the status is S2IX_NO_ROOM, and the buffer is as it was. If a call is refused
-   for another reason, *number is 0. A pointer to no items may be any pointer but NULL. */
+   Cells are S2's 64-bit ids, labels are 0 to 2147483647. Each call returns a status, except that s2ix_close returns nothing and some calls on
+   cells return a bool. A call whose status is not S2IX_DONE leaves the store as it was. A list goes to a buffer of the caller, which has room
+   for `room` items. *number says how many items there are; if there is room for all, they are put at the front of the buffer, else the status
+   is S2IX_NO_ROOM and the buffer is as it was. If a call is refused for another reason, *number is 0. A pointer to no items may be any pointer
+   but NULL. */
 #ifndef S2IX_H
 #define S2IX_H
 
@@ -16,7 +17,7 @@
 extern "C" {
 #endif
 
-/* A store, or none. It starts as {0}, which is closed. Copy it never, and pass it to one call at a time, from the thread that opened it. */
+/* A store, or none. It starts as {0}, which is closed. Never copy it. Pass it to one call at a time, on the thread that opened it. */
 typedef struct s2ix_handle {
     void *address;
     bool is_open;
@@ -33,7 +34,7 @@ enum s2ix_status {
     S2IX_DONE = 0,
     S2IX_CLOSED = 1,          /* the handle is closed */
     S2IX_OUT_OF_MEMORY = 2,   /* a growth was refused */
-    S2IX_NO_CELL = 3,         /* a number is no cell's, or no leaf's where a leaf is asked for; or a call on cells finds none */
+    S2IX_NO_CELL = 3,         /* a number is no cell's, or no leaf's where a leaf is asked for; or there is no such cell */
     S2IX_NO_LABEL = 4,        /* a number is no label's */
     S2IX_NO_LIMITS = 5,       /* limits are out of their ranges */
     S2IX_NOTHING_TO_UNDO = 6,
@@ -44,7 +45,7 @@ enum s2ix_status {
     S2IX_NO_SUCH_LABEL = 17,  /* no pair of the label is held */
     S2IX_NOT_HELD = 18,       /* fewer copies are held */
     S2IX_TOO_FINE = 19,       /* the level is above 30, or more than 8 above that of the cell, or of a cell of the label */
-    S2IX_NO_SUCH_CHANGE = 20, /* fewer changes stand, or the number is 0 */
+    S2IX_NO_SUCH_CHANGE = 20, /* fewer changes than the number can be undone, or the number is 0 */
     S2IX_BELOW_ZERO = 21,     /* a count would be below 0 */
     S2IX_NO_CHANGE = 22,      /* nothing would change */
     S2IX_TOO_MANY_COPIES = 23,
@@ -53,7 +54,7 @@ enum s2ix_status {
     S2IX_NO_SPAN = 26         /* a bound is even, or not 1 <= start <= limit <= 0xc000000000000001 */
 };
 
-/* What a status says, in words, as bytes with no zero behind them. S2IX_NO_ROOM. */
+/* What a status means, in words, as *number bytes with no zero after them. S2IX_NO_ROOM. */
 uint32_t s2ix_status_text(uint32_t status, uint8_t *text, size_t room, size_t *number);
 
 /* Opens a handle of an empty store of at most `pairs` pairs (1 to 1,000,000), `copies` copies of each (1 and up) and `changes` changes to
@@ -62,19 +63,19 @@ uint32_t s2ix_status_text(uint32_t status, uint8_t *text, size_t room, size_t *n
 uint32_t s2ix_open(s2ix_handle *handle, uint32_t pairs, uint32_t copies, uint32_t changes);
 
 /* Opens a handle of the store that starts from a dump's collection, under limits as those of s2ix_open. A store that the handle had is freed,
-   if the call is not refused. If the text is no dump, *line is the first line with a fault, from 1; else it is 0. O(n) for n bytes.
-   S2IX_NO_LIMITS, S2IX_NO_DUMP, S2IX_OUT_OF_MEMORY. */
+   if the call is not refused. If the text is no dump, *line is the number of its first line with a fault, counted from 1; else it is 0. O(n)
+   for n bytes. S2IX_NO_LIMITS, S2IX_NO_DUMP, S2IX_OUT_OF_MEMORY. */
 uint32_t s2ix_load(s2ix_handle *handle, const uint8_t *text, size_t len, uint32_t pairs, uint32_t copies, uint32_t changes, size_t *line);
 
-/* Opens `copy` of a store that starts from what the handle's holds, with nothing to undo or redo. A store that `copy` had is freed, if the
-   call is not refused. The two stores share memory: both stay on one thread. O(1), and the table's O(n).
+/* Opens `copy` on a new store that starts from what the handle's store holds, with nothing to undo or redo. A store that `copy` had is freed,
+   if the call is not refused. The two stores share memory: both stay on one thread. O(1), and the table's O(n).
    S2IX_CLOSED, S2IX_OUT_OF_MEMORY. */
 uint32_t s2ix_copy(s2ix_handle *handle, s2ix_handle *copy);
 
 /* Closes a handle and frees all that its store had; a closed one stays closed. O(n). */
 void s2ix_close(s2ix_handle *handle);
 
-/* Edits: each is one change, which can be undone. *number is how many pairs changed their counts. Beside the statuses named, each may answer
+/* Edits: each is one change, which can be undone. *number is how many pairs changed their counts. Besides the statuses named, each may return
    S2IX_CLOSED, S2IX_JOURNAL_FULL, S2IX_NO_CHANGE, S2IX_TOO_MANY_COPIES, S2IX_TOO_MANY_PAIRS or S2IX_OUT_OF_MEMORY. The time grows with
    the pairs held on the faces that change. */
 
@@ -150,8 +151,8 @@ uint32_t s2ix_range_count(s2ix_handle *handle, size_t *number);
 /* The dump of what is held, as bytes (docs/FORMATS.md). O(n). S2IX_CLOSED, S2IX_NO_ROOM, S2IX_OUT_OF_MEMORY. */
 uint32_t s2ix_dump(s2ix_handle *handle, uint8_t *text, size_t room, size_t *number);
 
-/* Cells, without a handle. Each call takes O(1), if nothing else is said, and never wants memory but for a border. A call that tells a cell,
-   a level or a face tells 0 if it is refused. The calls that answer yes or no answer no if a number is no cell's. */
+/* Cells, without a handle. Each call takes O(1) if nothing else is said, and only s2ix_cell_border allocates. A call that gives a cell, a
+   level or a face gives 0 if it is refused. A call that returns a bool returns false if a number is no cell's. */
 
 /* A cell as a square of the grid of its level on its face. */
 typedef struct s2ix_square {
@@ -168,16 +169,16 @@ bool s2ix_cell_is_valid(uint64_t cell);
 /* The cell that a text spells: 1 to 16 hexadecimal digits of either case; those missing on the right are zeros. S2IX_NO_CELL. */
 uint32_t s2ix_cell_from_token(const uint8_t *text, size_t len, uint64_t *cell);
 
-/* A cell's token, as *number bytes, 1 to 16, with no zero behind them. If it is refused, `text` is as it was. S2IX_NO_CELL. */
+/* A cell's token, as *number bytes, 1 to 16, with no zero after them. If it is refused, `text` is as it was. S2IX_NO_CELL. */
 uint32_t s2ix_cell_to_token(uint64_t cell, uint8_t text[16], size_t *number);
 
 /* A cell's path for people, as 0/32: the face, a slash, and the child positions from level 1 down, 2 to 32 bytes. S2IX_NO_CELL. */
 uint32_t s2ix_cell_path(uint64_t cell, uint8_t text[32], size_t *number);
 
-/* The cell of a level that a cell lies in, itself at its own level. S2IX_NO_CELL, for a finer level too. */
+/* The ancestor of a cell at a level: the cell itself at its own level. S2IX_NO_CELL, also for a finer level. */
 uint32_t s2ix_cell_parent(uint64_t cell, uint8_t level, uint64_t *parent);
 
-/* The child at a position, 0 to 3 along the curve. S2IX_NO_CELL, for a leaf and for another position too. */
+/* The child at a position, 0 to 3 along the curve. S2IX_NO_CELL, also for a leaf and for another position. */
 uint32_t s2ix_cell_child(uint64_t cell, uint8_t position, uint64_t *child);
 
 /* The level, 0 for a whole face to 30 for a leaf. S2IX_NO_CELL. */
@@ -199,7 +200,7 @@ bool s2ix_cell_contains(uint64_t cell, uint64_t other);
 /* Whether two cells share a leaf: then one contains the other. */
 bool s2ix_cell_intersects(uint64_t cell, uint64_t other);
 
-/* The level of the smallest cell that contains both. S2IX_NO_CELL, for cells of two faces too. */
+/* The level of the smallest cell that contains both. S2IX_NO_CELL, also for cells of two faces. */
 uint32_t s2ix_cell_common_level(uint64_t cell, uint64_t other, uint8_t *level);
 
 /* The next cell of its level along the curve; the first of face 0 comes after the last of face 5. S2IX_NO_CELL. */
@@ -218,14 +219,14 @@ uint32_t s2ix_cell_to_face_ij(uint64_t cell, s2ix_square *square);
 /* The cell of a square. S2IX_NO_CELL, for a face above 5, a level above 30, or a column or row of 2^level or more. */
 uint32_t s2ix_cell_from_face_ij(uint8_t face, uint32_t i, uint32_t j, uint8_t level, uint64_t *cell);
 
-/* Unions of cells, without a handle: sets of leaves, as lists of cells in any order, repeated or not. A list that a call puts is normal: it
+/* Unions of cells, without a handle: sets of leaves, as lists of cells in any order, repeated or not. A list that a call gives is normal: it
    rises, no cell lies within another, and no four are all the children of one. A buffer may not overlap a list that is read. Each call
-   first normalises its lists, in O(n log n) for n cells. S2IX_NO_CELL and S2IX_OUT_OF_MEMORY, and S2IX_NO_ROOM of those with a buffer. */
+   first normalises its lists, in O(n log n) for n cells. S2IX_NO_CELL, S2IX_OUT_OF_MEMORY; S2IX_NO_ROOM if there is a buffer. */
 
 /* The normal list of the same leaves: never longer than the list. */
 uint32_t s2ix_union_normalise(const uint64_t *cells, size_t len, uint64_t *out, size_t room, size_t *number);
 
-/* The leaves with numbers from `start` up to and without `limit`: at most 184 cells. Bounds are odd; equal ones give no cells.
+/* The leaves whose numbers are at least `start` and below `limit`: at most 184 cells. Bounds are odd; equal ones give no cells.
    S2IX_NO_SPAN, S2IX_NO_ROOM, S2IX_OUT_OF_MEMORY. */
 uint32_t s2ix_union_from_leaves(uint64_t start, uint64_t limit, uint64_t *out, size_t room, size_t *number);
 

@@ -3,7 +3,7 @@
 // Index holds a store of pairs of cells and labels, with counts, and has each call of s2ix.h as a method. S2CellIndex has the names of S2's
 // own class over such a store: a program changes one include and one type, and has edits and undo besides.
 //
-// Cells are S2's 64-bit ids. A call that is refused throws and leaves the store as it was: std::bad_alloc for want of memory, Error for each
+// Cells are S2's 64-bit ids. A call that is refused throws and leaves the store as it was: std::bad_alloc if memory is refused, Error for each
 // other reason. An Index stays on the thread that made it, also for its queries: stores share what they hold without a lock.
 //
 // cell:: has calls on single cells, and cell_union:: on unions of cells.
@@ -70,7 +70,7 @@ inline void check(std::uint32_t status, std::size_t line = 0) {
   if (status != S2IX_DONE) throw Error(status, line);
 }
 
-// What a call puts where it is shown, if it is not refused.
+// What a call writes to the pointer it is given, if it is not refused.
 template <class Answer, class Call>
 Answer answer(Call call) {
   Answer given{};
@@ -124,7 +124,7 @@ class Cells {
   Cells(std::initializer_list<std::uint64_t> cells) : Cells(cells.begin(), cells.size()) {}
   Cells(const std::uint64_t* data, std::size_t size) : data_(size == 0 ? &none : data), size_(size) {}
 
-  // Never a null pointer, also of no cells.
+  // Never a null pointer, even for no cells.
   const std::uint64_t* data() const noexcept { return data_; }
   std::size_t size() const noexcept { return size_; }
 
@@ -508,8 +508,8 @@ class Index {
 //
 // Each Add is a change that index() can undo. When as many changes can be undone as the limit allows, Add forgets them, and goes on.
 //
-// An Id is a std::uint64_t, or a class such as S2CellId: explicitly made of one, and with id() that gives it back. A union is any range of
-// Ids. So BasicS2CellIndex<S2CellId> takes what S2's headers have, an S2CellUnion too.
+// An Id is a std::uint64_t, or a class such as S2CellId that is constructed from one and returns it from id(). A union is any range of Ids. So
+// BasicS2CellIndex<S2CellId> takes S2's own S2CellId and S2CellUnion.
 template <class Id>
 class BasicS2CellIndex {
  public:
@@ -529,7 +529,7 @@ class BasicS2CellIndex {
   BasicS2CellIndex() = default;
   explicit BasicS2CellIndex(Limits limits) : limits_(limits), index_(limits) {}
 
-  // The index beneath, for edits, undo and all else that S2 has not.
+  // The index beneath, for edits, undo and all else that S2 lacks.
   Index& index() noexcept { return index_; }
   const Index& index() const noexcept { return index_; }
 
@@ -557,7 +557,7 @@ class BasicS2CellIndex {
   // A function that gets each pair of a visit. It returns false to end the visit.
   using CellVisitor = std::function<bool(Id cell_id, Label label)>;
 
-  // Visits the pairs that share a leaf with a union, each copy of each, until the visitor returns false; whether it never did.
+  // Visits the pairs that share a leaf with a union, each copy of each, until the visitor returns false. Returns whether it never did.
   template <class Union>
   bool VisitIntersectingCells(const Union& target, const CellVisitor& visitor) const {
     for (const Row& row : index_.meet(raws(target))) {
