@@ -2,8 +2,8 @@
 //!
 //! [`run`] reads a script from a source piece by piece, carries out one line after the other over a store, and writes the answers. What it
 //! writes is a function of what it reads: a refused line prints `no` with its reason and changes nothing, and after a fault the store is as
-//! the last whole line left it. [`command_of`] reads the program's words, and other calls do what
-//! they ask of whole texts.
+//! the last whole line left it. [`command_of`] reads the program's words; `check_text`, `load_text`,
+//! `replay_texts` and `rewind_texts` work on whole texts.
 //!
 //! ```
 //! let Some(mut store) = load_text(alloc, dump_bytes, limits, &mut sink)? else { return Ok(()) };
@@ -18,7 +18,7 @@
 //! `docs/FORMATS.md` lists the instructions and their answers. A line has at most [`LONGEST_LINE`] bytes; a run asks its source for at
 //! most `turns` pieces. [`RunFault`] says what ended a run early: a read, a write, a refused growth, or a source without an end.
 //!
-//! The rooms of this house: `s2ix_cli_fields` cuts a line into fields; `s2ix_cli_script` says what a line asks for; `s2ix_cli_answers`
+//! The crates behind this one: `s2ix_cli_fields` cuts a line into fields; `s2ix_cli_script` says what a line asks for; `s2ix_cli_answers`
 //! writes what queries find; `s2ix_cli_step` carries out one line; `s2ix_cli_run` runs a script; `s2ix_cli_files` checks, loads, replays and
 //! rewinds whole texts; `s2ix_cli_words` reads the program's words and tells its status.
 #![tactic(auto)]

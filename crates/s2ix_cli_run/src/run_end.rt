@@ -9,11 +9,11 @@ use s2ix_cli_step::LineOutcome;
 pub struct RunOptions {
     /// Whether the first refused line ends the run.
     pub stop: bool,
-    /// How many pieces may be read, the empty one at the end counted. With 0 none is read, and the reader is too long.
+    /// How many pieces may be read, with the empty one at the end. With 0 nothing is read, and the run ends with `ReaderTooLong`.
     pub turns: u64,
 }
 
-/// What a run returns that came to its end. Both numbers stop at 2^64 - 1.
+/// What a run returns if it reaches the end of its script. Both numbers stop at 2^64 - 1.
 #[derive(Clone, Copy, Debug, PartialEq, Eq)]
 pub struct RunEnd {
     /// How many lines were carried out or refused; blank lines and comments do not count.

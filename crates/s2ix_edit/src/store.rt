@@ -31,7 +31,7 @@ use std::alloc::Global;
 use std::marker::Model;
 
 /// A collection with its history and its range table. Contracts see a store as its bag, the changes that were done and undone, and how
-/// many faces its last step read again; the table is always that of the bag.
+/// many faces its last step rebuilt. The table is always the bag's.
 #[derive(Debug, Drop)]
 pub struct Store {
     alloc: Global,
@@ -90,9 +90,9 @@ impl Store {
 
     /// Carries an edit out, and returns how many pairs changed their counts. An accepted edit records the change at the end of `done` and
     /// empties `undone`; a refused one changes nothing. [`EditError`] says when each refusal is due. If the journal has room, an `Add` or a
-    /// `Remove` of no copies, or an `AddUnion` of no cells, is `NoChange` and does not allocate. An edit takes the time of [`plan`], the
-    /// time to free the undone changes, and O(m + p + log n) if the change has m entries, and p of the n pairs are held on their faces.
-    /// Only for these faces bag and table are built again.
+    /// `Remove` of no copies, or an `AddUnion` of no cells, is `NoChange` and does not allocate. It costs what [`plan`] does, the
+    /// freeing of the undone changes, and O(m + p + log n) for a change of m entries, if p of the n pairs that are held lie on the faces of
+    /// these entries. Only those faces are rebuilt.
     pub fn edit(&mut self, edit: &Edit) -> Result<usize, EditError>
         ensures state { OnOk result (self.new ≡ after_edit self.old edit.now) }
         ensures history { OnOk result (history_of self.new
@@ -248,8 +248,8 @@ impl Store {
         &self.table
     }
 
-    /// How many faces, 0 to 6, the last accepted edit, undo or redo read again: those that its change has an entry on. 0 before
-    /// the first; no refusal and no other call changes it. O(1).
+    /// How many faces, 0 to 6, the last accepted edit, undo or redo rebuilt: those with an entry of its change. It is 0 before the first
+    /// step, and a refused step leaves it as it was. O(1).
     pub fn faces_rebuilt(&self) -> u8
         ensures { result ≡ self.now.faces_rebuilt }
     {

@@ -1,7 +1,7 @@
 use s2id_union::CellUnion;
 use s2ix_bag_pairs::{Label, Pair};
 
-/// What makes the next collection of a store.
+/// A step that changes a store's collection.
 #[derive(Clone, Debug, Drop, PartialEq, Eq)]
 pub enum Edit {
     /// Adds copies to the pair's count.

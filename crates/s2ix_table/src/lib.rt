@@ -27,7 +27,7 @@
 //! such table for each face and rebuilds only the faces of a change ([`FacedTable::rebuilt`], over a [`BagReader`]): a store keeps one.
 //! [`CopiedTable`] has a list for each range, and is slow to build: tests compare the others with it.
 //!
-//! The rooms of this house: `s2ix_table_ranges` defines the ranges of a bag and what meets a target; `s2ix_table_walk` finds what meets a
+//! The crates behind this one: `s2ix_table_ranges` defines the ranges of a bag and what meets a target; `s2ix_table_walk` finds what meets a
 //! target and counts what it reads; `s2ix_table_queries` has the trait and its queries; `s2ix_table_chain` builds shared chains;
 //! `s2ix_table_reading` reads a bag and counts that; `s2ix_table_faces` joins the tables of six faces.
 #![tactic(auto)]

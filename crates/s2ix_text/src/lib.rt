@@ -19,7 +19,7 @@
 //! faulty line and its fault ([`DumpError`], [`JournalError`]). Each call takes O(n) for n bytes; [`replay`] and [`rewind`] also take O(log
 //! n) for each pair that they look up.
 //!
-//! The rooms of this house: `s2ix_text_io` has sources and sinks; `s2ix_text_write` writes dumps, journals and lists; `s2ix_text_parts`
+//! The crates behind this one: `s2ix_text_io` has sources and sinks; `s2ix_text_write` writes dumps, journals and lists; `s2ix_text_parts`
 //! cuts lines and reads cells and numbers; `s2ix_text_read_dump` and `s2ix_text_read_journal` read the two texts; `s2ix_text_export` writes
 //! JSON. [`replay`] and [`rewind`] are of `s2ix_bag`.
 #![tactic(auto)]
