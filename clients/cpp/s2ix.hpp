@@ -14,6 +14,7 @@
 
 #include "s2ix.h"
 
+#include <algorithm>
 #include <array>
 #include <cstddef>
 #include <cstdint>
@@ -534,7 +535,7 @@ class BasicS2CellIndex {
   const Index& index() const noexcept { return index_; }
 
   // How many pairs were added, repeated ones included. O(n).
-  int num_cells() const { return static_cast<int>(index_.copies()); }
+  int num_cells() const { return static_cast<int>(std::min<std::uint64_t>(index_.copies(), std::numeric_limits<int>::max())); }
 
   // Adds a pair, or one more copy of it.
   void Add(Id cell_id, Label label) {
