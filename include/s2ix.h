@@ -129,6 +129,14 @@ uint32_t s2ix_labels(s2ix_handle *handle, const uint64_t *cells, size_t len, uin
    S2IX_CLOSED, S2IX_NO_LABEL, S2IX_NO_ROOM, S2IX_OUT_OF_MEMORY. */
 uint32_t s2ix_region(s2ix_handle *handle, uint32_t label, uint64_t *cells, size_t room, size_t *number);
 
+/* The pairs of a label, by rising cell. O(n) for all n pairs that are held. S2IX_CLOSED, S2IX_NO_LABEL, S2IX_NO_ROOM, S2IX_OUT_OF_MEMORY. */
+uint32_t s2ix_of_label(s2ix_handle *handle, uint32_t label, s2ix_row *rows, size_t room, size_t *number);
+
+/* The pairs from a place on, counted from 0, in rising order of cell, then label: as many as there is room for, so that it is never too
+   short. *number is how many are put: 0 if there is none at the place. An edit moves the places of the pairs behind it. O(k) for k pairs
+   put. S2IX_CLOSED. */
+uint32_t s2ix_pairs(s2ix_handle *handle, size_t from, s2ix_row *rows, size_t room, size_t *number);
+
 /* How many copies of a cell are held under a label: 0 if the pair is not held. O(log n). S2IX_CLOSED, S2IX_NO_CELL, S2IX_NO_LABEL. */
 uint32_t s2ix_count(s2ix_handle *handle, uint64_t cell, uint32_t label, uint32_t *count);
 

@@ -444,6 +444,24 @@ class Index {
     return cells;
   }
 
+  // The pairs of a label, by rising cell. O(n) for all n pairs that are held. S2IX_CLOSED, S2IX_NO_LABEL.
+  void of_label(std::uint32_t label, std::vector<Row>& rows) const {
+    detail::fill(rows, [&](Row* to, std::size_t room, std::size_t* number) { return s2ix_of_label(&handle_, label, to, room, number); });
+  }
+  std::vector<Row> of_label(std::uint32_t label) const {
+    std::vector<Row> rows;
+    of_label(label, rows);
+    return rows;
+  }
+
+  // The pairs from a place on, counted from 0, in rising order of cell, then label: as many as there are, and at most `most`, for which it
+  // takes memory. O(most). S2IX_CLOSED.
+  std::vector<Row> pairs(std::size_t from, std::size_t most) const {
+    std::vector<Row> rows(most == 0 ? 1 : most);
+    rows.resize(detail::number([&](std::size_t* to) { return s2ix_pairs(&handle_, from, rows.data(), most, to); }));
+    return rows;
+  }
+
   // How many copies of a cell are held under a label: 0 if the pair is not held. O(log n). S2IX_CLOSED, S2IX_NO_CELL, S2IX_NO_LABEL.
   std::uint32_t count(std::uint64_t cell, std::uint32_t label) const {
     return detail::answer<std::uint32_t>([&](std::uint32_t* count) { return s2ix_count(&handle_, cell, label, count); });

@@ -51,6 +51,11 @@ static void refused_while_closed(void) {
     EXPECT(label, 9);
     EXPECT(s2ix_region(&handle, 1, &cell, 1, &number), S2IX_CLOSED);
     EXPECT(cell, 9);
+    EXPECT(s2ix_of_label(&handle, 1, &row, 1, &number), S2IX_CLOSED);
+    number = 7;
+    EXPECT(s2ix_pairs(&handle, 0, &row, 1, &number), S2IX_CLOSED);
+    EXPECT(number, 0);
+    EXPECT(row.cell + row.label + row.count, 6);
     EXPECT(s2ix_dump(&handle, byte, 1, &number), S2IX_CLOSED);
     EXPECT(byte[0], 9);
     s2ix_close(&handle);
@@ -247,6 +252,51 @@ static void asked(void) {
     s2ix_close(&handle);
 }
 
+/* The pairs of a store, of one label and page by page. */
+static void paged(void) {
+    s2ix_handle handle = {0};
+    size_t number;
+    s2ix_row rows[4];
+    EXPECT(s2ix_open(&handle, 10, 10, 10), S2IX_DONE);
+    EXPECT(s2ix_pairs(&handle, 0, rows, 4, &number), S2IX_DONE);
+    EXPECT(number, 0);
+    EXPECT(s2ix_add(&handle, second, 3, 2, &number), S2IX_DONE);
+    EXPECT(s2ix_add(&handle, first, 9, 4, &number), S2IX_DONE);
+    EXPECT(s2ix_add(&handle, first, 3, 1, &number), S2IX_DONE);
+
+    memset(rows, 7, sizeof rows);
+    EXPECT(s2ix_pairs(&handle, 0, rows, 2, &number), S2IX_DONE);
+    EXPECT(number, 2);
+    EXPECT(rows[0].cell == first && rows[0].label == 3 && rows[0].count == 1, true);
+    EXPECT(rows[1].cell == first && rows[1].label == 9 && rows[1].count == 4, true);
+    EXPECT(rows[2].label, 0x07070707);
+    EXPECT(s2ix_pairs(&handle, 2, rows, 2, &number), S2IX_DONE);
+    EXPECT(number, 1);
+    EXPECT(rows[0].cell == second && rows[0].label == 3 && rows[0].count == 2, true);
+    EXPECT(rows[1].label, 9);
+    EXPECT(s2ix_pairs(&handle, 3, rows, 2, &number), S2IX_DONE);
+    EXPECT(number, 0);
+    EXPECT(s2ix_pairs(&handle, SIZE_MAX, rows, 2, &number), S2IX_DONE);
+    EXPECT(number, 0);
+    EXPECT(s2ix_pairs(&handle, 0, rows, 0, &number), S2IX_DONE);
+    EXPECT(number, 0);
+
+    memset(rows, 7, sizeof rows);
+    EXPECT(s2ix_of_label(&handle, 3, rows, 1, &number), S2IX_NO_ROOM);
+    EXPECT(number, 2);
+    EXPECT(rows[0].label, 0x07070707);
+    EXPECT(s2ix_of_label(&handle, 3, rows, 2, &number), S2IX_DONE);
+    EXPECT(number, 2);
+    EXPECT(rows[0].cell == first && rows[0].count == 1, true);
+    EXPECT(rows[1].cell == second && rows[1].count == 2, true);
+    EXPECT(rows[2].label, 0x07070707);
+    EXPECT(s2ix_of_label(&handle, 4, rows, 0, &number), S2IX_DONE);
+    EXPECT(number, 0);
+    EXPECT(s2ix_of_label(&handle, UINT32_MAX, rows, 4, &number), S2IX_NO_LABEL);
+    EXPECT(number, 0);
+    s2ix_close(&handle);
+}
+
 static void told(void) {
     uint8_t text[64];
     size_t number;
@@ -326,6 +376,7 @@ int main(void) {
     edited();
     edited_labels();
     asked();
+    paged();
     told();
     copied();
     written_and_read();

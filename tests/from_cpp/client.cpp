@@ -84,6 +84,8 @@ void Closed() {
   REFUSED(S2IX_CLOSED, index.meet({kFace}));
   REFUSED(S2IX_CLOSED, index.labels({kFace}));
   REFUSED(S2IX_CLOSED, index.region(1));
+  REFUSED(S2IX_CLOSED, index.of_label(1));
+  REFUSED(S2IX_CLOSED, index.pairs(0, 2));
   REFUSED(S2IX_CLOSED, index.count(kFirst, 1));
   REFUSED(S2IX_CLOSED, index.len());
   REFUSED(S2IX_CLOSED, index.copies());
@@ -155,6 +157,11 @@ void Asked() {
   REFUSED(S2IX_NO_CELL, index.labels({kNoCell}));
   EXPECT((index.region(9) == std::vector<std::uint64_t>{kFirst}) && index.region(2).empty());
   REFUSED(S2IX_NO_LABEL, index.region(kNoLabel));
+  rows = index.of_label(9);
+  EXPECT(rows.size() == 1 && IsRow(rows[0], kFirst, 9, 2) && index.of_label(2).empty());
+  REFUSED(S2IX_NO_LABEL, index.of_label(kNoLabel));
+  rows = index.pairs(1, 1);
+  EXPECT(rows.size() == 1 && index.pairs(0, 16).size() == index.len() && index.pairs(index.len(), 2).empty());
   EXPECT(index.range_count() >= 3);
   s2ix::Index copy = index.copy();
   copy.add(kLeaf, 5);

@@ -52,6 +52,8 @@ CALLS = {
     "s2ix_meet": [address, address, size, address, size, address],
     "s2ix_labels": [address, address, size, address, size, address],
     "s2ix_region": [address, u32, address, size, address],
+    "s2ix_of_label": [address, u32, address, size, address],
+    "s2ix_pairs": [address, size, address, size, address],
     "s2ix_count": [address, u64, u32, address],
     "s2ix_len": [address, address],
     "s2ix_copies": [address, address],

@@ -2,3 +2,4 @@ pub mod Through
 mod Numbers
 mod OfUnion
 mod OfCells
+mod Paging

@@ -1,5 +1,5 @@
 -- Lists in buffers of the caller.
-use Rattle.std.specs.Prelude.{◌≡◌, ◌≢◌, ◌⊎◌, ℕ, ◌<◌, ◌==◌, if◌then◌else◌, Option, Some, None, Result, Ok, Err, List, length, map, take}
+use Rattle.std.specs.Prelude.{◌≡◌, ◌≢◌, ◌⊎◌, ℕ, ◌<◌, ◌==◌, if◌then◌else◌, Option, Some, None, Result, Ok, Err, List, length, map, take, drop}
 use Rattle.s2id_core.specs.declared.cell_id.CellId.{CellId}
 use Rattle.s2id_core.specs.CellId.{raw_of, level_of}
 use Rattle.s2id_core.specs.Spelled.{cell_numbered}
@@ -9,6 +9,7 @@ use Rattle.s2ix_bag_pairs.specs.declared.pair.Held.{Held}
 use Rattle.s2ix_bag_pairs.specs.declared.pair.Pair.{Pair}
 use Rattle.s2ix_bag_pairs.specs.Collection.{count_in}
 use Rattle.s2ix_bag_pairs.specs.Label.{value_of}
+use Rattle.s2ix_bag_pairs.specs.OfLabel.{held_of}
 use Rattle.s2ix_table_ranges.specs.Contents.{contents_at}
 use Rattle.s2ix_table_ranges.specs.LabelList.{label_list}
 use Rattle.s2ix_table_ranges.specs.Meeting.{meeting_of}
@@ -73,3 +74,16 @@ ListsOf list ids status number old new =
     ((cells : List CellId) × AreCells ids cells × IsPut (list cells) status number old new)
     ⊎ (LacksCell ids × IsRefused no_cell status number old new)
     ⊎ IsRefused out_of_memory status number old new
+
+-- the pairs of a label
+abbrev pub rows_with : Option Label → State → Result (List Row) ℕ
+rows_with (Some label) s = Ok (map row_of (held_of label s.bag.held))
+rows_with None s = Err no_label
+
+-- the pairs from a place on, as many as a buffer has room for, put to its front
+abbrev pub rows_from : ℕ → ℕ → State → List Row
+rows_from from room s = map row_of (take room (drop from s.bag.held))
+
+abbrev pub PutsPage : ℕ → State → ℕ → ℕ → List Row → List Row → Type 0
+PutsPage from s status number old new =
+    (status ≡ done) × (number ≡ length (rows_from from (length old) s)) × (take number new ≡ rows_from from (length old) s)

@@ -12,6 +12,7 @@ mod cells;
 mod counts;
 mod edits;
 mod handles;
+mod listing;
 mod queries;
 mod rows;
 mod status;

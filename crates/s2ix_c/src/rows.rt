@@ -23,7 +23,7 @@ pub struct Row {
 
 // A held pair as a row.
 #[inline]
-fn row_for(held: Held) -> Row
+pub(crate) fn row_for(held: Held) -> Row
     ensures { result ≡ row_of held }
 {
     Row {
