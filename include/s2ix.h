@@ -159,8 +159,12 @@ uint32_t s2ix_range_count(s2ix_handle *handle, size_t *number);
 /* The dump of what is held, as bytes (docs/FORMATS.md). O(n). S2IX_CLOSED, S2IX_NO_ROOM, S2IX_OUT_OF_MEMORY. */
 uint32_t s2ix_dump(s2ix_handle *handle, uint8_t *text, size_t room, size_t *number);
 
-/* Cells, without a handle. Each call takes O(1) if nothing else is said, and only s2ix_cell_border allocates. A call that gives a cell, a
-   level or a face gives 0 if it is refused. A call that returns a bool returns false if a number is no cell's. */
+/* The journal of the changes that can be undone, the oldest first, as bytes (docs/FORMATS.md). O(n) for n entries.
+   S2IX_CLOSED, S2IX_NO_ROOM, S2IX_OUT_OF_MEMORY. */
+uint32_t s2ix_journal(s2ix_handle *handle, uint8_t *text, size_t room, size_t *number);
+
+/* Cells, without a handle. Each call takes O(1), if nothing else is said, and never wants memory but for a border. A call that tells a cell,
+   a level or a face tells 0 if it is refused. The calls that answer yes or no answer no if a number is no cell's. */
 
 /* A cell as a square of the grid of its level on its face. */
 typedef struct s2ix_square {

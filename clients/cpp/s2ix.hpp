@@ -8,7 +8,7 @@
 //
 // cell:: has calls on single cells, and cell_union:: on unions of cells.
 //
-// Not here yet: S2CellIndex's RangeIterator, NonEmptyRangeIterator and ContentsIterator, and the journal.
+// Not here yet: S2CellIndex's RangeIterator, NonEmptyRangeIterator and ContentsIterator, and a journal read back.
 #ifndef S2IX_HPP
 #define S2IX_HPP
 
@@ -499,6 +499,13 @@ class Index {
   std::string dump() const {
     return detail::filled<std::string>([&](char* bytes, std::size_t room, std::size_t* number) {
       return s2ix_dump(&handle_, reinterpret_cast<std::uint8_t*>(bytes), room, number);
+    });
+  }
+
+  // The journal of the changes that can be undone, the oldest first (docs/FORMATS.md). O(n) for n entries. S2IX_CLOSED.
+  std::string journal() const {
+    return detail::filled<std::string>([&](char* bytes, std::size_t room, std::size_t* number) {
+      return s2ix_journal(&handle_, reinterpret_cast<std::uint8_t*>(bytes), room, number);
     });
   }
 

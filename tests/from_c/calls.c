@@ -51,6 +51,9 @@ static void refused_while_closed(void) {
     EXPECT(label, 9);
     EXPECT(s2ix_region(&handle, 1, &cell, 1, &number), S2IX_CLOSED);
     EXPECT(cell, 9);
+    EXPECT(s2ix_journal(&handle, byte, 1, &number), S2IX_CLOSED);
+    EXPECT(number, 0);
+    EXPECT(byte[0], 9);
     EXPECT(s2ix_of_label(&handle, 1, &row, 1, &number), S2IX_CLOSED);
     number = 7;
     EXPECT(s2ix_pairs(&handle, 0, &row, 1, &number), S2IX_CLOSED);
@@ -368,6 +371,30 @@ static void written_and_read(void) {
     s2ix_close(&other);
 }
 
+static void journalled(void) {
+    static const char wanted[] = "s2ix-journal 2\nchange 1\n04 9 0 2\nchange 1\n04 9 2 1\nend 2\n", none[] = "s2ix-journal 2\nend 0\n";
+    const size_t len = sizeof wanted - 1;
+    s2ix_handle handle = {0};
+    size_t number;
+    uint8_t text[64];
+    EXPECT(s2ix_open(&handle, 10, 10, 10), S2IX_DONE);
+    EXPECT(s2ix_journal(&handle, text, sizeof text, &number), S2IX_DONE);
+    EXPECT(number, sizeof none - 1);
+    EXPECT(memcmp(text, none, number), 0);
+    EXPECT(s2ix_add(&handle, first, 9, 2, &number), S2IX_DONE);
+    EXPECT(s2ix_remove(&handle, first, 9, 1, &number), S2IX_DONE);
+    EXPECT(s2ix_add(&handle, face, 3, 1, &number), S2IX_DONE);
+    EXPECT(s2ix_undo(&handle, &number), S2IX_DONE);
+    memset(text, 7, sizeof text);
+    EXPECT(s2ix_journal(&handle, text, len - 1, &number), S2IX_NO_ROOM);
+    EXPECT(number, len);
+    EXPECT(text[0], 7);
+    EXPECT(s2ix_journal(&handle, text, len, &number), S2IX_DONE);
+    EXPECT(memcmp(text, wanted, len), 0);
+    EXPECT(text[len], 7);
+    s2ix_close(&handle);
+}
+
 int main(void) {
     faults = cell_faults();
     refused_while_closed();
@@ -380,6 +407,7 @@ int main(void) {
     told();
     copied();
     written_and_read();
+    journalled();
     if (faults == 0)
         printf("c library: well\n");
     return faults != 0;

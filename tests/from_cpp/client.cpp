@@ -95,6 +95,7 @@ void Closed() {
   REFUSED(S2IX_CLOSED, index.range_count());
   REFUSED(S2IX_CLOSED, index.copy());
   REFUSED(S2IX_CLOSED, index.dump());
+  REFUSED(S2IX_CLOSED, index.journal());
 }
 
 void Edited() {
@@ -191,6 +192,7 @@ void WrittenAndRead() {
   const std::string dump = index.dump();
   EXPECT(dump.substr(0, 14) == "s2ix 2\n04 0 1\n" && s2ix::Index::load(dump).dump() == dump);
   EXPECT(s2ix::Index().dump() == "s2ix 2\nend 0 0\n");
+  EXPECT(s2ix::Index().journal() == "s2ix-journal 2\nend 0\n");
   REFUSED(S2IX_NO_LIMITS, s2ix::Index::load(dump, s2ix::Limits{0, 1, 1}));
   REFUSED(S2IX_NO_DUMP, s2ix::Index::load(dump, s2ix::Limits{1, 100, 1}));
   REFUSED(S2IX_NO_DUMP, s2ix::Index::load({}));
