@@ -1,5 +1,5 @@
 -- What calls on cells tell.
-use Rattle.std.specs.Prelude.{◌≡◌, ◌≢◌, ◌↔◌, ◌⊎◌, ℕ, ◌+◌, ◌*◌, ◌%◌, ◌^◌, ◌<◌, ◌≤◌, Option, Some, None, List, [], ◌∷◌, length, map, take, Any, AllPairs, Contains as HasElement}
+use Rattle.std.specs.Prelude.{◌≡◌, ◌≢◌, ◌↔◌, ◌⊎◌, ℕ, ◌+◌, ◌*◌, ◌%◌, ◌^◌, ◌<◌, ◌≤◌, Option, Some, None, List, [], ◌∷◌, length, map, take, drop, Any, AllPairs, Contains as HasElement}
 use Rattle.s2id_core.specs.declared.cell_id.CellId.{CellId}
 use Rattle.s2id_core.specs.Cell.{IsCellNumber}
 use Rattle.s2id_core.specs.CellId.{raw_of, path_of}
@@ -27,9 +27,9 @@ abbrev pub TellsCell : Option CellId → ℕ → ℕ → Type 0
 TellsCell (Some cell) status told = (status ≡ done) × (told ≡ raw_of cell)
 TellsCell None status told = (status ≡ no_cell) × (told ≡ 0)
 
--- the text of a cell, put to the front of a buffer; if the number is no cell's, the buffer is as it was
+-- the text of a cell, put to the front of a buffer, which stays as it was behind it; if the number is no cell's, all of it does
 pub record PutsText (id : ℕ) (text : List ℕ) (status number : ℕ) (old new : List ℕ) : Type 0 where
-  pub put : status ≡ done → IsCellNumber id × (number ≡ length text) × (take number new ≡ text)
+  pub put : status ≡ done → IsCellNumber id × (number ≡ length text) × (take number new ≡ text) × (drop number new ≡ drop number old)
   pub none : status ≢ done → (status ≡ no_cell) × (number ≡ 0) × (new ≡ old) × (IsCellNumber id → ⊥)
 
 -- the number is that of the cell that follows another of its level on the curve, where the first of face 0 follows the last of face 5

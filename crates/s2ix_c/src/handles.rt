@@ -1,6 +1,6 @@
 //! Handles, opened and closed.
 
-ghost use Rattle.std.specs.Prelude.{◌≡◌, ◌↔◌, ◌≢◌, Some, None, []};
+ghost use Rattle.std.specs.Prelude.{◌≡◌, ◌↔◌, ◌≢◌, ◌⊎◌, Some, None, []};
 ghost use Rattle.s2ix_bag_pairs.specs.declared.limits.Limits.{Limits};
 ghost use Rattle.s2ix_bag_pairs.specs.Limits.{changes_limit, count_limit, pairs_limit};
 ghost use Rattle.s2ix_bag_pairs.specs.Ranges.{AreLimits};
@@ -42,6 +42,7 @@ pub extern "C" fn s2ix_open(
         → Opens pairs copies changes (λ limits. starting_at (record { limits = limits; held = [] })) (held_of handle.new) }
     ensures refused { result ≢ done → held_of handle.new ≡ held_of handle.old }
     ensures limits { (result ≡ no_limits) ↔ (AreLimits pairs copies changes → ⊥) }
+    ensures answers { (result ≡ done) ⊎ (result ≡ no_limits) ⊎ (result ≡ out_of_memory) }
 {
     let Some(limits) = Limits::new(pairs, copies, changes) else {
         return NO_LIMITS;
@@ -77,6 +78,7 @@ pub extern "C" fn s2ix_load(
     ensures limits { (result ≡ no_limits) ↔ (AreLimits pairs copies changes → ⊥) }
     ensures fault { result ≡ no_dump → HasFaultIn text.now pairs copies changes line.new }
     ensures no_fault { result ≢ no_dump → line.new ≡ 0 }
+    ensures answers { (result ≡ done) ⊎ (result ≡ no_limits) ⊎ (result ≡ no_dump) ⊎ (result ≡ out_of_memory) }
 {
     *line = 0;
     let Some(limits) = Limits::new(pairs, copies, changes) else {
