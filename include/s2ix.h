@@ -1,11 +1,12 @@
 /* The S2 cell index that can be edited: stores behind handles, cells and unions of cells. docs/FROM_C.md says how to build the library, and
-   what C must see to.
+   all that C must see to.
 
    Cells are S2's 64-bit ids, labels are 0 to 2147483647. Each call returns a status, except that s2ix_close returns nothing and some calls on
    cells return a bool. A call whose status is not S2IX_DONE leaves the store as it was. A list goes to a buffer of the caller, which has room
    for `room` items. *number says how many items there are; if there is room for all, they are put at the front of the buffer, else the status
-   is S2IX_NO_ROOM and the buffer is as it was. If a call is refused for another reason, *number is 0. A pointer to no items may be any pointer
-   but NULL. */
+   is S2IX_NO_ROOM and the buffer is as it was. If a call is refused for another reason, *number is 0. No pointer is NULL, not even one to no
+   items, and what the pointers of one call point to doesn't overlap; so a handle is never copied to itself. A query takes the store out of
+   its handle for a while, so the handle isn't const. */
 #ifndef S2IX_H
 #define S2IX_H
 
@@ -163,8 +164,8 @@ uint32_t s2ix_dump(s2ix_handle *handle, uint8_t *text, size_t room, size_t *numb
    S2IX_CLOSED, S2IX_NO_ROOM, S2IX_OUT_OF_MEMORY. */
 uint32_t s2ix_journal(s2ix_handle *handle, uint8_t *text, size_t room, size_t *number);
 
-/* Cells, without a handle. Each call takes O(1), if nothing else is said, and never wants memory but for a border. A call that tells a cell,
-   a level or a face tells 0 if it is refused. The calls that answer yes or no answer no if a number is no cell's. */
+/* Cells, without a handle. Each call takes O(1) if nothing else is said, and only s2ix_cell_border allocates. A call that gives a cell, a
+   level or a face gives 0 if it is refused. A call that returns a bool returns false if a number is no cell's. */
 
 /* A cell as a square of the grid of its level on its face. */
 typedef struct s2ix_square {
