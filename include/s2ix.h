@@ -157,6 +157,11 @@ uint32_t s2ix_faces_rebuilt(s2ix_handle *handle, size_t *number);
 /* How many ranges of leaves there are over which the same pairs lie: at least 1. O(1). S2IX_CLOSED. */
 uint32_t s2ix_range_count(s2ix_handle *handle, size_t *number);
 
+/* The range that has a leaf: its place among them, counted from 0, the number of its first leaf, and the leaf number with which it ends. Its
+   pairs are those that s2ix_at puts for *start, and the next range begins with *limit, unless that is 0xc000000000000001. All three are 0
+   if the call is refused. O(log n). S2IX_CLOSED, S2IX_NO_CELL. */
+uint32_t s2ix_find(s2ix_handle *handle, uint64_t leaf, size_t *place, uint64_t *start, uint64_t *limit);
+
 /* The dump of what is held, as bytes (docs/FORMATS.md). O(n). S2IX_CLOSED, S2IX_NO_ROOM, S2IX_OUT_OF_MEMORY. */
 uint32_t s2ix_dump(s2ix_handle *handle, uint8_t *text, size_t room, size_t *number);
 

@@ -118,6 +118,13 @@ struct Limits {
   std::uint32_t changes = 100000;                                   // changes that can be undone, 1 to 100,000
 };
 
+// A range of leaves over which the same pairs lie: its place, counted from 0, its first leaf, and the leaf number with which it ends.
+struct Range {
+  std::size_t place;
+  std::uint64_t start;
+  std::uint64_t limit;
+};
+
 // Some cells of the caller, in any order and repeated or not: a vector, a list in braces, or a pointer with a number. It copies none of them.
 class Cells {
  public:
@@ -493,6 +500,11 @@ class Index {
   // How many ranges of leaves there are over which the same pairs lie: at least 1. O(1). S2IX_CLOSED.
   std::size_t range_count() const {
     return detail::number([&](std::size_t* to) { return s2ix_range_count(&handle_, to); });
+  }
+
+  // The range that has a leaf. O(log n). S2IX_CLOSED, S2IX_NO_CELL.
+  Range find(std::uint64_t leaf) const {
+    return detail::answer<Range>([&](Range* to) { return s2ix_find(&handle_, leaf, &to->place, &to->start, &to->limit); });
   }
 
   // The dump of what is held (docs/FORMATS.md). O(n). S2IX_CLOSED.

@@ -371,6 +371,32 @@ static void written_and_read(void) {
     s2ix_close(&other);
 }
 
+/* The ranges of a store with one pair, whose cell is neither the first nor the last. */
+static void found(void) {
+    static const uint64_t start_of_all = 1, end_of_all = 0xc000000000000001, last_leaf = 0xbfffffffffffffff;
+    s2ix_handle handle = {0};
+    size_t number, place = 7;
+    uint64_t start = 7, limit = 7;
+    EXPECT(s2ix_find(&handle, leaf, &place, &start, &limit), S2IX_CLOSED);
+    EXPECT(place == 0 && start == 0 && limit == 0, true);
+    EXPECT(s2ix_open(&handle, 10, 10, 10), S2IX_DONE);
+    EXPECT(s2ix_find(&handle, leaf, &place, &start, &limit), S2IX_DONE);
+    EXPECT(place == 0 && start == start_of_all && limit == end_of_all, true);
+    EXPECT(s2ix_add(&handle, second, 3, 2, &number), S2IX_DONE);
+    EXPECT(s2ix_range_count(&handle, &number), S2IX_DONE);
+    EXPECT(number, 3);
+    EXPECT(s2ix_find(&handle, leaf, &place, &start, &limit), S2IX_DONE);
+    EXPECT(place == 0 && start == start_of_all && limit == 0x0800000000000001, true);
+    EXPECT(s2ix_find(&handle, limit, &place, &start, &limit), S2IX_DONE);
+    EXPECT(place == 1 && start == 0x0800000000000001 && limit == 0x1000000000000001, true);
+    EXPECT(s2ix_find(&handle, last_leaf, &place, &start, &limit), S2IX_DONE);
+    EXPECT(place == 2 && start == 0x1000000000000001 && limit == end_of_all, true);
+    EXPECT(s2ix_find(&handle, end_of_all, &place, &start, &limit), S2IX_NO_CELL);
+    EXPECT(place == 0 && start == 0 && limit == 0, true);
+    EXPECT(s2ix_find(&handle, second, &place, &start, &limit), S2IX_NO_CELL);
+    s2ix_close(&handle);
+}
+
 static void journalled(void) {
     static const char wanted[] = "s2ix-journal 2\nchange 1\n04 9 0 2\nchange 1\n04 9 2 1\nend 2\n", none[] = "s2ix-journal 2\nend 0\n";
     const size_t len = sizeof wanted - 1;
@@ -408,6 +434,7 @@ int main(void) {
     copied();
     written_and_read();
     journalled();
+    found();
     if (faults == 0)
         printf("c library: well\n");
     return faults != 0;

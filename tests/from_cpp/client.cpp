@@ -95,6 +95,7 @@ void Closed() {
   REFUSED(S2IX_CLOSED, index.range_count());
   REFUSED(S2IX_CLOSED, index.copy());
   REFUSED(S2IX_CLOSED, index.dump());
+  REFUSED(S2IX_CLOSED, index.find(kLeaf));
   REFUSED(S2IX_CLOSED, index.journal());
 }
 
@@ -161,6 +162,8 @@ void Asked() {
   rows = index.of_label(9);
   EXPECT(rows.size() == 1 && IsRow(rows[0], kFirst, 9, 2) && index.of_label(2).empty());
   REFUSED(S2IX_NO_LABEL, index.of_label(kNoLabel));
+  EXPECT(index.find(kLeaf).start <= kLeaf && kLeaf < index.find(kLeaf).limit && index.find(kLeaf).place < index.range_count());
+  REFUSED(S2IX_NO_CELL, index.find(kNoCell));
   rows = index.pairs(1, 1);
   EXPECT(rows.size() == 1 && index.pairs(0, 16).size() == index.len() && index.pairs(index.len(), 2).empty());
   EXPECT(index.range_count() >= 3);

@@ -61,6 +61,7 @@ CALLS = {
     "s2ix_undone_count": [address, address],
     "s2ix_faces_rebuilt": [address, address],
     "s2ix_range_count": [address, address],
+    "s2ix_find": [address, u64, address, address, address],
     "s2ix_dump": [address, address, size, address],
     "s2ix_journal": [address, address, size, address],
     "s2ix_cell_is_valid": [u64],

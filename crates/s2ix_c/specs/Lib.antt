@@ -5,3 +5,4 @@ pub mod Lists
 pub mod Texts
 pub mod Cells
 pub mod CellUnions
+pub mod Ranges

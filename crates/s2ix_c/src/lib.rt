@@ -14,6 +14,7 @@ mod edits;
 mod handles;
 mod listing;
 mod queries;
+mod ranges;
 mod rows;
 mod status;
 mod steps;

@@ -22,7 +22,7 @@ use s2ix_table_queries::{RangeTable, chain_at};
 use std::alloc::Global;
 
 // The leaf of a number.
-fn leaf_of(number: u64) -> Option<CellId>
+pub(crate) fn leaf_of(number: u64) -> Option<CellId>
     ensures leaf { result ≡ leaf_numbered number }
     ensures level { IfSome result (λ leaf. level_of leaf ≡ 30) }
 {
