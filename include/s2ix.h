@@ -1,12 +1,12 @@
 /* The S2 cell index that can be edited: stores behind handles, cells and unions of cells. docs/FROM_C.md says how to build the library, and
-   all that C must see to.
+   what the caller must ensure.
 
    Cells are S2's 64-bit ids, labels are 0 to 2147483647. Each call returns a status, except that s2ix_close returns nothing and some calls on
-   cells return a bool. A call whose status is not S2IX_DONE leaves the store as it was. A list goes to a buffer of the caller, which has room
-   for `room` items. *number says how many items there are; if there is room for all, they are put at the front of the buffer, else the status
-   is S2IX_NO_ROOM and the buffer is as it was. If a call is refused for another reason, *number is 0. No pointer is NULL, not even one to no
-   items, and what the pointers of one call point to doesn't overlap; so a handle is never copied to itself. A query takes the store out of
-   its handle for a while, so the handle isn't const. */
+   cells return a bool. A call whose status is not S2IX_DONE leaves the store as it was. A call that gives a list takes a buffer with room for
+   `room` items, and sets *number to how many items the list has. If the buffer has room for all, the call puts them at its front; else the
+   status is S2IX_NO_ROOM and the buffer stays as it was. A call that is refused for another reason sets *number to 0. No pointer is NULL, not
+   even one to no items. What the pointers of one call point to doesn't overlap, so never copy a handle to itself. A query takes the store out
+   of its handle and puts it back, so the handle isn't const. */
 #ifndef S2IX_H
 #define S2IX_H
 
@@ -35,7 +35,7 @@ enum s2ix_status {
     S2IX_DONE = 0,
     S2IX_CLOSED = 1,          /* the handle is closed */
     S2IX_OUT_OF_MEMORY = 2,   /* a growth was refused */
-    S2IX_NO_CELL = 3,         /* a number is no cell's, or no leaf's where a leaf is asked for; or there is no such cell */
+    S2IX_NO_CELL = 3,         /* a number is no cell's, or no leaf's in a call that takes a leaf; or there is no such cell */
     S2IX_NO_LABEL = 4,        /* a number is no label's */
     S2IX_NO_LIMITS = 5,       /* limits are out of their ranges */
     S2IX_NOTHING_TO_UNDO = 6,
@@ -59,17 +59,17 @@ enum s2ix_status {
 uint32_t s2ix_status_text(uint32_t status, uint8_t *text, size_t room, size_t *number);
 
 /* Opens a handle of an empty store of at most `pairs` pairs (1 to 1,000,000), `copies` copies of each (1 and up) and `changes` changes to
-   undo (1 to 100,000). A store that the handle had is freed, if the call is not refused. O(1), and the freeing.
+   undo (1 to 100,000). If the call is not refused, it frees the store that the handle had. O(1), and the freeing.
    S2IX_NO_LIMITS, S2IX_OUT_OF_MEMORY. */
 uint32_t s2ix_open(s2ix_handle *handle, uint32_t pairs, uint32_t copies, uint32_t changes);
 
-/* Opens a handle of the store that starts from a dump's collection, under limits as those of s2ix_open. A store that the handle had is freed,
-   if the call is not refused. If the text is no dump, *line is the number of its first line with a fault, counted from 1; else it is 0. O(n)
+/* Opens a handle of the store that starts from a dump's collection, under limits as those of s2ix_open. If the call is not refused, it frees
+   the store that the handle had. If the text is no dump, *line is the number of its first line with a fault, counted from 1; else it is 0. O(n)
    for n bytes. S2IX_NO_LIMITS, S2IX_NO_DUMP, S2IX_OUT_OF_MEMORY. */
 uint32_t s2ix_load(s2ix_handle *handle, const uint8_t *text, size_t len, uint32_t pairs, uint32_t copies, uint32_t changes, size_t *line);
 
-/* Opens `copy` on a new store that starts from what the handle's store holds, with nothing to undo or redo. A store that `copy` had is freed,
-   if the call is not refused. The two stores share memory: both stay on one thread. O(1), and the table's O(n).
+/* Opens `copy` on a new store that starts from what the handle's store holds, with nothing to undo or redo. If the call is not refused, it
+   frees the store that `copy` had. The two stores share memory: both stay on one thread. O(1), and the table's O(n).
    S2IX_CLOSED, S2IX_OUT_OF_MEMORY. */
 uint32_t s2ix_copy(s2ix_handle *handle, s2ix_handle *copy);
 
@@ -133,8 +133,8 @@ uint32_t s2ix_region(s2ix_handle *handle, uint32_t label, uint64_t *cells, size_
 /* The pairs of a label, by rising cell. O(n) for all n pairs that are held. S2IX_CLOSED, S2IX_NO_LABEL, S2IX_NO_ROOM, S2IX_OUT_OF_MEMORY. */
 uint32_t s2ix_of_label(s2ix_handle *handle, uint32_t label, s2ix_row *rows, size_t room, size_t *number);
 
-/* The pairs from a place on, counted from 0, in rising order of cell, then label: as many as there is room for, so that it is never too
-   short. *number is how many are put: 0 if there is none at the place. An edit moves the places of the pairs behind it. O(k) for k pairs
+/* The pairs from a place on, counted from 0, in rising order of cell, then label: as many as there is room for, never S2IX_NO_ROOM. *number
+   is how many are put: 0 if there is none at the place. An edit moves the places of the pairs behind those that it changes. O(k) for k pairs
    put. S2IX_CLOSED. */
 uint32_t s2ix_pairs(s2ix_handle *handle, size_t from, s2ix_row *rows, size_t room, size_t *number);
 
@@ -187,7 +187,7 @@ bool s2ix_cell_is_valid(uint64_t cell);
 /* The cell that a text spells: 1 to 16 hexadecimal digits of either case; those missing on the right are zeros. S2IX_NO_CELL. */
 uint32_t s2ix_cell_from_token(const uint8_t *text, size_t len, uint64_t *cell);
 
-/* A cell's token, as *number bytes, 1 to 16, with no zero after them. If it is refused, `text` is as it was. S2IX_NO_CELL. */
+/* A cell's token, as *number bytes, 1 to 16, with no zero after them. If the call is refused, `text` is as it was. S2IX_NO_CELL. */
 uint32_t s2ix_cell_to_token(uint64_t cell, uint8_t text[16], size_t *number);
 
 /* A cell's path for people, as 0/32: the face, a slash, and the child positions from level 1 down, 2 to 32 bytes. S2IX_NO_CELL. */
@@ -224,14 +224,15 @@ uint32_t s2ix_cell_common_level(uint64_t cell, uint64_t other, uint8_t *level);
 /* The next cell of its level along the curve; the first of face 0 comes after the last of face 5. S2IX_NO_CELL. */
 uint32_t s2ix_cell_next(uint64_t cell, uint64_t *next);
 
-/* The four cells of its level that share an edge with a cell: down, right, up, left. If it is refused, `cells` is as it was. S2IX_NO_CELL. */
+/* The four cells of its level that share an edge with a cell: down, right, up, left. If the call is refused, `cells` is as it was.
+   S2IX_NO_CELL. */
 uint32_t s2ix_cell_edge_neighbors(uint64_t cell, uint64_t cells[4]);
 
 /* The cells of a level outside a cell that share an edge with a cell of that level inside it: each once, rising, at most 1024.
    O(n log n) for n cells. S2IX_NO_CELL, S2IX_COARSER, S2IX_TOO_FINE, S2IX_NO_ROOM, S2IX_OUT_OF_MEMORY. */
 uint32_t s2ix_cell_border(uint64_t cell, uint8_t level, uint64_t *cells, size_t room, size_t *number);
 
-/* The square of a cell. If it is refused, *square is as it was. S2IX_NO_CELL. */
+/* The square of a cell. If the call is refused, *square is as it was. S2IX_NO_CELL. */
 uint32_t s2ix_cell_to_face_ij(uint64_t cell, s2ix_square *square);
 
 /* The cell of a square. S2IX_NO_CELL, for a face above 5, a level above 30, or a column or row of 2^level or more. */
@@ -244,7 +245,7 @@ uint32_t s2ix_cell_from_face_ij(uint8_t face, uint32_t i, uint32_t j, uint8_t le
 /* The normal list of the same leaves: never longer than the list. */
 uint32_t s2ix_union_normalise(const uint64_t *cells, size_t len, uint64_t *out, size_t room, size_t *number);
 
-/* The leaves whose numbers are at least `start` and below `limit`: at most 184 cells. Bounds are odd; equal ones give no cells.
+/* The leaves whose numbers are at least `start` and below `limit`: at most 184 cells. Bounds are odd; equal bounds give no cells.
    S2IX_NO_SPAN, S2IX_NO_ROOM, S2IX_OUT_OF_MEMORY. */
 uint32_t s2ix_union_from_leaves(uint64_t start, uint64_t limit, uint64_t *out, size_t room, size_t *number);
 

@@ -1,12 +1,12 @@
 // The S2 cell index that can be edited, for C++17: a header over s2ix.h, which needs libs2ix.
 //
 // Index holds a store of pairs of cells and labels, with counts, and has each call of s2ix.h as a method. S2CellIndex has the names of S2's
-// own class over such a store: a program changes one include and one type, and has edits and undo besides.
+// own class over such a store: a program for S2 changes one include and one type, and gains edits and undo.
 //
 // Cells are S2's 64-bit ids. A call that is refused throws and leaves the store as it was: std::bad_alloc if memory is refused, Error for each
-// other reason. An Index stays on the thread that made it, also for its queries: stores share what they hold without a lock.
+// other reason. Use an Index, also for queries, only on the thread that made it: stores share what they hold without a lock.
 //
-// cell:: has calls on single cells, and cell_union:: on unions of cells.
+// The namespace cell has calls on single cells, cell_union those on unions of cells.
 //
 // Not here yet: S2CellIndex's RangeIterator, NonEmptyRangeIterator and ContentsIterator, and a journal read back.
 #ifndef S2IX_HPP
@@ -111,7 +111,7 @@ Items filled(Call call) {
 
 }  // namespace detail
 
-// What a store may hold. The widest limits are those that a plain Limits{} has.
+// What a store may hold. Limits{} has the widest limits.
 struct Limits {
   std::uint32_t pairs = 1000000;                                    // distinct pairs, 1 to 1,000,000
   std::uint32_t copies = std::numeric_limits<std::uint32_t>::max();  // copies of each, 1 and up
@@ -143,8 +143,8 @@ class Cells {
   std::size_t size_;
 };
 
-// Single cells. Each call takes O(1), if nothing else is said. The calls that answer yes or no answer no if a number is no cell's; each other
-// throws with S2IX_NO_CELL, and for the reasons that are named.
+// Single cells. Each call takes O(1), if nothing else is said. If a number is no cell's, a call that returns a bool returns false, and each
+// other call throws with S2IX_NO_CELL. A call also throws for the reasons that are named.
 namespace cell {
 
 // A cell as a square of the grid of its level on its face: square.i, square.j, square.face, square.level, square.orientation.
@@ -299,7 +299,7 @@ inline std::uint64_t leaf_count(Cells cells) {
 
 }  // namespace cell_union
 
-// A store of pairs of cells and labels. It can be moved, but not copied; one that was moved from or closed refuses each call with S2IX_CLOSED.
+// A store of pairs of cells and labels. It can be moved, but not copied; once moved from or closed, it refuses each call with S2IX_CLOSED.
 class Index {
  public:
   // An index of no pairs. S2IX_NO_LIMITS.
@@ -537,14 +537,14 @@ class Index {
 //   any number of pairs                           limits: at most 1,000,000 distinct pairs; Add throws above them
 //   an invalid cell, a label below 0: undefined   Add and the queries throw Error
 //   Add(cells, label) adds each cell of a union   each of its normal form, as of a union that S2 has normalised
-//   a repeated pair is kept so many times         is kept once with a count; a visit and a CellIterator give it so many times, as S2 does
+//   a pair added n times is kept n times          is kept once with a count; a visit and a CellIterator give it n times, as S2 does
 //   a visit comes in no stated order              by first shared leaf, then falling level, then rising label
 //   a CellIterator reads the index                has its own copy of the pairs, as they were when it was made
 //   GetIntersectingLabels gives absl's set        a std::unordered_set, or any set that is passed
 //   RangeIterator, NonEmptyRangeIterator,
-//   ContentsIterator                              not here yet: s2ix.h has no calls for ranges
+//   ContentsIterator                              not here yet: Index has range_count(), find(leaf) and at(leaf)
 //
-// Each Add is a change that index() can undo. When as many changes can be undone as the limit allows, Add forgets them, and goes on.
+// Each Add is a change that index().undo() takes back. When as many changes can be undone as the limit allows, Add forgets them and goes on.
 //
 // An Id is a std::uint64_t, or a class such as S2CellId that is constructed from one and returns it from id(). A union is any range of Ids. So
 // BasicS2CellIndex<S2CellId> takes S2's own S2CellId and S2CellUnion.
@@ -595,7 +595,7 @@ class BasicS2CellIndex {
   // A function that gets each pair of a visit. It returns false to end the visit.
   using CellVisitor = std::function<bool(Id cell_id, Label label)>;
 
-  // Visits the pairs that share a leaf with a union, each copy of each, until the visitor returns false. Returns whether it never did.
+  // Visits the pairs that share a leaf with a union, each copy of each, until the visitor returns false. Returns false if it did, else true.
   template <class Union>
   bool VisitIntersectingCells(const Union& target, const CellVisitor& visitor) const {
     for (const Row& row : index_.meet(raws(target))) {
@@ -666,7 +666,7 @@ class BasicS2CellIndex {
     return cells;
   }
 
-  // Makes a change, if need be after the earlier ones are forgotten: they stay forgotten if it is refused then.
+  // Makes a change. If no more changes fit, it first forgets the earlier ones; they stay forgotten even if the change is refused then.
   template <class Change>
   void change(Change make) {
     try {
