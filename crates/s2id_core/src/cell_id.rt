@@ -75,7 +75,7 @@ impl CellId {
         self.raw % 2 == 1
     }
 
-    /// The place of the cell of a level that this cell lies in, counted from 0 along the whole curve.
+    /// The place along the whole curve, counted from 0, of this cell's ancestor at a level.
     pub fn place_at(self, level: u8) -> u64
         requires { level ≤ level_of self }
         ensures place { result ≡ place_of (ancestor level (path_of self)) }

@@ -9,7 +9,7 @@ impl CellId {
     ghost use Rattle.s2id_core.specs.Leaves.{IsCommonLevel};
     ghost use Rattle.s2id_core.specs.CellId.{path_of, face_of, level_of};
 
-    /// The cell of a level that this cell lies in: at its own level the cell itself, `None` for a finer level (S2's `parent()`).
+    /// The ancestor at a level: the cell itself at its own level, `None` for a finer one (S2's `parent()`).
     pub fn parent(self, level: u8) -> Option<CellId>
         ensures found { IsSome result ↔ (level ≤ level_of self) }
         ensures path { IfSome result (λ cell. path_of cell ≡ ancestor level (path_of self)) }

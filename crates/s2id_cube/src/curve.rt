@@ -16,9 +16,9 @@ macro_rules! places {
     };
 }
 
-/// Where four child positions lead. There is a row of 256 entries for each orientation from which the curve sets out. An entry is one
-/// number: the orientation there times `2^62`, four bits of `i` times `2^32`, and four of `j`. Positions are read as digits in base 4 (S2's
-/// `lookup_ij`, which is laid out otherwise).
+/// Turns four child positions into four bits of `i` and of `j`. Each starting orientation has a row of 256 entries; an entry's place in
+/// its row is its positions as digits in base 4. An entry is one number: the orientation that is reached times `2^62`, plus the bits of
+/// `i` times `2^32`, plus those of `j` (S2's `lookup_ij`, which is laid out otherwise).
 pub static SQUARES: [u64; 1024] = squares![
     0x000, 0x110, 0x111, 0x201, 0x102, 0x003, 0x013, 0x312, 0x122, 0x023, 0x033, 0x332, 0x231,
     0x321, 0x320, 0x030, 0x140, 0x041, 0x051, 0x350, 0x060, 0x170, 0x171, 0x261, 0x062, 0x172,
@@ -101,8 +101,8 @@ pub static SQUARES: [u64; 1024] = squares![
     0x3c2, 0x0d2, 0x2d1, 0x3c1, 0x3c0, 0x0d0, 0x1e0, 0x0e1, 0x0f1, 0x3f0,
 ];
 
-/// The four child positions that lead to four bits of `i` and of `j`. There is a row of 256 entries for each orientation from which the
-/// curve sets out, each entry at `16 * i + j`. An entry is one number: the orientation there times `2^62`, and the positions (S2's
+/// Turns four bits of `i` and of `j` into four child positions. Each starting orientation has a row of 256 entries, each at
+/// `16 * i + j`. An entry is one number: the orientation that is reached times `2^62`, plus the positions (S2's
 /// `lookup_pos`, laid out otherwise).
 pub static PLACES: [u64; 1024] = places![
     0x000, 0x203, 0x104, 0x005, 0x23a, 0x13b, 0x03c, 0x23f, 0x140, 0x041, 0x24e, 0x14f, 0x050,

@@ -112,7 +112,7 @@ impl Bag {
         self.lists.face_at(k)
     }
 
-    /// The same, with the pairs of the face in a list that the bag shares. O(1).
+    /// As [`face_at`](Bag::face_at), but the face's pairs come as the bag's own list, which can be shared. O(1).
     pub fn list_at(&self, k: usize) -> (usize, &HeldList)
         requires { k < length self.now.held }
         ensures { IsFaceAt k self.now.held result.0 result.1.now }
@@ -152,8 +152,7 @@ impl Bag {
         self.lists.flat(alloc)
     }
 
-    /// A bag with the same limits that holds the same pairs with the same counts, which the two bags share. O(1). `OutOfMemory` if they are
-    /// shared too often.
+    /// A copy of the bag. The two share their pairs. O(1). `OutOfMemory` if they are shared too often.
     pub fn copied(&self, _alloc: Global) -> Result<Bag, OutOfMemory>
         ensures { IfOk result (λ bag. bag ≡ self.now) }
     {
@@ -184,7 +183,7 @@ impl Bag {
     /// The change that takes another one back from this bag, however long ago that was made. For each pair of the other change it has the
     /// count that the bag has now, and that count less the difference (the count after less the count before). Before it allocates, it
     /// tests the three refusals in their order, each over all entries. `OutOfMemory` if a growth is refused. The clauses `within` and
-    /// `rises` speak of this bag and of the change that is taken back. O(m log n) for m entries and n pairs. This project's own.
+    /// `rises` are about `self` and `change`. O(m log n) for m entries and n pairs. S2 has no such call.
     pub fn reverting(&self, alloc: Global, change: &Change) -> Result<Change, RevertError>
         ensures entries { IfOk result (λ back. back ≡ change_back self.now.held change.now) }
         ensures accepted { OnOk result (revert_refusal self.now change.now ≡ None) }
@@ -219,7 +218,7 @@ impl Bag {
     }
 }
 
-/// A bag with the same limits, pairs and counts, which the two bags share. O(1).
+/// A copy of the bag. The two share their pairs. O(1).
 impl Clone for Bag {
     ghost is_clone = { λ bag copy. copy ≡ bag };
 

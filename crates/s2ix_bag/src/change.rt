@@ -38,8 +38,8 @@ impl Change {
         Change { entries }
     }
 
-    /// The change with a copy of these entries, the empty list among them. Before it allocates, it tests the two faults in their order,
-    /// each over all entries. `OutOfMemory` if a growth is refused. O(n).
+    /// The change with a copy of these entries. The empty list is a change too. Before it allocates, it tests the two faults in their
+    /// order, each over all entries. `OutOfMemory` if a growth is refused. O(n).
     pub fn from_entries(alloc: Global, entries: &[Entry]) -> Result<Change, ChangeError>
         ensures list { IfOk result (λ change. change ≡ entries.now) }
         ensures accepted { OnOk result (change_fault entries.now ≡ None) }

@@ -99,8 +99,8 @@ fn test_last(bag: &Bag, changes: &[Change]) -> Result<(), ReplayError>
     }
 }
 
-/// The bag before these changes, with the bag's limits: the inverse of each is done, from the last change to the first. The change that is
-/// refused first on this way decides, and the error has its number in the list, counted from 1.
+/// The bag before these changes, with the bag's limits: the inverse of each is done. It goes from the last change to the first and stops
+/// at the first one it refuses; the error has that change's number in the list, counted from 1.
 ///
 /// `OutOfMemory` if a growth is refused; it may come in place of the refusal of any change but the last. O(n + m log n) for m entries in
 /// all changes, and n pairs that the bag holds or an entry has.

@@ -2,8 +2,8 @@ ghost use Rattle.std.specs.Prelude.{List};
 ghost use Rattle.s2ix_table_ranges.specs.Table.{Range};
 ghost use Rattle.s2ix_table_queries.specs.Stretches.{IsSample, IsStretch};
 
-/// Some ranges of a table, one behind the other, which can be read by where they begin: `count` of them, from `first` on. Each begins at
-/// one of the `starts` and ends at the next.
+/// Consecutive ranges of a table, which can be read by where they begin: `count` of them, from `first` on. Each begins at one of the
+/// `starts` and ends at the next.
 #[derive(Clone, Copy, Debug)]
 pub struct Stretch<'a> {
     /// The place of the first one.

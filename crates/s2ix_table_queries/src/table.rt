@@ -119,9 +119,9 @@ pub trait RangeTable: Sized {
     // the pairs are at most as many as the widest limits let a bag hold
     ghost few: { (table : Self) → length (pairs table) ≤ 1000000 };
 
-    /// Calls `f` on each pair of the target's meeting list, in order, up to and with the first call that answers false, and returns whether
-    /// every call answered true (S2's `VisitIntersectingCells()`). It does not allocate, and `f` need be callable only on the pairs of the
-    /// list. O(k + r + t log n) for k pairs over the r ranges that the target meets, and t cells of it.
+    /// Calls `f` on each pair of the target's meeting list, in order, until a call returns false; returns whether every call returned true
+    /// (S2's `VisitIntersectingCells()`). It does not allocate. The caller proves `f`'s precondition for these pairs only.
+    /// O(k + r + t log n) for k pairs over the r ranges that the target meets, and t cells of it.
     final fn visit<F: FnMut(Held) -> bool>(&self, target: &CellUnion, f: &mut F) -> bool
         requires { MayVisit F.pre F.step f.old (meeting_of target.now (pairs self.now)) }
         ensures { Visits F.step f.old (meeting_of target.now (pairs self.now)) result f.new }

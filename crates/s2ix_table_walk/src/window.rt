@@ -1,4 +1,4 @@
-/// Some ranges of a table, one behind the other: `size` of them, from `first` on.
+/// Consecutive ranges of a table: `size` of them, from `first` on.
 #[derive(Clone, Copy, Debug, PartialEq, Eq)]
 pub struct Window {
     /// The place of the first one.
