@@ -141,7 +141,7 @@ what they answer. Run it on your own machine: it sets itself up, and says what i
 - Ours: a static library that the toolchain builds as it builds the program, by LLVM with `-O3`.
 
 The tables give the ratio of ours to S2's, and both figures behind it, ours : S2's. Below 1 ours is ahead; a bold ratio is above 1. Times
-are of the processor, and each is the least of many turns that S2 and ours take one behind the other.
+are of the processor, and each is the least of many turns that S2 and ours take one after the other.
 
 ## Where S2 is ahead
 

@@ -6,7 +6,7 @@
    `room` items, and sets *number to how many items the list has. If the buffer has room for all, the call puts them at its front; else the
    status is S2IX_NO_ROOM and the buffer stays as it was. A call that is refused for another reason sets *number to 0. No pointer is NULL, not
    even one to no items. What the pointers of one call point to doesn't overlap, so never copy a handle to itself. A query takes the store out
-   of its handle and puts it back, so the handle isn't const. */
+   of its handle and puts it back, so the handle isn't const. Costs are in n, the number of pairs held. */
 #ifndef S2IX_H
 #define S2IX_H
 
@@ -44,7 +44,7 @@ enum s2ix_status {
     S2IX_NO_DUMP = 9,         /* the text is no dump under the limits */
     S2IX_JOURNAL_FULL = 16,   /* as many changes can be undone as the limit allows */
     S2IX_NO_SUCH_LABEL = 17,  /* no pair of the label is held */
-    S2IX_NOT_HELD = 18,       /* fewer copies are held */
+    S2IX_NOT_HELD = 18,       /* too few copies held */
     S2IX_TOO_FINE = 19,       /* the level is above 30, or more than 8 above that of the cell, or of a cell of the label */
     S2IX_NO_SUCH_CHANGE = 20, /* fewer changes than the number can be undone, or the number is 0 */
     S2IX_BELOW_ZERO = 21,     /* a count would be below 0 */
@@ -69,7 +69,7 @@ uint32_t s2ix_open(s2ix_handle *handle, uint32_t pairs, uint32_t copies, uint32_
 uint32_t s2ix_load(s2ix_handle *handle, const uint8_t *text, size_t len, uint32_t pairs, uint32_t copies, uint32_t changes, size_t *line);
 
 /* Opens `copy` on a new store that starts from what the handle's store holds, with nothing to undo or redo. If the call is not refused, it
-   frees the store that `copy` had. The two stores share memory: both stay on one thread. O(1), and the table's O(n).
+   frees the store that `copy` had. The two stores share memory: both stay on one thread. O(n), for the table.
    S2IX_CLOSED, S2IX_OUT_OF_MEMORY. */
 uint32_t s2ix_copy(s2ix_handle *handle, s2ix_handle *copy);
 

@@ -255,7 +255,7 @@ inline std::vector<std::uint64_t> normalise(Cells cells) {
   });
 }
 
-// The leaves with numbers from `start` up to and without `limit`: at most 184 cells. Bounds are odd; equal ones give no cells. S2IX_NO_SPAN.
+// The leaves with numbers from `start` to below `limit`: at most 184 cells. Bounds are odd; equal ones give no cells. S2IX_NO_SPAN.
 inline std::vector<std::uint64_t> from_leaves(std::uint64_t start, std::uint64_t limit) {
   return detail::filled<std::vector<std::uint64_t>>(
       [&](std::uint64_t* to, std::size_t room, std::size_t* number) { return s2ix_union_from_leaves(start, limit, to, room, number); });

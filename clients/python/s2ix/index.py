@@ -1,4 +1,4 @@
-"""The index: a store of the library, with methods for its calls."""
+"""The index: a store of the library, with a method for each call."""
 from __future__ import annotations
 
 import ctypes
@@ -34,7 +34,8 @@ class Index:
     """A collection of S2 cells under labels that can be edited, undone and asked. Each pair of a cell and a label has a count.
 
     Cells are S2's 64-bit ids, or tokens; labels are 0 to 2147483647. Each edit is one change, which can be undone or reverted. A refused
-    call raises a class of S2ixError and changes nothing. Cells spelled wrong, and numbers out of range, are refused first.
+    call raises a class of S2ixError and changes nothing. Cells spelled wrong, and numbers out of range, are refused first. Besides what it
+    names, each edit may raise Closed, JournalFull, NoChange, TooManyCopies, TooManyPairs or OutOfMemory.
 
     Close an index by `close`, or use it in a `with`. Use it from the thread that made it.
 
@@ -107,8 +108,6 @@ class Index:
     def close(self) -> None:
         """Frees all that is held. Each later call raises Closed, but a second `close` does nothing."""
         self._close()
-
-    # Edits. Each may raise Closed, JournalFull, NoChange, TooManyCopies, TooManyPairs and OutOfMemory beside what it names.
 
     def add(self, cell: Cell, label: int, copies: int = 1) -> int:
         """Adds copies to the count of a cell under a label; returns how many pairs changed. Raises NoCell, NoLabel, and what each edit may."""

@@ -25,7 +25,7 @@ def normalise(cells: Cells) -> list[int]:
 
 
 def from_leaves(start: int, limit: int) -> list[int]:
-    """The leaves with numbers from `start` up to and without `limit`: at most 184 cells. Bounds are odd; equal ones give no cells. Raises
+    """The leaves with numbers from `start` to below `limit`: at most 184 cells. Bounds are odd; equal ones give no cells. Raises
     NoSpan or OutOfMemory."""
     if start >> 64 or limit >> 64:
         raise NoSpan

@@ -127,7 +127,7 @@ zeros_back text =
     let rest : drop k text ≡ replicate s 48 = ext_get_or 0 (drop k text) (replicate s 48) (length-drop k text ∙ (let e : length text - k ≡ s = omega arith in e) ∙ sym (length-replicate {A = ℕ} s 48)) (λ i h. at_end text i (let l = length-drop k text in omega arith)) in
     ap (λ x. take k text ++ x) (sym rest) ∙ take-append-drop k text
 
--- behind k zeros, from the end, stands the text's last byte
+-- after k zeros, from the end, stands the text's last byte
 padded_last : (text : List ℕ) (k : ℕ) → 0 < length text → get_or (reverse (text ++ replicate k 48)) k 0 ≡ get_or text (length text - 1) 0
 padded_last text k some =
     let padded = text ++ replicate k 48 in

@@ -35,7 +35,7 @@ base_four-threes (suc k) =
     let s = four_step k in
     omega arith
 
--- the place of a path with more digits behind
+-- the place of a path with more digits after
 pub place_of-more : (f : ℕ) (xs ys : List ℕ)
     → place_of (record { face = f; digits = xs ++ ys }) ≡ place_of (record { face = f; digits = xs }) * 4 ^ length ys + base_four ys
 unfolding place_of

@@ -41,7 +41,7 @@ wraps a b m below pos over =
     turn : (a b : ℕ) → (2 * (6 * a) + 1) * b ≡ 12 * (a * b) + b
     turn a b = omega arith
 
--- the number of the next cell of its level is that of the place behind its own, where the first of face 0 stands behind the last of face 5
+-- the number of the next cell of its level is that of the place after its own, where the first of face 0 stands after the last of face 5
 abbrev pub next_form : ℕ → ℕ
 next_form n =
     (2 * ((place_of (path_at n) + 1) % (6 * 4 ^ length (path_at n).digits)) + 1) * 4 ^ (30 - length (path_at n).digits)
@@ -65,7 +65,7 @@ next_wraps n lowest cell low over =
     let whole : 6 * 2 ^ 61 ≡ 12 * (4 ^ k * 4 ^ (30 - k)) = omega (arith, split) in
     ap₂ (λ x y. x - y) moved whole ∙ wraps (4 ^ k) (4 ^ (30 - k)) (place_of (path_at n)) (place_below (path_at n) path) (four_pos (30 - k)) (omega (arith, moved, whole, over))
 
--- the place behind a cell's own is one of its level
+-- the place after a cell's own is one of its level
 pub next_below : (n : ℕ) → IsCellNumber n
     → (place_of (path_at n) + 1) % (6 * 4 ^ length (path_at n).digits) < 6 * 4 ^ length (path_at n).digits
 next_below n cell = let pos = four_pos (length (path_at n).digits) in mod-lt (place_of (path_at n) + 1) (omega arith)

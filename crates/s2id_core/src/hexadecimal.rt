@@ -2,7 +2,7 @@ ghost use Rattle.std.specs.Prelude.{◌≡◌, ◌/◌, ◌%◌};
 ghost use Rattle.std.specs.Char.{digit_char};
 ghost use Rattle.s2id_core.specs.Token.{sixteen_digits as digits_of};
 
-// The two hexadecimal digits of each byte, one pair behind the other.
+// The two hexadecimal digits of each byte, one pair after the other.
 const PAIRS: [u8; 512] = *b"\
     000102030405060708090a0b0c0d0e0f101112131415161718191a1b1c1d1e1f\
     202122232425262728292a2b2c2d2e2f303132333435363738393a3b3c3d3e3f\

@@ -1,4 +1,4 @@
-//! Laws: functions that do nothing, and whose contracts are facts on the definitions.
+//! Laws: functions that do nothing; their contracts state facts about definitions.
 
 ghost use Rattle.std.specs.Prelude.{◌≡◌, ◌↔◌, IsTrue, ℕ, ◌==◌, ◌+◌, ◌-◌, ◌*◌, ◌^◌, ◌<◌, ◌≤◌, List, [], length};
 ghost use Rattle.std.specs.Ordering.{nat_cmp};
@@ -30,7 +30,7 @@ pub fn number_is_sum()
         ≡ p.face * 2 ^ 61 + digits_from 59 p.digits + 4 ^ (30 - length p.digits) }
 {}
 
-/// Two paths of one number are one path, which is read from the number.
+/// Paths with one number are equal: `path_at` reads the path from it.
 pub fn number_tells_path()
     ensures { (p : Path) → IsPath p → path_at (number_of p) ≡ p }
 {}
@@ -45,8 +45,7 @@ pub fn text_spells_one_number()
     ensures { (text : List ℕ) (m n : ℕ) → Spells text m → Spells text n → m ≡ n }
 {}
 
-/// Of the texts that spell a cell, the printed token alone has digits and lower-case letters only and no zero at
-/// its end.
+/// Of the texts that spell a cell, only the printed token has no capital letter and no zero at its end.
 pub fn one_canonical_text()
     ensures { (text : List ℕ) (n : ℕ)
         → IsCellNumber n
@@ -54,7 +53,7 @@ pub fn one_canonical_text()
         → (IsCanonicalText text ↔ (text ≡ canonical_token n)) }
 {}
 
-/// Cells are compared by their numbers: in order, by `partial_cmp`, which `<` and its kin ask, and for equality.
+/// `cmp`, `partial_cmp` (which `<` and the like call) and `==` compare cells by their numbers.
 pub fn cells_compare_by_number()
     ensures order { (a b : CellId) → ⟦<CellId as Ord>⟧.cmp a b ≡ nat_cmp (raw_of a) (raw_of b) }
     ensures less { (a b : CellId)
@@ -69,7 +68,7 @@ pub fn leaf_end_follows_last_leaf()
     ensures none { IsCellNumber LEAF_END → ⊥ }
 {}
 
-/// Two cells are equal exactly if they are one.
+/// Two cells are equal exactly if they are the same.
 pub fn equal_cells_are_one()
     ensures { (a b : CellId) → IsTrue (⟦<CellId as PartialEq>⟧.eq a b) ↔ (a ≡ b) }
 {}
@@ -79,7 +78,7 @@ pub fn cloned_cells_are_the_same()
     ensures { (a copy : CellId) → ⟦<CellId as Clone>⟧.is_clone a copy ↔ (copy ≡ a) }
 {}
 
-/// Two faults of a token are equal exactly if they are one.
+/// Two faults of a token are equal exactly if they are the same.
 pub fn equal_token_errors_are_one()
     ensures { (a b : TokenError) → IsTrue (⟦<TokenError as PartialEq>⟧.eq a b) ↔ (a ≡ b) }
 {}
@@ -89,7 +88,7 @@ pub fn cloned_token_errors_are_the_same()
     ensures { (a copy : TokenError) → ⟦<TokenError as Clone>⟧.is_clone a copy ↔ (copy ≡ a) }
 {}
 
-/// Two refusals of memory are equal exactly if they are one.
+/// Two refusals of memory are equal exactly if they are the same.
 pub fn equal_memory_errors_are_one()
     ensures { (a b : OutOfMemory) → IsTrue (⟦<OutOfMemory as PartialEq>⟧.eq a b) ↔ (a ≡ b) }
 {}

@@ -324,7 +324,7 @@ unfolding square_in square_at whole_face
 start_orientation f i j zero places orientation h _ = let e = h.at_orientation in omega arith
 start_orientation f i j (suc g) places orientation h e = absurd (omega arith)
 
--- one group more: the positions of the entry behind those of the groups before
+-- one group more: the positions of the entry after those of the groups before
 pub up_more : (f i j g places orientation e b next : ℕ) → f < 6 → i < 2 ^ 30 → j < 2 ^ 30 → g < 8 → IsUp f i j g places orientation
     → b ≡ 16 * (i / 2 ^ (28 - 4 * g) % 16) + j / 2 ^ (28 - 4 * g) % 16 → IsPlaceEntry orientation b e
     → next % 2 ^ 62 ≡ places % 2 ^ 62 * 256 + e % 2 ^ 62 → IsUp f i j (g + 1) next (e / 2 ^ 62)

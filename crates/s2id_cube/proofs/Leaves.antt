@@ -12,7 +12,7 @@ use Rattle.s2id_cube.proofs.Squares.{IsSquareOf, square_of_place, IsSquare-squar
 use Rattle.s2id_cube.proofs.Nesting.{above_at}
 use Rattle.s2id_cube.proofs.Groups.{IsLeafPlace}
 
--- ---- the orientation, behind positions 0
+-- ---- the orientation, after positions 0
 
 flip_zero : (o : ℕ) → o < 4 → bit_xor o 0 ≡ o
 flip_zero o h = four (λ o. bit_xor o 0 ≡ o) (refl, refl, refl, refl) o h

@@ -43,7 +43,7 @@ three_ones d zero h hb = four (λ d. ones (three d 0) ≡ d / 3) (refl, refl, re
 three_ones d (suc zero) h hb = four (λ d. ones (three d 1) ≡ d / 3) (refl, refl, refl, refl) d h
 three_ones d (suc (suc b)) h hb = absurd (omega arith)
 
--- the orientation behind one more position
+-- the orientation after one more position
 turned_is : (o d : ℕ) → o < 4 → d < 4 → turned o d ≡ 2 * ((o / 2 + d / 3) % 2) + (o % 2 + ones d + 1) % 2
 unfolding turned ones
 turned_is o d = four_by_four (λ o d. turned o d ≡ 2 * ((o / 2 + d / 3) % 2) + (o % 2 + ones d + 1) % 2) (

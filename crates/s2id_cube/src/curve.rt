@@ -201,8 +201,8 @@ pub(crate) fn square_entry(start: u64, positions: u64) -> u64
     SQUARES[(start + positions) as usize]
 }
 
-// The entry for four bits of `i` and of `j`, likewise. From a whole face, whose orientation is 0 or 1, the square's first quarter of a
-// quarter takes two positions alone.
+// The entry for four bits of `i` and of `j`, in the same way. From a whole face, whose orientation is 0 or 1, the square's first quarter of
+// a quarter takes only two positions.
 #[inline(always)]
 pub(crate) fn place_entry(start: u64, square: u64) -> u64
     requires start { start < 1024 }

@@ -1,4 +1,4 @@
-//! Laws: functions that do nothing, and whose contracts are facts on the definitions.
+//! Laws: functions that do nothing; their contracts state facts about definitions.
 
 ghost use Rattle.std.specs.Prelude.{◌≡◌, ◌↔◌, IsTrue, ℕ, ◌+◌, ◌*◌, ◌/◌, ◌%◌, ◌^◌, ◌<◌, ◌≤◌, length, slice_index};
 ghost use Rattle.s2id_core.specs.declared.cell_id.CellId.{CellId};
@@ -36,7 +36,7 @@ pub fn next_cell_shares_edge()
         → ShareEdge p q }
 {}
 
-/// The four cells over the sides of a cell are four: two sides of one cell are never shared with the same cell.
+/// The four cells over the sides of a cell differ: no other cell shares two of its sides.
 pub fn two_cells_share_one_side()
     ensures { (m n : ℕ) (p q : Path)
         → m < 4
@@ -63,7 +63,7 @@ pub fn entries_are_four_levels()
         AreFourLevels orientation (entry % 2 ^ 62) i j (entry / 2 ^ 62) }
 {}
 
-/// Two squares are equal exactly if they are one.
+/// Two squares are equal exactly if they are the same.
 pub fn equal_squares_are_one()
     ensures { (a b : FaceIj) → IsTrue (⟦<FaceIj as PartialEq>⟧.eq a b) ↔ (a ≡ b) }
 {}
@@ -73,7 +73,7 @@ pub fn cloned_squares_are_the_same()
     ensures { (a copy : FaceIj) → ⟦<FaceIj as Clone>⟧.is_clone a copy ↔ (copy ≡ a) }
 {}
 
-/// Two refusals of a border are equal exactly if they are one.
+/// Two refusals of a border are equal exactly if they are the same.
 pub fn equal_border_errors_are_one()
     ensures { (a b : BorderError) → IsTrue (⟦<BorderError as PartialEq>⟧.eq a b) ↔ (a ≡ b) }
 {}

@@ -26,9 +26,9 @@ const REVERSALS: [u8; 24] = [
     0, 0, 1, 1, 1, 1, 0, 0, 0, 0, 1, 1, 1, 1, 0, 0, 0, 0, 1, 1, 1, 1, 0, 0,
 ];
 
-/// The cells of the cell's level that share an edge with it: down (`j` less), right (`i` more), up (`j` more) and
-/// left (`i` less), over the edges of the cube too (S2's `GetEdgeNeighbors`). From level 4 on it takes one step of four levels for the
-/// cell, and one for each neighbour that has the same ancestor four levels up; 16 for each other one.
+/// The cells of the cell's level that share an edge with it: down (`j` less), right (`i` more), up (`j` more) and left (`i` less), over the
+/// edges of the cube too (S2's `GetEdgeNeighbors`). From level 4 on it takes one step of four levels for the cell, one for each neighbour
+/// with the same ancestor four levels up, and 16 for each other.
 pub fn edge_neighbors(cell: CellId) -> [CellId; 4]
     ensures sides { (side : ℕ)
         → side < 4

@@ -1,4 +1,4 @@
-//! Cells by their tile: the cell four levels up, as 16 columns and rows of cells. The curve runs through these one behind the other.
+//! Cells by their tile: the cell four levels up, as 16 columns and rows of cells. The curve runs through these one after the other.
 
 ghost use Rattle.std.specs.Prelude.{◌≡◌, ℕ, ◌+◌, ◌-◌, ◌*◌, ◌/◌, ◌^◌, ◌<◌, ◌≤◌};
 ghost use Rattle.s2id_core.specs.CellId.{path_of, level_of};

@@ -123,7 +123,7 @@ fn the_clone_of_a_union_has_its_cells(rt: HostRuntime) {
     assert!(rt; copy == union && are_cells(copy.cells(), "04 14 1c"));
 }
 
-// `count` leaves from the first on, each `step` leaf numbers behind the one before.
+// `count` leaves from the first on, each `step` leaf numbers after the one before.
 fn leaves_at_steps(alloc: Global, count: u64, step: u64) -> Option<Vec<CellId>> {
     let mut cells = Vec::new(alloc);
     let mut raw = 1u64;

@@ -57,7 +57,7 @@ two_monotone a b h =
     let m = mul-le-mul_right (2 ^ a) p in
     omega arith
 
--- a cell by its place: it begins just behind m times its width
+-- a cell by its place: it begins just after m times its width
 pub record IsPlaced (n m h : ℕ) : Type 0 where
   pub cell : IsCellNumber n
   pub first : first_at n ≡ 2 * (m * 4 ^ h) + 1

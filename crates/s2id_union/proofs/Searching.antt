@@ -14,7 +14,7 @@ use Rattle.s2id_union.specs.Covers.{FollowOneAnother}
 use Rattle.s2id_union.specs.Loops.{IsAhead}
 use Rattle.s2id_union.proofs.Unique.{around_from_all}
 
--- the cells of a normal list stand one behind the other
+-- the cells of a normal list stand one after the other
 pub follow_from_normal : (cells : List CellId) → IsNormal cells → FollowOneAnother cells
 follow_from_normal cells h i j d lt l =
     let a = get_or cells i d in

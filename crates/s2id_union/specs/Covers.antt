@@ -10,6 +10,6 @@ pub record Covers (cells : List CellId) (q : ℕ) : Type 0 where
   pub from : first_of cell ≤ q
   pub to : q < end_of cell
 
--- one behind another along the curve, with or without gaps: each cell's span ends before the next one's begins
+-- one after another along the curve, with or without gaps: each cell's span ends before the next one's begins
 abbrev pub FollowOneAnother : List CellId → Type 0
 FollowOneAnother = AllPairs (λ a b. end_of a ≤ first_of b)

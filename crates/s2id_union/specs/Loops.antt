@@ -33,7 +33,7 @@ pub record IsAdded (old cells : List CellId) (start limit : ℕ) : Type 0 where
   pub maximal : AreMaximalBelow cells (limit + 1)
   pub covers : (q : ℕ) → Covers cells q ↔ (Covers old q ⊎ InSpan start limit q)
 
--- the first k cells end by `at`, and the others behind it
+-- the first k cells end by `at`, and the others after it
 pub record IsAhead (cells : List CellId) (k at : ℕ) : Type 0 where
   pub passed : (j : ℕ) (d : CellId) → j < k → j < length cells → end_of (slice_index_or cells j d) ≤ at
   pub ahead : (j : ℕ) (d : CellId) → k ≤ j → j < length cells → at < end_of (slice_index_or cells j d)

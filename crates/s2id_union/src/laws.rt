@@ -1,4 +1,4 @@
-//! Laws: functions that do nothing, and whose contracts are facts on the definitions.
+//! Laws: functions that do nothing; their contracts state facts about definitions.
 
 ghost use Rattle.std.specs.Prelude.{◌≡◌, ◌↔◌, ℕ, ◌+◌, Bool, IsTrue, List};
 ghost use Rattle.s2id_core.specs.declared.cell_id.CellId.{CellId};
@@ -25,8 +25,7 @@ pub fn normal_form_is_normal()
     ensures same { (xs ys : List CellId) → HaveSameRegion xs ys → normal_form xs ≡ normal_form ys }
 {}
 
-/// The largest cells all of whose numbers pass a test are a normal list, and it has each leaf whose two numbers pass:
-/// its own, which is odd, and the one behind it.
+/// The largest cells whose numbers all pass a test are a normal list. It has exactly the leaves whose own number and the next one pass.
 pub fn cells_where_is_normal()
     ensures normal { (passes : ℕ → Bool) → IsNormal (cells_where passes) }
     ensures leaves { (passes : ℕ → Bool) (leaf : Path)
@@ -35,7 +34,7 @@ pub fn cells_where_is_normal()
         ↔ (IsTrue (passes (number_of leaf)) × IsTrue (passes (number_of leaf + 1))) }
 {}
 
-/// Two unions are equal exactly if their cells are the same, which is so exactly if their leaves are.
+/// Two unions are equal exactly if they have the same cells, or the same leaves.
 pub fn equal_unions_are_one()
     ensures cells { (xs ys : List CellId) → IsTrue (⟦<CellUnion as PartialEq>⟧.eq xs ys) ↔ (xs ≡ ys) }
     ensures leaves { (xs ys : List CellId)
@@ -49,7 +48,7 @@ pub fn cloned_unions_are_the_same()
     ensures { (a copy : List CellId) → ⟦<CellUnion as Clone>⟧.is_clone a copy ↔ (copy ≡ a) }
 {}
 
-/// Two refusals of a span are equal exactly if they are one.
+/// Two refusals of a span are equal exactly if they are the same.
 pub fn equal_range_errors_are_one()
     ensures { (a b : RangeError) → IsTrue (⟦<RangeError as PartialEq>⟧.eq a b) ↔ (a ≡ b) }
 {}

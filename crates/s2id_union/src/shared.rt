@@ -50,7 +50,7 @@ fn add_shared(cells: &mut Vec<CellId>, one: CellId, other: CellId) -> Result<(),
     Ok(())
 }
 
-// The place behind a cell's, if the cell ends by the end of another, else the cell's.
+// The place after a cell's, if the cell ends by the end of another, else the cell's.
 #[inline(always)]
 fn passed(place: usize, cell: CellId, other: CellId) -> usize
     requires { place < 9223372036854775807 }

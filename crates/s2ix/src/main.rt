@@ -1,5 +1,5 @@
-//! The program `s2ix`: does what its words ask for, over files and standard input, writes what that comes to to standard output, and
-//! ends with its status.
+//! The program `s2ix`: carries out the command that its words name, over files and standard input, prints the answer, and ends with a
+//! status.
 #![tactic(auto)]
 
 mod asked;

@@ -52,7 +52,7 @@ numbered_push n (x ∷ changes) es =
 abbrev pub change_at : ℕ → List Entry → Numbered
 change_at place es = record { number = place + 1; change = es }
 
--- the way back from behind a change begins with that change
+-- the way back from after a change begins with that change
 pub way_back_from : (changes : List (List Entry)) (place : ℕ) (es : List Entry) → place < length changes → es ≡ get_or changes place es
     → way_back (with_numbers (take (place + 1) changes)) ≡ back_of (change_at place es) ∷ way_back (with_numbers (take place changes))
 way_back_from changes place es lt is =

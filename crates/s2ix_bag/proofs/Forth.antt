@@ -27,7 +27,7 @@ after_changes-append bag (c ∷ rest) ds = after_changes-append (after_change ba
 
 -- ---- the first refusal
 
--- a change that is taken leaves it to those behind
+-- a change that is taken leaves it to those after
 pub refusal_behind : (bag : LimitedCollection) (c : Numbered) (rest : List Numbered) → apply_refusal bag c.change ≡ None
     → first_refusal bag (c ∷ rest) ≡ first_refusal (after_change bag c.change) rest
 refusal_behind bag c rest taken =
@@ -62,12 +62,12 @@ pub first_taken : (bag : LimitedCollection) (c : Numbered) (rest : List Numbered
     → apply_refusal bag c.change ≡ None
 first_taken bag c rest none = taken_at bag c rest (apply_refusal bag c.change) refl none
 
--- and so are those behind
+-- and so are those after
 pub rest_taken : (bag : LimitedCollection) (c : Numbered) (rest : List Numbered) → first_refusal bag (c ∷ rest) ≡ None
     → first_refusal (after_change bag c.change) rest ≡ None
 rest_taken bag c rest none = sym (refusal_behind bag c rest (first_taken bag c rest none)) ∙ none
 
--- changes that are taken leave it to more behind them
+-- changes that are taken leave it to more after them
 pub first_refusal-append : (bag : LimitedCollection) (cs ds : List Numbered) → first_refusal bag cs ≡ None
     → first_refusal bag (cs ++ ds) ≡ first_refusal (after_changes bag cs) ds
 first_refusal-append bag [] ds none = refl

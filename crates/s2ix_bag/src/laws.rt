@@ -1,4 +1,4 @@
-//! Laws: functions that do nothing, and whose contracts are facts on the definitions.
+//! Laws: functions that do nothing; their contracts state facts about definitions.
 ghost use Rattle.std.specs.Prelude.{◌≡◌, ◌↔◌, IsTrue, List};
 ghost use Rattle.s2ix_bag_pairs.specs.declared.pair.Entry.{Entry};
 ghost use Rattle.s2ix_bag_pairs.specs.Collection.{Collection, LimitedCollection};
@@ -35,17 +35,17 @@ pub fn cloned_label_iterators_have_the_same_rest<'a>()
     ensures { (it copy : Collection) → ⟦<LabelIter<'a> as Clone>⟧.is_clone it copy → copy ≡ it }
 {}
 
-/// If a bag takes changes, what it becomes takes their way back, and that leads to the bag.
+/// If a bag accepts a replay, the result accepts the rewind, which gives the bag again.
 pub fn rewind_takes_replay_back()
     ensures { RewindTakesReplayBack }
 {}
 
-/// If changes can be taken back from a bag, what is before them takes them again, and they lead to the bag.
+/// If a bag accepts a rewind, the result accepts the replay, which gives the bag again.
 pub fn replay_takes_rewind_back()
     ensures { ReplayTakesRewindBack }
 {}
 
-/// Two refusals of a list of changes are equal exactly if they are one.
+/// Two refusals of a list of changes are equal exactly if they are the same.
 pub fn equal_replay_errors_are_one()
     ensures { (a b : ReplayError) → IsTrue (⟦<ReplayError as PartialEq>⟧.eq a b) ↔ (a ≡ b) }
 {}

@@ -17,7 +17,7 @@ use Rattle.s2ix_bag_lists.proofs.Joined.{below_more, before_in_front, before_lat
 
 -- ---- the last face
 
--- no pair is behind the last face
+-- no pair is after the last face
 pub no_entry_behind : (es : List Entry) → IsChangeListFrom (face_start 6) es → es ≡ []
 no_entry_behind [] es_is = refl
 no_entry_behind (e ∷ es) es_is =

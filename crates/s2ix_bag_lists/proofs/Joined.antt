@@ -80,7 +80,7 @@ set_back p c n (h ∷ hs) bs lt bs_is =
     order)
     (cases_order (rank_of p) (rank_of h.pair))
 
--- what comes behind the entries stays as it is
+-- what comes after the entries stays as it is
 pub changed_back : (n : ℕ) (hs bs : Collection) (es : List Entry) → AreEntriesBelow n es → IsCollectionFrom n bs
     → changed (hs ++ bs) es ≡ changed hs es ++ bs
 changed_back n hs bs [] below bs_is = refl

@@ -1,4 +1,4 @@
-//! Laws: functions that do nothing, and whose contracts are facts on the definitions.
+//! Laws: functions that do nothing; their contracts state facts about definitions.
 ghost use Rattle.std.specs.Prelude.{◌≡◌, ◌↔◌, IsTrue};
 ghost use Rattle.s2ix_bag_pairs.specs.declared.pair.Held.{Held};
 ghost use Rattle.s2ix_bag_lists.specs.Laws.{ChangesHaveNoFault, InverseTakesBack, InverseTakesBackAtOnce};
@@ -28,7 +28,7 @@ pub fn inverse_takes_back_at_once()
     ensures { InverseTakesBackAtOnce }
 {}
 
-/// Two errors of one type are equal exactly if they are one.
+/// Two errors of one type are equal exactly if they are the same.
 pub fn equal_errors_are_one()
     ensures apply { (a b : ApplyError) → IsTrue (⟦<ApplyError as PartialEq>⟧.eq a b) ↔ (a ≡ b) }
     ensures revert { (a b : RevertError) → IsTrue (⟦<RevertError as PartialEq>⟧.eq a b) ↔ (a ≡ b) }

@@ -1,4 +1,4 @@
-//! Laws: functions that do nothing, and whose contracts are facts on the definitions.
+//! Laws: functions that do nothing; their contracts state facts about definitions.
 ghost use Rattle.std.specs.Prelude.{◌≡◌, ◌==◌, ◌↔◌, IsTrue, Some};
 ghost use Rattle.std.specs.Ordering.{nat_cmp};
 ghost use Rattle.s2ix_bag_pairs.specs.declared.label.Label.{Label};
@@ -87,7 +87,7 @@ pub fn labels_rise_by_cell()
     ensures { LabelsRiseByCell }
 {}
 
-/// Two pairs are equal exactly if they are one.
+/// Two pairs are equal exactly if they are the same.
 pub fn equal_pairs_are_one()
     ensures { (a b : Pair) → IsTrue (⟦<Pair as PartialEq>⟧.eq a b) ↔ (a ≡ b) }
 {}
@@ -97,7 +97,7 @@ pub fn cloned_pairs_are_the_same()
     ensures { (a copy : Pair) → ⟦<Pair as Clone>⟧.is_clone a copy ↔ (copy ≡ a) }
 {}
 
-/// Two held pairs are equal exactly if they are one.
+/// Two held pairs are equal exactly if they are the same.
 pub fn equal_held_pairs_are_one()
     ensures { (a b : Held) → IsTrue (⟦<Held as PartialEq>⟧.eq a b) ↔ (a ≡ b) }
 {}
@@ -107,7 +107,7 @@ pub fn cloned_held_pairs_are_the_same()
     ensures { (a copy : Held) → ⟦<Held as Clone>⟧.is_clone a copy ↔ (copy ≡ a) }
 {}
 
-/// Two entries are equal exactly if they are one.
+/// Two entries are equal exactly if they are the same.
 pub fn equal_entries_are_one()
     ensures { (a b : Entry) → IsTrue (⟦<Entry as PartialEq>⟧.eq a b) ↔ (a ≡ b) }
 {}
@@ -117,7 +117,7 @@ pub fn cloned_entries_are_the_same()
     ensures { (a copy : Entry) → ⟦<Entry as Clone>⟧.is_clone a copy ↔ (copy ≡ a) }
 {}
 
-/// Two labels are equal exactly if they are one.
+/// Two labels are equal exactly if they are the same.
 pub fn equal_labels_are_one()
     ensures { (a b : Label) → IsTrue (⟦<Label as PartialEq>⟧.eq a b) ↔ (a ≡ b) }
 {}
@@ -127,7 +127,7 @@ pub fn cloned_labels_are_the_same()
     ensures { (a copy : Label) → ⟦<Label as Clone>⟧.is_clone a copy ↔ (copy ≡ a) }
 {}
 
-/// Two limits are equal exactly if they are one.
+/// Two limits are equal exactly if they are the same.
 pub fn equal_limits_are_one()
     ensures { (a b : Limits) → IsTrue (⟦<Limits as PartialEq>⟧.eq a b) ↔ (a ≡ b) }
 {}

@@ -23,7 +23,7 @@ use Rattle.s2ix_c.specs.Status.{done, no_cell, no_label, no_room, out_of_memory}
 abbrev pub row_of : Held → Row
 row_of h = record { cell = raw_of h.pair.cell; label = value_of h.pair.label; count = h.count }
 
--- a list, put to the front of a buffer, which stays as it was behind it; if the buffer is too short, it is as it was, and the number says
+-- a list, put to the front of a buffer, which stays as it was after it; if the buffer is too short, it is as it was, and the number says
 -- how long the list is
 pub record IsPut {A : Type 0} (list : List A) (status number : ℕ) (old new : List A) : Type 0 where
   pub long : number ≡ length list

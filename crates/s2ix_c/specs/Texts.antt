@@ -15,9 +15,9 @@ status_text status =
     if status == 9 then codes "the text is no dump" else
     if status == 16 then codes "the journal is full" else
     if status == 17 then codes "no pair of the label is held" else
-    if status == 18 then codes "fewer copies are held" else
+    if status == 18 then codes "too few copies are held" else
     if status == 19 then codes "the level is too fine" else
-    if status == 20 then codes "no change with the number stands" else
+    if status == 20 then codes "no change has the number" else
     if status == 21 then codes "a count would be below 0" else
     if status == 22 then codes "nothing would change" else
     if status == 23 then codes "a count would pass the limit" else

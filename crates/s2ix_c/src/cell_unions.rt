@@ -31,6 +31,17 @@ fn normal_of(alloc: Global, ids: &[u64]) -> Result<CellUnion, u32>
     }
 }
 
+// Two unions of cells by their numbers, or why there are none.
+fn normals_of(alloc: Global, first: &[u64], second: &[u64]) -> Result<(CellUnion, CellUnion), u32>
+    ensures first { IfOk result (λ both. (cells : List CellId) × AreCells first.now cells × (both.0 ≡ normal_form cells)) }
+    ensures second { IfOk result (λ both. (cells : List CellId) × AreCells second.now cells × (both.1 ≡ normal_form cells)) }
+    ensures refused { IfErr result (λ why. ((why ≡ no_cell) × (LacksCell first.now ⊎ LacksCell second.now)) ⊎ (why ≡ out_of_memory)) }
+{
+    let first = normal_of(alloc, first)?;
+    let second = normal_of(alloc, second)?;
+    Ok((first, second))
+}
+
 /// The normal list of the cells: rising, no cell within another, and no four that are all the children of one.
 #[unsafe(no_mangle)]
 pub extern "C" fn s2ix_union_normalise(
@@ -48,7 +59,7 @@ pub extern "C" fn s2ix_union_normalise(
     }
 }
 
-/// The normal list of the leaves from the number `start` up to and without `limit`.
+/// The normal list of the leaves with numbers from `start` to below `limit`.
 #[unsafe(no_mangle)]
 pub extern "C" fn s2ix_union_from_leaves(
     alloc: Global,
@@ -79,12 +90,8 @@ pub extern "C" fn s2ix_union_union(
     ensures { ListsOfTwo (numbers_by (λ a b. a || b)) first.now second.now result number.new out.old out.new }
 {
     *number = 0;
-    let first = match normal_of(alloc, first) {
-        Ok(union) => union,
-        Err(why) => return why,
-    };
-    let second = match normal_of(alloc, second) {
-        Ok(union) => union,
+    let (first, second) = match normals_of(alloc, first, second) {
+        Ok(unions) => unions,
         Err(why) => return why,
     };
     match first.union(alloc, &second) {
@@ -105,12 +112,8 @@ pub extern "C" fn s2ix_union_intersection(
     ensures { ListsOfTwo (numbers_by (λ a b. a && b)) first.now second.now result number.new out.old out.new }
 {
     *number = 0;
-    let first = match normal_of(alloc, first) {
-        Ok(union) => union,
-        Err(why) => return why,
-    };
-    let second = match normal_of(alloc, second) {
-        Ok(union) => union,
+    let (first, second) = match normals_of(alloc, first, second) {
+        Ok(unions) => unions,
         Err(why) => return why,
     };
     match first.intersection(alloc, &second) {
@@ -131,12 +134,8 @@ pub extern "C" fn s2ix_union_difference(
     ensures { ListsOfTwo (numbers_by (λ a b. a && not b)) first.now second.now result number.new out.old out.new }
 {
     *number = 0;
-    let first = match normal_of(alloc, first) {
-        Ok(union) => union,
-        Err(why) => return why,
-    };
-    let second = match normal_of(alloc, second) {
-        Ok(union) => union,
+    let (first, second) = match normals_of(alloc, first, second) {
+        Ok(unions) => unions,
         Err(why) => return why,
     };
     match first.difference(alloc, &second) {

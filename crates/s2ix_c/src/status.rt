@@ -73,9 +73,9 @@ fn text_of(status: u32) -> &'static str
         9 => "the text is no dump",
         16 => "the journal is full",
         17 => "no pair of the label is held",
-        18 => "fewer copies are held",
+        18 => "too few copies are held",
         19 => "the level is too fine",
-        20 => "no change with the number stands",
+        20 => "no change has the number",
         21 => "a count would be below 0",
         22 => "nothing would change",
         23 => "a count would pass the limit",
@@ -86,7 +86,7 @@ fn text_of(status: u32) -> &'static str
     }
 }
 
-/// What a status says, in words, as bytes with no zero behind them.
+/// What a status says, in words, as bytes with no zero after them.
 #[unsafe(no_mangle)]
 pub extern "C" fn s2ix_status_text(status: u32, out: &mut [u8], number: &mut usize) -> u32
     ensures { IsPut (status_text status) result number.new out.old out.new }

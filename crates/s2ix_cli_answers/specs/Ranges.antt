@@ -6,7 +6,7 @@ use Rattle.s2ix_bag_pairs.specs.declared.pair.Held.{Held}
 use Rattle.s2ix_table_ranges.specs.Table.{Range}
 use Rattle.s2ix_text_write.specs.Lists.{pair_text}
 
--- a held pair behind a space
+-- a held pair after a space
 unfoldable pub spaced_pair : Held → List ℕ
 spaced_pair h = codes " " ++ pair_text h
 
@@ -14,6 +14,6 @@ spaced_pair h = codes " " ++ pair_text h
 unfoldable pub bounds_text : ℕ → ℕ → List ℕ
 bounds_text start limit = concat (sixteen_digits start ∷ codes " " ∷ sixteen_digits limit ∷ [])
 
--- the line of a range: its bounds, and its pairs, each behind a space
+-- the line of a range: its bounds, and its pairs, each after a space
 unfoldable pub range_line : Range → List ℕ
 range_line range = bounds_text range.start range.limit ++ (flat_map spaced_pair range.contents ++ codes "\n")

@@ -44,7 +44,7 @@ fn write_bounds<K: Sink>(range: RangeRow, sink: &mut K) -> Result<(), WriteFault
     put_together(sink, &[start.as_slice(), b" ", limit.as_slice()])
 }
 
-// Writes the pairs of a range, innermost cell first, each behind a space.
+// Writes the pairs of a range, innermost cell first, each after a space.
 fn write_range_pairs<T: RangeTable, K: Sink>(
     table: &T,
     k: usize,

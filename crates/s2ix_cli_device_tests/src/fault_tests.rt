@@ -70,7 +70,7 @@ const UNREAD: Devices = Devices {
     ..WHOLE
 };
 
-// A run that the source ends behind the line, whose answer is out and flushed.
+// A run that the source ends after the line, whose answer is out and flushed.
 const ANSWERED: Devices = Devices {
     name: "a source that fails behind the line",
     turns: 100,

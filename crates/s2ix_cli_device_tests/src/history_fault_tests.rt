@@ -80,7 +80,7 @@ fn check_flush(rt: &impl Abort, alloc: Global, texts: &Texts, fault_at: usize) {
 #[test]
 fn a_fault_of_any_flush_ends_a_run(rt: HostRuntime) {
     let texts = whole_texts(&rt, rt.alloc());
-    // one flush behind each byte, and one at the end
+    // one flush after each byte, and one at the end
     for fault_at in 1..texts.script.len().saturating_add(2) {
         check_flush(&rt, rt.alloc(), &texts, fault_at);
     }

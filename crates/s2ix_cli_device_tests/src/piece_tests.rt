@@ -23,7 +23,7 @@ struct Run {
     changes: usize,
 }
 
-// A line, and the beginning of another, behind which the source fails.
+// A line, and the beginning of another, after which the source fails.
 const CUT_OFF: Run = Run {
     name: "a fault behind a piece of all",
     input: b"add 04 9\nad",
@@ -36,7 +36,7 @@ const CUT_OFF: Run = Run {
     changes: 1,
 };
 
-// A refused line that ends the run, and a line behind it.
+// A refused line that ends the run, and a line after it.
 const STOPPED: Run = Run {
     name: "all lines in one piece",
     input: b"bad\nadd 04 9\n",

@@ -5,7 +5,7 @@ ghost use Rattle.s2ix_text.specs.Pieces.{Gave};
 use s2id_samples::Random;
 use s2ix_text::{ReadFault, Source};
 
-// A source of a text that never fails. Its pieces are a byte, a few or many, or end right before or behind a line feed.
+// A source of a text that never fails. Its pieces are a byte, a few or many, or end right before or after a line feed.
 #[derive(Drop)]
 pub(crate) struct RandomPieces<'a> {
     left: &'a [u8],

@@ -99,7 +99,7 @@ fn write_all(store: &Store, sink: &mut KeepingSink) -> Option<()>
     write_journal(store.undone(), sink).ok()
 }
 
-// Runs a source over an empty store, and writes what the store has then behind the run's output.
+// Runs a source over an empty store, and writes what the store has then after the run's output.
 fn outcome<S: Source>(
     alloc: Global,
     source: &mut S,

@@ -124,7 +124,7 @@ fn ran(alloc: Global, store: &mut Store, text: &[u8]) -> (Result<RunEnd, RunFaul
     (end, sink)
 }
 
-// How many of some lines a text begins with the answers to, and what is behind them.
+// How many of some lines a text begins with the answers to, and what is after them.
 fn told<'a>(text: &'a [u8], lines: &[Line]) -> (usize, &'a [u8]) {
     let (mut count, mut rest) = (0usize, text);
     for (_, answer) in lines {
@@ -144,7 +144,7 @@ fn is_whole(end: Result<RunEnd, RunFault>, kept: &[u8], lines: &[Line]) -> bool 
     is_end && count == lines.len() && rest.is_empty()
 }
 
-// How many lines a run carried out that gave up with a fault, by what it wrote: their answers, of which a sink without room has a front of
+// How many lines a run carried out that gave up with a fault, by what it wrote: their answers, of which a sink without room has a prefix of
 // the last.
 fn carried(rt: &impl Abort, fault: RunFault, kept: &[u8], lines: &[Line]) -> usize {
     let (count, rest) = told(kept, lines);

@@ -13,7 +13,7 @@ use Rattle.s2ix_cli_fields.specs.Fields.{HasNoWhiteSpace, IsBlank, StandApart, f
 
 -- ---- a front of some bytes that is whole pieces
 
--- a piece does not look at what is behind it
+-- a piece does not look at what is after it
 decoded-take : (k : ℕ) (bs : List ℕ) → 0 < k → k ≤ length bs → (decoded bs).size ≤ k → decoded (take k bs) ≡ decoded bs
 decoded-take k bs some within fits =
     let front = take k bs in
@@ -74,18 +74,18 @@ module _ (t : ℕ → Bool) where
 
 -- ---- the fields
 
--- a stretch, and what is behind it
+-- a stretch, and what is after it
 part_behind : (i j : ℕ) (hay : List ℕ) → i ≤ j → drop i hay ≡ part i j hay ++ drop j hay
 part_behind i j hay le =
     let place : i + (j - i) ≡ j = omega arith in
     sym (ap (λ rest. part i j hay ++ rest) (sym (drop-drop (j - i) i hay ∙ ap (λ k. drop k hay) place))
     ∙ take-append-drop (j - i) (drop i hay))
 
--- two stretches, and what is behind them
+-- two stretches, and what is after them
 parts_behind : (i j k : ℕ) (hay : List ℕ) → i ≤ j → j ≤ k → drop i hay ≡ part i j hay ++ (part j k hay ++ drop k hay)
 parts_behind i j k hay first second = part_behind i j hay first ∙ ap (λ rest. part i j hay ++ rest) (part_behind j k hay second)
 
--- fields stand in a line: before and behind each is white space, so many bytes of it at least before the first and one before each
+-- fields stand in a line: before and after each is white space, so many bytes of it at least before the first and one before each
 -- other one, and in it none
 abbrev pub Stand : ℕ → List (List ℕ) → List ℕ → Type 0
 Stand least [] line = IsBlank line
@@ -127,7 +127,7 @@ stand_end hay from off m le end blank =
 blank_nothing : (rest : List ℕ) → [] ≡ rest → IsBlank rest
 blank_nothing rest e = subst IsBlank e (subst (All (λ c. is_whitespace c ≡ true)) (sym lossy_chars-nil) (All-nil _))
 
--- what is left of a line from an index on: behind white space, and within a field
+-- what is left of a line from an index on: after white space, and within a field
 abbrev Rest : List ℕ → ℕ → List (ℕ × ℕ × ℕ) → Type 0
 Rest hay off spans =
     ((least from m : ℕ) → from + least ≤ off → AreAlike is_whitespace true m (off - from) (drop from hay)
@@ -144,7 +144,7 @@ rest_end hay off end none = (
       (stand_more hay [] least from a off m n le some (omega arith) blank word (blank_nothing _ none)),
 )
 
--- one piece more behind what is alike
+-- one piece more after what is alike
 alike_next : (v : Bool) (hay bs : List ℕ) (n from off : ℕ) → bs ≡ drop off hay → 0 < length bs → from ≤ off
     → is_whitespace (or_replacement (decoded bs).char) ≡ v
     → AreAlike is_whitespace v n (off - from) (drop from hay)

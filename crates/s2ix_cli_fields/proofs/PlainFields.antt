@@ -70,7 +70,7 @@ module _ (t : ℕ → Bool) (byte : ℕ) (hay : List ℕ) where
       subst (λ end. AreSame ((off + 1, end, or_replacement p.char) ∷ spans_from end ps)
       ((off, off + p.size, or_replacement p.char) ∷ spans_from (off + p.size) ps)) place later
 
--- what is left of a line behind some bytes of it
+-- what is left of a line after some bytes of it
 fields-behind : (front hay : List ℕ) (ps : List Decoded) (off : ℕ)
     → fields_acc is_whitespace (front ++ hay) None (spans_from (off + length front) ps)
     ≡ fields_acc is_whitespace hay None (spans_from off ps)
@@ -189,7 +189,7 @@ pub fields_of-blank_at : (text : List ℕ) (at : ℕ) → at < length text → i
 fields_of-blank_at text at inside is =
     sym (ap fields_of (drop_more text at 0 inside) ∙ fields_of-blank (get_or text at 0) (drop (at + 1) text) is)
 
--- a block of plain bytes behind others
+-- a block of plain bytes after others
 pub plain-block : (text : List ℕ) (end size : ℕ) → list_all is_plain (take end text) ≡ true
     → list_all is_plain (take size (drop end text)) ≡ true
     → list_all is_plain (take (end + size) text) ≡ true

@@ -35,7 +35,7 @@ abbrev pub HasNoWhiteSpace : List ℕ → Type 0
 HasNoWhiteSpace text = All (λ c. is_whitespace c ≡ false) (lossy_chars text)
 
 -- fields stand in a line in their order: before the first are `least` bytes of white space or more, before each other one some, and
--- behind the last is nothing else
+-- after the last is nothing else
 abbrev pub StandApart : ℕ → List (List ℕ) → List ℕ → Type 0
 StandApart least [] line = IsBlank line
 StandApart least (field ∷ fields) line =

@@ -48,7 +48,7 @@ impl<'a> Fields<'a> {
         }
     }
 
-    // The next field of a text which has a byte above 127 in it, and all behind it.
+    // The next field of a text which has a byte above 127 in it, and all after it.
     #[inline(never)]
     fn next_wide(&mut self, text: &'a [u8]) -> Option<&'a [u8]>
         ensures { TakesFirstRef (fields_of text.now) result self.new }
@@ -96,7 +96,7 @@ fn behind_blank(text: &[u8]) -> &[u8]
     &text[start..]
 }
 
-// The field that a text begins with, and what is behind it; nothing where a byte above 127 stands in the field or right behind it.
+// The field that a text begins with, and what is after it; nothing where a byte above 127 stands in the field or right after it.
 #[inline(always)]
 fn cut_plain(text: &[u8]) -> Option<(&[u8], &[u8])>
     ensures { IfSome result (λ cut. fields_of text.now ≡ cut.0.now ∷ fields_of cut.1.now) }
@@ -126,7 +126,7 @@ fn plain_len(text: &[u8]) -> usize
     end
 }
 
-// The place behind one more block of plain bytes, or the same place where no such block is there.
+// The place after one more block of plain bytes, or the same place where no such block is there.
 fn behind_block(text: &[u8], end: usize, size: usize) -> usize
     requires inside { end ≤ length text.now }
     requires front { list_all is_plain (take end text.now) ≡ true }
@@ -140,7 +140,7 @@ fn behind_block(text: &[u8], end: usize, size: usize) -> usize
     }
 }
 
-// Whether a block of bytes is of the plain bytes behind the space. Each is looked at, so that the compiler looks at all at once.
+// Whether a block of bytes is of the plain bytes after the space. Each is looked at, so that the compiler looks at all at once.
 fn are_plain(block: &[u8]) -> bool
     ensures { result ≡ true → list_all is_plain block.now ≡ true }
 {

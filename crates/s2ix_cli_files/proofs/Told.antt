@@ -1,4 +1,4 @@
--- Telling an answer: its text goes out, and a flush behind it.
+-- Telling an answer: its text goes out, and a flush after it.
 use Rattle.std.proofs.Common.{◌≡◌, ℕ, ◌<◌, Bool, false, List, [], ◌∷◌, length, Result, Ok, Err, refl, sym, subst, arith}
 use Rattle.std.specs.Io.KnownBytes.{Appends, Keeps}
 use Rattle.std.proofs.KnownBytes.{Appends-kept}

@@ -13,7 +13,7 @@ use Rattle.s2ix_cli_files.specs.declared.refusal.TextsError.{TextsError}
 use Rattle.s2ix_cli_files.specs.declared.refusal.TextsError.TheVariants.{Refused, OutOfMemory}
 use Rattle.s2ix_cli_files.specs.Names.{dump_fault_name, journal_fault_name}
 
--- a name and one number behind what stands before them, on a line of their own
+-- a name and one number after what stands before them, on a line of their own
 abbrev pub numbered_line : List ℕ → List ℕ → ℕ → List ℕ
 numbered_line before name number = concat (before ∷ name ∷ codes " " ∷ decimal number ∷ codes "\n" ∷ [])
 

@@ -1,4 +1,4 @@
-//! Laws: functions that do nothing, and whose contracts are facts on the definitions.
+//! Laws: functions that do nothing; their contracts state facts about definitions.
 ghost use Rattle.std.specs.Prelude.{◌≡◌, ◌↔◌, ℕ, IsTrue, None, Some, true, List, slice_get};
 ghost use Rattle.s2ix_bag_pairs.specs.Collection.{Collection};
 ghost use Rattle.s2ix_bag_pairs.specs.declared.limits.Limits.{Limits};
@@ -84,7 +84,7 @@ pub fn undo_restores_the_dump()
         → dump_text (after_undo (after_edit s edit)).bag.held ≡ dump_text s.bag.held }
 {}
 
-/// Two refusals of texts are equal exactly if they are one.
+/// Two refusals of texts are equal exactly if they are the same.
 pub fn equal_refusals_are_one()
     ensures { (a b : Refusal) → IsTrue (⟦<Refusal as PartialEq>⟧.eq a b) ↔ (a ≡ b) }
 {}
@@ -94,7 +94,7 @@ pub fn cloned_refusals_are_the_same()
     ensures { (a copy : Refusal) → ⟦<Refusal as Clone>⟧.is_clone a copy ↔ (copy ≡ a) }
 {}
 
-/// Two errors of texts are equal exactly if they are one.
+/// Two errors of texts are equal exactly if they are the same.
 pub fn equal_texts_errors_are_one()
     ensures { (a b : TextsError) → IsTrue (⟦<TextsError as PartialEq>⟧.eq a b) ↔ (a ≡ b) }
 {}

@@ -1,10 +1,10 @@
 //! What the program does with whole files: a dump is loaded or checked, and a dump with a journal is replayed or rewound.
 //!
 //! Each call makes an answer: a text, and whether all was accepted. If a file or a change is refused, the text is one line with the name
-//! of the refusal and its numbers. A call reads the texts and does the changes before it puts the first byte, and flushes behind the last.
+//! of the refusal and its numbers. A call reads the texts and does the changes before it puts the first byte, and flushes after the last.
 //!
 //! Each call returns `OutOfMemory` if a growth was refused; then nothing went out. It never does so if line 1 of the dump is faulty. It
-//! returns `Write` if the sink failed, in a call of `put` or of `flush`; then a front of the text went out.
+//! returns `Write` if the sink failed, in a call of `put` or of `flush`; then a prefix of the text went out.
 #![tactic(auto)]
 
 mod check;

@@ -78,7 +78,7 @@ impl From<ReplayError> for TextsError {
     }
 }
 
-// Writes a name and one number behind what stands before them, on a line of their own.
+// Writes a name and one number after what stands before them, on a line of their own.
 fn write_numbered<K: Sink>(
     before: &[u8],
     name: &str,

@@ -78,7 +78,7 @@ one_counts line s new before behind told more outcome one =
           ∙ ap (λ k. min (n + k) MOST) (ap (λ b. if b then 1 else 0) one.takes.refused ∙ sym (plus_none _));
     }
 
--- the lines that end in a piece, of which some are done: the next one, and those behind it
+-- the lines that end in a piece, of which some are done: the next one, and those after it
 ended_next : {stop : Bool} {front piece rest end behind_it : List ℕ} {old now : State} {held before mid : Option (List ℕ)}
     {start told : RunEnd}
     (a : Among stop front piece rest old now held before mid start told) → IsCut rest end behind_it
@@ -86,7 +86,7 @@ ended_next : {stop : Bool} {front piece rest end behind_it : List ℕ} {old now 
 ended_next {end = end} {behind_it = behind_it} a cut =
     a.ended ∙ ap (λ l. a.done ++ l) (ap (ended_behind a.come) cut.is ∙ ended_behind-line a.come end behind_it cut.none)
 
--- the loop goes on behind a line
+-- the loop goes on after a line
 pub Among-on : (stop : Bool) (front piece rest end behind_it : List ℕ) (old now new : State) (held : Option (List ℕ))
     (before mid behind : Option (List ℕ)) (start told more : RunEnd) (outcome : LineOutcome)
     → (a : Among stop front piece rest old now held before mid start told) → IsCut rest end behind_it

@@ -55,7 +55,7 @@ Finishes-of stop input carried old new before behind flushed more is stands coun
           ∙ ap (λ l. min (refused_in old l) MOST) (sym is);
     }
 
--- this was read; the lines that end in it are carried out, and what is left behind them is held
+-- this was read; the lines that end in it are carried out, and what is left after them is held
 pub record Between (left left' held : Option (List ℕ)) (run : Run) (told : RunEnd) : Type 0 where
   pub input : List ℕ
   pub consumed : Consumes left left' input
@@ -126,7 +126,7 @@ Between-ended end left mid held run told b = (b.input, b.consumed, record { keep
 
 -- ---- a fault among lines
 
--- a line that is carried out, behind others
+-- a line that is carried out, after others
 carried_cut : (stop : Bool) (old mid : State) (lines done more done' rest : List (List ℕ)) (line : List ℕ) → lines ≡ done ++ more
     → more ≡ done' ++ line ∷ rest → KeepsOn stop old done → mid ≡ after old done → KeepsOn stop mid done'
     → carried_lines stop old lines ≡ (done ++ done') ++ line ∷ drop 1 (carried_lines stop (after old (done ++ done')) (line ∷ rest))
@@ -241,7 +241,7 @@ pub stops_at : (end : PieceEnd) (more : RunEnd) (front piece : List ℕ) (run : 
     → CarriesPiece (Ok end) front piece run held told → CarriesPiece (Ok (Stops more)) front piece run held told
 stops_at end more front piece run held told is c = subst (λ e. CarriesPiece (Ok e) front piece run held told) is c
 
--- ---- one piece more is read behind others
+-- ---- one piece more is read after others
 
 module _ (left mid left' : Option (List ℕ)) (stop : Bool) (old now : State) (held before between : Option (List ℕ)) (told : RunEnd)
     (piece : List ℕ)
@@ -266,7 +266,7 @@ module _ (left mid left' : Option (List ℕ)) (stop : Bool) (old now : State) (h
       Halts-of stop (ended_lines (b.input ++ piece)) (ended_lines b.input) (ended_behind (unended_behind [] b.input) piece) old now new
       before between behind told more (ended-more b.input piece) b.reached s
 
-  -- what was written is flushed behind it, or the sink fails at the flush
+  -- what was written is flushed after it, or the sink fails at the flush
   module _ (behind flushed : Option (List ℕ)) (kept : Keeps behind flushed) where
     pub Between-more : (new : State) (held' : Option (List ℕ)) (more : RunEnd)
         → CarriesPiece (Ok (GoesOn more)) (unended_behind [] b.input) piece (over stop now new between behind) held' told
@@ -357,7 +357,7 @@ module _ (left left' : Option (List ℕ)) (stop : Bool) (old now : State) (held 
         (inr (read, refl)) (script_lines-ended b.input) b.reached f,
   )
 
-  -- what was written is flushed behind it, or the sink fails at the flush
+  -- what was written is flushed after it, or the sink fails at the flush
   module _ (new : State) (behind flushed : Option (List ℕ)) (more : RunEnd)
       (carried : CarriesLast (Ok more) (unended_behind [] b.input) (over stop now new between behind) told) (kept : Keeps behind flushed)
     where

@@ -30,7 +30,7 @@ pub record BringsLast {S : Type 0} (left : S → Option (List ℕ)) (gives : S �
   pub last : Consumes (left mid) (left new) piece
 
 -- how the source of a run ended: `IsRead` says that its end was read, and `IsLast front piece` that `piece` was the last one that was read,
--- behind `front`
+-- after `front`
 pub record SourceEnd : Type 1 where
   pub IsRead : Type 0
   pub IsLast : List ℕ → List ℕ → Type 0

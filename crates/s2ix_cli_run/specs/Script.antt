@@ -32,7 +32,7 @@ abbrev pub refused_in : State → List (List ℕ) → ℕ
 refused_in s [] = 0
 refused_in s (line ∷ lines) = (if (step_of s line).is_refused then 1 else 0) + refused_in (step_of s line).after lines
 
--- the lines that are carried out: all, or with `stop` up to and with the first that is refused
+-- the lines that are carried out: all, or with `stop` up to and including the first that is refused
 abbrev pub carried_lines : Bool → State → List (List ℕ) → List (List ℕ)
 carried_lines stop s [] = []
 carried_lines stop s (line ∷ lines) =

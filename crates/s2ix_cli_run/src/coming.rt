@@ -26,7 +26,7 @@ pub(crate) enum PieceEnd {
     Stops(RunEnd),
 }
 
-// Carries out the lines that end in a piece, and holds what is left behind them. With `stop` the first refused line is the last one.
+// Carries out the lines that end in a piece, and holds what is left after them. With `stop` the first refused line is the last one.
 pub(crate) fn carry_piece<K: Sink>(
     alloc: Global,
     store: &mut Store,
@@ -137,7 +137,7 @@ fn carry_held<K: Sink>(
     }
 }
 
-// The bytes up to the first line feed, and those behind it, or `None` where there is no line feed.
+// The bytes up to the first line feed, and those after it, or `None` where there is no line feed.
 fn first_ended(text: &[u8]) -> Option<(&[u8], &[u8])>
     ensures some { IfSome result (λ cut. (text.now ≡ cut.0.now ++ 10 ∷ cut.1.now) × HasNoFeed cut.0.now) }
     ensures none { IfNone result (HasNoFeed text.now) }

@@ -1,4 +1,4 @@
-//! Laws: functions that do nothing, and whose contracts are facts on the definitions.
+//! Laws: functions that do nothing; their contracts state facts about definitions.
 ghost use Rattle.std.specs.Prelude.{◌≡◌, ◌↔◌, IsTrue};
 ghost use Rattle.s2ix_cli_run.specs.Laws.{JournalLeadsBack, JournalLeadsOn, UndoRestoresTheDump, UndoRestoresWhatIsPrinted};
 ghost use Rattle.s2ix_cli_run.specs.declared.run_end.RunEnd.{RunEnd};
@@ -6,8 +6,8 @@ ghost use Rattle.s2ix_cli_run.specs.declared.run_end.RunOptions.{RunOptions};
 
 use crate::run_end::{RunEnd, RunOptions};
 
-/// Behind a line with an edit that is accepted, and one with an undo, each question prints what it would have printed before the edit: the
-/// same dump, and the same answer to any other.
+/// After an accepted edit and an undo, each question prints what it would have printed before the edit: the same dump, and the same answer
+/// to any other.
 pub fn undo_restores_what_is_printed()
     ensures dump { UndoRestoresTheDump }
     ensures questions { UndoRestoresWhatIsPrinted }
@@ -20,7 +20,7 @@ pub fn journal_leads_from_dump_to_dump()
     ensures rewind { JournalLeadsBack }
 {}
 
-/// Two ends of runs are equal exactly if they are one.
+/// Two ends of runs are equal exactly if they are the same.
 pub fn equal_run_ends_are_one()
     ensures { (a b : RunEnd) → IsTrue (⟦<RunEnd as PartialEq>⟧.eq a b) ↔ (a ≡ b) }
 {}
@@ -30,7 +30,7 @@ pub fn cloned_run_ends_are_the_same()
     ensures { (a copy : RunEnd) → ⟦<RunEnd as Clone>⟧.is_clone a copy ↔ (copy ≡ a) }
 {}
 
-/// Two runs' options are equal exactly if they are one.
+/// Two runs' options are equal exactly if they are the same.
 pub fn equal_run_options_are_one()
     ensures { (a b : RunOptions) → IsTrue (⟦<RunOptions as PartialEq>⟧.eq a b) ↔ (a ≡ b) }
 {}

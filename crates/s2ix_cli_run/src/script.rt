@@ -14,7 +14,7 @@ use std::alloc::Global;
 // How many bytes are asked for at once.
 const PIECE: usize = 32768;
 
-/// Carries out the lines of a script over a store, and writes their answers: all of them, or with `stop` up to and with the first that is
+/// Carries out the lines of a script over a store, and writes their answers: all of them, or with `stop` up to and including the first
 /// refused. Each line is carried out as soon as its line feed, or the end of the input, has come, and what was written is flushed before
 /// another piece is asked for. A line that is refused prints `no` with the refusal's name and changes nothing. At most `turns` pieces are
 /// read, and at most `LONGEST_LINE` bytes of a line are held. It ends whatever the source gives.
@@ -23,7 +23,7 @@ const PIECE: usize = 32768;
 /// `OutOfMemory` if a growth was refused, `ReaderTooLong` if `turns` pieces were read and none was the end. After `Read` and
 /// `ReaderTooLong` all lines whose ends were read are carried out, and their whole output is flushed: no line is lost. If memory was
 /// refused at a line, that line has changed nothing and printed nothing; it is an edit, an undo, a redo, a line with a list of cells, or
-/// one that asks for regions or an export. If the sink failed in a line's answer, the store keeps what that line did, and a front of its
+/// one that asks for regions or an export. If the sink failed in a line's answer, the store keeps what that line did, and a prefix of its
 /// answer went out. After `Write` and `OutOfMemory` no flush follows. O(n) for n bytes of input, and what their lines take.
 pub fn run<S: Source, K: Sink>(
     alloc: Global,

@@ -7,7 +7,7 @@ use s2ix_text::{KeepingSink, Sink, SliceSource, read_whole};
 use std::alloc::Global;
 use std::process::Abort;
 
-// Words behind the program's own name, the dump in the file that they name, a script, what is printed, and whether all is accepted.
+// Words after the program's own name, the dump in the file that they name, a script, what is printed, and whether all is accepted.
 struct Row {
     words: &'static [&'static str],
     dump: &'static [u8],

@@ -16,7 +16,7 @@ fn words(rt: &impl Abort, alloc: Global) -> Vec<String> {
     texts
 }
 
-// The file and the limits of a run that goes on behind a refused line.
+// The file and the limits of a run that goes on after a refused line.
 fn run_named(command: &Command) -> Option<(&str, Limits)> {
     match command {
         Command::Run {

@@ -29,7 +29,7 @@ only_named fields = map_ok (λ named. asks.Only named.0 named.1) (labels_named f
 
 -- ---- the words
 
--- words, and what the fields behind each ask for
+-- words, and what the fields after each ask for
 abbrev pub Words : Type 0
 Words = List (List ℕ × (List (List ℕ) → Result Instruction LineFault))
 
@@ -86,12 +86,12 @@ cell_words =
 abbrev pub words : Words
 words = union_words ++ cell_words ++ query_words ++ history_words ++ edit_words
 
--- what a word of these and the fields behind it ask for: the first entry with that word decides
+-- what a word of these and the fields after it ask for: the first entry with that word decides
 abbrev pub asked_in : Words → List ℕ → List (List ℕ) → Result Instruction LineFault
 asked_in [] word fields = Err BadCommand
 asked_in (entry ∷ entries) word fields = if bytes_eq word entry.0 then entry.1 fields else asked_in entries word fields
 
--- what a word and the fields behind it ask for
+-- what a word and the fields after it ask for
 abbrev pub asked_by : List ℕ → List (List ℕ) → Result Instruction LineFault
 asked_by = asked_in words
 

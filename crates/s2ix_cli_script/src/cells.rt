@@ -1,5 +1,5 @@
-//! The cells that the fields of a line name, as their normal union. Memory is taken here alone, and only where each of these fields
-//! names a cell.
+//! The cells that the fields of a line name, as their normal union. Only this module allocates, and only if each of these fields names a
+//! cell.
 ghost use Rattle.std.specs.Prelude.{◌≡◌, Ok, ◌∷◌, true, MatchResult};
 ghost use Rattle.s2ix_cli_script.specs.Named.{IsFault, Means, add_union_named, cells_named, is_add_union, union_named, union_of};
 
@@ -49,7 +49,7 @@ fn union_of(alloc: Global, first: &[u8], rest: Fields<'_>) -> Result<CellUnion, 
     Ok(CellUnion::normalise(alloc, &cells)?)
 }
 
-// The cells that the fields TOKEN.. name, the first of them and the rest. Where room was refused for one, those behind it are read all the
+// The cells that the fields TOKEN.. name, the first of them and the rest. Where room was refused for one, those after it are read all the
 // same: only a list without a fault wants memory.
 #[tactic(auto, using(crate::proofs::WantedFields::wanting))]
 fn read_cells(alloc: Global, first: &[u8], rest: Fields<'_>) -> Result<Vec<CellId>, LineError>

@@ -1,4 +1,4 @@
-//! What the fields behind a word name.
+//! What the fields after a word name.
 ghost use Rattle.std.specs.Prelude.{◌≡◌, Ok, Err, MatchResult};
 ghost use Rattle.s2id_core.specs.Spelled.{cell_spelled};
 ghost use Rattle.s2ix_cli_fields.specs.Fields.{label_spelled};

@@ -1,4 +1,4 @@
-//! Laws: functions that do nothing, and whose contracts are facts on the definitions.
+//! Laws: functions that do nothing; their contracts state facts about definitions.
 ghost use Rattle.std.specs.Prelude.{◌≡◌, ◌↔◌, IsTrue};
 ghost use Rattle.s2ix_cli_script.specs.declared.line_fault.LineError.{LineError};
 ghost use Rattle.s2ix_cli_script.specs.declared.line_fault.LineFault.{LineFault};
@@ -9,7 +9,7 @@ use crate::line_fault::{LineError, LineFault};
 use s2id_union::laws::equal_unions_are_one;
 use s2ix_edit_plan::laws::equal_edits_are_one;
 
-/// Two faults of lines are equal exactly if they are one.
+/// Two faults of lines are equal exactly if they are the same.
 pub fn equal_line_faults_are_one()
     ensures { (a b : LineFault) → IsTrue (⟦<LineFault as PartialEq>⟧.eq a b) ↔ (a ≡ b) }
 {}
@@ -19,7 +19,7 @@ pub fn cloned_line_faults_are_the_same()
     ensures { (a copy : LineFault) → ⟦<LineFault as Clone>⟧.is_clone a copy ↔ (copy ≡ a) }
 {}
 
-/// Two errors of lines are equal exactly if they are one.
+/// Two errors of lines are equal exactly if they are the same.
 pub fn equal_line_errors_are_one()
     ensures { (a b : LineError) → IsTrue (⟦<LineError as PartialEq>⟧.eq a b) ↔ (a ≡ b) }
 {}
@@ -29,7 +29,7 @@ pub fn cloned_line_errors_are_the_same()
     ensures { (a copy : LineError) → ⟦<LineError as Clone>⟧.is_clone a copy ↔ (copy ≡ a) }
 {}
 
-/// Two instructions are equal exactly if they are one.
+/// Two instructions are equal exactly if they are the same.
 pub fn equal_instructions_are_one()
     ensures { (a b : Instruction) → IsTrue (⟦<Instruction as PartialEq>⟧.eq a b) ↔ (a ≡ b) }
 {

@@ -18,7 +18,7 @@ use s2ix_cli_fields::Fields;
 use s2ix_edit_plan::Edit;
 use std::alloc::Global;
 
-// What a word and the fields behind it ask for.
+// What a word and the fields after it ask for.
 #[tactic(auto, using(crate::proofs::WantedFields::wanting))]
 pub(crate) fn asked_by(
     alloc: Global,

@@ -49,7 +49,7 @@ undo_done : (s : State) → (undo_step s).after ≡ after_undo s
 unfolding undo_step
 undo_done s = undone_at s (last_done s) refl
 
--- the store behind both lines
+-- the store after both lines
 pub behind_both : (s : State) (line undo : List ℕ) (both : EditsAndUndoes s line undo)
     → (step_of (step_of s line).after undo).after ≡ after_undo (after_edit s both.edit)
 behind_both s line undo both =
@@ -94,7 +94,7 @@ prints_same s t asks.Dump is bag done = ap (λ (b : LimitedCollection). dump_tex
 prints_same s t asks.Journal is bag done = ap journal_text done
 prints_same s t asks.Export is bag done = ap (λ (b : LimitedCollection). export_line b.held) bag
 
--- a question behind both lines
+-- a question after both lines
 pub restored : (s : State) (line undo question : List ℕ) (instruction : Instruction) → IsStore s → EditsAndUndoes s line undo
     → AsksFor question instruction → is_question instruction ≡ true
     → (step_of (step_of (step_of s line).after undo).after question).answer ≡ (step_of s question).answer

@@ -22,7 +22,7 @@ use std::alloc::Global;
 /// bytes.
 ///
 /// `OutOfMemory` if a growth was refused: nothing has changed then, and nothing was printed. `Write` if the sink failed: what the line does
-/// is done, and a front of its answer went out.
+/// is done, and a prefix of its answer went out.
 #[tactic(auto, using(crate::proofs::WantedMemory::line_wants), unfolding(crate::specs::Step::step_of))]
 pub fn carry_out<K: Sink>(
     alloc: Global,
@@ -53,7 +53,7 @@ pub fn carry_out<K: Sink>(
 /// its edit, step or query; `at`, `meet`, `ranges`, `dump` and `journal` print as they go.
 ///
 /// `OutOfMemory` if a growth was refused: nothing has changed then, and nothing was printed. `Write` if the sink failed: what the
-/// instruction does is done, and a front of its answer went out.
+/// instruction does is done, and a prefix of its answer went out.
 pub fn carry_instruction<K: Sink>(
     alloc: Global,
     store: &mut Store,

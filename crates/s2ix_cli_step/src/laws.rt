@@ -1,10 +1,10 @@
-//! Laws: functions that do nothing, and whose contracts are facts on the definitions.
+//! Laws: functions that do nothing; their contracts state facts about definitions.
 ghost use Rattle.std.specs.Prelude.{◌≡◌, ◌↔◌, IsTrue};
 ghost use Rattle.s2ix_cli_step.specs.declared.outcome.LineOutcome.{LineOutcome};
 
 use crate::outcome::LineOutcome;
 
-/// Two outcomes of lines are equal exactly if they are one.
+/// Two outcomes of lines are equal exactly if they are the same.
 pub fn equal_line_outcomes_are_one()
     ensures { (a b : LineOutcome) → IsTrue (⟦<LineOutcome as PartialEq>⟧.eq a b) ↔ (a ≡ b) }
 {}

@@ -36,7 +36,7 @@ const LINES: [(&[u8], &[&[u8]]); 19] = [
         b"add 0123456789012345\t9",
         &[b"add", b"0123456789012345", b"9"],
     ),
-    // white space above 127, behind fields and in front
+    // white space above 127, after fields and in front
     (b"a\xc2\xa0b c", &[b"a", b"b", b"c"]),
     (b"\xc2\x85a\xe2\x80\x83b", &[b"a", b"b"]),
     (b"a b\xe3\x80\x80c", &[b"a", b"b", b"c"]),

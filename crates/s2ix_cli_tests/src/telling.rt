@@ -3,7 +3,7 @@ use s2ix_bag::Limits;
 use s2ix_cli::{Command, WordsFault, command_of, not_utf8};
 use std::alloc::{AllocError, Global};
 
-// The words of a line, which stand between bars behind the program's own name.
+// The words of a line, which stand between bars after the program's own name.
 fn words_in(alloc: Global, line: &str) -> Result<Vec<String>, AllocError> {
     let mut words = Vec::new(alloc);
     for word in line.split('|').skip(1) {
@@ -52,7 +52,7 @@ fn fault_told(alloc: Global, fault: WordsFault) -> Result<String, AllocError> {
 }
 
 /// What the words of a line ask for, as a text: a command with its files and limits, `help:` with the help, `version:` with the version, or
-/// `usage:` with the usage. The words stand between bars behind the program's own name, as in `s2ix|check|FILE`.
+/// `usage:` with the usage. The words stand between bars after the program's own name, as in `s2ix|check|FILE`.
 pub fn told(alloc: Global, line: &str) -> Result<String, AllocError> {
     let words = words_in(alloc, line)?;
     match command_of(alloc, words.as_slice()) {

@@ -5,7 +5,7 @@ use Rattle.clap.specs.declared.builder.ArgAction.TheVariants.{SetTrue}
 use Rattle.clap.specs.declared.builder.Command.{Command}
 use Rattle.clap.specs.declared.builder.Command.TheViews.{out-Command}
 
--- what is named behind two dashes
+-- what is named after two dashes
 abbrev pub dashed_rule : Text → Rule
 dashed_rule name = record (new_rule name) { long = Some name }
 

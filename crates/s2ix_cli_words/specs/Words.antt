@@ -43,7 +43,7 @@ word_of (Check file) = codes "check"
 word_of (Replay dump journal) = codes "replay"
 word_of (Rewind dump journal) = codes "rewind"
 
--- the command has what was given behind its word
+-- the command has what was given after its word
 abbrev pub Has : List Row → Command → Type 0
 Has given (Run load limits stop) = (first_of (codes "load") given ≡ option_map string_bytes load)
     × AreGiven given limits
@@ -52,7 +52,7 @@ Has given (Check file) = IsFile (codes "FILE") given file
 Has given (Replay dump journal) = IsFile (codes "DUMP") given dump × IsFile (codes "JOURNAL") given journal
 Has given (Rewind dump journal) = IsFile (codes "DUMP") given dump × IsFile (codes "JOURNAL") given journal
 
--- the command is that of this word and what was given behind it
+-- the command is that of this word and what was given after it
 abbrev pub IsOf : Text → List Row → Command → Type 0
 IsOf word given command = (word ≡ word_of command) × Has given command
 

@@ -8,7 +8,7 @@ use std::process::ExitCode;
 /// What the program came to.
 #[derive(Clone, Copy, Debug, PartialEq, Eq)]
 pub enum Ending {
-    /// All was accepted, or help or the version was asked for and printed.
+    /// All was accepted, or help or version was printed.
     Accepted,
     /// A refusal was printed.
     Refused,

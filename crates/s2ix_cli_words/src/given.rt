@@ -1,4 +1,4 @@
-//! What was given behind the word of a subcommand.
+//! What was given after the word of a subcommand.
 ghost use Rattle.std.specs.Prelude.{◌≡◌, ◌↔◌, ℕ, Some, IfErr, IfNone, IfOk, IfSome, IsTrue, codes, option_map, string_bytes};
 ghost use Rattle.clap.specs.Words.{first_of, found_of, rows_of, subcommand_rows_of};
 ghost use Rattle.s2ix_bag_pairs.specs.declared.limits.Limits.{Limits as OfLimits};
@@ -28,7 +28,7 @@ pub(crate) fn command_met(alloc: Global, matches: &ArgMatches<'_>) -> Result<Com
     }
 }
 
-// The command of a word and what was given behind it.
+// The command of a word and what was given after it.
 fn command_given(alloc: Global, word: &str, given: &ArgMatches<'_>) -> Result<Command, WordsFault>
     ensures given { IfOk result (IsOf word.now (rows_of (found_of given.now))) }
     ensures refused { IfErr result (Refuses (IsOf word.now (rows_of (found_of given.now)))) }

@@ -1,10 +1,10 @@
-//! Laws: functions that do nothing, and whose contracts are facts on the definitions.
+//! Laws: functions that do nothing; their contracts state facts about definitions.
 ghost use Rattle.std.specs.Prelude.{◌≡◌, ◌↔◌, IsTrue};
 ghost use Rattle.s2ix_cli_words.specs.declared.ending.Ending.{Ending};
 
 use crate::ending::Ending;
 
-/// Two ends of the program are equal exactly if they are one.
+/// Two ends of the program are equal exactly if they are the same.
 pub fn equal_endings_are_one()
     ensures { (a b : Ending) → IsTrue (⟦<Ending as PartialEq>⟧.eq a b) ↔ (a ≡ b) }
 {}

@@ -130,7 +130,7 @@ fn flag<'a>(alloc: Global, name: &'a str, help: &'a str) -> Arg<'a>
     dashed(alloc, name, help).action(ArgAction::SetTrue)
 }
 
-// What is named behind two dashes.
+// What is named after two dashes.
 fn dashed<'a>(alloc: Global, name: &'a str, help: &'a str) -> Arg<'a>
     ensures rule { rule_of result ≡ dashed_rule name.now }
     ensures local { result.global ≡ false }

@@ -11,10 +11,10 @@ use clap::Error;
 use clap::error::ErrorKind;
 use std::alloc::Global;
 
-/// The command that the program's words ask for. The words are those behind the program's own name.
+/// The command that the program's words ask for. The words are those after the program's own name.
 ///
 /// The words are read by clap: an option is given once at most, as `--max-pairs 5` or `--max-pairs=5`, options come in any order, and
-/// behind `--` each word is a file. A limit is read as Rust reads a `u32`, and one that is not given is as wide as it may be.
+/// after `--` each word is a file. A limit is read as Rust reads a `u32`, and one that is not given is as wide as it may be.
 /// O(n) for words of n bytes.
 ///
 /// A word is printed with escapes for its control characters.

@@ -58,7 +58,7 @@ back_over bag done es b back rises some taken =
     subst Back (sym (reverse_push done es))
     (rises, some, takes_back bag es b rises taken, subst Older (sym (changed_back bag es b.rises rises (not_mismatched bag es taken))) back)
 
--- the store stands at the changed bag, with one more change behind it
+-- the store stands at the changed bag, with one more change after it
 pub stands_recorded : (s after : State) (es : List Entry) → after ≡ after_record s es → IsStore s
     → length s.done < changes_limit s.bag.limits → IsChangeList es → 0 < length es → apply_refusal s.bag es ≡ None → IsBag after.bag
     → IsStore after

@@ -1,4 +1,4 @@
-//! Laws: functions that do nothing, and whose contracts are facts on the definitions.
+//! Laws: functions that do nothing; their contracts state facts about definitions.
 
 ghost use Rattle.std.specs.Prelude.{◌≡◌, ◌≢◌, ◌↔◌, ◌≤◌, ℕ, ◌+◌, pos, ◌+ℤ◌, Some, None, false, ◌<◌, [], ◌∷◌, ◌++◌, length, reverse, slice_get, take, All, List};
 ghost use Rattle.s2ix_bag_pairs.specs.declared.label.Label.{Label};
@@ -111,9 +111,9 @@ pub fn store_stands_in_history()
         → All (λ es. 0 < length es) (s.done ++ s.undone) }
 {}
 
-/// Each change that can be undone or redone has an entry and no more of them than two collections within the limits hold pairs, and
-/// its counts are within the limit. There are at most as many changes as the limit on them. No limits are wider than 1,000,000
-/// pairs and counts of a `u32`, so a journal can hold each of the changes.
+/// Each change that can be undone or redone has at least one entry, at most twice as many as the limit on pairs, and counts within the
+/// limit on counts. There are at most as many changes as the limit on them. No limits are wider than 1,000,000 pairs and counts of a `u32`,
+/// so a journal can hold each of the changes.
 pub fn recorded_changes_are_within_the_limits()
     ensures done { (s : State) → IsStore s → All (IsRecorded s.bag.limits) s.done }
     ensures undone { (s : State) → IsStore s → All (IsRecorded s.bag.limits) s.undone }
@@ -125,7 +125,7 @@ pub fn recorded_changes_are_within_the_limits()
         → (length es ≤ 2000000) × All (λ e. e.before ≤ 4294967295) es × All (λ e. e.after ≤ 4294967295) es }
 {}
 
-/// What an edit makes of the collection at the cursor it makes of the one that the bag holds, by the changes that were done.
+/// An edit makes the same of the bag's collection and the changes done as of the history at its cursor.
 pub fn edits_read_what_stands()
     ensures { (s : State) (edit : Edit)
         → IsStore s
@@ -168,7 +168,7 @@ pub fn revert_leaves_a_change_out()
         ≡ pos (count_in (first_collection s) pair) +ℤ gain_along (without_numbered number s.done) pair }
 {}
 
-/// Memory aside, a store takes a change back exactly if its journal has room, a change with the number stands, no count would be below 0,
+/// Memory aside, a store takes a change back exactly if its journal has room, a change has the number, no count would be below 0,
 /// and what is left is within the limits.
 pub fn standing_changes_can_be_taken_back()
     ensures { (s : State) (number : ℕ)
@@ -182,8 +182,8 @@ pub fn standing_changes_can_be_taken_back()
         × (length left ≤ pairs_limit s.bag.limits)) }
 {}
 
-/// A store refuses a `Revert` for no label, for no copies that aren't held, for no level, and never because nothing would
-/// change; and no other edit for a change that doesn't stand or a count below 0.
+/// A store never refuses a `Revert` with `NoSuchLabel`, `NotHeld`, `TooFine` or `NoChange`, and no other edit with `NoSuchChange` or
+/// `BelowZero`.
 pub fn reverts_have_refusals_of_their_own()
     ensures revert { (s : State) (number : ℕ)
         → IsStore s
@@ -196,7 +196,7 @@ pub fn reverts_have_refusals_of_their_own()
 
 /// A store never refuses a `Remove`, a `DropLabel` or a `Normalise` for a count or a number of pairs above the limit, nor a `Relabel` for a
 /// number of pairs, nor a `Grow` for a count: the first three leave no more copies or pairs than the limits allow anyway, `Relabel` no
-/// more pairs, and `Grow` gives first copies alone.
+/// more pairs, and `Grow` gives only first copies.
 pub fn lesser_edits_pass_no_limit()
     ensures remove { (s : State) (pair : Pair) (copies : ℕ)
         → IsStore s
@@ -227,7 +227,7 @@ pub fn dropped_labels_change_something()
 {}
 
 /// Each step of a store is the step of its history: an edit goes on to the edited collection, undo goes back by one,
-/// redo on by one, and forget keeps the collection at the cursor alone.
+/// redo on by one, and forget keeps only the collection at the cursor.
 pub fn steps_follow_the_history()
     ensures edit { (s : State) (edit : Edit)
         → IsStore s

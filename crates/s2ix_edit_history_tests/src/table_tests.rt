@@ -7,7 +7,7 @@ use s2ix_table::RangeTable;
 use s2ix_table_samples::{Row, has_ranges, meets};
 use std::alloc::Global;
 
-// Steps with their answers, and how many ranges the table has behind each.
+// Steps with their answers, and how many ranges the table has after each.
 const COUNTS: [(&str, &str, usize); 5] = [
     ("add 1:7:1", "1", 2),
     ("add 04:9:1", "1", 3),
@@ -23,7 +23,7 @@ fn ranges_of_copy(alloc: Global, store: &Store) -> Option<usize> {
     Some(copy.table().range_count())
 }
 
-// Carries the steps out, and tells behind which the number of ranges is first another one.
+// Carries the steps out, and tells after which the number of ranges is first another one.
 fn first_other_count(alloc: Global, store: &mut Store) -> Option<&'static str> {
     for &(step, answer, count) in &COUNTS {
         if !answers(alloc, store, step, answer) || store.table().range_count() != count {
@@ -42,7 +42,7 @@ fn the_table_follows_the_bag(rt: HostRuntime) {
     assert!(rt; ranges_of_copy(rt.alloc(), &store) == Some(3));
 }
 
-// A step, the ranges of the table behind it, and the pairs that meet the first leaf.
+// A step, the ranges of the table after it, and the pairs that meet the first leaf.
 const TABLES: [(&str, &[Row], &str); 3] = [
     (
         "add 1:7:1",
@@ -65,7 +65,7 @@ const TABLES: [(&str, &[Row], &str); 3] = [
     ),
 ];
 
-// Carries the steps out, and tells behind which the table is first another one.
+// Carries the steps out, and tells after which the table is first another one.
 fn first_other_table(alloc: Global, store: &mut Store, target: &CellUnion) -> Option<&'static str> {
     for &(step, rows, pairs) in &TABLES {
         let holds = answers(alloc, store, step, "1") && has_ranges(store.table(), rows);

@@ -28,7 +28,7 @@ changes_along (hs ∷ rest) = changes_from hs rest
 abbrev pub standing : History → List (List Entry)
 standing h = take h.cursor (changes_along h.collections)
 
--- the history after an edit: what lies behind the cursor is cut, and the cursor goes on to the new collection
+-- the history after an edit: what lies after the cursor is cut, and the cursor goes on to the new collection
 abbrev pub with_next : History → Collection → History
 with_next h hs = record { collections = take (h.cursor + 1) h.collections ++ hs ∷ []; cursor = h.cursor + 1 }
 

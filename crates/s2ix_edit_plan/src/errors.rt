@@ -13,13 +13,13 @@ pub enum EditError {
     #[error("no pair of the label is held")]
     NoSuchLabel,
     /// Fewer copies are held than the edit takes.
-    #[error("fewer copies are held")]
+    #[error("too few copies are held")]
     NotHeld,
     /// The level is above 30, or more than 8 above the level of a cell of the label.
     #[error("the level is too fine")]
     TooFine,
     /// Fewer changes than the number can be undone, or the number is 0.
-    #[error("no change with the number stands")]
+    #[error("no change has the number")]
     NoSuchChange,
     /// A count would be below 0.
     #[error("a count would be below 0")]

@@ -1,4 +1,4 @@
-//! Laws: functions that do nothing, and whose contracts are facts on the definitions.
+//! Laws: functions that do nothing; their contracts state facts about definitions.
 ghost use Rattle.std.specs.Prelude.{◌≡◌, ◌≢◌, ◌↔◌, IsTrue, ℕ, ◌+◌, ◌-◌, pos, ◌-ℤ◌, true, false, Some, [], List, Contains};
 ghost use Rattle.s2id_core.specs.declared.cell_id.CellId.{CellId};
 ghost use Rattle.s2id_union.specs.Region.{HaveSameRegion, IsNormal};
@@ -24,7 +24,7 @@ ghost use Rattle.s2ix_edit_plan.specs.declared.errors.UndoError.{UndoError};
 use crate::edit::Edit;
 use crate::errors::{EditError, RedoError, UndoError};
 
-/// Two edits are equal exactly if they are one.
+/// Two edits are equal exactly if they are the same.
 pub fn equal_edits_are_one()
     ensures { (a b : Edit) → IsTrue (⟦<Edit as PartialEq>⟧.eq a b) ↔ (a ≡ b) }
 {}
@@ -166,7 +166,7 @@ pub fn normalise_leaves_a_copy_each()
         → region_of label (edited_alone (Normalise label) hs) ≡ region_of label hs }
 {}
 
-/// Two errors are equal exactly if they are one.
+/// Two errors are equal exactly if they are the same.
 pub fn equal_errors_are_one()
     ensures edit { (a b : EditError) → IsTrue (⟦<EditError as PartialEq>⟧.eq a b) ↔ (a ≡ b) }
     ensures undo { (a b : UndoError) → IsTrue (⟦<UndoError as PartialEq>⟧.eq a b) ↔ (a ≡ b) }

@@ -76,7 +76,7 @@ fn stands_at(store: &Store, wanted: &str) -> Option<bool> {
     Some(holds_pairs(store.bag(), pairs) && has_history(store, history)?)
 }
 
-// Carries a row's step out. Whether its answer and what the store has behind it are the row's.
+// Carries a row's step out. Whether its answer and what the store has after it are the row's.
 fn follows(alloc: Global, store: &mut Store, row: &str) -> Option<bool> {
     let (step, wanted) = row.split_once(" = ")?;
     let (answer, wanted) = wanted.split_once(" |")?;

@@ -124,7 +124,7 @@ const FACES: [(&str, u8); 9] = [
     ("add 5:2:1", 1),
 ];
 
-// Carries the steps out, and tells behind which another number of faces is counted first.
+// Carries the steps out, and tells after which another number of faces is counted first.
 fn first_other_faces(alloc: Global, store: &mut Store) -> Option<&'static str> {
     for &(step, faces) in &FACES {
         if answer_of(alloc, store, step).is_none() || store.faces_rebuilt() != faces {

@@ -55,7 +55,7 @@ moved_past start old new behind place le =
     cond-false (ltb place start) place (min place (start + (old + behind)) - old + new) (le-ltb place start (omega arith))
     ∙ (let f : min place (start + (old + behind)) - old + new ≡ start + (new + behind) = omega arith in f)
 
--- how far a place lies behind a block
+-- how far a place lies after a block
 pub behind_by : (start len place : ℕ) → start + len ≤ place → place ≡ start + (len + (place - (start + len)))
 behind_by start len place le = omega arith
 
@@ -131,7 +131,7 @@ chain_beside cell before old new behind b c place beside =
 
 -- ---- chains from within the block
 
--- they are those in the block, and behind them what lies around
+-- they are those in the block, and after them what lies around
 pub chain_within : (cell : CellId) (before block behind : Collection) → IsBlock cell before block behind → (k : ℕ) → k < length block
     → chain_of (before ++ (block ++ behind)) (length before + k) ≡ chain_of block k ++ around cell before behind
 unfolding chain_of
@@ -206,7 +206,7 @@ leads_beside cell before block behind outer b leads place next beside to lt =
 
 -- ---- the way out of the block
 
--- the chain from a place is some pairs of the block, and behind them what lies around
+-- the chain from a place is some pairs of the block, and after them what lies around
 pub record LeadsAround (cell : CellId) (before block behind : Collection) (place : ℕ) : Type 0 where
   pub inner : Collection
   pub chain : chain_of (before ++ (block ++ behind)) place ≡ inner ++ around cell before behind

@@ -203,7 +203,7 @@ pub contents_beside : (cell : CellId) (before old new behind : Collection) → I
 contents_beside cell before old new behind b c q beside =
     contents_around cell before new behind c q beside ∙ sym (contents_around cell before old behind b q beside)
 
--- within the cell they are those of the block, and behind them what lies around
+-- within the cell they are those of the block, and after them what lies around
 pub contents_within : (cell : CellId) (before block behind : Collection) → IsBlock cell before block behind → (q : ℕ) → first_of cell ≤ q
     → q < end_of cell → contents_at q (before ++ (block ++ behind)) ≡ contents_at q block ++ around cell before behind
 unfolding contents_at

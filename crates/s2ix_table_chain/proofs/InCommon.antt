@@ -20,7 +20,7 @@ one_more_at_end xs ys k x y less less_too is is_too same end =
     (ap (λ n. drop n ys) next_too ∙ end ∙ sym (ap (λ n. drop n xs) next))
     ∙ sym (drop_more xs (length xs - 1 - k) x (omega arith)) ∙ sym (ap (λ n. drop n xs) at)
 
--- one more number of a list, as a function makes it, behind others
+-- one more number of a list, as a function makes it, after others
 pub mapped_more : (f : ℕ → ℕ) (old done xs : List ℕ) (k d : ℕ) → k < length xs → done ≡ old ++ map f (take k xs)
     → done ++ f (get_or xs k d) ∷ [] ≡ old ++ map f (take (k + 1) xs)
 mapped_more f old done xs k d lt is =

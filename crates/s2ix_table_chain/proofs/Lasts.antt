@@ -12,7 +12,7 @@ use Rattle.s2ix_table_chain.specs.Pass.{Progress}
 use Rattle.s2ix_table_chain.proofs.Chains.{chain_none}
 use Rattle.s2ix_table_chain.proofs.Passing.{IsPassing, popped_chain, contains_at}
 
--- the last numbers in the cells of a chain, the innermost at its length, behind one that stands for none: no bound lies behind it
+-- the last numbers in the cells of a chain, the innermost at its length, after one that stands for none: no bound lies after it
 pub record AreLasts (held chain : Collection) (depth : ℕ) (lasts : List ℕ) : Type 0 where
   pub room : length lasts ≡ length held + 1
   pub depth_is : depth ≡ length chain
@@ -35,7 +35,7 @@ pub record IsEndBy (held : Collection) (place bound end : ℕ) : Type 0 where
   pub by : end ≤ bound
   pub is : (h : Held) → slice_get held place ≡ Some h → end_of h.pair.cell ≡ end
 
--- the cell of a place, if it is one, ends behind a bound
+-- the cell of a place, if it is one, ends after a bound
 abbrev pub EndsBehind : Collection → ℕ → ℕ → Type 0
 EndsBehind held place bound = (h : Held) → slice_get held place ≡ Some h → bound < end_of h.pair.cell
 
@@ -73,7 +73,7 @@ last_below held from to last room bound depth outer lasts s passes size l fits b
           omega arith)
     ]
 
--- where it is not, that cell ends behind the bound
+-- where it is not, that cell ends after the bound
 pub last_behind : (held : Collection) (from to last room bound depth : ℕ) (outer lasts : List ℕ) (s : Progress)
     → IsPassing held from to last room outer s → length outer ≡ length held → AreLasts held (chain_of held s.top) depth lasts
     → bound ≤ get_or lasts depth 0 → EndsBehind held s.top bound

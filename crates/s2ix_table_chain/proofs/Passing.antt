@@ -24,7 +24,7 @@ use Rattle.s2ix_table_chain.proofs.Ranges.{row_from, ranges_push}
 pub contains_at : (held : Collection) (place : ℕ) (h : Held) → slice_get held place ≡ Some h → Contains held h
 contains_at held place h is = (place, slice_get_within held place h is, get_or_from_slice_get held place h h is)
 
--- the cells that begin by a key of the sweep and end behind a leaf are on the chain from a place, and no others
+-- the cells that begin by a key of the sweep and end after a leaf are on the chain from a place, and no others
 pub record IsOpen (held : Collection) (last at top : ℕ) : Type 0 where
   pub begun : (h : Held) → Contains held h → sweep_key h ≤ last → first_of h.pair.cell ≤ at
   pub still : (h : Held) → Contains held h → sweep_key h ≤ last → at < end_of h.pair.cell → is_on_chain held top h ≡ true

@@ -14,7 +14,7 @@ length_ranges held (s ∷ ss) to = ap suc (length_ranges held ss to)
 abbrev pub row_from : Collection → ℕ → ℕ → Range
 row_from held start limit = record { start = start; limit = limit; contents = contents_at start held }
 
--- starts one behind the other
+-- starts one after the other
 pub ranges_append : (held : Collection) (starts more : List ℕ) (to : ℕ)
     → ranges_from held (starts ++ more) to ≡ ranges_from held starts (get_or more 0 to) ++ ranges_from held more to
 ranges_append held [] more to = refl

@@ -100,7 +100,7 @@ table_some held from to ranges t =
     let last = t.last k (omega arith) in
     omega arith
 
--- between two bounds the ranges are those of the pairs there, with what lies over all leaves between them behind each; beside them they stay
+-- between two bounds the ranges are those of the pairs there, with what lies over all leaves between them after each; beside them they stay
 pub table_spliced : (old new held over : Collection) (from a b to : ℕ) (s1 s2 s3 starts : List ℕ)
     → IsTableOver old from to (ranges_from old (s1 ++ (s2 ++ s3)) to) → IsTableOver new a b (ranges_from new starts b) → from ≤ a → b ≤ to
     → slice_index_or (s2 ++ s3) 0 to ≡ a → slice_index_or s3 0 to ≡ b
@@ -205,7 +205,7 @@ starts_split held from to starts k t lt =
 
 -- ---- starts in place of those from one place up to another
 
--- starts do not fall with their places, behind the last of which comes the end of the span
+-- starts do not fall with their places, after the last of which comes the end of the span
 starts_up : (held : Collection) (from to : ℕ) (starts : List ℕ) (k j : ℕ) → IsTableOver held from to (ranges_from held starts to) → k < j
     → slice_index_or starts k to ≤ slice_index_or starts j to
 starts_up held from to starts k j t lt =

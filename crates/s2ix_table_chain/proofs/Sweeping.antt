@@ -97,7 +97,7 @@ next_is held order from to k o span within =
           })
     ]
 
--- and what is on the chain ends behind a bound where its innermost cell does
+-- and what is on the chain ends after a bound where its innermost cell does
 pub ends_behind : (held : Collection) (top bound : ℕ) (h : Held) → EndsBehind held top bound → is_on_chain held top h ≡ true
     → bound < end_of h.pair.cell
 ends_behind held top bound h behind on =

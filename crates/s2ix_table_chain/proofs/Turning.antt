@@ -145,7 +145,7 @@ taken_off held order from to k depth bound next lasts old mid o span way is_boun
 
 -- ---- a cell is put on
 
--- where it is not, that cell ends behind the bound
+-- where it is not, that cell ends after the bound
 ends_after : (held : Collection) (order : List ℕ) (from to k depth bound : ℕ) (lasts : List ℕ) (pass : Pass)
     → IsOnWay held order from to k depth lasts pass → bound ≤ get_or lasts depth 0 → EndsBehind held pass.frontier.top bound
 ends_after held order from to k depth bound lasts pass way above =

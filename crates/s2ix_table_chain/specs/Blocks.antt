@@ -1,4 +1,4 @@
--- Blocks of a collection: the pairs within one cell stand one behind the other.
+-- Blocks of a collection: the pairs within one cell stand one after the other.
 use Rattle.std.specs.Prelude.{◌≡◌, ◌⊎◌, ℕ, ◌+◌, ◌-◌, ◌<◌, ◌≤◌, nat_lt, min, if◌then◌else◌, List, ◌++◌, length, take, drop, map, slice_index_or, Contains}
 use Rattle.s2id_core.specs.CellId.{raw_of, first_of, end_of}
 use Rattle.s2id_core.specs.declared.cell_id.CellId.{CellId}
@@ -25,7 +25,7 @@ AreWithin cell pairs = (h : Held) → Contains pairs h → (first_of cell ≤ ra
 abbrev pub IsBeside : ℕ → ℕ → ℕ → Type 0
 IsBeside start len place = (place < start) ⊎ (start + len ≤ place)
 
--- where a place beside a block is, once `new` pairs replace `old` ones; a place behind all `count` pairs is just behind them then
+-- where a place beside a block is, once `new` pairs replace `old` ones; a place after all `count` pairs is just after them then
 abbrev pub moved : ℕ → ℕ → ℕ → ℕ → ℕ → ℕ
 moved start old new count place = if nat_lt place start then place else min place count - old + new
 

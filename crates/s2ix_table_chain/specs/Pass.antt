@@ -24,7 +24,7 @@ progress_of pass = record {
 abbrev pub with_frontier : Frontier → Pass → Pass
 with_frontier frontier pass = record { outer = pass.outer; starts = pass.starts; firsts = pass.firsts; frontier = frontier }
 
--- the range up to a bound is written, and the sweep stands at the bound; where it stands there or behind it, nothing changes
+-- the range up to a bound is written, and the sweep stands at the bound; where it stands there or after it, nothing changes
 abbrev pub written : ℕ → Progress → Progress
 written bound s =
     if nat_lt s.at bound then record { count = s.count + 1; at = bound; top = s.top; starts = s.starts ++ s.at ∷ []; firsts = s.firsts ++ s.top ∷ [] }

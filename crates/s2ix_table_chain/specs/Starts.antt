@@ -10,7 +10,7 @@ ranges_from held [] to = []
 ranges_from held (start ∷ starts) to =
     record { start = start; limit = slice_index_or starts 0 to; contents = contents_at start held } ∷ ranges_from held starts to
 
--- a start by a leaf, whose next one, if there is one, is behind the leaf
+-- a start by a leaf, whose next one, if there is one, is after the leaf
 pub record IsLastStart (starts : List ℕ) (leaf k : ℕ) : Type 0 where
   pub within : k < length starts
   pub by : slice_index_or starts k 0 ≤ leaf

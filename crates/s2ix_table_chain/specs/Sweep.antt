@@ -28,7 +28,7 @@ pub record IsSwept (held : Collection) (from to : ℕ) (pass : Pass) : Type 0 wh
   pub starts_room : length pass.starts.items ≡ 2 * length held + 1
   pub firsts_room : length pass.firsts.items ≡ 2 * length held + 1
 
--- where the k-th place of an order begins, and behind the last the end of the span
+-- where the k-th place of an order begins, and after the last the end of the span
 abbrev pub start_at : Collection → List ℕ → ℕ → ℕ → ℕ
 start_at held order to k = unwrap_or (option_map (begin_at held) (slice_get order k)) to
 

@@ -30,7 +30,7 @@ impl Block {
         self.start <= place && place < self.start + self.old
     }
 
-    // Where a place beside the block is once the new pairs stand there. What is behind all places stays so.
+    // Where a place beside the block is once the new pairs stand there. What is after all places stays so.
     #[inline]
     pub(crate) fn moved(self, place: u32) -> u32
         requires fits { self.start + self.old ≤ self.count }
@@ -101,7 +101,7 @@ fn common_front(held: &[FlatHeld], next: &[FlatHeld]) -> usize
     front
 }
 
-// How many pairs are the same at the end, of those behind the first ones.
+// How many pairs are the same at the end, of those after the first ones.
 fn common_end(held: &[FlatHeld], next: &[FlatHeld], front: usize) -> usize
     requires held { front ≤ length held.now }
     requires next { front ≤ length next.now }

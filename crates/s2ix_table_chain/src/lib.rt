@@ -1,7 +1,7 @@
 //! Range tables whose chains are shared: one node for each held pair, which all ranges over its cell use.
 //!
-//! A [`SpanTable`] has the ranges over one span of leaves, a [`ChainTable`] those over all leaves. That a pair has one place in a table over
-//! all leaves is the law of [`SharesChains`].
+//! A [`SpanTable`] has the ranges over one span of leaves, a [`ChainTable`] those over all leaves. By the law of [`SharesChains`] a pair
+//! has one place in a table over all leaves.
 #![tactic(auto)]
 
 mod block;

@@ -23,7 +23,7 @@ pub(crate) struct Pass {
 impl Pass {
     ghost use Rattle.s2ix_table_chain.specs.Pass.{IsWritten, with_frontier};
 
-    // Writes the range from where a sweep stands up to a bound, unless it has no leaf; where the sweep stands then. The place behind the
+    // Writes the range from where a sweep stands up to a bound, unless it has no leaf; where the sweep stands then. The place after the
     // ranges is written in either case and counted where the range has a leaf, so that no branch depends on it.
     pub(crate) fn write_until(&mut self, frontier: Frontier, bound: u64) -> Frontier
         requires starts { frontier.count < length self.old.starts.items }

@@ -8,7 +8,7 @@ use s2ix_table_walk::{SAMPLE_STEP, Window};
 // Of more starts than this, most that a search reads are out of the processor's near cache.
 const FAR: usize = 4096;
 
-// The last of rising starts that is not behind a leaf. O(log n). Of few starts, no branch depends on a start; of more, each does, so
+// The last of rising starts that is not after a leaf. O(log n). Of few starts, no branch depends on a start; of more, each does, so
 // that the processor asks for the next start before it knows this one. It is not inlined, so that a caller's iterator is.
 #[inline(never)]
 pub(crate) fn last_start(starts: &[u64], sample: &[u64], leaf: u64) -> usize
@@ -55,7 +55,7 @@ fn sampled(starts: &[u64], sample: &[u64], leaf: u64) -> Window
     }
 }
 
-// The last of rising starts that is not behind a leaf, if it is among some of them.
+// The last of rising starts that is not after a leaf, if it is among some of them.
 #[inline(always)]
 fn far_last(starts: &[u64], leaf: u64, among: Window) -> usize
     requires rises { AllPairs (λ a b. a < b) starts.now }
@@ -74,7 +74,7 @@ fn far_last(starts: &[u64], leaf: u64, among: Window) -> usize
     first
 }
 
-// The last of few rising starts that is not behind a leaf.
+// The last of few rising starts that is not after a leaf.
 #[inline(always)]
 fn near_last(starts: &[u64], leaf: u64) -> usize
     requires some { 0 < length starts.now }
@@ -93,7 +93,7 @@ fn near_last(starts: &[u64], leaf: u64) -> usize
     first
 }
 
-// 1 if an odd start is not behind a leaf, else 0, as the sign of what lies between them.
+// 1 if an odd start is not after a leaf, else 0, as the sign of what lies between them.
 #[inline(always)]
 fn reached(start: u64, leaf: u64) -> usize
     requires { start % 2 ≡ 1 }

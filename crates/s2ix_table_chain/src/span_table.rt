@@ -65,9 +65,9 @@ impl SpanTable {
         SpanTable::with_nodes(alloc, held, nodes, from, to)
     }
 
-    /// The table of these pairs over the same span, as [`over`](SpanTable::over) makes it, but quicker if most of them are this table's: if
-    /// a cell that both hold has all pairs in which they differ, only that cell's leaves are swept, and the rest is copied. O(n) for n pairs
-    /// in both. `OutOfMemory` if a growth is refused.
+    /// The table of these pairs over the same span, as [`over`](SpanTable::over) makes it, but quicker if most pairs are this table's: if
+    /// all pairs that differ lie in one cell that both hold, it sweeps only that cell and copies the rest. O(n) for n pairs in both.
+    /// `OutOfMemory` if a growth is refused.
     pub fn after(&self, alloc: Global, held: HeldList) -> Result<SpanTable, OutOfMemory>
         requires rises { IsCollection held }
         requires few { length held ≤ 1000000 }

@@ -251,7 +251,7 @@ fn push_placed(
     Ok(())
 }
 
-// Three lists of starts, one behind the other.
+// Three lists of starts, one after the other.
 fn joined_starts(
     alloc: Global,
     front: &[u64],

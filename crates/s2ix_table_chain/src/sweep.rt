@@ -46,7 +46,7 @@ pub(crate) fn sweep_span(
 }
 
 // Goes over the leaves up to `to`: a cell is taken off where it ends, and put on where it begins. The last numbers in the open cells are
-// kept beside the chain, behind one that stands for none: no bound lies behind it.
+// kept beside the chain, after one that stands for none: no bound lies after it.
 fn sweep(held: &[FlatHeld], order: &[u32], pass: &mut Pass, lasts: &mut [u64], to: u64)
     requires rises { IsCollection held.now }
     requires few { length held.now ≤ 1000000 }

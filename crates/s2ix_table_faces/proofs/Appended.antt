@@ -1,4 +1,4 @@
--- What lies over a leaf, of one collection behind another.
+-- What lies over a leaf, of one collection after another.
 use Rattle.std.proofs.Common.{◌≡◌, ℕ, ◌+◌, ◌*◌, ◌<◌, ◌≤◌, inl, inr, Bool, false, [], ◌∷◌, ◌++◌, refl, sym, ◌∙◌, ap, arith, Contains}
 use Rattle.std.proofs.lemmas.Bool.{cases_Bool}
 use Rattle.s2id_core.specs.CellId.{raw_of, first_of, end_of}

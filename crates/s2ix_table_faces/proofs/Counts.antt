@@ -1,4 +1,4 @@
--- The ranges behind the first one at each seat.
+-- The ranges after the first one at each seat.
 use Rattle.std.proofs.Common.{◌≡◌, ℕ, zero, suc, ◌+◌, ◌-◌, ◌%◌, ◌<◌, ◌≤◌, inl, inr, List, [], ◌∷◌, length, get_or, slice_index_or, refl, sym, ◌∙◌, ap, arith, add-one, subst}
 use Rattle.std.proofs.lemmas.Bool.{cases_lt}
 use Rattle.std.proofs.lemmas.List.{get_or-map, length-map, get_or_past, get_or_default}
@@ -78,7 +78,7 @@ ends_within tables seats count f are lt =
       | inr past ↦ (let none : high_of seats f count ≡ count = get_or_past (places_of seats) (suc f) count (omega arith) in omega arith)
     ]
 
--- a range among those behind the first one at a seat: the seat is the last one that is not behind it, nor behind the next one
+-- a range among those after the first one at a seat: the seat is the last one that is not after it, nor after the next one
 pub record IsInner (seats : List Seat) (count k face past : ℕ) : Type 0 where
   pub own : HasOwn seats count face (past + 1)
   pub next : HasOwn seats count face (past + 1 + 1)
@@ -121,7 +121,7 @@ inner_near tables seats behind inner count k face past are lt fits is less =
       place = omega arith;
     }
 
--- a range by the last seat that is not behind it, and its place from there
+-- a range by the last seat that is not after it, and its place from there
 pub record IsOwnOf (seats : List Seat) (count k face own : ℕ) : Type 0 where
   pub from : (get_or seats face no_seat).place ≤ k
   pub has : HasOwn seats count face own
@@ -141,7 +141,7 @@ own_of tables seats count k face are lt last within =
       place = place;
     }
 
--- the place behind the first range at a seat
+-- the place after the first range at a seat
 pub behind_place : (tables : List SpanRanges) (seats : List Seat) (behind inner : List ℕ) (count f : ℕ)
     → AreCounted tables seats behind inner count → f < 6 → get_or behind f 0 ≡ (get_or seats f no_seat).place + 1
 behind_place tables seats behind inner count f are lt =
@@ -158,7 +158,7 @@ next_start tables seats count j k are next lt =
     let counted = are.counted in
     sym ((joined_table 1 tables leaf_end (omega arith) are.neighbours).next j k next (omega arith))
 
--- a range behind the first one of a face ends where the next one of the face begins
+-- a range after the first one of a face ends where the next one of the face begins
 pub ends_by_next : (tables : List SpanRanges) (seats : List Seat) (count face own : ℕ) → AreJoined tables seats count
     → HasOwn seats count face (own + 1)
     → (range_at (table_of tables face).ranges (own + 1)).start ≡ (range_at (joined_ranges tables) (place_on seats face own)).limit

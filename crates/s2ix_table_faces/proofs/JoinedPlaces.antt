@@ -101,7 +101,7 @@ joined_two (r ∷ t ∷ rs) ys (suc p) e some apart =
     front same zero lt = refl
     front same (suc k) lt = same k (omega arith)
 
--- ---- the first range, and none behind
+-- ---- the first range, and none after
 
 pub joined_nil : (xs : List Range) → put_before xs [] ≡ xs
 joined_nil [] = refl

@@ -13,7 +13,7 @@ use Rattle.s2ix_table_faces.specs.Joined.{held_in, AreNeighbours}
 use Rattle.s2ix_table_faces.proofs.AllFaces.{six_parts}
 use Rattle.s2ix_table_faces.proofs.InSpans.{cell_on_face}
 
--- one face begins by the end of another and ends behind its begin
+-- one face begins by the end of another and ends after its begin
 same_face : (f g first end : ℕ) → face_begin f ≤ first → end ≤ face_begin (f + 1) → first < end → face_begin g ≤ first
     → end ≤ face_begin (g + 1) → g ≡ f
 same_face f g first end a b c d e = omega arith

@@ -1,4 +1,4 @@
--- The last of six places that is not behind another.
+-- The last of six places that is not after another.
 use Rattle.std.proofs.Common.{◌≡◌, ℕ, ◌+◌, ◌<◌, ◌≤◌, ◌⊎◌, inl, inr, List, length, slice_index_or, arith, subst}
 use Rattle.std.proofs.lemmas.Bool.{cases_lt}
 use Rattle.s2ix_table_chain.specs.Starts.{IsLastStart}

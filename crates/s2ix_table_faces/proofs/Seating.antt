@@ -14,7 +14,7 @@ pub record IsSeated (whole rest : List Range) (seat : Seat) : Type 0 where
   pub by : seat.start ≤ (range_at rest 0).start
   pub later : (k : ℕ) → 0 < k → k < length rest → range_at whole (seat.place + k) ≡ range_at rest k
 
--- the ranges of one table among others, from a seat on: the first may begin before, and one at `high` or behind may end behind
+-- the ranges of one table among others, from a seat on: the first may begin before, and one at `high` or after may end after
 pub record IsPart (whole part : List Range) (seat : Seat) (high : ℕ) : Type 0 where
   pub some : 0 < length part
   pub above : seat.place ≤ high

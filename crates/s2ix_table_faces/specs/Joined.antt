@@ -25,7 +25,7 @@ put_before (r ∷ t ∷ rs) ss = r ∷ put_before (t ∷ rs) ss
 abbrev pub held_in : List SpanRanges → Collection
 held_in tables = flat_map (λ t. t.held) tables
 
--- the ranges of some tables, one behind the other
+-- the ranges of some tables, one after the other
 unfoldable pub joined_ranges : List SpanRanges → List Range
 joined_ranges [] = []
 joined_ranges (t ∷ ts) = put_before t.ranges (joined_ranges ts)

@@ -38,7 +38,7 @@ places_of seats = map (λ (s : Seat). s.place) seats
 abbrev pub place_on : List Seat → ℕ → ℕ → ℕ
 place_on seats face own = slice_index_or (places_of seats) face 0 + own
 
--- a face, 0 to 5, has one of `count` ranges at a place of its own: the face's seat is the last one that is not behind the range
+-- a face, 0 to 5, has one of `count` ranges at a place of its own: the face's seat is the last one that is not after the range
 pub record HasOwn (seats : List Seat) (count face own : ℕ) : Type 0 where
   pub six : face < 6
   pub last : IsLastStart (places_of seats) (place_on seats face own) face
@@ -49,7 +49,7 @@ pub record AreInOrder (seats : List Seat) : Type 0 where
   pub six : length seats ≡ 6
   pub rise : (i j : ℕ) → j ≡ suc i → j < 6 → slice_index_or (places_of seats) i 0 ≤ slice_index_or (places_of seats) j 0
 
--- at each of six seats: the place behind its first range, and how many of `count` ranges are there before the last one up to the next seat,
+-- at each of six seats: the place after its first range, and how many of `count` ranges are there before the last one up to the next seat,
 -- if any
 pub record AreInner (seats : List Seat) (behind inner : List ℕ) (count : ℕ) : Type 0 where
   pub six_behind : length behind ≡ 6

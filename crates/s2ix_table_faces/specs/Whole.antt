@@ -16,7 +16,7 @@ pub record AreJoined (tables : List SpanRanges) (seats : List Seat) (count : ℕ
   pub counted : count ≡ length (joined_ranges tables)
   pub few : count ≤ 12000006
 
--- the same, with the ranges behind the first one at each seat
+-- the same, with the ranges after the first one at each seat
 pub record AreCounted (tables : List SpanRanges) (seats : List Seat) (behind inner : List ℕ) (count : ℕ) : Type 0 where
   pub joined : AreJoined tables seats count
   pub counted : AreInner seats behind inner count

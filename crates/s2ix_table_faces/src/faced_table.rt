@@ -35,7 +35,7 @@ use std::rc::Rc;
 pub struct FacedTable {
     tables: [Rc<SpanTable>; FACES],
     seats: [Seat; FACES],
-    // for each face the place behind that of its first range, and how many ranges are from there up to before its last one
+    // for each face the place after that of its first range, and how many ranges are from there up to before its last one
     behind: [usize; FACES],
     inner: [usize; FACES],
     // how many ranges there are on all faces
@@ -88,7 +88,7 @@ impl RangeTable for FacedTable {
         }
     }
 
-    // The ranges over the face but for the first one, which may begin before it, and the last one, which may end behind it. The note is the
+    // The ranges over the face but for the first one, which may begin before it, and the last one, which may end after it. The note is the
     // face.
     #[inline]
     fn stretch(&self, face: u8) -> Stretch<'_> {

@@ -6,7 +6,7 @@ use crate::face_place::FacePlace;
 use crate::faced_table::FacedTable;
 use s2ix_table_queries::RangeTable;
 
-/// Two places are equal exactly if they are one.
+/// Two places are equal exactly if they are the same.
 pub fn equal_places_are_one()
     ensures { (a b : FacePlace) → IsTrue (⟦<FacePlace as PartialEq>⟧.eq a b) ↔ (a ≡ b) }
 {}

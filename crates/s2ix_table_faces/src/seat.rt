@@ -56,7 +56,7 @@ impl Seat {
     }
 }
 
-// The face of a range: that of the last seat whose place is not behind the range's. It takes five tests and no branch.
+// The face of a range: that of the last seat whose place is not after the range's. It takes five tests and no branch.
 #[inline]
 pub(crate) fn seat_by(seats: &[Seat; FACES], k: usize) -> usize
     requires order { AreInOrder seats.now }

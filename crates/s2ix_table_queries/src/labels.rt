@@ -38,7 +38,7 @@ pub(crate) fn gather<T: RangeTable>(
     Ok(labels)
 }
 
-// Puts a label behind those of a list, unless it is found at the place that its slot has.
+// Puts a label after those of a list, unless it is found at the place that its slot has.
 #[inline(always)]
 fn put(label: Label, labels: &mut Vec<Label>, places: &mut Places) -> Result<(), OutOfMemory>
     ensures { OnOk result ((other : LabelHeld)

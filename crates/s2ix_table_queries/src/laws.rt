@@ -1,4 +1,4 @@
-//! Laws: functions that do nothing, and whose contracts are facts on the definitions.
+//! Laws: functions that do nothing; their contracts state facts about definitions.
 ghost use Rattle.std.specs.Prelude.{◌≡◌, ◌↔◌, IsTrue};
 ghost use Rattle.s2ix_table_queries.specs.declared.visit.Visit.{Visit};
 ghost use Rattle.s2ix_table_queries.specs.declared.copied.CopiedPlace.{CopiedPlace};
@@ -9,7 +9,7 @@ use crate::stretch::Stretch;
 use crate::table::RangeTable;
 use crate::visit::Visit;
 
-/// Two answers of counted visits are equal exactly if they are one.
+/// Two answers of counted visits are equal exactly if they are the same.
 pub fn equal_visits_are_one()
     ensures { (a b : Visit) → IsTrue (⟦<Visit as PartialEq>⟧.eq a b) ↔ (a ≡ b) }
 {}
@@ -29,7 +29,7 @@ pub fn cloned_stretches_are_the_same<'a>()
     ensures { (stretch copy : _) → ⟦<Stretch<'a> as Clone>⟧.is_clone stretch copy ↔ (copy ≡ stretch) }
 {}
 
-/// Two places are equal exactly if they are one.
+/// Two places are equal exactly if they are the same.
 pub fn equal_places_are_one()
     ensures { (a b : CopiedPlace) → IsTrue (⟦<CopiedPlace as PartialEq>⟧.eq a b) ↔ (a ≡ b) }
 {}

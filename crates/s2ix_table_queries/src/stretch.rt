@@ -10,7 +10,7 @@ pub struct Stretch<'a> {
     pub first: usize,
     /// How many there are.
     pub count: usize,
-    /// Where each begins, and behind the last one where it ends.
+    /// Where each begins, and after the last one where it ends.
     pub starts: &'a [u64],
     /// Every 16th of the starts: the 16th, the 32nd and so on. None if the table keeps no such list.
     pub sample: &'a [u64],

@@ -56,7 +56,7 @@ pub trait RangeTable: Sized {
         ensures start { result.start ≡ (range_at (ranges self.now) k).start }
         ensures limit { result.limit ≡ (range_at (ranges self.now) k).limit };
 
-    /// A window that has all ranges over a face, 0 to 5: all ranges of the table, if it knows no fewer. O(1).
+    /// A window with all ranges over a face, 0 to 5; by default all ranges of the table. O(1).
     fn window(&self, face: u8) -> Window
         requires { face < 6 }
         ensures { HaveFace (ranges self.now) face result.first result.size }
@@ -82,8 +82,8 @@ pub trait RangeTable: Sized {
         ensures { LeadsTo (chain self.now) result (range_at (ranges self.now) k).contents };
 
     /// The leaves of a range and the place of its innermost pair, as [`range`](RangeTable::range) and [`first`](RangeTable::first) give
-    /// them, and a note for the next call nearby. Any number will do as `note`; the call is quicker if it is the note of a call nearby, or
-    /// that of a stretch that has the range. O(1).
+    /// them, and a note for the next call nearby. Any `note` is accepted; that of a nearby call, or of a stretch that has the range, makes
+    /// the call quicker. O(1).
     fn read_near(&self, k: usize, note: usize) -> (RangeRow, Option<Self::Place>, usize)
         requires { k < length (ranges self.now) }
         ensures start { result.0.start ≡ (range_at (ranges self.now) k).start }

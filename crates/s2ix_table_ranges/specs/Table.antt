@@ -14,7 +14,7 @@ pub record Range : Type 0 where
 abbrev pub range_at : List Range → ℕ → Range
 range_at ranges k = slice_index_or ranges k (record { start = 0; limit = 0; contents = [] })
 
--- the maximal spans of leaves with equal contents, one behind the other, over the leaves from one number up to another
+-- the maximal spans of leaves with equal contents, one after the other, over the leaves from one number up to another
 pub record IsTableOver (held : Collection) (from to : ℕ) (ranges : List Range) : Type 0 where
   pub some : 0 < length ranges
   pub first : (range_at ranges 0).start ≡ from

@@ -1,4 +1,4 @@
-//! Laws: functions that do nothing, and whose contracts are facts on the definitions.
+//! Laws: functions that do nothing; their contracts state facts about definitions.
 ghost use Rattle.std.specs.Prelude.{◌≡◌, ◌↔◌, ℕ, ◌≤◌, Bool, true, IsTrue, List, length};
 ghost use Rattle.s2id_core.specs.declared.cell_id.CellId.{CellId};
 ghost use Rattle.s2id_union.specs.Region.{HaveSameRegion};
@@ -60,7 +60,7 @@ pub fn same_region_meets_the_same()
     ensures { (xs ys : List CellId) (held : Collection) → HaveSameRegion xs ys → meeting_of xs held ≡ meeting_of ys held }
 {}
 
-/// Two ranges' spans are equal exactly if they are one.
+/// Two ranges' spans are equal exactly if they are the same.
 pub fn equal_range_rows_are_one()
     ensures { (a b : RangeRow) → IsTrue (⟦<RangeRow as PartialEq>⟧.eq a b) ↔ (a ≡ b) }
 {}

@@ -1,4 +1,4 @@
--- Blocks of a list, one behind the other.
+-- Blocks of a list, one after the other.
 use Rattle.std.proofs.Common.{◌≡◌, ℕ, ◌+◌, ◌-◌, ◌<◌, ◌≤◌, ◌++◌, length, min, take, drop, sym, ap, ◌∙◌, arith}
 use Rattle.std.proofs.Math.Seq.{take-add}
 use Rattle.std.proofs.lemmas.List.{drop-drop, drop-take, length-drop, length-take-le, take-take}
@@ -16,7 +16,7 @@ of_part hs part before a k within is =
     ∙ take-take k rest (drop a (drop before hs)) (omega arith)
     ∙ ap (λ (xs : Collection). take k xs) (drop-drop a before hs)
 
--- what was taken, and behind it a block of the part that goes on there
+-- what was taken, and after it a block of the part that goes on there
 pub with_block : (hs part : Collection) (from m before a k : ℕ) → before + a ≡ from + m → a + k ≤ length part
     → take (length part) (drop before hs) ≡ part → take m (drop from hs) ++ take k (drop a part) ≡ take (m + k) (drop from hs)
 with_block hs part from m before a k here within is =

@@ -84,7 +84,7 @@ none_of : (n : ℕ) → take n (let none : Collection = [] in none) ≡ []
 none_of zero = refl
 none_of (suc n) = refl
 
--- the pairs of a face are those behind what is before it, and before what is behind it
+-- the pairs of a face are those after what is before it, and before what is after it
 pub held_between : (face a b c : ℕ) (hs : Collection) → b ≡ a + c → AreBelow (face_start face) (take a hs)
     → IsCollectionFrom (face_start face) (drop a hs) → AreBelow (face_start (face + 1)) (take b hs)
     → IsCollectionFrom (face_start (face + 1)) (drop b hs) → take c (drop a hs) ≡ held_on face hs

@@ -39,7 +39,7 @@ part_off : (change : List Entry) (h : Held) (hs : Collection) (face : ℕ) → (
     → part change (h ∷ hs) face ≡ part change hs face
 part_off change h hs face ne = ap (λ (ks : Collection). if has_entry_on change face then length ks else 0) (off_face face h hs ne)
 
--- a pair on a face without an entry, or behind those of the sum, has no part in it
+-- a pair on a face without an entry, or after those of the sum, has no part in it
 sum_off : (change : List Entry) (h : Held) (hs : Collection) (n : ℕ)
     → (has_entry_on change (face_of h.pair.cell) ≡ false) ⊎ (n ≤ face_of h.pair.cell) → sum_below change (h ∷ hs) n ≡ sum_below change hs n
 sum_off change h hs zero off = refl

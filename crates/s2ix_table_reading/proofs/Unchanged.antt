@@ -21,7 +21,7 @@ on_face face h hs e = cond-true _ _ _ (eq-eqb _ _ e)
 pub off_face : (face : ℕ) (h : Held) (hs : Collection) → (face_of h.pair.cell ≡ face → ⊥) → held_on face (h ∷ hs) ≡ held_on face hs
 off_face face h hs ne = cond-false _ _ _ (ne_eqb _ _ ne)
 
--- equal lists stay equal behind a held pair
+-- equal lists stay equal after a held pair
 behind : (face : ℕ) (h : Held) (hs ks : Collection) → held_on face hs ≡ held_on face ks → held_on face (h ∷ hs) ≡ held_on face (h ∷ ks)
 behind face h hs ks same =
     ⊎_elim

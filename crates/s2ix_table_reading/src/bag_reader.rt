@@ -87,7 +87,7 @@ impl PairReader for BagReader<'_> {
 
     fn read(&mut self, k: usize) -> Held {
         self.reads = self.reads.saturating_add(1);
-        // a place before the face at hand is far behind it too
+        // a place before the face at hand is far after it too
         if let Some(held) = self.own.get(k.wrapping_sub(self.before)) {
             return held.held();
         }

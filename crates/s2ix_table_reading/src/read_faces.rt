@@ -61,7 +61,7 @@ pub fn read_face<B: PairReader>(
 }
 
 /// The pairs held on a face, as `read_face` gives them and by as many reads, in a list that others may keep too: of a bag it is the bag's
-/// own. `OutOfMemory` if a growth is refused, or the list is shared too often; then too it has read at most so many.
+/// own. `OutOfMemory` if a growth is refused, or the list is shared too often, after no more reads than that.
 pub fn read_list<B: PairReader>(
     alloc: Global,
     reader: &mut B,
@@ -81,7 +81,7 @@ pub fn read_list<B: PairReader>(
 
 /// For each face, 0 to 5, on which a change has an entry: the pairs held there, in rising order. `None` for the other faces. With p pairs
 /// on those faces and n in all it reads each of the p once and O(log n) more: at most p + 12 * digits(n + 1) reads, for the binary digits
-/// of n + 1. O(m) besides, for m entries. `OutOfMemory` if a growth is refused; then too it has read at most so many.
+/// of n + 1. O(m) besides, for m entries. `OutOfMemory` if a growth is refused, after no more reads than that.
 pub fn read_changed<B: PairReader>(
     alloc: Global,
     reader: &mut B,

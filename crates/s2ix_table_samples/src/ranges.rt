@@ -100,7 +100,7 @@ fn has_range<T: RangeTable, P: Pairs>(table: &T, k: usize, range: RangeRow, pair
         && leads_to(table, range.limit.wrapping_sub(2), k, range, pairs)
 }
 
-// Whether the last leaf leads an iterator back to this range, and no other comes behind it.
+// Whether the last leaf leads an iterator back to this range, and no other comes after it.
 fn leads_back<T: RangeTable>(rows: &mut RangeIter<'_, T>, last: Option<(usize, RangeRow)>) -> bool {
     match CellId::from_raw(LAST_LEAF) {
         Some(leaf) if leaf.level() == 30 => {

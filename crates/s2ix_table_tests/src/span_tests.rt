@@ -29,7 +29,7 @@ fn begins_before(held: &[FlatHeld], from: u64) -> bool
     held.iter().any(|h| h.cell().span_start() < from)
 }
 
-// Whether a held cell ends behind a leaf number.
+// Whether a held cell ends after a leaf number.
 fn ends_behind(held: &[FlatHeld], to: u64) -> bool
     ensures { result ≡ list_any (λ h. nat_lt to (end_of h.pair.cell)) held.now }
 {

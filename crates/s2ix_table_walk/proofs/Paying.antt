@@ -30,7 +30,7 @@ use Rattle.s2ix_table_walk.proofs.WalkSteps.{range_fits, ranges_follow}
 -- ---- what is passed
 
 -- a step over a range that has the first leaf of the target from `seen` on, which is a cell's: to the nearer end of the two, or beyond it,
--- and not beyond the range, which begins at `seen` or behind it
+-- and not beyond the range, which begins at `seen` or after it
 pub record IsPassed (target : List CellId) (ranges : List Range) (x : CellId) (k seen next : ℕ) : Type 0 where
   pub held : Contains target x
   pub beyond : seen < end_of x

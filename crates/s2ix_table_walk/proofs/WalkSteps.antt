@@ -82,7 +82,7 @@ range_fits hs ranges t k lt =
     let bounds = (limit_bounds hs ranges t k lt).1 in
     omega arith
 
--- a range ends before any behind it begins
+-- a range ends before any after it begins
 pub ranges_follow : (hs : Collection) (ranges : List Range) → IsRangeTable hs ranges → (i j : ℕ) → i < j → j < length ranges
     → (range_at ranges i).limit ≤ (range_at ranges j).start
 ranges_follow hs ranges t i j less lt =
@@ -149,7 +149,7 @@ begun_after target k limit last x y follow is b =
           inr (omega arith))
     ]
 
--- behind such a cell the target has no leaf before that limit
+-- after such a cell the target has no leaf before that limit
 behind_last : (target : List CellId) (k limit last : ℕ) (y : CellId) → FollowOneAnother target → IsBegun target k limit last y → (q : ℕ)
     → Covers target q → end_of y ≤ q → limit ≤ q
 behind_last target k limit last y follow b q v le =
@@ -184,7 +184,7 @@ behind_last target k limit last y follow b q v le =
           ]
     ]
 
--- a range with a leaf behind another range begins behind it
+-- a range with a leaf after another range begins after it
 behind_range : (hs : Collection) (ranges : List Range) → IsRangeTable hs ranges → (k i q : ℕ) → k < length ranges
     → (range_at ranges k).limit ≤ q → IsFound ranges i q → (range_at ranges k).limit ≤ (range_at ranges i).start
 behind_range hs ranges t k i q within le found =
@@ -208,11 +208,11 @@ fresh_first hs ranges t k q found =
     let odd = t.odd k found.within in
     omega arith
 
--- where a walk goes on behind a range: at the next one, or where the cell ends before that
+-- where a walk goes on after a range: at the next one, or where the cell ends before that
 abbrev pub GoesOn : ℕ → ℕ → ℕ → ℕ × ℕ → Type 0
 GoesOn range limit end to = ((limit ≤ end) × (to ≡ (range + 1, limit))) ⊎ ((end < limit) × (to ≡ (range, end)))
 
--- a walk goes on behind a range, with the chain of that range at hand
+-- a walk goes on after a range, with the chain of that range at hand
 pub record IsPast {P : Type 0} (shown : Shown P) (target : List CellId) (walk : WalkState P) : Type 0 where
   pub left : meeting_from target walk.from shown.pairs ≡ left_of shown target walk
   pub next : IsWalk shown target walk

@@ -8,7 +8,7 @@ abbrev pub MayVisit : {F : Type 0} → (F → Held → Type 0) → (F → Held �
 MayVisit pre step f [] = Unit {0}
 MayVisit {F} pre step f (h ∷ hs) = pre f h × ((g : F) → step f h true g → MayVisit pre step g hs)
 
--- a closure was called on the first k pairs of a list, in order, up to and with the first answer false; `whole` says
+-- a closure was called on the first k pairs of a list, in order, up to and including the first answer false; `whole` says
 -- whether every answer was true, and then k is the length of the list
 abbrev pub CallsOn : {F : Type 0} → (F → Held → Bool → F → Type 0) → F → Collection → ℕ → Bool → F → Type 0
 CallsOn step f [] k whole last = (k ≡ 0) × (whole ≡ true) × (last ≡ f)

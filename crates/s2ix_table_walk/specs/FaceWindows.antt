@@ -3,11 +3,11 @@ use Rattle.std.specs.Prelude.{◌≡◌, ℕ, ◌+◌, ◌*◌, ◌≤◌, List,
 use Rattle.s2id_core.specs.Span.{face_numbers}
 use Rattle.s2ix_table_ranges.specs.Table.{Range, range_at}
 
--- the number of a face's first leaf; behind the last face that of the end of the leaves
+-- the number of a face's first leaf; after the last face that of the end of the leaves
 abbrev pub face_begin : ℕ → ℕ
 face_begin face = face * face_numbers + 1
 
--- `size` ranges from `first` on begin by the first leaf of a face, and end with its last one or behind it: all ranges over it are among them
+-- `size` ranges from `first` on begin by the first leaf of a face, and end with its last one or after it: all ranges over it are among them
 pub record HaveFace (ranges : List Range) (face first size : ℕ) : Type 0 where
   pub some : 1 ≤ size
   pub within : first + size ≤ length ranges

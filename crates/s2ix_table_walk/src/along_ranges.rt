@@ -20,7 +20,7 @@ struct Link<P> {
     outer: Option<P>,
 }
 
-// The pair at a place, where its cell begins at a leaf or behind it.
+// The pair at a place, where its cell begins at a leaf or after it.
 #[inline(always)]
 fn new_pair<R: Reader>(reader: &mut R, from: u64, place: Option<R::Place>) -> Option<Link<R::Place>>
     requires { (p : R.Place) → place ≡ Some p → IsPlace (R.shown reader.old).chain p }
@@ -141,7 +141,7 @@ fn first_beyond(cells: &[CellId], k: usize, seen: u64) -> usize
 }
 
 // The last cell, from the k-th on, that begins before a leaf: in steps that double, then halve, by the cells' numbers, which are cheaper to
-// tell than where they begin. Then the next cell is tested, which may begin before the leaf though its number is behind it. O(log m) if it
+// tell than where they begin. Then the next cell is tested, which may begin before the leaf though its number is after it. O(log m) if it
 // is the m-th.
 #[inline(always)]
 fn last_begun(cells: &[CellId], k: usize, limit: u64) -> usize

@@ -1,4 +1,4 @@
-//! Laws: functions that do nothing, and whose contracts are facts on the definitions.
+//! Laws: functions that do nothing; their contracts state facts about definitions.
 ghost use Rattle.std.specs.Prelude.{◌≡◌, ◌↔◌, ◌≤◌, ℕ, Bool, true, IsTrue, length};
 ghost use Rattle.s2ix_bag_pairs.specs.Collection.{Collection};
 ghost use Rattle.s2ix_table_walk.specs.Calls.{CallsOn};
@@ -20,7 +20,7 @@ pub fn calls_are_of_the_list<F: FnMut(Held) -> bool>()
     ensures whole { (f last : F) (pairs : Collection) (calls : ℕ) → CallsOn F.step f pairs calls true last → calls ≡ length pairs }
 {}
 
-/// Two costs are equal exactly if they are one.
+/// Two costs are equal exactly if they are the same.
 pub fn equal_costs_are_one()
     ensures { (a b : Cost) → IsTrue (⟦<Cost as PartialEq>⟧.eq a b) ↔ (a ≡ b) }
 {}
@@ -30,7 +30,7 @@ pub fn cloned_costs_are_the_same()
     ensures { (a copy : Cost) → ⟦<Cost as Clone>⟧.is_clone a copy ↔ (copy ≡ a) }
 {}
 
-/// Two windows are equal exactly if they are one.
+/// Two windows are equal exactly if they are the same.
 pub fn equal_windows_are_one()
     ensures { (a b : Window) → IsTrue (⟦<Window as PartialEq>⟧.eq a b) ↔ (a ≡ b) }
 {}

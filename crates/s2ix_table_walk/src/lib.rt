@@ -1,7 +1,7 @@
 //! The one walk that finds what meets a target, over anything that reads a range table, and what it costs.
 //!
-//! A [`Reader`] gives the ranges of a table and the pairs over them, and counts both. [`walk`] finds the meeting list of a target through
-//! it alone, and so does [`Meeting`], its loop as an iterator.
+//! A [`Reader`] gives the ranges of a table and the pairs over them, and counts both. [`walk`] finds a target's meeting list only through a
+//! reader; [`Meeting`] is the same loop as an iterator.
 //!
 //! A walk does not allocate. It begins with a reader that has read nothing, so a reader serves one walk, and then has its cost. That cost
 //! is bounded by what the walk gives, by the ranges that the target meets and by the target's cells: see [`walk`].

@@ -50,7 +50,7 @@ impl<'a, R: Reader> Meeting<'a, R> {
         }
     }
 
-    /// The next pair, or `None` behind the last one. With a pair, the reader has counted at least a probe for each range that the target
+    /// The next pair, or `None` after the last one. With a pair, the reader has counted at least a probe for each range that the target
     /// meets up to the first leaf that it shares with the pair; with `None`, at least one for each range that it meets.
     #[inline(always)]
     pub fn advance(&mut self) -> Option<Held>

@@ -29,7 +29,7 @@ pub trait Reader {
     fn range_count(&self) -> usize
         ensures { result ≡ length (shown self.now).ranges };
 
-    /// Ranges among which are all that lie over a face, 0 to 5: one probe, since it says something of where they begin and end.
+    /// A window with all ranges over a face, 0 to 5: one probe, since it tells where some begin and end.
     fn window(&mut self, face: u8) -> Window
         requires { face < 6 }
         ensures window { HaveFace (shown self.old).ranges face result.first result.size }
@@ -65,7 +65,7 @@ pub trait Reader {
     }
 
     /// A range at most 15 places before the given one, or that one itself. [`sampled_start`](Reader::sampled_start) is quickest at it and
-    /// at every 16th range behind it.
+    /// at every 16th range after it.
     fn sampled_by(&self, k: usize) -> usize
         ensures by { result ≤ k }
         ensures near { k < result + 16 }

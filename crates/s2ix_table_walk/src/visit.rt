@@ -8,8 +8,8 @@ use crate::reader::Reader;
 use s2id_union::CellUnion;
 use s2ix_bag_pairs::Held;
 
-/// Calls `f` on each pair of the target's meeting list, in order, up to and with the first call that answers false, and returns whether
-/// every call answered true (S2's `VisitIntersectingCells()`). It does not allocate. O(k + r + t log n).
+/// Calls `f` on each pair of the target's meeting list, in order, until a call answers false, and returns whether every call answered true
+/// (S2's `VisitIntersectingCells()`). It does not allocate. O(k + r + t log n).
 ///
 /// The reader must have read nothing. Let there be k calls, t cells in the target, n ranges in the table, r of which the target meets, and
 /// d binary digits in n + 1. Then the reader has counted at least k and at most k + r + t looks, and at most t * d + r + t probes. It has

@@ -23,7 +23,7 @@ Differs x byte = byte ≢ x
 first_of : List ℕ → ℕ
 first_of bytes = get_or bytes 0 0
 
--- what stands before the first mark of a text, and what behind it
+-- what stands before the first mark of a text, and what after it
 cut_at : (x : ℕ) (xs ys r s : List ℕ) → All (Differs x) xs → All (Differs x) ys → xs ++ x ∷ r ≡ ys ++ x ∷ s → (xs ≡ ys) × (r ≡ s)
 unfolding first_of
 cut_at x [] [] r s p q e = (refl, ap (drop 1) e)
@@ -95,7 +95,7 @@ one_pair h k r s hc kc same =
 later : Collection → List ℕ
 later hs = flat_map (λ h. codes "," ++ pair_json h) hs
 
--- the pairs behind the first, up to the bracket
+-- the pairs after the first, up to the bracket
 one_later : (hs ks : Collection) (r s : List ℕ) → All IsSmall hs → All IsSmall ks → later hs ++ 93 ∷ r ≡ later ks ++ 93 ∷ s → hs ≡ ks
 unfolding later first_of
 one_later [] [] r s p q same = refl

@@ -1,4 +1,4 @@
-//! Laws: functions that do nothing, and whose contracts are facts on the definitions.
+//! Laws: functions that do nothing; their contracts state facts about definitions.
 ghost use Rattle.s2ix_text_export.specs.Laws.{ExportsTellBagsApart};
 
 /// Two bags with one export hold the same.

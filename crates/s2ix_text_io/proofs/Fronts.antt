@@ -60,7 +60,7 @@ Puts-after old mid new (Err e) text next p q = AppendsFront-after old mid new te
 
 -- ---- texts of several parts
 
--- the text of the items before one, that of this item, and that of the items behind it
+-- the text of the items before one, that of this item, and that of the items after it
 pub flat_map-split : {X : Type 0} (f : X → List ℕ) (xs : List X) (i : ℕ) (d : X) → i < length xs
     → flat_map f xs ≡ flat_map f (take i xs) ++ (f (get_or xs i d) ++ flat_map f (drop (i + 1) xs))
 flat_map-split f xs i d h =

@@ -1,4 +1,4 @@
--- What was written, where a text is written behind another, or the texts of a list's items one by one.
+-- What was written, where a text is written after another, or the texts of a list's items one by one.
 use Rattle.std.proofs.Common.{◌≡◌, ℕ, ◌+◌, ◌<◌, List, [], ◌∷◌, ◌++◌, length, take, get_or, Some, Result, Ok, Err, ◌∙◌, arith}
 use Rattle.std.specs.Prelude.{IsErr, flat_map, slice_get}
 use Rattle.std.proofs.lemmas.Bool.{false≢true}
@@ -7,7 +7,7 @@ use Rattle.s2ix_text_io.specs.declared.sink.WriteFault.{WriteFault}
 use Rattle.s2ix_text_io.specs.Puts.{Writes}
 use Rattle.s2ix_text_io.proofs.Fronts.{AppendsFront-more, Puts-after, Appends-flat_map, Appends-flat_map_turn, Appends-flat_map_end, AppendsFront-flat_map_at, AppendsFront-flat_map_turn}
 
--- ---- a text behind another
+-- ---- a text after another
 
 -- a text was written, and then the next
 pub Writes-then : {K A B : Type 0} {sink : Sink K} {old mid new : K} {x : A} {r : Result B WriteFault} {text next : List ℕ}
@@ -27,7 +27,7 @@ pub Writes-fault : {K A B : Type 0} {sink : Sink K} {old new : K} {fault : Write
 Writes-fault (Ok x) is p = absurd (false≢true is)
 Writes-fault (Err e) is p = record { puts = p.puts; unflushed = p.unflushed; faults = p.faults }
 
--- the same, where more was to be written behind it
+-- the same, where more was to be written after it
 pub Writes-cut : {K A B : Type 0} {sink : Sink K} {old new : K} {fault : WriteFault} {text : List ℕ} (r : Result B WriteFault)
     (more : List ℕ)
     → IsErr r → Writes {A = A} sink old new (Err fault) text → Writes sink old new r (text ++ more)

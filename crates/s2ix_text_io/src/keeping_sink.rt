@@ -5,9 +5,8 @@ ghost use Rattle.s2ix_text_io.specs.Faults.{CanCount, write_faults};
 use crate::{Sink, WriteFault};
 use std::alloc::Global;
 
-/// A sink that keeps what it takes; a call of `put` fails too if there is no memory to keep it. Hand it to a run, or to a call over texts,
-/// to get in memory what that prints: [`KeepingSink::kept`] gives it. With short puts and calls that fail it tests how code bears such a
-/// sink.
+/// A sink that keeps what it takes; a call of `put` fails too if there is no memory to keep it. After a run, or a call over texts,
+/// [`KeepingSink::kept`] is what that printed. For tests it can take little in a put, and fail.
 #[derive(Debug, Drop)]
 pub struct KeepingSink {
     kept: Vec<u8>,

@@ -1,4 +1,4 @@
-//! Laws: functions that do nothing, and whose contracts are facts on the definitions.
+//! Laws: functions that do nothing; their contracts state facts about definitions.
 ghost use Rattle.std.specs.Prelude.{◌≡◌, ◌↔◌, IsTrue};
 ghost use Rattle.s2ix_text_io.specs.declared.run_fault.RunFault.{RunFault};
 ghost use Rattle.s2ix_text_io.specs.declared.sink.WriteFault.{WriteFault};
@@ -6,7 +6,7 @@ ghost use Rattle.s2ix_text_io.specs.declared.source.ReadFault.{ReadFault};
 
 use crate::{ReadFault, RunFault, WriteFault};
 
-/// Two faults of runs are equal exactly if they are one.
+/// Two faults of runs are equal exactly if they are the same.
 pub fn equal_run_faults_are_one()
     ensures { (a b : RunFault) → IsTrue (⟦<RunFault as PartialEq>⟧.eq a b) ↔ (a ≡ b) }
 {}
@@ -16,7 +16,7 @@ pub fn cloned_run_faults_are_the_same()
     ensures { (a copy : RunFault) → ⟦<RunFault as Clone>⟧.is_clone a copy ↔ (copy ≡ a) }
 {}
 
-/// Two read faults are equal exactly if they are one.
+/// Two read faults are equal exactly if they are the same.
 pub fn equal_read_faults_are_one()
     ensures { (a b : ReadFault) → IsTrue (⟦<ReadFault as PartialEq>⟧.eq a b) ↔ (a ≡ b) }
 {}
@@ -26,7 +26,7 @@ pub fn cloned_read_faults_are_the_same()
     ensures { (a copy : ReadFault) → ⟦<ReadFault as Clone>⟧.is_clone a copy ↔ (copy ≡ a) }
 {}
 
-/// Two write faults are equal exactly if they are one.
+/// Two write faults are equal exactly if they are the same.
 pub fn equal_write_faults_are_one()
     ensures { (a b : WriteFault) → IsTrue (⟦<WriteFault as PartialEq>⟧.eq a b) ↔ (a ≡ b) }
 {}

@@ -4,7 +4,7 @@ ghost use Rattle.s2ix_text_io.specs.Puts.{Writes, text_of_parts};
 use crate::{Sink, WriteFault};
 
 /// Puts all of `bytes`, piece by piece: if the sink takes less than it is offered, the rest is offered next. It ends at the first fault;
-/// then a front of `bytes` went out. At most one call of `put` for each byte.
+/// then a prefix of `bytes` went out. At most one call of `put` for each byte.
 pub fn put_all<K: Sink>(sink: &mut K, bytes: &[u8]) -> Result<(), WriteFault>
     requires { CanCount (K.fault_count sink.old) }
     ensures { Writes K.Sink sink.old sink.new result bytes.now }
@@ -17,7 +17,7 @@ pub fn put_all<K: Sink>(sink: &mut K, bytes: &[u8]) -> Result<(), WriteFault>
     Ok(())
 }
 
-/// Puts the texts of `parts` one after the other, as one text. It ends at the first fault; then a front of that text went out. At most one
+/// Puts the texts of `parts` one after the other, as one text. It ends at the first fault; then a prefix of that text went out. At most one
 /// call of `put` for each byte.
 pub fn put_parts<K: Sink>(sink: &mut K, parts: &[&[u8]]) -> Result<(), WriteFault>
     requires { CanCount (K.fault_count sink.old) }

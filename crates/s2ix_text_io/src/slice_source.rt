@@ -5,8 +5,8 @@ ghost use Rattle.s2ix_text_io.specs.Pieces.{Gave};
 
 use crate::{ReadFault, Source};
 
-/// A source over a slice. It does not allocate. Use it to run a script, or to read a file, that is in memory already. With short pieces and
-/// a call that fails it tests how code bears such a source.
+/// A source over a slice. It does not allocate. Use it to run a script, or to read a file, that is in memory already. For tests it can give
+/// short pieces, and fail.
 #[derive(Debug, Drop)]
 pub struct SliceSource<'a> {
     left: &'a [u8],

@@ -10,7 +10,7 @@ use arrayvec::ArrayVec;
 const LONGEST: usize = 80;
 
 /// Puts the texts of `parts` one after the other, as one text: up to 80 bytes at once, so that the sink is called once for a short line.
-/// O(n) for n bytes. `WriteFault` if the sink fails; then a front of the text went out.
+/// O(n) for n bytes. `WriteFault` if the sink fails; then a prefix of the text went out.
 #[inline(always)]
 pub fn put_together<K: Sink>(sink: &mut K, parts: &[&[u8]]) -> Result<(), WriteFault>
     requires { CanCount (K.fault_count sink.old) }

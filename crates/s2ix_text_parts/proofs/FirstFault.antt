@@ -31,7 +31,7 @@ pub found_nowhere : {F : Type 0} (fault : LineAt → Option F) (limits : Limits)
 unfolding fault_below
 found_nowhere fault limits above = refl
 
--- a fault of a text stands in its first line or behind it
+-- a fault of a text stands in its first line or after it
 from_line_or : {F : Type 0} (n k : ℕ) (o : Option F) (later : Option (ℕ × F)) → n ≤ k → IsFromLine n later
     → IsFromLine n (option_or (option_map (λ (x : F). (k, x)) o) later)
 from_line_or n k None later le from = from

@@ -1,4 +1,4 @@
--- What stands at the front of a text: a canonical token, or a canonical number, and a byte behind it.
+-- What stands at the front of a text: a canonical token, or a canonical number, and a byte after it.
 use Rattle.std.proofs.Common.{◌≡◌, ◌≢◌, ◌&&◌, ℕ, ◌+◌, ◌-◌, ◌*◌, ◌%◌, ◌^◌, ◌<◌, ◌≤◌, cond, min, List, ◌∷◌, ◌++◌, All, length, map, take, drop, get_or, refl, sym, ap, ◌∙◌, subst, arith, ⊎_elim, inl, inr}
 use Rattle.std.specs.Prelude.{decimal, nat_le}
 use Rattle.std.specs.Char.{digit_value}
@@ -66,7 +66,7 @@ pub decimal_when : (c digit : ℕ) → (digit_value c < 10 → digit ≡ digit_v
     → digit ≡ digit_value c
 decimal_when c digit value other small = ⊎_elim value (λ none. absurd (omega (arith, other none))) (cases_lt (digit_value c) 10)
 
--- ---- a text cut behind some bytes
+-- ---- a text cut after some bytes
 
 pub cut_behind : (text : List ℕ) (len x d : ℕ) → len < length text → get_or text len d ≡ x → text ≡ take len text ++ x ∷ drop (len + 1) text
 cut_behind text len x d inside is =

@@ -18,7 +18,7 @@ pub behind_front : (xs ys : List ℕ) (x : ℕ) → get_or (xs ++ x ∷ ys) (len
 behind_front [] ys x = refl
 behind_front (y ∷ xs) ys x = behind_front xs ys x
 
--- a pass over what fulfils P, `most` steps at the most, stops behind `front`, where the next byte doesn't
+-- a pass over what fulfils P, `most` steps at the most, stops after `front`, where the next byte doesn't
 stops_behind : (P : ℕ → Type 0) (front rest : List ℕ) (end len most : ℕ) → All P front → length front ≤ most → ¬ P end → len ≤ most
     → len < length (front ++ end ∷ rest) → All P (take len (front ++ end ∷ rest))
     → (len < most → ¬ P (get_or (front ++ end ∷ rest) len 0)) → len ≡ length front

@@ -24,7 +24,7 @@ nil_length : (lines : List (List ℕ)) → is_nil lines ≡ true → length line
 nil_length [] none = refl
 nil_length (line ∷ lines) none = cc
 
--- a line with nothing behind it is the last
+-- a line with nothing after it is the last
 pub last_line : (lines : List (List ℕ)) (number : ℕ) → 0 < number → number - 1 < length lines → is_nil (drop number lines) ≡ true
     → number ≡ length lines
 last_line lines number from inside none =

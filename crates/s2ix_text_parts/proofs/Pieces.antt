@@ -23,7 +23,7 @@ lacks_before x text end found =
     subst (λ byte. (byte == x) ≡ false) (sym (get_or-take end text k 0 below))
     (false_from_ne_true (get_or text k 0 == x) (found.0.before k (omega arith) below)))
 
--- what stands before the first x, and behind it
+-- what stands before the first x, and after it
 pub cut_parts : (x : ℕ) (text : List ℕ) (end : ℕ) → IsFirstByte (is_byte x) text (Some end)
     → text ≡ take end text ++ x ∷ drop (end + 1) text
 cut_parts x text end found =

@@ -17,7 +17,7 @@ last_of (x ∷ (y ∷ xs)) = last_of (y ∷ xs)
 abbrev pub pieces_at : ℕ → List ℕ → List (List ℕ)
 pieces_at end text = slice_split (λ byte. byte == end) text
 
--- a text cut at each line feed: its lines, and what is left behind the last line feed
+-- a text cut at each line feed: its lines, and what is left after the last line feed
 unfoldable pub lines_of : List ℕ → List (List ℕ)
 lines_of text = pieces_at 10 text
 

@@ -4,7 +4,7 @@ ghost use Rattle.s2ix_text_parts.specs.Lines.{has_parts, lines_of, part, parts_o
 
 use memchr::memchr;
 
-// A text up to the first byte `end`, and what is behind that; `None` where it has none.
+// A text up to the first byte `end`, and what is after that; `None` where it has none.
 fn cut_at(text: &[u8], end: u8) -> Option<(&[u8], &[u8])>
     ensures none { IfNone result (pieces_at end text.now ≡ text.now ∷ []) }
     ensures cut { IfSome result (λ cut. text.now ≡ cut.0.now ++ end ∷ cut.1.now) }
@@ -14,7 +14,7 @@ fn cut_at(text: &[u8], end: u8) -> Option<(&[u8], &[u8])>
     Some((&text[..place], &text[place + 1..]))
 }
 
-/// A text up to its first line feed, and what is behind that; `None` if it has no line feed. O(n) for the n bytes of the line.
+/// A text up to its first line feed, and what is after that; `None` if it has no line feed. O(n) for the n bytes of the line.
 #[tactic(auto, unfolding(crate::specs::Lines::lines_of))]
 pub fn cut_line(text: &[u8]) -> Option<(&[u8], &[u8])>
     ensures none { IfNone result (lines_of text.now ≡ text.now ∷ []) }
@@ -24,7 +24,7 @@ pub fn cut_line(text: &[u8]) -> Option<(&[u8], &[u8])>
     cut_at(text, b'\n')
 }
 
-/// A line up to its first space, and what is behind that; `None` if it has no space. O(n) for the n bytes of the part.
+/// A line up to its first space, and what is after that; `None` if it has no space. O(n) for the n bytes of the part.
 #[tactic(auto, unfolding(crate::specs::Lines::parts_of))]
 pub fn cut_part(line: &[u8]) -> Option<(&[u8], &[u8])>
     ensures none { IfNone result (parts_of line.now ≡ line.now ∷ []) }

@@ -1,7 +1,7 @@
 //! What stands at the front of a text, read in one pass over its bytes.
 //!
-//! Each of these is sure of what it answers. It answers nothing of a text that is too short for a pass of a fixed number of steps, sound or
-//! not: the readers of a line's parts decide then.
+//! Each call answers only what is sure. For a text too short for a fixed number of steps it returns `None`: then the readers of a line's
+//! parts decide.
 ghost use Rattle.std.specs.Prelude.{◌≡◌, ◌^◌, ◌<◌, ◌≤◌, ◌++◌, ◌∷◌, All, decimal, length, slice_index, take, IfNone, IfSome};
 ghost use Rattle.std.specs.Char.{digit_value};
 ghost use Rattle.std.specs.Str.Parse.{AllDigits, digits_value};
@@ -26,7 +26,7 @@ const LOWER_VALUES: [u8; 256] = [
     16, 16, 16, 16, 16, 16, 16, 16, 16, 16, 16, 16, 16, 16,
 ];
 
-/// The cell whose canonical token stands at the front of a text, up to a space, and what is behind that space.
+/// The cell whose canonical token stands at the front of a text, up to a space, and what is after that space.
 ///
 /// `None` also for a text of less than 17 bytes. One look at each byte of the token, so O(1).
 #[inline]
@@ -45,7 +45,7 @@ pub fn token_in_front(text: &[u8]) -> Option<(CellId, &[u8])>
     Some((cell, &text[len + 1..]))
 }
 
-/// The number whose canonical digits stand at the front of a text, up to the byte `end`, and what is behind that byte.
+/// The number whose canonical digits stand at the front of a text, up to the byte `end`, and what is after that byte.
 ///
 /// `None` also for a number of ten digits or more, and for a text of less than 10 bytes. The byte `end` must be no digit, since no number
 /// ends before one. One look at each byte of the number, so O(1).

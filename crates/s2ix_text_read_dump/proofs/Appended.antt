@@ -37,7 +37,7 @@ before_behind : (n : ℕ) (g : Held) (hs : Collection) (k : Held) (ks : Collecti
 before_behind n g [] k ks is = lt-ltb (rank_of g.pair) (rank_of k.pair) (omega (arith, is.2.0))
 before_behind n g (f ∷ hs) k ks is = before_behind (rank_of g.pair + 1) f hs k ks is.2
 
--- the next pair comes behind the last one
+-- the next pair comes after the last one
 pub next_before : (hs : Collection) (k : Held) (ks : Collection) → IsCollection (hs ++ k ∷ ks)
     → comes_before (last_pair hs) (Some k.pair) ≡ true
 next_before [] k ks is = refl

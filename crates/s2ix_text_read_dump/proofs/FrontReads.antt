@@ -19,7 +19,7 @@ use Rattle.s2ix_text_read_dump.specs.PairLines.{IsCommonFront, IsNext, held_writ
 use Rattle.s2ix_text_read_dump.proofs.Appended.{here_has, next_before}
 use Rattle.s2ix_text_read_dump.proofs.PairTexts.{HasCount, held_of_line, line_lacks_feed, line_of_parts}
 
--- ---- the parts of a line in front, and what is behind each
+-- ---- the parts of a line in front, and what is after each
 
 -- a text with these three parts in front, each cut from the next
 pub record IsOfParts (text after_token after_label rest : List ℕ) (h : Held) : Type 0 where
@@ -68,7 +68,7 @@ one_number text after rest m n end low small_m small_n read is =
     (graphic_lacks end _ low (decimal_graphic n small_n)) (sym read ∙ is) in
     (decimal_injective m n small_m small_n cut.0, cut.1)
 
--- behind the token stands the label
+-- after the token stands the label
 pub label_is_due : (most : ℕ) → most < 2 ^ 32 → (text after rest : List ℕ) (m : ℕ) (h : Held) → text ≡ canonical_token m ++ 32 ∷ after
     → IsCommonFront most text h rest
     → (after_label : List ℕ) × (after ≡ decimal (value_of h.pair.label) ++ 32 ∷ after_label) × (9 < length after)
@@ -77,7 +77,7 @@ label_is_due most bounded text after rest m h read common =
     let same = one_token text after p.0 m (raw_of h.pair.cell) read p.2.token in
     (p.1, same ∙ p.2.label, subst (λ t. 9 < length t) (sym same) p.3)
 
--- behind the label the count
+-- after the label the count
 pub count_is_due : (most : ℕ) → most < 2 ^ 32 → (text after behind rest : List ℕ) (m label : ℕ) (h : Held)
     → text ≡ canonical_token m ++ 32 ∷ after → after ≡ decimal label ++ 32 ∷ behind → label < 2 ^ 64 → IsCommonFront most text h rest
     → (label ≡ value_of h.pair.label) × (behind ≡ decimal h.count ++ 10 ∷ rest) × (9 < length behind)

@@ -114,7 +114,7 @@ end_fault limits header hs line bag end other =
     (ap not (false_from_ne_true (bytes_eq line (end_text (length hs) (copies_in hs)))
     (λ same. other ((bytes_eq-Decides line (end_text (length hs) (copies_in hs))).0 same))))
 
--- what is left behind the end line
+-- what is left after the end line
 pub fault_behind : (limits : Limits) (header : List ℕ) (hs : Collection) (line : List ℕ) (last : List ℕ) (lines : List (List ℕ))
     → IsDumped limits header hs → is_end line ≡ true → line ≡ end_text (length hs) (copies_in hs)
     → fault_left limits header hs (line ∷ last ∷ lines) ≡ fault_below line_fault limits (lines_down_to header hs ++ line ∷ [])
@@ -157,7 +157,7 @@ trailing limits header hs copies rest line below bag sum lines end is some =
     ap (fault_left limits header hs) (lines ∙ ap (λ ls. line ∷ ls) parts.2)
     ∙ bytes_behind limits header hs line parts.0 parts.1 bag end same (some_behind below parts.0 parts.1 some parts.2)
 
--- the whole text, where nothing is behind the end line
+-- the whole text, where nothing is after the end line
 pub read_to_end : (limits : Limits) (header : List ℕ) (hs : Collection) (copies : ℕ) (rest line below : List ℕ) → IsDumped limits header hs
     → copies ≡ copies_in hs → rest ≡ line ++ 10 ∷ below → lines_of rest ≡ line ∷ lines_of below → is_end line ≡ true
     → line ≡ end_text (length hs) copies → below ≡ []

@@ -1,4 +1,4 @@
--- The fault of a line, by the table: below the lines of held pairs, at the end, and behind it.
+-- The fault of a line, by the table: below the lines of held pairs, at the end, and after it.
 use Rattle.std.proofs.Common.{◌≡◌, ◌==◌, ℕ, ◌+◌, ◌<◌, ◌≤◌, Bool, true, false, not, ◌||◌, cond, Option, Some, None, Result, Ok, Err, List, [], ◌∷◌, ◌++◌, All, length, map, refl, sym, ap, ap₂, ◌∙◌, subst, arith}
 use Rattle.std.specs.Prelude.{find, is_none, nat_le, nat_lt, slice_index_or, sum_by}
 use Rattle.std.specs.List.{list_any}
@@ -229,7 +229,7 @@ end_row limits header hs line is end =
         → ◌≡◌ {A = Option DumpFault} (cond a (Some BadEnd) (cond c (Some TrailingBytes) None)) (cond b (Some BadEnd) None)
     end_rows a b c same none = rw (same, none) refl
 
--- ---- behind the end line
+-- ---- after the end line
 
 pub behind_row : (p : LineAt) → is_first p ≡ false → is_over p ≡ true
     → line_fault p ≡ cond (p.ended || not (is_nil p.line)) (Some TrailingBytes) None

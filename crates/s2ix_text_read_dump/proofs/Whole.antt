@@ -138,7 +138,7 @@ end_from limits header hs line is end none =
     let clash : Some BadEnd ≡ None = sym fault ∙ none in cc)
     (cases_Bool (bytes_eq line (end_text (length hs) (copies_in hs))))
 
--- nothing is left behind the end line
+-- nothing is left after the end line
 end_left : (limits : Limits) (header : List ℕ) (hs : Collection) (line last : List ℕ) (lines : List (List ℕ)) → IsDumped limits header hs
     → is_end line ≡ true → line ≡ end_text (length hs) (copies_in hs) → fault_left limits header hs (line ∷ last ∷ lines) ≡ None
     → line ∷ last ∷ lines ≡ end_text (length hs) (copies_in hs) ∷ [] ∷ []

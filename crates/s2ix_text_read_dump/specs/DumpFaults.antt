@@ -25,11 +25,11 @@ is_end line = bytes_eq (part 0 line) (codes "end")
 abbrev pub is_first : LineAt → Bool
 is_first p = is_nil p.above
 
--- the lines above but for the header: those of pairs, and the end line behind them
+-- the lines above but for the header: those of pairs, and the end line after them
 abbrev pub pairs_above : LineAt → List (List ℕ)
 pairs_above p = drop 1 p.above
 
--- behind the end line
+-- after the end line
 abbrev pub is_over : LineAt → Bool
 is_over p = list_any is_end (pairs_above p)
 
@@ -88,7 +88,7 @@ dump_fault limits text = fault_below line_fault limits [] (lines_of text)
 
 -- ---- what a reader answers
 
--- the error is the fault that is due, or memory was wanted where none is due, or one behind the first line
+-- the error is the fault that is due, or memory was wanted where none is due, or one after the first line
 abbrev pub IsDumpError : DumpError → Option (ℕ × DumpFault) → Type 0
 IsDumpError (At line fault) found = found ≡ Some (line, fault)
 IsDumpError OutOfMemory found = IsFromLine 2 found

@@ -59,7 +59,7 @@ pub record IsNext (limits : Limits) (header : List ℕ) (hs : Collection) (line 
   pub sound : line_fault (place_below limits header hs line) ≡ None
 
 -- the line of a held pair stands at the front of a text, in the common shape: its count is no greater than may be written, its label and
--- its count have nine digits or less, and behind it there is as much as an end line has at the least
+-- its count have nine digits or less, and after it there is as much as an end line has at the least
 pub record IsCommonFront (most : ℕ) (text : List ℕ) (h : Held) (rest : List ℕ) : Type 0 where
   pub whole : text ≡ line_text h ++ 10 ∷ rest
   pub some : 1 ≤ h.count

@@ -88,7 +88,7 @@ fn push(held: &mut Vec<FlatHeld>, next: Held) -> Result<(), OutOfMemory>
     Ok(())
 }
 
-// The next held pair of a dump of a version and what is behind its line, below the lines of the pairs before, which have so many copies; or
+// The next held pair of a dump of a version and what is after its line, below the lines of the pairs before, which have so many copies; or
 // nothing, where what is left is the end line.
 fn next_line<'a>(
     limits: Limits,

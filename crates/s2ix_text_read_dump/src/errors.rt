@@ -11,7 +11,7 @@ pub enum DumpFault {
     BadHeader,
     /// The line's first part is `end`, and the line is not `end PAIRS COPIES` with the right numbers.
     BadEnd,
-    /// The line has not exactly three parts with one space between each two, or one of them is empty.
+    /// The line isn't three parts with one space between each two, or a part is empty.
     BadLine,
     /// The first part is no cell's canonical token.
     BadToken,

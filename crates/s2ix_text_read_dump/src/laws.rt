@@ -1,4 +1,4 @@
-//! Laws: functions that do nothing, and whose contracts are facts on the definitions.
+//! Laws: functions that do nothing; their contracts state facts about definitions.
 ghost use Rattle.std.specs.Prelude.{◌≡◌, ◌↔◌, IsTrue};
 ghost use Rattle.s2ix_text_read_dump.specs.declared.errors.DumpError.{DumpError};
 ghost use Rattle.s2ix_text_read_dump.specs.declared.errors.DumpFault.{DumpFault};
@@ -22,7 +22,7 @@ pub fn no_faulty_line_is_accepted()
     ensures { NoFaultyLineIsAccepted }
 {}
 
-/// Two faults of dumps are equal exactly if they are one.
+/// Two faults of dumps are equal exactly if they are the same.
 pub fn equal_dump_faults_are_one()
     ensures { (a b : DumpFault) → IsTrue (⟦<DumpFault as PartialEq>⟧.eq a b) ↔ (a ≡ b) }
 {}
@@ -32,7 +32,7 @@ pub fn cloned_dump_faults_are_the_same()
     ensures { (a copy : DumpFault) → ⟦<DumpFault as Clone>⟧.is_clone a copy ↔ (copy ≡ a) }
 {}
 
-/// Two errors of `read_dump` are equal exactly if they are one.
+/// Two errors of `read_dump` are equal exactly if they are the same.
 pub fn equal_dump_errors_are_one()
     ensures { (a b : DumpError) → IsTrue (⟦<DumpError as PartialEq>⟧.eq a b) ↔ (a ≡ b) }
 {}

@@ -36,7 +36,7 @@ fn held_written(most: u32, line: &[u8]) -> Result<Held, DumpFault>
     })
 }
 
-// Whether a pair comes behind the last of those before, where there is one.
+// Whether a pair comes after the last of those before, where there is one.
 fn comes_behind(before: &[FlatHeld], pair: Pair) -> bool
     ensures { result ≡ comes_before (last_pair before.now) (Some pair) }
 {
@@ -71,7 +71,7 @@ pub(crate) fn next_held(
     Ok(next)
 }
 
-// The held pair whose line stands at the front of a text, and what is behind that line, where it has the common shape.
+// The held pair whose line stands at the front of a text, and what is after that line, where it has the common shape.
 #[inline]
 fn held_in_front(most: u32, text: &[u8]) -> Option<(Held, &[u8])>
     ensures line { IfSome result (λ read. text.now ≡ line_text read.0 ++ 10 ∷ read.1.now) }
@@ -93,7 +93,7 @@ fn held_in_front(most: u32, text: &[u8]) -> Option<(Held, &[u8])>
     Some((held, behind))
 }
 
-// The held pair that follows those of the pairs before, in a dump of a version, and what is behind its line, where that line stands at the
+// The held pair that follows those of the pairs before, in a dump of a version, and what is after its line, where that line stands at the
 // front of a text and has the common shape. Where it answers nothing, no line of the common shape stands there that is the next.
 #[inline]
 pub(crate) fn next_in_front<'a>(

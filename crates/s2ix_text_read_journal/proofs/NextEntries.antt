@@ -141,7 +141,7 @@ here_has : (P : Entry → Type 0) (es : List Entry) (e : Entry) (fs : List Entry
 here_has P [] e fs all = All-head P e fs all
 here_has P (g ∷ es) e fs all = here_has P es e fs (All-tail P g (es ++ e ∷ fs) all)
 
--- the line of an entry that is behind the others writes it
+-- the line of an entry that is after the others writes it
 pub next_here : (most : ℕ) → most < 2 ^ 32 → (limits : Limits) (es : List Entry) (e : Entry) (fs : List Entry)
     → AreEntries most limits (es ++ e ∷ fs) → next_entry most limits (last_pair es) (entry_text e) ≡ Ok e
 next_here most bounded limits es e fs are =

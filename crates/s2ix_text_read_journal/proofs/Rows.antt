@@ -1,4 +1,4 @@
--- The fault of a line, by the table: inside a group, outside, and behind the end line.
+-- The fault of a line, by the table: inside a group, outside, and after the end line.
 use Rattle.std.proofs.Common.{◌≡◌, ◌==◌, ℕ, suc, Bool, true, false, not, ◌&&◌, ◌||◌, cond, Option, Some, None, Ok, Err, List, [], refl, ap, ◌∙◌, arith}
 use Rattle.std.specs.Prelude.{is_none, nat_le, nat_lt, slice_index_or}
 use Rattle.std.specs.Option.{unwrap_or}
@@ -201,7 +201,7 @@ end_row most limits above line groups is end =
     (and_left _ _ group)
     (and_left _ _ is.over)
 
--- ---- behind the end line
+-- ---- after the end line
 
 pub behind_row : (p : LineAt) → is_first p ≡ false → is_over p ≡ true
     → line_fault p ≡ cond (p.ended || not (is_nil p.line)) (Some TrailingBytes) None

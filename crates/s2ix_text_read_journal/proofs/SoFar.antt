@@ -31,7 +31,7 @@ unfolding behind
 one_more [] line some = cc
 one_more (first ∷ above) line some = fold-append behind_line at_start above (line ∷ [])
 
--- behind the header
+-- after the header
 pub between_start : (most : ℕ) (header : List ℕ) → greatest_count header ≡ most → IsBetween most (header ∷ []) 0
 unfolding behind
 between_start most header own = record { some = refl; greatest = own; wanted = refl; number = refl; over = refl }
@@ -40,7 +40,7 @@ next_at : (above : List (List ℕ)) (line : List ℕ) (wanted : ℕ) → is_nil 
     → behind (above ++ line ∷ []) ≡ behind_next wanted (behind above) line
 next_at above line wanted some is = one_more above line some ∙ ap (λ n. behind_next n (behind above) line) is
 
--- behind the line that begins a group
+-- after the line that begins a group
 begun : (most : ℕ) (above : List (List ℕ)) (line : List ℕ) (groups size : ℕ) → IsBetween most above groups → is_end line ≡ false
     → size_written (part 1 line) ≡ Some size
     → behind (above ++ line ∷ []) ≡ record { wanted = size; last = None; groups = groups + 1; over = false }
@@ -71,7 +71,7 @@ inside_group most above groups size some own is = record {
   over = ap (λ (s : ReadSoFar). s.over) is;
 }
 
--- behind the line of an entry
+-- after the line of an entry
 pub inside_more : (most : ℕ) (above : List (List ℕ)) (line : List ℕ) (left : ℕ) (last next : Option Pair) (groups : ℕ)
     → IsInside most above (suc left) last groups → pair_written line ≡ next → IsInside most (above ++ line ∷ []) left next groups
 inside_more most above line left last next groups is writes =
@@ -85,13 +85,13 @@ inside_more most above line left last next groups is writes =
       over = ap (λ (s : ReadSoFar). s.over) now ∙ is.over;
     }
 
--- behind a whole group
+-- after a whole group
 pub group_ended : (most : ℕ) (above : List (List ℕ)) (last : Option Pair) (groups : ℕ) → IsInside most above 0 last groups
     → IsBetween most above groups
 group_ended most above last groups is =
     record { some = is.some; greatest = is.greatest; wanted = is.wanted; number = is.number; over = is.over }
 
--- behind the end line
+-- after the end line
 pub over_behind : (most : ℕ) (above : List (List ℕ)) (line : List ℕ) (groups : ℕ) → IsBetween most above groups → is_end line ≡ true
     → (behind (above ++ line ∷ [])).over ≡ true
 over_behind most above line groups is end =

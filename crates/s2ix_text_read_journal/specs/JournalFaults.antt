@@ -34,11 +34,11 @@ pub record ReadSoFar : Type 0 where
   pub groups : ℕ
   pub over : Bool
 
--- behind the header
+-- after the header
 abbrev pub at_start : ReadSoFar
 at_start = record { wanted = 0; last = None; groups = 0; over = false }
 
--- behind one line more: an entry, where some are wanted, else the end line or the line that begins a group
+-- after one line more: an entry, where some are wanted, else the end line or the line that begins a group
 abbrev pub behind_next : ℕ → ReadSoFar → List ℕ → ReadSoFar
 behind_next (suc wanted) s line = record { wanted = wanted; last = pair_written line; groups = s.groups; over = s.over }
 behind_next zero s line =
@@ -48,7 +48,7 @@ behind_next zero s line =
 abbrev pub behind_line : ReadSoFar → List ℕ → ReadSoFar
 behind_line s line = behind_next s.wanted s line
 
--- behind some lines, the header first
+-- after some lines, the header first
 unfoldable pub behind : List (List ℕ) → ReadSoFar
 behind above = fold behind_line at_start (drop 1 above)
 
@@ -56,7 +56,7 @@ behind above = fold behind_line at_start (drop 1 above)
 abbrev pub is_first : LineAt → Bool
 is_first p = is_nil p.above
 
--- behind the end line
+-- after the end line
 abbrev pub is_over : LineAt → Bool
 is_over p = (behind p.above).over
 
@@ -134,7 +134,7 @@ journal_fault limits text = fault_below line_fault limits [] (lines_of text)
 
 -- ---- what a reader answers
 
--- the error is the fault that is due, or memory was wanted where none is due, or one behind the first line
+-- the error is the fault that is due, or memory was wanted where none is due, or one after the first line
 abbrev pub IsJournalError : JournalError → Option (ℕ × JournalFault) → Type 0
 IsJournalError (At line fault) found = found ≡ Some (line, fault)
 IsJournalError OutOfMemory found = IsFromLine 2 found

@@ -36,7 +36,7 @@ entry_written most line =
     (cell_written (part 0 line)) (label_written (part 1 line)) (side_written most (part 2 line)) (side_written most (part 3 line))
     else Err BadLine
 
--- an entry behind the last of those above it in its group, or its first fault
+-- an entry after the last of those above it in its group, or its first fault
 abbrev pub entry_behind : Limits → Option Pair → Result Entry JournalFault → Result Entry JournalFault
 entry_behind limits last (Err fault) = Err fault
 entry_behind limits last (Ok e) =

@@ -35,7 +35,7 @@ fn entry_written(most: u32, line: &[u8]) -> Result<Entry, JournalFault>
     })
 }
 
-// Whether a pair comes behind the last of the entries before, where there is one.
+// Whether a pair comes after the last of the entries before, where there is one.
 fn comes_behind(before: &[Entry], pair: Pair) -> bool
     ensures { result ≡ comes_before (last_pair before.now) (Some pair) }
 {

@@ -14,7 +14,7 @@ pub enum JournalFault {
     BadHeader,
     /// The line is outside a group, its first part is `end`, and it is not `end CHANGES` with the right number.
     BadEnd,
-    /// The line is not `change` and one part more outside a group, or has not exactly four parts inside one, or a part is empty.
+    /// The line isn't `change` with one more part (outside a group) or four parts (inside one), or a part is empty.
     BadLine,
     /// The first part is no cell's canonical token.
     BadToken,

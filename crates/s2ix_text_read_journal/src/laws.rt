@@ -1,4 +1,4 @@
-//! Laws: functions that do nothing, and whose contracts are facts on the definitions.
+//! Laws: functions that do nothing; their contracts state facts about definitions.
 ghost use Rattle.std.specs.Prelude.{◌≡◌, ◌↔◌, IsTrue};
 ghost use Rattle.s2ix_text_read_journal.specs.declared.errors.JournalError.{JournalError};
 ghost use Rattle.s2ix_text_read_journal.specs.declared.errors.JournalFault.{JournalFault};
@@ -22,7 +22,7 @@ pub fn no_faulty_journal_line_is_accepted()
     ensures { NoFaultyJournalLineIsAccepted }
 {}
 
-/// Two faults of journals are equal exactly if they are one.
+/// Two faults of journals are equal exactly if they are the same.
 pub fn equal_journal_faults_are_one()
     ensures { (a b : JournalFault) → IsTrue (⟦<JournalFault as PartialEq>⟧.eq a b) ↔ (a ≡ b) }
 {}
@@ -32,7 +32,7 @@ pub fn cloned_journal_faults_are_the_same()
     ensures { (a copy : JournalFault) → ⟦<JournalFault as Clone>⟧.is_clone a copy ↔ (copy ≡ a) }
 {}
 
-/// Two errors of `read_journal` are equal exactly if they are one.
+/// Two errors of `read_journal` are equal exactly if they are the same.
 pub fn equal_journal_errors_are_one()
     ensures { (a b : JournalError) → IsTrue (⟦<JournalError as PartialEq>⟧.eq a b) ↔ (a ≡ b) }
 {}

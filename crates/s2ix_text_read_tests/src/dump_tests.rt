@@ -23,7 +23,7 @@ const ACCEPTED: [Accepted; 5] = [
         8,
     ),
     (b"04 9 65535\nend 1 65535\n", 1, 65535),
-    // lines in the common shape, with more than 16 bytes behind each
+    // lines in the common shape, with more than 16 bytes after each
     (
         b"0001f 0 1\n0002e371d 137 23\n04 2147483647 1\n1 1000000000 9\nbfffffffffffffff 7 65535\nend 5 65569\n",
         5,
@@ -45,7 +45,7 @@ const ACCEPTED_GREAT: [Accepted; 4] = [
         2,
         8589934590,
     ),
-    // counts of nine digits and of ten, with more than 16 bytes behind each
+    // counts of nine digits and of ten, with more than 16 bytes after each
     (
         b"s2ix 2\n04 8 999999999\n04 9 1000000000\n1 7 4294967295\nbfffffffffffffff 7 65536\nend 4 6295032830\n",
         4,

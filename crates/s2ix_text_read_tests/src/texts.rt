@@ -8,7 +8,7 @@ pub(crate) type Accepted = (&'static [u8], usize, u64);
 // What is below a header, the text's first faulty line and the fault.
 pub(crate) type Refused<F> = (&'static [u8], usize, F);
 
-// Lines behind a text.
+// Lines after a text.
 const MORE: &[u8] = b"9555555555555555 12 345\n9557 12 345\n";
 
 /// What a reader makes of a text.
@@ -31,7 +31,7 @@ pub(crate) trait TextReader {
     fn read(alloc: Global, limits: Limits, text: &[u8]) -> Read<Self::Fault>;
 }
 
-// A text of a front and of what is behind it, as a header and the lines below it.
+// A text of a front and of what is after it, as a header and the lines below it.
 pub(crate) fn text_of(alloc: Global, front: &[u8], behind: &[u8]) -> Option<Vec<u8>> {
     let mut text = Vec::from_slice(alloc, front).ok()?;
     text.extend_from_slice(behind).ok()?;
@@ -106,7 +106,7 @@ fn ended_lines(text: &[u8]) -> usize {
 }
 
 // Whether a text is refused for its first fault. The fault of a line that ends stands whatever follows the line: so such a text is refused
-// alike with more lines behind it.
+// alike with more lines after it.
 fn is_refused<R: TextReader>(
     alloc: Global,
     limits: Limits,

@@ -42,7 +42,7 @@ const ANSWERS: [Row; 6] = [
         fault_at: 0,
         kept: b"0 2 0 2 3\n",
     },
-    // a fault ends a line, and the answers behind it
+    // a fault ends a line, and the answers after it
     Row {
         texts: &[Text::Ok(7), Text::Square(SQUARE), Text::No("NotLeaf")],
         put_len: 3,

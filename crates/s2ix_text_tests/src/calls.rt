@@ -4,7 +4,7 @@ use s2ix_text::{ReadFault, Sink, Source, WriteFault};
 // More faults than any device here counts.
 const MANY: u64 = 9;
 
-// A call of a sink, its answer, and how many faults the sink tells of behind it.
+// A call of a sink, its answer, and how many faults the sink tells of after it.
 pub(crate) enum Call {
     Put(&'static [u8], Result<usize, WriteFault>, u64),
     Flush(Result<(), WriteFault>, u64),

@@ -81,7 +81,7 @@ const LISTS: [Row; 10] = [
         fault_at: 0,
         kept: b"end 0\nend 0\n",
     },
-    // a fault leaves the pairs found before it, and a front of the next one's line
+    // a fault leaves the pairs found before it, and a prefix of the next one's line
     Row {
         texts: &[Text::Meeting(APART, "04 4c")],
         put_len: 3,

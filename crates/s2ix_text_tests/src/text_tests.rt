@@ -64,7 +64,7 @@ fn keeps(text: Text, sink: &mut KeepingSink) -> bool {
         && sink.flushed_len() == 0
 }
 
-// Whether a sink is as it should be before the flush of a text and behind it.
+// Whether a sink is as it should be before the flush of a text and after it.
 fn goes_out(alloc: Global, text: Text) -> bool {
     let mut sink = KeepingSink::new(alloc, text.put_len, text.fault_at, text.is_flush_failing);
     keeps(text, &mut sink)

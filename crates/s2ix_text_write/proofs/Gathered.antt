@@ -26,7 +26,7 @@ module _ {K : Type 0} {sink : Sink K} where
   pub all_put : {old new : K} {text : List ℕ} → Writes {A = Unit {0}} sink old new (Ok tt) text → IsGathered sink old new text []
   all_put {old} {new} {text} put = record { front = text; whole = sym (append-nil text); wrote = put }
 
-  -- a text comes behind what is gathered, and stays there
+  -- a text comes after what is gathered, and stays there
   pub gathered_behind : {old new : K} {before mid after : List ℕ} (text : List ℕ) → IsGathered sink old new before mid → after ≡ mid ++ text
       → IsGathered sink old new (before ++ text) after
   gathered_behind {old} {new} {before} {mid} {after} text was is = record {
@@ -41,7 +41,7 @@ module _ {K : Type 0} {sink : Sink K} where
   failed_before after text (Ok x) is p = absurd (false≢true is)
   failed_before after text (Err e) is p = Writes-cut (Err e) text is p
 
-  -- a text comes behind what is gathered, and all of it is put
+  -- a text comes after what is gathered, and all of it is put
   pub gathered_last : {A : Type 0} {old mid new : K} {before rest : List ℕ} (text : List ℕ) {r : Result A WriteFault}
       → IsGathered sink old mid before rest → Writes sink mid new r (rest ++ text)
       → Writes sink old new r (before ++ text)
@@ -49,7 +49,7 @@ module _ {K : Type 0} {sink : Sink K} where
       subst (λ (t : List ℕ). Writes sink old new r t) (sym (ap (λ t. t ++ text) was.whole ∙ append_assoc was.front rest text))
       (Writes-then was.wrote put)
 
-  -- the same, where nothing comes behind it
+  -- the same, where nothing comes after it
   pub put_out : {A : Type 0} {old mid new : K} {text rest : List ℕ} {r : Result A WriteFault}
       → IsGathered sink old mid text rest → Writes sink mid new r rest
       → Writes sink old new r text
@@ -97,7 +97,7 @@ module _ {K : Type 0} {sink : Sink K} where
   last_put f xs place {old} {mid} {new} {rest} {r} end was put =
       subst (λ (t : List ℕ). Writes sink old new r t) (ap (flat_map f) (take_all place xs end)) (put_out was put)
 
-  -- the last line comes behind all items
+  -- the last line comes after all items
   pub list_put : {X A : Type 0} (f : X → List ℕ) (xs : List X) (place : ℕ) {old mid new : K} {rest : List ℕ} {r : Result A WriteFault}
       → place ≡ length xs → IsGathered sink old mid (flat_map f (take place xs)) rest
       → Writes sink mid new r (rest ++ end_of_list place) → Writes sink old new r (list_text f xs)
@@ -117,7 +117,7 @@ module _ {K : Type 0} {sink : Sink K} where
   list_fault {X} {A} {B} f xs place x {old} {mid} {new} {rest} {fault} r is at was put =
       Writes-cut r (end_of_list (length xs)) is (gathered_fault {A = A} {B = A} f xs place x (Err fault) refl at was put)
 
-  -- ---- items behind what was gathered before them
+  -- ---- items after what was gathered before them
 
   -- none of them
   pub behind_none : {old : K} (before : List ℕ) → IsGathered sink old old (before ++ []) before

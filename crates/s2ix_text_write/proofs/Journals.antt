@@ -25,7 +25,7 @@ tail_of (x ∷ xs) = xs
 abbrev pub IsGraphic : ℕ → Type 0
 IsGraphic byte = 32 < byte
 
--- what stands before the first space or line feed of a text, and what behind it
+-- what stands before the first space or line feed of a text, and what after it
 pub cut_at : (x : ℕ) (xs ys r s : List ℕ) → x ≤ 32 → All IsGraphic xs → All IsGraphic ys → xs ++ x ∷ r ≡ ys ++ x ∷ s → (xs ≡ ys) × (r ≡ s)
 unfolding head_of tail_of
 cut_at x [] [] r s small p q e = (refl, ap tail_of e)
@@ -65,7 +65,7 @@ token_graphic n = λ k d within. hex_graphic _ (lower-canonical_token n k d with
 
 -- ---- lines of pairs
 
--- a text that begins with a pair's token and label tells the pair, and what stands behind it
+-- a text that begins with a pair's token and label tells the pair, and what stands after it
 pub cut_pair : (p q : Pair) (t u r s : List ℕ)
     → (canonical_token (raw_of p.cell) ++ 32 ∷ (decimal (value_of p.label) ++ 32 ∷ t)) ++ r
     ≡ (canonical_token (raw_of q.cell) ++ 32 ∷ (decimal (value_of q.label) ++ 32 ∷ u)) ++ s

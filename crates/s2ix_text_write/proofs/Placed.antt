@@ -22,7 +22,7 @@ use Rattle.s2ix_text_write.specs.Dump.{pair_line}
 use Rattle.s2ix_text_write.specs.Journal.{entry_line}
 use Rattle.s2ix_text_write.specs.Lists.{end_of_list, held_line, label_line, line_between, pair_text, token_line}
 
--- a text that starts at a place stands behind what is before it
+-- a text that starts at a place stands after what is before it
 pub placed : (place start end : ℕ) (text old new : List ℕ) → start + length text ≡ end → end ≡ place + length text
     → drop start new ≡ text ++ drop end old → take start new ≡ take start old
     → take end new ≡ take place old ++ text
@@ -33,14 +33,14 @@ placed place start end text old new ends is behind before =
     ap (λ n. take n new) is ∙ take-add place (length text) new
     ∙ ap₂ (λ (a b : List ℕ). a ++ b) front (ap (take (length text)) rest ∙ take-append_seam text (drop end old))
 
--- a front of a text that is put behind another
+-- a front of a text that is put after another
 front_placed : (place n : ℕ) (old text rest : List ℕ) → place ≤ length old → n ≤ length text
     → take (place + n) (take place old ++ (text ++ rest)) ≡ take place old ++ take n text
 front_placed place n old text rest fits within =
     ap (λ m. take (m + n) (take place old ++ (text ++ rest))) (sym (length-take-le place old fits))
     ∙ take-append-add (take place old) (text ++ rest) n ∙ ap (λ t. take place old ++ t) (take-append-le n text rest within)
 
--- sixteen digits are put behind a text, and those before the last zeros count
+-- sixteen digits are put after a text, and those before the last zeros count
 pub token_placed : (place raw n : ℕ) (digits old rest : List ℕ) → IsCellNumber n → raw ≡ n → digits ≡ sixteen_digits n → place ≤ length old
     → take (place + 16 - trailing_zeros w64 raw / 4) (take place old ++ (digits ++ rest)) ≡ take place old ++ canonical_token n
 token_placed place raw n digits old rest cell same is fits =

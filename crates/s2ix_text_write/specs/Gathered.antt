@@ -15,7 +15,7 @@ pub record IsGathered {K : Type 0} (sink : Sink K) (old new : K) (text rest : Li
   pub whole : text ≡ front ++ rest
   pub wrote : Writes {A = Unit {0}} sink old new (Ok tt) front
 
--- a text came behind what was gathered: at `Ok` a front of both was put and the rest is gathered, at `Err` the sink failed in them
+-- a text came after what was gathered: at `Ok` a front of both was put and the rest is gathered, at `Err` the sink failed in them
 abbrev pub Gathers : {K A : Type 0} → Sink K → K → K → Result A WriteFault → (before after text : List ℕ) → Type 0
 Gathers sink old new (Ok _) before after text = IsGathered sink old new (before ++ text) after
 Gathers {K} {A} sink old new (Err fault) before after text = Writes {A = A} sink old new (Err fault) (before ++ text)

@@ -35,7 +35,7 @@ impl Block {
     }
 
     /// Gathers the line of an item. If it may not fit, what is gathered is put first. O(1) beside that. `WriteFault` if the sink fails;
-    /// then a front of what was gathered went out.
+    /// then a prefix of what was gathered went out.
     pub fn write_line<A: ListItem, K: Sink>(
         &mut self,
         item: A,
@@ -64,8 +64,8 @@ impl Block {
         Ok(())
     }
 
-    /// Puts what is gathered and, behind it, the last line of a list of `count` items: `end` with their number. Nothing is gathered then.
-    /// `WriteFault` if the sink fails; then a front of all that went out.
+    /// Puts what is gathered and, after it, the last line of a list of `count` items: `end` with their number. Nothing is gathered then.
+    /// `WriteFault` if the sink fails; then a prefix of all that went out.
     pub fn write_end<K: Sink>(&mut self, count: usize, sink: &mut K) -> Result<(), WriteFault>
         requires { CanCount (K.fault_count sink.old) }
         ensures text { Writes K.Sink sink.old sink.new result (gathered_in self.old ++ end_of_list count) }

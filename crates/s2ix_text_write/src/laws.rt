@@ -1,4 +1,4 @@
-//! Laws: functions that do nothing, and whose contracts are facts on the definitions.
+//! Laws: functions that do nothing; their contracts state facts about definitions.
 ghost use Rattle.std.specs.Prelude.{◌≡◌, ◌↔◌, IsTrue};
 ghost use Rattle.s2ix_text_write.specs.declared.version.Version.{Version};
 ghost use Rattle.s2ix_text_write.specs.Laws.{BagsHaveDumps, DumpsTellBagsApart, DumpsTellCollectionsApart, DumpsTellVersionsApart, JournalsTellListsApart, JournalsTellVersionsApart, WritableChangesHaveJournals};
@@ -26,7 +26,7 @@ pub fn journals_tell_lists_apart()
     ensures { JournalsTellListsApart }
 {}
 
-/// A journal is one of one version alone.
+/// No journal is of both versions.
 pub fn journals_tell_versions_apart()
     ensures { JournalsTellVersionsApart }
 {}
@@ -36,7 +36,7 @@ pub fn writable_changes_have_journals()
     ensures { WritableChangesHaveJournals }
 {}
 
-/// Two versions are equal exactly if they are one.
+/// Two versions are equal exactly if they are the same.
 pub fn equal_versions_are_one()
     ensures { (a b : Version) → IsTrue (⟦<Version as PartialEq>⟧.eq a b) ↔ (a ≡ b) }
 {}

@@ -1,7 +1,7 @@
 //! The texts that go out. A bag has a dump and a list of changes a journal; pairs, labels and cells are lists with an end line. Dumps and
 //! journals have two [`Version`]s, and the second is the one that is written.
 //!
-//! A call that writes does not allocate and does not flush. It ends at the first fault of the sink; then a front of its text went out.
+//! A call that writes does not allocate and does not flush. It ends at the first fault of the sink; then a prefix of its text went out.
 #![tactic(auto)]
 
 mod block;

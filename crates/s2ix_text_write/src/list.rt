@@ -85,7 +85,7 @@ pub(crate) fn write_lines<A: ListItem, K: Sink>(items: &[A], sink: &mut K) -> Re
     block.put(sink)
 }
 
-/// Writes the last line of a list of `count` items: `end` with their number. `WriteFault` if the sink fails; then a front of the line went
+/// Writes the last line of a list of `count` items: `end` with their number. `WriteFault` if the sink fails; then a prefix of the line went
 /// out.
 pub fn write_end_of_list<K: Sink>(count: usize, sink: &mut K) -> Result<(), WriteFault>
     requires { CanCount (K.fault_count sink.old) }

@@ -7,7 +7,7 @@ use itoa::Buffer;
 use s2ix_bag_pairs::Held;
 use s2ix_text_io::{Sink, WriteFault, put_together};
 
-/// Writes a held pair as queries print it (`TOKEN:LABEL:COUNT`), between two texts. `WriteFault` if the sink fails; then a front of it all
+/// Writes a held pair as queries print it (`TOKEN:LABEL:COUNT`), between two texts. `WriteFault` if the sink fails; then a prefix of it all
 /// went out.
 #[tactic(auto, unfolding(crate::specs::Lists::pair_text))]
 pub fn write_pair_between<K: Sink>(

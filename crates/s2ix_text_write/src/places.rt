@@ -8,7 +8,7 @@ use itoa::write_digits;
 use s2id_core::{CellId, sixteen_digits};
 use s2ix_bag_pairs::Held;
 
-// How many bytes a line has at most, whatever its numbers: that of an entry has a token of 16, three numbers of 20, and four bytes behind
+// How many bytes a line has at most, whatever its numbers: that of an entry has a token of 16, three numbers of 20, and four bytes after
 // these.
 pub(crate) const LONGEST_LINE: usize = 80;
 

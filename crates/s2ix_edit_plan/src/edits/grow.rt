@@ -71,7 +71,7 @@ fn is_outside(region: &CellUnion, cell: CellId) -> bool
     !region.intersects(cell)
 }
 
-// The cells of the level beside each of the cells, one cell's behind another's.
+// The cells of the level beside each of the cells, one cell's after another's.
 fn cells_beside(alloc: Global, cells: &[CellId], level: u8) -> Result<Vec<CellId>, OutOfMemory>
     requires level { level ≤ 30 }
     requires near { All (λ cell. level ≤ level_of cell + 8) cells.now }

@@ -1,4 +1,4 @@
--- The line of this pair is gathered behind those before it, or the sink fails; then the end line.
+-- The line of this pair is gathered after those before it, or the sink fails; then the end line.
 use Rattle.std.proofs.Common.{◌≡◌, ℕ, length, arith, rules}
 use Rattle.s2ix_table_ranges.specs.Meeting.{meeting_of}
 use Rattle.s2ix_table_walk.specs.Shown.{Shown}

@@ -1,4 +1,4 @@
--- The line of this turn's pair is gathered behind those before it, or the sink fails; then the end line.
+-- The line of this turn's pair is gathered after those before it, or the sink fails; then the end line.
 use Rattle.std.proofs.Common.{◌≡◌, ◌<◌, ℕ, List, Some, length, get_or, refl, sym, ap, ◌∙◌, arith}
 use Rattle.std.specs.Prelude.{slice_get}
 use Rattle.std.proofs.lemmas.Option.{slice_get_read}

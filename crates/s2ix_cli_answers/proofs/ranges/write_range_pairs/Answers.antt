@@ -1,4 +1,4 @@
--- The pair of this turn is written behind those before it, or a fault ends it.
+-- The pair of this turn is written after those before it, or a fault ends it.
 use Rattle.std.proofs.Common.{List, ℕ, length, ◌∷◌, Ok, Err, subst, append-nil}
 use Rattle.s2ix_table_walk.specs.Places.{from_place}
 use Rattle.s2ix_table_ranges.specs.Table.{range_at}

@@ -1,4 +1,4 @@
--- The line of this range is written behind those before it, or a fault ends it; then the end line.
+-- The line of this range is written after those before it, or a fault ends it; then the end line.
 use Rattle.std.proofs.Common.{◌≡◌, ◌<◌, ℕ, length, subst, arith}
 use Rattle.std.proofs.lemmas.Option.{slice_get-get_or}
 use Rattle.s2ix_table_ranges.specs.Table.{range_at}

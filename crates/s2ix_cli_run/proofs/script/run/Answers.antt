@@ -1,4 +1,4 @@
--- A piece is carried out behind those before it; the piece with no byte is the end.
+-- A piece is carried out after those before it; the piece with no byte is the end.
 use Rattle.std.proofs.Common.{◌+◌, [], take, sym, ap, ◌∙◌, inr, subst, arith}
 use Rattle.std.proofs.lemmas.Result.{err_from_is_err_and}
 use Rattle.s2ix_cli_run.specs.Coming.{unended_behind}

@@ -4,7 +4,7 @@ use Rattle.std.proofs.lemmas.Option.{get_or_from_slice_get}
 use Rattle.s2ix_bag_pairs.specs.declared.pair.Held.{Held}
 use Rattle.s2ix_table_queries.proofs.copied_pairs.held_pairs.Goals as goal
 
--- the first pairs with the next one behind them
+-- the first pairs with the next one after them
 with_next : (hs front out : List Held) (k : ℕ) (x : Held) → k < length hs → slice_get hs k ≡ Some x → front ≡ take k hs
     → out ≡ front ++ x ∷ [] → out ≡ take (k + 1) hs
 with_next hs front out k x less is same pushed =

@@ -1,4 +1,4 @@
--- A pair before the face moves the one end behind it, another the other end before it.
+-- A pair before the face moves the one end after it, another the other end before it.
 use Rattle.std.proofs.Common.{ℕ, suc, ◌+◌, ◌-◌, ◌/◌, ◌<◌, ◌≤◌, length, slice_get, sym, ap, ◌∙◌, arith, ⊎_elim}
 use Rattle.std.proofs.lemmas.Bool.{iff_false, cases_lt}
 use Rattle.s2ix_bag_lists.specs.Faces.{face_start}

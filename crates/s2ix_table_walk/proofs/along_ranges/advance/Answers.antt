@@ -51,7 +51,7 @@ last_is g c = record {
   behind = c.last_begun-last.ensures.last;
 }
 
--- the walk behind the range at hand
+-- the walk after the range at hand
 step_past : (g : Over) (c : goal.Joined-row-end g)
     → IsPast (g.R.Reader.shown c.args.reader.now) c.args.cells.now
     (record {

@@ -1,4 +1,4 @@
--- The list of this pair stands behind those of the pairs before it.
+-- The list of this pair stands after those of the pairs before it.
 use Rattle.std.proofs.Common.{◌++◌, ◌∷◌, [], sym, ap, ap₂, ◌∙◌, take, map}
 use Rattle.std.proofs.lemmas.List.{map_push, take_more}
 use Rattle.std.proofs.lemmas.Option.{slice_get_within, get_or_from_slice_get}

@@ -1,4 +1,4 @@
--- The parts stand one behind the other.
+-- The parts stand one after the other.
 use Rattle.std.proofs.Common.{◌+◌, ◌++◌, take, ap, ◌∙◌, arith}
 use Rattle.std.proofs.lemmas.Slice.{take-put_mid}
 use Rattle.s2ix_text_write.proofs.Placed.{end_placed}

@@ -1,4 +1,4 @@
--- The parts stand one behind the other.
+-- The parts stand one after the other.
 use Rattle.s2ix_text_write.proofs.Placed.{line_placed}
 use Rattle.s2ix_text_write.proofs.places.pair_at.Goals as goal
 

@@ -1,4 +1,4 @@
--- The number that comes out is that of the place behind the cell's own.
+-- The number that comes out is that of the place after the cell's own.
 use Rattle.std.proofs.Common.{◌≡◌, ℕ, ◌-◌, ◌*◌, ◌^◌, ◌≤◌, length, ◌∙◌, arith}
 use Rattle.std.proofs.Math.Nat.{le-mul_of_pos_right}
 use Rattle.s2id_core.specs.Cell.{IsCellNumber}

@@ -1,4 +1,4 @@
--- The place lies in the list at hand, or behind it.
+-- The place lies in the list at hand, or after it.
 use Rattle.std.proofs.Common.{◌≡◌, [], length, get_or, sym, ap, subst, arith}
 use Rattle.std.proofs.lemmas.List.{get_or_default}
 use Rattle.s2ix_bag_pairs.specs.Collection.{Collection}

@@ -1,4 +1,4 @@
--- The last line comes behind what is gathered once there is room, and all of it is put.
+-- The last line comes after what is gathered once there is room, and all of it is put.
 use Rattle.std.proofs.Common.{List, ℕ, Ok, Err, subst}
 use Rattle.s2ix_text_io.specs.Puts.{Writes}
 use Rattle.s2ix_text_write.specs.Lists.{end_of_list}

@@ -1,4 +1,4 @@
--- The line comes behind what is gathered once there is room.
+-- The line comes after what is gathered once there is room.
 use Rattle.s2ix_text_write.proofs.Gathered.{failed_before, gathered_behind}
 use Rattle.s2ix_text_write.proofs.block.Block.write_line.Goals as goal
 

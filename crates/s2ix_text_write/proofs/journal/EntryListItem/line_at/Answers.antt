@@ -1,4 +1,4 @@
--- The parts stand one behind the other.
+-- The parts stand one after the other.
 use Rattle.s2ix_text_write.proofs.Placed.{entry_placed}
 use Rattle.s2ix_text_write.proofs.journal.EntryListItem.line_at.Goals as goal
 

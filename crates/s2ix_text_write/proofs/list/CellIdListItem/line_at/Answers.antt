@@ -1,4 +1,4 @@
--- The line feed stands behind the token.
+-- The line feed stands after the token.
 use Rattle.s2ix_text_write.proofs.Placed.{cell_placed}
 use Rattle.s2ix_text_write.proofs.list.CellIdListItem.line_at.Goals as goal
 

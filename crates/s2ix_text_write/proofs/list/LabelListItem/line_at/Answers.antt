@@ -1,4 +1,4 @@
--- The line feed stands behind the number.
+-- The line feed stands after the number.
 use Rattle.s2ix_text_write.proofs.Placed.{label_placed}
 use Rattle.s2ix_text_write.proofs.list.LabelListItem.line_at.Goals as goal
 
