@@ -115,30 +115,6 @@ def lay_ours(folder):
         shutil.copy(path, laid)
 
 
-def kit():
-    """The toolchain's folder."""
-    return os.path.dirname(subprocess.run(["rt", "doc"], capture_output=True, text=True, check=True).stdout.strip())
-
-
-def build_ours(folder, crates):
-    """Proves the bench's crate over the libraries of a workspace, and builds libours.a of it as a program is built: by LLVM with -O3."""
-    rlibs = {crate: f"{folder}/crates/{crate}/out/rlib" for crate in crates}
-    words = [f"{kit()}/bin/rattle", "build", "--crate-name", "ours", "--crate-type", "staticlib", "--backend", "llvm"]
-    # (what was proved of the bench's crate is kept, for when the crates below change)
-    words += ["--jobs", str(len(os.sched_getaffinity(0))), "--incremental", f"{OUT}/incremental"]
-    words += ["--antt-project", f"{kit()}/rattle/logic/antt-project.json", "--logic-built", f"{kit()}/logic_built"]
-    words += ["--toolchain", f"{kit()}/toolchain"]
-    words += ["--extern", f"std={kit()}/rlibs/std.rlib", "-L", f"dependency={kit()}/rlibs"]
-    for rlib in rlibs.values():
-        words += ["-L", f"dependency={rlib}"]
-    for crate in USED:
-        words += ["--extern", f"{crate}={rlibs[crate]}/{crate}.rlib"]
-    words += ["-o", f"{OUT}/libours.new", "src/lib.rt"]
-    ran = subprocess.run(words, cwd=f"{folder}/crates/ours", stdout=subprocess.PIPE, stderr=subprocess.STDOUT, text=True, errors="replace")
-    if ran.returncode:
-        sys.exit(f"{ran.stdout}\nbench: the bench's crate is not proved, so nothing was run")
-
-
 def make_library():
     """Proves and builds libours.a in a workspace of its own, outside this repository."""
     crates = workspace.with_below(USED)
@@ -152,11 +128,11 @@ def make_library():
         workspace.copy_crates(crates, folder)
         try:
             workspace.prove(folder, crates, say)
+            lay_ours(folder)
+            say("proving the bench's own crate")
+            workspace.build_static("ours", USED, folder, f"{OUT}/incremental", f"{OUT}/libours.new")
         except workspace.NotProved as error:
             sys.exit(f"{error}\nbench: a crate is not proved, so nothing was run")
-        lay_ours(folder)
-        say("proving the bench's own crate")
-        build_ours(folder, crates)
     # (as old as the sources that were proved: what changed meanwhile is newer)
     os.utime(f"{OUT}/libours.new", (started, started))
     os.replace(f"{OUT}/libours.new", library)
@@ -167,7 +143,7 @@ def make_programs():
     for program, parts in PROGRAMS.items():
         sources = [f"{BENCH}/cpp/{part}.cpp" for part in parts]
         # (liblibc_c.a gives memory to a static library)
-        linked = [*compiled_s2(), f"{OUT}/libours.a", f"{kit()}/c/liblibc_c.a"] if program == "session" else compiled_s2()
+        linked = [*compiled_s2(), f"{OUT}/libours.a", f"{workspace.kit()}/c/liblibc_c.a"] if program == "session" else compiled_s2()
         if not is_current(f"{OUT}/{program}", [*sources, *headers, *linked]):
             say(f"compiling {program}")
             run(["g++", *FLAGS, f"-I{BENCH}/cpp", *sources, *linked, *S2, "-o", f"{OUT}/{program}"])

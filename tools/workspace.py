@@ -5,6 +5,7 @@ proves as many side by side as there are processors. What it proves is kept on t
 neither another workspace nor ./test proves it again.
 """
 import contextlib
+import functools
 import os
 import re
 import shutil
@@ -75,6 +76,35 @@ def copy_crates(names, folder):
         for name in RUN_FILES:
             if os.path.isfile(f"{TOP}/crates/{crate}/{name}"):
                 shutil.copy(f"{TOP}/crates/{crate}/{name}", f"{folder}/crates/{crate}")
+
+
+@functools.cache
+def kit():
+    """The toolchain's folder."""
+    return os.path.dirname(subprocess.run(["rt", "doc"], capture_output=True, text=True, check=True).stdout.strip())
+
+
+def words_over(used, folder):
+    """The words by which rattle reads a crate over these libraries: the crates among them, as they are built in a workspace, and the toolchain's."""
+    words = ["--antt-project", f"{kit()}/rattle/logic/antt-project.json", "--logic-built", f"{kit()}/logic_built"]
+    words += ["-L", f"dependency={kit()}/rlibs"]
+    for crate in with_below([name for name in used if name in CRATES]):
+        words += ["-L", f"dependency={folder}/crates/{crate}/out/rlib"]
+    for name in ("std", *used):
+        rlibs = f"{folder}/crates/{name}/out/rlib" if name in CRATES else f"{kit()}/rlibs"
+        words += ["--extern", f"{name}={rlibs}/{name}.rlib"]
+    return words
+
+
+def build_static(crate, used, folder, kept, archive):
+    """Proves a crate of a workspace over the libraries that it uses, as they are built there, and makes a static library of it as a program is
+    made: by LLVM with -O3. What it proves is kept in a folder of its own, for when the crate changes; it makes nothing of a crate that is not proved."""
+    words = [f"{kit()}/bin/rattle", "build", "--crate-name", crate, "--crate-type", "staticlib", "--backend", "llvm", "src/lib.rt"]
+    words += ["--jobs", str(len(os.sched_getaffinity(0))), "--incremental", kept, *words_over(used, folder)]
+    words += ["--toolchain", f"{kit()}/toolchain", "-o", archive]
+    ran = subprocess.run(words, cwd=f"{folder}/crates/{crate}", stdout=subprocess.PIPE, stderr=subprocess.STDOUT, text=True, errors="replace")
+    if ran.returncode:
+        raise NotProved(ran.stdout.replace(folder, TOP))
 
 
 class Progress:
