@@ -1,5 +1,5 @@
 -- The pairs that a walk gave: each was first met before the leaf that the walk has come to, so the ranges up to there were read.
-use Rattle.std.proofs.Common.{◌≡◌, ℕ, ◌+◌, ◌-◌, ◌<◌, ◌≤◌, Bool, true, false, cond, leb, ltb, ◌&&◌, Option, Some, None, IfSome, inl, inr, List, [], ◌∷◌, ◌++◌, length, take, refl, sym, ◌∙◌, ap, subst, arith, Contains, count_by, lt-ltb}
+use Rattle.std.proofs.Common.{◌≡◌, ℕ, ◌+◌, ◌-◌, ◌<◌, ◌≤◌, Bool, true, false, cond, leb, ltb, ◌&&◌, Option, Some, None, IfSome, inl, inr, List, [], ◌∷◌, ◌++◌, length, drop, take, refl, sym, ◌∙◌, ap, subst, arith, Contains, count_by, lt-ltb}
 use Rattle.std.proofs.lemmas.Bool.{and_parts, and_from, leb-true, ltb-true, cases_lt, cases_Bool, both_ways}
 use Rattle.std.proofs.lemmas.List.{take-append-drop, get_or-take, length-take}
 use Rattle.std.proofs.lemmas.List.Elements.{Contains-append_left}
@@ -101,7 +101,7 @@ given_reads shown target walk cost h is has held =
     let odd = is.odd in
     let parts : all ≡ given ++ left_of shown target walk = sym (take-append-drop (length all - length (left_of shown target walk)) all)
     ∙ ap (λ (xs : Collection). given ++ xs) (sym has.rest) in
-    let early = given_before target walk.seen shown.pairs given (front_from walk.from (from_place shown.chain walk.place)) h (omega arith)
+    let early = given_before target walk.seen shown.pairs given (front_from walk.from (drop 1 (from_place shown.chain walk.place))) h (omega arith)
     parts held in
     let begun = has.paid.begun in
     let fewer = count_grows (λ (r : Range). is_met target r && leb r.start (first_shared target h.pair.cell))

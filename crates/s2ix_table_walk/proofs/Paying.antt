@@ -213,6 +213,15 @@ look_pays shown target walk outer calls old new few some is paid =
     let begun = paid.begun in
     record { each = omega arith; looks = let o = one_most outer in omega arith; probes = omega arith; begun = omega arith }
 
+-- where the pair given last leads, no more looks are to come
+pub open_pays : {P : Type 0} (shown : Shown P) (target : List CellId) (walk : WalkState P) (outer : Option P) (calls : ℕ) (cost : Cost)
+    → one_if_some outer ≤ one_if_some walk.place → IsPaid shown target walk calls cost
+    → IsPaid shown target
+    (record { cell = walk.cell; range = walk.range; seen = walk.seen; from = walk.from; place = outer; known = walk.known }) calls cost
+open_pays shown target walk outer calls cost fewer paid =
+    let looks = paid.looks in
+    record { each = paid.each; looks = omega arith; probes = paid.probes; begun = paid.begun }
+
 closed_by : {P : Type 0} (place : Option P) (old : Cost)
     → ((looked_at place old).looks ≤ old.looks + one_if_some place) × ((looked_at place old).probes ≡ old.probes)
     × (min old.looks 18446744073709551615 ≤ (looked_at place old).looks)

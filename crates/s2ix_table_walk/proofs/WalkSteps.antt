@@ -1,5 +1,5 @@
 -- The steps of a walk over the ranges that a target meets.
-use Rattle.std.proofs.Common.{◌≡◌, ℕ, ◌+◌, ◌-◌, ◌%◌, ◌^◌, ◌<◌, ◌≤◌, ◌⊎◌, inl, inr, min, max, Option, Some, None, List, [], ◌∷◌, ◌++◌, length, get_or, refl, sym, ◌∙◌, ap, arith, Contains, subst}
+use Rattle.std.proofs.Common.{◌≡◌, ℕ, ◌+◌, ◌-◌, ◌%◌, ◌^◌, ◌<◌, ◌≤◌, ◌⊎◌, inl, inr, min, max, Option, Some, None, List, [], ◌∷◌, ◌++◌, length, drop, get_or, refl, sym, ◌∙◌, ap, arith, Contains, subst}
 use Rattle.std.proofs.lemmas.Bool.{cases_lt, cases_order}
 use Rattle.std.proofs.lemmas.List.{get_or_default}
 use Rattle.s2id_core.specs.declared.cell_id.CellId.{CellId}
@@ -13,7 +13,7 @@ use Rattle.s2ix_table_ranges.specs.Meeting.{meeting_from}
 use Rattle.s2ix_table_walk.specs.Places.{from_place, LeadsTo}
 use Rattle.s2ix_table_ranges.specs.Table.{Range, range_at, leaf_end, IsRangeTable, IsFound}
 use Rattle.s2ix_table_walk.specs.Shown.{Shown}
-use Rattle.s2ix_table_walk.specs.Walking.{left_of, ArePassed, IsKnown, IsWalk, front_from}
+use Rattle.s2ix_table_walk.specs.Walking.{left_of, left_with, ArePassed, IsKnown, IsWalk, front_from}
 use Rattle.s2ix_table_walk.specs.declared.walk_state.WalkState.{WalkState}
 use Rattle.s2ix_table_ranges.proofs.Over.{IsOver, in_contents, contents_has}
 use Rattle.s2ix_table_ranges.proofs.Tables.{places_fit, limits_rise}
@@ -214,7 +214,7 @@ GoesOn range limit end to = ((limit ≤ end) × (to ≡ (range + 1, limit))) ⊎
 
 -- a walk goes on after a range, with the chain of that range at hand
 pub record IsPast {P : Type 0} (shown : Shown P) (target : List CellId) (walk : WalkState P) : Type 0 where
-  pub left : meeting_from target walk.from shown.pairs ≡ left_of shown target walk
+  pub left : meeting_from target walk.from shown.pairs ≡ left_with shown target walk
   pub next : IsWalk shown target walk
 
 pub walk_past : {P : Type 0} (shown : Shown P) (target : List CellId) (k range limit end : ℕ) (x y : CellId) (walk : WalkState P)
@@ -301,6 +301,30 @@ walk_past {P} shown target k range limit end x y walk a begun leads is_limit is_
 
 -- ---- the chain at hand
 
+-- a walk that goes on to where the pair given last leads
+pub record IsOpened {P : Type 0} (shown : Shown P) (target : List CellId) (walk next : WalkState P) : Type 0 where
+  pub walks : IsWalk shown target next
+  pub left : left_with shown target next ≡ left_of shown target walk
+
+pub walk_opened : {P : Type 0} (shown : Shown P) (target : List CellId) (walk : WalkState P) (outer : Option P) → IsWalk shown target walk
+    → LeadsTo shown.chain outer (drop 1 (from_place shown.chain walk.place))
+    → IsOpened shown target walk
+    (record { cell = walk.cell; range = walk.range; seen = walk.seen; from = walk.from; place = outer; known = walk.known })
+walk_opened {P} shown target walk outer w leads =
+    record {
+      walks = record {
+        odd = w.odd;
+        within = w.within;
+        tight = w.tight;
+        passed = w.passed;
+        found = w.found;
+        place = leads.place;
+        fresh = w.fresh;
+        known = w.known;
+      };
+      left = ap (λ (cs : Collection). front_from walk.from cs ++ meeting_from target walk.seen shown.pairs) leads.pairs_are;
+    }
+
 -- a walk that leaves the chain at hand
 pub walk_closed : {P : Type 0} (shown : Shown P) (target : List CellId) (walk : WalkState P) → IsWalk shown target walk
     → IsWalk shown target
@@ -327,9 +351,9 @@ pub new_stop : {P : Type 0} (chain : P → Collection) (from : ℕ) (place : Opt
 new_stop {P} chain from place p h rest e is early =
     ap (λ (o : Option P). front_from from (from_place chain o)) e ∙ ap (front_from from) is ∙ front_stops from h rest early
 
-pub new_more : {P : Type 0} (chain : P → Collection) (from : ℕ) (place outer : Option P) (p : P) (h : Held) (rest : Collection)
-    → place ≡ Some p → chain p ≡ h ∷ rest → from ≤ first_of h.pair.cell → LeadsTo chain outer rest
-    → front_from from (from_place chain place) ≡ h ∷ front_from from (from_place chain outer)
-new_more {P} chain from place outer p h rest e is late leads =
-    ap (λ (o : Option P). front_from from (from_place chain o)) e ∙ ap (front_from from) is ∙ front_here from h rest late
-    ∙ ap (λ cs. h ∷ front_from from cs) (sym leads.pairs_are)
+pub new_more : {P : Type 0} (chain : P → Collection) (from : ℕ) (place : Option P) (p : P) (h : Held) (rest : Collection) → place ≡ Some p
+    → chain p ≡ h ∷ rest → from ≤ first_of h.pair.cell
+    → front_from from (from_place chain place) ≡ h ∷ front_from from (drop 1 (from_place chain place))
+new_more {P} chain from place p h rest e is late =
+    let all : from_place chain place ≡ h ∷ rest = ap (λ (o : Option P). from_place chain o) e ∙ is in
+    ap (front_from from) all ∙ front_here from h rest late ∙ ap (λ (cs : Collection). h ∷ front_from from cs) (sym (ap (drop 1) all))

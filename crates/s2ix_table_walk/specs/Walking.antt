@@ -23,9 +23,13 @@ unfoldable pub front_from : ℕ → Collection → Collection
 front_from from [] = []
 front_from from (h ∷ hs) = if nat_le from (first_of h.pair.cell) then h ∷ front_from from hs else []
 
--- the pairs that are still to be met: what is new of the chain at hand, and then the meeting list from `seen` on
+-- the pairs that are still to be met: what is new of the chain at hand outwards of the pair given last, then the meeting list from `seen` on
 abbrev pub left_of : {P : Type 0} → Shown P → List CellId → WalkState P → Collection
-left_of shown target walk = front_from walk.from (from_place shown.chain walk.place) ++ meeting_from target walk.seen shown.pairs
+left_of shown target walk = front_from walk.from (drop 1 (from_place shown.chain walk.place)) ++ meeting_from target walk.seen shown.pairs
+
+-- those that are still to be met if the pair at the walk's place wasn't given yet
+abbrev pub left_with : {P : Type 0} → Shown P → List CellId → WalkState P → Collection
+left_with shown target walk = front_from walk.from (from_place shown.chain walk.place) ++ meeting_from target walk.seen shown.pairs
 
 -- the first cells of a target end by a leaf
 abbrev pub ArePassed : List CellId → ℕ → ℕ → Type 0

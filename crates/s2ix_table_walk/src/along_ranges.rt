@@ -1,11 +1,11 @@
 //! The walk over the ranges that a target meets: it gives each pair of the meeting list once, in order.
-ghost use Rattle.std.specs.Prelude.{◌≡◌, ◌<◌, ◌≤◌, ◌+◌, ◌∷◌, ℕ, [], Some, None, IfSome, IsTrue, IsFalse, length, slice_index_or};
+ghost use Rattle.std.specs.Prelude.{◌≡◌, ◌<◌, ◌≤◌, ◌+◌, ◌∷◌, ℕ, [], Some, None, IfSome, IsTrue, IsFalse, length, drop, slice_index_or};
 ghost use Rattle.s2id_core.specs.declared.cell_id.CellId.{CellId};
 ghost use Rattle.s2id_core.specs.CellId.{raw_of, first_of, end_of};
 ghost use Rattle.s2id_union.specs.Covers.{FollowOneAnother};
 ghost use Rattle.s2ix_table_ranges.specs.Meeting.{meeting_from};
-ghost use Rattle.s2ix_table_walk.specs.Places.{IsPlace, from_place};
-ghost use Rattle.s2ix_table_walk.specs.Walking.{front_from, left_of, ArePassed, IsWalk, IsPaid, looked_at, one_if_some};
+ghost use Rattle.s2ix_table_walk.specs.Places.{IsPlace, LeadsTo, from_place};
+ghost use Rattle.s2ix_table_walk.specs.Walking.{front_from, left_of, left_with, ArePassed, IsWalk, IsPaid, looked_at, one_if_some};
 
 use crate::reader::Reader;
 use crate::search::{Reached, range_from};
@@ -13,24 +13,24 @@ use crate::walk_state::WalkState;
 use s2id_core::CellId;
 use s2ix_bag_pairs::Held;
 
-// A pair of a chain, and the place of the next one outwards.
-#[derive(Clone, Copy)]
-struct Link<P> {
-    held: Held,
-    outer: Option<P>,
+// The place of the next pair outwards of the one that was given last, if there are both.
+#[inline(always)]
+fn next_place<R: Reader>(reader: &R, given: Option<R::Place>) -> Option<R::Place>
+    requires { (p : R.Place) → given ≡ Some p → IsPlace (R.shown reader.now).chain p }
+    ensures leads { LeadsTo (R.shown reader.now).chain result (drop 1 (from_place (R.shown reader.now).chain given)) }
+    ensures fewer { one_if_some result ≤ one_if_some given }
+{
+    reader.outer(given?)
 }
 
 // The pair at a place, where its cell begins at a leaf or after it.
 #[inline(always)]
-fn new_pair<R: Reader>(reader: &mut R, from: u64, place: Option<R::Place>) -> Option<Link<R::Place>>
+fn new_pair<R: Reader>(reader: &mut R, from: u64, place: Option<R::Place>) -> Option<Held>
     requires { (p : R.Place) → place ≡ Some p → IsPlace (R.shown reader.old).chain p }
     ensures ends { result ≡ None → front_from from (from_place (R.shown reader.old).chain place) ≡ [] }
-    ensures gives { IfSome result (λ link. front_from from (from_place (R.shown reader.old).chain place)
-        ≡ link.held ∷ front_from from (from_place (R.shown reader.old).chain link.outer)) }
-    ensures outer { IfSome result (λ link. (p : R.Place)
-        → link.outer ≡ Some p
-        → IsPlace (R.shown reader.old).chain p) }
-    ensures some { IfSome result (λ link. one_if_some place ≡ 1) }
+    ensures gives { IfSome result (λ held. front_from from (from_place (R.shown reader.old).chain place)
+        ≡ held ∷ front_from from (drop 1 (from_place (R.shown reader.old).chain place))) }
+    ensures some { IfSome result (λ held. one_if_some place ≡ 1) }
     ensures same { R.shown reader.new ≡ R.shown reader.old }
     ensures counts { R.spent reader.new ≡ looked_at place (R.spent reader.old) }
 {
@@ -39,11 +39,11 @@ fn new_pair<R: Reader>(reader: &mut R, from: u64, place: Option<R::Place>) -> Op
     if held.pair.cell.span_start() < from {
         return None;
     }
-    let outer = reader.outer(place);
-    Some(Link { held, outer })
+    Some(held)
 }
 
-// The next pair that is met, or `None` where all have been.
+// The next pair that is met, or `None` where all have been. It reads only now where the pair that was given last leads, and branches on it
+// at once, so that the processor goes on along the chain before it has read that.
 #[inline(always)]
 pub(crate) fn next_met<R: Reader>(
     reader: &mut R,
@@ -64,13 +64,17 @@ pub(crate) fn next_met<R: Reader>(
         → IsPaid (R.shown reader.old) cells.now walk.old calls (R.spent reader.old)
         → IsPaid (R.shown reader.old) cells.now walk.new (calls + one_if_some result) (R.spent reader.new) }
 {
+    walk.place = next_place(reader, walk.place);
+    if let Some(held) = new_pair(reader, walk.from, walk.place) {
+        return Some(held);
+    }
+    walk.place = None;
     loop {
-        if let Some(link) = new_pair(reader, walk.from, walk.place) {
-            walk.place = link.outer;
-            return Some(link.held);
+        *walk = advance(reader, cells, *walk)?;
+        if let Some(met) = new_pair(reader, walk.from, walk.place) {
+            return Some(met);
         }
         walk.place = None;
-        *walk = advance(reader, cells, *walk)?;
     }
 }
 
@@ -88,7 +92,7 @@ fn advance<R: Reader>(
     ensures ends { result ≡ None → meeting_from cells.now walk.seen (R.shown reader.old).pairs ≡ [] }
     ensures passed { result ≡ None → ArePassed cells.now (length cells.now) walk.seen }
     ensures left { IfSome result (λ next. meeting_from cells.now walk.seen (R.shown reader.old).pairs
-        ≡ left_of (R.shown reader.old) cells.now next) }
+        ≡ left_with (R.shown reader.old) cells.now next) }
     ensures next { IfSome result (λ next. IsWalk (R.shown reader.old) cells.now next) }
     ensures rises { IfSome result (λ next. walk.seen < next.seen) }
     ensures same { R.shown reader.new ≡ R.shown reader.old }

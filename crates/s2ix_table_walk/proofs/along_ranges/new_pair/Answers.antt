@@ -1,6 +1,4 @@
-use Rattle.std.proofs.Common.{drop, subst, arith}
-use Rattle.s2ix_table_walk.specs.Places.{LeadsTo}
-use Rattle.s2ix_table_walk.specs.Shown.{Shown}
+use Rattle.std.proofs.Common.{drop, arith}
 use Rattle.s2ix_table_walk.proofs.WalkSteps.{new_none, new_stop, new_more}
 use Rattle.s2ix_table_walk.proofs.along_ranges.new_pair.Goals as goal
 
@@ -19,7 +17,5 @@ pub returns-clause-gives : goal.returns-clause-gives
 returns-clause-gives g c =
     let chain = (g.R.Reader.shown c.args.reader.now).chain in
     let p = c.in_ok-place.place in
-    new_more chain c.args.from c.args.place c.outer-outer.result p c.node-held.result (drop 1 (chain p)) c.in_ok-place.was
-    c.node-held.ensures.held (omega (arith, c.span_start.ensures, c.if-span_start-from.false))
-    (subst (λ (z : Shown g.row.R-Place.Denot). LeadsTo z.chain c.outer-outer.result (drop 1 (z.chain p))) c.node-held.ensures.same
-    c.outer-outer.ensures)
+    new_more chain c.args.from c.args.place p c.node-held.result (drop 1 (chain p)) c.in_ok-place.was c.node-held.ensures.held
+    (omega (arith, c.span_start.ensures, c.if-span_start-from.false))
