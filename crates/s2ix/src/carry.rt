@@ -11,6 +11,9 @@ use s2ix_text::{FromRead, RunFault, Sink, ToWrite, read_whole};
 use std::fs::File;
 use std::io::{BufWriter, Stdout};
 
+// How many bytes the block has whose size glibc's allocator learns: with what it adds to a block, no more than 32 MiB.
+const LARGEST_KEPT: usize = 31 << 20;
+
 // Carries out a command, and says whether all was accepted. What was written before a fault goes out too.
 pub(crate) fn carry_command(rt: &HostRuntime, command: &Command) -> Result<bool, RunFault> {
     match command {
@@ -40,9 +43,16 @@ fn run(
 
 // The store of the dump in a file, or `None` once its fault is told.
 fn load_file(rt: &HostRuntime, file: &str, limits: Limits) -> Result<Option<Store>, RunFault> {
+    keep_pages(rt);
     let text = file_text(rt, file)?;
     let mut sink = output(rt)?;
     load_text(rt.alloc(), text.as_slice(), limits, &mut sink)
+}
+
+// Takes a large block and gives it back. From then on glibc's allocator keeps the pages of blocks up to that size that are given back: the
+// tables lie where the list was that the pairs were read into, in pages that the system need not clear. Without room nothing is lost.
+fn keep_pages(rt: &HostRuntime) {
+    let _given_back = Vec::<u8>::with_capacity(rt.alloc(), LARGEST_KEPT);
 }
 
 // Runs the script on standard input over a store.

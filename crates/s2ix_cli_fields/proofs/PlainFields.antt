@@ -136,7 +136,7 @@ part-front front rest =
     ap (λ n. take n (front ++ rest)) count ∙ take-append_seam front rest
 
 -- a field of plain bytes, at the end of a text or before a blank
-first_field : (word rest : List ℕ) → 0 < length word → list_all is_plain word ≡ true → (0 < length rest → is_blank (get_or rest 0 0) ≡ true)
+pub first_field : (word rest : List ℕ) → 0 < length word → list_all is_plain word ≡ true → (0 < length rest → is_blank (get_or rest 0 0) ≡ true)
     → fields_of (word ++ rest) ≡ word ∷ fields_of rest
 unfolding fields_of
 first_field [] rest some all ends = absurd (omega arith)

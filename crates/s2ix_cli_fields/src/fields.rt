@@ -1,13 +1,17 @@
 //! The fields of a line, one after the other.
 //!
 //! What has no byte above 127 is cut here, by looks at bytes alone. From the first field on that has such a byte, `bstr` cuts the line.
-ghost use Rattle.std.specs.Prelude.{◌≡◌, ◌≤◌, ◌∷◌, ℕ, List, IfSome, ⊤, length, take, true};
+ghost use Rattle.std.specs.Prelude.{◌≡◌, ◌≤◌, ◌∷◌, ℕ, List, IfNone, IfSome, ⊤, length, take, true};
 ghost use Rattle.std.specs.List.{list_all};
 ghost use Rattle.std.specs.Iterator.{item_count};
 ghost use Rattle.bstr.specs.Text.{TakesFirstRef};
+ghost use Rattle.s2id_core.specs.CellId.{raw_of};
+ghost use Rattle.s2id_core.specs.Token.{canonical_token};
 ghost use Rattle.s2ix_cli_fields.specs.Fields.{fields_left, fields_of, is_blank, is_plain};
 
 use bstr::ByteSlice;
+use s2id_core::CellId;
+use s2ix_text_parts::token_in_front;
 use std::alloc::AllocError;
 use std::marker::Model;
 
@@ -46,6 +50,23 @@ impl<'a> Fields<'a> {
             text: line,
             wide: None,
         }
+    }
+
+    /// The cell whose canonical token the next field is, where that is seen in one pass; else nothing, and no field is taken.
+    ///
+    /// It is seen where a space is after the token, at least 17 bytes of the line are left, and no byte above 127 came so far. O(n) for n
+    /// bytes of white space in front.
+    #[inline]
+    pub fn next_cell(&mut self) -> Option<CellId>
+        ensures cell { IfSome result (λ cell. self.old ≡ canonical_token (raw_of cell) ∷ self.new) }
+        ensures none { IfNone result (self.new ≡ self.old) }
+    {
+        if self.wide.is_some() {
+            return None;
+        }
+        let (cell, behind) = token_in_front(behind_blank(self.text))?;
+        self.text = behind;
+        Some(cell)
     }
 
     // The next field of a text which has a byte above 127 in it, and all after it.

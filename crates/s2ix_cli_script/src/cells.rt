@@ -1,7 +1,7 @@
 //! The cells that the fields of a line name, as their normal union. Only this module allocates, and only if each of these fields names a
 //! cell.
-ghost use Rattle.std.specs.Prelude.{◌≡◌, Ok, ◌∷◌, true, MatchResult};
-ghost use Rattle.s2ix_cli_script.specs.Named.{IsFault, Means, add_union_named, cells_named, is_add_union, union_named, union_of};
+ghost use Rattle.std.specs.Prelude.{◌≡◌, ◌<◌, ◌∷◌, [], Err, IfErr, IfNone, IfOk, IfSome, MatchResult, Ok, length, true};
+ghost use Rattle.s2ix_cli_script.specs.Named.{IsFault, Means, add_union_named, before, cells_named, is_add_union, union_named, union_of};
 
 use crate::fields::{cell_from_field, label_from_field};
 use crate::line_fault::{LineError, LineFault};
@@ -49,22 +49,42 @@ fn union_of(alloc: Global, first: &[u8], rest: Fields<'_>) -> Result<CellUnion, 
     Ok(CellUnion::normalise(alloc, &cells)?)
 }
 
+// For how many cells there is room at first: a list of so many or fewer is never moved.
+const ROOM_AT_FIRST: usize = 16;
+
 // The cells that the fields TOKEN.. name, the first of them and the rest. Where room was refused for one, those after it are read all the
 // same: only a list without a fault wants memory.
 #[tactic(auto, using(crate::proofs::WantedFields::wanting))]
-fn read_cells(alloc: Global, first: &[u8], rest: Fields<'_>) -> Result<Vec<CellId>, LineError>
+fn read_cells(alloc: Global, first: &[u8], mut rest: Fields<'_>) -> Result<Vec<CellId>, LineError>
     ensures { MatchResult result
         (λ cells. cells_named (first.now ∷ rest.entry) ≡ Ok cells.items)
         (λ error. IsFault (λ _. true) error (cells_named (first.now ∷ rest.entry))) }
 {
+    let first = cell_from_field(first)?;
     let mut cells = Vec::new(alloc);
-    let mut has_room = cells.push(cell_from_field(first)?).is_ok();
-    'tokens: for token in rest {
-        let cell = cell_from_field(token)?;
+    let mut has_room = cells.reserve(ROOM_AT_FIRST).is_ok() && cells.push(first).is_ok();
+    'tokens: while let Some(cell) = next_cell(&mut rest)? {
         has_room = has_room && cells.push(cell).is_ok();
     }
     if !has_room {
         return Err(LineError::OutOfMemory);
     }
     Ok(cells)
+}
+
+// The cell that the next field names, or `None` where no field is left.
+#[inline]
+fn next_cell(fields: &mut Fields<'_>) -> Result<Option<CellId>, LineFault>
+    ensures next { IfOk result (λ next. IfSome next (λ cell. cells_named fields.old ≡ before (Ok cell) (cells_named fields.new))) }
+    ensures fewer { IfOk result (λ next. IfSome next (λ _. length fields.new < length fields.old)) }
+    ensures end { IfOk result (λ next. IfNone next (fields.old ≡ [])) }
+    ensures fault { IfErr result (λ fault. cells_named fields.old ≡ Err fault) }
+{
+    if let Some(cell) = fields.next_cell() {
+        return Ok(Some(cell));
+    }
+    match fields.next() {
+        Some(field) => Ok(Some(cell_from_field(field)?)),
+        None => Ok(None),
+    }
 }

@@ -67,6 +67,37 @@ fn fields_stand_between_white_space(rt: HostRuntime) {
     }
 }
 
+// Whether the first field of a line is read as the cell with this token, and this field is next.
+fn reads_cell(line: &[u8], token: &[u8], behind: &[u8]) -> bool {
+    let mut fields = Fields::new(line);
+    let Some(cell) = fields.next_cell() else {
+        return false;
+    };
+    cell.token().as_bytes() == token && fields.next() == Some(behind)
+}
+
+// Whether the first field of a line is not read as a cell, and is still to come.
+fn keeps_field(line: &[u8], first: &[u8]) -> bool {
+    let mut fields = Fields::new(line);
+    fields.next_cell().is_none() && fields.next() == Some(first)
+}
+
+#[test]
+fn canonical_tokens_are_read_as_cells(rt: HostRuntime) {
+    assert!(rt; reads_cell(b"1 89c25 89c259c4b", b"1", b"89c25"));
+    assert!(rt; reads_cell(b" \t89c259c44  7 123456", b"89c259c44", b"7"));
+    assert!(rt; reads_cell(b"0000000000000001 \xc2\x857", b"0000000000000001", b"7"));
+}
+
+#[test]
+fn other_fields_are_no_cells_in_front(rt: HostRuntime) {
+    assert!(rt; keeps_field(b"89c25 9 89c259c4", b"89c25"));
+    assert!(rt; keeps_field(b"89C25 89c259c44 7", b"89C25"));
+    assert!(rt; keeps_field(b"89c250 89c259c44 7", b"89c250"));
+    assert!(rt; keeps_field(b"89c22 89c259c44 77", b"89c22"));
+    assert!(rt; keeps_field(b"89c25\t89c259c44 77", b"89c25"));
+}
+
 // Whether labels and levels are those that fields write.
 fn are_labels_and_levels() -> bool {
     label_spelled(b"0000000009") == Label::new(9)
