@@ -4,7 +4,7 @@
    Cells are S2's 64-bit ids, labels are 0 to 2147483647. Each call returns a status, except that s2ix_close returns nothing and some calls on
    cells return a bool. A call whose status is not S2IX_DONE leaves the store as it was. A call that gives a list takes a buffer with room for
    `room` items, and sets *number to how many items the list has. If the buffer has room for all, the call puts them at its front; else the
-   status is S2IX_NO_ROOM and the buffer stays as it was. A call that is refused for another reason sets *number to 0. No pointer is NULL, not
+   status is S2IX_NO_ROOM and the buffer stays as it was. A call that is refused for another reason sets *number to 0 (s2ix_add_all may not). No pointer is NULL, not
    even one to no items. What the pointers of one call point to doesn't overlap, so never copy a handle to itself. A query takes the store out
    of its handle and puts it back, so the handle isn't const. Costs are in n, the number of pairs held. */
 #ifndef S2IX_H
@@ -82,6 +82,11 @@ void s2ix_close(s2ix_handle *handle);
 
 /* Adds copies to the count of a cell under a label. S2IX_NO_CELL, S2IX_NO_LABEL. */
 uint32_t s2ix_add(s2ix_handle *handle, uint64_t cell, uint32_t label, uint32_t copies, size_t *number);
+
+/* Adds the count of each row to that of its cell under its label, as one change: rows in any order, repeated or not, of which those of count 0
+   add nothing. They are refused as a whole. If a row's cell or label is wrong, *number is the place of the first such row, counted from 0.
+   O(m log m + m log n) for m rows, and the pairs held on their faces. S2IX_NO_CELL, S2IX_NO_LABEL. */
+uint32_t s2ix_add_all(s2ix_handle *handle, const s2ix_row *rows, size_t len, size_t *number);
 
 /* Takes copies from the count of a cell under a label. S2IX_NO_CELL, S2IX_NO_LABEL, S2IX_NOT_HELD. */
 uint32_t s2ix_remove(s2ix_handle *handle, uint64_t cell, uint32_t label, uint32_t copies, size_t *number);

@@ -47,13 +47,17 @@ inline std::string status_text(std::uint32_t status) {
 // Why a call was refused. It left the store as it was.
 class Error : public std::runtime_error {
  public:
-  explicit Error(std::uint32_t status, std::size_t line = 0) : std::runtime_error(text(status, line)), status_(status), line_(line) {}
+  explicit Error(std::uint32_t status, std::size_t line = 0, std::size_t row = 0)
+      : std::runtime_error(text(status, line)), status_(status), line_(line), row_(row) {}
 
   // The status that s2ix.h has for the reason, as S2IX_NOT_HELD.
   std::uint32_t status() const noexcept { return status_; }
 
   // The first line of a dump that has a fault, from 1; 0 if the call read no dump.
   std::size_t line() const noexcept { return line_; }
+
+  // The place, counted from 0, of the first row of add_all whose cell or label is wrong; 0 in all other cases.
+  std::size_t row() const noexcept { return row_; }
 
  private:
   static std::string text(std::uint32_t status, std::size_t line) {
@@ -62,13 +66,14 @@ class Error : public std::runtime_error {
 
   std::uint32_t status_;
   std::size_t line_;
+  std::size_t row_;
 };
 
 namespace detail {
 
-inline void check(std::uint32_t status, std::size_t line = 0) {
+inline void check(std::uint32_t status, std::size_t line = 0, std::size_t row = 0) {
   if (status == S2IX_OUT_OF_MEMORY) throw std::bad_alloc();
-  if (status != S2IX_DONE) throw Error(status, line);
+  if (status != S2IX_DONE) throw Error(status, line, row);
 }
 
 // What a call writes to the pointer it is given, if it is not refused.
@@ -353,6 +358,17 @@ class Index {
     return detail::number([&](std::size_t* to) { return s2ix_add(&handle_, cell, label, copies, to); });
   }
 
+  // Adds the count of each row to that of its cell under its label, as one change: rows in any order, repeated or not. They are refused as a
+  // whole. O(m log m + m log n) for m rows, and the pairs held on their faces. S2IX_NO_CELL, S2IX_NO_LABEL, with the first row that is wrong.
+  std::size_t add_all(const Row* rows, std::size_t size) {
+    static constexpr Row none{};
+    std::size_t number = 0;
+    const std::uint32_t status = s2ix_add_all(&handle_, size == 0 ? &none : rows, size, &number);
+    detail::check(status, 0, number);
+    return number;
+  }
+  std::size_t add_all(const std::vector<Row>& rows) { return add_all(rows.data(), rows.size()); }
+
   // Takes copies from the count of a cell under a label. S2IX_NO_CELL, S2IX_NO_LABEL, S2IX_NOT_HELD.
   std::size_t remove(std::uint64_t cell, std::uint32_t label, std::uint32_t copies = 1) {
     return detail::number([&](std::size_t* to) { return s2ix_remove(&handle_, cell, label, copies, to); });
@@ -532,9 +548,10 @@ class Index {
 // S2's own class over an Index: the same names, arguments and meanings. What differs from S2:
 //
 //   S2                                            here
-//   Build() comes once, between adds and queries  does nothing: each Add takes effect at once, also after queries
+//   Build() comes once, between adds and queries  any number of times: it makes one change of the adds since the last Build()
+//   no query before Build()                       a query, index() and a CellIterator build first what was added
 //   Clear()                                       drops the changes too: nothing is left to undo
-//   any number of pairs                           limits: at most 1,000,000 distinct pairs; Add throws above them
+//   any number of pairs                           limits: at most 1,000,000 distinct pairs; Build() throws above them
 //   an invalid cell, a label below 0: undefined   Add and the queries throw Error
 //   Add(cells, label) adds each cell of a union   each of its normal form, as of a union that S2 has normalised
 //   a pair added n times is kept n times          is kept once with a count; a visit and a CellIterator give it n times, as S2 does
@@ -544,7 +561,9 @@ class Index {
 //   RangeIterator, NonEmptyRangeIterator,
 //   ContentsIterator                              not here yet: Index has range_count(), find(leaf) and at(leaf)
 //
-// Each Add is a change that index().undo() takes back. When as many changes can be undone as the limit allows, Add forgets them and goes on.
+// index().undo() takes back what one Build() added. Build() is refused, and throws, if a limit would be passed or as many changes can be undone
+// as the limit allows (S2IX_JOURNAL_FULL). The index is then as it was, and the adds wait for the next Build(), which Forget() makes room for.
+// Queries throw as Build() does. Nothing that was added is dropped, and no change is forgotten, but by Clear() and Forget().
 //
 // An Id is a std::uint64_t, or a class such as S2CellId that is constructed from one and returns it from id(). A union is any range of Ids. So
 // BasicS2CellIndex<S2CellId> takes S2's own S2CellId and S2CellUnion.
@@ -567,30 +586,41 @@ class BasicS2CellIndex {
   BasicS2CellIndex() = default;
   explicit BasicS2CellIndex(Limits limits) : limits_(limits), index_(limits) {}
 
-  // The index beneath, for edits, undo and all else that S2 lacks.
-  Index& index() noexcept { return index_; }
-  const Index& index() const noexcept { return index_; }
+  // The index beneath, for edits, undo and all else that S2 lacks. It first builds what was added, as Build() does.
+  Index& index() { return built(); }
+  const Index& index() const { return built(); }
 
   // How many pairs were added, repeated ones included. O(n).
-  int num_cells() const { return static_cast<int>(std::min<std::uint64_t>(index_.copies(), std::numeric_limits<int>::max())); }
+  int num_cells() const { return static_cast<int>(std::min<std::uint64_t>(built().copies(), std::numeric_limits<int>::max())); }
 
-  // Adds a pair, or one more copy of it.
+  // Adds a pair, or one more copy of it. O(1).
   void Add(Id cell_id, Label label) {
-    change([&] { index_.add(raw(cell_id), static_cast<std::uint32_t>(label)); });
+    const std::uint64_t cell = raw(cell_id);
+    check_label(label);
+    if (!cell::is_valid(cell)) throw Error(S2IX_NO_CELL);
+    added_.push_back(Row{cell, static_cast<std::uint32_t>(label), 1});
   }
 
-  // Adds a pair for each cell of a union.
+  // Adds a pair for each cell of a union. O(n log n) for n cells.
   template <class Union, class = decltype(std::begin(std::declval<const Union&>()))>
   void Add(const Union& cell_ids, Label label) {
-    const std::vector<std::uint64_t> cells = raws(cell_ids);
-    if (!cells.empty()) change([&] { index_.add_union(cells, static_cast<std::uint32_t>(label)); });
+    check_label(label);
+    const std::vector<std::uint64_t> cells = cell_union::normalise(raws(cell_ids));
+    added_.reserve(added_.size() + cells.size());
+    for (std::uint64_t cell : cells) added_.push_back(Row{cell, static_cast<std::uint32_t>(label), 1});
   }
 
-  // Does nothing: the index is always built.
-  void Build() {}
+  // Makes one change of what was added since the last time, if anything was.
+  void Build() { built(); }
 
-  // Drops all pairs and all changes.
-  void Clear() { index_ = Index(limits_); }
+  // Drops all pairs and all changes, and what was added but not built.
+  void Clear() {
+    index_ = Index(limits_);
+    added_.clear();
+  }
+
+  // Keeps the pairs, and what was added but not built, and drops all changes: nothing is left to undo, and the next Build() has room.
+  void Forget() { index_.forget(); }
 
   // A function that gets each pair of a visit. It returns false to end the visit.
   using CellVisitor = std::function<bool(Id cell_id, Label label)>;
@@ -598,7 +628,7 @@ class BasicS2CellIndex {
   // Visits the pairs that share a leaf with a union, each copy of each, until the visitor returns false. Returns false if it did, else true.
   template <class Union>
   bool VisitIntersectingCells(const Union& target, const CellVisitor& visitor) const {
-    for (const Row& row : index_.meet(raws(target))) {
+    for (const Row& row : built().meet(raws(target))) {
       for (std::uint32_t copy = 0; copy < row.count; copy++) {
         if (!visitor(Id(row.cell), static_cast<Label>(row.label))) return false;
       }
@@ -618,13 +648,13 @@ class BasicS2CellIndex {
   template <class Union, class Set>
   void GetIntersectingLabels(const Union& target, Set* labels) const {
     labels->clear();
-    for (std::uint32_t label : index_.labels(raws(target))) labels->insert(static_cast<Label>(label));
+    for (std::uint32_t label : built().labels(raws(target))) labels->insert(static_cast<Label>(label));
   }
 
   // Gives all pairs, each copy of each.
   class CellIterator {
    public:
-    explicit CellIterator(const BasicS2CellIndex* index) : rows_(index->index_.meet(Cells(faces, 6))) {}
+    explicit CellIterator(const BasicS2CellIndex* index) : rows_(index->built().meet(Cells(faces, 6))) {}
 
     Id cell_id() const { return Id(rows_[row_].cell); }
     Label label() const { return static_cast<Label>(rows_[row_].label); }
@@ -666,20 +696,23 @@ class BasicS2CellIndex {
     return cells;
   }
 
-  // Makes a change. If no more changes fit, it first forgets the earlier ones; they stay forgotten even if the change is refused then.
-  template <class Change>
-  void change(Change make) {
-    try {
-      make();
-    } catch (const Error& error) {
-      if (error.status() != S2IX_JOURNAL_FULL) throw;
-      index_.forget();
-      make();
+  static void check_label(Label label) {
+    if (label < 0) throw Error(S2IX_NO_LABEL);
+  }
+
+  // The index with all that was added. If that is refused, it is as it was, and what was added stays to be built.
+  Index& built() const {
+    if (!added_.empty()) {
+      index_.add_all(added_);
+      added_.clear();
     }
+    return index_;
   }
 
   Limits limits_;
-  Index index_;
+  // (a query builds what was added before it)
+  mutable std::vector<Row> added_;
+  mutable Index index_;
 };
 
 using S2CellIndex = BasicS2CellIndex<std::uint64_t>;

@@ -32,6 +32,9 @@ static void refused_while_closed(void) {
     uint8_t byte[1] = {9};
     EXPECT(s2ix_add(&handle, first, 1, 1, &number), S2IX_CLOSED);
     EXPECT(number, 0);
+    number = 7;
+    EXPECT(s2ix_add_all(&handle, &row, 0, &number), S2IX_CLOSED);
+    EXPECT(number, 0);
     EXPECT(s2ix_remove(&handle, first, 1, 1, &number), S2IX_CLOSED);
     EXPECT(s2ix_add_union(&handle, &first, 1, 1, &number), S2IX_CLOSED);
     EXPECT(s2ix_drop_label(&handle, 1, &number), S2IX_CLOSED);
@@ -163,6 +166,38 @@ static void edited(void) {
     EXPECT(s2ix_copies(&handle, &copies), S2IX_DONE);
     EXPECT(copies, 2);
     stepped(&handle);
+    s2ix_close(&handle);
+}
+
+static void added_at_once(void) {
+    s2ix_handle handle = {0};
+    size_t number;
+    uint32_t count;
+    s2ix_row rows[4] = {{second, 7, 1}, {first, 1, 2}, {leaf, 1, 0}, {first, 1, 1}};
+    EXPECT(s2ix_open(&handle, 2, 5, 2), S2IX_DONE);
+    EXPECT(s2ix_add_all(&handle, rows, 4, &number), S2IX_DONE);
+    EXPECT(number, 2);
+    EXPECT(s2ix_count(&handle, first, 1, &count), S2IX_DONE);
+    EXPECT(count, 3);
+    EXPECT(s2ix_add_all(&handle, rows, 4, &number), S2IX_TOO_MANY_COPIES);
+    EXPECT(s2ix_add_all(&handle, rows + 2, 1, &number), S2IX_NO_CHANGE);
+    EXPECT(s2ix_add_all(&handle, rows, 0, &number), S2IX_NO_CHANGE);
+    EXPECT(number, 0);
+    rows[2].count = 1;
+    EXPECT(s2ix_add_all(&handle, rows + 2, 2, &number), S2IX_TOO_MANY_PAIRS);
+    rows[1].label = (uint32_t)highest_label + 1;
+    rows[2].cell = no_cell;
+    EXPECT(s2ix_add_all(&handle, rows, 4, &number), S2IX_NO_LABEL);
+    EXPECT(number, 1);
+    EXPECT(s2ix_add_all(&handle, rows + 2, 1, &number), S2IX_NO_CELL);
+    EXPECT(number, 0);
+    EXPECT(s2ix_add_all(&handle, rows, 1, &number), S2IX_DONE);
+    EXPECT(s2ix_add_all(&handle, rows, 0, &number), S2IX_JOURNAL_FULL);
+    EXPECT(s2ix_undo(&handle, &number), S2IX_DONE);
+    EXPECT(s2ix_undo(&handle, &number), S2IX_DONE);
+    EXPECT(number, 2);
+    EXPECT(s2ix_len(&handle, &number), S2IX_DONE);
+    EXPECT(number, 0);
     s2ix_close(&handle);
 }
 
@@ -427,6 +462,7 @@ int main(void) {
     untold_while_closed();
     opened();
     edited();
+    added_at_once();
     edited_labels();
     asked();
     paged();

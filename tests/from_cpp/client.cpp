@@ -68,6 +68,7 @@ void Closed() {
   index.close();
   std::vector<s2ix::Row> rows(3);
   REFUSED(S2IX_CLOSED, index.add(kFirst, 1));
+  REFUSED(S2IX_CLOSED, index.add_all({{kFirst, 1, 1}}));
   REFUSED(S2IX_CLOSED, index.remove(kFirst, 1));
   REFUSED(S2IX_CLOSED, index.add_union({kFirst}, 1));
   REFUSED(S2IX_CLOSED, index.drop_label(1));
@@ -126,6 +127,31 @@ void Edited() {
   REFUSED(S2IX_NO_SUCH_LABEL, index.drop_label(7));
   EXPECT(index.undo() == 1 && index.undo() == 2 && index.count(kFirst, 1) == 1);
   REFUSED(S2IX_TOO_MANY_PAIRS, index.add_union({0x3400000000000000, 0x5400000000000000, 0x7400000000000000, 0x9400000000000000}, 8));
+}
+
+// The place of the row that an add of rows is refused for.
+std::size_t WrongRow(s2ix::Index& index, const std::vector<s2ix::Row>& rows) {
+  try {
+    index.add_all(rows);
+  } catch (const s2ix::Error& error) {
+    return error.row();
+  }
+  return rows.size();
+}
+
+void AddedAtOnce() {
+  s2ix::Index index(s2ix::Limits{2, 5, 2});
+  const std::vector<s2ix::Row> rows = {{kSecond, 7, 1}, {kFirst, 1, 2}, {kLeaf, 1, 0}, {kFirst, 1, 1}};
+  EXPECT(index.add_all(rows) == 2 && index.len() == 2 && index.count(kFirst, 1) == 3 && index.done_count() == 1);
+  REFUSED(S2IX_TOO_MANY_COPIES, index.add_all(rows));
+  REFUSED(S2IX_TOO_MANY_PAIRS, index.add_all({{kFirst, 1, 1}, {kFirst, 2, 1}}));
+  REFUSED(S2IX_NO_CELL, index.add_all({{kFirst, 1, 1}, {kNoCell, 1, 1}}));
+  REFUSED(S2IX_NO_LABEL, index.add_all({{kFirst, 1, 1}, {kFirst, kNoLabel, 1}}));
+  REFUSED(S2IX_NO_CHANGE, index.add_all({}));
+  EXPECT(WrongRow(index, {{kFirst, 1, 1}, {kFirst, 1, 1}, {kFirst, kNoLabel, 1}, {kNoCell, 1, 1}}) == 2);
+  EXPECT(index.copies() == 4 && index.undo() == 2 && index.len() == 0 && index.redo() == 2);
+  EXPECT(index.add_all(rows.data(), 1) == 1 && index.count(kSecond, 7) == 2);
+  REFUSED(S2IX_JOURNAL_FULL, index.add_all({}));
 }
 
 void ChangedByTheirLabels() {
@@ -291,6 +317,7 @@ void NamedAsInS2() {
   index.Add(both, 7);
   index.Add(std::vector<Id>(), 8);
   index.Build();
+  index.Build();
   EXPECT(index.num_cells() == 4 && index.index().len() == 3 && index.index().done_count() == 1);
   REFUSED(S2IX_NO_LABEL, index.Add(Id(kFirst), -1));
   REFUSED(S2IX_NO_CELL, index.Add(Id(kNoCell), 1));
@@ -315,7 +342,16 @@ void NamedAsInS2() {
   index.GetIntersectingLabels(both, &labels);
   EXPECT((labels == std::set<Label>{4, 7}));
 
-  EXPECT(index.index().undo() == 2 && index.num_cells() == 2);
+  EXPECT(index.index().undo() == 3 && index.num_cells() == 0 && index.index().redo() == 3);
+  index.Add(Id(kLeaf), 5);
+  EXPECT(index.num_cells() == 5 && index.index().done_count() == 2);
+  index.Add(Id(kLeaf), 6);
+  REFUSED(S2IX_JOURNAL_FULL, index.Build());
+  REFUSED(S2IX_JOURNAL_FULL, index.num_cells());
+  index.Forget();
+  EXPECT(index.num_cells() == 6 && index.index().done_count() == 1 && index.index().undo() == 1);
+  for (int copy = 0; copy < 11; copy++) index.Add(Id(kLeaf), 6);
+  REFUSED(S2IX_TOO_MANY_COPIES, index.index());
   index.Clear();
   EXPECT(index.num_cells() == 0 && typename S2Index::CellIterator(&index).done());
   const typename S2Index::LabelledCell less(Id(kFirst), 2), more(Id(kFirst), 3);
@@ -329,6 +365,7 @@ int main() {
   Moved();
   Closed();
   Edited();
+  AddedAtOnce();
   ChangedByTheirLabels();
   Asked();
   AskedForMany();

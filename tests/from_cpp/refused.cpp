@@ -70,6 +70,7 @@ const Call kCalls[] = {
     {"load", [](s2ix::Index&) { return s2ix::Index::load("s2ix 2\n04 7 1\nend 1 1\n"); }},
     {"copy", [](s2ix::Index& index) { return index.copy(); }},
     {"add", [](s2ix::Index& index) { return index.add(kFace, 1); }},
+    {"add_all", [](s2ix::Index& index) { return index.add_all({{kSecond, 9, 1}, {kFirst, 7, 2}, {kSecond, 9, 1}}); }},
     {"remove", [](s2ix::Index& index) { return index.remove(kFirst, 7); }},
     {"add_union", [](s2ix::Index& index) { return index.add_union({kFace, kSecond}, 7); }},
     {"drop_label", [](s2ix::Index& index) { return index.drop_label(7); }},

@@ -1,19 +1,24 @@
-"""What callers give: cells in each form, and numbers that may be too great for the library."""
+"""What callers give: cells and rows in each form, and numbers that may be too great for the library."""
 from __future__ import annotations
 
 import ctypes
 import operator
+import struct
 from array import array
+from itertools import starmap
 from typing import Any, Iterable, Optional, Union
 
-from .refusals import NoCell, S2ixError
+from .refusals import NoCell, NoLabel, S2ixError, TooManyCopies
 from .tokens import Cell, cell_of
 
 #: One cell, or many: of any order, and repeated or not. A memoryview or array of 64-bit numbers is passed on as it lies.
 Cells = Union[Cell, Iterable[Cell], memoryview, "array[int]"]
+#: Rows to add, each a cell, a label and copies. A writable memoryview of packed rows is passed on as it lies.
+Rows = Union[Iterable["tuple[Cell, int, int]"], memoryview]
 
 MOST_U8, MOST_U32 = 255, 4_294_967_295
 _WORD = 8
+_packed = struct.Struct("=QII").pack
 # Where no cells lie.
 _NONE = ctypes.c_uint64()
 
@@ -60,6 +65,42 @@ def _array_of(cells: Iterable[Cell]) -> array[int]:
         return array("Q", kept)
     except (TypeError, OverflowError):
         return array("Q", map(number_of, kept))
+
+
+def rows_in(rows: Rows) -> tuple[int, int, object]:
+    """Where packed rows lie, how many there are, and what keeps them there."""
+    try:
+        view = memoryview(rows)  # type: ignore[arg-type]
+    except TypeError:
+        words = array("Q", _packed_rows(list(rows)))
+    else:
+        if view.itemsize != 2 * _WORD or view.ndim != 1:
+            raise TypeError(f"packed rows are of 16 bytes in one row, not memory of {view.format!r}")
+        if not view.readonly and view.c_contiguous and len(view):
+            first = ctypes.c_char.from_buffer(view)
+            if ctypes.addressof(first) % _WORD == 0:
+                return ctypes.addressof(first), len(view), first
+        words = array("Q", view.tobytes())
+    start, many = words.buffer_info()
+    return (start, many // 2, words) if many else (ctypes.addressof(_NONE), 0, words)
+
+
+def _packed_rows(rows: list[tuple[Cell, int, int]]) -> bytes:
+    try:
+        return b"".join(starmap(_packed, rows))
+    except struct.error:
+        return b"".join(_packed_row(place, *row) for place, row in enumerate(rows))
+
+
+def _packed_row(place: int, cell: Cell, label: int, copies: int) -> bytes:
+    """A row by itself, which is refused by its place if it doesn't fit."""
+    try:
+        number = number_of(cell)
+        check(label, MOST_U32, NoLabel)
+        check_natural(copies, MOST_U32, TooManyCopies, "copies")
+    except S2ixError as refusal:
+        raise type(refusal)(f"row {place}: {refusal}") from None
+    return _packed(number, label, copies)
 
 
 def number_of(cell: Cell) -> int:

@@ -10,8 +10,8 @@ from ctypes import addressof
 from typing import Any, Callable, NamedTuple, Union
 
 from . import library
-from .given import MOST_U8, MOST_U32, Cells, cells_in, check, check_natural, number_of
-from .refusals import NoCell, NoDump, NoLabel, NoLimits, NoRoom, NoSuchChange, NotHeld, TooFine, TooManyCopies, expect
+from .given import MOST_U8, MOST_U32, Cells, Rows, cells_in, check, check_natural, number_of, rows_in
+from .refusals import REFUSALS, NoCell, NoDump, NoLabel, NoLimits, NoRoom, NoSuchChange, NotHeld, TooFine, TooManyCopies, expect
 from .tokens import Cell
 
 # How many bytes a packed row has, a cell and a label.
@@ -115,6 +115,17 @@ class Index:
         check(label, MOST_U32, NoLabel)
         check_natural(copies, MOST_U32, TooManyCopies, "copies")
         return self._number_of(self._calls.s2ix_add, number, label, copies)
+
+    def add_all(self, rows: Rows) -> int:
+        """Adds rows, each a cell, a label and copies, as one change: in any order, and repeated or not; returns how many pairs changed. They are
+        refused as a whole. O(m log m + m log n) for m rows, and the pairs held on their faces. `meet_view` says how rows in a memoryview are packed.
+        Raises NoCell or NoLabel with the place of the first row that is wrong, counted from 0, and what each edit may."""
+        start, many, _kept = rows_in(rows)
+        status = self._calls.s2ix_add_all(self._at_handle, start, many, self._at_count)
+        if status in (NoCell.status, NoLabel.status):
+            raise REFUSALS[status](f"row {self._count.value}: {REFUSALS[status].__doc__}")
+        expect(status)
+        return self._count.value
 
     def remove(self, cell: Cell, label: int, copies: int = 1) -> int:
         """Takes copies from the count of a cell under a label; returns how many pairs changed. Raises NoCell, NoLabel, NotHeld, and what each

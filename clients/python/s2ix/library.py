@@ -38,6 +38,7 @@ CALLS = {
     "s2ix_copy": [address, address],
     "s2ix_close": [address],
     "s2ix_add": [address, u64, u32, u32, address],
+    "s2ix_add_all": [address, address, size, address],
     "s2ix_remove": [address, u64, u32, u32, address],
     "s2ix_add_union": [address, address, size, u32, address],
     "s2ix_drop_label": [address, u32, address],

@@ -1,15 +1,17 @@
 -- What numbers ask for.
-use Rattle.std.specs.Prelude.{◌≡◌, ◌⊎◌, ℕ, List, map, Contains, Option, Some, None, Result, Ok, Err}
+use Rattle.std.specs.Prelude.{◌≡◌, ◌⊎◌, ℕ, List, map, take, slice_get, Contains, Option, Some, None, Result, Ok, Err}
 use Rattle.s2id_core.specs.declared.cell_id.CellId.{CellId}
 use Rattle.s2id_core.specs.Cell.{IsCellNumber}
 use Rattle.s2id_core.specs.CellId.{raw_of}
 use Rattle.s2id_core.specs.Spelled.{cell_numbered}
 use Rattle.s2id_union.specs.NormalForm.{normal_form}
 use Rattle.s2ix_bag_pairs.specs.declared.label.Label.{Label}
+use Rattle.s2ix_bag_pairs.specs.declared.pair.Held.{Held}
 use Rattle.s2ix_bag_pairs.specs.declared.pair.Pair.{Pair}
 use Rattle.s2ix_bag_pairs.specs.Label.{label_numbered}
 use Rattle.s2ix_edit_plan.specs.declared.edit.Edit.{Edit}
 use Rattle.s2ix_edit_plan.specs.declared.edit.Edit.TheVariants.{Add, AddUnion, Remove, DropLabel, Relabel, Grow, Normalise}
+use Rattle.s2ix_c.specs.declared.rows.Row.{Row}
 use Rattle.s2ix_c.specs.Status.{no_cell, no_label, out_of_memory}
 
 -- the numbers are those of these cells
@@ -73,3 +75,29 @@ AsksUnion ids label asked =
     ((cells : List CellId) × AreCells ids cells × (asked ≡ asked_add_union cells label))
     ⊎ (LacksCell ids × (asked ≡ Err no_cell))
     ⊎ (asked ≡ Err out_of_memory)
+
+-- a pair that is there, with a count
+abbrev pub with_count : ℕ → Result Pair ℕ → Result Held ℕ
+with_count count (Ok pair) = Ok (record { pair = pair; count = count })
+with_count count (Err why) = Err why
+
+-- the pair with a count that a row names, or the status of the first number that is wrong
+abbrev pub held_asked : Row → Result Held ℕ
+held_asked row = with_count row.count (pair_numbered row.cell row.label)
+
+-- the rows name these pairs with their counts
+abbrev pub NameHeld : List Row → List Held → Type 0
+NameHeld rows held = map held_asked rows ≡ map Ok held
+
+-- the first row with a wrong number stands at this place, and the status says what is wrong
+pub record IsFirstWrong (rows : List Row) (place why : ℕ) : Type 0 where
+  pub held : List Held
+  pub before : NameHeld (take place rows) held
+  pub row : Row
+  pub there : slice_get rows place ≡ Some row
+  pub wrong : held_asked row ≡ Err why
+
+-- what rows name; or the first that is wrong, with its place; or memory is wanted
+abbrev pub AsksRows : List Row → Result (List Held) ℕ → ℕ → Type 0
+AsksRows rows (Ok held) place = NameHeld rows held
+AsksRows rows (Err why) place = IsFirstWrong rows place why ⊎ ((why ≡ out_of_memory) × (place ≡ 0))

@@ -2,16 +2,19 @@
 use Rattle.std.specs.Prelude.{◌≡◌, ◌≢◌, ◌⊎◌, ℕ, Option, Some, None, Result, Ok, Err, [], length, List}
 use Rattle.s2id_core.specs.declared.cell_id.CellId.{CellId}
 use Rattle.s2ix_bag_pairs.specs.declared.limits.Limits.{Limits}
+use Rattle.s2ix_bag_pairs.specs.declared.pair.Held.{Held}
 use Rattle.s2ix_bag_pairs.specs.Limits.{pairs_limit, count_limit, changes_limit}
 use Rattle.s2ix_edit_plan.specs.declared.edit.Edit.{Edit}
 use Rattle.s2ix_edit_plan.specs.Refusals.{edit_refusal}
+use Rattle.s2ix_edit_plan.specs.Rows.{rows_change, rows_refusal}
 use Rattle.s2ix_edit_plan.specs.State.{State, change_of, starting_at}
 use Rattle.s2ix_bag_pairs.specs.Collection.{Collection}
 use Rattle.s2ix_text_write.specs.Dump.{IsDump}
 use Rattle.s2ix_text_read_dump.specs.declared.errors.DumpFault.{DumpFault}
 use Rattle.s2ix_text_read_dump.specs.DumpFaults.{dump_fault}
-use Rattle.s2ix_edit.specs.Steps.{after_edit, after_undo, after_redo, undo_size, redo_size}
-use Rattle.s2ix_c.specs.Asked.{AreCells, LacksCell, asked_add_union}
+use Rattle.s2ix_edit.specs.Steps.{after_edit, after_rows, after_undo, after_redo, undo_size, redo_size}
+use Rattle.s2ix_c.specs.Asked.{AreCells, IsFirstWrong, LacksCell, NameHeld, asked_add_union}
+use Rattle.s2ix_c.specs.declared.rows.Row.{Row}
 use Rattle.s2ix_c.specs.Status.{done, closed, no_cell, out_of_memory, nothing_to_undo, nothing_to_redo, IsRefusal}
 
 -- a call on a handle: a closed one stays closed, and C holds; an open one stays open, and P holds of its store's states before and after
@@ -77,3 +80,15 @@ HasFaultIn text pairs copies changes line =
 pub record IsCopied (s : State) (status : ℕ) (old new : Option State) : Type 0 where
   pub accepted : status ≡ done → new ≡ Some (starting_at s.bag)
   pub refused : status ≢ done → (status ≡ out_of_memory) × (new ≡ old)
+
+-- rows added to the counts of a store: if it is done, they are one change; else the store is as it was, and the status says why
+pub record IsAdded (rows : List Held) (status number : ℕ) (s t : State) : Type 0 where
+  pub accepted : status ≡ done → (t ≡ after_rows s rows) × (number ≡ length (rows_change s.bag.held rows)) × (rows_refusal s rows ≡ None)
+  pub refused : status ≢ done → (t ≡ s) × (number ≡ 0) × IsRefusal status (rows_refusal s rows)
+
+-- rows, carried out on a handle; or one of them is wrong, and the number is the place of the first that is; or memory is wanted
+abbrev pub DoesRows : List Row → ℕ → ℕ → Option State → Option State → Type 0
+DoesRows rows status number old new =
+    ((held : List Held) × NameHeld rows held × Through (IsAdded held status number) ((status ≡ closed) × (number ≡ 0)) old new)
+    ⊎ (IsFirstWrong rows number status × (new ≡ old))
+    ⊎ Refuses out_of_memory status number old new

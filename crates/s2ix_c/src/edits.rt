@@ -4,12 +4,14 @@ ghost use Rattle.std.specs.Prelude.{◌≡◌, Result};
 ghost use Rattle.s2ix_edit_plan.specs.declared.edit.Edit.TheVariants.{Revert};
 ghost use Rattle.s2ix_handle.specs.Handle.{held_of};
 ghost use Rattle.s2ix_c.specs.Asked.{asked_add, asked_drop, asked_grow, asked_normalise, asked_relabel, asked_remove};
-ghost use Rattle.s2ix_c.specs.Calls.{DoesEdit, DoesUnion, IsEdited, Through};
+ghost use Rattle.s2ix_c.specs.Calls.{DoesEdit, DoesRows, DoesUnion, IsAdded, IsEdited, Through};
 ghost use Rattle.s2ix_c.specs.Status.{closed};
 
 use crate::asked::{add_of, drop_of, grow_of, normalise_of, relabel_of, remove_of};
+use crate::rows::{Row, held_list};
 use crate::status::{CLOSED, DONE, status_of};
 use crate::unions::union_of;
+use s2ix_bag_pairs::Held;
 use s2ix_edit::Store;
 use s2ix_edit_plan::Edit;
 use s2ix_handle::Handle;
@@ -77,6 +79,54 @@ pub extern "C" fn s2ix_add(
     ensures { DoesEdit (asked_add cell label copies) result number.new (held_of handle.old) (held_of handle.new) }
 {
     do_edit(alloc, handle, add_of(cell, label, copies), number)
+}
+
+// Adds pairs to the counts of a store, as one change; `number` is how many pairs gained copies.
+fn add_store(store: &mut Store, rows: &[Held], number: &mut usize) -> u32
+    ensures { IsAdded rows.now result number.new store.old store.new }
+{
+    match store.add_all(rows) {
+        Ok(changed) => {
+            *number = changed;
+            DONE
+        }
+        Err(why) => {
+            *number = 0;
+            status_of(why)
+        }
+    }
+}
+
+// Adds pairs to the counts of a handle's store.
+#[tactic(auto, using(crate::proofs::Through::through_open, crate::proofs::Through::through_closed))]
+fn add_handle(alloc: Global, handle: &mut Handle, rows: &[Held], number: &mut usize) -> u32
+    ensures { Through (IsAdded rows.now result number.new) ((result ≡ closed) × (number.new ≡ 0))
+        (held_of handle.old) (held_of handle.new) }
+{
+    let Some(mut store) = handle.take(alloc) else {
+        *number = 0;
+        return CLOSED;
+    };
+    let status = add_store(&mut store, rows, number);
+    *handle = Handle::of(alloc, store);
+    status
+}
+
+/// Adds the count of each row to that of its cell under its label, as one change: rows in any order, and repeated or not. If a row's cell or
+/// label is wrong, `number` is the place of the first such row.
+#[unsafe(no_mangle)]
+pub extern "C" fn s2ix_add_all(
+    alloc: Global,
+    handle: &mut Handle,
+    rows: &[Row],
+    number: &mut usize,
+) -> u32
+    ensures { DoesRows rows.now result number.new (held_of handle.old) (held_of handle.new) }
+{
+    match held_list(alloc, rows, number) {
+        Ok(held) => add_handle(alloc, handle, held.as_slice(), number),
+        Err(why) => why,
+    }
 }
 
 /// Takes copies from the count of a cell under a label.

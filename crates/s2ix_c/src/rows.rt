@@ -1,13 +1,16 @@
 //! Lists in buffers of the caller.
 
 ghost use Rattle.std.specs.Prelude.{◌≡◌, ◌≤◌, length, map};
+ghost use Rattle.s2ix_c.specs.Asked.{AsksRows, held_asked};
 ghost use Rattle.s2ix_c.specs.Lists.{IsPut, row_of};
 ghost use Rattle.s2id_core.specs.CellId.{raw_of};
 ghost use Rattle.s2ix_bag_pairs.specs.Label.{value_of};
 
-use crate::status::{DONE, NO_ROOM};
+use crate::asked::pair_of;
+use crate::status::{DONE, NO_ROOM, OUT_OF_MEMORY};
 use s2id_core::CellId;
 use s2ix_bag_pairs::{Held, Label};
+use std::alloc::Global;
 
 /// A pair that a store holds, with its count.
 #[repr(C)]
@@ -31,6 +34,45 @@ pub(crate) fn row_for(held: Held) -> Row
         label: held.pair.label.get(),
         count: held.count,
     }
+}
+
+// The pair that a row names, with its count; or the status of the first of its numbers that is wrong.
+pub(crate) fn held_for(row: Row) -> Result<Held, u32>
+    ensures { result ≡ held_asked row }
+{
+    match pair_of(row.cell, row.label) {
+        Ok(pair) => Ok(Held {
+            pair,
+            count: row.count,
+        }),
+        Err(why) => Err(why),
+    }
+}
+
+// The pairs that rows name, with their counts. If a row is wrong, `number` is the place of the first that is, else 0.
+pub(crate) fn held_list(
+    alloc: Global,
+    rows: &[Row],
+    number: &mut usize,
+) -> Result<Vec<Held>, u32>
+    ensures { AsksRows rows.now result number.new }
+{
+    *number = 0;
+    let mut list = Vec::new(alloc);
+    for (place, row) in rows.iter().enumerate() {
+        match held_for(*row) {
+            Ok(held) => {
+                if list.push(held).is_err() {
+                    return Err(OUT_OF_MEMORY);
+                }
+            }
+            Err(why) => {
+                *number = place;
+                return Err(why);
+            }
+        }
+    }
+    Ok(list)
 }
 
 // Puts pairs to the front of `out`, if it has room for them; `number` is how many there are.

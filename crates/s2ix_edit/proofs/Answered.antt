@@ -39,7 +39,7 @@ same_error TooManyPairs e never is = cc
 same_error OutOfMemory e never is = absurd (never is)
 
 -- an error that says its own refusal is answered only where that is the edit's
-only_where : (r : Result ℕ EditError) (refusal : Option EditError) (e : EditError)
+pub only_where : (r : Result ℕ EditError) (refusal : Option EditError) (e : EditError)
     → ((o : Option EditError) → IsEditRefusal e o → o ≡ Some e) → OnOk r (refusal ≡ None) → IfErr r (λ error. IsEditRefusal error refusal)
     → r ≡ Err e → refusal ≡ Some e
 only_where (Ok n) refusal e own accepted refused is = cc
@@ -49,7 +49,7 @@ only_where (Err x) refusal e own accepted refused is =
     own refusal (subst Refused same refused)
 
 -- and wherever it is, if memory may not be wanted in its place
-answered_where : (r : Result ℕ EditError) (refusal : Option EditError) (e : EditError)
+pub answered_where : (r : Result ℕ EditError) (refusal : Option EditError) (e : EditError)
     → ((o : Option EditError) → IsEditRefusal e o → o ≡ Some e) → (MayWantMemory (Some e) → ⊥) → OnOk r (refusal ≡ None)
     → IfErr r (λ error. IsEditRefusal error refusal) → (r ≡ Err e) ↔ (refusal ≡ Some e)
 answered_where (Ok n) refusal e own never accepted refused = (λ is. only_where (Ok n) refusal e own accepted refused is, λ is. cc)
@@ -63,7 +63,7 @@ answered_where (Err x) refusal e own never accepted refused = (
 
 -- ---- each answer
 
-both_ways : {A B C : Type 0} → A ↔ B → B ↔ C → A ↔ C
+pub both_ways : {A B C : Type 0} → A ↔ B → B ↔ C → A ↔ C
 both_ways first second = (λ a. second.0 (first.0 a), λ c. first.1 (second.1 c))
 
 -- where a store answers so to an edit
@@ -153,7 +153,7 @@ no_copies_refused s (Grow label level) st none room = cc
 no_copies_refused s (Normalise label) st none room = cc
 no_copies_refused s (Revert number) st none room = cc
 
-nothing_answered : (r : Result ℕ EditError) (refusal : Option EditError) → refusal ≡ Some NoChange → OnOk r (refusal ≡ None)
+pub nothing_answered : (r : Result ℕ EditError) (refusal : Option EditError) → refusal ≡ Some NoChange → OnOk r (refusal ≡ None)
     → IfErr r (λ error. IsEditRefusal error refusal) → (r ≡ Err OutOfMemory → refusal ≡ None) → r ≡ Err NoChange
 nothing_answered (Ok n) refusal is accepted refused memory = cc
 nothing_answered (Err JournalFull) refusal is accepted refused memory = cc

@@ -6,6 +6,7 @@ pub mod Led
 mod LimitRefusals
 pub mod AtCursor
 mod Planned
+pub mod Rows
 pub mod Redone
 pub mod Recorded
 mod RevertRefusals

@@ -12,5 +12,6 @@ pub use Rattle.s2ix_edit_plan.specs.History
 pub use Rattle.s2ix_edit_plan.specs.Plan
 pub use Rattle.s2ix_edit_plan.specs.Refusals
 pub use Rattle.s2ix_edit_plan.specs.Region
+pub use Rattle.s2ix_edit_plan.specs.Rows
 pub use Rattle.s2ix_edit_plan.specs.State
 pub use Rattle.s2ix_table_ranges.specs.Table

@@ -1,11 +1,13 @@
 -- What each step of a store makes of its state.
 use Rattle.std.specs.Prelude.{◌≡◌, ℕ, ◌-◌, Option, Some, None, List, [], ◌∷◌, ◌++◌, length, take, slice_get, count_by}
 use Rattle.s2ix_bag_pairs.specs.declared.pair.Entry.{Entry}
+use Rattle.s2ix_bag_pairs.specs.declared.pair.Held.{Held}
 use Rattle.s2ix_bag_pairs.specs.Change.{changed, inverse_of}
 use Rattle.s2ix_bag_pairs.specs.Collection.{Collection, LimitedCollection}
 use Rattle.s2ix_table_reading.specs.Faces.{faces, has_entry_on}
 use Rattle.s2ix_edit_plan.specs.declared.edit.Edit.{Edit}
 use Rattle.s2ix_edit_plan.specs.Edit.{edited}
+use Rattle.s2ix_edit_plan.specs.Rows.{rows_change, with_rows}
 use Rattle.s2ix_edit_plan.specs.State.{State, change_of, history_of}
 
 -- a bag with another collection
@@ -23,6 +25,15 @@ after_edit s edit = record {
   done = s.done ++ change_of s edit ∷ [];
   undone = [];
   faces_rebuilt = faces_of (change_of s edit);
+}
+
+-- the store after rows are added: they are one change
+abbrev pub after_rows : State → List Held → State
+after_rows s rows = record {
+  bag = with_held s.bag (with_rows rows s.bag.held);
+  done = s.done ++ rows_change s.bag.held rows ∷ [];
+  undone = [];
+  faces_rebuilt = faces_of (rows_change s.bag.held rows);
 }
 
 -- the store after planned entries: its bag has the counts after, and they are the last change that was done

@@ -4,6 +4,7 @@ ghost use Rattle.std.specs.Prelude.{◌≡◌, ◌≢◌, ◌↔◌, ◌≤◌, 
 ghost use Rattle.s2ix_bag_pairs.specs.declared.label.Label.{Label};
 ghost use Rattle.s2ix_bag_pairs.specs.declared.limits.Limits.{Limits};
 ghost use Rattle.s2ix_bag_pairs.specs.declared.pair.Entry.{Entry};
+ghost use Rattle.s2ix_bag_pairs.specs.declared.pair.Held.{Held};
 ghost use Rattle.s2ix_bag_pairs.specs.declared.pair.Pair.{Pair};
 ghost use Rattle.s2ix_bag_pairs.specs.Change.{IsChangeList, counts_at, difference_of};
 ghost use Rattle.s2ix_bag_pairs.specs.Collection.{LimitedCollection, IsBag, count_in};
@@ -11,14 +12,15 @@ ghost use Rattle.s2ix_bag_pairs.specs.Limits.{changes_limit, count_limit, pairs_
 ghost use Rattle.s2ix_bag_pairs.specs.Pair.{rank_of};
 ghost use Rattle.s2ix_edit_plan.specs.declared.errors.EditError.TheVariants.{NoSuchLabel, NotHeld, TooFine, NoSuchChange, BelowZero, NoChange, TooManyCopies, TooManyPairs};
 ghost use Rattle.s2ix_edit_plan.specs.declared.edit.Edit.{Edit};
-ghost use Rattle.s2ix_edit_plan.specs.declared.edit.Edit.TheVariants.{DropLabel, Grow, Normalise, Relabel, Remove, Revert};
+ghost use Rattle.s2ix_edit_plan.specs.declared.edit.Edit.TheVariants.{Add, DropLabel, Grow, Normalise, Relabel, Remove, Revert};
 ghost use Rattle.s2ix_edit_plan.specs.Edit.{edited, edited_by};
 ghost use Rattle.s2ix_edit_plan.specs.History.{changes_along, cursor_alone, one_back, one_on, with_next};
 ghost use Rattle.s2ix_edit_plan.specs.State.{State, change_of, history_of, starting_at};
+ghost use Rattle.s2ix_edit_plan.specs.Rows.{rows_change, rows_refusal};
 ghost use Rattle.s2ix_edit_plan.specs.Refusals.{edit_refusal, goes_below_zero, has_count_above, lacks_change, reverts};
 ghost use Rattle.s2ix_edit.specs.Recorded.{IsRecorded};
 ghost use Rattle.s2ix_edit.specs.Standing.{first_collection, gain_along, without_numbered};
-ghost use Rattle.s2ix_edit.specs.Steps.{after_edit, after_forget, after_redo, after_undo, with_held};
+ghost use Rattle.s2ix_edit.specs.Steps.{after_edit, after_forget, after_redo, after_rows, after_undo, with_held};
 ghost use Rattle.s2ix_edit.specs.Store.{IsStore};
 ghost use Rattle.s2ix_table_ranges.specs.Table.{Range, IsRangeTable};
 
@@ -43,6 +45,30 @@ pub fn undo_takes_edit_back()
     ensures undone { (s : State) (edit : Edit)
         → IsStore s
         → (after_undo (after_edit s edit)).undone ≡ change_of s edit ∷ [] }
+{}
+
+/// Rows are one change: an undo takes them back as a whole. The bag and the changes that led to it are as they were, and the change of the
+/// rows can be done again.
+pub fn undo_takes_rows_back()
+    ensures bag { (s : State) (rows : List Held)
+        → IsStore s
+        → (after_undo (after_rows s rows)).bag ≡ s.bag }
+    ensures done { (s : State) (rows : List Held)
+        → IsStore s
+        → (after_undo (after_rows s rows)).done ≡ s.done }
+    ensures undone { (s : State) (rows : List Held)
+        → IsStore s
+        → (after_undo (after_rows s rows)).undone ≡ rows_change s.bag.held rows ∷ [] }
+{}
+
+/// One row is an `Add`: it is refused as the edit is, and makes the same store.
+pub fn one_row_is_an_add()
+    ensures refusal { (s : State) (row : Held)
+        → IsStore s
+        → rows_refusal s (row ∷ []) ≡ edit_refusal s (Add row.pair row.count) }
+    ensures store { (s : State) (row : Held)
+        → IsStore s
+        → after_rows s (row ∷ []) ≡ after_edit s (Add row.pair row.count) }
 {}
 
 /// An edit and then an undo restore the range table too, since they restore the bag, and two equal bags have one.

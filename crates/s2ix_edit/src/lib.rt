@@ -14,6 +14,6 @@ mod steps;
 mod store;
 mod store_table;
 
-pub use s2ix_edit_plan::{Edit, EditError, RedoError, UndoError, plan, region_of};
+pub use s2ix_edit_plan::{Edit, EditError, RedoError, UndoError, plan, plan_rows, region_of};
 pub use store::Store;
 pub use store_table::StoreTable;

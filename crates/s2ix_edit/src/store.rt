@@ -1,9 +1,9 @@
-ghost use Rattle.std.specs.Prelude.{◌≡◌, ◌≢◌, ◌↔◌, ◌<◌, ◌≤◌, true, false, [], ◌∷◌, length, reverse, None, IfOk, IfErr, OnOk, OnErr, All};
+ghost use Rattle.std.specs.Prelude.{◌≡◌, ◌≢◌, ◌↔◌, ◌+◌, ◌<◌, ◌≤◌, true, false, [], ◌∷◌, length, reverse, None, IfOk, IfErr, OnOk, OnErr, All};
 ghost use Rattle.s2id_union.specs.Region.{HaveSameRegion, IsNormal};
 ghost use Rattle.s2ix_bag_lists.specs.Apply.{first_mismatch};
 ghost use Rattle.s2ix_bag_pairs.specs.declared.pair.Pair.{Pair};
 ghost use Rattle.s2ix_bag_pairs.specs.Change.{counts_at, difference_of};
-ghost use Rattle.s2ix_bag_pairs.specs.Collection.{IsBag, count_in};
+ghost use Rattle.s2ix_bag_pairs.specs.Collection.{IsBag, copies_in, count_in};
 ghost use Rattle.s2ix_bag_pairs.specs.Limits.{changes_limit, count_limit, pairs_limit};
 ghost use Rattle.s2ix_bag_pairs.specs.Pair.{rank_of};
 ghost use Rattle.s2ix_edit_plan.specs.Errors.{IsEditRefusal};
@@ -11,10 +11,11 @@ ghost use Rattle.s2ix_edit_plan.specs.Edit.{edited};
 ghost use Rattle.s2ix_edit_plan.specs.History.{alone, cursor_alone, one_back, one_on, with_next};
 ghost use Rattle.s2ix_edit_plan.specs.Plan.{entries_refusal};
 ghost use Rattle.s2ix_edit_plan.specs.Refusals.{asks_no_copies, asks_too_fine, edit_refusal, goes_below_zero, has_count_above, lacks_change, lacks_label, reverts, takes_too_many};
+ghost use Rattle.s2ix_edit_plan.specs.Rows.{copies_at, rows_change, rows_refusal, with_rows};
 ghost use Rattle.s2ix_edit_plan.specs.Region.{cells_of, region_of as region_in};
 ghost use Rattle.s2ix_edit_plan.specs.State.{State, change_of, history_of, starting_at};
 ghost use Rattle.s2ix_edit.specs.Recorded.{IsRecorded};
-ghost use Rattle.s2ix_edit.specs.Steps.{after_edit, after_forget, after_record, after_redo, after_undo, redo_size, undo_size};
+ghost use Rattle.s2ix_edit.specs.Steps.{after_edit, after_forget, after_record, after_redo, after_rows, after_undo, redo_size, undo_size};
 ghost use Rattle.s2ix_edit.specs.Store.{CanGoBack, CanGoOn, HasRoom, IsStore};
 ghost use Rattle.s2ix_table_ranges.specs.Table.{IsRangeTable};
 
@@ -23,8 +24,8 @@ use crate::store_table::StoreTable;
 use s2id_core::OutOfMemory;
 use s2id_union::CellUnion;
 use s2ix_bag::{Bag, Change};
-use s2ix_bag_pairs::{Label, Limits};
-use s2ix_edit_plan::{Edit, EditError, RedoError, UndoError, plan, region_of};
+use s2ix_bag_pairs::{Held, Label, Limits};
+use s2ix_edit_plan::{Edit, EditError, RedoError, UndoError, plan, plan_rows, region_of};
 use s2ix_table_queries::RangeTable;
 use s2ix_table_reading::changed_face_count;
 use std::alloc::Global;
@@ -142,6 +143,35 @@ impl Store {
         }
         let change = plan(self.alloc, &self.bag, self.done.as_slice(), edit)?;
         self.record_change(change)
+    }
+
+    /// Adds the copies of each row to the count of the row's pair, as one change, and returns how many pairs gained copies. Rows come in
+    /// any order, and the copies of a pair that comes more than once are added up. The change is recorded as that of an edit is: it can be
+    /// undone, done again and reverted. A refusal changes nothing, and is told of the rows as a whole: `JournalFull`, then `NoChange` if no
+    /// row has copies, then `TooManyCopies`, then `TooManyPairs`; `OutOfMemory` may replace the last two, and no other comes. For m rows it
+    /// costs O(m log m + m log n + p), if p of the n pairs that are held lie on the faces of the rows. This project's own.
+    pub fn add_all(&mut self, rows: &[Held]) -> Result<usize, EditError>
+        ensures state { OnOk result (self.new ≡ after_rows self.old rows.now) }
+        ensures history { OnOk result (history_of self.new
+            ≡ with_next (history_of self.old) (with_rows rows.now self.old.bag.held)) }
+        ensures counts { OnOk result ((pair : Pair)
+            → count_in self.new.bag.held pair ≡ count_in self.old.bag.held pair + copies_at rows.now (rank_of pair)) }
+        ensures number { IfOk result (λ n. n ≡ length (rows_change self.old.bag.held rows.now)) }
+        ensures accepted { OnOk result (rows_refusal self.old rows.now ≡ None) }
+        ensures refused { IfErr result (λ error. IsEditRefusal error (rows_refusal self.old rows.now)) }
+        ensures full { (result ≡ Err EditError.JournalFull)
+            ↔ (length self.old.done ≡ changes_limit self.old.bag.limits) }
+        ensures no_change { (result ≡ Err EditError.NoChange)
+            ↔ (HasRoom self.old × (copies_in rows.now ≡ 0)) }
+        ensures unchanged { OnErr result (self.new ≡ self.old) }
+    {
+        let most = self.bag.limits().changes() as usize;
+        if self.done.len() >= most {
+            Err(EditError::JournalFull)
+        } else {
+            let gains = plan_rows(self.alloc, &self.bag, rows)?;
+            self.record_change(gains)
+        }
     }
 
     /// Carries planned entries out, whatever edit they come from.

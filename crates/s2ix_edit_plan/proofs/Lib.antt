@@ -14,4 +14,5 @@ pub mod Plans
 pub mod Refused
 mod Relabel
 pub mod Revert
+pub mod Rows
 pub mod Sizes

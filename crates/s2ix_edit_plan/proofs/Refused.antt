@@ -32,7 +32,7 @@ with_room s edit stand room =
 
 -- ---- the three refusals that are found while the change is made
 
-first_of_three : Bool → Bool → Bool → Option EditError
+unfoldable pub first_of_three : Bool → Bool → Bool → Option EditError
 first_of_three same high many =
     cond same (Some NoChange) (cond high (Some TooManyCopies) (cond many (Some TooManyPairs) None))
 
@@ -65,7 +65,7 @@ planned_change bag changes edit es b plans =
     ap (λ hs. change_between bag.held hs) (sym plans.result)
     ∙ between_changed bag es b.rises plans.rises plans.matches
 
-entries_by_three : (bag : LimitedCollection) (es : List Entry)
+pub entries_by_three : (bag : LimitedCollection) (es : List Entry)
     → first_of_three (length es == 0) (list_any (λ e. ltb (count_limit bag.limits) e.after) es)
     (ltb (pairs_limit bag.limits) (length (changed bag.held es)))
     ≡ entries_refusal bag es
@@ -103,7 +103,7 @@ same_where_none bag new b is none =
     sym (ap (λ es. changed bag.held es) (no_entries (change_between bag.held new) none)) ∙ changed_between bag.held new b.rises is
 
 -- where a count of the edited collection passes the limit, the edit changes the collection
-changes_some : (bag : LimitedCollection) (new : Collection) → IsBag bag → IsCollection new
+pub changes_some : (bag : LimitedCollection) (new : Collection) → IsBag bag → IsCollection new
     → has_count_above (count_limit bag.limits) new ≡ true → (length (change_between bag.held new) == 0) ≡ false
 changes_some bag new b is high =
     ⊎_elim

@@ -1,9 +1,11 @@
 //! Laws: functions that do nothing; their contracts state facts about definitions.
 ghost use Rattle.std.specs.Prelude.{◌≡◌, ◌≢◌, ◌↔◌, IsTrue, ℕ, ◌+◌, ◌-◌, pos, ◌-ℤ◌, true, false, Some, [], List, Contains};
+ghost use Rattle.std.specs.List.Sorted.{IsPermutation};
 ghost use Rattle.s2id_core.specs.declared.cell_id.CellId.{CellId};
 ghost use Rattle.s2id_union.specs.Region.{HaveSameRegion, IsNormal};
 ghost use Rattle.s2ix_bag_pairs.specs.declared.label.Label.{Label};
 ghost use Rattle.s2ix_bag_pairs.specs.declared.pair.Entry.{Entry};
+ghost use Rattle.s2ix_bag_pairs.specs.declared.pair.Held.{Held};
 ghost use Rattle.s2ix_bag_pairs.specs.declared.pair.Pair.{Pair};
 ghost use Rattle.s2ix_bag_pairs.specs.Change.{IsChangeList, counts_at};
 ghost use Rattle.s2ix_bag_pairs.specs.Collection.{Collection, IsCollection, count_in};
@@ -16,6 +18,7 @@ ghost use Rattle.s2ix_edit_plan.specs.Grow.{IsGrown};
 ghost use Rattle.s2ix_edit_plan.specs.History.{History, at_cursor};
 ghost use Rattle.s2ix_edit_plan.specs.Refusals.{goes_below_zero, holds_none, reverts};
 ghost use Rattle.s2ix_edit_plan.specs.Region.{cells_of, region_of};
+ghost use Rattle.s2ix_edit_plan.specs.Rows.{copies_at, with_rows};
 ghost use Rattle.s2ix_edit_plan.specs.State.{State, history_of};
 ghost use Rattle.s2ix_edit_plan.specs.declared.errors.EditError.{EditError};
 ghost use Rattle.s2ix_edit_plan.specs.declared.errors.RedoError.{RedoError};
@@ -86,6 +89,18 @@ pub fn add_union_adds_a_copy_each()
     ensures others { (hs : Collection) (cells : List CellId) (label : Label) (other : Pair)
         → (Contains cells other.cell → other.label ≢ label)
         → count_in (edited_alone (AddUnion cells label) hs) other ≡ count_in hs other }
+{}
+
+/// Rows add to each count the copies that they have for its pair. So the order of rows doesn't matter, and the copies of a pair that comes
+/// more than once are added up.
+pub fn rows_add_their_copies()
+    ensures counts { (hs : Collection) (rows : List Held) (pair : Pair)
+        → IsCollection hs
+        → count_in (with_rows rows hs) pair ≡ count_in hs pair + copies_at rows (rank_of pair) }
+    ensures order { (hs : Collection) (rows others : List Held)
+        → IsCollection hs
+        → IsPermutation rows others
+        → with_rows others hs ≡ with_rows rows hs }
 {}
 
 /// `DropLabel` takes all copies of the label's pairs away, and leaves every other count.

@@ -13,5 +13,6 @@ mod region;
 
 pub use edit::Edit;
 pub use edits::plan;
+pub use edits::rows::plan_rows;
 pub use errors::{EditError, RedoError, UndoError};
 pub use region::region_of;

@@ -1,5 +1,5 @@
 use crate::edits::edit_of;
-use s2ix_bag_samples::{LimitRow, bag_of, holds_pairs, limits_of, lists_entries};
+use s2ix_bag_samples::{LimitRow, bag_of, holds_pairs, limits_of, list_of, lists_entries};
 use s2ix_edit::Store;
 use std::alloc::Global;
 use std::fmt::Debug;
@@ -31,7 +31,10 @@ pub fn answer_of(alloc: Global, store: &mut Store, step: &str) -> Option<String>
             store.forget();
             String::from_str(alloc, "0").ok()
         }
-        _ => told(alloc, store.edit(&edit_of(alloc, step)?)),
+        _ => match step.strip_prefix("addall ") {
+            Some(rows) => told(alloc, store.add_all(&list_of(alloc, rows)?)),
+            None => told(alloc, store.edit(&edit_of(alloc, step)?)),
+        },
     }
 }
 

@@ -10,6 +10,8 @@ mod limit_tests;
 #[cfg(test)]
 mod revert_tests;
 #[cfg(test)]
+mod row_tests;
+#[cfg(test)]
 mod step_tests;
 #[cfg(test)]
 mod store_tests;

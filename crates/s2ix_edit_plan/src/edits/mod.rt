@@ -10,6 +10,7 @@ mod normalise;
 mod relabel;
 mod remove;
 mod revert;
+pub(crate) mod rows;
 
 ghost use Rattle.std.specs.Prelude.{◌≡◌, ◌≢◌, ◌⊎◌, true, false, Some, None, IsOk, IfOk, IfErr};
 ghost use Rattle.s2ix_edit_plan.specs.declared.errors.EditError.TheVariants.{NoChange};

@@ -1,0 +1,160 @@
+-- Rows added to the counts of a store.
+use Rattle.std.proofs.Common.{◌≡◌, ◌↔◌, ℕ, ◌+◌, ◌<◌, List, [], ◌∷◌, ◌++◌, length, reverse, take, Bool, true, false, cond, find, Option, Some, None, Result, Ok, Err, OnOk, IfErr, refl, sym, ap, ap₂, ◌∙◌, subst, arith}
+use Rattle.std.proofs.lemmas.Bool.{cond-false, cond-true, leb-false, leb-true, le-leb, lt-leb}
+use Rattle.std.proofs.lemmas.List.{length-append}
+use Rattle.s2ix_bag_lists.specs.Apply.{apply_refusal}
+use Rattle.s2ix_bag_lists.proofs.Refusals.{made_is_bag, taken_from_none}
+use Rattle.s2ix_bag_pairs.specs.declared.pair.Entry.{Entry}
+use Rattle.s2ix_bag_pairs.specs.declared.pair.Held.{Held}
+use Rattle.s2ix_bag_pairs.specs.declared.pair.Pair.{Pair}
+use Rattle.s2ix_bag_pairs.specs.Change.{change_between}
+use Rattle.s2ix_bag_pairs.specs.Collection.{Collection, LimitedCollection, IsBag, copies_in, count_in}
+use Rattle.s2ix_bag_pairs.specs.Limits.{changes_limit}
+use Rattle.s2ix_bag_pairs.specs.Pair.{rank_of}
+use Rattle.s2ix_bag_pairs.proofs.Inverse.{changed_inverse_between}
+use Rattle.s2ix_edit_plan.specs.declared.errors.EditError.{EditError}
+use Rattle.s2ix_edit_plan.specs.declared.errors.EditError.TheVariants.{JournalFull, NoChange, OutOfMemory}
+use Rattle.s2ix_edit_plan.specs.declared.edit.Edit.TheVariants.{Add}
+use Rattle.s2ix_edit_plan.specs.Edit.{edited}
+use Rattle.s2ix_edit_plan.specs.Errors.{IsEditRefusal}
+use Rattle.s2ix_edit_plan.specs.History.{History, with_next}
+use Rattle.s2ix_edit_plan.specs.Plan.{entries_refusal}
+use Rattle.s2ix_edit_plan.specs.Refusals.{edit_refusal, is_due, refusals_with_room}
+use Rattle.s2ix_edit_plan.specs.Rows.{PlansRows, copies_at, rows_change, rows_plan_refusal, rows_refusal, with_rows}
+use Rattle.s2ix_edit_plan.specs.State.{State, history_of, later}
+use Rattle.s2ix_edit_plan.proofs.Edited.{edited_held}
+use Rattle.s2ix_edit_plan.proofs.Rows.{never_full, nothing_from_refusal, refused_for_nothing, rows_counted, rows_planned, rows_refused, with_rows_keeps}
+use Rattle.s2ix_edit.specs.Steps.{after_edit, after_record, after_rows, after_undo, faces_of, with_held}
+use Rattle.s2ix_edit.specs.Store.{HasRoom, IsStore}
+use Rattle.s2ix_edit.proofs.Answered.{answered_where, both_ways, nothing_answered, only_where}
+use Rattle.s2ix_edit.proofs.AtCursor.{collections_recorded}
+use Rattle.s2ix_edit.proofs.Planned.{stand}
+use Rattle.s2ix_edit.proofs.Undone.{front_of, undo_of_last}
+
+-- ---- what is recorded
+
+-- the rows make what their planned entries make
+pub rows_state : (s : State) (rows : List Held) (es : List Entry) → IsStore s → PlansRows s.bag rows es
+    → after_record s es ≡ after_rows s rows
+rows_state s rows es st plans =
+    ap₂ (λ (hs : Collection) (ds : List Entry).
+    let after : State = record { bag = with_held s.bag hs; done = s.done ++ ds ∷ []; undone = []; faces_rebuilt = faces_of ds } in after)
+    plans.result (sym (rows_planned s.bag rows es st.bag plans))
+
+-- the history goes on to the collection with the rows
+pub history_rows : (s : State) (rows : List Held) → IsStore s
+    → history_of (after_rows s rows) ≡ with_next (history_of s) (with_rows rows s.bag.held)
+history_rows s rows st =
+    let hs = s.bag.held in
+    let new = with_rows rows hs in
+    ap₂ (λ (collections : List Collection) (cursor : ℕ). let h : History = record { collections = collections; cursor = cursor } in h)
+    (collections_recorded hs new (rows_change hs rows) s.done (later hs (reverse s.undone))
+    (changed_inverse_between hs new st.bag.rises (with_rows_keeps rows hs st.bag.rises)))
+    (length-append s.done (rows_change hs rows ∷ []))
+
+-- each count grows by the copies that the rows have for its pair
+pub counts_grown : (s after : State) (rows : List Held) → IsStore s → after ≡ after_rows s rows → (pair : Pair)
+    → count_in after.bag.held pair ≡ count_in s.bag.held pair + copies_at rows (rank_of pair)
+counts_grown s after rows st is pair =
+    ap (λ (t : State). count_in t.bag.held pair) is ∙ rows_counted rows s.bag.held (rank_of pair) st.bag.rises
+
+-- ---- the refusal
+
+pub with_room : (s : State) (rows : List Held) → HasRoom s → rows_refusal s rows ≡ rows_plan_refusal s.bag rows
+with_room s rows room = cond-false _ _ _ (lt-leb _ _ room)
+
+pub refusal_of_entries : (s : State) (rows : List Held) (es : List Entry) → IsStore s → HasRoom s → PlansRows s.bag rows es
+    → entries_refusal s.bag es ≡ rows_refusal s rows
+refusal_of_entries s rows es st room plans = sym (with_room s rows room ∙ rows_refused s.bag rows es st.bag plans)
+
+-- where a store answers so to rows
+pub record RowsAnswered (s : State) (rows : List Held) (r : Result ℕ EditError) : Type 0 where
+  pub full : (r ≡ Err JournalFull) ↔ (length s.done ≡ changes_limit s.bag.limits)
+  pub no_change : (r ≡ Err NoChange) ↔ (HasRoom s × (copies_in rows ≡ 0))
+
+full_first : (full : Bool) (rest : Option EditError) → (rest ≡ Some JournalFull → ⊥) → cond full (Some JournalFull) rest ≡ Some JournalFull
+    → full ≡ true
+full_first true rest never is = refl
+full_first false rest never is = absurd (never is)
+
+same_later : (full : Bool) (rest : Option EditError) → cond full (Some JournalFull) rest ≡ Some NoChange
+    → (full ≡ false) × (rest ≡ Some NoChange)
+same_later true rest is = cc
+same_later false rest is = (refl, is)
+
+full_at_limit : (s : State) (rows : List Held) → IsStore s
+    → (rows_refusal s rows ≡ Some JournalFull) ↔ (length s.done ≡ changes_limit s.bag.limits)
+full_at_limit s rows st = (
+  λ is.
+      let most = leb-true _ _ (full_first _ _ (never_full s.bag rows) is) in
+      let room = st.room in
+      omega (arith, most, room),
+  λ full. cond-true _ _ _ (le-leb _ _ (omega (arith, full))),
+)
+
+nothing_where : (s : State) (rows : List Held) → IsStore s
+    → (rows_refusal s rows ≡ Some NoChange) ↔ (HasRoom s × (copies_in rows ≡ 0))
+nothing_where s rows st = (
+  λ is. let parts = same_later _ _ is in (leb-false _ _ parts.0, nothing_from_refusal s.bag rows st.bag parts.1),
+  λ parts. with_room s rows parts.0 ∙ refused_for_nothing s.bag rows st.bag parts.1,
+)
+
+-- memory is not wanted for rows of no copies
+pub rows_answered : (s : State) (rows : List Held) (r : Result ℕ EditError) → IsStore s → OnOk r (rows_refusal s rows ≡ None)
+    → IfErr r (λ error. IsEditRefusal error (rows_refusal s rows)) → (HasRoom s → copies_in rows ≡ 0 → r ≡ Err OutOfMemory → ⊥)
+    → RowsAnswered s rows r
+rows_answered s rows r st accepted refused never =
+    let refusal = rows_refusal s rows in
+    record {
+      full = both_ways (answered_where r refusal JournalFull (λ o is. is) (λ may. may) accepted refused) (full_at_limit s rows st);
+      no_change = (
+        λ is. (nothing_where s rows st).0 (only_where r refusal NoChange (λ o own. own) accepted refused is),
+        λ parts.
+            nothing_answered r refusal ((nothing_where s rows st).1 parts) accepted refused
+            (λ wants. absurd (never parts.0 parts.1 wants)),
+      );
+    }
+
+-- ---- an undo
+
+-- rows and then an undo lead back
+pub undo_of_rows : (s : State) (rows : List Held) → IsStore s
+    → after_undo (after_rows s rows)
+    ≡ record {
+      bag = s.bag;
+      done = s.done;
+      undone = rows_change s.bag.held rows ∷ [];
+      faces_rebuilt = faces_of (rows_change s.bag.held rows);
+    }
+undo_of_rows s rows st =
+    let es = rows_change s.bag.held rows in
+    undo_of_last (after_rows s rows) s.done es refl
+    ∙ ap₂ (λ (hs : Collection) (done : List (List Entry)).
+    let t : State = record { bag = with_held s.bag hs; done = done; undone = es ∷ []; faces_rebuilt = faces_of es } in
+    t)
+    (changed_inverse_between s.bag.held (with_rows rows s.bag.held) st.bag.rises (with_rows_keeps rows s.bag.held st.bag.rises))
+    (front_of s.done es)
+
+-- ---- one row
+
+-- one row makes what an addition makes
+one_row_held : (s : State) (row : Held) → IsStore s
+    → with_rows (row ∷ []) s.bag.held ≡ edited (history_of s) (Add row.pair row.count)
+one_row_held s row st = sym (edited_held s (Add row.pair row.count) (stand s st))
+
+pub one_row_stored : (s : State) (row : Held) → IsStore s → after_rows s (row ∷ []) ≡ after_edit s (Add row.pair row.count)
+one_row_stored s row st =
+    ap (λ (new : Collection).
+    let t : State =
+    record {
+      bag = with_held s.bag new;
+      done = s.done ++ change_between s.bag.held new ∷ [];
+      undone = [];
+      faces_rebuilt = faces_of (change_between s.bag.held new);
+    } in
+    t)
+    (one_row_held s row st)
+
+pub one_row_refused : (s : State) (row : Held) → IsStore s → rows_refusal s (row ∷ []) ≡ edit_refusal s (Add row.pair row.count)
+one_row_refused s row st =
+    ap (λ (new : Collection). find (is_due s.bag s.done (Add row.pair row.count) new) (JournalFull ∷ refusals_with_room)) (one_row_held s row st)

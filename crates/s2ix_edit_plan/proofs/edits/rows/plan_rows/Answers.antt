@@ -1,0 +1,41 @@
+use Rattle.std.proofs.Common.{◌≡◌, List, sym, ◌∙◌, subst}
+use Rattle.std.proofs.lemmas.Bool.{eqb-true}
+use Rattle.std.proofs.lemmas.Result.{err_from_is_err_and}
+use Rattle.s2ix_bag_pairs.specs.declared.pair.Entry.{Entry}
+use Rattle.s2ix_bag_pairs.specs.declared.pair.Held.{Held}
+use Rattle.s2ix_bag_pairs.specs.Collection.{copies_in}
+use Rattle.s2ix_edit_plan.specs.Rows.{IsGainError, PlansRows, gains_of}
+use Rattle.s2ix_edit_plan.proofs.Rows.{gain_refused, gains_plan, nothing_plans}
+use Rattle.s2ix_edit_plan.proofs.edits.rows.plan_rows.Goals.{In_ok-entries}
+use Rattle.s2ix_edit_plan.proofs.edits.rows.plan_rows.Goals as goal
+
+pub returns-then-adds_nothing-clause-plan : goal.returns-then-adds_nothing-clause-plan
+returns-then-adds_nothing-clause-plan c =
+    let Planned : List Entry → Type 0 = λ es. PlansRows c.args.bag.now c.args.rows.now es in
+    subst Planned (sym (c.from_vec.ensures ∙ c.new.ensures.items))
+    (nothing_plans c.args.bag.now c.args.rows.now c.adds_nothing.ensures.within
+    (eqb-true (copies_in c.args.rows.now) 0 (sym c.adds_nothing.ensures.copies ∙ c.if-adds_nothing.true)))
+
+pub returns-in_err-entries-clause-refused : goal.returns-in_err-entries-clause-refused
+returns-in_err-entries-clause-refused c =
+    let p = err_from_is_err_and c.from_residual-in_err-entries.result c.from_residual-in_err-entries.ensures.1 in
+    let Failed : List Held → Type 0 = λ rows. IsGainError c.args.bag.now.held rows c.in_err-entries.field-0.0 in
+    rw (p.1, p.2)
+    (gain_refused c.args.bag.now c.args.rows.now c.in_ok-sorted.sorted.items c.in_err-entries.field-0.0 c.adds_nothing.ensures.within
+    c.in_ok-sorted.ensures.same (subst Failed c.as_slice.ensures.value c.in_err-entries.ensures.above))
+
+plan : (c : In_ok-entries) → PlansRows c.args.bag.now c.args.rows.now c.in_ok-entries.entries.items
+plan c =
+    let Planned : List Entry → Type 0 = λ es. PlansRows c.args.bag.now c.args.rows.now es in
+    let Sorted : List Held → Type 0 = λ rows. c.in_ok-entries.entries.items ≡ gains_of c.args.bag.now.held rows in
+    subst Planned (sym (subst Sorted c.as_slice.ensures.value c.in_ok-entries.ensures.entries))
+    (gains_plan c.args.bag.now c.args.rows.now c.in_ok-sorted.sorted.items c.adds_nothing.ensures.within c.in_ok-sorted.ensures.order
+    c.in_ok-sorted.ensures.same)
+
+pub from_vec-requires-2 : goal.from_vec-requires-2
+from_vec-requires-2 c = (plan (goal.at-from_vec-requires-2 c).In_ok-entries).rises
+
+pub returns-clause-plan : goal.returns-clause-plan
+returns-clause-plan c =
+    let Planned : List Entry → Type 0 = λ es. PlansRows c.args.bag.now c.args.rows.now es in
+    subst Planned (sym c.from_vec-2.ensures) (plan (goal.at-returns-clause-plan c).In_ok-entries)
