@@ -18,7 +18,11 @@
 extern "C" {
 #endif
 
-/* A store, or none. It starts as {0}, which is closed. Never copy it. Pass it to one call at a time, on the thread that opened it. */
+/* A store, or none. It starts as {0}, which is closed. Never copy it by assignment.
+
+   A store and those that s2ix_copy made of it, or of its copies, share memory and count its users without atomics. So one thread at a time may
+   be in calls on all of them together: keep them on one thread, or hold one lock, the same for all of them, during each call. A store that
+   shares nothing with another, opened or loaded by itself, may have a lock of its own. The proofs speak of one thread. */
 typedef struct s2ix_handle {
     void *address;
     bool is_open;
@@ -69,7 +73,7 @@ uint32_t s2ix_open(s2ix_handle *handle, uint32_t pairs, uint32_t copies, uint32_
 uint32_t s2ix_load(s2ix_handle *handle, const uint8_t *text, size_t len, uint32_t pairs, uint32_t copies, uint32_t changes, size_t *line);
 
 /* Opens `copy` on a new store that starts from what the handle's store holds, with nothing to undo or redo. If the call is not refused, it
-   frees the store that `copy` had. The two stores share memory: both stay on one thread. O(n), for the table.
+   frees the store that `copy` had. The two stores share memory, so one thread at a time uses both. O(n), for the table.
    S2IX_CLOSED, S2IX_OUT_OF_MEMORY. */
 uint32_t s2ix_copy(s2ix_handle *handle, s2ix_handle *copy);
 
@@ -120,8 +124,11 @@ uint32_t s2ix_redo(s2ix_handle *handle, size_t *number);
 /* Keeps what is held and drops all changes: nothing is left to undo or redo. S2IX_CLOSED. */
 uint32_t s2ix_forget(s2ix_handle *handle);
 
-/* The pairs over a leaf, the innermost cell first, the labels of one cell rising. O(log n + k) for k pairs.
-   S2IX_CLOSED, S2IX_NO_CELL, S2IX_NO_ROOM, S2IX_OUT_OF_MEMORY. */
+/* Drops all pairs and all changes, and keeps the limits: nothing is left to undo or redo. O(n). S2IX_CLOSED, S2IX_OUT_OF_MEMORY. */
+uint32_t s2ix_clear(s2ix_handle *handle);
+
+/* The pairs over a leaf, the innermost cell first, the labels of one cell rising. It does not allocate. O(log n + k) for k pairs.
+   S2IX_CLOSED, S2IX_NO_CELL, S2IX_NO_ROOM. */
 uint32_t s2ix_at(s2ix_handle *handle, uint64_t leaf, s2ix_row *rows, size_t room, size_t *number);
 
 /* The pairs that share a leaf with a union of cells, in any order and repeated or not: each once, by first shared leaf, then falling level,

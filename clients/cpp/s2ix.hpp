@@ -4,7 +4,7 @@
 // own class over such a store: a program for S2 changes one include and one type, and gains edits and undo.
 //
 // Cells are S2's 64-bit ids. A call that is refused throws and leaves the store as it was: std::bad_alloc if memory is refused, Error for each
-// other reason. Use an Index, also for queries, only on the thread that made it: stores share what they hold without a lock.
+// other reason. One thread at a time may use an Index, also for queries, and all copies of it: they share memory without atomics.
 //
 // The namespace cell has calls on single cells, cell_union those on unions of cells.
 //
@@ -333,8 +333,8 @@ class Index {
   Index& operator=(const Index&) = delete;
   ~Index() { close(); }
 
-  // An index that starts from what this one holds, with nothing to undo or redo. The two share memory: both stay on one thread. O(1), and the
-  // table's O(n). S2IX_CLOSED.
+  // An index that starts from what this one holds, with nothing to undo or redo. The two share memory, so one thread at a time may use
+  // both. O(1), and the table's O(n). S2IX_CLOSED.
   Index copy() const {
     Index index{Closed()};
     detail::check(s2ix_copy(&handle_, &index.handle_));
@@ -418,6 +418,9 @@ class Index {
 
   // Keeps what is held and drops all changes: nothing is left to undo or redo. S2IX_CLOSED.
   void forget() { detail::check(s2ix_forget(&handle_)); }
+
+  // Drops all pairs and all changes, and keeps the limits: nothing is left to undo or redo. O(n). S2IX_CLOSED.
+  void clear() { detail::check(s2ix_clear(&handle_)); }
 
   // Lists. One form of each call puts the list in place of what a vector of the caller held, and uses its memory again; if the call throws,
   // the vector is empty. The other form returns a new vector.

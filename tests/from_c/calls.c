@@ -45,6 +45,7 @@ static void refused_while_closed(void) {
     EXPECT(s2ix_undo(&handle, &number), S2IX_CLOSED);
     EXPECT(s2ix_redo(&handle, &number), S2IX_CLOSED);
     EXPECT(s2ix_forget(&handle), S2IX_CLOSED);
+    EXPECT(s2ix_clear(&handle), S2IX_CLOSED);
     number = 7;
     EXPECT(s2ix_at(&handle, leaf, &row, 1, &number), S2IX_CLOSED);
     EXPECT(number, 0);
@@ -166,6 +167,11 @@ static void edited(void) {
     EXPECT(s2ix_copies(&handle, &copies), S2IX_DONE);
     EXPECT(copies, 2);
     stepped(&handle);
+    EXPECT(s2ix_clear(&handle), S2IX_DONE);
+    EXPECT(s2ix_len(&handle, &number), S2IX_DONE);
+    EXPECT(number, 0);
+    EXPECT(s2ix_undo(&handle, &number), S2IX_NOTHING_TO_UNDO);
+    EXPECT(s2ix_add(&handle, first, 1, 6, &number), S2IX_TOO_MANY_COPIES);
     s2ix_close(&handle);
 }
 
@@ -241,6 +247,8 @@ static void asked_for_labels(s2ix_handle *handle) {
     EXPECT(number, 3);
     EXPECT(s2ix_labels(handle, &face, 1, labels, 3, &number), S2IX_DONE);
     EXPECT(labels[0] == 3 && labels[1] == 5 && labels[2] == 9, true);
+    EXPECT(s2ix_labels(handle, &face, 0, labels, 0, &number), S2IX_DONE);
+    EXPECT(number, 0);
     EXPECT(s2ix_labels(handle, &no_cell, 1, labels, 3, &number), S2IX_NO_CELL);
 
     EXPECT(s2ix_region(handle, 9, region, 0, &number), S2IX_NO_ROOM);

@@ -79,6 +79,7 @@ void Closed() {
   REFUSED(S2IX_CLOSED, index.undo());
   REFUSED(S2IX_CLOSED, index.redo());
   REFUSED(S2IX_CLOSED, index.forget());
+  REFUSED(S2IX_CLOSED, index.clear());
   REFUSED(S2IX_CLOSED, index.at(kLeaf));
   REFUSED(S2IX_CLOSED, index.at(kLeaf, rows));
   EXPECT(rows.empty());
@@ -127,6 +128,9 @@ void Edited() {
   REFUSED(S2IX_NO_SUCH_LABEL, index.drop_label(7));
   EXPECT(index.undo() == 1 && index.undo() == 2 && index.count(kFirst, 1) == 1);
   REFUSED(S2IX_TOO_MANY_PAIRS, index.add_union({0x3400000000000000, 0x5400000000000000, 0x7400000000000000, 0x9400000000000000}, 8));
+  index.clear();
+  EXPECT(index.len() == 0 && index.done_count() == 0 && index.undone_count() == 0);
+  REFUSED(S2IX_TOO_MANY_COPIES, index.add(kFirst, 1, 6));
 }
 
 // The place of the row that an add of rows is refused for.

@@ -80,6 +80,7 @@ const Call kCalls[] = {
     {"revert", [](s2ix::Index& index) { return index.revert(1); }},
     {"undo", [](s2ix::Index& index) { return index.undo(); }},
     {"redo", [](s2ix::Index& index) { return index.redo(); }},
+    {"clear", [](s2ix::Index& index) { index.clear(); return index.copies(); }},
     {"at", [](s2ix::Index& index) { return index.at(kLeaf); }},
     {"meet", [](s2ix::Index& index) { return index.meet({kFace, kSecond}); }},
     {"labels", [](s2ix::Index& index) { return index.labels({kFace, kSecond}); }},

@@ -35,13 +35,13 @@ def path(cell: Cell) -> str:
 
 def parent(cell: Cell, level: int) -> int:
     """The cell of a level that a cell lies in, itself at its own level. Raises NoCell for a finer level too."""
-    check(level, MOST_U8, NoCell)
+    level = check(level, MOST_U8, NoCell)
     return _told(ctypes.c_uint64, "s2ix_cell_parent", number_of(cell), level)
 
 
 def child(cell: Cell, position: int) -> int:
     """The child at a position, 0 to 3 along the curve. Raises NoCell for a leaf and for another position too."""
-    check(position, MOST_U8, NoCell)
+    position = check(position, MOST_U8, NoCell)
     return _told(ctypes.c_uint64, "s2ix_cell_child", number_of(cell), position)
 
 
@@ -100,7 +100,7 @@ def edge_neighbors(cell: Cell) -> list[int]:
 def border(cell: Cell, level: int) -> list[int]:
     """The cells of a level outside a cell that share an edge with a cell of that level inside it: each once, rising, at most 1024.
     O(n log n) for n cells. Raises NoCell, Coarser, TooFine or OutOfMemory."""
-    check_natural(level, MOST_U8, TooFine, "level")
+    level = check_natural(level, MOST_U8, TooFine, "level")
     return listed(library.load().s2ix_cell_border, number_of(cell), level)
 
 
@@ -113,9 +113,8 @@ def to_face_ij(cell: Cell) -> Square:
 
 def from_face_ij(face: int, i: int, j: int, level: int) -> int:
     """The cell of a square. Raises NoCell for a face above 5, a level above 30, or a column or row of 2^level or more."""
-    for number, most in ((face, MOST_U8), (i, MOST_U32), (j, MOST_U32), (level, MOST_U8)):
-        check(number, most, NoCell)
-    return _told(ctypes.c_uint64, "s2ix_cell_from_face_ij", face, i, j, level)
+    square = [check(number, most, NoCell) for number, most in ((face, MOST_U8), (i, MOST_U32), (j, MOST_U32), (level, MOST_U8))]
+    return _told(ctypes.c_uint64, "s2ix_cell_from_face_ij", *square)
 
 
 def _told(kind: Any, name: str, *given: int) -> int:

@@ -16,7 +16,7 @@ Cells = Union[Cell, Iterable[Cell], memoryview, "array[int]"]
 #: Rows to add, each a cell, a label and copies. A writable memoryview of packed rows is passed on as it lies.
 Rows = Union[Iterable["tuple[Cell, int, int]"], memoryview]
 
-MOST_U8, MOST_U32 = 255, 4_294_967_295
+MOST_U8, MOST_U32, MOST_U64 = 255, 4_294_967_295, 18_446_744_073_709_551_615
 _WORD = 8
 _packed = struct.Struct("=QII").pack
 # Where no cells lie.
@@ -113,15 +113,19 @@ def number_of(cell: Cell) -> int:
     return number
 
 
-def check(number: int, most: int, refusal: type[S2ixError]) -> None:
-    """Refuses what would come to the library as another number."""
-    if not 0 <= number <= most:
+def check(number: int, most: int, refusal: type[S2ixError]) -> int:
+    """A number as an int, from what has an `__index__` too. Refuses what would come to the library as another number."""
+    whole = operator.index(number)
+    if not 0 <= whole <= most:
         raise refusal
+    return whole
 
 
-def check_natural(number: int, most: int, refusal: type[S2ixError], name: str) -> None:
+def check_natural(number: int, most: int, refusal: type[S2ixError], name: str) -> int:
     """The same, where a number below 0 has no refusal."""
-    if number < 0:
-        raise ValueError(f"{name} below 0: {number}")
-    if number > most:
+    whole = operator.index(number)
+    if whole < 0:
+        raise ValueError(f"{name} below 0: {whole}")
+    if whole > most:
         raise refusal
+    return whole

@@ -33,11 +33,11 @@ _row_of = functools.partial(tuple.__new__, Row)
 class Index:
     """A collection of S2 cells under labels that can be edited, undone and asked. Each pair of a cell and a label has a count.
 
-    Cells are S2's 64-bit ids, or tokens; labels are 0 to 2147483647. Each edit is one change, which can be undone or reverted. A refused
-    call raises a class of S2ixError and changes nothing. Cells spelled wrong, and numbers out of range, are refused first. Besides what it
-    names, each edit may raise Closed, JournalFull, NoChange, TooManyCopies, TooManyPairs or OutOfMemory.
+    Cells are S2's 64-bit ids, or tokens; labels are 0 to 2147483647. A number may be what has an `__index__`, as those of numpy. Each
+    edit is one change, which can be undone or reverted. A refused call raises a class of S2ixError and changes nothing. Cells spelled wrong,
+    and numbers out of range, are refused first. Besides what it names, each edit may raise Closed, JournalFull, NoChange, TooManyCopies, TooManyPairs or OutOfMemory.
 
-    Close an index by `close`, or use it in a `with`. Use it from the thread that made it.
+    Close an index by `close`, or use it in a `with`. One thread at a time may use an index and all copies of it.
 
     >>> with Index() as index:
     ...     index.add_union(["04", "0c"], 9)
@@ -57,9 +57,8 @@ class Index:
         """Opens an empty index of at most `pairs` pairs (1 to 1,000,000), `copies` copies of each (1 to 4294967295), and `changes` changes that can
         be undone (1 to 100,000). Raises NoLimits or OutOfMemory, and OSError if the library isn't found."""
         self._prepare()
-        for limit in (pairs, copies, changes):
-            check(limit, MOST_U32, NoLimits)
-        expect(self._calls.s2ix_open(self._at_handle, pairs, copies, changes))
+        limits = [check(limit, MOST_U32, NoLimits) for limit in (pairs, copies, changes)]
+        expect(self._calls.s2ix_open(self._at_handle, *limits))
 
     def _prepare(self) -> None:
         """Makes a closed handle, and what its calls want beside it."""
@@ -75,6 +74,7 @@ class Index:
     def load(cls, text: Union[str, bytes], pairs: int = 1_000_000, copies: int = MOST_U32, changes: int = 100_000) -> Index:
         """Opens an index of what a dump holds, under limits as those of a new index. O(n) for n bytes. Raises NoDump, whose `line` is the first
         with a fault, NoLimits or OutOfMemory."""
+        pairs, copies, changes = (check(limit, MOST_U32, NoLimits) for limit in (pairs, copies, changes))
         index = cls(pairs, copies, changes)
         given = text.encode("utf-8", "surrogatepass") if isinstance(text, str) else bytes(text)
         status = index._calls.s2ix_load(index._at_handle, given, len(given), pairs, copies, changes, index._at_count)
@@ -90,8 +90,8 @@ class Index:
         self.close()
 
     def copy(self) -> Index:
-        """An index of its own that starts from what is held, under the same limits, with nothing to undo or redo. Both share memory, so use both
-        from one thread. Raises Closed or OutOfMemory."""
+        """An index of its own that starts from what is held, under the same limits, with nothing to undo or redo. Both share memory, so one
+        thread at a time may use both. Raises Closed or OutOfMemory."""
         other = type(self).__new__(type(self))
         other._prepare()
         expect(self._calls.s2ix_copy(self._at_handle, other._at_handle))
@@ -112,8 +112,8 @@ class Index:
     def add(self, cell: Cell, label: int, copies: int = 1) -> int:
         """Adds copies to the count of a cell under a label; returns how many pairs changed. Raises NoCell, NoLabel, and what each edit may."""
         number = number_of(cell)
-        check(label, MOST_U32, NoLabel)
-        check_natural(copies, MOST_U32, TooManyCopies, "copies")
+        label = check(label, MOST_U32, NoLabel)
+        copies = check_natural(copies, MOST_U32, TooManyCopies, "copies")
         return self._number_of(self._calls.s2ix_add, number, label, copies)
 
     def add_all(self, rows: Rows) -> int:
@@ -131,46 +131,46 @@ class Index:
         """Takes copies from the count of a cell under a label; returns how many pairs changed. Raises NoCell, NoLabel, NotHeld, and what each
         edit may."""
         number = number_of(cell)
-        check(label, MOST_U32, NoLabel)
-        check_natural(copies, MOST_U32, NotHeld, "copies")
+        label = check(label, MOST_U32, NoLabel)
+        copies = check_natural(copies, MOST_U32, NotHeld, "copies")
         return self._number_of(self._calls.s2ix_remove, number, label, copies)
 
     def add_union(self, cells: Cells, label: int) -> int:
         """Adds one copy under a label for each cell of the normal form of a union; returns how many pairs changed. Raises NoCell, NoLabel, and
         what each edit may."""
-        check(label, MOST_U32, NoLabel)
+        label = check(label, MOST_U32, NoLabel)
         start, many, _kept = cells_in(cells)
         return self._number_of(self._calls.s2ix_add_union, start, many, label)
 
     def drop_label(self, label: int) -> int:
         """Takes away all copies of a label's pairs; returns how many pairs there were. Raises NoLabel, NoSuchLabel, and what each edit may."""
-        check(label, MOST_U32, NoLabel)
+        label = check(label, MOST_U32, NoLabel)
         return self._number_of(self._calls.s2ix_drop_label, label)
 
     def relabel(self, source: int, target: int) -> int:
         """Moves all copies of one label to another, cell by cell; returns how many pairs changed. Raises NoLabel, NoSuchLabel, and what each
         edit may."""
-        check(source, MOST_U32, NoLabel)
-        check(target, MOST_U32, NoLabel)
+        source = check(source, MOST_U32, NoLabel)
+        target = check(target, MOST_U32, NoLabel)
         return self._number_of(self._calls.s2ix_relabel, source, target)
 
     def grow(self, label: int, level: int) -> int:
         """Adds one copy under a label for each cell of a level that overlaps no cell of the label and shares an edge with a cell of the level
         that overlaps one; returns how many pairs changed. Raises NoLabel, NoSuchLabel, TooFine, and what each edit may."""
-        check(label, MOST_U32, NoLabel)
-        check_natural(level, MOST_U8, TooFine, "level")
+        label = check(label, MOST_U32, NoLabel)
+        level = check_natural(level, MOST_U8, TooFine, "level")
         return self._number_of(self._calls.s2ix_grow, label, level)
 
     def normalise_label(self, label: int) -> int:
         """Replaces a label's pairs by one copy at each cell of the label's region; returns how many pairs changed. Raises NoLabel, NoSuchLabel,
         and what each edit may."""
-        check(label, MOST_U32, NoLabel)
+        label = check(label, MOST_U32, NoLabel)
         return self._number_of(self._calls.s2ix_normalise_label, label)
 
     def revert(self, change: int) -> int:
         """Takes back the change with a number, counted from 1 among those that can be undone, and leaves those that followed it; returns how many
         pairs changed. This is a change of its own. Raises NoSuchChange, BelowZero, and what each edit may."""
-        check(change, MOST_U32, NoSuchChange)
+        change = check(change, MOST_U32, NoSuchChange)
         return self._number_of(self._calls.s2ix_revert, change)
 
     # Steps.
@@ -187,11 +187,15 @@ class Index:
         """Keeps what is held and drops all changes: nothing is left to undo or redo. Raises Closed."""
         expect(self._calls.s2ix_forget(self._at_handle))
 
+    def clear(self) -> None:
+        """Drops all pairs and all changes, and keeps the limits: nothing is left to undo or redo. O(n). Raises Closed or OutOfMemory."""
+        expect(self._calls.s2ix_clear(self._at_handle))
+
     # Queries.
 
     def at(self, leaf: Cell) -> list[Row]:
-        """The pairs over a leaf, the innermost cell first, the labels of one cell rising. O(log n + k) for k pairs. Raises Closed, NoCell or
-        OutOfMemory."""
+        """The pairs over a leaf, the innermost cell first, the labels of one cell rising. O(log n + k) for k pairs. Raises Closed or
+        NoCell."""
         if leaf.__class__ is not int:
             leaf = number_of(leaf)
         elif leaf >> 64:
@@ -228,7 +232,7 @@ class Index:
     def count(self, cell: Cell, label: int) -> int:
         """How many copies of a cell are held under a label: 0 if the pair is not held. O(log n). Raises Closed, NoCell or NoLabel."""
         number, copies = number_of(cell), ctypes.c_uint32()
-        check(label, MOST_U32, NoLabel)
+        label = check(label, MOST_U32, NoLabel)
         expect(self._calls.s2ix_count(self._at_handle, number, label, addressof(copies)))
         return copies.value
 
@@ -269,7 +273,7 @@ class Index:
     # How calls are made.
 
     def _region(self, label: int) -> memoryview:
-        check(label, MOST_U32, NoLabel)
+        label = check(label, MOST_U32, NoLabel)
         return self._list(self._calls.s2ix_region, _WORD, label).cast("Q")
 
     def _of_cells(self, call: Callable[..., int], size: int, cells: Cells) -> memoryview:

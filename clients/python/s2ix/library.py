@@ -49,6 +49,7 @@ CALLS = {
     "s2ix_undo": [address, address],
     "s2ix_redo": [address, address],
     "s2ix_forget": [address],
+    "s2ix_clear": [address],
     "s2ix_at": [address, u64, address, size, address],
     "s2ix_meet": [address, address, size, address, size, address],
     "s2ix_labels": [address, address, size, address, size, address],

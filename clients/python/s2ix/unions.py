@@ -13,7 +13,7 @@ from array import array
 from typing import Callable
 
 from . import library
-from .given import Cells, cells_in, number_of
+from .given import MOST_U64, Cells, cells_in, check, number_of
 from .refusals import NoRoom, NoSpan, expect
 from .tokens import Cell
 
@@ -27,9 +27,8 @@ def normalise(cells: Cells) -> list[int]:
 def from_leaves(start: int, limit: int) -> list[int]:
     """The leaves with numbers from `start` to below `limit`: at most 184 cells. Bounds are odd; equal ones give no cells. Raises
     NoSpan or OutOfMemory."""
-    if start >> 64 or limit >> 64:
-        raise NoSpan
-    return listed(library.load().s2ix_union_from_leaves, start, limit)
+    span = check(start, MOST_U64, NoSpan), check(limit, MOST_U64, NoSpan)
+    return listed(library.load().s2ix_union_from_leaves, *span)
 
 
 def union(first: Cells, second: Cells) -> list[int]:

@@ -92,3 +92,8 @@ DoesRows rows status number old new =
     ((held : List Held) × NameHeld rows held × Through (IsAdded held status number) ((status ≡ closed) × (number ≡ 0)) old new)
     ⊎ (IsFirstWrong rows number status × (new ≡ old))
     ⊎ Refuses out_of_memory status number old new
+
+-- a store is empty under the limits that it had, with nothing to undo or redo; or memory is wanted, and it is as it was
+pub record IsCleared (status : ℕ) (s t : State) : Type 0 where
+  pub accepted : status ≡ done → t ≡ starting_at (record { limits = s.bag.limits; held = [] })
+  pub refused : status ≢ done → (status ≡ out_of_memory) × (t ≡ s)

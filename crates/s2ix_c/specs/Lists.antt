@@ -35,7 +35,12 @@ pub record IsPut {A : Type 0} (list : List A) (status number : ℕ) (old new : L
 abbrev pub IsRefused : {A : Type 0} → ℕ → ℕ → ℕ → List A → List A → Type 0
 IsRefused why status number old new = (status ≡ why) × (number ≡ 0) × (new ≡ old)
 
--- a list in a buffer, or why there is none; want of memory may be told in place of either
+-- a list in a buffer, or why there is none
+abbrev pub Puts : {A : Type 0} → Result (List A) ℕ → ℕ → ℕ → List A → List A → Type 0
+Puts (Ok list) status number old new = IsPut list status number old new
+Puts (Err why) status number old new = IsRefused why status number old new
+
+-- the same, but want of memory may be told in place of either
 abbrev pub Lists : {A : Type 0} → Result (List A) ℕ → ℕ → ℕ → List A → List A → Type 0
 Lists (Ok list) status number old new = IsPut list status number old new ⊎ IsRefused out_of_memory status number old new
 Lists (Err why) status number old new = IsRefused why status number old new ⊎ IsRefused out_of_memory status number old new

@@ -6,7 +6,7 @@ ghost use Rattle.s2ix_bag_pairs.specs.Limits.{changes_limit, count_limit, pairs_
 ghost use Rattle.s2ix_bag_pairs.specs.Ranges.{AreLimits};
 ghost use Rattle.s2ix_edit_plan.specs.State.{starting_at};
 ghost use Rattle.s2ix_handle.specs.Handle.{held_of};
-ghost use Rattle.s2ix_c.specs.Calls.{HasFaultIn, IsCopied, Loads, Opens, Through};
+ghost use Rattle.s2ix_c.specs.Calls.{HasFaultIn, IsCleared, IsCopied, Loads, Opens, Through};
 ghost use Rattle.s2ix_c.specs.Status.{closed, done, no_dump, no_limits, out_of_memory};
 
 use crate::status::{CLOSED, DONE, NO_DUMP, NO_LIMITS, OUT_OF_MEMORY};
@@ -123,6 +123,31 @@ pub extern "C" fn s2ix_copy(alloc: Global, handle: &mut Handle, copy: &mut Handl
         return CLOSED;
     };
     let status = copy_store(alloc, &store, copy);
+    *handle = Handle::of(alloc, store);
+    status
+}
+
+// Puts the empty store in place of what a store holds.
+fn clear_store(alloc: Global, store: &mut Store) -> u32
+    ensures { IsCleared result store.old store.new }
+{
+    let Ok(empty) = Store::new(alloc, store.bag().limits()) else {
+        return OUT_OF_MEMORY;
+    };
+    *store = empty;
+    DONE
+}
+
+/// Drops all pairs and all changes, and keeps the limits: nothing is left to undo or redo.
+#[tactic(auto, using(crate::proofs::Through::through_open, crate::proofs::Through::through_closed))]
+#[unsafe(no_mangle)]
+pub extern "C" fn s2ix_clear(alloc: Global, handle: &mut Handle) -> u32
+    ensures { Through (IsCleared result) (result ≡ closed) (held_of handle.old) (held_of handle.new) }
+{
+    let Some(mut store) = handle.take(alloc) else {
+        return CLOSED;
+    };
+    let status = clear_store(alloc, &mut store);
     *handle = Handle::of(alloc, store);
     status
 }

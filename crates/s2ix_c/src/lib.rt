@@ -9,6 +9,7 @@
 mod asked;
 mod cell_unions;
 mod cells;
+mod chains;
 mod counts;
 mod edits;
 mod handles;

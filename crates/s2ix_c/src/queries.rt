@@ -1,24 +1,24 @@
 //! Queries of the store of a handle. None changes it.
 
-ghost use Rattle.std.specs.Prelude.{◌≡◌, ◌≢◌, ℕ, IfSome, IfOk, length};
-ghost use Rattle.s2id_core.specs.CellId.{level_of, raw_of};
+ghost use Rattle.std.specs.Prelude.{◌≡◌, ◌≢◌, ℕ, IfSome, length};
+ghost use Rattle.s2id_core.specs.CellId.{level_of};
 ghost use Rattle.s2ix_bag_pairs.specs.Label.{label_numbered};
-ghost use Rattle.s2ix_table_ranges.specs.Contents.{contents_at};
 ghost use Rattle.s2ix_handle.specs.Handle.{held_of};
 ghost use Rattle.s2ix_c.specs.Calls.{Through};
-ghost use Rattle.s2ix_c.specs.Lists.{leaf_numbered, labels_met, Lists, ListsOf, region_cells, rows_met, rows_over};
+ghost use Rattle.s2ix_c.specs.Lists.{leaf_numbered, labels_met, Lists, ListsOf, Puts, region_cells, rows_met, rows_over};
 ghost use Rattle.s2ix_c.specs.Status.{closed};
 
 use crate::asked::cell_of;
+use crate::chains::put_contents;
 use crate::rows::{Row, put_cells, put_labels, put_rows};
 use crate::status::{CLOSED, NO_CELL, NO_LABEL, OUT_OF_MEMORY};
 use crate::unions::cells_of;
-use s2id_core::{CellId, OutOfMemory};
+use s2id_core::CellId;
 use s2id_union::CellUnion;
-use s2ix_bag_pairs::{Held, Label};
+use s2ix_bag_pairs::Label;
 use s2ix_edit::Store;
 use s2ix_handle::Handle;
-use s2ix_table_queries::{RangeTable, chain_at};
+use s2ix_table_queries::RangeTable;
 use std::alloc::Global;
 
 // The leaf of a number.
@@ -32,32 +32,17 @@ pub(crate) fn leaf_of(number: u64) -> Option<CellId>
     }
 }
 
-// The pairs over a leaf.
-fn contents_of<T: RangeTable>(
-    alloc: Global,
-    table: &T,
-    leaf: CellId,
-) -> Result<Vec<Held>, OutOfMemory>
-    requires { level_of leaf ≡ 30 }
-    ensures { IfOk result (λ list. list.items ≡ contents_at (raw_of leaf) (T.pairs table.now)) }
+fn at_store(store: &Store, leaf: u64, out: &mut [Row], number: &mut usize) -> u32
+    ensures { Puts (rows_over (leaf_numbered leaf) store.now) result number.new out.old out.new }
 {
-    Ok(chain_at(table, leaf).collect(alloc)?)
-}
-
-fn at_store(alloc: Global, store: &Store, leaf: u64, out: &mut [Row], number: &mut usize) -> u32
-    ensures { Lists (rows_over (leaf_numbered leaf) store.now) result number.new out.old out.new }
-{
-    *number = 0;
     let Some(leaf) = leaf_of(leaf) else {
+        *number = 0;
         return NO_CELL;
     };
-    let Ok(list) = contents_of(alloc, store.table(), leaf) else {
-        return OUT_OF_MEMORY;
-    };
-    put_rows(list.as_slice(), out, number)
+    put_contents(store.table(), leaf, out, number)
 }
 
-/// The pairs over a leaf, the innermost cell first, the labels of one cell rising.
+/// The pairs over a leaf, the innermost cell first, the labels of one cell rising. It does not allocate.
 #[tactic(auto, using(crate::proofs::Through::through_open, crate::proofs::Through::through_closed))]
 #[unsafe(no_mangle)]
 pub extern "C" fn s2ix_at(
@@ -67,14 +52,14 @@ pub extern "C" fn s2ix_at(
     out: &mut [Row],
     number: &mut usize,
 ) -> u32
-    ensures { Through (λ s t. (t ≡ s) × Lists (rows_over (leaf_numbered leaf) s) result number.new out.old out.new)
+    ensures { Through (λ s t. (t ≡ s) × Puts (rows_over (leaf_numbered leaf) s) result number.new out.old out.new)
         ((result ≡ closed) × (number.new ≡ 0) × (out.new ≡ out.old)) (held_of handle.old) (held_of handle.new) }
 {
     let Some(store) = handle.take(alloc) else {
         *number = 0;
         return CLOSED;
     };
-    let status = at_store(alloc, &store, leaf, out, number);
+    let status = at_store(&store, leaf, out, number);
     *handle = Handle::of(alloc, store);
     status
 }

@@ -18,7 +18,9 @@ pub(crate) fn cells_of(alloc: Global, ids: &[u64]) -> Result<Vec<CellId>, u32>
     ensures cells { IfOk result (λ cells. AreCells ids.now cells.items) }
     ensures refused { IfErr result (λ why. ((why ≡ no_cell) × LacksCell ids.now) ⊎ (why ≡ out_of_memory)) }
 {
-    let mut cells = Vec::new(alloc);
+    let Ok(mut cells) = Vec::with_capacity(alloc, ids.len()) else {
+        return Err(OUT_OF_MEMORY);
+    };
     for id in ids {
         let Some(cell) = CellId::from_raw(*id) else {
             return Err(NO_CELL);

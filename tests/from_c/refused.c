@@ -1,0 +1,233 @@
+/* Refuses each growth of memory in turn, in each call of s2ix.h that allocates: the call must return S2IX_OUT_OF_MEMORY, tell nothing and
+   leave the stores, and then do all when it is made again. Calls that do not allocate may not ask for a growth. It has a malloc of its
+   own. It says 'growths refused from c: N', or the lines at which something else came about. */
+#include "s2ix.h"
+
+#include <stdio.h>
+#include <stdlib.h>
+#include <string.h>
+
+extern void *__libc_malloc(size_t size);
+extern void *__libc_realloc(void *old, size_t size);
+
+/* How many growths were asked for, and the number of the one that is refused; 0 if none is. */
+static long asked, refused_growth;
+
+void *malloc(size_t size) { return ++asked == refused_growth ? NULL : __libc_malloc(size); }
+void *realloc(void *old, size_t size) { return ++asked == refused_growth ? NULL : __libc_realloc(old, size); }
+
+enum { ROOM = 4096 };
+
+static const uint64_t first = 0x0400000000000000, second = 0x0c00000000000000, face = 0x1000000000000000, leaf = 0x0400000000000001;
+static const uint64_t two[] = {0x0c00000000000000, 0x0400000000000000};
+static const char dump[] = "s2ix 2\n04 7 1\n0c 7 1\n0400000000000001 8 2\nend 3 4\n";
+
+/* What a call told: its number, and what it put. */
+typedef struct told {
+    size_t number;
+    union {
+        uint8_t bytes[ROOM];
+        s2ix_row rows[ROOM / sizeof(s2ix_row)];
+        uint64_t cells[ROOM / sizeof(uint64_t)];
+        uint32_t labels[ROOM / sizeof(uint32_t)];
+    };
+} told;
+
+/* A call on a handle; `other` is a second handle, for those that open one. It returns a status. */
+typedef uint32_t call(s2ix_handle *handle, s2ix_handle *other, told *told);
+
+#define CALL(name) static uint32_t name(s2ix_handle *handle, s2ix_handle *other, told *told)
+#define ROWS told->rows, sizeof told->rows / sizeof *told->rows
+#define CELLS told->cells, sizeof told->cells / sizeof *told->cells
+#define LABELS told->labels, sizeof told->labels / sizeof *told->labels
+
+CALL(opens) { return (void)handle, (void)told, s2ix_open(other, 9, 9, 9); }
+CALL(loads) { return (void)handle, s2ix_load(other, (const uint8_t *)dump, sizeof dump - 1, 9, 9, 9, &told->number); }
+CALL(copies) { return (void)told, s2ix_copy(handle, other); }
+CALL(adds) { return (void)other, s2ix_add(handle, face, 1, 1, &told->number); }
+CALL(removes) { return (void)other, s2ix_remove(handle, first, 7, 1, &told->number); }
+CALL(adds_union) { return (void)other, s2ix_add_union(handle, two, 2, 6, &told->number); }
+CALL(drops) { return (void)other, s2ix_drop_label(handle, 7, &told->number); }
+CALL(relabels) { return (void)other, s2ix_relabel(handle, 7, 9, &told->number); }
+CALL(grows) { return (void)other, s2ix_grow(handle, 7, 1, &told->number); }
+CALL(normalises) { return (void)other, s2ix_normalise_label(handle, 8, &told->number); }
+CALL(reverts) { return (void)other, s2ix_revert(handle, 1, &told->number); }
+CALL(undoes) { return (void)other, s2ix_undo(handle, &told->number); }
+CALL(redoes) { return (void)other, s2ix_redo(handle, &told->number); }
+CALL(clears) { return (void)other, (void)told, s2ix_clear(handle); }
+CALL(meets) { return (void)other, s2ix_meet(handle, two, 2, ROWS, &told->number); }
+CALL(labels) { return (void)other, s2ix_labels(handle, &face, 1, LABELS, &told->number); }
+CALL(region) { return (void)other, s2ix_region(handle, 7, CELLS, &told->number); }
+CALL(of_label) { return (void)other, s2ix_of_label(handle, 7, ROWS, &told->number); }
+CALL(dumps) { return (void)other, s2ix_dump(handle, told->bytes, ROOM, &told->number); }
+CALL(journals) { return (void)other, s2ix_journal(handle, told->bytes, ROOM, &told->number); }
+
+/* Calls without a handle. */
+CALL(border) { return (void)handle, (void)other, s2ix_cell_border(first, 3, CELLS, &told->number); }
+CALL(normal_list) { return (void)handle, (void)other, s2ix_union_normalise(two, 2, CELLS, &told->number); }
+CALL(from_leaves) { return (void)handle, (void)other, s2ix_union_from_leaves(3, 77, CELLS, &told->number); }
+CALL(of_either) { return (void)handle, (void)other, s2ix_union_union(two, 1, two + 1, 1, CELLS, &told->number); }
+CALL(of_both) { return (void)handle, (void)other, s2ix_union_intersection(two, 2, two, 1, CELLS, &told->number); }
+CALL(of_one) { return (void)handle, (void)other, s2ix_union_difference(two, 2, two, 1, CELLS, &told->number); }
+CALL(contains) {
+    bool answer = true;
+    uint32_t status = s2ix_union_contains(two, 2, leaf, &answer);
+    told->number = answer;
+    return (void)handle, (void)other, status;
+}
+CALL(intersects) {
+    bool answer = true;
+    uint32_t status = s2ix_union_intersects(two, 2, face, &answer);
+    told->number = answer;
+    return (void)handle, (void)other, status;
+}
+CALL(leaf_count) { return (void)handle, (void)other, s2ix_union_leaf_count(two, 2, told->cells); }
+
+/* Calls that do not allocate. */
+CALL(at) { return (void)other, s2ix_at(handle, leaf, ROWS, &told->number); }
+CALL(pairs) { return (void)other, s2ix_pairs(handle, 0, ROWS, &told->number); }
+CALL(finds) { return (void)other, s2ix_find(handle, leaf, &told->number, told->cells, told->cells + 1); }
+CALL(counts) { return (void)other, s2ix_count(handle, first, 7, told->labels); }
+CALL(forgets) { return (void)other, (void)told, s2ix_forget(handle); }
+CALL(closes_other) {
+    s2ix_close(other);
+    return (void)told, s2ix_len(handle, &told->number);
+}
+
+static const struct {
+    const char *name;
+    call *make;
+    bool allocates;
+} calls[] = {
+    {"open", opens, true},
+    {"load", loads, true},
+    {"copy", copies, true},
+    {"add", adds, true},
+    {"remove", removes, true},
+    {"add_union", adds_union, true},
+    {"drop_label", drops, true},
+    {"relabel", relabels, true},
+    {"grow", grows, true},
+    {"normalise_label", normalises, true},
+    {"revert", reverts, true},
+    {"undo", undoes, true},
+    {"redo", redoes, true},
+    {"clear", clears, true},
+    {"meet", meets, true},
+    {"labels", labels, true},
+    {"region", region, true},
+    {"of_label", of_label, true},
+    {"dump", dumps, true},
+    {"journal", journals, true},
+    {"border", border, true},
+    {"union_normalise", normal_list, true},
+    {"union_from_leaves", from_leaves, true},
+    {"union_union", of_either, true},
+    {"union_intersection", of_both, true},
+    {"union_difference", of_one, true},
+    {"union_contains", contains, true},
+    {"union_intersects", intersects, true},
+    {"union_leaf_count", leaf_count, true},
+    {"at", at, false},
+    {"pairs", pairs, false},
+    {"find", finds, false},
+    {"count", counts, false},
+    {"forget", forgets, false},
+    {"close", closes_other, false},
+};
+
+/* All that a store shows: what it holds, its changes that can be undone, and how many can be redone. */
+typedef struct shown {
+    size_t texts[2], undone;
+    uint8_t bytes[2][ROOM];
+    bool is_open;
+} shown;
+
+static int faults;
+
+static void expect(const char *name, long growth, const char *what, bool holds) {
+    if (!holds) {
+        printf("refused.c: %s, growth %ld: %s\n", name, growth, what);
+        faults++;
+    }
+}
+
+static void show(s2ix_handle *handle, shown *shown) {
+    memset(shown, 0, sizeof *shown);
+    shown->is_open = handle->is_open;
+    if (!handle->is_open) return;
+    if (s2ix_dump(handle, shown->bytes[0], ROOM, &shown->texts[0]) != S2IX_DONE) abort();
+    if (s2ix_journal(handle, shown->bytes[1], ROOM, &shown->texts[1]) != S2IX_DONE) abort();
+    if (s2ix_undone_count(handle, &shown->undone) != S2IX_DONE) abort();
+}
+
+/* Two stores, the first with changes that can be undone and one that can be redone. */
+static void start(s2ix_handle *handle, s2ix_handle *other) {
+    size_t number;
+    uint64_t both[] = {first, second};
+    if (s2ix_open(handle, 1000, 1000, 1000) != S2IX_DONE || s2ix_open(other, 5, 5, 5) != S2IX_DONE) abort();
+    if (s2ix_add(other, second, 3, 1, &number) != S2IX_DONE || s2ix_add_union(handle, both, 2, 7, &number) != S2IX_DONE) abort();
+    if (s2ix_add(handle, leaf, 8, 2, &number) != S2IX_DONE) abort();
+    if (s2ix_add(handle, 0x3000000000000000, 9, 1, &number) != S2IX_DONE || s2ix_undo(handle, &number) != S2IX_DONE) abort();
+}
+
+/* Makes a call with a growth refused, counted from 1; 0 refuses none. Returns its status. */
+static uint32_t make(call *call, s2ix_handle *handle, s2ix_handle *other, told *told, long growth) {
+    memset(told, 0, sizeof *told);
+    asked = 0;
+    refused_growth = growth;
+    uint32_t status = call(handle, other, told);
+    refused_growth = 0;
+    return status;
+}
+
+static bool are_same(const shown *one, const shown *two) { return memcmp(one, two, sizeof *one) == 0; }
+
+static const told nothing;
+static shown before[2], after[2], found[2];
+static told right, given;
+
+/* Refuses each growth of a call in turn. Returns how many calls gave up. */
+static int refuse(const char *name, call *call, bool allocates) {
+    int refused = 0;
+    s2ix_handle handle = {0}, other = {0};
+    start(&handle, &other);
+    show(&handle, &before[0]);
+    show(&other, &before[1]);
+    expect(name, 0, "a call with memory is refused", make(call, &handle, &other, &right, 0) == S2IX_DONE);
+    long growths = asked;
+    expect(name, 0, allocates ? "the call asks for no growth" : "the call asks for a growth", (growths > 0) == allocates);
+    show(&handle, &after[0]);
+    show(&other, &after[1]);
+    for (long growth = 1; growth <= growths; growth++) {
+        start(&handle, &other);
+        uint32_t status = make(call, &handle, &other, &given, growth);
+        if (status != S2IX_DONE) {
+            refused++;
+            expect(name, growth, "the status is another", status == S2IX_OUT_OF_MEMORY);
+            expect(name, growth, "a refused call tells something", memcmp(&given, &nothing, sizeof given) == 0);
+            show(&handle, &found[0]);
+            show(&other, &found[1]);
+            expect(name, growth, "a refused call changes a store", are_same(&found[0], &before[0]) && are_same(&found[1], &before[1]));
+            expect(name, growth, "the call is refused again", make(call, &handle, &other, &given, 0) == S2IX_DONE);
+        }
+        show(&handle, &found[0]);
+        show(&other, &found[1]);
+        expect(name, growth, "the stores are others than with memory", are_same(&found[0], &after[0]) && are_same(&found[1], &after[1]));
+        expect(name, growth, "the call tells something else than with memory", memcmp(&given, &right, sizeof given) == 0);
+    }
+    s2ix_close(&handle);
+    s2ix_close(&other);
+    return refused;
+}
+
+int main(void) {
+    int refused = 0;
+    for (size_t k = 0; k < sizeof calls / sizeof *calls; k++) {
+        int each = refuse(calls[k].name, calls[k].make, calls[k].allocates);
+        expect(calls[k].name, 0, "the call never gives up", (each > 0) == calls[k].allocates);
+        refused += each;
+    }
+    printf("growths refused from c: %d\n", refused);
+    return faults > 0;
+}
