@@ -35,6 +35,14 @@ typedef struct s2ix_row {
     uint32_t count;
 } s2ix_row;
 
+/* A pair in a change, with its count before and after: they differ, and 0 is the count of a pair that is not held. */
+typedef struct s2ix_entry {
+    uint64_t cell;
+    uint32_t label;
+    uint32_t before;
+    uint32_t after;
+} s2ix_entry;
+
 enum s2ix_status {
     S2IX_DONE = 0,
     S2IX_CLOSED = 1,          /* the handle is closed */
@@ -56,7 +64,9 @@ enum s2ix_status {
     S2IX_TOO_MANY_COPIES = 23,
     S2IX_TOO_MANY_PAIRS = 24,
     S2IX_COARSER = 25,        /* the level is below the cell's */
-    S2IX_NO_SPAN = 26         /* a bound is even, or not 1 <= start <= limit <= 0xc000000000000001 */
+    S2IX_NO_SPAN = 26,        /* a bound is even, or not 1 <= start <= limit <= 0xc000000000000001 */
+    S2IX_NO_JOURNAL = 28,     /* the text is no journal under the limits */
+    S2IX_MISMATCH = 29        /* a change has another count of a pair than is held */
 };
 
 /* What a status means, in words, as *number bytes with no zero after them. S2IX_NO_ROOM. */
@@ -71,6 +81,18 @@ uint32_t s2ix_open(s2ix_handle *handle, uint32_t pairs, uint32_t copies, uint32_
    the store that the handle had. If the text is no dump, *line is the number of its first line with a fault, counted from 1; else it is 0. O(n)
    for n bytes. S2IX_NO_LIMITS, S2IX_NO_DUMP, S2IX_OUT_OF_MEMORY. */
 uint32_t s2ix_load(s2ix_handle *handle, const uint8_t *text, size_t len, uint32_t pairs, uint32_t copies, uint32_t changes, size_t *line);
+
+/* Opens a handle of the store that starts from a dump's collection after a journal's changes, under limits as those of s2ix_open, with nothing
+   to undo or redo. If the call is not refused, it frees the store that the handle had. The first thing that is refused decides: a line of the
+   dump, a line of the journal, or a change. *place is the number of that line, or of that change for S2IX_MISMATCH, S2IX_TOO_MANY_COPIES and
+   S2IX_TOO_MANY_PAIRS, counted from 1; *entry is the number of the entry in it for S2IX_MISMATCH. Both are 0 otherwise. O(n + m log n) for n bytes and pairs and m entries. S2IX_NO_LIMITS, S2IX_NO_DUMP, S2IX_NO_JOURNAL, S2IX_MISMATCH,
+   S2IX_TOO_MANY_COPIES, S2IX_TOO_MANY_PAIRS, S2IX_OUT_OF_MEMORY. */
+uint32_t s2ix_replay(s2ix_handle *handle, const uint8_t *dump, size_t dump_len, const uint8_t *journal, size_t journal_len, uint32_t pairs,
+                     uint32_t copies, uint32_t changes, size_t *place, size_t *entry);
+
+/* The same for the collection before the changes: they are taken back from the dump's, the last one first. */
+uint32_t s2ix_rewind(s2ix_handle *handle, const uint8_t *dump, size_t dump_len, const uint8_t *journal, size_t journal_len, uint32_t pairs,
+                     uint32_t copies, uint32_t changes, size_t *place, size_t *entry);
 
 /* Opens `copy` on a new store that starts from what the handle's store holds, with nothing to undo or redo. If the call is not refused, it
    frees the store that `copy` had. The two stores share memory, so one thread at a time uses both. O(n), for the table.
@@ -163,6 +185,10 @@ uint32_t s2ix_copies(s2ix_handle *handle, uint64_t *copies);
 uint32_t s2ix_done_count(s2ix_handle *handle, size_t *number);
 uint32_t s2ix_undone_count(s2ix_handle *handle, size_t *number);
 
+/* The entries of the change with a number, counted from 1 among those that can be undone: by rising cell, then label. It does not allocate.
+   O(k) for k entries. S2IX_CLOSED, S2IX_NO_SUCH_CHANGE, S2IX_NO_ROOM. */
+uint32_t s2ix_change(s2ix_handle *handle, uint32_t change, s2ix_entry *entries, size_t room, size_t *number);
+
 /* How many faces, 0 to 6, the last accepted edit, undo or redo read again. O(1). S2IX_CLOSED. */
 uint32_t s2ix_faces_rebuilt(s2ix_handle *handle, size_t *number);
 
@@ -180,6 +206,10 @@ uint32_t s2ix_dump(s2ix_handle *handle, uint8_t *text, size_t room, size_t *numb
 /* The journal of the changes that can be undone, the oldest first, as bytes (docs/FORMATS.md). O(n) for n entries.
    S2IX_CLOSED, S2IX_NO_ROOM, S2IX_OUT_OF_MEMORY. */
 uint32_t s2ix_journal(s2ix_handle *handle, uint8_t *text, size_t room, size_t *number);
+
+/* The export of what is held: one line of compact JSON with no line feed (docs/FORMATS.md). O(n), some 200 bytes a pair while it is made.
+   S2IX_CLOSED, S2IX_NO_ROOM, S2IX_OUT_OF_MEMORY. */
+uint32_t s2ix_export(s2ix_handle *handle, uint8_t *text, size_t room, size_t *number);
 
 /* Cells, without a handle. Each call takes O(1) if nothing else is said, and only s2ix_cell_border allocates. A call that gives a cell, a
    level or a face gives 0 if it is refused. A call that returns a bool returns false if a number is no cell's. */

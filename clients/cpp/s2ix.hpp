@@ -8,7 +8,7 @@
 //
 // The namespace cell has calls on single cells, cell_union those on unions of cells.
 //
-// Not here yet: S2CellIndex's RangeIterator, NonEmptyRangeIterator and ContentsIterator, and a journal read back.
+// Not here yet: S2CellIndex's RangeIterator, NonEmptyRangeIterator and ContentsIterator.
 #ifndef S2IX_HPP
 #define S2IX_HPP
 
@@ -36,6 +36,9 @@ namespace s2ix {
 // A pair of a cell and a label that a store holds, with its count: row.cell, row.label, row.count.
 using Row = ::s2ix_row;
 
+// A pair in a change: entry.cell, entry.label, and its counts entry.before and entry.after, of which 0 is that of a pair that is not held.
+using Entry = ::s2ix_entry;
+
 // What a status says, in words.
 inline std::string status_text(std::uint32_t status) {
   std::uint8_t bytes[128] = {};
@@ -47,33 +50,48 @@ inline std::string status_text(std::uint32_t status) {
 // Why a call was refused. It left the store as it was.
 class Error : public std::runtime_error {
  public:
-  explicit Error(std::uint32_t status, std::size_t line = 0, std::size_t row = 0)
-      : std::runtime_error(text(status, line)), status_(status), line_(line), row_(row) {}
+  explicit Error(std::uint32_t status, std::size_t line = 0, std::size_t row = 0, std::size_t change = 0, std::size_t entry = 0)
+      : std::runtime_error(text(status, line, change, entry)), status_(status), line_(line), row_(row), change_(change), entry_(entry) {}
 
   // The status that s2ix.h has for the reason, as S2IX_NOT_HELD.
   std::uint32_t status() const noexcept { return status_; }
 
-  // The first line of a dump that has a fault, from 1; 0 if the call read no dump.
+  // The first line of a dump or a journal that has a fault, from 1; 0 if the call was refused for another reason.
   std::size_t line() const noexcept { return line_; }
 
   // The place, counted from 0, of the first row of add_all whose cell or label is wrong; 0 in all other cases.
   std::size_t row() const noexcept { return row_; }
 
+  // The change of a journal that is refused, from 1, and its entry with another count than is held, from 1; each is 0 if there is none.
+  std::size_t change() const noexcept { return change_; }
+  std::size_t entry() const noexcept { return entry_; }
+
  private:
-  static std::string text(std::uint32_t status, std::size_t line) {
-    return "s2ix: " + status_text(status) + (line == 0 ? "" : ": line " + std::to_string(line));
+  static std::string text(std::uint32_t status, std::size_t line, std::size_t change, std::size_t entry) {
+    std::string words = "s2ix: " + status_text(status);
+    if (line != 0) words += ": line " + std::to_string(line);
+    if (change != 0) words += ": change " + std::to_string(change);
+    if (entry != 0) words += ", entry " + std::to_string(entry);
+    return words;
   }
 
   std::uint32_t status_;
   std::size_t line_;
   std::size_t row_;
+  std::size_t change_;
+  std::size_t entry_;
 };
 
 namespace detail {
 
-inline void check(std::uint32_t status, std::size_t line = 0, std::size_t row = 0) {
+inline void check(std::uint32_t status, std::size_t line = 0, std::size_t row = 0, std::size_t change = 0, std::size_t entry = 0) {
   if (status == S2IX_OUT_OF_MEMORY) throw std::bad_alloc();
-  if (status != S2IX_DONE) throw Error(status, line, row);
+  if (status != S2IX_DONE) throw Error(status, line, row, change, entry);
+}
+
+// The bytes of a text: never a null pointer, even for none.
+inline const std::uint8_t* bytes(std::string_view text) noexcept {
+  return reinterpret_cast<const std::uint8_t*>(text.empty() ? "" : text.data());
 }
 
 // What a call writes to the pointer it is given, if it is not refused.
@@ -169,8 +187,7 @@ inline bool intersects(std::uint64_t cell, std::uint64_t other) noexcept { retur
 
 // The cell that a text spells: 1 to 16 hexadecimal digits of either case; those missing on the right are zeros.
 inline std::uint64_t from_token(std::string_view token) {
-  const auto* text = reinterpret_cast<const std::uint8_t*>(token.empty() ? "" : token.data());
-  return detail::answer<std::uint64_t>([&](std::uint64_t* cell) { return s2ix_cell_from_token(text, token.size(), cell); });
+  return detail::answer<std::uint64_t>([&](std::uint64_t* cell) { return s2ix_cell_from_token(detail::bytes(token), token.size(), cell); });
 }
 
 // A cell's token, of 1 to 16 digits.
@@ -314,11 +331,22 @@ class Index {
   static Index load(std::string_view dump, Limits limits = Limits()) {
     Index index{Closed()};
     std::size_t line = 0;
-    const char* bytes = dump.empty() ? "" : dump.data();
-    std::uint32_t status = s2ix_load(&index.handle_, reinterpret_cast<const std::uint8_t*>(bytes), dump.size(), limits.pairs, limits.copies,
-                                     limits.changes, &line);
+    std::uint32_t status =
+        s2ix_load(&index.handle_, detail::bytes(dump), dump.size(), limits.pairs, limits.copies, limits.changes, &line);
     detail::check(status, line);
     return index;
+  }
+
+  // The index that starts from a dump's pairs after a journal's changes, with nothing to undo or redo. The first thing that is refused
+  // decides: S2IX_NO_DUMP or S2IX_NO_JOURNAL, with the first line that has a fault; S2IX_MISMATCH, S2IX_TOO_MANY_COPIES or
+  // S2IX_TOO_MANY_PAIRS, with the change. S2IX_NO_LIMITS. O(n + m log n) for n bytes and m entries.
+  static Index replay(std::string_view dump, std::string_view journal, Limits limits = Limits()) {
+    return led(s2ix_replay, dump, journal, limits);
+  }
+
+  // The same before the journal's changes: they are taken back, the last one first.
+  static Index rewind(std::string_view dump, std::string_view journal, Limits limits = Limits()) {
+    return led(s2ix_rewind, dump, journal, limits);
   }
 
   Index(Index&& other) noexcept : handle_(std::exchange(other.handle_, ::s2ix_handle{})) {}
@@ -511,6 +539,13 @@ class Index {
     return detail::number([&](std::size_t* to) { return s2ix_undone_count(&handle_, to); });
   }
 
+  // The entries of the change with a number, counted from 1 among those that can be undone: by rising cell, then label. O(k) for k entries.
+  // S2IX_CLOSED, S2IX_NO_SUCH_CHANGE.
+  std::vector<Entry> change(std::uint32_t number) const {
+    return detail::filled<std::vector<Entry>>(
+        [&](Entry* to, std::size_t room, std::size_t* many) { return s2ix_change(&handle_, number, to, room, many); });
+  }
+
   // How many faces, 0 to 6, the last accepted edit, undo or redo read again. O(1). S2IX_CLOSED.
   std::size_t faces_rebuilt() const {
     return detail::number([&](std::size_t* to) { return s2ix_faces_rebuilt(&handle_, to); });
@@ -540,9 +575,27 @@ class Index {
     });
   }
 
+  // The export of what is held: one line of compact JSON, without a line feed (docs/FORMATS.md). O(n). S2IX_CLOSED.
+  std::string export_json() const {
+    return detail::filled<std::string>([&](char* bytes, std::size_t room, std::size_t* number) {
+      return s2ix_export(&handle_, reinterpret_cast<std::uint8_t*>(bytes), room, number);
+    });
+  }
+
  private:
   struct Closed {};
   explicit Index(Closed) noexcept {}
+
+  // The index that a call of two texts opens.
+  static Index led(decltype(s2ix_replay)* call, std::string_view dump, std::string_view journal, Limits limits) {
+    Index index{Closed()};
+    std::size_t place = 0, entry = 0;
+    const std::uint32_t status = call(&index.handle_, detail::bytes(dump), dump.size(), detail::bytes(journal), journal.size(), limits.pairs,
+                                      limits.copies, limits.changes, &place, &entry);
+    const bool is_line = status == S2IX_NO_DUMP || status == S2IX_NO_JOURNAL;
+    detail::check(status, is_line ? place : 0, 0, is_line ? 0 : place, entry);
+    return index;
+  }
 
   // (a query changes no store, but s2ix.h takes each handle as one that may change)
   mutable ::s2ix_handle handle_{};

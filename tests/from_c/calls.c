@@ -440,6 +440,96 @@ static void found(void) {
     s2ix_close(&handle);
 }
 
+/* The changes of a store, entry by entry. */
+static void changed(void) {
+    s2ix_handle handle = {0};
+    size_t number = 7;
+    uint64_t both[2] = {second, first};
+    s2ix_entry entries[3] = {{7, 7, 7, 7}, {7, 7, 7, 7}, {7, 7, 7, 7}};
+    EXPECT(s2ix_change(&handle, 1, entries, 3, &number), S2IX_CLOSED);
+    EXPECT(number, 0);
+    EXPECT(s2ix_open(&handle, 10, 10, 10), S2IX_DONE);
+    EXPECT(s2ix_change(&handle, 1, entries, 3, &number), S2IX_NO_SUCH_CHANGE);
+    EXPECT(s2ix_add(&handle, first, 9, 2, &number), S2IX_DONE);
+    EXPECT(s2ix_add_union(&handle, both, 2, 9, &number), S2IX_DONE);
+    EXPECT(s2ix_change(&handle, 0, entries, 3, &number), S2IX_NO_SUCH_CHANGE);
+    EXPECT(s2ix_change(&handle, 3, entries, 3, &number), S2IX_NO_SUCH_CHANGE);
+    EXPECT(s2ix_change(&handle, UINT32_MAX, entries, 3, &number), S2IX_NO_SUCH_CHANGE);
+    EXPECT(number, 0);
+    EXPECT(s2ix_change(&handle, 2, entries, 1, &number), S2IX_NO_ROOM);
+    EXPECT(number, 2);
+    EXPECT(entries[0].cell + entries[0].label + entries[0].before + entries[0].after, 28);
+    EXPECT(s2ix_change(&handle, 2, entries, 2, &number), S2IX_DONE);
+    EXPECT(number, 2);
+    EXPECT(entries[0].cell == first && entries[0].label == 9 && entries[0].before == 2 && entries[0].after == 3, true);
+    EXPECT(entries[1].cell == second && entries[1].label == 9 && entries[1].before == 0 && entries[1].after == 1, true);
+    EXPECT(entries[2].cell, 7);
+    EXPECT(s2ix_change(&handle, 1, entries, 1, &number), S2IX_DONE);
+    EXPECT(entries[0].before == 0 && entries[0].after == 2, true);
+    EXPECT(s2ix_undo(&handle, &number), S2IX_DONE);
+    EXPECT(s2ix_change(&handle, 2, entries, 3, &number), S2IX_NO_SUCH_CHANGE);
+    s2ix_close(&handle);
+}
+
+/* The bytes of a text and how many they are. */
+#define TEXT(text) (const uint8_t *)(text), sizeof(text) - 1
+
+static void replayed(void) {
+#define DUMP "s2ix 2\n04 9 2\nend 1 2\n"
+#define AFTER "s2ix 2\n04 9 3\n1 3 1\nend 2 4\n"
+#define JOURNAL "s2ix-journal 2\nchange 1\n04 9 2 3\nchange 1\n1 3 0 1\nend 2\n"
+    s2ix_handle handle = {0};
+    size_t number, place = 7, entry = 7;
+    uint8_t text[64];
+    EXPECT(s2ix_replay(&handle, TEXT(DUMP), TEXT(JOURNAL), 0, 10, 10, &place, &entry), S2IX_NO_LIMITS);
+    EXPECT(place + entry, 0);
+    EXPECT(handle.is_open, false);
+    EXPECT(s2ix_replay(&handle, TEXT(DUMP), TEXT(JOURNAL), 10, 10, 10, &place, &entry), S2IX_DONE);
+    EXPECT(place + entry, 0);
+    EXPECT(s2ix_dump(&handle, text, sizeof text, &number), S2IX_DONE);
+    EXPECT(number == sizeof AFTER - 1 && memcmp(text, AFTER, number) == 0, true);
+    EXPECT(s2ix_undo(&handle, &number), S2IX_NOTHING_TO_UNDO);
+    EXPECT(s2ix_rewind(&handle, TEXT(DUMP), TEXT("s2ix-journal 2\n"), 10, 10, 10, &place, &entry), S2IX_NO_JOURNAL);
+    EXPECT(place == 2 && entry == 0, true);
+    EXPECT(s2ix_rewind(&handle, TEXT("s2ix 2\n"), TEXT(""), 10, 10, 10, &place, &entry), S2IX_NO_DUMP);
+    EXPECT(place == 2 && entry == 0, true);
+    EXPECT(s2ix_replay(&handle, TEXT(AFTER), TEXT(JOURNAL), 10, 10, 10, &place, &entry), S2IX_MISMATCH);
+    EXPECT(place == 1 && entry == 1, true);
+    EXPECT(s2ix_rewind(&handle, TEXT(DUMP), TEXT(JOURNAL), 10, 10, 10, &place, &entry), S2IX_MISMATCH);
+    EXPECT(place == 2 && entry == 1, true);
+    EXPECT(s2ix_replay(&handle, TEXT(DUMP), TEXT(JOURNAL), 1, 10, 10, &place, &entry), S2IX_TOO_MANY_PAIRS);
+    EXPECT(place == 2 && entry == 0, true);
+    EXPECT(s2ix_dump(&handle, text, sizeof text, &number), S2IX_DONE);
+    EXPECT(number == sizeof AFTER - 1 && memcmp(text, AFTER, number) == 0, true);
+    EXPECT(s2ix_rewind(&handle, TEXT(AFTER), TEXT(JOURNAL), 10, 10, 10, &place, &entry), S2IX_DONE);
+    EXPECT(s2ix_dump(&handle, text, sizeof text, &number), S2IX_DONE);
+    EXPECT(number == sizeof DUMP - 1 && memcmp(text, DUMP, number) == 0, true);
+    s2ix_close(&handle);
+#undef DUMP
+#undef AFTER
+#undef JOURNAL
+}
+
+static void exported(void) {
+    static const char wanted[] = "{\"pairs\":[[\"04\",9,2]],\"version\":1}";
+    const size_t len = sizeof wanted - 1;
+    s2ix_handle handle = {0};
+    size_t number = 7;
+    uint8_t text[64];
+    EXPECT(s2ix_export(&handle, text, sizeof text, &number), S2IX_CLOSED);
+    EXPECT(number, 0);
+    EXPECT(s2ix_open(&handle, 10, 10, 10), S2IX_DONE);
+    EXPECT(s2ix_add(&handle, first, 9, 2, &number), S2IX_DONE);
+    memset(text, 7, sizeof text);
+    EXPECT(s2ix_export(&handle, text, len - 1, &number), S2IX_NO_ROOM);
+    EXPECT(number, len);
+    EXPECT(text[0], 7);
+    EXPECT(s2ix_export(&handle, text, len, &number), S2IX_DONE);
+    EXPECT(memcmp(text, wanted, len), 0);
+    EXPECT(text[len], 7);
+    s2ix_close(&handle);
+}
+
 static void journalled(void) {
     static const char wanted[] = "s2ix-journal 2\nchange 1\n04 9 0 2\nchange 1\n04 9 2 1\nend 2\n", none[] = "s2ix-journal 2\nend 0\n";
     const size_t len = sizeof wanted - 1;
@@ -478,6 +568,9 @@ int main(void) {
     copied();
     written_and_read();
     journalled();
+    changed();
+    replayed();
+    exported();
     found();
     if (faults == 0)
         printf("c library: well\n");

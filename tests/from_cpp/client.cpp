@@ -99,6 +99,8 @@ void Closed() {
   REFUSED(S2IX_CLOSED, index.dump());
   REFUSED(S2IX_CLOSED, index.find(kLeaf));
   REFUSED(S2IX_CLOSED, index.journal());
+  REFUSED(S2IX_CLOSED, index.export_json());
+  REFUSED(S2IX_CLOSED, index.change(1));
 }
 
 void Edited() {
@@ -217,6 +219,42 @@ void AskedForMany() {
   std::vector<std::uint64_t> cells(100);
   index.region(1, cells);
   EXPECT(cells == std::vector<std::uint64_t>{kFirst});
+}
+
+// What a call throws.
+template <class Call>
+s2ix::Error Thrown(Call call) {
+  try {
+    call();
+  } catch (const s2ix::Error& error) {
+    return error;
+  }
+  return s2ix::Error(S2IX_DONE);
+}
+
+void ChangedAndReplayed() {
+  s2ix::Index index;
+  index.add(kFirst, 9, 2);
+  const std::string dump = index.dump();
+  EXPECT(index.export_json() == "{\"pairs\":[[\"04\",9,2]],\"version\":1}");
+  index.forget();
+  index.add_union({kSecond, kFirst}, 9);
+  const std::string journal = index.journal(), after = index.dump();
+  const std::vector<s2ix::Entry> entries = index.change(1);
+  EXPECT(entries.size() == 2 && entries[0].cell == kFirst && entries[0].before == 2 && entries[0].after == 3);
+  EXPECT(entries[1].cell == kSecond && entries[1].label == 9 && entries[1].before == 0 && entries[1].after == 1);
+  REFUSED(S2IX_NO_SUCH_CHANGE, index.change(0));
+  REFUSED(S2IX_NO_SUCH_CHANGE, index.change(2));
+  EXPECT(s2ix::Index::replay(dump, journal).dump() == after && s2ix::Index::rewind(after, journal).dump() == dump);
+  EXPECT(s2ix::Index::replay(dump, journal).done_count() == 0);
+  const s2ix::Error mismatch = Thrown([&] { s2ix::Index::replay(after, journal); });
+  EXPECT(mismatch.status() == S2IX_MISMATCH && mismatch.change() == 1 && mismatch.entry() == 1 && mismatch.line() == 0);
+  const s2ix::Error no_journal = Thrown([&] { s2ix::Index::rewind(dump, dump); });
+  EXPECT(no_journal.status() == S2IX_NO_JOURNAL && no_journal.line() == 1 && no_journal.change() == 0);
+  const s2ix::Error copies = Thrown([&] { s2ix::Index::replay(dump, "s2ix-journal 2\nchange 1\n0c 9 0 1\nend 1\n", s2ix::Limits{1, 5, 5}); });
+  EXPECT(copies.status() == S2IX_TOO_MANY_PAIRS && copies.change() == 1 && copies.entry() == 0);
+  REFUSED(S2IX_NO_DUMP, s2ix::Index::replay("", journal));
+  REFUSED(S2IX_NO_LIMITS, s2ix::Index::rewind(dump, journal, s2ix::Limits{0, 1, 1}));
 }
 
 void WrittenAndRead() {
@@ -374,6 +412,7 @@ int main() {
   Asked();
   AskedForMany();
   WrittenAndRead();
+  ChangedAndReplayed();
   Cells();
   Unions();
   NamedAsInS2<std::uint64_t>();

@@ -11,11 +11,16 @@ from typing import Any, Callable, NamedTuple, Union
 
 from . import library
 from .given import MOST_U8, MOST_U32, Cells, Rows, cells_in, check, check_natural, number_of, rows_in
-from .refusals import REFUSALS, NoCell, NoDump, NoLabel, NoLimits, NoRoom, NoSuchChange, NotHeld, TooFine, TooManyCopies, expect
+from .refusals import (
+    REFUSALS, Mismatch, NoCell, NoDump, NoJournal, NoLabel, NoLimits, NoRoom, NoSuchChange, NotHeld, S2ixError, TooFine, TooManyCopies, expect,
+)
 from .tokens import Cell
 
-# How many bytes a packed row has, a cell and a label.
-_PACKED, _WORD, _HALF = 16, 8, 4
+#: A text: what it says, or its bytes.
+Text = Union[str, bytes]
+
+# How many bytes a packed row has, a packed entry, a cell and a label.
+_PACKED, _ENTRY, _WORD, _HALF = 16, 24, 8, 4
 
 
 class Row(NamedTuple):
@@ -26,6 +31,16 @@ class Row(NamedTuple):
     count: int
 
 
+class Entry(NamedTuple):
+    """A pair in a change, with its count before and after; 0 is the count of a pair that is not held."""
+
+    cell: int
+    label: int
+    before: int
+    after: int
+
+
+_entries_in = struct.Struct("=QIII4x").iter_unpack
 _row_in, _rows_in = struct.Struct("=QII").unpack_from, struct.Struct("=QII").iter_unpack
 _row_of = functools.partial(tuple.__new__, Row)
 
@@ -35,7 +50,8 @@ class Index:
 
     Cells are S2's 64-bit ids, or tokens; labels are 0 to 2147483647. A number may be what has an `__index__`, as those of numpy. Each
     edit is one change, which can be undone or reverted. A refused call raises a class of S2ixError and changes nothing. Cells spelled wrong,
-    and numbers out of range, are refused first. Besides what it names, each edit may raise Closed, JournalFull, NoChange, TooManyCopies, TooManyPairs or OutOfMemory.
+    and numbers out of range, are refused first. Besides what it names, each edit may raise Closed, JournalFull, NoChange, TooManyCopies,
+    TooManyPairs or OutOfMemory.
 
     Close an index by `close`, or use it in a `with`. One thread at a time may use an index and all copies of it.
 
@@ -71,16 +87,48 @@ class Index:
         self._take_buffer(4096)
 
     @classmethod
-    def load(cls, text: Union[str, bytes], pairs: int = 1_000_000, copies: int = MOST_U32, changes: int = 100_000) -> Index:
+    def load(cls, text: Text, pairs: int = 1_000_000, copies: int = MOST_U32, changes: int = 100_000) -> Index:
         """Opens an index of what a dump holds, under limits as those of a new index. O(n) for n bytes. Raises NoDump, whose `line` is the first
         with a fault, NoLimits or OutOfMemory."""
         pairs, copies, changes = (check(limit, MOST_U32, NoLimits) for limit in (pairs, copies, changes))
         index = cls(pairs, copies, changes)
-        given = text.encode("utf-8", "surrogatepass") if isinstance(text, str) else bytes(text)
+        given = _bytes_of(text)
         status = index._calls.s2ix_load(index._at_handle, given, len(given), pairs, copies, changes, index._at_count)
         if status == NoDump.status:
             raise NoDump(index._count.value)
         expect(status)
+        return index
+
+    @classmethod
+    def replay(cls, dump: Text, journal: Text, pairs: int = 1_000_000, copies: int = MOST_U32, changes: int = 100_000) -> Index:
+        """Opens an index of what a dump holds after a journal's changes, with nothing to undo or redo. O(n + m log n) for n bytes and m entries.
+        What is refused first is raised: NoDump or NoJournal, whose `line` has the fault, or Mismatch, TooManyCopies or TooManyPairs, whose
+        `change` is refused, counted from 1; and NoLimits or OutOfMemory."""
+        return cls._led("s2ix_replay", dump, journal, pairs, copies, changes)
+
+    @classmethod
+    def rewind(cls, dump: Text, journal: Text, pairs: int = 1_000_000, copies: int = MOST_U32, changes: int = 100_000) -> Index:
+        """Opens an index of what a dump held before a journal's changes: they are taken back, the last one first. Else as `replay`."""
+        return cls._led("s2ix_rewind", dump, journal, pairs, copies, changes)
+
+    @classmethod
+    def _led(cls, call: str, dump: Text, journal: Text, *limits: int) -> Index:
+        """The index that a call of two texts opens."""
+        index, first, second = cls(*limits), _bytes_of(dump), _bytes_of(journal)
+        entry = ctypes.c_size_t()
+        status = getattr(index._calls, call)(
+            index._at_handle, first, len(first), second, len(second), *limits, index._at_count, addressof(entry)
+        )
+        place = index._count.value
+        if status in (NoDump.status, NoJournal.status):
+            raise REFUSALS[status](place)
+        if status == Mismatch.status:
+            raise Mismatch(place, entry.value)
+        try:
+            expect(status)
+        except S2ixError as refusal:
+            refusal.change = place
+            raise
         return index
 
     def __enter__(self) -> Index:
@@ -266,9 +314,24 @@ class Index:
         """How many ranges of leaves there are over which the same pairs lie: at least 1. O(1). Raises Closed."""
         return self._number_of(self._calls.s2ix_range_count)
 
+    def change(self, number: int) -> list[Entry]:
+        """The entries of the change with a number, counted from 1 among those that can be undone: by rising cell, then label. O(k) for k
+        entries. Raises Closed or NoSuchChange."""
+        check(number, MOST_U32, NoSuchChange)
+        return list(map(Entry._make, _entries_in(self._list(self._calls.s2ix_change, _ENTRY, number))))
+
     def dump(self) -> str:
         """The dump of what is held, which `load` and the program read. O(n). Raises Closed or OutOfMemory."""
         return str(self._list(self._calls.s2ix_dump, 1), "ascii")
+
+    def journal(self) -> str:
+        """The journal of the changes that can be undone, the oldest first, which `replay`, `rewind` and the program read. O(n) for n entries.
+        Raises Closed or OutOfMemory."""
+        return str(self._list(self._calls.s2ix_journal, 1), "ascii")
+
+    def export(self) -> str:
+        """What is held as one line of compact JSON, without a line feed. O(n). Raises Closed or OutOfMemory."""
+        return str(self._list(self._calls.s2ix_export, 1), "ascii")
 
     # How calls are made.
 
@@ -302,6 +365,10 @@ class Index:
         """Makes a call that answers one number."""
         expect(call(self._at_handle, *given, self._at_count))
         return self._count.value
+
+
+def _bytes_of(text: Text) -> bytes:
+    return text.encode("utf-8", "surrogatepass") if isinstance(text, str) else bytes(text)
 
 
 def _rows_of(packed: memoryview) -> list[Row]:

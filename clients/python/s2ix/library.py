@@ -24,6 +24,12 @@ class PackedRow(ctypes.Structure):
     _fields_ = [("cell", u64), ("label", u32), ("count", u32)]
 
 
+class PackedEntry(ctypes.Structure):
+    """A pair in a change, with its counts before and after, as it lies in a buffer."""
+
+    _fields_ = [("cell", u64), ("label", u32), ("before", u32), ("after", u32)]
+
+
 class Square(ctypes.Structure):
     """A cell as a square of the grid of its level on its face."""
 
@@ -35,6 +41,8 @@ CALLS = {
     "s2ix_status_text": [u32, address, size, address],
     "s2ix_open": [address, u32, u32, u32],
     "s2ix_load": [address, address, size, u32, u32, u32, address],
+    "s2ix_replay": [address, address, size, address, size, u32, u32, u32, address, address],
+    "s2ix_rewind": [address, address, size, address, size, u32, u32, u32, address, address],
     "s2ix_copy": [address, address],
     "s2ix_close": [address],
     "s2ix_add": [address, u64, u32, u32, address],
@@ -61,11 +69,13 @@ CALLS = {
     "s2ix_copies": [address, address],
     "s2ix_done_count": [address, address],
     "s2ix_undone_count": [address, address],
+    "s2ix_change": [address, u32, address, size, address],
     "s2ix_faces_rebuilt": [address, address],
     "s2ix_range_count": [address, address],
     "s2ix_find": [address, u64, address, address, address],
     "s2ix_dump": [address, address, size, address],
     "s2ix_journal": [address, address, size, address],
+    "s2ix_export": [address, address, size, address],
     "s2ix_cell_is_valid": [u64],
     "s2ix_cell_from_token": [address, size, address],
     "s2ix_cell_to_token": [u64, address, address],

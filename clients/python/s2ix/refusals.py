@@ -4,9 +4,10 @@ from __future__ import annotations
 
 
 class S2ixError(Exception):
-    """What each refusal of the index is; `status` is its number in C."""
+    """What each refusal of the index is; `status` is its number in C, and `change` is that of a journal's change which is refused, or 0."""
 
     status = 0
+    change = 0
 
     def __init__(self, *words: object) -> None:
         super().__init__(*(words or (type(self).__doc__,)))
@@ -22,8 +23,28 @@ class NoDump(S2ixError):
         self.line = line
 
 
+class NoJournal(S2ixError):
+    """the text is no journal"""
+
+    status = 28
+
+    def __init__(self, line: int = 0) -> None:
+        super().__init__(f"{self.__doc__}: line {line} is the first with a fault")
+        self.line = line
+
+
+class Mismatch(S2ixError):
+    """a change has another count than is held"""
+
+    status = 29
+
+    def __init__(self, change: int = 0, entry: int = 0) -> None:
+        super().__init__(f"{self.__doc__}: entry {entry} of change {change}")
+        self.change, self.entry = change, entry
+
+
 #: The class of each status.
-REFUSALS: dict[int, type[S2ixError]] = {NoDump.status: NoDump}
+REFUSALS: dict[int, type[S2ixError]] = {each.status: each for each in (NoDump, NoJournal, Mismatch)}
 
 
 def _refusal(status: int, name: str, text: str) -> type[S2ixError]:

@@ -6,3 +6,5 @@ pub mod Texts
 pub mod Cells
 pub mod CellUnions
 pub mod Ranges
+pub mod Changes
+pub mod Replaying

@@ -34,11 +34,26 @@ no_room = 8
 abbrev pub no_dump : ℕ
 no_dump = 9
 
+abbrev pub no_such_change : ℕ
+no_such_change = 20
+
+abbrev pub too_many_copies : ℕ
+too_many_copies = 23
+
+abbrev pub too_many_pairs : ℕ
+too_many_pairs = 24
+
 abbrev pub coarser : ℕ
 coarser = 25
 
 abbrev pub no_span : ℕ
 no_span = 26
+
+abbrev pub no_journal : ℕ
+no_journal = 28
+
+abbrev pub mismatch : ℕ
+mismatch = 29
 
 -- the status of a refused edit
 abbrev pub edit_status : EditError → ℕ

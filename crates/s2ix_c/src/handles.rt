@@ -17,7 +17,7 @@ use s2ix_text_read_dump::{DumpError, read_dump};
 use std::alloc::Global;
 
 // Puts a store into a handle.
-fn keep(alloc: Global, handle: &mut Handle, store: Store) -> u32
+pub(crate) fn keep(alloc: Global, handle: &mut Handle, store: Store) -> u32
     ensures kept { result ≡ done → held_of handle.new ≡ Some store }
     ensures refused { result ≢ done → (result ≡ out_of_memory) × (held_of handle.new ≡ held_of handle.old) }
 {

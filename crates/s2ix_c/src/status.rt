@@ -33,10 +33,20 @@ pub(crate) const NO_DUMP: u32 = 9;
 
 /// A level is too fine.
 pub(crate) const TOO_FINE: u32 = 19;
+/// No change has the number.
+pub(crate) const NO_SUCH_CHANGE: u32 = 20;
+/// A count would pass the limit.
+pub(crate) const TOO_MANY_COPIES: u32 = 23;
+/// The number of pairs would pass the limit.
+pub(crate) const TOO_MANY_PAIRS: u32 = 24;
 /// A level is coarser than the cell's.
 pub(crate) const COARSER: u32 = 25;
 /// The bounds are no span of leaves.
 pub(crate) const NO_SPAN: u32 = 26;
+/// A text is no journal.
+pub(crate) const NO_JOURNAL: u32 = 28;
+/// A change has another count than is held.
+pub(crate) const MISMATCH: u32 = 29;
 
 /// The status of a refused edit.
 pub(crate) fn status_of(error: EditError) -> u32
@@ -47,11 +57,11 @@ pub(crate) fn status_of(error: EditError) -> u32
         EditError::NoSuchLabel => 17,
         EditError::NotHeld => 18,
         EditError::TooFine => TOO_FINE,
-        EditError::NoSuchChange => 20,
+        EditError::NoSuchChange => NO_SUCH_CHANGE,
         EditError::BelowZero => 21,
         EditError::NoChange => 22,
-        EditError::TooManyCopies => 23,
-        EditError::TooManyPairs => 24,
+        EditError::TooManyCopies => TOO_MANY_COPIES,
+        EditError::TooManyPairs => TOO_MANY_PAIRS,
         EditError::OutOfMemory => OUT_OF_MEMORY,
     }
 }
@@ -82,6 +92,8 @@ fn text_of(status: u32) -> &'static str
         24 => "the number of pairs would pass the limit",
         25 => "the level is coarser than the cell's",
         26 => "the bounds are no span of leaves",
+        28 => "the text is no journal",
+        29 => "a change has another count than is held",
         _ => "no status",
     }
 }

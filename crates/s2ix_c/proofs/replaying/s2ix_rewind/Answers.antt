@@ -1,0 +1,33 @@
+-- The limits are those that the three numbers made, and where the texts lead or what is refused in them is told of the texts.
+use Rattle.std.proofs.Common.{ap, inl, inr}
+use Rattle.s2ix_c.specs.Replaying.{refused_at}
+use Rattle.s2ix_c.proofs.replaying.s2ix_rewind.Goals as goal
+
+pub returns-in-Ok-clause-rewound : goal.returns-in-Ok-clause-rewound
+returns-in-Ok-clause-rewound c = λ is_done. (
+  c.in-Some.limits,
+  c.in-Some.ensures.pairs,
+  c.in-Some.ensures.count,
+  c.in-Some.ensures.changes,
+  (c.in-Ok.bag, c.in-Ok.ensures.bag, c.keep_bag.ensures.kept is_done),
+)
+
+pub returns-in-Ok-clause-refused : goal.returns-in-Ok-clause-refused
+returns-in-Ok-clause-refused c = λ not_done not_limits.
+    let lead = c.in-Ok.ensures.bag in
+    (
+      c.in-Some.limits,
+      c.in-Some.ensures.pairs,
+      c.in-Some.ensures.count,
+      c.in-Some.ensures.changes,
+      inr (inr (lead.0, lead.1, lead.2, lead.3, inl (ap (λ status. refused_at status 0 0) (c.keep_bag.ensures.refused not_done).0))),
+    )
+
+pub returns-in-Err-clause-refused : goal.returns-in-Err-clause-refused
+returns-in-Err-clause-refused c = λ not_done not_limits. (
+  c.in-Some.limits,
+  c.in-Some.ensures.pairs,
+  c.in-Some.ensures.count,
+  c.in-Some.ensures.changes,
+  c.in-Err.ensures.refused,
+)
