@@ -65,6 +65,7 @@ enum s2ix_status {
     S2IX_TOO_MANY_PAIRS = 24,
     S2IX_COARSER = 25,        /* the level is below the cell's */
     S2IX_NO_SPAN = 26,        /* a bound is even, or not 1 <= start <= limit <= 0xc000000000000001 */
+    S2IX_NO_RANGE = 27,       /* no range is at the place, or no range with a pair over it is from there on, or before it */
     S2IX_NO_JOURNAL = 28,     /* the text is no journal under the limits */
     S2IX_MISMATCH = 29        /* a change has another count of a pair than is held */
 };
@@ -157,7 +158,12 @@ uint32_t s2ix_at(s2ix_handle *handle, uint64_t leaf, s2ix_row *rows, size_t room
    then rising label. O(k + r + t log n) for k pairs, r ranges and t cells. S2IX_CLOSED, S2IX_NO_CELL, S2IX_NO_ROOM, S2IX_OUT_OF_MEMORY. */
 uint32_t s2ix_meet(s2ix_handle *handle, const uint64_t *cells, size_t len, s2ix_row *rows, size_t room, size_t *number);
 
-/* The labels of those pairs: each once, rising. The same statuses. */
+/* The pairs of that list from a place on, counted from 0: as many as there is room for, never S2IX_NO_ROOM. *number is how many are put: less
+   than `room` only if the list ends there. An edit may move the places. The time is that of s2ix_meet for a list that ends with the last pair
+   put, so the first few of many pairs come quickly. S2IX_CLOSED, S2IX_NO_CELL, S2IX_OUT_OF_MEMORY. */
+uint32_t s2ix_meet_from(s2ix_handle *handle, const uint64_t *cells, size_t len, size_t from, s2ix_row *rows, size_t room, size_t *number);
+
+/* The labels of the pairs that s2ix_meet puts: each once, rising. The same statuses. */
 uint32_t s2ix_labels(s2ix_handle *handle, const uint64_t *cells, size_t len, uint32_t *labels, size_t room, size_t *number);
 
 /* The region of a label: the normal union of its cells, rising. O(n + m log m) for m pairs of the label.
@@ -199,6 +205,21 @@ uint32_t s2ix_range_count(s2ix_handle *handle, size_t *number);
    pairs are those that s2ix_at puts for *start, and the next range begins with *limit, unless that is 0xc000000000000001. All three are 0
    if the call is refused. O(log n). S2IX_CLOSED, S2IX_NO_CELL. */
 uint32_t s2ix_find(s2ix_handle *handle, uint64_t leaf, size_t *place, uint64_t *start, uint64_t *limit);
+
+/* The range at a place, counted from 0: the number of its first leaf, the leaf number with which it ends, and whether no pair lies over it. If
+   the call is refused, both numbers are 0 and *is_empty is true. An edit may move the places of ranges. O(1). S2IX_CLOSED, S2IX_NO_RANGE. */
+uint32_t s2ix_range(s2ix_handle *handle, size_t place, uint64_t *start, uint64_t *limit, bool *is_empty);
+
+/* Of the pairs over the range at a place, those whose cells begin at the leaf number `from` or later, the innermost cell first, the labels of
+   one cell rising. If `from` is 0, these are all of them. If it is the number with which an earlier range ends, they are the pairs that don't
+   lie over that range: so a caller that goes up the ranges gets each pair once. O(k) for k pairs put.
+   S2IX_CLOSED, S2IX_NO_RANGE, S2IX_NO_ROOM, S2IX_OUT_OF_MEMORY. */
+uint32_t s2ix_contents(s2ix_handle *handle, size_t place, uint64_t from, s2ix_row *rows, size_t room, size_t *number);
+
+/* The place of the first range from `from` on, and of the last range before `before`, that has a pair over it. If there is none, the status is
+   S2IX_NO_RANGE and *place is 0. Two neighbours are never both empty. O(1). S2IX_CLOSED, S2IX_NO_RANGE. */
+uint32_t s2ix_next_full(s2ix_handle *handle, size_t from, size_t *place);
+uint32_t s2ix_previous_full(s2ix_handle *handle, size_t before, size_t *place);
 
 /* The dump of what is held, as bytes (docs/FORMATS.md). O(n). S2IX_CLOSED, S2IX_NO_ROOM, S2IX_OUT_OF_MEMORY. */
 uint32_t s2ix_dump(s2ix_handle *handle, uint8_t *text, size_t room, size_t *number);

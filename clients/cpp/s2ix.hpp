@@ -8,7 +8,6 @@
 //
 // The namespace cell has calls on single cells, cell_union those on unions of cells.
 //
-// Not here yet: S2CellIndex's RangeIterator, NonEmptyRangeIterator and ContentsIterator.
 #ifndef S2IX_HPP
 #define S2IX_HPP
 
@@ -321,6 +320,9 @@ inline std::uint64_t leaf_count(Cells cells) {
 
 }  // namespace cell_union
 
+template <class Id>
+class BasicS2CellIndex;
+
 // A store of pairs of cells and labels. It can be moved, but not copied; once moved from or closed, it refuses each call with S2IX_CLOSED.
 class Index {
  public:
@@ -476,7 +478,17 @@ class Index {
     return rows;
   }
 
-  // The labels of those pairs: each once, rising. S2IX_CLOSED, S2IX_NO_CELL.
+  // The pairs of that list from a place on, counted from 0: as many as there are, and at most `most`. If there are fewer than `most`, the list
+  // ends there. It takes the time of a meet whose list ends with the last of them. An edit may move the places. S2IX_CLOSED, S2IX_NO_CELL.
+  std::vector<Row> meet_from(Cells cells, std::size_t from, std::size_t most) const {
+    std::vector<Row> rows(most == 0 ? 1 : most);
+    rows.resize(detail::number([&](std::size_t* to) {
+      return s2ix_meet_from(&handle_, cells.data(), cells.size(), from, rows.data(), most, to);
+    }));
+    return rows;
+  }
+
+  // The labels of the pairs that meet gives: each once, rising. S2IX_CLOSED, S2IX_NO_CELL.
   void labels(Cells cells, std::vector<std::uint32_t>& labels) const {
     detail::fill(labels, [&](std::uint32_t* to, std::size_t room, std::size_t* number) {
       return s2ix_labels(&handle_, cells.data(), cells.size(), to, room, number);
@@ -561,6 +573,45 @@ class Index {
     return detail::answer<Range>([&](Range* to) { return s2ix_find(&handle_, leaf, &to->place, &to->start, &to->limit); });
   }
 
+  // The range at a place, counted from 0. An edit may move the places. O(1). S2IX_CLOSED, S2IX_NO_RANGE.
+  Range range(std::size_t place) const {
+    return detail::answer<Range>([&](Range* to) {
+      bool is_empty = false;
+      to->place = place;
+      return s2ix_range(&handle_, place, &to->start, &to->limit, &is_empty);
+    });
+  }
+
+  // Whether no pair lies over the range at a place. O(1). S2IX_CLOSED, S2IX_NO_RANGE.
+  bool is_empty(std::size_t place) const {
+    return detail::answer<bool>([&](bool* is_empty) {
+      Range range{};
+      return s2ix_range(&handle_, place, &range.start, &range.limit, is_empty);
+    });
+  }
+
+  // Of the pairs over the range at a place, those whose cells begin at the leaf number `from` or later, the innermost cell first, the labels of
+  // one cell rising. From 0 on these are all of them; from the number on with which an earlier range ends, those that don't lie over that
+  // range. O(k) for k pairs. S2IX_CLOSED, S2IX_NO_RANGE.
+  void contents(std::size_t place, std::uint64_t from, std::vector<Row>& rows) const {
+    detail::fill(rows, [&](Row* to, std::size_t room, std::size_t* number) {
+      return s2ix_contents(&handle_, place, from, to, room, number);
+    });
+  }
+  std::vector<Row> contents(std::size_t place, std::uint64_t from = 0) const {
+    std::vector<Row> rows;
+    contents(place, from, rows);
+    return rows;
+  }
+
+  // The place of the first range from a place on, and of the last range before one, that has a pair over it. O(1). S2IX_CLOSED, S2IX_NO_RANGE.
+  std::size_t next_full(std::size_t from) const {
+    return detail::number([&](std::size_t* to) { return s2ix_next_full(&handle_, from, to); });
+  }
+  std::size_t previous_full(std::size_t before) const {
+    return detail::number([&](std::size_t* to) { return s2ix_previous_full(&handle_, before, to); });
+  }
+
   // The dump of what is held (docs/FORMATS.md). O(n). S2IX_CLOSED.
   std::string dump() const {
     return detail::filled<std::string>([&](char* bytes, std::size_t room, std::size_t* number) {
@@ -583,6 +634,9 @@ class Index {
   }
 
  private:
+  template <class Id>
+  friend class BasicS2CellIndex;
+
   struct Closed {};
   explicit Index(Closed) noexcept {}
 
@@ -610,12 +664,17 @@ class Index {
 //   any number of pairs                           limits: at most 1,000,000 distinct pairs; Build() throws above them
 //   an invalid cell, a label below 0: undefined   Add and the queries throw Error
 //   Add(cells, label) adds each cell of a union   each of its normal form, as of a union that S2 has normalised
-//   a pair added n times is kept n times          is kept once with a count; a visit and a CellIterator give it n times, as S2 does
+//   a pair added n times is kept n times          is kept once with a count; visits and iterators give it n times, as S2 does
 //   a visit comes in no stated order              by first shared leaf, then falling level, then rising label
 //   a CellIterator reads the index                has its own copy of the pairs, as they were when it was made
+//   no Add while an iterator or a visit runs      an edit moves the ranges: then position a RangeIterator anew. A ContentsIterator keeps the
+//                                                 pairs that StartUnion read. A visitor must not edit
+//   a RangeIterator is unpositioned at first      is done at first, and its Prev() returns false
+//   Next() and limit_id() when done: undefined    Next() stays, and limit_id() returns the end of all leaves
+//   Seek() to what is no leaf: undefined          throws Error, and the iterator stays
+//   Advance(n) takes n below 0                    returns false, and the iterator stays
+//   a ContentsIterator states no order            gives the innermost cell first, the labels of one cell rising
 //   GetIntersectingLabels gives absl's set        a std::unordered_set, or any set that is passed
-//   RangeIterator, NonEmptyRangeIterator,
-//   ContentsIterator                              not here yet: Index has range_count(), find(leaf) and at(leaf)
 //
 // index().undo() takes back what one Build() added. Build() is refused, and throws, if a limit would be passed or as many changes can be undone
 // as the limit allows (S2IX_JOURNAL_FULL). The index is then as it was, and the adds wait for the next Build(), which Forget() makes room for.
@@ -684,12 +743,19 @@ class BasicS2CellIndex {
   // Visits the pairs that share a leaf with a union, each copy of each, until the visitor returns false. Returns false if it did, else true.
   template <class Union>
   bool VisitIntersectingCells(const Union& target, const CellVisitor& visitor) const {
-    for (const Row& row : built().meet(raws(target))) {
-      for (std::uint32_t copy = 0; copy < row.count; copy++) {
-        if (!visitor(Id(row.cell), static_cast<Label>(row.label))) return false;
+    const std::vector<std::uint64_t> cells = raws(target);
+    // (in pages that grow, so that a visit which ends early reads little of a long list)
+    std::size_t from = 0;
+    for (std::size_t most = 256;; most *= 4) {
+      const std::vector<Row> rows = built().meet_from(cells, from, most);
+      for (const Row& row : rows) {
+        for (std::uint32_t copy = 0; copy < row.count; copy++) {
+          if (!visitor(Id(row.cell), static_cast<Label>(row.label))) return false;
+        }
       }
+      if (rows.size() < most) return true;
+      from += most;
     }
-    return true;
   }
 
   // The labels of those pairs.
@@ -732,7 +798,174 @@ class BasicS2CellIndex {
     std::uint32_t copy_ = 0;
   };
 
+  class ContentsIterator;
+
+  // Goes along the ranges of leaves over which the same pairs lie. They follow one another, from the first leaf of face 0 to the last of
+  // face 5. Position it by Begin, Seek or Finish.
+  class RangeIterator {
+   public:
+    explicit RangeIterator(const BasicS2CellIndex* index) : index_(index) {}
+
+    // The first leaf of the range; the end of all leaves, 0xc000000000000001, if the iterator is done.
+    Id start_id() const { return Id(start_); }
+
+    // The leaf with which the next range begins; the end of all leaves behind the last one.
+    Id limit_id() const { return Id(limit_); }
+
+    // Whether the iterator stands behind the last range.
+    bool done() const { return start_ == end_of_leaves; }
+
+    // Whether no pair lies over the range; true if the iterator is done.
+    bool is_empty() const { return is_empty_; }
+
+    void Begin() { go(0); }
+
+    // Goes behind the last range.
+    void Finish() { go(index_->index_.range_count()); }
+
+    void Next() {
+      if (!done()) go(place_ + 1);
+    }
+
+    // Goes to the range before and returns true; returns false at the first range, and stays.
+    bool Prev() {
+      if (place_ == 0) return false;
+      go(place_ - 1);
+      return true;
+    }
+
+    // Goes to the range that has a leaf.
+    void Seek(Id target) { go(place_of(target)); }
+
+    // Goes n ranges on and returns true, if there is a range; else it returns false and stays.
+    bool Advance(int n) {
+      const std::size_t count = index_->index_.range_count();
+      if (n < 0 || place_ >= count || static_cast<std::size_t>(n) >= count - place_) return false;
+      go(place_ + static_cast<std::size_t>(n));
+      return true;
+    }
+
+   protected:
+    std::size_t place() const { return place_; }
+    ::s2ix_handle* handle() const { return &index_->index_.handle_; }
+    std::size_t place_of(const Id& leaf) const { return index_->index_.find(raw(leaf)).place; }
+
+    // Goes to the range at a place, or behind the last one if there is none.
+    void go(std::size_t place) {
+      std::uint64_t start = 0, limit = 0;
+      bool is_empty = true;
+      const std::uint32_t status = s2ix_range(handle(), place, &start, &limit, &is_empty);
+      if (status == S2IX_NO_RANGE) {
+        place = index_->index_.range_count();
+        start = limit = end_of_leaves;
+      } else {
+        detail::check(status);
+      }
+      place_ = place;
+      start_ = start;
+      limit_ = limit;
+      is_empty_ = is_empty;
+    }
+
+   private:
+    friend class ContentsIterator;
+
+    const BasicS2CellIndex* index_;
+    std::size_t place_ = 0;
+    std::uint64_t start_ = end_of_leaves, limit_ = end_of_leaves;
+    bool is_empty_ = true;
+  };
+
+  // Goes along the ranges over which some pair lies.
+  class NonEmptyRangeIterator : public RangeIterator {
+   public:
+    explicit NonEmptyRangeIterator(const BasicS2CellIndex* index) : RangeIterator(index) {}
+
+    void Begin() { go_on(0); }
+
+    void Next() {
+      if (!this->done()) go_on(this->place() + 1);
+    }
+
+    // Goes to the last such range before and returns true; returns false if there is none, and stays.
+    bool Prev() {
+      std::size_t place = 0;
+      const std::uint32_t status = s2ix_previous_full(this->handle(), this->place(), &place);
+      if (status == S2IX_NO_RANGE) return false;
+      detail::check(status);
+      this->go(place);
+      return true;
+    }
+
+    // Goes to the range that has a leaf, or to the next such range behind it, or behind the last one.
+    void Seek(Id target) { go_on(this->place_of(target)); }
+
+   private:
+    // Goes to the first such range from a place on, or behind the last one.
+    void go_on(std::size_t from) {
+      std::size_t place = 0;
+      const std::uint32_t status = s2ix_next_full(this->handle(), from, &place);
+      if (status == S2IX_NO_RANGE) return this->Finish();
+      detail::check(status);
+      this->go(place);
+    }
+  };
+
+  // Gives the pairs over ranges, each copy of each. While each range that it starts with lies behind those before, it gives no pair again: once
+  // a range's pairs have all been given, those that lie over a later range too are left out there.
+  class ContentsIterator {
+   public:
+    ContentsIterator() = default;  // call Init before all else
+    explicit ContentsIterator(const BasicS2CellIndex* index) { Init(index); }
+
+    void Init(const BasicS2CellIndex* index) {
+      index_ = index;
+      Clear();
+    }
+
+    // Forgets which ranges were visited.
+    void Clear() {
+      rows_.clear();
+      row_ = copy_ = 0;
+      told_ = start_ = limit_ = 0;
+    }
+
+    // Goes to the first pair over a range that wasn't given. If the range lies before the last one, all its pairs are given.
+    void StartUnion(const RangeIterator& range) {
+      if (range.start_ < start_) told_ = 0;
+      start_ = range.start_;
+      limit_ = range.limit_;
+      row_ = copy_ = 0;
+      rows_.clear();
+      if (!range.is_empty_) index_->index_.contents(range.place_, told_, rows_);
+      if (done()) told_ = limit_;
+    }
+
+    Id cell_id() const { return Id(rows_[row_].cell); }
+    Label label() const { return static_cast<Label>(rows_[row_].label); }
+    LabelledCell labelled_cell() const { return LabelledCell(cell_id(), label()); }
+
+    // Whether all pairs of the range have been given. If so, call neither Next nor what reads a pair.
+    bool done() const { return row_ == rows_.size(); }
+
+    void Next() {
+      if (++copy_ < rows_[row_].count) return;
+      copy_ = 0;
+      if (++row_ == rows_.size()) told_ = limit_;
+    }
+
+   private:
+    const BasicS2CellIndex* index_ = nullptr;
+    std::vector<Row> rows_;
+    std::size_t row_ = 0;
+    std::uint32_t copy_ = 0;
+    // Pairs whose cells begin before `told_` were given over an earlier range. The last range begins and ends with these leaves.
+    std::uint64_t told_ = 0, start_ = 0, limit_ = 0;
+  };
+
  private:
+  static constexpr std::uint64_t end_of_leaves = 0xc000000000000001;
+
   // The cells of the six faces, which share a leaf with each cell.
   static constexpr std::uint64_t faces[6] = {0x1000000000000000, 0x3000000000000000, 0x5000000000000000,
                                              0x7000000000000000, 0x9000000000000000, 0xb000000000000000};

@@ -5,8 +5,9 @@
 #include <stdio.h>
 #include <string.h>
 
-/* How many calls of cells and unions answer other than they should: in cells.c. */
+/* How many calls of cells and unions answer other than they should, in cells.c, and how many of ranges, in ranges.c. */
 int cell_faults(void);
+int range_faults(void);
 
 static int faults;
 
@@ -555,7 +556,7 @@ static void journalled(void) {
 }
 
 int main(void) {
-    faults = cell_faults();
+    faults = cell_faults() + range_faults();
     refused_while_closed();
     untold_while_closed();
     opened();

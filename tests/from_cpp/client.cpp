@@ -98,6 +98,12 @@ void Closed() {
   REFUSED(S2IX_CLOSED, index.copy());
   REFUSED(S2IX_CLOSED, index.dump());
   REFUSED(S2IX_CLOSED, index.find(kLeaf));
+  REFUSED(S2IX_CLOSED, index.range(0));
+  REFUSED(S2IX_CLOSED, index.is_empty(0));
+  REFUSED(S2IX_CLOSED, index.contents(0));
+  REFUSED(S2IX_CLOSED, index.next_full(0));
+  REFUSED(S2IX_CLOSED, index.previous_full(1));
+  REFUSED(S2IX_CLOSED, index.meet_from({kFace}, 0, 1));
   REFUSED(S2IX_CLOSED, index.journal());
   REFUSED(S2IX_CLOSED, index.export_json());
   REFUSED(S2IX_CLOSED, index.change(1));
@@ -196,6 +202,11 @@ void Asked() {
   REFUSED(S2IX_NO_LABEL, index.of_label(kNoLabel));
   EXPECT(index.find(kLeaf).start <= kLeaf && kLeaf < index.find(kLeaf).limit && index.find(kLeaf).place < index.range_count());
   REFUSED(S2IX_NO_CELL, index.find(kNoCell));
+  EXPECT(index.next_full(0) == 0 && index.previous_full(99) == 2 && index.is_empty(3) && index.contents(2, 3).empty());
+  REFUSED(S2IX_NO_RANGE, index.next_full(3));
+  REFUSED(S2IX_NO_RANGE, index.previous_full(0));
+  REFUSED(S2IX_NO_RANGE, index.contents(4));
+  REFUSED(S2IX_NO_CELL, index.meet_from({kNoCell}, 0, 1));
   rows = index.pairs(1, 1);
   EXPECT(rows.size() == 1 && index.pairs(0, 16).size() == index.len() && index.pairs(index.len(), 2).empty());
   EXPECT(index.range_count() >= 3);

@@ -83,6 +83,8 @@ const Call kCalls[] = {
     {"clear", [](s2ix::Index& index) { index.clear(); return index.copies(); }},
     {"at", [](s2ix::Index& index) { return index.at(kLeaf); }},
     {"meet", [](s2ix::Index& index) { return index.meet({kFace, kSecond}); }},
+    {"meet_from", [](s2ix::Index& index) { return index.meet_from({kFace, kSecond}, 1, 2); }},
+    {"contents", [](s2ix::Index& index) { return index.contents(1); }},
     {"labels", [](s2ix::Index& index) { return index.labels({kFace, kSecond}); }},
     {"region", [](s2ix::Index& index) { return index.region(7); }},
     {"dump", [](s2ix::Index& index) { return index.dump(); }},

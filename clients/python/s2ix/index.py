@@ -7,12 +7,13 @@ import struct
 import weakref
 from array import array
 from ctypes import addressof
-from typing import Any, Callable, NamedTuple, Union
+from typing import Any, Callable, Iterator, NamedTuple, Union
 
 from . import library
-from .given import MOST_U8, MOST_U32, Cells, Rows, cells_in, check, check_natural, number_of, rows_in
+from .given import MOST_U8, MOST_U32, MOST_U64, Cells, Rows, cells_in, check, check_natural, number_of, rows_in
 from .refusals import (
-    REFUSALS, Mismatch, NoCell, NoDump, NoJournal, NoLabel, NoLimits, NoRoom, NoSuchChange, NotHeld, S2ixError, TooFine, TooManyCopies, expect,
+    REFUSALS, Mismatch, NoCell, NoDump, NoJournal, NoLabel, NoLimits, NoRange, NoRoom, NoSuchChange, NotHeld, S2ixError, TooFine, TooManyCopies,
+    expect,
 )
 from .tokens import Cell
 
@@ -41,6 +42,16 @@ class Entry(NamedTuple):
 
 
 _entries_in = struct.Struct("=QIII4x").iter_unpack
+class Range(NamedTuple):
+    """Neighbouring leaves over which the same pairs lie: the range's place, counted from 0, the number of its first leaf, the leaf number with
+    which it ends, and whether no pair lies over it."""
+
+    place: int
+    start: int
+    limit: int
+    is_empty: bool
+
+
 _row_in, _rows_in = struct.Struct("=QII").unpack_from, struct.Struct("=QII").iter_unpack
 _row_of = functools.partial(tuple.__new__, Row)
 
@@ -114,6 +125,7 @@ class Index:
     @classmethod
     def _led(cls, call: str, dump: Text, journal: Text, *limits: int) -> Index:
         """The index that a call of two texts opens."""
+        limits = tuple(check(limit, MOST_U32, NoLimits) for limit in limits)
         index, first, second = cls(*limits), _bytes_of(dump), _bytes_of(journal)
         entry = ctypes.c_size_t()
         status = getattr(index._calls, call)(
@@ -320,6 +332,58 @@ class Index:
         check(number, MOST_U32, NoSuchChange)
         return list(map(Entry._make, _entries_in(self._list(self._calls.s2ix_change, _ENTRY, number))))
 
+    def range(self, place: int) -> Range:
+        """The range at a place, counted from 0. An edit may move the places. O(1). Raises Closed or NoRange."""
+        check(place, MOST_U64, NoRange)
+        start, limit, is_empty = ctypes.c_uint64(), ctypes.c_uint64(), ctypes.c_bool()
+        expect(self._calls.s2ix_range(self._at_handle, place, addressof(start), addressof(limit), addressof(is_empty)))
+        return Range(place, start.value, limit.value, is_empty.value)
+
+    def ranges(self, full: bool = False) -> Iterator[Range]:
+        """The ranges in order, which together have all leaves; with `full`, only those over which a pair lies. Don't edit while you go along
+        them: an edit moves the places. O(1) for each. Raises Closed."""
+        place = 0
+        while True:
+            try:
+                found = self.range(self._number_of(self._calls.s2ix_next_full, place) if full else place)
+            except NoRange:
+                return
+            yield found
+            place = found.place + 1
+
+    def find(self, leaf: Cell) -> Range:
+        """The range that has a leaf. O(log n). Raises Closed or NoCell."""
+        start, limit = ctypes.c_uint64(), ctypes.c_uint64()
+        return self.range(self._number_of(self._find, number_of(leaf), addressof(start), addressof(limit)))
+
+    def _find(self, handle: int, leaf: int, start: int, limit: int, place: int) -> int:
+        return int(self._calls.s2ix_find(handle, leaf, place, start, limit))
+
+    def contents(self, place: int, start: int = 0) -> list[Row]:
+        """The pairs over the range at a place, the innermost cell first, the labels of one cell rising; of these only the ones whose cells begin
+        at the leaf number `start` or later. With `limit` of an earlier range for it, the pairs over that range are left out. O(k) for k pairs.
+        Raises Closed, NoRange, NoCell if `start` is no 64-bit number, or OutOfMemory."""
+        check(place, MOST_U64, NoRange)
+        return _rows_of(self._list(self._calls.s2ix_contents, _PACKED, place, number_of(start)))
+
+    def of_label(self, label: int) -> list[Row]:
+        """The pairs of a label, by rising cell. O(n) for all n pairs that are held. Raises Closed, NoLabel or OutOfMemory."""
+        check(label, MOST_U32, NoLabel)
+        return _rows_of(self._list(self._calls.s2ix_of_label, _PACKED, label))
+
+    def pairs(self) -> Iterator[Row]:
+        """All pairs, in rising order of cell, then label. Don't edit while you go along them: an edit moves the places. O(1) for each. Raises
+        Closed."""
+        return self._paged(self._calls.s2ix_pairs)
+
+    __iter__ = pairs
+
+    def visit(self, cells: Cells) -> Iterator[Row]:
+        """The pairs that `meet` returns, one by one. To end early leaves out the time for the others. Don't edit while you go along them. Raises
+        as `meet` does."""
+        start, many, kept = cells_in(cells)
+        return self._paged(self._calls.s2ix_meet_from, start, many, kept=kept)
+
     def dump(self) -> str:
         """The dump of what is held, which `load` and the program read. O(n). Raises Closed or OutOfMemory."""
         return str(self._list(self._calls.s2ix_dump, 1), "ascii")
@@ -352,6 +416,18 @@ class Index:
                 expect(status)
                 return self._view[: self._count.value * size]
             self._take_buffer(max(2 * self._bytes, self._count.value * size))
+
+    def _paged(self, call: Callable[..., int], *given: int, kept: object = None) -> Iterator[Row]:
+        """The rows of a list that comes page by page, each longer than the one before; `kept` is what keeps the memory of cells."""
+        place = 0
+        while True:
+            room = self._bytes // _PACKED
+            rows = _rows_of(self._list(call, _PACKED, *given, place))
+            yield from rows
+            if len(rows) < room:
+                return
+            place += room
+            self._take_buffer(2 * self._bytes)
 
     def _take_buffer(self, many: int) -> None:
         """Takes a buffer for lists of so many bytes, and keeps it."""

@@ -71,6 +71,7 @@ TooManyCopies = _refusal(23, "TooManyCopies", "a count would pass the limit")
 TooManyPairs = _refusal(24, "TooManyPairs", "the number of pairs would pass the limit")
 Coarser = _refusal(25, "Coarser", "the level is coarser than the cell's")
 NoSpan = _refusal(26, "NoSpan", "the bounds are no span of leaves")
+NoRange = _refusal(27, "NoRange", "no range is at the place")
 
 
 def expect(status: int) -> None:

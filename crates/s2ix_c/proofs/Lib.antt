@@ -3,3 +3,4 @@ mod Numbers
 mod OfUnion
 mod OfCells
 mod Paging
+mod Begun

@@ -1,6 +1,6 @@
 -- The next row of a page.
-use Rattle.std.proofs.Common.{◌≡◌, ◌<◌, ◌+◌, ◌∙◌, ℕ, List, [], ◌∷◌, ◌++◌, length, map, take, drop, ap, sym, Some, slice_set, arith}
-use Rattle.std.proofs.lemmas.List.{take_more, take_more_set, get_or-drop, length-drop, map-append}
+use Rattle.std.proofs.Common.{◌≡◌, ◌<◌, ◌≤◌, ◌+◌, ◌-◌, ◌∙◌, ℕ, zero, suc, List, [], ◌∷◌, ◌++◌, length, map, take, drop, ap, sym, refl, Some, slice_set, arith}
+use Rattle.std.proofs.lemmas.List.{take_more, take_more_set, get_or-drop, length-drop, map-append, length-append, append_assoc, append-nil}
 use Rattle.std.proofs.lemmas.Option.{slice_get_within, get_or_from_slice_get}
 use Rattle.std.specs.List.{slice_get}
 
@@ -21,3 +21,39 @@ put_next f out xs from p x r less is row front =
     ∙ ap (λ y. take p out ++ y ∷ []) row
     ∙ ap (λ l. l ++ f x ∷ []) front
     ∙ sym (ap (map f) taken ∙ map-append f (take p (drop from xs)) (x ∷ []))
+
+-- ---- what is still to come of a page: some of the list are passed over before it
+
+pub page_passes : {A : Type 0} (page left rest : List A) (x : A) (most from passed : ℕ) → passed < from → left ≡ x ∷ rest
+    → page ++ take most (drop (from - (passed + 1)) rest) ≡ page ++ take most (drop (from - passed) left)
+page_passes page left rest x most from passed less is =
+    let one_more : from - passed ≡ suc (from - (passed + 1)) = omega arith in
+    sym (ap (λ l. page ++ take most (drop (from - passed) l)) is ∙ ap (λ n. page ++ take most (drop n (x ∷ rest))) one_more)
+
+pub page_grows : {A : Type 0} (page more left rest : List A) (x : A) (most from passed : ℕ) → passed ≤ from → from ≤ passed
+    → length page < most → more ≡ page ++ x ∷ [] → left ≡ x ∷ rest
+    → more ++ take (most - length more) (drop (from - passed) rest) ≡ page ++ take (most - length page) (drop (from - passed) left)
+page_grows page more left rest x most from passed at_most at_least less is_more is =
+    let none : from - passed ≡ 0 = omega arith in
+    let long = length-append page (x ∷ []) in
+    let one_more : most - length page ≡ suc (most - length (page ++ x ∷ [])) = omega (arith, long) in
+    ap (λ m. m ++ take (most - length m) (drop (from - passed) rest)) is_more
+    ∙ ap (λ n. (page ++ x ∷ []) ++ take (most - length (page ++ x ∷ [])) (drop n rest)) none
+    ∙ append_assoc page (x ∷ []) (take (most - length (page ++ x ∷ [])) rest)
+    ∙ sym (ap (λ l. page ++ take (most - length page) (drop (from - passed) l)) is
+      ∙ ap (λ n. page ++ take (most - length page) (drop n (x ∷ rest))) none
+      ∙ ap (λ n. page ++ take n (x ∷ rest)) one_more)
+
+nothing_of : {A : Type 0} (most n : ℕ) → take {A = A} most (drop n []) ≡ []
+nothing_of zero zero = refl
+nothing_of zero (suc n) = refl
+nothing_of (suc most) zero = refl
+nothing_of (suc most) (suc n) = refl
+
+pub page_ends : {A : Type 0} (page left : List A) (most n : ℕ) → left ≡ [] → page ++ take most (drop n left) ≡ page
+page_ends page left most n none = ap (λ l. page ++ take most (drop n l)) none ∙ ap (λ l. page ++ l) (nothing_of most n) ∙ append-nil page
+
+pub page_is_full : {A : Type 0} (page left : List A) (most n : ℕ) → most ≤ length page → page ++ take (most - length page) (drop n left) ≡ page
+page_is_full page left most n full =
+    let none : most - length page ≡ 0 = omega arith in
+    ap (λ k. page ++ take k (drop n left)) none ∙ append-nil page

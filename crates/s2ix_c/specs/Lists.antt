@@ -67,6 +67,10 @@ region_cells None s = Err no_label
 abbrev pub rows_met : List CellId → State → List Row
 rows_met cells s = map row_of (meeting_of (normal_form cells) s.bag.held)
 
+-- the pairs of that list from a place on, as many as a buffer has room for
+abbrev pub rows_met_from : ℕ → ℕ → List CellId → State → List Row
+rows_met_from from room cells s = map row_of (take room (drop from (meeting_of (normal_form cells) s.bag.held)))
+
 abbrev pub labels_met : List CellId → State → List ℕ
 labels_met cells s = map value_of (label_list (meeting_of (normal_form cells) s.bag.held))
 

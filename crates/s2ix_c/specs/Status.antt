@@ -49,6 +49,9 @@ coarser = 25
 abbrev pub no_span : ℕ
 no_span = 26
 
+abbrev pub no_range : ℕ
+no_range = 27
+
 abbrev pub no_journal : ℕ
 no_journal = 28
 

@@ -1,11 +1,12 @@
 //! Queries of the store of a handle. None changes it.
 
-ghost use Rattle.std.specs.Prelude.{◌≡◌, ◌≢◌, ℕ, IfSome, length};
+ghost use Rattle.std.specs.Prelude.{◌≡◌, ◌≢◌, ℕ, IfSome, IfOk, drop, length, take};
 ghost use Rattle.s2id_core.specs.CellId.{level_of};
 ghost use Rattle.s2ix_bag_pairs.specs.Label.{label_numbered};
+ghost use Rattle.s2ix_table_ranges.specs.Meeting.{meeting_of};
 ghost use Rattle.s2ix_handle.specs.Handle.{held_of};
 ghost use Rattle.s2ix_c.specs.Calls.{Through};
-ghost use Rattle.s2ix_c.specs.Lists.{leaf_numbered, labels_met, Lists, ListsOf, Puts, region_cells, rows_met, rows_over};
+ghost use Rattle.s2ix_c.specs.Lists.{leaf_numbered, labels_met, Lists, ListsOf, Puts, region_cells, rows_met, rows_met_from, rows_over};
 ghost use Rattle.s2ix_c.specs.Status.{closed};
 
 use crate::asked::cell_of;
@@ -13,12 +14,13 @@ use crate::chains::put_contents;
 use crate::rows::{Row, put_cells, put_labels, put_rows};
 use crate::status::{CLOSED, NO_CELL, NO_LABEL, OUT_OF_MEMORY};
 use crate::unions::cells_of;
-use s2id_core::CellId;
+use s2id_core::{CellId, OutOfMemory};
 use s2id_union::CellUnion;
-use s2ix_bag_pairs::Label;
+use s2ix_bag_pairs::{Held, Label};
 use s2ix_edit::Store;
 use s2ix_handle::Handle;
-use s2ix_table_queries::RangeTable;
+use s2ix_table_queries::{Meter, RangeTable};
+use s2ix_table_walk::Meeting;
 use std::alloc::Global;
 
 // The leaf of a number.
@@ -100,6 +102,80 @@ pub extern "C" fn s2ix_meet(
         return CLOSED;
     };
     let status = meet_store(alloc, &store, ids, out, number);
+    *handle = Handle::of(alloc, store);
+    status
+}
+
+// The pairs that a target meets, from a place on, and at most so many of them.
+fn met_from<T: RangeTable>(
+    alloc: Global,
+    table: &T,
+    target: &CellUnion,
+    from: usize,
+    most: usize,
+) -> Result<Vec<Held>, OutOfMemory>
+    ensures { IfOk result (λ list. list.items ≡ take most (drop from (meeting_of target.now (T.pairs table.now)))) }
+{
+    let mut meter = Meter::new(table);
+    let mut meeting = Meeting::new(&mut meter, target);
+    let mut passed = 0;
+    let mut list = Vec::new(alloc);
+    while list.len() < most {
+        let Some(held) = meeting.advance() else {
+            return Ok(list);
+        };
+        if passed < from {
+            passed += 1;
+        } else {
+            list.push(held)?;
+        }
+    }
+    Ok(list)
+}
+
+fn meet_store_from(
+    alloc: Global,
+    store: &Store,
+    ids: &[u64],
+    from: usize,
+    out: &mut [Row],
+    number: &mut usize,
+) -> u32
+    ensures { ListsOf (λ cells. rows_met_from from (length out.old) cells store.now) ids.now result number.new out.old out.new }
+{
+    *number = 0;
+    let cells = match cells_of(alloc, ids) {
+        Ok(cells) => cells,
+        Err(why) => return why,
+    };
+    let Ok(target) = CellUnion::normalise(alloc, cells.as_slice()) else {
+        return OUT_OF_MEMORY;
+    };
+    let Ok(list) = met_from(alloc, store.table(), &target, from, out.len()) else {
+        return OUT_OF_MEMORY;
+    };
+    put_rows(list.as_slice(), out, number)
+}
+
+/// The pairs that `s2ix_meet` puts, from a place on, counted from 0: as many as the buffer has room for. It goes no further along the table.
+#[tactic(auto, using(crate::proofs::Through::through_open, crate::proofs::Through::through_closed))]
+#[unsafe(no_mangle)]
+pub extern "C" fn s2ix_meet_from(
+    alloc: Global,
+    handle: &mut Handle,
+    ids: &[u64],
+    from: usize,
+    out: &mut [Row],
+    number: &mut usize,
+) -> u32
+    ensures { Through (λ s t. (t ≡ s) × ListsOf (λ cells. rows_met_from from (length out.old) cells s) ids.now result number.new out.old out.new)
+        ((result ≡ closed) × (number.new ≡ 0) × (out.new ≡ out.old)) (held_of handle.old) (held_of handle.new) }
+{
+    let Some(store) = handle.take(alloc) else {
+        *number = 0;
+        return CLOSED;
+    };
+    let status = meet_store_from(alloc, &store, ids, from, out, number);
     *handle = Handle::of(alloc, store);
     status
 }

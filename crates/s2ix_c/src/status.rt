@@ -43,6 +43,8 @@ pub(crate) const TOO_MANY_PAIRS: u32 = 24;
 pub(crate) const COARSER: u32 = 25;
 /// The bounds are no span of leaves.
 pub(crate) const NO_SPAN: u32 = 26;
+/// No range is at a place, or none that has a pair over it.
+pub(crate) const NO_RANGE: u32 = 27;
 /// A text is no journal.
 pub(crate) const NO_JOURNAL: u32 = 28;
 /// A change has another count than is held.
@@ -92,6 +94,7 @@ fn text_of(status: u32) -> &'static str
         24 => "the number of pairs would pass the limit",
         25 => "the level is coarser than the cell's",
         26 => "the bounds are no span of leaves",
+        27 => "no range is at the place",
         28 => "the text is no journal",
         29 => "a change has another count than is held",
         _ => "no status",
