@@ -12,11 +12,15 @@ use s2ix_bag_pairs::Label;
 use s2ix_table_walk::Meeting;
 use std::alloc::Global;
 
-// How many labels a list has room for from the start.
+// How many labels a list has room for from its first one on.
 const ROOM: usize = 16;
 
-// Labels are spread over slots. For each slot, the place in a list at which a label of that slot was put last.
-type Places = [usize; 128];
+// Labels are spread over slots. For each slot, the place in a list at which a label of that slot was put last, in half a word: it is only
+// where to look first.
+type Places = [u32; 128];
+
+// The last place that fits there.
+const LAST_PLACE: usize = 0xffffffff;
 
 // The labels of the target's meeting list, in its order, few of them twice: the pairs of a label mostly come near one another.
 pub(crate) fn gather<T: RangeTable>(
@@ -30,7 +34,7 @@ pub(crate) fn gather<T: RangeTable>(
 {
     let mut meter = Meter::new(table);
     let mut meeting = Meeting::new(&mut meter, target);
-    let mut labels = Vec::with_capacity(alloc, ROOM)?;
+    let mut labels = Vec::new(alloc);
     let mut places = [0; 128];
     while let Some(held) = meeting.advance() {
         put(held.pair.label, &mut labels, &mut places)?;
@@ -45,11 +49,14 @@ fn put(label: Label, labels: &mut Vec<Label>, places: &mut Places) -> Result<(),
         → Contains labels.new.items other ↔ (Contains labels.old.items other ⊎ (other ≡ label))) }
 {
     let slot = slot_of(label);
-    let place = places[slot];
+    let place = places[slot] as usize;
     if place < labels.len() && labels[place] == label {
         return Ok(());
     }
-    places[slot] = labels.len();
+    if labels.is_empty() {
+        labels.reserve(ROOM)?;
+    }
+    places[slot] = labels.len().min(LAST_PLACE) as u32;
     labels.push(label)?;
     Ok(())
 }
