@@ -24,16 +24,16 @@ put_next f out xs from p x r less is row front =
 
 -- ---- what is still to come of a page: some of the list are passed over before it
 
-pub page_passes : {A : Type 0} (page left rest : List A) (x : A) (most from passed : ℕ) → passed < from → left ≡ x ∷ rest
-    → page ++ take most (drop (from - (passed + 1)) rest) ≡ page ++ take most (drop (from - passed) left)
-page_passes page left rest x most from passed less is =
+pub page_passes : {A : Type 0} (page left rest whole : List A) (x : A) (most from passed : ℕ) → passed < from → left ≡ x ∷ rest
+    → page ++ take most (drop (from - passed) left) ≡ whole → page ++ take most (drop (from - (passed + 1)) rest) ≡ whole
+page_passes page left rest whole x most from passed less is all =
     let one_more : from - passed ≡ suc (from - (passed + 1)) = omega arith in
-    sym (ap (λ l. page ++ take most (drop (from - passed) l)) is ∙ ap (λ n. page ++ take most (drop n (x ∷ rest))) one_more)
+    sym (ap (λ l. page ++ take most (drop (from - passed) l)) is ∙ ap (λ n. page ++ take most (drop n (x ∷ rest))) one_more) ∙ all
 
-pub page_grows : {A : Type 0} (page more left rest : List A) (x : A) (most from passed : ℕ) → passed ≤ from → from ≤ passed
-    → length page < most → more ≡ page ++ x ∷ [] → left ≡ x ∷ rest
-    → more ++ take (most - length more) (drop (from - passed) rest) ≡ page ++ take (most - length page) (drop (from - passed) left)
-page_grows page more left rest x most from passed at_most at_least less is_more is =
+pub page_grows : {A : Type 0} (page more left rest whole : List A) (x : A) (most from passed : ℕ) → passed ≤ from → from ≤ passed
+    → length page < most → more ≡ page ++ x ∷ [] → left ≡ x ∷ rest → page ++ take (most - length page) (drop (from - passed) left) ≡ whole
+    → more ++ take (most - length more) (drop (from - passed) rest) ≡ whole
+page_grows page more left rest whole x most from passed at_most at_least less is_more is all =
     let none : from - passed ≡ 0 = omega arith in
     let long = length-append page (x ∷ []) in
     let one_more : most - length page ≡ suc (most - length (page ++ x ∷ [])) = omega (arith, long) in
@@ -43,6 +43,7 @@ page_grows page more left rest x most from passed at_most at_least less is_more 
     ∙ sym (ap (λ l. page ++ take (most - length page) (drop (from - passed) l)) is
       ∙ ap (λ n. page ++ take (most - length page) (drop n (x ∷ rest))) none
       ∙ ap (λ n. page ++ take n (x ∷ rest)) one_more)
+    ∙ all
 
 nothing_of : {A : Type 0} (most n : ℕ) → take {A = A} most (drop n []) ≡ []
 nothing_of zero zero = refl
@@ -50,10 +51,12 @@ nothing_of zero (suc n) = refl
 nothing_of (suc most) zero = refl
 nothing_of (suc most) (suc n) = refl
 
-pub page_ends : {A : Type 0} (page left : List A) (most n : ℕ) → left ≡ [] → page ++ take most (drop n left) ≡ page
-page_ends page left most n none = ap (λ l. page ++ take most (drop n l)) none ∙ ap (λ l. page ++ l) (nothing_of most n) ∙ append-nil page
+pub page_ends : {A : Type 0} (page left whole : List A) (most n : ℕ) → left ≡ [] → page ++ take most (drop n left) ≡ whole → page ≡ whole
+page_ends page left whole most n none all =
+    sym (ap (λ l. page ++ take most (drop n l)) none ∙ ap (λ l. page ++ l) (nothing_of most n) ∙ append-nil page) ∙ all
 
-pub page_is_full : {A : Type 0} (page left : List A) (most n : ℕ) → most ≤ length page → page ++ take (most - length page) (drop n left) ≡ page
-page_is_full page left most n full =
+pub page_is_full : {A : Type 0} (page left whole : List A) (most n : ℕ) → most ≤ length page
+    → page ++ take (most - length page) (drop n left) ≡ whole → page ≡ whole
+page_is_full page left whole most n full all =
     let none : most - length page ≡ 0 = omega arith in
-    ap (λ k. page ++ take k (drop n left)) none ∙ append-nil page
+    sym (ap (λ k. page ++ take k (drop n left)) none ∙ append-nil page) ∙ all

@@ -10,11 +10,11 @@ ghost use Rattle.s2ix_c.specs.Lists.{Counts};
 ghost use Rattle.s2ix_c.specs.Status.{closed};
 
 use crate::asked::pair_of;
+use crate::ranges::table_of;
 use crate::status::{CLOSED, DONE};
 use s2ix_edit::Store;
 use s2ix_handle::Handle;
 use s2ix_table_queries::RangeTable;
-use s2ix_table_ranges::laws::range_table_is_the_collections;
 use std::alloc::Global;
 
 fn count_store(store: &Store, cell: u64, label: u32, count: &mut u32) -> u32
@@ -88,8 +88,7 @@ pub extern "C" fn s2ix_copies(alloc: Global, handle: &mut Handle, copies: &mut u
 fn ranges_of(store: &Store) -> usize
     ensures { result ≡ length (range_table store.now.bag.held) }
 {
-    range_table_is_the_collections();
-    store.table().range_count()
+    table_of(store).range_count()
 }
 
 /// How many ranges of leaves there are over which the same pairs lie.

@@ -23,7 +23,7 @@ use s2ix_table_ranges::laws::range_table_is_the_collections;
 use std::alloc::Global;
 
 // The table of a store: its ranges are those of what the store holds.
-fn table_of(store: &Store) -> &StoreTable
+pub(crate) fn table_of(store: &Store) -> &StoreTable
     ensures { ⟦<StoreTable as RangeTable>⟧.ranges result.now ≡ range_table store.now.bag.held }
 {
     range_table_is_the_collections();
