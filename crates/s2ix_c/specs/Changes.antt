@@ -1,5 +1,5 @@
 -- The entries of a change that can be undone.
-use Rattle.std.specs.Prelude.{ℕ, Option, Some, None, Result, Ok, Err, List, map}
+use Rattle.std.specs.Prelude.{ℕ, Option, Some, None, List, map}
 use Rattle.s2id_core.specs.CellId.{raw_of}
 use Rattle.s2ix_bag_pairs.specs.declared.pair.Entry.{Entry}
 use Rattle.s2ix_bag_pairs.specs.Label.{value_of}

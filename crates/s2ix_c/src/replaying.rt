@@ -24,11 +24,14 @@ use s2ix_text_read_dump::{DumpError, read_dump};
 use s2ix_text_read_journal::{JournalError, read_journal};
 use std::alloc::Global;
 
-// Why texts lead to no bag: a status, the line or the change that it is about, counted from 1, and the entry of that change, or 0.
+/// Why texts lead to no bag.
 #[derive(Clone, Copy)]
 pub struct Refused {
+    /// The status.
     pub status: u32,
+    /// The line or the change that is refused, counted from 1; 0 if memory was wanted.
     pub place: usize,
+    /// The entry of that change whose count is not the one that is held, counted from 1; else 0.
     pub entry: usize,
 }
 
@@ -123,12 +126,7 @@ fn texts_replayed(
 }
 
 // The bag before a journal's changes.
-fn texts_rewound(
-    alloc: Global,
-    dump: &[u8],
-    journal: &[u8],
-    limits: Limits,
-) -> Result<Bag, Refused>
+fn texts_rewound(alloc: Global, dump: &[u8], journal: &[u8], limits: Limits) -> Result<Bag, Refused>
     ensures bag { IfOk result (LeadTo rewound rewind_refusal limits dump.now journal.now) }
     ensures refused { IfErr result (IsRefusedIn rewind_refusal limits dump.now journal.now) }
     ensures status { IfErr result (λ refused. IsOfTexts refused.status) }

@@ -14,8 +14,7 @@ returns-in-Ok-clause-rewound c = λ is_done. (
 
 pub returns-in-Ok-clause-refused : goal.returns-in-Ok-clause-refused
 returns-in-Ok-clause-refused c = λ not_done not_limits.
-    let lead = c.in-Ok.ensures.bag in
-    (
+    let lead = c.in-Ok.ensures.bag in (
       c.in-Some.limits,
       c.in-Some.ensures.pairs,
       c.in-Some.ensures.count,
