@@ -49,7 +49,7 @@ only_where (Err x) refusal e own accepted refused is =
     own refusal (subst Refused same refused)
 
 -- and wherever it is, if memory may not be wanted in its place
-pub answered_where : (r : Result ℕ EditError) (refusal : Option EditError) (e : EditError)
+answered_where : (r : Result ℕ EditError) (refusal : Option EditError) (e : EditError)
     → ((o : Option EditError) → IsEditRefusal e o → o ≡ Some e) → (MayWantMemory (Some e) → ⊥) → OnOk r (refusal ≡ None)
     → IfErr r (λ error. IsEditRefusal error refusal) → (r ≡ Err e) ↔ (refusal ≡ Some e)
 answered_where (Ok n) refusal e own never accepted refused = (λ is. only_where (Ok n) refusal e own accepted refused is, λ is. cc)
@@ -63,7 +63,7 @@ answered_where (Err x) refusal e own never accepted refused = (
 
 -- ---- each answer
 
-pub both_ways : {A B C : Type 0} → A ↔ B → B ↔ C → A ↔ C
+both_ways : {A B C : Type 0} → A ↔ B → B ↔ C → A ↔ C
 both_ways first second = (λ a. second.0 (first.0 a), λ c. first.1 (second.1 c))
 
 -- where a store answers so to an edit

@@ -23,10 +23,10 @@ use Rattle.s2ix_edit_plan.specs.Refusals.{edit_refusal, is_due, refusals_with_ro
 use Rattle.s2ix_edit_plan.specs.Rows.{PlansRows, copies_at, rows_change, rows_plan_refusal, rows_refusal, with_rows}
 use Rattle.s2ix_edit_plan.specs.State.{State, history_of, later}
 use Rattle.s2ix_edit_plan.proofs.Edited.{edited_held}
-use Rattle.s2ix_edit_plan.proofs.Rows.{never_full, nothing_from_refusal, refused_for_nothing, rows_counted, rows_planned, rows_refused, with_rows_keeps}
+use Rattle.s2ix_edit_plan.proofs.Rows.{nothing_from_refusal, refused_for_nothing, rows_counted, rows_planned, rows_refused, with_rows_keeps}
 use Rattle.s2ix_edit.specs.Steps.{after_edit, after_record, after_rows, after_undo, faces_of, with_held}
 use Rattle.s2ix_edit.specs.Store.{HasRoom, IsStore}
-use Rattle.s2ix_edit.proofs.Answered.{answered_where, both_ways, nothing_answered, only_where}
+use Rattle.s2ix_edit.proofs.Answered.{nothing_answered, only_where}
 use Rattle.s2ix_edit.proofs.AtCursor.{collections_recorded}
 use Rattle.s2ix_edit.proofs.Planned.{stand}
 use Rattle.s2ix_edit.proofs.Undone.{front_of, undo_of_last}
@@ -67,53 +67,28 @@ pub refusal_of_entries : (s : State) (rows : List Held) (es : List Entry) → Is
     → entries_refusal s.bag es ≡ rows_refusal s rows
 refusal_of_entries s rows es st room plans = sym (with_room s rows room ∙ rows_refused s.bag rows es st.bag plans)
 
--- where a store answers so to rows
-pub record RowsAnswered (s : State) (rows : List Held) (r : Result ℕ EditError) : Type 0 where
-  pub full : (r ≡ Err JournalFull) ↔ (length s.done ≡ changes_limit s.bag.limits)
-  pub no_change : (r ≡ Err NoChange) ↔ (HasRoom s × (copies_in rows ≡ 0))
-
-full_first : (full : Bool) (rest : Option EditError) → (rest ≡ Some JournalFull → ⊥) → cond full (Some JournalFull) rest ≡ Some JournalFull
-    → full ≡ true
-full_first true rest never is = refl
-full_first false rest never is = absurd (never is)
-
 same_later : (full : Bool) (rest : Option EditError) → cond full (Some JournalFull) rest ≡ Some NoChange
     → (full ≡ false) × (rest ≡ Some NoChange)
 same_later true rest is = cc
 same_later false rest is = (refl, is)
 
-full_at_limit : (s : State) (rows : List Held) → IsStore s
-    → (rows_refusal s rows ≡ Some JournalFull) ↔ (length s.done ≡ changes_limit s.bag.limits)
-full_at_limit s rows st = (
-  λ is.
-      let most = leb-true _ _ (full_first _ _ (never_full s.bag rows) is) in
-      let room = st.room in
-      omega (arith, most, room),
-  λ full. cond-true _ _ _ (le-leb _ _ (omega (arith, full))),
-)
-
-nothing_where : (s : State) (rows : List Held) → IsStore s
+-- rows are refused because nothing would change where the journal has room and no row has copies
+pub nothing_where : (s : State) (rows : List Held) → IsStore s
     → (rows_refusal s rows ≡ Some NoChange) ↔ (HasRoom s × (copies_in rows ≡ 0))
 nothing_where s rows st = (
   λ is. let parts = same_later _ _ is in (leb-false _ _ parts.0, nothing_from_refusal s.bag rows st.bag parts.1),
   λ parts. with_room s rows parts.0 ∙ refused_for_nothing s.bag rows st.bag parts.1,
 )
 
--- memory is not wanted for rows of no copies
-pub rows_answered : (s : State) (rows : List Held) (r : Result ℕ EditError) → IsStore s → OnOk r (rows_refusal s rows ≡ None)
-    → IfErr r (λ error. IsEditRefusal error (rows_refusal s rows)) → (HasRoom s → copies_in rows ≡ 0 → r ≡ Err OutOfMemory → ⊥)
-    → RowsAnswered s rows r
-rows_answered s rows r st accepted refused never =
-    let refusal = rows_refusal s rows in
-    record {
-      full = both_ways (answered_where r refusal JournalFull (λ o is. is) (λ may. may) accepted refused) (full_at_limit s rows st);
-      no_change = (
-        λ is. (nothing_where s rows st).0 (only_where r refusal NoChange (λ o own. own) accepted refused is),
-        λ parts.
-            nothing_answered r refusal ((nothing_where s rows st).1 parts) accepted refused
-            (λ wants. absurd (never parts.0 parts.1 wants)),
-      );
-    }
+-- and where memory is not wanted in its place, that is answered
+pub nothing_answered_where : (s : State) (rows : List Held) (r : Result ℕ EditError) → IsStore s → OnOk r (rows_refusal s rows ≡ None)
+    → IfErr r (λ error. IsEditRefusal error (rows_refusal s rows)) → (r ≡ Err OutOfMemory → rows_refusal s rows ≡ None)
+    → (r ≡ Err NoChange) ↔ (HasRoom s × (copies_in rows ≡ 0))
+nothing_answered_where s rows r st accepted refused memory =
+    let refusal = rows_refusal s rows in (
+      λ is. (nothing_where s rows st).0 (only_where r refusal NoChange (λ o own. own) accepted refused is),
+      λ parts. nothing_answered r refusal ((nothing_where s rows st).1 parts) accepted refused memory,
+    )
 
 -- ---- an undo
 

@@ -17,7 +17,7 @@ use Rattle.s2ix_bag_pairs.proofs.Changes.{change_lower}
 use Rattle.s2ix_bag_pairs.proofs.Collections.{count_set_other, count_set_same, same_collection, set_count_in, set_keeps}
 use Rattle.s2ix_bag_lists.proofs.Refusals.{no_mismatch}
 use Rattle.s2ix_edit_plan.specs.declared.errors.EditError.{EditError}
-use Rattle.s2ix_edit_plan.specs.declared.errors.EditError.TheVariants.{JournalFull, NoChange, TooManyCopies}
+use Rattle.s2ix_edit_plan.specs.declared.errors.EditError.TheVariants.{NoChange, TooManyCopies}
 use Rattle.s2ix_edit_plan.specs.Edit.{with_more}
 use Rattle.s2ix_edit_plan.specs.Errors.{IsEditRefusal, MayWantMemory}
 use Rattle.s2ix_edit_plan.specs.Plan.{entries_refusal}
@@ -430,14 +430,3 @@ nothing_from_refusal bag rows b is =
 pub refused_for_nothing : (bag : LimitedCollection) (rows : List Held) → IsBag bag → copies_in rows ≡ 0
     → rows_plan_refusal bag rows ≡ Some NoChange
 refused_for_nothing bag rows b none = rows_refused bag rows [] b (nothing_plans bag rows b none)
-
--- a full journal is no matter of the rows
-never_full_of_three : (same high many : Bool) → first_of_three same high many ≡ Some JournalFull → ⊥
-unfolding first_of_three
-never_full_of_three true high many is = cc
-never_full_of_three false true many is = cc
-never_full_of_three false false true is = cc
-never_full_of_three false false false is = cc
-
-pub never_full : (bag : LimitedCollection) (rows : List Held) → rows_plan_refusal bag rows ≡ Some JournalFull → ⊥
-never_full bag rows is = never_full_of_three _ _ _ (sym (by_three bag rows) ∙ is)

@@ -1,0 +1,81 @@
+use Rattle.std.proofs.Common.{◌≡◌, ◌<◌, length, Option, List, sym, ap, ◌∙◌, subst, arith}
+use Rattle.std.proofs.lemmas.Result.{IfErr-weaker, IfOk-weaker, on_ok_weaker}
+use Rattle.s2ix_bag_pairs.specs.Limits.{changes_limit}
+use Rattle.s2ix_edit_plan.specs.declared.errors.EditError.{EditError}
+use Rattle.s2ix_edit_plan.specs.Errors.{IsEditRefusal}
+use Rattle.s2ix_edit_plan.specs.Plan.{entries_refusal}
+use Rattle.s2ix_edit_plan.specs.Rows.{PlansRows, rows_refusal}
+use Rattle.s2ix_edit_plan.specs.State.{State, history_of}
+use Rattle.s2ix_edit_plan.proofs.Rows.{rows_planned}
+use Rattle.s2ix_edit.specs.Steps.{after_record, after_rows}
+use Rattle.s2ix_edit.specs.Store.{IsStore}
+use Rattle.s2ix_edit.proofs.Rows.{counts_grown, history_rows, nothing_answered_where, refusal_of_entries, rows_state}
+use Rattle.s2ix_edit.proofs.store.Store.add_all.Goals.{After-record_change}
+use Rattle.s2ix_edit.proofs.store.Store.add_all.Goals as goal
+
+stood : (c : After-record_change) → IsStore c.args.self.now
+stood c = let Stands : State → Type 0 = λ s. IsStore s in subst Stands c.self.view_is c.self.invariant.0
+
+room : (c : After-record_change) → length c.args.self.now.done < changes_limit c.args.self.now.bag.limits
+room c =
+    let HasRoom : State → Type 0 = λ s. length s.done < changes_limit s.bag.limits in
+    let limit = c.changes-most.ensures ∙ ap changes_limit c.limits.ensures in
+    subst HasRoom c.self.view_is (omega (arith, limit))
+
+plans : (c : After-record_change) → PlansRows c.args.self.now.bag c.args.rows.now c.in_ok-gains.gains
+plans c =
+    let Carries : State → Type 0 = λ s. PlansRows s.bag c.args.rows.now c.in_ok-gains.gains in
+    subst Carries c.self.view_is c.in_ok-gains.ensures.plan
+
+after : (c : After-record_change) → after_record c.args.self.now c.in_ok-gains.gains ≡ after_rows c.args.self.now c.args.rows.now
+after c = rows_state c.args.self.now c.args.rows.now c.in_ok-gains.gains (stood c) (plans c)
+
+refusal : (c : After-record_change)
+    → entries_refusal c.args.self.now.bag c.in_ok-gains.gains ≡ rows_refusal c.args.self.now c.args.rows.now
+refusal c = refusal_of_entries c.args.self.now c.args.rows.now c.in_ok-gains.gains (stood c) (room c) (plans c)
+
+pub returns-in_ok-gains-clause-state : goal.returns-in_ok-gains-clause-state
+returns-in_ok-gains-clause-state c =
+    let a = (goal.at-returns-in_ok-gains-clause-state c).After-record_change in
+    on_ok_weaker c.record_change.result (λ is. is ∙ after a) c.record_change.ensures.state
+
+pub returns-in_ok-gains-clause-history : goal.returns-in_ok-gains-clause-history
+returns-in_ok-gains-clause-history c =
+    let a = (goal.at-returns-in_ok-gains-clause-history c).After-record_change in
+    on_ok_weaker c.record_change.result
+    (λ is. ap history_of (is ∙ after a) ∙ history_rows c.args.self.now c.args.rows.now (stood a)) c.record_change.ensures.state
+
+pub returns-in_ok-gains-clause-counts : goal.returns-in_ok-gains-clause-counts
+returns-in_ok-gains-clause-counts c =
+    let a = (goal.at-returns-in_ok-gains-clause-counts c).After-record_change in
+    on_ok_weaker c.record_change.result
+    (λ is. counts_grown c.args.self.now c.record_change.new.self c.args.rows.now (stood a) (is ∙ after a)) c.record_change.ensures.state
+
+pub returns-in_ok-gains-clause-number : goal.returns-in_ok-gains-clause-number
+returns-in_ok-gains-clause-number c =
+    let a = (goal.at-returns-in_ok-gains-clause-number c).After-record_change in
+    let st = stood a in
+    IfOk-weaker c.record_change.result _ _
+    (λ n is. is ∙ ap length (sym (rows_planned c.args.self.now.bag c.args.rows.now c.in_ok-gains.gains st.bag (plans a))))
+    c.record_change.ensures.number
+
+pub returns-in_ok-gains-clause-accepted : goal.returns-in_ok-gains-clause-accepted
+returns-in_ok-gains-clause-accepted c =
+    let a = (goal.at-returns-in_ok-gains-clause-accepted c).After-record_change in
+    on_ok_weaker c.record_change.result (λ none. sym (refusal a) ∙ none) c.record_change.ensures.accepted
+
+pub returns-in_ok-gains-clause-refused : goal.returns-in_ok-gains-clause-refused
+returns-in_ok-gains-clause-refused c =
+    let a = (goal.at-returns-in_ok-gains-clause-refused c).After-record_change in
+    let Refused : EditError → Option EditError → Type 0 = λ error o. IsEditRefusal error o in
+    IfErr-weaker c.record_change.result _ _ (λ error why. subst (Refused error) (refusal a) why) c.record_change.ensures.refused
+
+pub returns-in_ok-gains-clause-no_change : goal.returns-in_ok-gains-clause-no_change
+returns-in_ok-gains-clause-no_change c =
+    let a = (goal.at-returns-in_ok-gains-clause-no_change c).After-record_change in
+    let r = c.record_change.result in
+    let Refused : EditError → Option EditError → Type 0 = λ error o. IsEditRefusal error o in
+    nothing_answered_where c.args.self.now c.args.rows.now r (stood a)
+    (on_ok_weaker r (λ none. sym (refusal a) ∙ none) c.record_change.ensures.accepted)
+    (IfErr-weaker r _ _ (λ error why. subst (Refused error) (refusal a) why) c.record_change.ensures.refused)
+    (λ wants. sym (refusal a) ∙ c.record_change.ensures.memory wants)
