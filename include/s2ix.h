@@ -174,7 +174,7 @@ uint32_t s2ix_region(s2ix_handle *handle, uint32_t label, uint64_t *cells, size_
 uint32_t s2ix_of_label(s2ix_handle *handle, uint32_t label, s2ix_row *rows, size_t room, size_t *number);
 
 /* The pairs from a place on, counted from 0, in rising order of cell, then label: as many as there is room for, never S2IX_NO_ROOM. *number
-   is how many are put: 0 if there is none at the place. An edit moves the places of the pairs behind those that it changes. O(k) for k pairs
+   is how many are put: 0 if there is none at the place. An edit moves the places of the pairs after those that it changes. O(k) for k pairs
    put. S2IX_CLOSED. */
 uint32_t s2ix_pairs(s2ix_handle *handle, size_t from, s2ix_row *rows, size_t room, size_t *number);
 

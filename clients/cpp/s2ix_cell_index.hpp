@@ -1,0 +1,373 @@
+// S2's own class of cells and labels, S2CellIndex, over an Index that can be edited. Include s2ix.hpp, which says more.
+#ifndef S2IX_CELL_INDEX_HPP
+#define S2IX_CELL_INDEX_HPP
+
+#include "s2ix_index.hpp"
+
+#include <algorithm>
+#include <cstddef>
+#include <cstdint>
+#include <functional>
+#include <iterator>
+#include <limits>
+#include <type_traits>
+#include <unordered_set>
+#include <utility>
+#include <vector>
+
+namespace s2ix {
+
+// S2's own class over an Index: the same names, arguments and meanings. What differs from S2:
+//
+//   S2                                            here
+//   Build() comes once, between adds and queries  any number of times: it makes one change of the adds since the last Build()
+//   no query before Build()                       a query, index() and a CellIterator build first what was added
+//   Clear()                                       drops the changes too: nothing is left to undo
+//   any number of pairs                           limits: at most 1,000,000 distinct pairs; Build() throws above them
+//   an invalid cell, a label below 0: undefined   Add and the queries throw Error
+//   Add(cells, label) adds each cell of a union   each of its normal form, as of a union that S2 has normalised
+//   a pair added n times is kept n times          is kept once with a count; visits and iterators give it n times, as S2 does
+//   a visit comes in no stated order              by first shared leaf, then falling level, then rising label
+//   a CellIterator reads the index                has its own copy of the pairs, as they were when it was made
+//   no Add while an iterator or a visit runs      an edit moves the ranges: then position a RangeIterator anew. A ContentsIterator keeps the
+//                                                 pairs that StartUnion read. A visitor must not edit
+//   a RangeIterator is unpositioned at first      is done at first, and its Prev() returns false
+//   Next() and limit_id() when done: undefined    Next() stays, and limit_id() returns the end of all leaves
+//   Seek() to what is no leaf: undefined          throws Error, and the iterator stays
+//   Advance(n) takes n below 0                    returns false, and the iterator stays
+//   a ContentsIterator states no order            gives the innermost cell first, the labels of one cell rising
+//   GetIntersectingLabels gives absl's set        a std::unordered_set, or any set that is passed
+//
+// index().undo() takes back what one Build() added. Build() is refused, and throws, if a limit would be passed or as many changes can be undone
+// as the limit allows (S2IX_JOURNAL_FULL). The index is then as it was, and the adds wait for the next Build(), which Forget() makes room for.
+// Queries throw as Build() does. Nothing that was added is dropped, and no change is forgotten, but by Clear() and Forget().
+//
+// An Id is a std::uint64_t, or a class such as S2CellId that is constructed from one and returns it from id(). A union is any range of Ids. So
+// BasicS2CellIndex<S2CellId> takes S2's own S2CellId and S2CellUnion.
+template <class Id>
+class BasicS2CellIndex {
+ public:
+  using Label = std::int32_t;
+
+  struct LabelledCell {
+    Id cell_id{};
+    Label label = -1;
+
+    LabelledCell() = default;
+    LabelledCell(Id cell, Label its_label) : cell_id(cell), label(its_label) {}
+
+    bool operator==(const LabelledCell& other) const { return cell_id == other.cell_id && label == other.label; }
+    bool operator<(const LabelledCell& other) const { return cell_id != other.cell_id ? cell_id < other.cell_id : label < other.label; }
+  };
+
+  BasicS2CellIndex() = default;
+  explicit BasicS2CellIndex(Limits limits) : limits_(limits), index_(limits) {}
+
+  // The index beneath, for edits, undo and all else that S2 lacks. It first builds what was added, as Build() does.
+  Index& index() { return built(); }
+  const Index& index() const { return built(); }
+
+  // How many pairs were added, repeated ones included. O(n).
+  int num_cells() const { return static_cast<int>(std::min<std::uint64_t>(built().copies(), std::numeric_limits<int>::max())); }
+
+  // Adds a pair, or one more copy of it. O(1).
+  void Add(Id cell_id, Label label) {
+    const std::uint64_t cell = raw(cell_id);
+    check_label(label);
+    if (!cell::is_valid(cell)) throw Error(S2IX_NO_CELL);
+    added_.push_back(Row{cell, static_cast<std::uint32_t>(label), 1});
+  }
+
+  // Adds a pair for each cell of a union. O(n log n) for n cells.
+  template <class Union, class = decltype(std::begin(std::declval<const Union&>()))>
+  void Add(const Union& cell_ids, Label label) {
+    check_label(label);
+    const std::vector<std::uint64_t> cells = cell_union::normalise(raws(cell_ids));
+    added_.reserve(added_.size() + cells.size());
+    for (std::uint64_t cell : cells) added_.push_back(Row{cell, static_cast<std::uint32_t>(label), 1});
+  }
+
+  // Makes one change of what was added since the last time, if anything was.
+  void Build() { built(); }
+
+  // Drops all pairs and all changes, and what was added but not built.
+  void Clear() {
+    index_ = Index(limits_);
+    added_.clear();
+  }
+
+  // Keeps the pairs, and what was added but not built, and drops all changes: nothing is left to undo, and the next Build() has room.
+  void Forget() { index_.forget(); }
+
+  // A function that gets each pair of a visit. It returns false to end the visit.
+  using CellVisitor = std::function<bool(Id cell_id, Label label)>;
+
+  // Visits the pairs that share a leaf with a union, each copy of each, until the visitor returns false. Returns false if it did, else true.
+  template <class Union>
+  bool VisitIntersectingCells(const Union& target, const CellVisitor& visitor) const {
+    const std::vector<std::uint64_t> cells = raws(target);
+    // (in pages that grow, so that a visit which ends early reads little of a long list)
+    std::size_t from = 0;
+    for (std::size_t most = 256;; most *= 4) {
+      const std::vector<Row> rows = built().meet_from(cells, from, most);
+      for (const Row& row : rows) {
+        for (std::uint32_t copy = 0; copy < row.count; copy++) {
+          if (!visitor(Id(row.cell), static_cast<Label>(row.label))) return false;
+        }
+      }
+      if (rows.size() < most) return true;
+      from += most;
+    }
+  }
+
+  // The labels of those pairs.
+  template <class Union>
+  std::unordered_set<Label> GetIntersectingLabels(const Union& target) const {
+    std::unordered_set<Label> labels;
+    GetIntersectingLabels(target, &labels);
+    return labels;
+  }
+
+  // Puts the labels of those pairs in place of what a set held.
+  template <class Union, class Set>
+  void GetIntersectingLabels(const Union& target, Set* labels) const {
+    labels->clear();
+    for (std::uint32_t label : built().labels(raws(target))) labels->insert(static_cast<Label>(label));
+  }
+
+  // Gives all pairs, each copy of each.
+  class CellIterator {
+   public:
+    explicit CellIterator(const BasicS2CellIndex* index) : rows_(index->built().meet(Cells(faces, 6))) {}
+
+    Id cell_id() const { return Id(rows_[row_].cell); }
+    Label label() const { return static_cast<Label>(rows_[row_].label); }
+    LabelledCell labelled_cell() const { return LabelledCell(cell_id(), label()); }
+
+    // Whether all pairs have been given. If so, call no other method.
+    bool done() const { return row_ == rows_.size(); }
+
+    void Next() {
+      if (++copy_ == rows_[row_].count) {
+        row_++;
+        copy_ = 0;
+      }
+    }
+
+   private:
+    std::vector<Row> rows_;
+    std::size_t row_ = 0;
+    std::uint32_t copy_ = 0;
+  };
+
+  class ContentsIterator;
+
+  // Goes along the ranges of leaves over which the same pairs lie. They follow one another, from the first leaf of face 0 to the last of
+  // face 5. Position it by Begin, Seek or Finish.
+  class RangeIterator {
+   public:
+    explicit RangeIterator(const BasicS2CellIndex* index) : index_(index) {}
+
+    // The first leaf of the range; the end of all leaves, 0xc000000000000001, if the iterator is done.
+    Id start_id() const { return Id(start_); }
+
+    // The leaf with which the next range begins; the end of all leaves after the last one.
+    Id limit_id() const { return Id(limit_); }
+
+    // Whether the iterator stands after the last range.
+    bool done() const { return start_ == end_of_leaves; }
+
+    // Whether no pair lies over the range; true if the iterator is done.
+    bool is_empty() const { return is_empty_; }
+
+    void Begin() { go(0); }
+
+    // Goes after the last range.
+    void Finish() { go(index_->index_.range_count()); }
+
+    void Next() {
+      if (!done()) go(place_ + 1);
+    }
+
+    // Goes to the range before and returns true; returns false at the first range, and stays.
+    bool Prev() {
+      if (place_ == 0) return false;
+      go(place_ - 1);
+      return true;
+    }
+
+    // Goes to the range that has a leaf.
+    void Seek(Id target) { go(place_of(target)); }
+
+    // Goes n ranges on and returns true, if there is a range; else it returns false and stays.
+    bool Advance(int n) {
+      const std::size_t count = index_->index_.range_count();
+      if (n < 0 || place_ >= count || static_cast<std::size_t>(n) >= count - place_) return false;
+      go(place_ + static_cast<std::size_t>(n));
+      return true;
+    }
+
+   protected:
+    std::size_t place() const { return place_; }
+    ::s2ix_handle* handle() const { return &index_->index_.handle_; }
+    std::size_t place_of(const Id& leaf) const { return index_->index_.find(raw(leaf)).place; }
+
+    // Goes to the range at a place, or after the last one if there is none.
+    void go(std::size_t place) {
+      std::uint64_t start = 0, limit = 0;
+      bool is_empty = true;
+      const std::uint32_t status = s2ix_range(handle(), place, &start, &limit, &is_empty);
+      if (status == S2IX_NO_RANGE) {
+        place = index_->index_.range_count();
+        start = limit = end_of_leaves;
+      } else {
+        detail::check(status);
+      }
+      place_ = place;
+      start_ = start;
+      limit_ = limit;
+      is_empty_ = is_empty;
+    }
+
+   private:
+    friend class ContentsIterator;
+
+    const BasicS2CellIndex* index_;
+    std::size_t place_ = 0;
+    std::uint64_t start_ = end_of_leaves, limit_ = end_of_leaves;
+    bool is_empty_ = true;
+  };
+
+  // Goes along the ranges over which some pair lies.
+  class NonEmptyRangeIterator : public RangeIterator {
+   public:
+    explicit NonEmptyRangeIterator(const BasicS2CellIndex* index) : RangeIterator(index) {}
+
+    void Begin() { go_on(0); }
+
+    void Next() {
+      if (!this->done()) go_on(this->place() + 1);
+    }
+
+    // Goes to the last such range before and returns true; returns false if there is none, and stays.
+    bool Prev() {
+      std::size_t place = 0;
+      const std::uint32_t status = s2ix_previous_full(this->handle(), this->place(), &place);
+      if (status == S2IX_NO_RANGE) return false;
+      detail::check(status);
+      this->go(place);
+      return true;
+    }
+
+    // Goes to the range that has a leaf, or to the next such range after it, or after the last one.
+    void Seek(Id target) { go_on(this->place_of(target)); }
+
+   private:
+    // Goes to the first such range from a place on, or after the last one.
+    void go_on(std::size_t from) {
+      std::size_t place = 0;
+      const std::uint32_t status = s2ix_next_full(this->handle(), from, &place);
+      if (status == S2IX_NO_RANGE) return this->Finish();
+      detail::check(status);
+      this->go(place);
+    }
+  };
+
+  // Gives the pairs over ranges, each copy of each. While each range that it starts with lies after those before, it gives no pair again: once
+  // a range's pairs have all been given, those that lie over a later range too are left out there.
+  class ContentsIterator {
+   public:
+    ContentsIterator() = default;  // call Init before all else
+    explicit ContentsIterator(const BasicS2CellIndex* index) { Init(index); }
+
+    void Init(const BasicS2CellIndex* index) {
+      index_ = index;
+      Clear();
+    }
+
+    // Forgets which ranges were visited.
+    void Clear() {
+      rows_.clear();
+      row_ = copy_ = 0;
+      told_ = start_ = limit_ = 0;
+    }
+
+    // Goes to the first pair over a range that wasn't given. If the range lies before the last one, all its pairs are given.
+    void StartUnion(const RangeIterator& range) {
+      if (range.start_ < start_) told_ = 0;
+      start_ = range.start_;
+      limit_ = range.limit_;
+      row_ = copy_ = 0;
+      rows_.clear();
+      if (!range.is_empty_) index_->index_.contents(range.place_, told_, rows_);
+      if (done()) told_ = limit_;
+    }
+
+    Id cell_id() const { return Id(rows_[row_].cell); }
+    Label label() const { return static_cast<Label>(rows_[row_].label); }
+    LabelledCell labelled_cell() const { return LabelledCell(cell_id(), label()); }
+
+    // Whether all pairs of the range have been given. If so, call neither Next nor what reads a pair.
+    bool done() const { return row_ == rows_.size(); }
+
+    void Next() {
+      if (++copy_ < rows_[row_].count) return;
+      copy_ = 0;
+      if (++row_ == rows_.size()) told_ = limit_;
+    }
+
+   private:
+    const BasicS2CellIndex* index_ = nullptr;
+    std::vector<Row> rows_;
+    std::size_t row_ = 0;
+    std::uint32_t copy_ = 0;
+    // Pairs whose cells begin before `told_` were given over an earlier range. The last range begins and ends with these leaves.
+    std::uint64_t told_ = 0, start_ = 0, limit_ = 0;
+  };
+
+ private:
+  static constexpr std::uint64_t end_of_leaves = 0xc000000000000001;
+
+  // The cells of the six faces, which share a leaf with each cell.
+  static constexpr std::uint64_t faces[6] = {0x1000000000000000, 0x3000000000000000, 0x5000000000000000,
+                                             0x7000000000000000, 0x9000000000000000, 0xb000000000000000};
+
+  static std::uint64_t raw(const Id& id) {
+    if constexpr (std::is_same_v<Id, std::uint64_t>) {
+      return id;
+    } else {
+      return id.id();
+    }
+  }
+
+  template <class Union>
+  static std::vector<std::uint64_t> raws(const Union& ids) {
+    std::vector<std::uint64_t> cells;
+    for (const Id& id : ids) cells.push_back(raw(id));
+    return cells;
+  }
+
+  static void check_label(Label label) {
+    if (label < 0) throw Error(S2IX_NO_LABEL);
+  }
+
+  // The index with all that was added. If that is refused, it is as it was, and what was added stays to be built.
+  Index& built() const {
+    if (!added_.empty()) {
+      index_.add_all(added_);
+      added_.clear();
+    }
+    return index_;
+  }
+
+  Limits limits_;
+  // (a query builds what was added before it)
+  mutable std::vector<Row> added_;
+  mutable Index index_;
+};
+
+using S2CellIndex = BasicS2CellIndex<std::uint64_t>;
+
+}  // namespace s2ix
+
+#endif
