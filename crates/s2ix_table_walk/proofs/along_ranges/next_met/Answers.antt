@@ -75,7 +75,7 @@ returns-in_err-walk-clause-ends g c e =
     subst (λ (z : Shown g.row.R-Place.Denot). meeting_from cells walk.seen z.pairs ≡ []) i.2 (c.advance.ensures.ends c.in_err-walk.was) in (
       sym i.1 ∙ meet,
       ap (λ (o : Option g.row.R-Place.Denot). front_from walk.from (drop 1 (from_place s.chain o)) ++ meeting_from cells walk.seen s.pairs) i.4
-      ∙ meet,
+          ∙ meet,
     )
 
 pub returns-in_err-walk-clause-walk : goal.returns-in_err-walk-clause-walk
