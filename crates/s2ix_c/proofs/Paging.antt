@@ -41,8 +41,8 @@ page_grows page more left rest whole x most from passed at_most at_least less is
     ∙ ap (λ n. (page ++ x ∷ []) ++ take (most - length (page ++ x ∷ [])) (drop n rest)) none
     ∙ append_assoc page (x ∷ []) (take (most - length (page ++ x ∷ [])) rest)
     ∙ sym (ap (λ l. page ++ take (most - length page) (drop (from - passed) l)) is
-      ∙ ap (λ n. page ++ take (most - length page) (drop n (x ∷ rest))) none
-      ∙ ap (λ n. page ++ take n (x ∷ rest)) one_more)
+    ∙ ap (λ n. page ++ take (most - length page) (drop n (x ∷ rest))) none
+    ∙ ap (λ n. page ++ take n (x ∷ rest)) one_more)
     ∙ all
 
 nothing_of : {A : Type 0} (most n : ℕ) → take {A = A} most (drop n []) ≡ []
