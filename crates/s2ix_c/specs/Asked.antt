@@ -96,8 +96,3 @@ pub record IsFirstWrong (rows : List Row) (place why : ℕ) : Type 0 where
   pub row : Row
   pub there : slice_get rows place ≡ Some row
   pub wrong : held_asked row ≡ Err why
-
--- what rows name; or the first that is wrong, with its place; or memory is wanted
-abbrev pub AsksRows : List Row → Result (List Held) ℕ → ℕ → Type 0
-AsksRows rows (Ok held) place = NameHeld rows held
-AsksRows rows (Err why) place = IsFirstWrong rows place why ⊎ ((why ≡ out_of_memory) × (place ≡ 0))

@@ -114,6 +114,7 @@ fn add_handle(alloc: Global, handle: &mut Handle, rows: &[Held], number: &mut us
 
 /// Adds the count of each row to that of its cell under its label, as one change: rows in any order, and repeated or not. If a row's cell or
 /// label is wrong, `number` is the place of the first such row.
+#[tactic(auto, using(crate::proofs::OfRows::does_rows, crate::proofs::OfRows::refuses_rows))]
 #[unsafe(no_mangle)]
 pub extern "C" fn s2ix_add_all(
     alloc: Global,

@@ -1,8 +1,9 @@
 //! Lists in buffers of the caller.
 
-ghost use Rattle.std.specs.Prelude.{◌≡◌, ◌≤◌, length, map};
-ghost use Rattle.s2ix_c.specs.Asked.{AsksRows, held_asked};
+ghost use Rattle.std.specs.Prelude.{◌≡◌, ◌⊎◌, ◌≤◌, length, map, IfErr, IfOk};
+ghost use Rattle.s2ix_c.specs.Asked.{IsFirstWrong, NameHeld, held_asked};
 ghost use Rattle.s2ix_c.specs.Lists.{IsPut, row_of};
+ghost use Rattle.s2ix_c.specs.Status.{out_of_memory};
 ghost use Rattle.s2id_core.specs.CellId.{raw_of};
 ghost use Rattle.s2ix_bag_pairs.specs.Label.{value_of};
 
@@ -50,12 +51,11 @@ pub(crate) fn held_for(row: Row) -> Result<Held, u32>
 }
 
 // The pairs that rows name, with their counts. If a row is wrong, `number` is the place of the first that is, else 0.
-pub(crate) fn held_list(
-    alloc: Global,
-    rows: &[Row],
-    number: &mut usize,
-) -> Result<Vec<Held>, u32>
-    ensures { AsksRows rows.now result number.new }
+#[tactic(auto, using(crate::proofs::OfRows::first_wrong))]
+pub(crate) fn held_list(alloc: Global, rows: &[Row], number: &mut usize) -> Result<Vec<Held>, u32>
+    ensures rows { IfOk result (λ list. NameHeld rows.now list.items) }
+    ensures wrong { IfErr result (λ why.
+        IsFirstWrong rows.now number.new why ⊎ ((why ≡ out_of_memory) × (number.new ≡ 0))) }
 {
     *number = 0;
     let mut list = Vec::new(alloc);
