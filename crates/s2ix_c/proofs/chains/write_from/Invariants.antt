@@ -9,7 +9,7 @@ invariant-loop-next g l =
     ((p : g.row.T-Place.Denot) → l.next ≡ Some p → IsPlace (g.T.RangeTable.chain l.table) p)
     × (l.count + length (from_place (g.T.RangeTable.chain l.table) l.next) ≡ length (from_place (g.T.RangeTable.chain l.table) l.fn.first))
     × (take l.count l.out ++ map row_of (from_place (g.T.RangeTable.chain l.table) l.next)
-        ≡ map row_of (from_place (g.T.RangeTable.chain l.table) l.fn.first))
+    ≡ map row_of (from_place (g.T.RangeTable.chain l.table) l.fn.first))
     × (drop l.count l.out ≡ drop l.count l.initial.out)
     × (length l.out ≡ length l.initial.out)
 
