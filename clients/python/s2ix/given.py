@@ -100,7 +100,7 @@ def _packed_row(place: int, cell: Cell, label: int, copies: int) -> bytes:
         check_natural(copies, MOST_U32, TooManyCopies, "copies")
     except S2ixError as refusal:
         raise type(refusal)(f"row {place}: {refusal}") from None
-    return _packed(number, label, copies)
+    return _packed(number, operator.index(label), operator.index(copies))
 
 
 def number_of(cell: Cell) -> int:
