@@ -1,12 +1,13 @@
 /* The S2 cell index that can be edited: stores behind handles, cells and unions of cells. docs/FROM_C.md says how to build the library, and
    what the caller must ensure.
 
-   Cells are S2's 64-bit ids, labels are 0 to 2147483647. Each call returns a status, except that s2ix_close returns nothing and some calls on
-   cells return a bool. A call whose status is not S2IX_DONE leaves the store as it was. A call that gives a list takes a buffer with room for
-   `room` items, and sets *number to how many items the list has. If the buffer has room for all, the call puts them at its front; else the
-   status is S2IX_NO_ROOM and the buffer stays as it was. A call that is refused for another reason sets *number to 0 (s2ix_add_all may not). No pointer is NULL, not
-   even one to no items. What the pointers of one call point to doesn't overlap, so never copy a handle to itself. A query takes the store out
-   of its handle and puts it back, so the handle isn't const. Costs are in n, the number of pairs held. */
+   Cells are S2's 64-bit ids, labels are 0 to 2147483647. Each call returns a status, except that s2ix_close returns nothing and some calls
+   on cells return a bool. A call whose status is not S2IX_DONE leaves the store as it was. A call that gives a list takes a buffer with
+   room for `room` items, and sets *number to how many items the list has. If the buffer has room for all, the call puts them at its front;
+   else the status is S2IX_NO_ROOM and the buffer stays as it was. If it is refused for another reason, *number is 0, except for a wrong row
+   of s2ix_add_all. No pointer is NULL, not even one to no items. What a call writes overlaps nothing else that it is given, so never copy a
+   handle to itself. A query takes the store out of its handle and puts it back, so the handle isn't const. Costs are in n, the number of
+   pairs held. */
 #ifndef S2IX_H
 #define S2IX_H
 
@@ -20,9 +21,9 @@ extern "C" {
 
 /* A store, or none. It starts as {0}, which is closed. Never copy it by assignment.
 
-   A store and those that s2ix_copy made of it, or of its copies, share memory and count its users without atomics. So one thread at a time may
-   be in calls on all of them together: keep them on one thread, or hold one lock, the same for all of them, during each call. A store that
-   shares nothing with another, opened or loaded by itself, may have a lock of its own. The proofs speak of one thread. */
+   A store and those that s2ix_copy made of it, or of its copies, share memory and count its users without atomics. So one thread at a time
+   may be in calls on all of them together: keep them on one thread, or hold one lock, the same for all of them, during each call. A store
+   that shares nothing with another, opened or loaded by itself, may have a lock of its own. The proofs speak of one thread. */
 typedef struct s2ix_handle {
     void *address;
     bool is_open;
@@ -46,7 +47,7 @@ typedef struct s2ix_entry {
 enum s2ix_status {
     S2IX_DONE = 0,
     S2IX_CLOSED = 1,          /* the handle is closed */
-    S2IX_OUT_OF_MEMORY = 2,   /* a growth was refused */
+    S2IX_OUT_OF_MEMORY = 2,   /* memory was refused */
     S2IX_NO_CELL = 3,         /* a number is no cell's, or no leaf's in a call that takes a leaf; or there is no such cell */
     S2IX_NO_LABEL = 4,        /* a number is no label's */
     S2IX_NO_LIMITS = 5,       /* limits are out of their ranges */
@@ -65,7 +66,7 @@ enum s2ix_status {
     S2IX_TOO_MANY_PAIRS = 24,
     S2IX_COARSER = 25,        /* the level is below the cell's */
     S2IX_NO_SPAN = 26,        /* a bound is even, or not 1 <= start <= limit <= 0xc000000000000001 */
-    S2IX_NO_RANGE = 27,       /* no range is at the place, or no range with a pair over it is from there on, or before it */
+    S2IX_NO_RANGE = 27,       /* no range is at the place; or none from it on, or before it, has a pair over it */
     S2IX_NO_JOURNAL = 28,     /* the text is no journal under the limits */
     S2IX_MISMATCH = 29        /* a change has another count of a pair than is held */
 };
@@ -74,19 +75,20 @@ enum s2ix_status {
 uint32_t s2ix_status_text(uint32_t status, uint8_t *text, size_t room, size_t *number);
 
 /* Opens a handle of an empty store of at most `pairs` pairs (1 to 1,000,000), `copies` copies of each (1 and up) and `changes` changes to
-   undo (1 to 100,000). If the call is not refused, it frees the store that the handle had. O(1), and the freeing.
-   S2IX_NO_LIMITS, S2IX_OUT_OF_MEMORY. */
+   undo (1 to 100,000). If the call is not refused, it frees the store that the handle had. O(1), and the freeing. S2IX_NO_LIMITS,
+   S2IX_OUT_OF_MEMORY. */
 uint32_t s2ix_open(s2ix_handle *handle, uint32_t pairs, uint32_t copies, uint32_t changes);
 
-/* Opens a handle of the store that starts from a dump's collection, under limits as those of s2ix_open. If the call is not refused, it frees
-   the store that the handle had. If the text is no dump, *line is the number of its first line with a fault, counted from 1; else it is 0. O(n)
-   for n bytes. S2IX_NO_LIMITS, S2IX_NO_DUMP, S2IX_OUT_OF_MEMORY. */
+/* Opens a handle of the store that starts from a dump's collection, under limits as those of s2ix_open. If the call is not refused, it
+   frees the store that the handle had. If the text is no dump, *line is the number of its first line with a fault, counted from 1; else it
+   is 0. O(n) for n bytes. S2IX_NO_LIMITS, S2IX_NO_DUMP, S2IX_OUT_OF_MEMORY. */
 uint32_t s2ix_load(s2ix_handle *handle, const uint8_t *text, size_t len, uint32_t pairs, uint32_t copies, uint32_t changes, size_t *line);
 
-/* Opens a handle of the store that starts from a dump's collection after a journal's changes, under limits as those of s2ix_open, with nothing
-   to undo or redo. If the call is not refused, it frees the store that the handle had. The first thing that is refused decides: a line of the
-   dump, a line of the journal, or a change. *place is the number of that line, or of that change for S2IX_MISMATCH, S2IX_TOO_MANY_COPIES and
-   S2IX_TOO_MANY_PAIRS, counted from 1; *entry is the number of the entry in it for S2IX_MISMATCH. Both are 0 otherwise. O(n + m log n) for n bytes and pairs and m entries. S2IX_NO_LIMITS, S2IX_NO_DUMP, S2IX_NO_JOURNAL, S2IX_MISMATCH,
+/* Opens a handle of the store that starts from a dump's collection after a journal's changes, under limits as those of s2ix_open, with
+   nothing to undo or redo. If the call is not refused, it frees the store that the handle had. The first thing that is refused decides: a
+   line of the dump, a line of the journal, or a change. *place is the number of that line, or of that change for S2IX_MISMATCH,
+   S2IX_TOO_MANY_COPIES and S2IX_TOO_MANY_PAIRS, counted from 1; *entry is the number of the entry in it for S2IX_MISMATCH. Both are 0
+   otherwise. O(n + m log n) for n bytes and pairs and m entries. S2IX_NO_LIMITS, S2IX_NO_DUMP, S2IX_NO_JOURNAL, S2IX_MISMATCH,
    S2IX_TOO_MANY_COPIES, S2IX_TOO_MANY_PAIRS, S2IX_OUT_OF_MEMORY. */
 uint32_t s2ix_replay(s2ix_handle *handle, const uint8_t *dump, size_t dump_len, const uint8_t *journal, size_t journal_len, uint32_t pairs,
                      uint32_t copies, uint32_t changes, size_t *place, size_t *entry);
@@ -96,23 +98,23 @@ uint32_t s2ix_rewind(s2ix_handle *handle, const uint8_t *dump, size_t dump_len, 
                      uint32_t copies, uint32_t changes, size_t *place, size_t *entry);
 
 /* Opens `copy` on a new store that starts from what the handle's store holds, with nothing to undo or redo. If the call is not refused, it
-   frees the store that `copy` had. The two stores share memory, so one thread at a time uses both. O(n), for the table.
-   S2IX_CLOSED, S2IX_OUT_OF_MEMORY. */
+   frees the store that `copy` had. The two stores share memory, so only one thread at a time may use either. O(n). S2IX_CLOSED,
+   S2IX_OUT_OF_MEMORY. */
 uint32_t s2ix_copy(s2ix_handle *handle, s2ix_handle *copy);
 
 /* Closes a handle and frees all that its store had; a closed one stays closed. O(n). */
 void s2ix_close(s2ix_handle *handle);
 
-/* Edits: each is one change, which can be undone. *number is how many pairs changed their counts. Besides the statuses named, each may return
-   S2IX_CLOSED, S2IX_JOURNAL_FULL, S2IX_NO_CHANGE, S2IX_TOO_MANY_COPIES, S2IX_TOO_MANY_PAIRS or S2IX_OUT_OF_MEMORY. The time grows with
-   the pairs held on the faces that change. */
+/* Edits: each is one change, which can be undone. *number is how many pairs changed their counts. Besides the statuses named, each may
+   return S2IX_CLOSED, S2IX_JOURNAL_FULL, S2IX_NO_CHANGE, S2IX_TOO_MANY_COPIES, S2IX_TOO_MANY_PAIRS or S2IX_OUT_OF_MEMORY. The time grows
+   with the pairs held on the faces that change. */
 
 /* Adds copies to the count of a cell under a label. S2IX_NO_CELL, S2IX_NO_LABEL. */
 uint32_t s2ix_add(s2ix_handle *handle, uint64_t cell, uint32_t label, uint32_t copies, size_t *number);
 
-/* Adds the count of each row to that of its cell under its label, as one change: rows in any order, repeated or not, of which those of count 0
-   add nothing. They are refused as a whole. If a row's cell or label is wrong, *number is the place of the first such row, counted from 0.
-   O(m log m + m log n) for m rows, and the pairs held on their faces. S2IX_NO_CELL, S2IX_NO_LABEL. */
+/* Adds the count of each row to that of its cell under its label, as one change. Rows come in any order, repeated or not; one of count 0
+   adds nothing. All are added, or none. If a row's cell or label is wrong, *number is the place of the first such row, counted from 0. O(m
+   log m + m log n) for m rows, and the pairs held on their faces. S2IX_NO_CELL, S2IX_NO_LABEL. */
 uint32_t s2ix_add_all(s2ix_handle *handle, const s2ix_row *rows, size_t len, size_t *number);
 
 /* Takes copies from the count of a cell under a label. S2IX_NO_CELL, S2IX_NO_LABEL, S2IX_NOT_HELD. */
@@ -127,8 +129,8 @@ uint32_t s2ix_drop_label(s2ix_handle *handle, uint32_t label, size_t *number);
 /* Moves all copies of one label to another, cell by cell. S2IX_NO_LABEL, S2IX_NO_SUCH_LABEL. */
 uint32_t s2ix_relabel(s2ix_handle *handle, uint32_t source, uint32_t target, size_t *number);
 
-/* Adds one copy under a label for each cell of a level that overlaps no cell of the label and shares an edge with a cell of the level
-   that overlaps one. S2IX_NO_LABEL, S2IX_NO_SUCH_LABEL, S2IX_TOO_FINE. */
+/* Adds one copy under a label for each cell of a level that overlaps no cell of the label and shares an edge with a cell of the level that
+   overlaps one. S2IX_NO_LABEL, S2IX_NO_SUCH_LABEL, S2IX_TOO_FINE. */
 uint32_t s2ix_grow(s2ix_handle *handle, uint32_t label, uint8_t level, size_t *number);
 
 /* Replaces a label's pairs by one copy at each cell of the label's region. S2IX_NO_LABEL, S2IX_NO_SUCH_LABEL. */
@@ -155,22 +157,25 @@ uint32_t s2ix_clear(s2ix_handle *handle);
 uint32_t s2ix_at(s2ix_handle *handle, uint64_t leaf, s2ix_row *rows, size_t room, size_t *number);
 
 /* The pairs that share a leaf with a union of cells, in any order and repeated or not: each once, by first shared leaf, then falling level,
-   then rising label. O(k + r + t log n) for k pairs, r ranges and t cells. S2IX_CLOSED, S2IX_NO_CELL, S2IX_NO_ROOM, S2IX_OUT_OF_MEMORY. */
+   then rising label. O(k + r + t log n) for k pairs, r ranges and t cells, and O(t log t) to sort them. S2IX_CLOSED, S2IX_NO_CELL,
+   S2IX_NO_ROOM, S2IX_OUT_OF_MEMORY. */
 uint32_t s2ix_meet(s2ix_handle *handle, const uint64_t *cells, size_t len, s2ix_row *rows, size_t room, size_t *number);
 
-/* The pairs of that list from a place on, counted from 0: as many as there is room for, never S2IX_NO_ROOM. *number is how many are put: less
-   than `room` only if the list ends there. An edit may move the places. The time is that of s2ix_meet for a list that ends with the last pair
-   put, so the first few of many pairs come quickly. S2IX_CLOSED, S2IX_NO_CELL, S2IX_OUT_OF_MEMORY. */
+/* The pairs of that list from a place on, counted from 0: as many as there is room for, never S2IX_NO_ROOM. *number is how many are put:
+   less than `room` only if the list ends there. An edit may move the places. The time is that of s2ix_meet for a list that ends with the
+   last pair put, so the first few of many pairs come quickly. S2IX_CLOSED, S2IX_NO_CELL, S2IX_OUT_OF_MEMORY. */
 uint32_t s2ix_meet_from(s2ix_handle *handle, const uint64_t *cells, size_t len, size_t from, s2ix_row *rows, size_t room, size_t *number);
 
-/* The labels of the pairs that s2ix_meet puts: each once, rising. The same statuses. */
+/* The labels of the pairs that s2ix_meet puts: each once, rising. It costs what s2ix_meet does, and O(m log m) for m pairs. The same
+   statuses. */
 uint32_t s2ix_labels(s2ix_handle *handle, const uint64_t *cells, size_t len, uint32_t *labels, size_t room, size_t *number);
 
-/* The region of a label: the normal union of its cells, rising. O(n + m log m) for m pairs of the label.
-   S2IX_CLOSED, S2IX_NO_LABEL, S2IX_NO_ROOM, S2IX_OUT_OF_MEMORY. */
+/* The region of a label: the normal union of its cells, rising. O(n + m log m) for m pairs of the label. S2IX_CLOSED, S2IX_NO_LABEL,
+   S2IX_NO_ROOM, S2IX_OUT_OF_MEMORY. */
 uint32_t s2ix_region(s2ix_handle *handle, uint32_t label, uint64_t *cells, size_t room, size_t *number);
 
-/* The pairs of a label, by rising cell. O(n) for all n pairs that are held. S2IX_CLOSED, S2IX_NO_LABEL, S2IX_NO_ROOM, S2IX_OUT_OF_MEMORY. */
+/* The pairs of a label, by rising cell. O(n) for all n pairs that are held. S2IX_CLOSED, S2IX_NO_LABEL, S2IX_NO_ROOM, S2IX_OUT_OF_MEMORY.
+   */
 uint32_t s2ix_of_label(s2ix_handle *handle, uint32_t label, s2ix_row *rows, size_t room, size_t *number);
 
 /* The pairs from a place on, counted from 0, in rising order of cell, then label: as many as there is room for, never S2IX_NO_ROOM. *number
@@ -195,37 +200,38 @@ uint32_t s2ix_undone_count(s2ix_handle *handle, size_t *number);
    O(k) for k entries. S2IX_CLOSED, S2IX_NO_SUCH_CHANGE, S2IX_NO_ROOM. */
 uint32_t s2ix_change(s2ix_handle *handle, uint32_t change, s2ix_entry *entries, size_t room, size_t *number);
 
-/* How many faces, 0 to 6, the last accepted edit, undo or redo read again. O(1). S2IX_CLOSED. */
+/* How many faces, 0 to 6, the last accepted edit, undo or redo rebuilt. O(1). S2IX_CLOSED. */
 uint32_t s2ix_faces_rebuilt(s2ix_handle *handle, size_t *number);
 
 /* How many ranges of leaves there are over which the same pairs lie: at least 1. O(1). S2IX_CLOSED. */
 uint32_t s2ix_range_count(s2ix_handle *handle, size_t *number);
 
-/* The range that has a leaf: its place among them, counted from 0, the number of its first leaf, and the leaf number with which it ends. Its
+/* The range that has a leaf: its place among them, counted from 0, the number of its first leaf, and the first leaf number after it. Its
    pairs are those that s2ix_at puts for *start, and the next range begins with *limit, unless that is 0xc000000000000001. All three are 0
    if the call is refused. O(log n). S2IX_CLOSED, S2IX_NO_CELL. */
 uint32_t s2ix_find(s2ix_handle *handle, uint64_t leaf, size_t *place, uint64_t *start, uint64_t *limit);
 
-/* The range at a place, counted from 0: the number of its first leaf, the leaf number with which it ends, and whether no pair lies over it. If
-   the call is refused, both numbers are 0 and *is_empty is true. An edit may move the places of ranges. O(1). S2IX_CLOSED, S2IX_NO_RANGE. */
+/* The range at a place, counted from 0: the number of its first leaf, the first leaf number after it, and whether no pair lies over it. If
+   the call is refused, both numbers are 0 and *is_empty is true. An edit may move the places of ranges. O(1). S2IX_CLOSED, S2IX_NO_RANGE.
+   */
 uint32_t s2ix_range(s2ix_handle *handle, size_t place, uint64_t *start, uint64_t *limit, bool *is_empty);
 
-/* Of the pairs over the range at a place, those whose cells begin at the leaf number `from` or later, the innermost cell first, the labels of
-   one cell rising. If `from` is 0, these are all of them. If it is the number with which an earlier range ends, they are the pairs that don't
-   lie over that range: so a caller that goes up the ranges gets each pair once. O(k) for k pairs put.
-   S2IX_CLOSED, S2IX_NO_RANGE, S2IX_NO_ROOM, S2IX_OUT_OF_MEMORY. */
+/* Of the pairs over the range at a place, those whose cells begin at the leaf number `from` or later, the innermost cell first, the labels
+   of one cell rising. If `from` is 0, these are all of them. If it is the *limit of an earlier range, they are the pairs that don't lie
+   over that range: so a caller that goes up the ranges gets each pair once. O(k) for k pairs put. S2IX_CLOSED, S2IX_NO_RANGE, S2IX_NO_ROOM,
+   S2IX_OUT_OF_MEMORY. */
 uint32_t s2ix_contents(s2ix_handle *handle, size_t place, uint64_t from, s2ix_row *rows, size_t room, size_t *number);
 
-/* The place of the first range from `from` on, and of the last range before `before`, that has a pair over it. If there is none, the status is
-   S2IX_NO_RANGE and *place is 0. Two neighbours are never both empty. O(1). S2IX_CLOSED, S2IX_NO_RANGE. */
+/* The place of the first range from `from` on, and of the last range before `before`, that has a pair over it. If there is none, the status
+   is S2IX_NO_RANGE and *place is 0. Two neighbours are never both empty. O(1). S2IX_CLOSED, S2IX_NO_RANGE. */
 uint32_t s2ix_next_full(s2ix_handle *handle, size_t from, size_t *place);
 uint32_t s2ix_previous_full(s2ix_handle *handle, size_t before, size_t *place);
 
 /* The dump of what is held, as bytes (docs/FORMATS.md). O(n). S2IX_CLOSED, S2IX_NO_ROOM, S2IX_OUT_OF_MEMORY. */
 uint32_t s2ix_dump(s2ix_handle *handle, uint8_t *text, size_t room, size_t *number);
 
-/* The journal of the changes that can be undone, the oldest first, as bytes (docs/FORMATS.md). O(n) for n entries.
-   S2IX_CLOSED, S2IX_NO_ROOM, S2IX_OUT_OF_MEMORY. */
+/* The journal of the changes that can be undone, the oldest first, as bytes (docs/FORMATS.md). O(n) for n entries. S2IX_CLOSED,
+   S2IX_NO_ROOM, S2IX_OUT_OF_MEMORY. */
 uint32_t s2ix_journal(s2ix_handle *handle, uint8_t *text, size_t room, size_t *number);
 
 /* The export of what is held: one line of compact JSON with no line feed (docs/FORMATS.md). O(n), some 200 bytes a pair while it is made.
@@ -291,8 +297,8 @@ uint32_t s2ix_cell_next(uint64_t cell, uint64_t *next);
    S2IX_NO_CELL. */
 uint32_t s2ix_cell_edge_neighbors(uint64_t cell, uint64_t cells[4]);
 
-/* The cells of a level outside a cell that share an edge with a cell of that level inside it: each once, rising, at most 1024.
-   O(n log n) for n cells. S2IX_NO_CELL, S2IX_COARSER, S2IX_TOO_FINE, S2IX_NO_ROOM, S2IX_OUT_OF_MEMORY. */
+/* The cells of a level outside a cell that share an edge with a cell of that level inside it: each once, rising, at most 1024. O(n log n)
+   for n cells. S2IX_NO_CELL, S2IX_COARSER, S2IX_TOO_FINE, S2IX_NO_ROOM, S2IX_OUT_OF_MEMORY. */
 uint32_t s2ix_cell_border(uint64_t cell, uint8_t level, uint64_t *cells, size_t room, size_t *number);
 
 /* The square of a cell. If the call is refused, *square is as it was. S2IX_NO_CELL. */
@@ -301,9 +307,9 @@ uint32_t s2ix_cell_to_face_ij(uint64_t cell, s2ix_square *square);
 /* The cell of a square. S2IX_NO_CELL, for a face above 5, a level above 30, or a column or row of 2^level or more. */
 uint32_t s2ix_cell_from_face_ij(uint8_t face, uint32_t i, uint32_t j, uint8_t level, uint64_t *cell);
 
-/* Unions of cells, without a handle: sets of leaves, as lists of cells in any order, repeated or not. A list that a call gives is normal: it
-   rises, no cell lies within another, and no four are all the children of one. A buffer may not overlap a list that is read. Each call
-   first normalises its lists, in O(n log n) for n cells. S2IX_NO_CELL, S2IX_OUT_OF_MEMORY; S2IX_NO_ROOM if there is a buffer. */
+/* Unions of cells, without a handle: sets of leaves, as lists of cells in any order, repeated or not. A list that a call gives is normal:
+   it rises, no cell lies within another, and no four are all the children of one. Each call first normalises its lists, in O(n log n) for n
+   cells. S2IX_NO_CELL, S2IX_OUT_OF_MEMORY; S2IX_NO_ROOM if there is a buffer. */
 
 /* The normal list of the same leaves: never longer than the list. */
 uint32_t s2ix_union_normalise(const uint64_t *cells, size_t len, uint64_t *out, size_t room, size_t *number);

@@ -21,7 +21,8 @@ namespace s2ix {
 //
 //   S2                                            here
 //   Build() comes once, between adds and queries  any number of times: it makes one change of the adds since the last Build()
-//   no query before Build()                       a query, index() and a CellIterator build first what was added
+//   no query before Build()                       queries, index() and a CellIterator build first; other iterators don't
+//   several threads may query at once             one thread at a time, also for queries
 //   Clear()                                       drops the changes too: nothing is left to undo
 //   any number of pairs                           limits: at most 1,000,000 distinct pairs; Build() throws above them
 //   an invalid cell, a label below 0: undefined   Add and the queries throw Error
@@ -38,9 +39,9 @@ namespace s2ix {
 //   a ContentsIterator states no order            gives the innermost cell first, the labels of one cell rising
 //   GetIntersectingLabels gives absl's set        a std::unordered_set, or any set that is passed
 //
-// index().undo() takes back what one Build() added. Build() is refused, and throws, if a limit would be passed or as many changes can be undone
-// as the limit allows (S2IX_JOURNAL_FULL). The index is then as it was, and the adds wait for the next Build(), which Forget() makes room for.
-// Queries throw as Build() does. Nothing that was added is dropped, and no change is forgotten, but by Clear() and Forget().
+// index().undo() takes back one Build(). If a limit would be passed or the journal is full (S2IX_JOURNAL_FULL), Build() and queries throw:
+// the index stays as it was, and the adds wait for the next Build(). Forget() makes room in the journal. Only Clear() drops adds; only
+// Clear() and Forget() drop changes.
 //
 // An Id is a std::uint64_t, or a class such as S2CellId that is constructed from one and returns it from id(). A union is any range of Ids. So
 // BasicS2CellIndex<S2CellId> takes S2's own S2CellId and S2CellUnion.
@@ -273,8 +274,8 @@ class BasicS2CellIndex {
     }
   };
 
-  // Gives the pairs over ranges, each copy of each. While each range that it starts with lies after those before, it gives no pair again: once
-  // a range's pairs have all been given, those that lie over a later range too are left out there.
+  // Gives the pairs over ranges, each copy of each. If the ranges come in rising order, it gives no pair twice: after all pairs of a range
+  // were given, later ranges leave them out.
   class ContentsIterator {
    public:
     ContentsIterator() = default;  // call Init before all else
@@ -292,7 +293,7 @@ class BasicS2CellIndex {
       told_ = start_ = limit_ = 0;
     }
 
-    // Goes to the first pair over a range that wasn't given. If the range lies before the last one, all its pairs are given.
+    // Goes to the range's first pair that was not given yet. If the range lies before the last one, all its pairs are given.
     void StartUnion(const RangeIterator& range) {
       if (range.start_ < start_) told_ = 0;
       start_ = range.start_;

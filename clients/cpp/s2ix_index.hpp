@@ -128,7 +128,7 @@ struct Limits {
   std::uint32_t changes = 100000;                                   // changes that can be undone, 1 to 100,000
 };
 
-// A range of leaves over which the same pairs lie: its place, counted from 0, its first leaf, and the leaf number with which it ends.
+// A range of leaves over which the same pairs lie: its place, counted from 0, its first leaf, and the first leaf number after it.
 struct Range {
   std::size_t place;
   std::uint64_t start;
@@ -311,7 +311,8 @@ inline std::uint64_t leaf_count(Cells cells) {
 template <class Id>
 class BasicS2CellIndex;
 
-// A store of pairs of cells and labels. It can be moved, but not copied; once moved from or closed, it refuses each call with S2IX_CLOSED.
+// A store of pairs of cells and labels. It can be moved, and copied only by copy(); once moved from or closed, it refuses each call with
+// S2IX_CLOSED.
 class Index {
  public:
   // An index of no pairs. S2IX_NO_LIMITS.
@@ -351,8 +352,8 @@ class Index {
   Index& operator=(const Index&) = delete;
   ~Index() { close(); }
 
-  // An index that starts from what this one holds, with nothing to undo or redo. The two share memory, so one thread at a time may use
-  // both. O(1), and the table's O(n). S2IX_CLOSED.
+  // An index that starts from what this one holds, with nothing to undo or redo. The two share memory, so only one thread at a time may use
+  // either. O(n). S2IX_CLOSED.
   Index copy() const {
     Index index{Closed()};
     detail::check(s2ix_copy(&handle_, &index.handle_));
@@ -364,10 +365,10 @@ class Index {
 
   bool is_open() const noexcept { return handle_.is_open; }
 
-  // The handle, for calls of s2ix.h that have no method here.
+  // The handle, to pass to calls of s2ix.h.
   ::s2ix_handle* handle() noexcept { return &handle_; }
 
-  // Edits: each is one change, which can be undone, and returns how many pairs changed their counts. Beside the statuses named, each may
+  // Edits: each is one change, which can be undone, and returns how many pairs changed their counts. Besides the statuses named, each may
   // throw with S2IX_CLOSED, S2IX_JOURNAL_FULL, S2IX_NO_CHANGE, S2IX_TOO_MANY_COPIES or S2IX_TOO_MANY_PAIRS. The time grows with the pairs
   // held on the faces that change.
 
@@ -578,9 +579,9 @@ class Index {
     });
   }
 
-  // Of the pairs over the range at a place, those whose cells begin at the leaf number `from` or later, the innermost cell first, the labels of
-  // one cell rising. From 0 on these are all of them; from the number on with which an earlier range ends, those that don't lie over that
-  // range. O(k) for k pairs. S2IX_CLOSED, S2IX_NO_RANGE.
+  // Of the pairs over the range at a place, those whose cells begin at the leaf number `from` or later, the innermost cell first, the
+  // labels of one cell rising. If `from` is 0, these are all; if it is an earlier range's limit, those that don't lie over that range. O(k)
+  // for k pairs. S2IX_CLOSED, S2IX_NO_RANGE.
   void contents(std::size_t place, std::uint64_t from, std::vector<Row>& rows) const {
     detail::fill(rows, [&](Row* to, std::size_t room, std::size_t* number) {
       return s2ix_contents(&handle_, place, from, to, room, number);

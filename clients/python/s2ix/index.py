@@ -43,8 +43,8 @@ class Entry(NamedTuple):
 
 _entries_in = struct.Struct("=QIII4x").iter_unpack
 class Range(NamedTuple):
-    """Neighbouring leaves over which the same pairs lie: the range's place, counted from 0, the number of its first leaf, the leaf number with
-    which it ends, and whether no pair lies over it."""
+    """Neighbouring leaves over which the same pairs lie: the range's place, counted from 0, the number of its first leaf, the first leaf
+    number after it, and whether no pair lies over it."""
 
     place: int
     start: int
@@ -150,8 +150,8 @@ class Index:
         self.close()
 
     def copy(self) -> Index:
-        """An index of its own that starts from what is held, under the same limits, with nothing to undo or redo. Both share memory, so one
-        thread at a time may use both. Raises Closed or OutOfMemory."""
+        """An index of its own that starts from what is held, under the same limits, with nothing to undo or redo. They share memory, so
+        only one thread at a time may use either. O(n). Raises Closed or OutOfMemory."""
         other = type(self).__new__(type(self))
         other._prepare()
         expect(self._calls.s2ix_copy(self._at_handle, other._at_handle))
@@ -361,7 +361,8 @@ class Index:
 
     def contents(self, place: int, start: int = 0) -> list[Row]:
         """The pairs over the range at a place, the innermost cell first, the labels of one cell rising; of these only the ones whose cells begin
-        at the leaf number `start` or later. With `limit` of an earlier range for it, the pairs over that range are left out. O(k) for k pairs.
+        at the leaf number `start` or later. If `start` is the `limit` of an earlier range, the pairs over that range are left out. O(k) for
+        k pairs.
         Raises Closed, NoRange, NoCell if `start` is no 64-bit number, or OutOfMemory."""
         check(place, MOST_U64, NoRange)
         return _rows_of(self._list(self._calls.s2ix_contents, _PACKED, place, number_of(start)))
@@ -379,7 +380,7 @@ class Index:
     __iter__ = pairs
 
     def visit(self, cells: Cells) -> Iterator[Row]:
-        """The pairs that `meet` returns, one by one. To end early leaves out the time for the others. Don't edit while you go along them. Raises
+        """The pairs that `meet` returns, one by one. If you stop early, the others cost no time. Don't edit while you go along them. Raises
         as `meet` does."""
         start, many, kept = cells_in(cells)
         return self._paged(self._calls.s2ix_meet_from, start, many, kept=kept)

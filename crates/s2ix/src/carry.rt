@@ -49,8 +49,8 @@ fn load_file(rt: &HostRuntime, file: &str, limits: Limits) -> Result<Option<Stor
     load_text(rt.alloc(), text.as_slice(), limits, &mut sink)
 }
 
-// Takes a large block and gives it back. From then on glibc's allocator keeps the pages of blocks up to that size that are given back: the
-// tables lie where the list was that the pairs were read into, in pages that the system need not clear. Without room nothing is lost.
+// Takes a large block and gives it back. From then on glibc's allocator keeps freed blocks up to that size. So the tables reuse the memory
+// of the list of read pairs, which the system need not clear. If there is no room, nothing is lost.
 fn keep_pages(rt: &HostRuntime) {
     let _given_back = Vec::<u8>::with_capacity(rt.alloc(), LARGEST_KEPT);
 }

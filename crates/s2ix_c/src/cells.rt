@@ -27,7 +27,7 @@ pub struct Square {
     pub face: u8,
     /// The level, 0 to 30.
     pub level: u8,
-    /// How the curve runs through the square: bit 0 where `i` and `j` are swapped, bit 1 where both are inverted.
+    /// How the curve runs through the square: bit 0 if `i` and `j` are swapped, bit 1 if both are inverted.
     pub orientation: u8,
 }
 
@@ -39,7 +39,7 @@ pub extern "C" fn s2ix_cell_is_valid(cell: u64) -> bool
     CellId::from_raw(cell).is_some()
 }
 
-/// The cell that a text spells: 1 to 16 hexadecimal digits of either case, where digits missing on the right are zeros.
+/// The cell that a text spells: 1 to 16 hexadecimal digits of either case; digits missing on the right are zeros.
 #[unsafe(no_mangle)]
 pub extern "C" fn s2ix_cell_from_token(text: &[u8], cell: &mut u64) -> u32
     ensures { TellsCell (cell_spelled text.now) result cell.new }
@@ -159,7 +159,7 @@ pub extern "C" fn s2ix_cell_range_max(cell: u64, leaf: &mut u64) -> u32
     }
 }
 
-/// The next cell of its level along the curve, where the first of face 0 comes after the last of face 5.
+/// The next cell of its level along the curve; the first of face 0 comes after the last of face 5.
 #[unsafe(no_mangle)]
 pub extern "C" fn s2ix_cell_next(cell: u64, next: &mut u64) -> u32
     ensures { Tells (IsCellNumber cell) (IsNextTo (path_at cell)) result next.new }

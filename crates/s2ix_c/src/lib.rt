@@ -1,9 +1,9 @@
 //! The index for C, and for what calls C: stores behind handles, and cells and unions of cells by their numbers. `include/s2ix.h` declares
 //! what is exported, and says what C must see to.
 //!
-//! An export carries out one call of a store, and its contract restates that call's. A refused call leaves the store, and its status says
-//! why. A list goes to a buffer of the caller: the call tells how many items there are, also if the buffer is too short, and then it writes
-//! none of them.
+//! An export carries out one call of a store, and its contract restates that call's. A refused call leaves the store as it was, and its
+//! status says why. A list goes to a buffer of the caller: the call tells how many items there are, also if the buffer is too short, and
+//! then it writes none of them.
 #![tactic(auto)]
 
 mod asked;

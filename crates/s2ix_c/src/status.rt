@@ -12,9 +12,9 @@ use s2ix_edit_plan::EditError;
 pub(crate) const DONE: u32 = 0;
 /// The handle is closed.
 pub(crate) const CLOSED: u32 = 1;
-/// A growth was refused.
+/// Memory was refused.
 pub(crate) const OUT_OF_MEMORY: u32 = 2;
-/// A number is no cell's, or no leaf's where a leaf is asked for.
+/// A number is no cell's, or no leaf's in a call that takes a leaf.
 pub(crate) const NO_CELL: u32 = 3;
 /// A number is no label's.
 pub(crate) const NO_LABEL: u32 = 4;

@@ -52,9 +52,9 @@ impl<'a> Fields<'a> {
         }
     }
 
-    /// The cell whose canonical token the next field is, where that is seen in one pass; else nothing, and no field is taken.
+    /// The cell whose canonical token the next field is, if one pass shows it; else nothing, and no field is taken.
     ///
-    /// It is seen where a space is after the token, at least 17 bytes of the line are left, and no byte above 127 came so far. O(n) for n
+    /// It is seen if a space is after the token, at least 17 bytes of the line are left, and no byte above 127 came so far. O(n) for n
     /// bytes of white space in front.
     #[inline]
     pub fn next_cell(&mut self) -> Option<CellId>
@@ -117,7 +117,7 @@ fn behind_blank(text: &[u8]) -> &[u8]
     &text[start..]
 }
 
-// The field that a text begins with, and what is after it; nothing where a byte above 127 stands in the field or right after it.
+// The field that a text begins with, and what is after it; nothing if a byte above 127 is in the field or right after it.
 #[inline(always)]
 fn cut_plain(text: &[u8]) -> Option<(&[u8], &[u8])>
     ensures { IfSome result (λ cut. fields_of text.now ≡ cut.0.now ∷ fields_of cut.1.now) }
@@ -147,7 +147,7 @@ fn plain_len(text: &[u8]) -> usize
     end
 }
 
-// The place after one more block of plain bytes, or the same place where no such block is there.
+// The place after one more block of plain bytes, or the same place if there is none.
 fn behind_block(text: &[u8], end: usize, size: usize) -> usize
     requires inside { end ≤ length text.now }
     requires front { list_all is_plain (take end text.now) ≡ true }

@@ -72,7 +72,7 @@ fn read_cells(alloc: Global, first: &[u8], mut rest: Fields<'_>) -> Result<Vec<C
     Ok(cells)
 }
 
-// The cell that the next field names, or `None` where no field is left.
+// The cell that the next field names, or `None` if no field is left.
 #[inline]
 fn next_cell(fields: &mut Fields<'_>) -> Result<Option<CellId>, LineFault>
     ensures next { IfOk result (λ next. IfSome next (λ cell. cells_named fields.old ≡ before (Ok cell) (cells_named fields.new))) }

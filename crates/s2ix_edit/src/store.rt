@@ -147,9 +147,10 @@ impl Store {
 
     /// Adds the copies of each row to the count of the row's pair, as one change, and returns how many pairs gained copies. Rows come in
     /// any order, and the copies of a pair that comes more than once are added up. The change is recorded as that of an edit is: it can be
-    /// undone, done again and reverted. A refusal changes nothing, and is told of the rows as a whole: `JournalFull`, then `NoChange` if no
-    /// row has copies, then `TooManyCopies`, then `TooManyPairs`; `OutOfMemory` may replace the last two, and no other comes. For m rows it
-    /// costs O(m log m + m log n + p), if p of the n pairs that are held lie on the faces of the rows. This project's own.
+    /// undone, done again and reverted. A refusal changes nothing. The first that applies to all rows together is returned: `JournalFull`,
+    /// then `NoChange` if no row has copies, then `TooManyCopies`, then `TooManyPairs`; `OutOfMemory` may replace the last two, and no
+    /// other comes. For m rows it costs O(m log m + m log n + p), if p of the n pairs that are held lie on the faces of the rows. This
+    /// project's own.
     pub fn add_all(&mut self, rows: &[Held]) -> Result<usize, EditError>
         ensures state { OnOk result (self.new ≡ after_rows self.old rows.now) }
         ensures history { OnOk result (history_of self.new
@@ -227,7 +228,7 @@ impl Store {
 
     /// Does the last undone change again, and returns how many pairs it has. The change goes back to the end of `done`. `NothingToRedo` is
     /// tested first; then `OutOfMemory` if a growth is refused. It never finds the journal full, since an undo keeps the room of its
-    /// change. O(m + p), as `undo`.
+    /// change. It costs what `undo` does.
     pub fn redo(&mut self) -> Result<usize, RedoError>
         ensures state { OnOk result (self.new ≡ after_redo self.old) }
         ensures history { OnOk result (history_of self.new ≡ one_on (history_of self.old)) }

@@ -33,7 +33,7 @@ pub enum EditError {
     /// The number of distinct pairs would pass the limit.
     #[error("the number of pairs would pass the limit")]
     TooManyPairs,
-    /// A growth was refused.
+    /// Memory was refused.
     #[error("out of memory")]
     OutOfMemory,
 }
@@ -71,7 +71,7 @@ pub enum UndoError {
     /// No change can be undone.
     #[error("nothing to undo")]
     NothingToUndo,
-    /// A growth was refused.
+    /// Memory was refused.
     #[error("out of memory")]
     OutOfMemory,
 }
@@ -93,7 +93,7 @@ pub enum RedoError {
     /// No change can be redone.
     #[error("nothing to redo")]
     NothingToRedo,
-    /// A growth was refused.
+    /// Memory was refused.
     #[error("out of memory")]
     OutOfMemory,
 }
