@@ -28,8 +28,8 @@ pub(crate) fn keep(alloc: Global, handle: &mut Handle, store: Store) -> u32
     DONE
 }
 
-/// Opens a handle of an empty store: of at most `pairs` pairs, `copies` of each and `changes` to undo. A store that the handle had is freed,
-/// if the call is not refused.
+/// Opens a handle of an empty store: of at most `pairs` pairs, `copies` of each and `changes` to undo. If the call is not refused, it frees
+/// the store that the handle had.
 #[unsafe(no_mangle)]
 pub extern "C" fn s2ix_open(
     alloc: Global,
@@ -61,7 +61,7 @@ pub extern "C" fn s2ix_close(alloc: Global, handle: &mut Handle)
     *handle = Handle::closed(alloc);
 }
 
-/// Opens a handle of the store that starts from a dump's collection. A store that the handle had is freed, if the call is not refused. If
+/// Opens a handle of the store that starts from a dump's collection. If the call is not refused, it frees the store that the handle had. If
 /// the text is no dump, `line` is the first line with a fault, from 1; else it is 0.
 #[unsafe(no_mangle)]
 pub extern "C" fn s2ix_load(

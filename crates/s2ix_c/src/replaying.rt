@@ -156,8 +156,8 @@ fn keep_bag(alloc: Global, handle: &mut Handle, bag: Bag) -> u32
     }
 }
 
-/// Opens a handle of the store that starts from a dump's collection after a journal's changes, with nothing to undo or redo. A store that
-/// the handle had is freed, if the call is not refused. If something in the texts is refused, `place` is the line or the change that is
+/// Opens a handle of the store that starts from a dump's collection after a journal's changes, with nothing to undo or redo. If the call is
+/// not refused, it frees the store that the handle had. If something in the texts is refused, `place` is the line or the change that is
 /// refused first, and `entry` is the entry of that change whose count is not the one that is held.
 #[unsafe(no_mangle)]
 pub extern "C" fn s2ix_replay(

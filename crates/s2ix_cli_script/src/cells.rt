@@ -52,8 +52,8 @@ fn union_of(alloc: Global, first: &[u8], rest: Fields<'_>) -> Result<CellUnion, 
 // For how many cells there is room at first: a list of so many or fewer is never moved.
 const ROOM_AT_FIRST: usize = 16;
 
-// The cells that the fields TOKEN.. name, the first of them and the rest. Where room was refused for one, those after it are read all the
-// same: only a list without a fault wants memory.
+// The cells that the fields TOKEN.. name, the first of them and the rest. If room is refused for one, it still reads those after it: only a
+// list without a fault wants memory.
 #[tactic(auto, using(crate::proofs::WantedFields::wanting))]
 fn read_cells(alloc: Global, first: &[u8], mut rest: Fields<'_>) -> Result<Vec<CellId>, LineError>
     ensures { MatchResult result
