@@ -203,7 +203,7 @@ class BasicS2CellIndex {
     // Goes n ranges on and returns true, if there is a range; else it returns false and stays.
     bool Advance(int n) {
       const std::size_t count = index_->index_.range_count();
-      if (n < 0 || place_ >= count || static_cast<std::size_t>(n) >= count - place_) return false;
+      if (n < 0 || done() || place_ >= count || static_cast<std::size_t>(n) >= count - place_) return false;
       go(place_ + static_cast<std::size_t>(n));
       return true;
     }

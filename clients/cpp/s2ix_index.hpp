@@ -467,8 +467,9 @@ class Index {
     return rows;
   }
 
-  // The pairs of that list from a place on, counted from 0: as many as there are, and at most `most`. If there are fewer than `most`, the list
-  // ends there. It takes the time of a meet whose list ends with the last of them. An edit may move the places. S2IX_CLOSED, S2IX_NO_CELL.
+  // The pairs of that list from a place on, counted from 0: as many as there are, and at most `most`, for which it takes memory. If there are
+  // fewer, the list ends there. It takes the time of a meet whose list ends with the last of them. An edit may move the places. S2IX_CLOSED,
+  // S2IX_NO_CELL.
   std::vector<Row> meet_from(Cells cells, std::size_t from, std::size_t most) const {
     std::vector<Row> rows(most == 0 ? 1 : most);
     rows.resize(detail::number([&](std::size_t* to) {

@@ -21,6 +21,10 @@ enum { ROOM = 4096 };
 static const uint64_t first = 0x0400000000000000, second = 0x0c00000000000000, face = 0x1000000000000000, leaf = 0x0400000000000001;
 static const uint64_t two[] = {0x0c00000000000000, 0x0400000000000000};
 static const char dump[] = "s2ix 2\n04 7 1\n0400000000000001 8 2\n0c 7 1\nend 3 4\n";
+/* The first leads on from that dump, the second to it. */
+static const char onwards[] = "s2ix-journal 2\nchange 2\n04 7 1 3\n1c 7 0 1\nend 1\n";
+static const char up_to[] = "s2ix-journal 2\nchange 2\n04 7 0 1\n0c 7 2 1\nend 1\n";
+static const s2ix_row rows[] = {{0x1000000000000000, 7, 1}, {0x0400000000000000, 7, 2}, {0x1000000000000000, 7, 1}};
 
 /* What a call told: its number, and what it put. */
 typedef struct told {
@@ -30,6 +34,7 @@ typedef struct told {
         s2ix_row rows[ROOM / sizeof(s2ix_row)];
         uint64_t cells[ROOM / sizeof(uint64_t)];
         uint32_t labels[ROOM / sizeof(uint32_t)];
+        s2ix_entry entries[ROOM / sizeof(s2ix_entry)];
     };
 } told;
 
@@ -40,11 +45,25 @@ typedef uint32_t call(s2ix_handle *handle, s2ix_handle *other, told *told);
 #define ROWS told->rows, sizeof told->rows / sizeof *told->rows
 #define CELLS told->cells, sizeof told->cells / sizeof *told->cells
 #define LABELS told->labels, sizeof told->labels / sizeof *told->labels
+#define TEXT(text) (const uint8_t *)text, sizeof text - 1
 
 CALL(opens) { return (void)handle, (void)told, s2ix_open(other, 9, 9, 9); }
 CALL(loads) { return (void)handle, s2ix_load(other, (const uint8_t *)dump, sizeof dump - 1, 9, 9, 9, &told->number); }
+CALL(replays) {
+    size_t entry = 1;
+    uint32_t status = s2ix_replay(other, TEXT(dump), TEXT(onwards), 9, 9, 9, &told->number, &entry);
+    told->cells[0] = entry;
+    return (void)handle, status;
+}
+CALL(rewinds) {
+    size_t entry = 1;
+    uint32_t status = s2ix_rewind(other, TEXT(dump), TEXT(up_to), 9, 9, 9, &told->number, &entry);
+    told->cells[0] = entry;
+    return (void)handle, status;
+}
 CALL(copies) { return (void)told, s2ix_copy(handle, other); }
 CALL(adds) { return (void)other, s2ix_add(handle, face, 1, 1, &told->number); }
+CALL(adds_all) { return (void)other, s2ix_add_all(handle, rows, 3, &told->number); }
 CALL(removes) { return (void)other, s2ix_remove(handle, first, 7, 1, &told->number); }
 CALL(adds_union) { return (void)other, s2ix_add_union(handle, two, 2, 6, &told->number); }
 CALL(drops) { return (void)other, s2ix_drop_label(handle, 7, &told->number); }
@@ -56,11 +75,14 @@ CALL(undoes) { return (void)other, s2ix_undo(handle, &told->number); }
 CALL(redoes) { return (void)other, s2ix_redo(handle, &told->number); }
 CALL(clears) { return (void)other, (void)told, s2ix_clear(handle); }
 CALL(meets) { return (void)other, s2ix_meet(handle, two, 2, ROWS, &told->number); }
+CALL(meets_from) { return (void)other, s2ix_meet_from(handle, two, 2, 1, ROWS, &told->number); }
 CALL(labels) { return (void)other, s2ix_labels(handle, &face, 1, LABELS, &told->number); }
 CALL(region) { return (void)other, s2ix_region(handle, 7, CELLS, &told->number); }
 CALL(of_label) { return (void)other, s2ix_of_label(handle, 7, ROWS, &told->number); }
+CALL(contents) { return (void)other, s2ix_contents(handle, 1, 0, ROWS, &told->number); }
 CALL(dumps) { return (void)other, s2ix_dump(handle, told->bytes, ROOM, &told->number); }
 CALL(journals) { return (void)other, s2ix_journal(handle, told->bytes, ROOM, &told->number); }
+CALL(exports) { return (void)other, s2ix_export(handle, told->bytes, ROOM, &told->number); }
 
 /* Calls without a handle. */
 CALL(border) { return (void)handle, (void)other, s2ix_cell_border(first, 3, CELLS, &told->number); }
@@ -86,6 +108,15 @@ CALL(leaf_count) { return (void)handle, (void)other, s2ix_union_leaf_count(two, 
 /* Calls that do not allocate. */
 CALL(at) { return (void)other, s2ix_at(handle, leaf, ROWS, &told->number); }
 CALL(pairs) { return (void)other, s2ix_pairs(handle, 0, ROWS, &told->number); }
+CALL(change) { return (void)other, s2ix_change(handle, 1, told->entries, sizeof told->entries / sizeof *told->entries, &told->number); }
+CALL(range) {
+    bool is_empty = true;
+    uint32_t status = s2ix_range(handle, 1, told->cells, told->cells + 1, &is_empty);
+    told->number = is_empty;
+    return (void)other, status;
+}
+CALL(next_full) { return (void)other, s2ix_next_full(handle, 1, &told->number); }
+CALL(previous_full) { return (void)other, s2ix_previous_full(handle, 2, &told->number); }
 CALL(finds) { return (void)other, s2ix_find(handle, leaf, &told->number, told->cells, told->cells + 1); }
 CALL(counts) { return (void)other, s2ix_count(handle, first, 7, told->labels); }
 CALL(forgets) { return (void)other, (void)told, s2ix_forget(handle); }
@@ -101,8 +132,11 @@ static const struct {
 } calls[] = {
     {"open", opens, true},
     {"load", loads, true},
+    {"replay", replays, true},
+    {"rewind", rewinds, true},
     {"copy", copies, true},
     {"add", adds, true},
+    {"add_all", adds_all, true},
     {"remove", removes, true},
     {"add_union", adds_union, true},
     {"drop_label", drops, true},
@@ -114,11 +148,14 @@ static const struct {
     {"redo", redoes, true},
     {"clear", clears, true},
     {"meet", meets, true},
+    {"meet_from", meets_from, true},
     {"labels", labels, true},
     {"region", region, true},
     {"of_label", of_label, true},
+    {"contents", contents, true},
     {"dump", dumps, true},
     {"journal", journals, true},
+    {"export", exports, true},
     {"border", border, true},
     {"union_normalise", normal_list, true},
     {"union_from_leaves", from_leaves, true},
@@ -130,6 +167,10 @@ static const struct {
     {"union_leaf_count", leaf_count, true},
     {"at", at, false},
     {"pairs", pairs, false},
+    {"change", change, false},
+    {"range", range, false},
+    {"next_full", next_full, false},
+    {"previous_full", previous_full, false},
     {"find", finds, false},
     {"count", counts, false},
     {"forget", forgets, false},

@@ -324,9 +324,12 @@ void Unpositioned() {
   IndexOf<Cell>::RangeIterator range(&index);
   EXPECT(range.done() && range.is_empty() && range.start_id() == kEnd && !range.Prev());
   range.Next();
-  EXPECT(range.done());
+  EXPECT(range.done() && !range.Advance(0) && range.done());
   range.Begin();
   index.Add(0x1000000000000000, 4);
+  range.Begin();
+  EXPECT(range.is_empty());
+  index.Build();
   range.Begin();
   EXPECT(range.start_id() == 1 && range.limit_id() == 0x2000000000000001 && !range.is_empty());
   IndexOf<Cell>::ContentsIterator contents(&index);

@@ -42,6 +42,7 @@ s2ix::Index Zones() {
 std::string TextOf(std::uint64_t number) { return std::to_string(number); }
 std::string TextOf(const std::string& text) { return text; }
 std::string TextOf(const s2ix::Row& row) { return TextOf(row.cell) + ":" + TextOf(row.label) + ":" + TextOf(row.count); }
+std::string TextOf(const s2ix::Entry& entry) { return TextOf(entry.cell) + ":" + TextOf(entry.before) + ":" + TextOf(entry.after); }
 std::string TextOf(const s2ix::Index& index) { return index.dump(); }
 template <class Item>
 std::string TextOf(const std::vector<Item>& items) {
@@ -65,9 +66,13 @@ struct Call {
   std::function<std::string(s2ix::Index&)> make;
 };
 
+constexpr char kDump[] = "s2ix 2\n04 7 1\nend 1 1\n";
+
 const Call kCalls[] = {
     {"Index", [](s2ix::Index&) { return s2ix::Index(); }},
-    {"load", [](s2ix::Index&) { return s2ix::Index::load("s2ix 2\n04 7 1\nend 1 1\n"); }},
+    {"load", [](s2ix::Index&) { return s2ix::Index::load(kDump); }},
+    {"replay", [](s2ix::Index&) { return s2ix::Index::replay(kDump, "s2ix-journal 2\nchange 1\n04 7 1 3\nend 1\n"); }},
+    {"rewind", [](s2ix::Index&) { return s2ix::Index::rewind(kDump, "s2ix-journal 2\nchange 1\n04 7 0 1\nend 1\n"); }},
     {"copy", [](s2ix::Index& index) { return index.copy(); }},
     {"add", [](s2ix::Index& index) { return index.add(kFace, 1); }},
     {"add_all", [](s2ix::Index& index) { return index.add_all({{kSecond, 9, 1}, {kFirst, 7, 2}, {kSecond, 9, 1}}); }},
@@ -87,7 +92,10 @@ const Call kCalls[] = {
     {"contents", [](s2ix::Index& index) { return index.contents(1); }},
     {"labels", [](s2ix::Index& index) { return index.labels({kFace, kSecond}); }},
     {"region", [](s2ix::Index& index) { return index.region(7); }},
+    {"change", [](s2ix::Index& index) { return index.change(1); }},
     {"dump", [](s2ix::Index& index) { return index.dump(); }},
+    {"journal", [](s2ix::Index& index) { return index.journal(); }},
+    {"export_json", [](s2ix::Index& index) { return index.export_json(); }},
     {"border", [](s2ix::Index&) { return s2ix::cell::border(kFirst, 3); }},
     {"normalise", [](s2ix::Index&) { return s2ix::cell_union::normalise({kFirst, kSecond}); }},
     {"from_leaves", [](s2ix::Index&) { return s2ix::cell_union::from_leaves(3, 77); }},

@@ -41,7 +41,6 @@ class Entry(NamedTuple):
     after: int
 
 
-_entries_in = struct.Struct("=QIII4x").iter_unpack
 class Range(NamedTuple):
     """Neighbouring leaves over which the same pairs lie: the range's place, counted from 0, the number of its first leaf, the first leaf
     number after it, and whether no pair lies over it."""
@@ -54,6 +53,7 @@ class Range(NamedTuple):
 
 _row_in, _rows_in = struct.Struct("=QII").unpack_from, struct.Struct("=QII").iter_unpack
 _row_of = functools.partial(tuple.__new__, Row)
+_entries_in = struct.Struct("=QIII4x").iter_unpack
 
 
 class Index:

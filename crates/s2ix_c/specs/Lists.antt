@@ -40,10 +40,10 @@ abbrev pub Puts : {A : Type 0} → Result (List A) ℕ → ℕ → ℕ → List 
 Puts (Ok list) status number old new = IsPut list status number old new
 Puts (Err why) status number old new = IsRefused why status number old new
 
--- the same, but want of memory may be told in place of either
+-- the same, but want of memory may be told in place of a list
 abbrev pub Lists : {A : Type 0} → Result (List A) ℕ → ℕ → ℕ → List A → List A → Type 0
 Lists (Ok list) status number old new = IsPut list status number old new ⊎ IsRefused out_of_memory status number old new
-Lists (Err why) status number old new = IsRefused why status number old new ⊎ IsRefused out_of_memory status number old new
+Lists (Err why) status number old new = IsRefused why status number old new
 
 -- the leaf with this number, if it is a leaf's
 abbrev pub leaf_if : Option CellId → Option CellId
