@@ -96,6 +96,7 @@ impl CellId {
             raw: (2 * place + 1) << (60 - 2 * level),
         }
     }
+
     /// The next cell of its level along the curve; after the last of face 5 comes the first of face 0 (S2's `next_wrap()`).
     pub fn next_wrap(self) -> CellId
         ensures level { level_of result ≡ level_of self }

@@ -79,8 +79,8 @@ impl CellUnion {
         meets(self.cells.as_slice(), cell)
     }
 
-    /// The union of the leaves of any cells, in any order and repeated or not (S2's constructor from ids). O(n log n), and the cells made.
-    /// `OutOfMemory` if a growth is refused.
+    /// The union of the leaves of any cells, in any order and repeated or not (S2's constructor from ids). O(n log n + c) for n cells given
+    /// and c cells made. `OutOfMemory` if a growth is refused.
     pub fn normalise(alloc: Global, cells: &[CellId]) -> Result<CellUnion, OutOfMemory>
         ensures region { IfOk result (λ union. HaveSameRegion union cells.now) }
         ensures normal { IfOk result IsNormal }
@@ -90,8 +90,8 @@ impl CellUnion {
         Ok(CellUnion { cells })
     }
 
-    /// The leaves that are in this union, in the other, or in both (S2's `Union()`). O(n + m), and the cells made. `OutOfMemory` if a
-    /// growth is refused.
+    /// The leaves that are in this union, in the other, or in both (S2's `Union()`). O(n + m + c) for the two unions' n and m cells and the
+    /// c cells made. `OutOfMemory` if a growth is refused.
     pub fn union(&self, alloc: Global, other: &CellUnion) -> Result<CellUnion, OutOfMemory>
         ensures leaves { IfOk result (λ union. (leaf : Path) → IsLeafPath leaf → InRegion union leaf
             ↔ (InRegion self.now leaf ⊎ InRegion other.now leaf)) }
@@ -105,7 +105,8 @@ impl CellUnion {
         Ok(CellUnion { cells })
     }
 
-    /// The leaves that are in both unions (S2's `Intersection()`). O(n + m), and the cells made. `OutOfMemory` if a growth is refused.
+    /// The leaves that are in both unions (S2's `Intersection()`). O(n + m + c) for the two unions' n and m cells and the c cells made.
+    /// `OutOfMemory` if a growth is refused.
     pub fn intersection(&self, alloc: Global, other: &CellUnion) -> Result<CellUnion, OutOfMemory>
         ensures leaves { IfOk result (λ union. (leaf : Path) → IsLeafPath leaf → InRegion union leaf
             ↔ (InRegion self.now leaf × InRegion other.now leaf)) }
@@ -119,8 +120,8 @@ impl CellUnion {
         Ok(CellUnion { cells })
     }
 
-    /// The leaves that are in this union and not in the other (S2's `Difference()`). O(n + m), and the cells made. `OutOfMemory` if a
-    /// growth is refused.
+    /// The leaves that are in this union and not in the other (S2's `Difference()`). O(n + m + c) for the two unions' n and m cells and the
+    /// c cells made. `OutOfMemory` if a growth is refused.
     pub fn difference(&self, alloc: Global, other: &CellUnion) -> Result<CellUnion, OutOfMemory>
         ensures leaves { IfOk result (λ union. (leaf : Path) → IsLeafPath leaf → InRegion union leaf
             ↔ (InRegion self.now leaf × (InRegion other.now leaf → ⊥))) }

@@ -120,8 +120,8 @@ impl Bag {
         self.lists.list_at(k)
     }
 
-    /// The pairs held with a label, with their counts, by rising cell. O(n) from the first to the end, for n pairs
-    /// held with any label.
+    /// The pairs held with a label, with their counts, by rising cell. To go through all of them takes O(n) for the n pairs of the whole
+    /// bag, whatever their labels.
     pub fn of_label(&self, label: Label) -> LabelIter<'_>
         ensures list { result ≡ held_of label self.now.held }
         ensures within { IsBag self.now }
@@ -183,7 +183,7 @@ impl Bag {
     /// The change that takes another one back from this bag, however long ago that was made. For each pair of the other change it has the
     /// count that the bag has now, and that count less the difference (the count after less the count before). Before it allocates, it
     /// tests the three refusals in their order, each over all entries. `OutOfMemory` if a growth is refused. The clauses `within` and
-    /// `rises` are about `self` and `change`. O(m log n) for m entries and n pairs. S2 has no such call.
+    /// `rises` only restate what always holds of `self` and of `change`. O(m log n) for m entries and n pairs. S2 has no such call.
     pub fn reverting(&self, alloc: Global, change: &Change) -> Result<Change, RevertError>
         ensures entries { IfOk result (λ back. back ≡ change_back self.now.held change.now) }
         ensures accepted { OnOk result (revert_refusal self.now change.now ≡ None) }

@@ -6,9 +6,8 @@ use s2ix_bag_lists::HeldIter;
 use s2ix_bag_pairs::{Held, Label};
 use std::marker::Model;
 
-/// The pairs that a bag holds with one label, with their counts, by rising cell; made by
-/// [`Bag::of_label`](crate::Bag::of_label). Contracts see the list of those still to come. It goes over all that
-/// the bag holds: O(n) from the first to the end, for n pairs held with any label.
+/// The pairs that a bag holds with one label, with their counts, by rising cell; made by [`Bag::of_label`](crate::Bag::of_label). Contracts
+/// see the list of those still to come. To go through all of them takes O(n) for the n pairs of the whole bag, whatever their labels.
 #[derive(Clone, Debug, Drop)]
 pub struct LabelIter<'a> {
     label: Label,

@@ -1,8 +1,8 @@
 //! Scripts and the program: lines of text in, edits and queries carried out over a store, lines of text out.
 //!
 //! [`run`] reads a script from a source piece by piece, carries out one line after the other over a store, and writes the answers. What it
-//! writes is a function of what it reads: a refused line prints `no` with its reason and changes nothing, and after a fault the store is as
-//! the last whole line left it. [`command_of`] reads the program's words; `check_text`, `load_text`,
+//! writes follows from the store and from what it reads. A refused line prints `no` with its reason and changes nothing. After a fault the
+//! store is as the last line that was carried out left it. [`command_of`] reads the program's words; `check_text`, `load_text`,
 //! `replay_texts` and `rewind_texts` work on whole texts.
 //!
 //! ```

@@ -12,7 +12,7 @@ use s2ix_text_io::{RunFault, Sink};
 use std::alloc::Global;
 
 /// Reads a dump under the widest limits, and prints what it holds: `ok PAIRS COPIES`, or `no NAME LINE` for its first faulty line. It
-/// returns whether the dump was accepted. O(n) for n bytes, and one growth. Errors: see the crate.
+/// returns whether the dump was accepted. O(n) for n bytes, and one growth. Errors: `OutOfMemory` and `Write`, as `s2ix_cli_files` says.
 pub fn check_text<K: Sink>(alloc: Global, text: &[u8], sink: &mut K) -> Result<bool, RunFault>
     requires { CanCount (K.fault_count sink.old) }
     ensures told { Tells K.Sink (CheckAnswers widest text.now) sink.old sink.new result }

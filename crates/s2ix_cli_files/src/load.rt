@@ -15,7 +15,8 @@ use s2ix_text_io::{RunFault, Sink};
 use std::alloc::Global;
 
 /// Reads a dump under limits, and gives the store that starts from its bag. If the dump is refused, it prints `no NAME LINE` for the first
-/// faulty line, and returns `None`. O(n) for n bytes, and what [`Store::from_bag`] takes. Errors: see the crate.
+/// faulty line, and returns `None`. O(n) for n bytes, and what [`Store::from_bag`] takes. Errors: `OutOfMemory` and `Write`, as
+/// `s2ix_cli_files` says.
 pub fn load_text<K: Sink>(
     alloc: Global,
     text: &[u8],

@@ -14,7 +14,8 @@ use std::alloc::Global;
 /// Reads a dump and then a journal under the widest limits, applies the journal's changes to the dump's bag, and prints the dump of what
 /// they lead to. Else it prints the first thing that is refused: `no NAME LINE` for a line of the dump, `no journal NAME LINE` for one of
 /// the journal, `no Mismatch CHANGE ENTRY`, `no TooManyCopies CHANGE` or `no TooManyPairs CHANGE` for a change, all counted from 1. It
-/// returns whether all was accepted. It takes the time of the readers and of [`replay`](s2ix_bag::replay). Errors: see the crate.
+/// returns whether all was accepted. It takes the time of the readers and of [`replay`](s2ix_bag::replay). Errors: `OutOfMemory` and
+/// `Write`, as `s2ix_cli_files` says.
 pub fn replay_texts<K: Sink>(
     alloc: Global,
     dump: &[u8],
@@ -34,7 +35,8 @@ pub fn replay_texts<K: Sink>(
 
 /// Reads a dump and then a journal under the widest limits, takes the journal's changes back from the dump's bag, the last first, and
 /// prints the dump of what was before them. Else it prints the first thing that is refused, as [`replay_texts`] does. It returns whether
-/// all was accepted. It takes the time of the readers and of [`rewind`](s2ix_bag::rewind). Errors: see the crate.
+/// all was accepted. It takes the time of the readers and of [`rewind`](s2ix_bag::rewind). Errors: `OutOfMemory` and `Write`, as
+/// `s2ix_cli_files` says.
 pub fn rewind_texts<K: Sink>(
     alloc: Global,
     dump: &[u8],

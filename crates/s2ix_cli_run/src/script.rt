@@ -17,7 +17,7 @@ const PIECE: usize = 32768;
 /// Carries out the lines of a script over a store, and writes their answers: all of them, or with `stop` up to and including the first
 /// refused. Each line is carried out as soon as its line feed, or the end of the input, has come, and what was written is flushed before
 /// another piece is asked for. A line that is refused prints `no` with the refusal's name and changes nothing. At most `turns` pieces are
-/// read, and at most `LONGEST_LINE` bytes of a line are held. It ends whatever the source gives.
+/// read, and at most `LONGEST_LINE` bytes of a line are held. The run ends, whatever the source gives.
 ///
 /// The first fault ends the run: `Read` and `Write` at the first fault of the source and the sink (a failed flush is `Write`),
 /// `OutOfMemory` if a growth was refused, `ReaderTooLong` if `turns` pieces were read and none was the end. After `Read` and

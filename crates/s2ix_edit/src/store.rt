@@ -107,7 +107,7 @@ impl Store {
             IsEditRefusal error (edit_refusal self.old edit.now)) }
         ensures unchanged { OnErr result (self.new ≡ self.old) }
 
-        // Each refusal by itself: these are answered wherever they stand.
+        // Each refusal by itself. These six come exactly if they are due.
         ensures full { (result ≡ Err EditError.JournalFull)
             ↔ (length self.old.done ≡ changes_limit self.old.bag.limits) }
         ensures no_such_label { (result ≡ Err EditError.NoSuchLabel)
@@ -122,7 +122,7 @@ impl Store {
         ensures below_zero { (result ≡ Err EditError.BelowZero)
             ↔ (HasRoom self.old × (goes_below_zero self.old.done edit.now self.old.bag.held ≡ true)) }
 
-        // In place of the others `OutOfMemory` may come.
+        // These three come only if they are due; `OutOfMemory` may come in their place.
         ensures no_change { result ≡ Err EditError.NoChange
             → edited (history_of self.old) edit.now ≡ self.old.bag.held }
         ensures too_many_copies { result ≡ Err EditError.TooManyCopies
@@ -130,7 +130,7 @@ impl Store {
         ensures too_many_pairs { result ≡ Err EditError.TooManyPairs
             → pairs_limit self.old.bag.limits < length (edited (history_of self.old) edit.now) }
 
-        // But an edit of no copies wants no memory, and a `Revert` only where it isn't refused.
+        // An edit of no copies never gives `OutOfMemory`, and a `Revert` gives it only if no other refusal is due.
         ensures nothing { asks_no_copies edit.now ≡ true
             → HasRoom self.old
             → result ≡ Err EditError.NoChange }
@@ -147,10 +147,10 @@ impl Store {
 
     /// Adds the copies of each row to the count of the row's pair, as one change, and returns how many pairs gained copies. Rows come in
     /// any order, and the copies of a pair that comes more than once are added up. The change is recorded as that of an edit is: it can be
-    /// undone, done again and reverted. A refusal changes nothing. The first that applies to all rows together is returned: `JournalFull`,
-    /// then `NoChange` if no row has copies, then `TooManyCopies`, then `TooManyPairs`; `OutOfMemory` may replace the last two, and no
-    /// other comes. For m rows it costs O(m log m + m log n + p), if p of the n pairs that are held lie on the faces of the rows. This
-    /// project's own.
+    /// undone, done again and reverted. A refusal changes nothing. The rows are judged as one, and the first refusal that is due is
+    /// returned: `JournalFull`, then `NoChange` if no row has copies, then `TooManyCopies`, then `TooManyPairs`. `OutOfMemory` may replace
+    /// the last two; there is no other refusal. For m rows it costs O(m log m + m log n + p), if p of the n pairs that are held lie on the
+    /// faces of the rows. This project's own.
     pub fn add_all(&mut self, rows: &[Held]) -> Result<usize, EditError>
         ensures state { OnOk result (self.new ≡ after_rows self.old rows.now) }
         ensures history { OnOk result (history_of self.new
@@ -175,7 +175,7 @@ impl Store {
         }
     }
 
-    /// Carries planned entries out, whatever edit they come from.
+    // Carries planned entries out, whatever edit they come from.
     fn record_change(&mut self, change: Change) -> Result<usize, EditError>
         requires room { HasRoom self.old }
         requires matches { first_mismatch self.old.bag change ≡ None }

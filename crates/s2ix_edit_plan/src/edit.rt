@@ -15,8 +15,8 @@ pub enum Edit {
     /// Moves all copies of `source` to `target`, cell by cell. If the two are one label, nothing would change, and a store refuses that with
     /// `NoChange`.
     Relabel { source: Label, target: Label },
-    /// Adds one copy under the label for each cell of the level that overlaps no cell of the label, but shares an edge with a cell of the
-    /// level that does.
+    /// Adds a ring around the label: one copy under it for each cell of the level that overlaps no cell of the label, but shares an edge
+    /// with a cell of the level that overlaps one.
     Grow { label: Label, level: u8 },
     /// Replaces the label's pairs by one copy at each cell of the label's region.
     Normalise { label: Label },

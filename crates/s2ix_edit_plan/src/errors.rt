@@ -18,7 +18,7 @@ pub enum EditError {
     /// The level is above 30, or more than 8 above the level of a cell of the label.
     #[error("the level is too fine")]
     TooFine,
-    /// Fewer changes than the number can be undone, or the number is 0.
+    /// The number is 0, or greater than the number of changes that can be undone.
     #[error("no change has the number")]
     NoSuchChange,
     /// A count would be below 0.

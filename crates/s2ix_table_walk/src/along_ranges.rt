@@ -42,8 +42,8 @@ fn new_pair<R: Reader>(reader: &mut R, from: u64, place: Option<R::Place>) -> Op
     Some(held)
 }
 
-// The next pair that is met, or `None` where all have been. It reads only now where the pair that was given last leads, and branches on it
-// at once, so that the processor goes on along the chain before it has read that.
+// The next pair that is met, or `None` if all have been. It reads the place after the last pair only now and branches on it at once, so the
+// processor goes on before that read has ended.
 #[inline(always)]
 pub(crate) fn next_met<R: Reader>(
     reader: &mut R,
@@ -144,9 +144,9 @@ fn first_beyond(cells: &[CellId], k: usize, seen: u64) -> usize
     cell
 }
 
-// The last cell, from the k-th on, that begins before a leaf: in steps that double, then halve, by the cells' numbers, which are cheaper to
-// tell than where they begin. Then the next cell is tested, which may begin before the leaf though its number is after it. O(log m) if it
-// is the m-th.
+// The last cell, from the k-th on, that begins before a leaf. Steps double, then halve; they compare cell numbers, which are quicker to
+// read than first leaves. The next cell is tested too: it may begin before the leaf, though its number comes after it. O(log m) if it is
+// the m-th.
 #[inline(always)]
 fn last_begun(cells: &[CellId], k: usize, limit: u64) -> usize
     requires follow { FollowOneAnother cells.now }

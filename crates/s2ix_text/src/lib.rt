@@ -1,8 +1,8 @@
 //! Texts: a bag as a dump, a list of changes as a journal, both read back, and the sources and sinks that bytes go through.
 //!
-//! A bag has exactly one dump in each of the two versions that can hold it, and a list of changes has one journal. A reader accepts both
-//! versions, and no other text. What was written can be read back; a journal can be replayed over the bag that it began with, and rewound
-//! from the bag that it led to.
+//! A bag has exactly one dump in each of the two versions that can hold it, and so has a list of changes, none of them empty, with its
+//! journal. A reader accepts both versions, and no other text. What was written can be read back under limits that allow it; a journal can
+//! be replayed over the bag that it began with, and rewound from the bag that it led to.
 //!
 //! ```
 //! let mut sink = ToWrite::new(file);
@@ -16,8 +16,8 @@
 //!
 //! A [`Source`] gives bytes piece by piece, a [`Sink`] takes them, and each counts its faults; [`FromRead`] and [`ToWrite`] make them of
 //! std's readers and writers. Writing doesn't allocate and doesn't flush, and ends at the sink's first fault. Reading returns the first
-//! faulty line and its fault ([`DumpError`], [`JournalError`]). Each call takes O(n) for n bytes; [`replay`] and [`rewind`] also take O(log
-//! n) for each pair that they look up.
+//! faulty line and its fault ([`DumpError`], [`JournalError`]). Each call that reads or writes takes O(n) for n bytes; [`replay`] and
+//! [`rewind`] take O(n + m log n) for n pairs and m entries in all changes.
 //!
 //! The crates behind this one: `s2ix_text_io` has sources and sinks; `s2ix_text_write` writes dumps, journals and lists; `s2ix_text_parts`
 //! cuts lines and reads cells and numbers; `s2ix_text_read_dump` and `s2ix_text_read_journal` read the two texts; `s2ix_text_export` writes

@@ -5,7 +5,7 @@ ghost use Rattle.s2ix_text_io.specs.Faults.{CanCount, write_faults};
 
 use thiserror::Error;
 
-/// A sink failed to take bytes. It holds nothing more: the sink's own counter says how often it failed.
+/// A sink failed to take bytes. This error carries nothing: the sink itself counts how often it failed.
 #[derive(Clone, Copy, Debug, PartialEq, Eq, Hash, Error)]
 #[error("write fault")]
 pub struct WriteFault;

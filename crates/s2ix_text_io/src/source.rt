@@ -5,7 +5,7 @@ ghost use Rattle.s2ix_text_io.specs.Faults.{CanCount, read_faults};
 
 use thiserror::Error;
 
-/// A source failed to give bytes. It holds nothing more: the source's own counter says how often it failed.
+/// A source failed to give bytes. This error carries nothing: the source itself counts how often it failed.
 #[derive(Clone, Copy, Debug, PartialEq, Eq, Hash, Error)]
 #[error("read fault")]
 pub struct ReadFault;

@@ -169,8 +169,8 @@ fn read_below(
 /// Reads a dump of either version under limits. It returns the bag whose dump the text is, or the first line that has a fault, with the
 /// first fault of that line.
 ///
-/// Lines count from 1. `OutOfMemory` may be returned instead of a fault on line 2 or later. O(n) for n bytes; one growth for all pairs, of
-/// at most three bytes for each byte of the text, and those of the bag.
+/// Lines count from 1. `OutOfMemory` may be returned instead of a fault on line 2 or later. O(n) for n bytes. It allocates once for all
+/// pairs, at most three bytes for each byte of the text, and then what the bag takes.
 pub fn read_dump(alloc: Global, text: &[u8], limits: Limits) -> Result<Bag, DumpError>
     ensures limits { IfOk result (λ bag. bag.limits ≡ limits) }
     ensures within { IfOk result IsBag }

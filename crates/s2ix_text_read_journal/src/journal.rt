@@ -85,8 +85,8 @@ fn read_groups(
 /// Reads a journal of either version under limits. It returns the changes whose journal the text is, the oldest first, or the first line
 /// that has a fault, with the first fault of that line.
 ///
-/// Lines count from 1. `OutOfMemory` may be returned instead of a fault on line 2 or later. O(n) for n bytes; a growth for each group, of
-/// at most three bytes for each byte of the text, and those of the list.
+/// Lines count from 1. `OutOfMemory` may be returned instead of a fault on line 2 or later. O(n) for n bytes. It allocates once for each
+/// change, at most three bytes for each byte of the text in all, and then what the list takes.
 pub fn read_journal(alloc: Global, text: &[u8], limits: Limits) -> Result<Vec<Change>, JournalError>
     ensures changes { IfOk result (λ changes. All IsChangeList changes.items) }
     ensures within { IfOk result (λ changes. AreWithin limits changes.items) }

@@ -63,8 +63,9 @@ fn write_groups<K: Sink>(changes: &[Change], sink: &mut K) -> Result<(), WriteFa
     Ok(())
 }
 
-/// Writes the journal of a list of changes in the second version: for each change, the oldest first, a line that counts its entries and
-/// one line for each entry, between a header and a line that counts the changes. O(n) for n entries in all.
+/// Writes the journal of a list of changes in the second version: for each change, the oldest first, a line that counts its entries and one
+/// line for each entry, between a header and a line that counts the changes. An empty change is written as `change 0`, which no reader
+/// accepts; a store records none. O(n) for n entries in all.
 pub fn write_journal<K: Sink>(changes: &[Change], sink: &mut K) -> Result<(), WriteFault>
     requires { CanCount (K.fault_count sink.old) }
     ensures { Writes K.Sink sink.old sink.new result (journal_text changes.now) }
