@@ -9,12 +9,12 @@ use s2id_core::OutOfMemory;
 use s2ix_bag_pairs::{Entry, Held};
 use std::alloc::{AllocError, Global};
 use std::marker::Model;
-use std::rc::Rc;
+use std::sync::Arc;
 
 /// A shared list of held pairs, mostly those of one face. A list without pairs does not allocate. Contracts see the pairs.
 #[derive(Debug, Drop)]
 pub struct HeldList {
-    shared: Option<Rc<Vec<FlatHeld>>>,
+    shared: Option<Arc<Vec<FlatHeld>>>,
 }
 
 impl Model for HeldList {
@@ -41,7 +41,7 @@ impl HeldList {
         if held.is_empty() {
             return Ok(HeldList::empty());
         }
-        let shared = Rc::new(alloc, held)?;
+        let shared = Arc::new(alloc, held)?;
         Ok(HeldList {
             shared: Some(shared),
         })

@@ -1,22 +1,23 @@
 -- Shared tables, by what they show.
-use Rattle.std.proofs.Common.{◌≡◌, ℕ, ◌<◌, List, [], ◌∷◌, length, get_or, set, rc_value, refl, sym, ◌∙◌, ap₂, arith}
+use Rattle.std.proofs.Common.{◌≡◌, ℕ, ◌<◌, List, [], ◌∷◌, length, get_or, set, refl, sym, ◌∙◌, ap₂, arith}
 use Rattle.std.proofs.lemmas.List.{get_or-map, length-map, map-set}
-use Rattle.std.specs.declared.rc.Rc.{Rc}
+use Rattle.std.specs.Arc.{arc_value}
+use Rattle.std.specs.declared.sync.Arc.{Arc}
 use Rattle.s2ix_table_chain.specs.SpanTable.{SpanRanges}
 use Rattle.s2ix_table_faces.specs.FaceSpans.{spans_of, no_table, table_of}
 
-pub count_of : {Z : Type 0} (tables : List (Rc SpanRanges Z)) → length (spans_of tables) ≡ 6 → length tables ≡ 6
-count_of tables six = let len = length-map tables rc_value in omega arith
+pub count_of : {Z : Type 0} (tables : List (Arc SpanRanges Z)) → length (spans_of tables) ≡ 6 → length tables ≡ 6
+count_of tables six = let len = length-map tables arc_value in omega arith
 
 -- what one of them shows, once it is read
-pub seen_at : {Z : Type 0} (tables : List (Rc SpanRanges Z)) (face : ℕ) (d : Rc SpanRanges Z) (span : SpanRanges) → length tables ≡ 6
+pub seen_at : {Z : Type 0} (tables : List (Arc SpanRanges Z)) (face : ℕ) (d : Arc SpanRanges Z) (span : SpanRanges) → length tables ≡ 6
     → face < 6 → span ≡ (get_or tables face d).value → span ≡ table_of (spans_of tables) face
-seen_at tables face d span six lt is = is ∙ sym (get_or-map rc_value tables face d no_table (omega arith))
+seen_at tables face d span six lt is = is ∙ sym (get_or-map arc_value tables face d no_table (omega arith))
 
 -- one of them replaced
-pub spans_set : {Z : Type 0} (tables : List (Rc SpanRanges Z)) (face : ℕ) (t : Rc SpanRanges Z)
+pub spans_set : {Z : Type 0} (tables : List (Arc SpanRanges Z)) (face : ℕ) (t : Arc SpanRanges Z)
     → spans_of (set tables face t) ≡ set (spans_of tables) face t.value
-spans_set tables face t = map-set rc_value tables face t
+spans_set tables face t = map-set arc_value tables face t
 
 -- six tables, one by one
 pub six_are : (tables : List SpanRanges) (a b c d e f : SpanRanges) → length tables ≡ 6 → a ≡ table_of tables 0 → b ≡ table_of tables 1

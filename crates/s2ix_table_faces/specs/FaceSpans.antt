@@ -1,7 +1,7 @@
 -- The tables of faces, and the faces' spans of leaves.
 use Rattle.std.specs.Prelude.{◌≡◌, ℕ, ◌+◌, List, [], ◌∷◌, map, slice_index_or, Contains}
-use Rattle.std.specs.Rc.{rc_value}
-use Rattle.std.specs.declared.rc.Rc.{Rc}
+use Rattle.std.specs.Arc.{arc_value}
+use Rattle.std.specs.declared.sync.Arc.{Arc}
 use Rattle.s2id_core.specs.CellId.{face_of}
 pub use Rattle.s2ix_table_walk.specs.FaceWindows.{face_begin}
 use Rattle.s2ix_bag_pairs.specs.Collection.{Collection}
@@ -23,8 +23,8 @@ AreOverFaces face [] = Unit {0}
 AreOverFaces face (t ∷ ts) = IsOverFace face t × AreOverFaces (face + 1) ts
 
 -- what shared tables show
-abbrev pub spans_of : {Z : Type 0} → List (Rc SpanRanges Z) → List SpanRanges
-spans_of tables = map rc_value tables
+abbrev pub spans_of : {Z : Type 0} → List (Arc SpanRanges Z) → List SpanRanges
+spans_of tables = map arc_value tables
 
 -- what stands for the table of no face
 abbrev pub no_table : SpanRanges

@@ -26,14 +26,14 @@ use s2ix_table_ranges::RangeRow;
 use s2ix_table_reading::{BagReader, PairReader};
 use s2ix_table_walk::Window;
 use std::alloc::{AllocError, Global};
-use std::rc::Rc;
+use std::sync::Arc;
 
 /// A range table that keeps one table with shared chains for each face, and shares these with the tables that are made of it by
 /// [`FacedTable::rebuilt`]. Empty ranges that meet at the end of a face are one. Building takes O(n) for n pairs. S2 builds its
 /// whole index again.
 #[derive(Debug, Drop)]
 pub struct FacedTable {
-    tables: [Rc<SpanTable>; FACES],
+    tables: [Arc<SpanTable>; FACES],
     seats: [Seat; FACES],
     // for each face the place after that of its first range, and how many ranges are from there up to before its last one
     behind: [usize; FACES],
@@ -168,7 +168,7 @@ impl FacedTable {
     }
 
     // The tables of faces 0 to 5, joined. O(1).
-    fn together(tables: [Rc<SpanTable>; FACES]) -> FacedTable
+    fn together(tables: [Arc<SpanTable>; FACES]) -> FacedTable
         requires faces { AreOverFaces 0 (spans_of tables) }
         requires few { length (held_in (spans_of tables)) ≤ 1000000 }
         ensures { result.tables ≡ tables }
@@ -204,7 +204,7 @@ impl FacedTable {
     }
 
     // The tables of the six faces, each shared once more.
-    pub(crate) fn shared(&self) -> Result<[Rc<SpanTable>; FACES], AllocError>
+    pub(crate) fn shared(&self) -> Result<[Arc<SpanTable>; FACES], AllocError>
         ensures { IfOk result (λ shared. spans_of shared ≡ spans_of self.now.tables) }
     {
         Ok([

@@ -15,10 +15,10 @@ use s2ix_bag_lists::HeldList;
 use s2ix_table_chain::SpanTable;
 use s2ix_table_reading::{PairReader, changed_faces, read_list};
 use std::alloc::Global;
-use std::rc::Rc;
+use std::sync::Arc;
 
 // The table of these pairs, all on one face, over the span of its leaves. O(n) for n pairs.
-fn face_table(alloc: Global, face: u8, held: HeldList) -> Result<Rc<SpanTable>, OutOfMemory>
+fn face_table(alloc: Global, face: u8, held: HeldList) -> Result<Arc<SpanTable>, OutOfMemory>
     requires six { face < 6 }
     requires rises { IsCollection held }
     requires few { length held ≤ 1000000 }
@@ -28,7 +28,7 @@ fn face_table(alloc: Global, face: u8, held: HeldList) -> Result<Rc<SpanTable>, 
 {
     let from = u64::from(face) * FACE_NUMBERS + 1;
     let table = SpanTable::over(alloc, held, from, from + FACE_NUMBERS)?;
-    let shared = Rc::new(alloc, table)?;
+    let shared = Arc::new(alloc, table)?;
     Ok(shared)
 }
 
@@ -37,7 +37,7 @@ pub(crate) fn read_table<B: PairReader>(
     alloc: Global,
     reader: &mut B,
     face: u8,
-) -> Result<Rc<SpanTable>, OutOfMemory>
+) -> Result<Arc<SpanTable>, OutOfMemory>
     requires six { face < 6 }
     ensures over { IfOk result (λ table. IsOverFace face table.value) }
     ensures pairs { IfOk result (λ table. table.value.held ≡ held_on face (B.shown reader.old)) }
@@ -56,7 +56,7 @@ fn read_table_after<B: PairReader>(
     reader: &mut B,
     face: u8,
     before: &SpanTable,
-) -> Result<Rc<SpanTable>, OutOfMemory>
+) -> Result<Arc<SpanTable>, OutOfMemory>
     requires six { face < 6 }
     requires before { IsOverFace face before.now }
     ensures over { IfOk result (λ table. IsOverFace face table.value) }
@@ -68,7 +68,7 @@ fn read_table_after<B: PairReader>(
 {
     let held = read_list(alloc, reader, face)?;
     let table = before.after(alloc, held)?;
-    let shared = Rc::new(alloc, table)?;
+    let shared = Arc::new(alloc, table)?;
     Ok(shared)
 }
 
@@ -76,7 +76,7 @@ fn read_table_after<B: PairReader>(
 pub(crate) fn read_tables<B: PairReader>(
     alloc: Global,
     reader: &mut B,
-) -> Result<[Rc<SpanTable>; FACES], OutOfMemory>
+) -> Result<[Arc<SpanTable>; FACES], OutOfMemory>
     ensures { IfOk result (λ tables. AreTablesOf (B.shown reader.old) (spans_of tables)) }
 {
     Ok([
@@ -96,7 +96,7 @@ pub(crate) fn tables_after<B: PairReader>(
     table: &FacedTable,
     reader: &mut B,
     change: &Change,
-) -> Result<[Rc<SpanTable>; FACES], OutOfMemory>
+) -> Result<[Arc<SpanTable>; FACES], OutOfMemory>
     requires made { changed (held_in (spans_of table.now.tables)) change.now ≡ B.shown reader.old }
     ensures tables { IfOk result (λ tables. AreTablesOf (B.shown reader.old) (spans_of tables)) }
     ensures same { B.shown reader.new ≡ B.shown reader.old }

@@ -1,4 +1,5 @@
-use Rattle.std.proofs.Common.{◌≡◌, ℕ, ◌+◌, ◌<◌, ◌≤◌, [], ◌∷◌, length, get_or, rc_value, refl, ◌∙◌, ap, arith, subst}
+use Rattle.std.specs.Arc.{arc_value}
+use Rattle.std.proofs.Common.{◌≡◌, ℕ, ◌+◌, ◌<◌, ◌≤◌, [], ◌∷◌, length, get_or, refl, ◌∙◌, ap, arith, subst}
 use Rattle.std.proofs.lemmas.List.{length-map}
 use Rattle.s2ix_table_ranges.specs.Table.{leaf_end}
 use Rattle.s2ix_table_chain.specs.SpanTable.{SpanRanges, IsSpanTable}
@@ -16,7 +17,7 @@ few_ranges : (t : SpanRanges) → IsSpanTable t → length t.ranges ≤ 2000001
 few_ranges t is = let few = is.few in let ranges = is.ranges_few in omega arith
 
 six : (c : goal.After-inner_count-6) → length (spans_of c.args.tables) ≡ 6
-six c = let len = length-map c.args.tables rc_value in omega arith
+six c = let len = length-map c.args.tables arc_value in omega arith
 
 known : (c : goal.After-inner_count-6) → (i : ℕ) (x : SpanRanges) → i < 6 → IsSpanTable (get_or (spans_of c.args.tables) i x)
 known c =
