@@ -6,7 +6,7 @@ ghost use Rattle.s2id_cube.specs.Loops.{square_at, AreWoven};
 use crate::curve::{place_entry, square_entry};
 use s2id_core::CellId;
 
-/// A cell as a square of its level's grid on its face (S2's `(face, i, j)` coordinates, there of leaves).
+/// A cell as a square of its level's grid on its face (S2's `(face, i, j)` coordinates, which in S2 are a leaf's).
 #[derive(Clone, Copy, PartialEq, Eq, Hash, Debug)]
 pub struct FaceIj {
     /// The face, 0 to 5.
@@ -21,7 +21,7 @@ pub struct FaceIj {
     pub orientation: u8,
 }
 
-/// The square of a cell (S2's `ToFaceIJOrientation`, there in leaf squares). Eight steps of four levels.
+/// The square of a cell (S2's `ToFaceIJOrientation`, which counts leaf squares). Eight steps of four levels.
 pub fn to_face_ij(cell: CellId) -> FaceIj
     ensures { result ≡ square_of (path_of cell) }
 {
@@ -39,7 +39,7 @@ pub fn to_face_ij(cell: CellId) -> FaceIj
 }
 
 /// The cell of a square, or `None` for a face above 5, a level above 30, or an `i` or `j` of `2^level` or more
-/// (S2's `FromFaceIJ`, there for leaves). Eight steps of four levels.
+/// (S2's `FromFaceIJ`, which takes a leaf's). Eight steps of four levels.
 pub fn from_face_ij(face: u8, i: u32, j: u32, level: u8) -> Option<CellId>
     ensures found { IsSome result ↔ ((face < 6) × (level ≤ 30) × (i < 2 ^ level) × (j < 2 ^ level)) }
     ensures face { IfSome result (λ cell. (square_of (path_of cell)).face ≡ face) }

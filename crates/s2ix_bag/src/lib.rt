@@ -1,9 +1,9 @@
 //! Bags: collections of labelled cells with counts, and the changes between two of them.
 //!
 //! A [`Bag`] is a finite map from pairs of a cell and a label to counts above 0, within stated [`Limits`]. A [`Change`] lists what differs
-//! between two bags: each pair with its count before and after. Applied to a bag that has the counts before, a change gives the bag that
-//! has the counts after. A change can be taken back even after later ones: its difference is subtracted from each count. This is refused
-//! if a count would fall below 0 or pass a limit.
+//! between two bags: each pair with its count before and after. If a bag has the counts before, applying the change gives the bag with the
+//! counts after. A change can be taken back even after later ones: its difference is subtracted from each count. This is refused if a count
+//! would fall below 0 or pass a limit.
 //!
 //! [`Bag::applied`] and [`Bag::reverted`] leave their bag as it is and give another one, which shares the pairs of each face that the
 //! change leaves alone. [`Change::between`], [`Change::from_entries`] and [`Change::inverse`] make changes, and [`Bag::reverting`] makes

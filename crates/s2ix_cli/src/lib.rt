@@ -1,8 +1,8 @@
 //! Scripts and the program: lines of text in, edits and queries carried out over a store, lines of text out.
 //!
 //! [`run`] reads a script from a source piece by piece, carries out one line after the other over a store, and writes the answers. What it
-//! writes follows from the store and from what it reads. A refused line prints `no` with its reason and changes nothing. A fault leaves
-//! the store as the last line carried out left it. [`command_of`] reads the program's words; `check_text`, `load_text`,
+//! writes follows from the store and from what it reads. A refused line prints `no` with its reason and changes nothing. After a fault the
+//! store keeps what the lines carried out so far did. [`command_of`] reads the program's words; `check_text`, `load_text`,
 //! `replay_texts` and `rewind_texts` work on whole texts.
 //!
 //! ```
@@ -16,7 +16,8 @@
 //! ```
 //!
 //! `docs/FORMATS.md` lists the instructions and their answers. A line has at most [`LONGEST_LINE`] bytes; a run asks its source for at
-//! most `turns` pieces. [`RunFault`] says what ended a run early: a read, a write, a lack of memory, or a source without an end.
+//! most `turns` pieces. [`RunFault`] says what ended a run early: a read, a write, a lack of memory, or a source that did not end within
+//! `turns` pieces.
 //!
 //! The crates behind this one: `s2ix_cli_fields` cuts a line into fields; `s2ix_cli_script` says what a line asks for; `s2ix_cli_answers`
 //! writes what queries find; `s2ix_cli_step` carries out one line; `s2ix_cli_run` runs a script; `s2ix_cli_files` checks, loads, replays and

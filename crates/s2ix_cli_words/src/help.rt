@@ -38,8 +38,8 @@ pub(crate) const AFTER_RUN: &str = "Instructions, one on a line:
   labels TOKEN..               Prints the labels of these pairs
   ranges                       Prints each range of leaves that have the same pairs
   region LABEL                 Prints the normal union of the label's cells
-  common A B                   Prints the cells of the leaves that both A and B have
-  only A B                     Prints the cells of the leaves that A has and B hasn't
+  common A B                   Prints the cells of the leaves that the labels A and B both have
+  only A B                     Prints the cells of the leaves that label A has and label B hasn't
   path TOKEN                   Prints the face and the child positions of the cell
   neighbors TOKEN              Prints the four neighbors over the cell's sides
   face TOKEN                   Prints the square of the cell on its face

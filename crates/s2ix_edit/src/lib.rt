@@ -6,7 +6,7 @@
 //! beside it, for queries.
 //!
 //! Each step rebuilds only the faces that it changes, in a time that grows with the pairs held there. A store drops no change by itself:
-//! once as many can be undone as its limits allow, edits are refused until one is undone or all are forgotten.
+//! when the number of changes that can be undone reaches the limit, edits are refused until one is undone or all are forgotten.
 #![tactic(auto)]
 
 pub mod laws;

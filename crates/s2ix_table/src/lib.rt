@@ -21,7 +21,7 @@
 //! | Which pairs lie over a leaf? | [`chain_at`] | O(log n + k) |
 //! | Which range has a leaf? | [`RangeTable::find`], [`RangeIter::seek`] | O(log n) |
 //! | What lies over each range? | [`ranges`], [`contents`] | O(1) a step |
-//! | What did a query read? | `visit_counted`, or [`walk`] over a [`Meter`]: a [`Cost`] | as `visit` |
+//! | What did a query read? | the `cost` of `visit_counted`, or of a [`Meter`] after a [`walk`]: a [`Cost`] | as `visit` |
 //!
 //! A table of n pairs has at most 2 * n + 1 ranges. [`ChainTable`] shares its chains: each pair has one place in it. [`FacedTable`] has one
 //! such table for each face and rebuilds only the faces of a change ([`FacedTable::rebuilt`], over a [`BagReader`]): a store keeps one.
