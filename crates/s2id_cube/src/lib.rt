@@ -1,9 +1,9 @@
 //! Cells as squares on the faces of the cube: coordinates, neighbours over edges, borders.
 //!
 //! [`to_face_ij`] gives a cell's column and row in the grid of its own level on its face, and [`from_face_ij`] leads back.
-//! [`edge_neighbors`] gives the four cells that share an edge with a cell, and [`border`] those of a given level, outside the cell, that
-//! do; both work across the edges of the cube. [`curve`] has the two tables by which squares and cells are found; it is public so that a
-//! law can speak of them.
+//! [`edge_neighbors`] gives the four cells of a cell's own level that share an edge with it. [`border`] gives the cells of a given level,
+//! outside the cell, that share an edge with it. Both work across the edges of the cube. [`curve`] has the two tables by which squares and
+//! cells are found; it is public so that a law, a proved fact with a name, can speak of them.
 //!
 //! Cells that share only a corner are no neighbours here. A border is at most eight levels finer than its cell. Only [`border`] allocates.
 #![tactic(auto)]

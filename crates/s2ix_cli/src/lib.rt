@@ -2,7 +2,7 @@
 //!
 //! [`run`] reads a script from a source piece by piece, carries out one line after the other over a store, and writes the answers. What it
 //! writes follows from the store and from what it reads. A refused line prints `no` with its reason and changes nothing. After a fault the
-//! store keeps what the lines carried out so far did. [`command_of`] reads the program's words; `check_text`, `load_text`,
+//! store keeps the effects of the lines already carried out. [`command_of`] reads the program's words; `check_text`, `load_text`,
 //! `replay_texts` and `rewind_texts` work on whole texts.
 //!
 //! ```

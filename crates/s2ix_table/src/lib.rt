@@ -21,7 +21,7 @@
 //! | Which pairs lie over a leaf? | [`chain_at`] | O(log n + k) |
 //! | Which range has a leaf? | [`RangeTable::find`], [`RangeIter::seek`] | O(log n) |
 //! | What lies over each range? | [`ranges`], [`contents`] | O(1) a step |
-//! | What did a query read? | the `cost` of `visit_counted`, or of a [`Meter`] after a [`walk`]: a [`Cost`] | as `visit` |
+//! | What did a query read? | a [`Cost`], from `visit_counted`, or from a [`Meter`] after a [`walk`] | as `visit` |
 //!
 //! A table of n pairs has at most 2 * n + 1 ranges. [`ChainTable`] shares its chains: each pair has one place in it. [`FacedTable`] has one
 //! such table for each face and rebuilds only the faces of a change ([`FacedTable::rebuilt`], over a [`BagReader`]): a store keeps one.
@@ -29,7 +29,7 @@
 //!
 //! The crates behind this one: `s2ix_table_ranges` defines the ranges of a bag and what meets a target; `s2ix_table_walk` finds what meets a
 //! target and counts what it reads; `s2ix_table_queries` has the trait and its queries; `s2ix_table_chain` builds shared chains;
-//! `s2ix_table_reading` reads a bag and counts that; `s2ix_table_faces` joins the tables of six faces.
+//! `s2ix_table_reading` reads a bag and counts its reads; `s2ix_table_faces` joins the tables of six faces.
 #![tactic(auto)]
 
 pub mod laws;

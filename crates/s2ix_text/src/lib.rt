@@ -1,8 +1,8 @@
 //! Texts: a bag as a dump, a list of changes as a journal, both read back, and the sources and sinks that bytes go through.
 //!
-//! Each text has two versions. In each version that can hold it, a bag has exactly one dump, and a list of changes, none of them empty,
-//! exactly one journal. A reader accepts these texts and no other, if its limits allow what they hold; a journal can be replayed over the
-//! bag that it began with, and rewound from the bag that it led to.
+//! Each text has two versions. A bag has exactly one dump in each version that can hold it. A list of changes, none of them empty, has
+//! exactly one journal in each version that can hold it. A reader accepts these texts and no other, if its limits allow what they hold; a
+//! journal can be replayed over the bag that it began with, and rewound from the bag that it led to.
 //!
 //! ```
 //! let mut sink = ToWrite::new(file);
