@@ -1,12 +1,12 @@
-//! The address of a boxed store, as a value that owns what lies there. This is the only module with a raw pointer, and its three functions
-//! are proved by hand.
+//! The address of a boxed store, as a value that owns what lies there. This is the only module with a raw pointer: its three functions, and
+//! that an address may go to another thread, are proved by hand.
 ghost use Rattle.std.specs.Prelude.{◌≡◌, Option, None, Some, IsSome};
 ghost use Rattle.s2ix_edit_plan.specs.State.{State};
 ghost use Rattle.s2ix_handle.specs.Address.{code_of_state, owned_at};
 
 use s2ix_edit::Store;
 use std::alloc::Global;
-use std::marker::Model;
+use std::marker::{Model, Send};
 use std::ptr::null_mut;
 
 /// Where a store lies, with the store itself; or null, with nothing. `state` is that of the store. To drop one frees nothing: what is not
@@ -22,6 +22,9 @@ pub struct Address {
 impl Model for Address {
     ghost also_owns = { λ a. owned_at a.state a.alloc a.start };
 }
+
+// It may go to another thread, since the store may that lies there, and any thread may free a block of the heap.
+unsafe impl Send for Address {}
 
 impl Address {
     /// The null address.
