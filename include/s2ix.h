@@ -21,9 +21,9 @@ extern "C" {
 
 /* A store, or none. It starts as {0}, which is closed. Never copy it by assignment.
 
-   A store and those that s2ix_copy made of it, or of its copies, share memory and count its users without atomics. So one thread at a time
-   may be in calls on all of them together: keep them on one thread, or hold one lock, the same for all of them, during each call. A store
-   that shares nothing with another, opened or loaded by itself, may have a lock of its own. The proofs speak of one thread. */
+   A handle may go from thread to thread, which is proved. One call at a time takes it, queries too: a lock, a thread's start or join, or
+   a sequentially consistent atomic must order its calls. Different handles may be used at once on different threads. A store and those that
+   s2ix_copy made of it share memory, and count its users by atomics, so this holds of them too. */
 typedef struct s2ix_handle {
     void *address;
     bool is_open;
@@ -98,7 +98,7 @@ uint32_t s2ix_rewind(s2ix_handle *handle, const uint8_t *dump, size_t dump_len, 
                      uint32_t copies, uint32_t changes, size_t *place, size_t *entry);
 
 /* Opens `copy` on a new store that starts from what the handle's store holds, with nothing to undo or redo. If the call is not refused, it
-   frees the store that `copy` had. The two stores share memory, so only one thread at a time may use either. O(n). S2IX_CLOSED,
+   frees the store that `copy` had. The two stores share memory, and may be used at once on different threads. O(n). S2IX_CLOSED,
    S2IX_OUT_OF_MEMORY. */
 uint32_t s2ix_copy(s2ix_handle *handle, s2ix_handle *copy);
 

@@ -4,7 +4,7 @@
 // names of S2's own class over such a store (s2ix_cell_index.hpp): a program for S2 changes one include and one type, and gains edits and undo.
 //
 // Cells are S2's 64-bit ids. A call that is refused throws and leaves the store as it was: std::bad_alloc if memory is refused, Error for each
-// other reason. One thread at a time may use an Index, also for queries, and all copies of it: they share memory without atomics.
+// other reason. One thread at a time may use an Index, also for queries. Different ones may be used at once, also an Index and its copies.
 //
 // The namespace cell has calls on single cells, cell_union those on unions of cells.
 #ifndef S2IX_HPP

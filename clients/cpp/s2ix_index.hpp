@@ -352,8 +352,8 @@ class Index {
   Index& operator=(const Index&) = delete;
   ~Index() { close(); }
 
-  // An index that starts from what this one holds, with nothing to undo or redo. The two share memory, so only one thread at a time may use
-  // either. O(n). S2IX_CLOSED.
+  // An index that starts from what this one holds, with nothing to undo or redo. The two share memory, and may be used at once on different
+  // threads. O(n). S2IX_CLOSED.
   Index copy() const {
     Index index{Closed()};
     detail::check(s2ix_copy(&handle_, &index.handle_));

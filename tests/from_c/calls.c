@@ -5,9 +5,11 @@
 #include <stdio.h>
 #include <string.h>
 
-/* How many calls of cells and unions answer other than they should, in cells.c, and how many of ranges, in ranges.c. */
+/* How many calls of cells and unions answer other than they should, in cells.c, how many of ranges, in ranges.c, and how many on several
+   threads, in threads.c. */
 int cell_faults(void);
 int range_faults(void);
+int thread_faults(void);
 
 static int faults;
 
@@ -556,7 +558,7 @@ static void journalled(void) {
 }
 
 int main(void) {
-    faults = cell_faults() + range_faults();
+    faults = cell_faults() + range_faults() + thread_faults();
     refused_while_closed();
     untold_while_closed();
     opened();

@@ -64,7 +64,7 @@ class Index:
     and numbers out of range, are refused first. Besides what it names, each edit may raise Closed, JournalFull, NoChange, TooManyCopies,
     TooManyPairs or OutOfMemory.
 
-    Close an index by `close`, or use it in a `with`. One thread at a time may use an index and all copies of it.
+    Close an index by `close`, or use it in a `with`. One thread at a time may use an index; its copies may be used on other threads.
 
     >>> with Index() as index:
     ...     index.add_union(["04", "0c"], 9)
@@ -150,8 +150,8 @@ class Index:
         self.close()
 
     def copy(self) -> Index:
-        """An index of its own that starts from what is held, under the same limits, with nothing to undo or redo. They share memory, so
-        only one thread at a time may use either. O(n). Raises Closed or OutOfMemory."""
+        """An index of its own that starts from what is held, under the same limits, with nothing to undo or redo. They share memory,
+        and may be used on different threads. O(n). Raises Closed or OutOfMemory."""
         other = type(self).__new__(type(self))
         other._prepare()
         expect(self._calls.s2ix_copy(self._at_handle, other._at_handle))

@@ -1,4 +1,5 @@
-//! Tests of long histories of stores: beside a plain model that sums up the changes that stand, and of the table that follows the bag.
+//! Tests of long histories of stores: beside a plain model that sums up the changes that stand, and of the table that follows the bag. And
+//! of what may go to another thread.
 //!
 //! In `refused_tests` each growth of a step is refused in turn: `tests/hostile` runs each test there once for each growth that it asks for.
 //! The step tells so and has changed nothing, and made again it answers as it does with memory.
@@ -10,3 +11,5 @@ mod refused_tests;
 mod sum_tests;
 #[cfg(test)]
 mod table_tests;
+#[cfg(test)]
+mod thread_tests;
