@@ -16,7 +16,9 @@ fn may_be_read_at_once<T: Sync>() -> bool {
 
 #[test]
 fn stores_and_their_parts_cross_threads(rt: HostRuntime) {
-    assert!(rt; may_go::<Bag>() && may_go::<ChainTable>() && may_go::<FacedTable>() && may_go::<Store>());
+    assert!(rt;
+        may_go::<Bag>() && may_go::<ChainTable>() && may_go::<FacedTable>() && may_go::<Store>()
+    );
     assert!(rt; may_be_read_at_once::<Bag>() && may_be_read_at_once::<ChainTable>());
     assert!(rt; may_be_read_at_once::<FacedTable>() && may_be_read_at_once::<Store>());
 }
