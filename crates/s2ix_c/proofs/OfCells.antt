@@ -9,8 +9,8 @@ use Rattle.s2id_cube.specs.Border.{IsOnBorder}
 use Rattle.s2id_union.specs.NormalForm.{normal_form}
 use Rattle.s2ix_c.specs.Cells.{IsBorder}
 use Rattle.s2ix_c.specs.CellUnions.{Decides}
-use Rattle.s2ix_c.specs.Asked.{AreCells}
-use Rattle.s2ix_c.specs.Status.{done}
+use Rattle.s2ix_c_calls.specs.Asked.{AreCells}
+use Rattle.s2ix_c_calls.specs.Status.{done}
 
 pub bordered :
     (c : CellId) (id level : ℕ) (cells : List CellId)

@@ -3,7 +3,7 @@ use Rattle.std.proofs.Common.{ℕ, List, Result, subst, inl, inr}
 use Rattle.std.specs.Prelude.{Option}
 use Rattle.s2ix_edit_plan.specs.declared.edit.Edit.{Edit}
 use Rattle.s2ix_edit_plan.specs.State.{State}
-use Rattle.s2ix_c.specs.Asked.{AsksUnion}
+use Rattle.s2ix_c_calls.specs.Asked.{AsksUnion}
 use Rattle.s2ix_c.specs.Calls.{DoesEdit, DoesUnion}
 
 module _ (status number : ℕ) (old new : Option State) where

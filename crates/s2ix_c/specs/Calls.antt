@@ -1,21 +1,19 @@
 -- What calls on a handle make of its store.
-use Rattle.std.specs.Prelude.{◌≡◌, ◌≢◌, ◌⊎◌, ℕ, Option, Some, None, Result, Ok, Err, [], length, List}
+use Rattle.std.specs.Prelude.{◌≡◌, ◌≢◌, ◌⊎◌, ℕ, Option, Some, None, Result, Ok, Err, List}
 use Rattle.s2id_core.specs.declared.cell_id.CellId.{CellId}
 use Rattle.s2ix_bag_pairs.specs.declared.limits.Limits.{Limits}
 use Rattle.s2ix_bag_pairs.specs.declared.pair.Held.{Held}
 use Rattle.s2ix_bag_pairs.specs.Limits.{pairs_limit, count_limit, changes_limit}
 use Rattle.s2ix_edit_plan.specs.declared.edit.Edit.{Edit}
-use Rattle.s2ix_edit_plan.specs.Refusals.{edit_refusal}
-use Rattle.s2ix_edit_plan.specs.Rows.{rows_change, rows_refusal}
-use Rattle.s2ix_edit_plan.specs.State.{State, change_of, starting_at}
+use Rattle.s2ix_edit_plan.specs.State.{State, starting_at}
 use Rattle.s2ix_bag_pairs.specs.Collection.{Collection}
 use Rattle.s2ix_text_write.specs.Dump.{IsDump}
 use Rattle.s2ix_text_read_dump.specs.declared.errors.DumpFault.{DumpFault}
 use Rattle.s2ix_text_read_dump.specs.DumpFaults.{dump_fault}
-use Rattle.s2ix_edit.specs.Steps.{after_edit, after_rows, after_undo, after_redo, undo_size, redo_size}
-use Rattle.s2ix_c.specs.Asked.{AreCells, IsFirstWrong, LacksCell, NameHeld, asked_add_union}
-use Rattle.s2ix_c.specs.declared.rows.Row.{Row}
-use Rattle.s2ix_c.specs.Status.{done, closed, no_cell, out_of_memory, nothing_to_undo, nothing_to_redo, IsRefusal}
+use Rattle.s2ix_c_calls.specs.Asked.{AreCells, IsFirstWrong, LacksCell, NameHeld, asked_add_union}
+use Rattle.s2ix_c_calls.specs.declared.rows.Row.{Row}
+use Rattle.s2ix_c_calls.specs.Status.{done, closed, no_cell, out_of_memory}
+use Rattle.s2ix_c_calls.specs.Stores.{IsAdded, IsEdited}
 
 -- a call on a handle: a closed one stays closed, and C holds; an open one stays open, and P holds of its store's states before and after
 abbrev pub Through : (State → State → Type 0) → Type 0 → Option State → Option State → Type 0
@@ -31,27 +29,10 @@ Tells number_of status number old new =
 abbrev pub Refuses : ℕ → ℕ → ℕ → Option State → Option State → Type 0
 Refuses why status number old new = (status ≡ why) × (number ≡ 0) × (new ≡ old)
 
--- an edit of a store: if it is done, the store is the one after it; else it is as it was, and the status says why
-pub record IsEdited (edit : Edit) (status number : ℕ) (s t : State) : Type 0 where
-  pub accepted : status ≡ done → (t ≡ after_edit s edit) × (number ≡ length (change_of s edit)) × (edit_refusal s edit ≡ None)
-  pub refused : status ≢ done → (t ≡ s) × (number ≡ 0) × IsRefusal status (edit_refusal s edit)
-
 -- what is asked for, carried out on a handle: an edit, or the status of what is wrong with its numbers
 abbrev pub DoesEdit : Result Edit ℕ → ℕ → ℕ → Option State → Option State → Type 0
 DoesEdit (Ok edit) status number old new = Through (IsEdited edit status number) ((status ≡ closed) × (number ≡ 0)) old new
 DoesEdit (Err why) status number old new = Refuses why status number old new
-
--- an undo of a store
-pub record IsUndone (status number : ℕ) (s t : State) : Type 0 where
-  pub accepted : status ≡ done → (t ≡ after_undo s) × (number ≡ undo_size s) × (s.done ≢ [])
-  pub refused : status ≢ done → (t ≡ s) × (number ≡ 0) × ((status ≡ nothing_to_undo) ⊎ (status ≡ out_of_memory))
-  pub nothing : (status ≡ nothing_to_undo → s.done ≡ []) × (s.done ≡ [] → status ≡ nothing_to_undo)
-
--- a redo of a store
-pub record IsRedone (status number : ℕ) (s t : State) : Type 0 where
-  pub accepted : status ≡ done → (t ≡ after_redo s) × (number ≡ redo_size s) × (s.undone ≢ [])
-  pub refused : status ≢ done → (t ≡ s) × (number ≡ 0) × ((status ≡ nothing_to_redo) ⊎ (status ≡ out_of_memory))
-  pub nothing : (status ≡ nothing_to_redo → s.undone ≡ []) × (s.undone ≡ [] → status ≡ nothing_to_redo)
 
 -- the handle is open, and its store is in the state that the limits with these numbers have
 abbrev pub Opens : ℕ → ℕ → ℕ → (Limits → State) → Option State → Type 0
@@ -81,19 +62,9 @@ pub record IsCopied (s : State) (status : ℕ) (old new : Option State) : Type 0
   pub accepted : status ≡ done → new ≡ Some (starting_at s.bag)
   pub refused : status ≢ done → (status ≡ out_of_memory) × (new ≡ old)
 
--- rows added to the counts of a store: if it is done, they are one change; else the store is as it was, and the status says why
-pub record IsAdded (rows : List Held) (status number : ℕ) (s t : State) : Type 0 where
-  pub accepted : status ≡ done → (t ≡ after_rows s rows) × (number ≡ length (rows_change s.bag.held rows)) × (rows_refusal s rows ≡ None)
-  pub refused : status ≢ done → (t ≡ s) × (number ≡ 0) × IsRefusal status (rows_refusal s rows)
-
 -- rows, carried out on a handle; or one of them is wrong, and the number is the place of the first that is; or memory is wanted
 abbrev pub DoesRows : List Row → ℕ → ℕ → Option State → Option State → Type 0
 DoesRows rows status number old new =
     ((held : List Held) × NameHeld rows held × Through (IsAdded held status number) ((status ≡ closed) × (number ≡ 0)) old new)
     ⊎ (IsFirstWrong rows number status × (new ≡ old))
     ⊎ Refuses out_of_memory status number old new
-
--- a store is empty under the limits that it had, with nothing to undo or redo; or memory is wanted, and it is as it was
-pub record IsCleared (status : ℕ) (s t : State) : Type 0 where
-  pub accepted : status ≡ done → t ≡ starting_at (record { limits = s.bag.limits; held = [] })
-  pub refused : status ≢ done → (status ≡ out_of_memory) × (t ≡ s)

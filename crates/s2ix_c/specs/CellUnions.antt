@@ -7,9 +7,9 @@ use Rattle.s2id_core.specs.Path.{Path, path_at}
 use Rattle.s2id_union.specs.NormalForm.{cells_where, is_covered, normal_form}
 use Rattle.s2id_union.specs.Range.{IsLeafRange}
 use Rattle.s2id_union.specs.Region.{IsLeafList}
-use Rattle.s2ix_c.specs.Asked.{AreCells, LacksCell}
-use Rattle.s2ix_c.specs.Lists.{IsPut, IsRefused}
-use Rattle.s2ix_c.specs.Status.{done, no_cell, no_span, out_of_memory}
+use Rattle.s2ix_c_calls.specs.Asked.{AreCells, LacksCell}
+use Rattle.s2ix_c_calls.specs.Lists.{IsPut, IsRefused}
+use Rattle.s2ix_c_calls.specs.Status.{done, no_cell, no_span, out_of_memory}
 
 -- the numbers of the normal list of a region
 abbrev pub normal_numbers : List CellId → List ℕ

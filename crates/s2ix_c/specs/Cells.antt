@@ -10,8 +10,8 @@ use Rattle.s2id_cube.specs.Neighbor.{neighbor_number}
 use Rattle.s2id_cube.specs.Square.{square_of}
 use Rattle.s2ix_edit_plan.specs.declared.errors.EditError.TheVariants.{TooFine}
 use Rattle.s2ix_c.specs.declared.cells.Square.{Square}
-use Rattle.s2ix_c.specs.Lists.{IsPut}
-use Rattle.s2ix_c.specs.Status.{done, no_cell, out_of_memory, coarser, edit_status}
+use Rattle.s2ix_c_calls.specs.Lists.{IsPut}
+use Rattle.s2ix_c_calls.specs.Status.{done, no_cell, out_of_memory, coarser, edit_status}
 
 -- the number is that of the cell with this path
 abbrev pub IsCellAt : Path → ℕ → Type 0

@@ -1,46 +1,16 @@
 //! Unions of cells by their numbers, without a handle. A list may have its cells in any order, and repeated or not.
 
-ghost use Rattle.std.specs.Prelude.{◌≡◌, ◌⊎◌, ◌&&◌, ◌||◌, not, List, IfErr, IfOk};
+ghost use Rattle.std.specs.Prelude.{◌&&◌, ◌||◌, not};
 ghost use Rattle.s2id_core.specs.declared.cell_id.CellId.{CellId};
-ghost use Rattle.s2id_union.specs.NormalForm.{normal_form};
 ghost use Rattle.s2id_union.specs.Region.{HasAllOf, Meets};
 ghost use Rattle.s2ix_c.specs.CellUnions.{CountsLeaves, Decides, ListsOfTwo, ListsSpan, normal_numbers, numbers_by};
-ghost use Rattle.s2ix_c.specs.Asked.{AreCells, LacksCell};
-ghost use Rattle.s2ix_c.specs.Lists.{ListsOf};
-ghost use Rattle.s2ix_c.specs.Status.{no_cell, out_of_memory};
+ghost use Rattle.s2ix_c_calls.specs.Lists.{ListsOf};
 
-use crate::rows::put_cells;
-use crate::status::{DONE, NO_CELL, NO_SPAN, OUT_OF_MEMORY};
-use crate::unions::cells_of;
 use s2id_core::CellId;
 use s2id_union::{CellUnion, RangeError};
+use s2ix_c_calls::status::{DONE, NO_CELL, NO_SPAN, OUT_OF_MEMORY};
+use s2ix_c_calls::{normal_of, normals_of, put_cells};
 use std::alloc::Global;
-
-// The union of cells by their numbers, or why there is none: a number that is no cell's, or want of memory.
-fn normal_of(alloc: Global, ids: &[u64]) -> Result<CellUnion, u32>
-    ensures union { IfOk result (λ union. (cells : List CellId) × AreCells ids.now cells × (union ≡ normal_form cells)) }
-    ensures refused { IfErr result (λ why. ((why ≡ no_cell) × LacksCell ids.now) ⊎ (why ≡ out_of_memory)) }
-{
-    let cells = match cells_of(alloc, ids) {
-        Ok(cells) => cells,
-        Err(why) => return Err(why),
-    };
-    match CellUnion::normalise(alloc, cells.as_slice()) {
-        Ok(union) => Ok(union),
-        Err(_) => Err(OUT_OF_MEMORY),
-    }
-}
-
-// Two unions of cells by their numbers, or why there are none.
-fn normals_of(alloc: Global, first: &[u64], second: &[u64]) -> Result<(CellUnion, CellUnion), u32>
-    ensures first { IfOk result (λ both. (cells : List CellId) × AreCells first.now cells × (both.0 ≡ normal_form cells)) }
-    ensures second { IfOk result (λ both. (cells : List CellId) × AreCells second.now cells × (both.1 ≡ normal_form cells)) }
-    ensures refused { IfErr result (λ why. ((why ≡ no_cell) × (LacksCell first.now ⊎ LacksCell second.now)) ⊎ (why ≡ out_of_memory)) }
-{
-    let first = normal_of(alloc, first)?;
-    let second = normal_of(alloc, second)?;
-    Ok((first, second))
-}
 
 /// The normal list of the cells: rising, no cell within another, and no four that are all the children of one.
 #[unsafe(no_mangle)]

@@ -9,10 +9,10 @@ ghost use Rattle.s2id_core.specs.Spelled.{cell_spelled};
 ghost use Rattle.s2id_core.specs.Token.{canonical_token};
 ghost use Rattle.s2ix_c.specs.Cells.{HasBorder, HasSquare, IsBorder, IsBorderRefusal, IsCellAt, IsInGrid, IsNextTo, ListsBorder, PutsText, Tells, TellsCell, TellsSides, TellsSquare};
 
-use crate::rows::put_cells;
-use crate::status::{COARSER, DONE, NO_CELL, OUT_OF_MEMORY, TOO_FINE};
 use s2id_core::CellId;
 use s2id_cube::{BorderError, border, edge_neighbors, from_face_ij, to_face_ij};
+use s2ix_c_calls::put_cells;
+use s2ix_c_calls::status::{COARSER, DONE, NO_CELL, OUT_OF_MEMORY, TOO_FINE};
 use std::alloc::Global;
 
 /// A cell as a square of its level's grid on its face.

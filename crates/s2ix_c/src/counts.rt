@@ -4,33 +4,15 @@ ghost use Rattle.std.specs.Prelude.{◌≡◌, length};
 ghost use Rattle.s2ix_bag_pairs.specs.Collection.{copies_in};
 ghost use Rattle.s2ix_handle.specs.Handle.{held_of};
 ghost use Rattle.s2ix_table_ranges.specs.RangeList.{range_table};
-ghost use Rattle.s2ix_c.specs.Asked.{pair_numbered};
+ghost use Rattle.s2ix_c_calls.specs.Asked.{pair_numbered};
 ghost use Rattle.s2ix_c.specs.Calls.{Tells, Through};
-ghost use Rattle.s2ix_c.specs.Lists.{Counts};
-ghost use Rattle.s2ix_c.specs.Status.{closed};
+ghost use Rattle.s2ix_c_calls.specs.Lists.{Counts};
+ghost use Rattle.s2ix_c_calls.specs.Status.{closed};
 
-use crate::asked::pair_of;
-use crate::ranges::table_of;
-use crate::status::{CLOSED, DONE};
-use s2ix_edit::Store;
+use s2ix_c_calls::status::{CLOSED, DONE};
+use s2ix_c_calls::{count_store, ranges_of};
 use s2ix_handle::Handle;
-use s2ix_table_queries::RangeTable;
 use std::alloc::Global;
-
-fn count_store(store: &Store, cell: u64, label: u32, count: &mut u32) -> u32
-    ensures { Counts (pair_numbered cell label) store.now result count.new }
-{
-    match pair_of(cell, label) {
-        Ok(pair) => {
-            *count = store.bag().count(pair);
-            DONE
-        }
-        Err(why) => {
-            *count = 0;
-            why
-        }
-    }
-}
 
 /// How many copies of a cell are held under a label: 0 if the pair is not held.
 #[tactic(auto, using(crate::proofs::Through::through_open, crate::proofs::Through::through_closed))]
@@ -82,13 +64,6 @@ pub extern "C" fn s2ix_copies(alloc: Global, handle: &mut Handle, copies: &mut u
     *copies = store.bag().copies();
     *handle = Handle::of(alloc, store);
     DONE
-}
-
-// How many ranges the table of a store has.
-fn ranges_of(store: &Store) -> usize
-    ensures { result ≡ length (range_table store.now.bag.held) }
-{
-    table_of(store).range_count()
 }
 
 /// How many ranges of leaves there are over which the same pairs lie.

@@ -3,35 +3,20 @@
 ghost use Rattle.std.specs.Prelude.{◌≡◌, Result};
 ghost use Rattle.s2ix_edit_plan.specs.declared.edit.Edit.TheVariants.{Revert};
 ghost use Rattle.s2ix_handle.specs.Handle.{held_of};
-ghost use Rattle.s2ix_c.specs.Asked.{asked_add, asked_drop, asked_grow, asked_normalise, asked_relabel, asked_remove};
-ghost use Rattle.s2ix_c.specs.Calls.{DoesEdit, DoesRows, DoesUnion, IsAdded, IsEdited, Through};
-ghost use Rattle.s2ix_c.specs.Status.{closed};
+ghost use Rattle.s2ix_c_calls.specs.Asked.{asked_add, asked_drop, asked_grow, asked_normalise, asked_relabel, asked_remove};
+ghost use Rattle.s2ix_c.specs.Calls.{DoesEdit, DoesRows, DoesUnion, Through};
+ghost use Rattle.s2ix_c_calls.specs.Stores.{IsAdded, IsEdited};
+ghost use Rattle.s2ix_c_calls.specs.Status.{closed};
 
-use crate::asked::{add_of, drop_of, grow_of, normalise_of, relabel_of, remove_of};
-use crate::rows::{Row, held_list};
-use crate::status::{CLOSED, DONE, status_of};
-use crate::unions::union_of;
 use s2ix_bag_pairs::Held;
-use s2ix_edit::Store;
+use s2ix_c_calls::status::CLOSED;
+use s2ix_c_calls::{
+    Row, add_of, add_store, drop_of, edit_store, grow_of, held_list, normalise_of, relabel_of,
+    remove_of, union_of,
+};
 use s2ix_edit_plan::Edit;
 use s2ix_handle::Handle;
 use std::alloc::Global;
-
-// Carries an edit out on a store; `number` is how many pairs changed their counts.
-fn edit_store(store: &mut Store, edit: &Edit, number: &mut usize) -> u32
-    ensures { IsEdited edit.now result number.new store.old store.new }
-{
-    match store.edit(edit) {
-        Ok(changed) => {
-            *number = changed;
-            DONE
-        }
-        Err(error) => {
-            *number = 0;
-            status_of(error)
-        }
-    }
-}
 
 // Carries an edit out over a handle.
 #[tactic(auto, using(crate::proofs::Through::through_open, crate::proofs::Through::through_closed))]
@@ -79,22 +64,6 @@ pub extern "C" fn s2ix_add(
     ensures { DoesEdit (asked_add cell label copies) result number.new (held_of handle.old) (held_of handle.new) }
 {
     do_edit(alloc, handle, add_of(cell, label, copies), number)
-}
-
-// Adds pairs to the counts of a store, as one change; `number` is how many pairs gained copies.
-fn add_store(store: &mut Store, rows: &[Held], number: &mut usize) -> u32
-    ensures { IsAdded rows.now result number.new store.old store.new }
-{
-    match store.add_all(rows) {
-        Ok(changed) => {
-            *number = changed;
-            DONE
-        }
-        Err(why) => {
-            *number = 0;
-            status_of(why)
-        }
-    }
 }
 
 // Adds pairs to the counts of a handle's store.

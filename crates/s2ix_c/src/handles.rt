@@ -2,15 +2,16 @@
 
 ghost use Rattle.std.specs.Prelude.{◌≡◌, ◌↔◌, ◌≢◌, ◌⊎◌, Some, None, []};
 ghost use Rattle.s2ix_bag_pairs.specs.declared.limits.Limits.{Limits};
-ghost use Rattle.s2ix_bag_pairs.specs.Limits.{changes_limit, count_limit, pairs_limit};
 ghost use Rattle.s2ix_bag_pairs.specs.Ranges.{AreLimits};
 ghost use Rattle.s2ix_edit_plan.specs.State.{starting_at};
 ghost use Rattle.s2ix_handle.specs.Handle.{held_of};
-ghost use Rattle.s2ix_c.specs.Calls.{HasFaultIn, IsCleared, IsCopied, Loads, Opens, Through};
-ghost use Rattle.s2ix_c.specs.Status.{closed, done, no_dump, no_limits, out_of_memory};
+ghost use Rattle.s2ix_c.specs.Calls.{HasFaultIn, IsCopied, Loads, Opens, Through};
+ghost use Rattle.s2ix_c_calls.specs.Stores.{IsCleared};
+ghost use Rattle.s2ix_c_calls.specs.Status.{closed, done, no_dump, no_limits, out_of_memory};
 
-use crate::status::{CLOSED, DONE, NO_DUMP, NO_LIMITS, OUT_OF_MEMORY};
 use s2ix_bag_pairs::Limits;
+use s2ix_c_calls::clear_store;
+use s2ix_c_calls::status::{CLOSED, DONE, NO_DUMP, NO_LIMITS, OUT_OF_MEMORY};
 use s2ix_edit::Store;
 use s2ix_handle::Handle;
 use s2ix_text_read_dump::{DumpError, read_dump};
@@ -125,17 +126,6 @@ pub extern "C" fn s2ix_copy(alloc: Global, handle: &mut Handle, copy: &mut Handl
     let status = copy_store(alloc, &store, copy);
     *handle = Handle::of(alloc, store);
     status
-}
-
-// Puts the empty store in place of what a store holds.
-fn clear_store(alloc: Global, store: &mut Store) -> u32
-    ensures { IsCleared result store.old store.new }
-{
-    let Ok(empty) = Store::new(alloc, store.bag().limits()) else {
-        return OUT_OF_MEMORY;
-    };
-    *store = empty;
-    DONE
 }
 
 /// Drops all pairs and all changes, and keeps the limits: nothing is left to undo or redo.

@@ -6,10 +6,8 @@
 //! then it writes none of them.
 #![tactic(auto)]
 
-mod asked;
 mod cell_unions;
 mod cells;
-mod chains;
 mod changes;
 mod counts;
 mod edits;
@@ -19,8 +17,6 @@ mod listing;
 mod queries;
 mod ranges;
 mod replaying;
-mod rows;
 mod status;
 mod steps;
 mod texts;
-mod unions;

@@ -1,48 +1,16 @@
 //! Queries of the store of a handle. None changes it.
 
-ghost use Rattle.std.specs.Prelude.{◌≡◌, ◌≢◌, ℕ, IfSome, IfOk, drop, length, take};
-ghost use Rattle.s2id_core.specs.CellId.{level_of};
+ghost use Rattle.std.specs.Prelude.{◌≡◌, length, take};
 ghost use Rattle.s2ix_bag_pairs.specs.Label.{label_numbered};
-ghost use Rattle.s2ix_table_ranges.specs.Meeting.{meeting_of};
 ghost use Rattle.s2ix_handle.specs.Handle.{held_of};
 ghost use Rattle.s2ix_c.specs.Calls.{Through};
-ghost use Rattle.s2ix_c.specs.Lists.{leaf_numbered, labels_met, Lists, ListsOf, Puts, region_cells, rows_met, rows_met_from, rows_over};
-ghost use Rattle.s2ix_c.specs.Status.{closed};
+ghost use Rattle.s2ix_c_calls.specs.Lists.{leaf_numbered, labels_met, Lists, ListsOf, Puts, region_cells, rows_met, rows_met_from, rows_over};
+ghost use Rattle.s2ix_c_calls.specs.Status.{closed};
 
-use crate::asked::cell_of;
-use crate::chains::put_contents;
-use crate::rows::{Row, put_cells, put_labels, put_rows};
-use crate::status::{CLOSED, NO_CELL, NO_LABEL, OUT_OF_MEMORY};
-use crate::unions::cells_of;
-use s2id_core::{CellId, OutOfMemory};
-use s2id_union::CellUnion;
-use s2ix_bag_pairs::{Held, Label};
-use s2ix_edit::Store;
+use s2ix_c_calls::status::CLOSED;
+use s2ix_c_calls::{Row, at_store, labels_store, meet_store, meet_store_from, region_store};
 use s2ix_handle::Handle;
-use s2ix_table_queries::{Meter, RangeTable};
-use s2ix_table_walk::Meeting;
 use std::alloc::Global;
-
-// The leaf of a number.
-pub(crate) fn leaf_of(number: u64) -> Option<CellId>
-    ensures leaf { result ≡ leaf_numbered number }
-    ensures level { IfSome result (λ leaf. level_of leaf ≡ 30) }
-{
-    match cell_of(number) {
-        Some(cell) if cell.is_leaf() => Some(cell),
-        _ => None,
-    }
-}
-
-fn at_store(store: &Store, leaf: u64, out: &mut [Row], number: &mut usize) -> u32
-    ensures { Puts (rows_over (leaf_numbered leaf) store.now) result number.new out.old out.new }
-{
-    let Some(leaf) = leaf_of(leaf) else {
-        *number = 0;
-        return NO_CELL;
-    };
-    put_contents(store.table(), leaf, out, number)
-}
 
 /// The pairs over a leaf, the innermost cell first, the labels of one cell rising. It does not allocate.
 #[tactic(auto, using(crate::proofs::Through::through_open, crate::proofs::Through::through_closed))]
@@ -64,23 +32,6 @@ pub extern "C" fn s2ix_at(
     let status = at_store(&store, leaf, out, number);
     *handle = Handle::of(alloc, store);
     status
-}
-
-fn meet_store(alloc: Global, store: &Store, ids: &[u64], out: &mut [Row], number: &mut usize) -> u32
-    ensures { ListsOf (λ cells. rows_met cells store.now) ids.now result number.new out.old out.new }
-{
-    *number = 0;
-    let cells = match cells_of(alloc, ids) {
-        Ok(cells) => cells,
-        Err(why) => return why,
-    };
-    let Ok(target) = CellUnion::normalise(alloc, cells.as_slice()) else {
-        return OUT_OF_MEMORY;
-    };
-    let Ok(list) = store.table().meeting(alloc, &target) else {
-        return OUT_OF_MEMORY;
-    };
-    put_rows(list.as_slice(), out, number)
 }
 
 /// The pairs that share a leaf with a union of cells, given in any order and repeated or not: each once, by first shared leaf, then
@@ -106,57 +57,6 @@ pub extern "C" fn s2ix_meet(
     status
 }
 
-// The pairs that a target meets, from a place on, and at most so many of them.
-fn met_from<T: RangeTable>(
-    alloc: Global,
-    table: &T,
-    target: &CellUnion,
-    from: usize,
-    most: usize,
-) -> Result<Vec<Held>, OutOfMemory>
-    ensures { IfOk result (λ list. list.items ≡ take most (drop from (meeting_of target.now (T.pairs table.now)))) }
-{
-    let mut meter = Meter::new(table);
-    let mut meeting = Meeting::new(&mut meter, target);
-    let mut passed = 0;
-    let mut list = Vec::new(alloc);
-    while list.len() < most {
-        let Some(held) = meeting.advance() else {
-            return Ok(list);
-        };
-        if passed < from {
-            passed += 1;
-        } else {
-            list.push(held)?;
-        }
-    }
-    Ok(list)
-}
-
-fn meet_store_from(
-    alloc: Global,
-    store: &Store,
-    ids: &[u64],
-    from: usize,
-    out: &mut [Row],
-    number: &mut usize,
-) -> u32
-    ensures { ListsOf (λ cells. rows_met_from from (length out.old) cells store.now) ids.now result number.new out.old out.new }
-{
-    *number = 0;
-    let cells = match cells_of(alloc, ids) {
-        Ok(cells) => cells,
-        Err(why) => return why,
-    };
-    let Ok(target) = CellUnion::normalise(alloc, cells.as_slice()) else {
-        return OUT_OF_MEMORY;
-    };
-    let Ok(list) = met_from(alloc, store.table(), &target, from, out.len()) else {
-        return OUT_OF_MEMORY;
-    };
-    put_rows(list.as_slice(), out, number)
-}
-
 /// The pairs that `s2ix_meet` puts, from a place on, counted from 0: as many as the buffer has room for. It goes no further along the table.
 #[tactic(auto, using(crate::proofs::Through::through_open, crate::proofs::Through::through_closed))]
 #[unsafe(no_mangle)]
@@ -180,29 +80,6 @@ pub extern "C" fn s2ix_meet_from(
     status
 }
 
-fn labels_store(
-    alloc: Global,
-    store: &Store,
-    ids: &[u64],
-    out: &mut [u32],
-    number: &mut usize,
-) -> u32
-    ensures { ListsOf (λ cells. labels_met cells store.now) ids.now result number.new out.old out.new }
-{
-    *number = 0;
-    let cells = match cells_of(alloc, ids) {
-        Ok(cells) => cells,
-        Err(why) => return why,
-    };
-    let Ok(target) = CellUnion::normalise(alloc, cells.as_slice()) else {
-        return OUT_OF_MEMORY;
-    };
-    let Ok(list) = store.table().labels(alloc, &target) else {
-        return OUT_OF_MEMORY;
-    };
-    put_labels(list.as_slice(), out, number)
-}
-
 /// The labels of the pairs that share a leaf with a union of cells: each once, rising.
 #[tactic(auto, using(crate::proofs::Through::through_open, crate::proofs::Through::through_closed))]
 #[unsafe(no_mangle)]
@@ -223,19 +100,6 @@ pub extern "C" fn s2ix_labels(
     let status = labels_store(alloc, &store, ids, out, number);
     *handle = Handle::of(alloc, store);
     status
-}
-
-fn region_store(store: &Store, label: u32, out: &mut [u64], number: &mut usize) -> u32
-    ensures { Lists (region_cells (label_numbered label) store.now) result number.new out.old out.new }
-{
-    *number = 0;
-    let Some(label) = Label::new(label) else {
-        return NO_LABEL;
-    };
-    let Ok(region) = store.region(label) else {
-        return OUT_OF_MEMORY;
-    };
-    put_cells(region.cells(), out, number)
 }
 
 /// The region of a label: the normal union of the cells that are held with it, rising.

@@ -3,54 +3,14 @@
 ghost use Rattle.std.specs.Prelude.{◌≡◌};
 ghost use Rattle.s2ix_edit.specs.Steps.{after_forget};
 ghost use Rattle.s2ix_handle.specs.Handle.{held_of};
-ghost use Rattle.s2ix_c.specs.Calls.{IsRedone, IsUndone, Through};
-ghost use Rattle.s2ix_c.specs.Status.{closed, done};
+ghost use Rattle.s2ix_c.specs.Calls.{Through};
+ghost use Rattle.s2ix_c_calls.specs.Stores.{IsRedone, IsUndone};
+ghost use Rattle.s2ix_c_calls.specs.Status.{closed, done};
 
-use crate::status::{CLOSED, DONE, NOTHING_TO_REDO, NOTHING_TO_UNDO, OUT_OF_MEMORY};
-use s2ix_edit::Store;
-use s2ix_edit_plan::{RedoError, UndoError};
+use s2ix_c_calls::status::{CLOSED, DONE};
+use s2ix_c_calls::{redo_store, undo_store};
 use s2ix_handle::Handle;
 use std::alloc::Global;
-
-// Takes the last change of a store back; `number` is how many pairs it had.
-fn undo_store(store: &mut Store, number: &mut usize) -> u32
-    ensures { IsUndone result number.new store.old store.new }
-{
-    match store.undo() {
-        Ok(changed) => {
-            *number = changed;
-            DONE
-        }
-        Err(UndoError::NothingToUndo) => {
-            *number = 0;
-            NOTHING_TO_UNDO
-        }
-        Err(UndoError::OutOfMemory) => {
-            *number = 0;
-            OUT_OF_MEMORY
-        }
-    }
-}
-
-// Does the change of a store that was undone last again; `number` is how many pairs it has.
-fn redo_store(store: &mut Store, number: &mut usize) -> u32
-    ensures { IsRedone result number.new store.old store.new }
-{
-    match store.redo() {
-        Ok(changed) => {
-            *number = changed;
-            DONE
-        }
-        Err(RedoError::NothingToRedo) => {
-            *number = 0;
-            NOTHING_TO_REDO
-        }
-        Err(RedoError::OutOfMemory) => {
-            *number = 0;
-            OUT_OF_MEMORY
-        }
-    }
-}
 
 /// Takes the last change back; `number` is how many pairs it had.
 #[tactic(auto, using(crate::proofs::Through::through_open, crate::proofs::Through::through_closed))]

@@ -5,27 +5,13 @@ ghost use Rattle.s2ix_handle.specs.Handle.{held_of};
 ghost use Rattle.s2ix_text_write.specs.Dump.{dump_text};
 ghost use Rattle.s2ix_text_write.specs.Journal.{journal_text};
 ghost use Rattle.s2ix_c.specs.Calls.{Through};
-ghost use Rattle.s2ix_c.specs.Lists.{Lists};
-ghost use Rattle.s2ix_c.specs.Status.{closed};
+ghost use Rattle.s2ix_c_calls.specs.Lists.{Lists};
+ghost use Rattle.s2ix_c_calls.specs.Status.{closed};
 
-use crate::rows::put_bytes;
-use crate::status::{CLOSED, OUT_OF_MEMORY};
-use s2ix_edit::Store;
+use s2ix_c_calls::status::CLOSED;
+use s2ix_c_calls::{dump_store, journal_store};
 use s2ix_handle::Handle;
-use s2ix_text_io::KeepingSink;
-use s2ix_text_write::{write_dump, write_journal};
 use std::alloc::Global;
-
-fn dump_store(alloc: Global, store: &Store, out: &mut [u8], number: &mut usize) -> u32
-    ensures { Lists (Ok (dump_text store.now.bag.held)) result number.new out.old out.new }
-{
-    *number = 0;
-    let mut sink = KeepingSink::new(alloc, usize::MAX, 0, false);
-    match write_dump(store.bag(), &mut sink) {
-        Ok(()) => put_bytes(sink.kept(), out, number),
-        Err(_) => OUT_OF_MEMORY,
-    }
-}
 
 /// The dump of what is held, of the second version.
 #[tactic(auto, using(crate::proofs::Through::through_open, crate::proofs::Through::through_closed))]
@@ -46,17 +32,6 @@ pub extern "C" fn s2ix_dump(
     let status = dump_store(alloc, &store, out, number);
     *handle = Handle::of(alloc, store);
     status
-}
-
-fn journal_store(alloc: Global, store: &Store, out: &mut [u8], number: &mut usize) -> u32
-    ensures { Lists (Ok (journal_text store.now.done)) result number.new out.old out.new }
-{
-    *number = 0;
-    let mut sink = KeepingSink::new(alloc, usize::MAX, 0, false);
-    match write_journal(store.done(), &mut sink) {
-        Ok(()) => put_bytes(sink.kept(), out, number),
-        Err(_) => OUT_OF_MEMORY,
-    }
 }
 
 /// The journal of the changes that can be undone, the oldest first, of the second version.

@@ -1,6 +1,6 @@
 -- The limits are those that the three numbers made, and where the texts lead or what is refused in them is told of the texts.
 use Rattle.std.proofs.Common.{ap, inl, inr}
-use Rattle.s2ix_c.specs.Replaying.{refused_at}
+use Rattle.s2ix_c_calls.specs.Replaying.{refused_at}
 use Rattle.s2ix_c.proofs.replaying.s2ix_rewind.Goals as goal
 
 pub returns-in-Ok-clause-rewound : goal.returns-in-Ok-clause-rewound

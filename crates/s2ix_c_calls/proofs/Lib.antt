@@ -1,0 +1,4 @@
+mod Numbers
+pub mod OfRows
+mod Paging
+mod Begun

@@ -1,0 +1,17 @@
+-- The rows that are written, and those of the pairs that are left, are the rows of all.
+use Rattle.std.proofs.Common.{◌≡◌, ◌+◌, ◌++◌, Some, length, map, take, drop}
+use Rattle.s2ix_table_walk.specs.Places.{IsPlace, from_place}
+use Rattle.s2ix_c_calls.specs.Lists.{row_of}
+use Rattle.s2ix_c_calls.proofs.chains.write_from.Given as goal
+
+abbrev pub invariant-loop-next : goal.invariant-loop-next
+invariant-loop-next g l =
+    ((p : g.row.T-Place.Denot) → l.next ≡ Some p → IsPlace (g.T.RangeTable.chain l.table) p)
+    × (l.count + length (from_place (g.T.RangeTable.chain l.table) l.next) ≡ length (from_place (g.T.RangeTable.chain l.table) l.fn.first))
+    × (take l.count l.out ++ map row_of (from_place (g.T.RangeTable.chain l.table) l.next)
+    ≡ map row_of (from_place (g.T.RangeTable.chain l.table) l.fn.first))
+    × (drop l.count l.out ≡ drop l.count l.initial.out)
+    × (length l.out ≡ length l.initial.out)
+
+abbrev pub decreases-loop-next : goal.decreases-loop-next
+decreases-loop-next g l = length (from_place (g.T.RangeTable.chain l.table) l.next)

@@ -1,0 +1,100 @@
+-- Lists in buffers of the caller.
+use Rattle.std.specs.Prelude.{◌≡◌, ◌≢◌, ◌⊎◌, ℕ, ◌<◌, ◌==◌, if◌then◌else◌, Option, Some, None, Result, Ok, Err, List, length, map, take, drop}
+use Rattle.s2id_core.specs.declared.cell_id.CellId.{CellId}
+use Rattle.s2id_core.specs.CellId.{raw_of, level_of}
+use Rattle.s2id_core.specs.Spelled.{cell_numbered}
+use Rattle.s2id_union.specs.NormalForm.{normal_form}
+use Rattle.s2ix_bag_pairs.specs.declared.label.Label.{Label}
+use Rattle.s2ix_bag_pairs.specs.declared.pair.Held.{Held}
+use Rattle.s2ix_bag_pairs.specs.declared.pair.Pair.{Pair}
+use Rattle.s2ix_bag_pairs.specs.Collection.{count_in}
+use Rattle.s2ix_bag_pairs.specs.Label.{value_of}
+use Rattle.s2ix_bag_pairs.specs.OfLabel.{held_of}
+use Rattle.s2ix_table_ranges.specs.Contents.{contents_at}
+use Rattle.s2ix_table_ranges.specs.LabelList.{label_list}
+use Rattle.s2ix_table_ranges.specs.Meeting.{meeting_of}
+use Rattle.s2ix_edit_plan.specs.Region.{region_of}
+use Rattle.s2ix_edit_plan.specs.State.{State}
+use Rattle.s2ix_c_calls.specs.Asked.{AreCells, LacksCell}
+use Rattle.s2ix_c_calls.specs.declared.rows.Row.{Row}
+use Rattle.s2ix_c_calls.specs.Status.{done, no_cell, no_label, no_room, out_of_memory}
+
+-- a held pair as C sees it
+abbrev pub row_of : Held → Row
+row_of h = record { cell = raw_of h.pair.cell; label = value_of h.pair.label; count = h.count }
+
+-- a list, put to the front of a buffer, which stays as it was after it; if the buffer is too short, it is as it was, and the number says
+-- how long the list is
+pub record IsPut {A : Type 0} (list : List A) (status number : ℕ) (old new : List A) : Type 0 where
+  pub long : number ≡ length list
+  pub put : status ≡ done → take number new ≡ list
+  pub behind : status ≡ done → drop number new ≡ drop number old
+  pub short : status ≢ done → (status ≡ no_room) × (length old < number) × (new ≡ old)
+
+-- a list that is refused
+abbrev pub IsRefused : {A : Type 0} → ℕ → ℕ → ℕ → List A → List A → Type 0
+IsRefused why status number old new = (status ≡ why) × (number ≡ 0) × (new ≡ old)
+
+-- a list in a buffer, or why there is none
+abbrev pub Puts : {A : Type 0} → Result (List A) ℕ → ℕ → ℕ → List A → List A → Type 0
+Puts (Ok list) status number old new = IsPut list status number old new
+Puts (Err why) status number old new = IsRefused why status number old new
+
+-- the same, but want of memory may be told in place of a list
+abbrev pub Lists : {A : Type 0} → Result (List A) ℕ → ℕ → ℕ → List A → List A → Type 0
+Lists (Ok list) status number old new = IsPut list status number old new ⊎ IsRefused out_of_memory status number old new
+Lists (Err why) status number old new = IsRefused why status number old new
+
+-- the leaf with this number, if it is a leaf's
+abbrev pub leaf_if : Option CellId → Option CellId
+leaf_if (Some cell) = if level_of cell == 30 then Some cell else None
+leaf_if None = None
+
+abbrev pub leaf_numbered : ℕ → Option CellId
+leaf_numbered n = leaf_if (cell_numbered n)
+
+-- the pairs over a leaf
+abbrev pub rows_over : Option CellId → State → Result (List Row) ℕ
+rows_over (Some leaf) s = Ok (map row_of (contents_at (raw_of leaf) s.bag.held))
+rows_over None s = Err no_cell
+
+-- the cells of a label's region
+abbrev pub region_cells : Option Label → State → Result (List ℕ) ℕ
+region_cells (Some label) s = Ok (map raw_of (region_of label s.bag.held))
+region_cells None s = Err no_label
+
+-- the pairs that share a leaf with a union of cells, and their labels
+abbrev pub rows_met : List CellId → State → List Row
+rows_met cells s = map row_of (meeting_of (normal_form cells) s.bag.held)
+
+-- the pairs of that list from a place on, as many as a buffer has room for
+abbrev pub rows_met_from : ℕ → ℕ → List CellId → State → List Row
+rows_met_from from room cells s = map row_of (take room (drop from (meeting_of (normal_form cells) s.bag.held)))
+
+abbrev pub labels_met : List CellId → State → List ℕ
+labels_met cells s = map value_of (label_list (meeting_of (normal_form cells) s.bag.held))
+
+-- whether a pair's count is asked for by numbers that are right, and the count
+abbrev pub Counts : Result Pair ℕ → State → ℕ → ℕ → Type 0
+Counts (Ok pair) s status count = (status ≡ done) × (count ≡ count_in s.bag.held pair)
+Counts (Err why) s status count = (status ≡ why) × (count ≡ 0)
+
+-- what is asked of a union of cells with these numbers, in a buffer; or one of them is no cell's, or memory is wanted
+abbrev pub ListsOf : {A : Type 0} → (List CellId → List A) → List ℕ → ℕ → ℕ → List A → List A → Type 0
+ListsOf list ids status number old new =
+    ((cells : List CellId) × AreCells ids cells × IsPut (list cells) status number old new)
+    ⊎ (LacksCell ids × IsRefused no_cell status number old new)
+    ⊎ IsRefused out_of_memory status number old new
+
+-- the pairs of a label
+abbrev pub rows_with : Option Label → State → Result (List Row) ℕ
+rows_with (Some label) s = Ok (map row_of (held_of label s.bag.held))
+rows_with None s = Err no_label
+
+-- the pairs from a place on, as many as a buffer has room for, put to its front
+abbrev pub rows_from : ℕ → ℕ → State → List Row
+rows_from from room s = map row_of (take room (drop from s.bag.held))
+
+abbrev pub PutsPage : ℕ → State → ℕ → ℕ → List Row → List Row → Type 0
+PutsPage from s status number old new =
+    (status ≡ done) × (number ≡ length (rows_from from (length old) s)) × (take number new ≡ rows_from from (length old) s)

@@ -1,0 +1,33 @@
+//! What the calls for C do: with a store once it is out of its handle, and with numbers that name cells, labels and edits.
+//!
+//! A call answers with a status, and puts lists, texts and numbers where its caller wants them. `s2ix_c` exports one call over each of
+//! these, and says there what it does to a handle.
+#![tactic(auto)]
+
+mod asked;
+mod chains;
+mod changes;
+mod counts;
+mod edits;
+mod listing;
+mod queries;
+mod ranges;
+mod replaying;
+mod rows;
+pub mod status;
+mod steps;
+mod texts;
+mod unions;
+
+pub use asked::{add_of, drop_of, grow_of, normalise_of, relabel_of, remove_of};
+pub use changes::{EntryRow, change_store};
+pub use counts::{count_store, ranges_of};
+pub use edits::{add_store, edit_store};
+pub use listing::{label_store, pairs_store};
+pub use queries::{at_store, labels_store, meet_store, meet_store_from, region_store};
+pub use ranges::{contents_store, find_store, full_store, full_store_before, read_store};
+pub use replaying::{Refused, texts_replayed, texts_rewound};
+pub use rows::{Row, held_list, put_bytes, put_cells};
+pub use steps::{clear_store, redo_store, undo_store};
+pub use texts::{dump_store, export_store, journal_store};
+pub use unions::{normal_of, normals_of, union_of};

@@ -1,0 +1,200 @@
+//! The ranges of leaves of a store. No call here changes it.
+
+ghost use Rattle.std.specs.Prelude.{◌≡◌, ◌≢◌, ◌<◌, ◌≤◌, ℕ, None, [], IfOk, IfSome, length};
+ghost use Rattle.s2id_core.specs.CellId.{level_of};
+ghost use Rattle.s2ix_table_ranges.specs.RangeList.{range_table};
+ghost use Rattle.s2ix_table_ranges.specs.Table.{range_at};
+ghost use Rattle.s2ix_c_calls.specs.Lists.{leaf_numbered, Lists};
+ghost use Rattle.s2ix_c_calls.specs.Ranges.{begun_from, FindsFull, FindsFullBefore, FindsRange, IsEmptyAt, IsRangeOf, ReadsRange, rows_of_range};
+
+use crate::queries::leaf_of;
+use crate::rows::{Row, put_rows};
+use crate::status::{DONE, NO_CELL, NO_RANGE, OUT_OF_MEMORY};
+use s2id_core::{CellId, OutOfMemory};
+use s2ix_bag_pairs::Held;
+use s2ix_edit::{Store, StoreTable};
+use s2ix_table_queries::RangeTable;
+use s2ix_table_ranges::RangeRow;
+use s2ix_table_ranges::laws::range_table_is_the_collections;
+use std::alloc::Global;
+
+// The table of a store: its ranges are those of what the store holds.
+pub(crate) fn table_of(store: &Store) -> &StoreTable
+    ensures { ⟦<StoreTable as RangeTable>⟧.ranges result.now ≡ range_table store.now.bag.held }
+{
+    range_table_is_the_collections();
+    store.table()
+}
+
+// The range that has a leaf, with its place.
+fn range_of(store: &Store, leaf: CellId) -> (usize, RangeRow)
+    requires { level_of leaf ≡ 30 }
+    ensures { IsRangeOf leaf (range_table store.now.bag.held) result.0 result.1.start result.1.limit }
+{
+    range_table_is_the_collections();
+    let table = store.table();
+    let place = table.find(leaf);
+    let row = table.range(place);
+    (place, row)
+}
+
+/// The range that has a leaf: its place, counted from 0, its first leaf number, and the one with which it ends.
+pub fn find_store(
+    store: &Store,
+    leaf: u64,
+    place: &mut usize,
+    start: &mut u64,
+    limit: &mut u64,
+) -> u32
+    ensures { FindsRange (leaf_numbered leaf) store.now result place.new start.new limit.new }
+{
+    let Some(leaf) = leaf_of(leaf) else {
+        *place = 0;
+        *start = 0;
+        *limit = 0;
+        return NO_CELL;
+    };
+    let (at, row) = range_of(store, leaf);
+    *place = at;
+    *start = row.start;
+    *limit = row.limit;
+    DONE
+}
+
+/// The range at a place, counted from 0: its first leaf number, the one with which it ends, and whether no pair lies over it.
+pub fn read_store(
+    store: &Store,
+    place: usize,
+    start: &mut u64,
+    limit: &mut u64,
+    is_empty: &mut bool,
+) -> u32
+    ensures { ReadsRange place (range_table store.now.bag.held) result start.new limit.new is_empty.new }
+{
+    let table = table_of(store);
+    if place >= table.range_count() {
+        *start = 0;
+        *limit = 0;
+        *is_empty = true;
+        return NO_RANGE;
+    }
+    let row = table.range(place);
+    *start = row.start;
+    *limit = row.limit;
+    *is_empty = table.first(place).is_none();
+    DONE
+}
+
+// Of the pairs over the range at a place, those whose cells begin at a leaf number or later. It reads these and one more: each cell
+// further out begins no later than the one before it.
+fn begun_in<T: RangeTable>(
+    alloc: Global,
+    table: &T,
+    place: usize,
+    from: u64,
+) -> Result<Vec<Held>, OutOfMemory>
+    requires { place < length (T.ranges table.now) }
+    ensures { IfOk result (λ list. list.items ≡ begun_from from (range_at (T.ranges table.now) place).contents) }
+{
+    let mut list = Vec::new(alloc);
+    let mut next = table.first(place);
+    while let Some(at) = next {
+        let held = table.held_at(at);
+        if held.pair.cell.span_start() < from {
+            return Ok(list);
+        }
+        list.push(held)?;
+        next = table.outer(at);
+    }
+    Ok(list)
+}
+
+/// Of the pairs over the range at a place, those whose cells begin at the leaf number `from` or later: the innermost cell first, the
+/// labels of one cell rising.
+pub fn contents_store(
+    alloc: Global,
+    store: &Store,
+    place: usize,
+    from: u64,
+    out: &mut [Row],
+    number: &mut usize,
+) -> u32
+    ensures { Lists (rows_of_range place from (range_table store.now.bag.held)) result number.new out.old out.new }
+{
+    *number = 0;
+    let table = table_of(store);
+    if place >= table.range_count() {
+        return NO_RANGE;
+    }
+    let Ok(list) = begun_in(alloc, table, place, from) else {
+        return OUT_OF_MEMORY;
+    };
+    put_rows(list.as_slice(), out, number)
+}
+
+// The first range from a place on that has a pair over it. No two neighbours are both empty, so it looks at two at most.
+fn full_from<T: RangeTable>(table: &T, from: usize) -> Option<usize>
+    ensures found { IfSome result (λ place. (from ≤ place) × (place < length (T.ranges table.now))
+        × ((range_at (T.ranges table.now) place).contents ≢ [])) }
+    ensures first { IfSome result (λ place. (k : ℕ) → from ≤ k → k < place → IsEmptyAt (T.ranges table.now) k) }
+    ensures none { result ≡ None → (k : ℕ) → from ≤ k → k < length (T.ranges table.now) → IsEmptyAt (T.ranges table.now) k }
+{
+    let mut place = from;
+    while place < table.range_count() {
+        if table.first(place).is_some() {
+            return Some(place);
+        }
+        place += 1;
+    }
+    None
+}
+
+/// The place of the first range from a place on that has a pair over it.
+pub fn full_store(store: &Store, from: usize, place: &mut usize) -> u32
+    ensures { FindsFull from (range_table store.now.bag.held) result place.new }
+{
+    match full_from(table_of(store), from) {
+        Some(found) => {
+            *place = found;
+            DONE
+        }
+        None => {
+            *place = 0;
+            NO_RANGE
+        }
+    }
+}
+
+// The last range before a place that has a pair over it. No two neighbours are both empty, so it looks at two at most.
+fn full_before<T: RangeTable>(table: &T, before: usize) -> Option<usize>
+    ensures found { IfSome result (λ place. (place < before) × (place < length (T.ranges table.now))
+        × ((range_at (T.ranges table.now) place).contents ≢ [])) }
+    ensures last { IfSome result (λ place. (k : ℕ) → place < k → k < before → k < length (T.ranges table.now)
+        → IsEmptyAt (T.ranges table.now) k) }
+    ensures none { result ≡ None → (k : ℕ) → k < before → k < length (T.ranges table.now) → IsEmptyAt (T.ranges table.now) k }
+{
+    let mut end = before.min(table.range_count());
+    while end > 0 {
+        end -= 1;
+        if table.first(end).is_some() {
+            return Some(end);
+        }
+    }
+    None
+}
+
+/// The place of the last range before a place that has a pair over it.
+pub fn full_store_before(store: &Store, before: usize, place: &mut usize) -> u32
+    ensures { FindsFullBefore before (range_table store.now.bag.held) result place.new }
+{
+    match full_before(table_of(store), before) {
+        Some(found) => {
+            *place = found;
+            DONE
+        }
+        None => {
+            *place = 0;
+            NO_RANGE
+        }
+    }
+}
