@@ -5,14 +5,14 @@ ghost use Rattle.s2ix_bag.specs.Replay.{replay_refusal, replayed, rewind_refusal
 ghost use Rattle.s2ix_bag_pairs.specs.Ranges.{AreLimits};
 ghost use Rattle.s2ix_edit_plan.specs.State.{starting_at};
 ghost use Rattle.s2ix_handle.specs.Handle.{held_of};
-ghost use Rattle.s2ix_c_calls.specs.Replaying.{OpensLed, RefusesIn, refused_at};
+ghost use Rattle.s2ix_c_calls.specs.Replaying.{OpensLed, RefusesIn, led_by, refusal_by, refused_at};
 ghost use Rattle.s2ix_c_calls.specs.Status.{done, no_limits, out_of_memory};
 
 use crate::handles::keep;
 use s2ix_bag::Bag;
 use s2ix_bag_pairs::Limits;
 use s2ix_c_calls::status::{NO_LIMITS, OUT_OF_MEMORY};
-use s2ix_c_calls::{texts_replayed, texts_rewound};
+use s2ix_c_calls::{Direction, texts_led};
 use s2ix_edit::Store;
 use s2ix_handle::Handle;
 use std::alloc::Global;
@@ -25,6 +25,42 @@ fn keep_bag(alloc: Global, handle: &mut Handle, bag: Bag) -> u32
     match Store::from_bag(alloc, bag) {
         Ok(store) => keep(alloc, handle, store),
         Err(_) => OUT_OF_MEMORY,
+    }
+}
+
+// Opens a handle of the store that starts from where a dump and a journal lead, or tells what is refused first.
+fn open_led(
+    alloc: Global,
+    handle: &mut Handle,
+    direction: Direction,
+    dump: &[u8],
+    journal: &[u8],
+    pairs: u32,
+    copies: u32,
+    changes: u32,
+    place: &mut usize,
+    entry: &mut usize,
+) -> u32
+    ensures led { result ≡ done
+        → OpensLed (led_by direction) (refusal_by direction) dump.now journal.now pairs copies changes (held_of handle.new) }
+    ensures unchanged { result ≢ done → held_of handle.new ≡ held_of handle.old }
+    ensures limits { (result ≡ no_limits) ↔ (AreLimits pairs copies changes → ⊥) }
+    ensures refused { result ≢ done → result ≢ no_limits
+        → RefusesIn (refusal_by direction) dump.now journal.now pairs copies changes (refused_at result place.new entry.new) }
+    ensures nowhere { (result ≡ done) ⊎ (result ≡ no_limits) → (place.new ≡ 0) × (entry.new ≡ 0) }
+{
+    *place = 0;
+    *entry = 0;
+    let Some(limits) = Limits::new(pairs, copies, changes) else {
+        return NO_LIMITS;
+    };
+    match texts_led(alloc, direction, dump, journal, limits) {
+        Ok(bag) => keep_bag(alloc, handle, bag),
+        Err(refused) => {
+            *place = refused.place;
+            *entry = refused.entry;
+            refused.status
+        }
     }
 }
 
@@ -50,19 +86,18 @@ pub extern "C" fn s2ix_replay(
         → RefusesIn replay_refusal dump.now journal.now pairs copies changes (refused_at result place.new entry.new) }
     ensures nowhere { (result ≡ done) ⊎ (result ≡ no_limits) → (place.new ≡ 0) × (entry.new ≡ 0) }
 {
-    *place = 0;
-    *entry = 0;
-    let Some(limits) = Limits::new(pairs, copies, changes) else {
-        return NO_LIMITS;
-    };
-    match texts_replayed(alloc, dump, journal, limits) {
-        Ok(bag) => keep_bag(alloc, handle, bag),
-        Err(refused) => {
-            *place = refused.place;
-            *entry = refused.entry;
-            refused.status
-        }
-    }
+    open_led(
+        alloc,
+        handle,
+        Direction::Forward,
+        dump,
+        journal,
+        pairs,
+        copies,
+        changes,
+        place,
+        entry,
+    )
 }
 
 /// Opens a handle of the store that starts from a dump's collection before a journal's changes, the last of which is taken back first, with
@@ -86,17 +121,16 @@ pub extern "C" fn s2ix_rewind(
         → RefusesIn rewind_refusal dump.now journal.now pairs copies changes (refused_at result place.new entry.new) }
     ensures nowhere { (result ≡ done) ⊎ (result ≡ no_limits) → (place.new ≡ 0) × (entry.new ≡ 0) }
 {
-    *place = 0;
-    *entry = 0;
-    let Some(limits) = Limits::new(pairs, copies, changes) else {
-        return NO_LIMITS;
-    };
-    match texts_rewound(alloc, dump, journal, limits) {
-        Ok(bag) => keep_bag(alloc, handle, bag),
-        Err(refused) => {
-            *place = refused.place;
-            *entry = refused.entry;
-            refused.status
-        }
-    }
+    open_led(
+        alloc,
+        handle,
+        Direction::Back,
+        dump,
+        journal,
+        pairs,
+        copies,
+        changes,
+        place,
+        entry,
+    )
 }

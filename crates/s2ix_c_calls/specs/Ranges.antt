@@ -44,6 +44,11 @@ abbrev pub rows_of_range : ℕ → ℕ → List Range → Result (List Row) ℕ
 rows_of_range place from ranges =
     if nat_lt place (length ranges) then Ok (map row_of (begun_from from (range_at ranges place).contents)) else Err no_range
 
+-- the place of a range that a call tells, if there is one; else 0
+abbrev pub TellsPlace : Option ℕ → ℕ → ℕ → Type 0
+TellsPlace (Some place) status told = (status ≡ done) × (told ≡ place)
+TellsPlace None status told = (status ≡ no_range) × (told ≡ 0)
+
 -- the first range from a place on that has a pair over it; or there is none
 pub record FindsFull (from : ℕ) (ranges : List Range) (status place : ℕ) : Type 0 where
   pub found : status ≡ done → (from ≤ place) × (place < length ranges) × ((range_at ranges place).contents ≢ [])

@@ -3,6 +3,7 @@ use Rattle.std.specs.Prelude.{◌≡◌, ◌≢◌, ◌⊎◌, ℕ, Option, Some
 use Rattle.std.specs.Option.{option_map}
 use Rattle.s2ix_bag.specs.declared.replay_error.ReplayError.{ReplayError}
 use Rattle.s2ix_bag.specs.declared.replay_error.ReplayError.TheVariants.{Mismatch, TooManyCopies, TooManyPairs, OutOfMemory}
+use Rattle.s2ix_bag.specs.Replay.{replay_refusal, replayed, rewind_refusal, rewound}
 use Rattle.s2ix_bag_pairs.specs.Collection.{Collection, LimitedCollection}
 use Rattle.s2ix_bag_pairs.specs.declared.limits.Limits.{Limits}
 use Rattle.s2ix_bag_pairs.specs.declared.pair.Entry.{Entry}
@@ -12,6 +13,8 @@ use Rattle.s2ix_text_read_dump.specs.DumpFaults.{dump_fault}
 use Rattle.s2ix_text_read_journal.specs.JournalFaults.{journal_fault}
 use Rattle.s2ix_text_write.specs.Dump.{IsDump}
 use Rattle.s2ix_text_write.specs.Journal.{IsJournalText}
+use Rattle.s2ix_c_calls.specs.declared.replaying.Direction.{Direction}
+use Rattle.s2ix_c_calls.specs.declared.replaying.Direction.TheVariants.{Forward, Back}
 use Rattle.s2ix_c_calls.specs.declared.replaying.Refused.{Refused}
 use Rattle.s2ix_c_calls.specs.Status.{done, no_dump, no_journal, no_limits, mismatch, out_of_memory, too_many_copies, too_many_pairs}
 
@@ -21,6 +24,15 @@ Leading = LimitedCollection → List (List Entry) → LimitedCollection
 
 abbrev pub Refusing : Type 0
 Refusing = LimitedCollection → List (List Entry) → Option ReplayError
+
+-- each direction by what it makes of a bag, and by what it refuses
+abbrev pub led_by : Direction → Leading
+led_by Forward = replayed
+led_by Back = rewound
+
+abbrev pub refusal_by : Direction → Refusing
+refusal_by Forward = replay_refusal
+refusal_by Back = rewind_refusal
 
 -- one text is a dump and the other a journal, and P holds of the bag under these limits and of the changes
 abbrev pub AreTexts : Limits → List ℕ → List ℕ → (LimitedCollection → List (List Entry) → Type 0) → Type 0

@@ -9,6 +9,7 @@ use crate::asked::pair_of;
 use crate::ranges::table_of;
 use crate::status::DONE;
 use s2ix_edit::Store;
+use s2ix_table_queries::RangeTable;
 
 /// How many copies of a cell are held under a label: 0 if the pair is not held.
 pub fn count_store(store: &Store, cell: u64, label: u32, count: &mut u32) -> u32

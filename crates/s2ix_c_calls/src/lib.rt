@@ -26,7 +26,7 @@ pub use edits::{add_store, edit_store};
 pub use listing::{label_store, pairs_store};
 pub use queries::{at_store, labels_store, meet_store, meet_store_from, region_store};
 pub use ranges::{contents_store, find_store, full_store, full_store_before, read_store};
-pub use replaying::{Refused, texts_replayed, texts_rewound};
+pub use replaying::{Direction, Refused, texts_led};
 pub use rows::{Row, held_list, put_bytes, put_cells};
 pub use steps::{clear_store, redo_store, undo_store};
 pub use texts::{dump_store, export_store, journal_store};

@@ -10,7 +10,7 @@ use crate::asked::cell_of;
 use crate::chains::put_contents;
 use crate::rows::{Row, put_cells, put_labels, put_rows};
 use crate::status::{NO_CELL, NO_LABEL, OUT_OF_MEMORY};
-use crate::unions::cells_of;
+use crate::unions::normal_of;
 use s2id_core::{CellId, OutOfMemory};
 use s2id_union::CellUnion;
 use s2ix_bag_pairs::{Held, Label};
@@ -53,12 +53,9 @@ pub fn meet_store(
     ensures { ListsOf (λ cells. rows_met cells store.now) ids.now result number.new out.old out.new }
 {
     *number = 0;
-    let cells = match cells_of(alloc, ids) {
-        Ok(cells) => cells,
+    let target = match normal_of(alloc, ids) {
+        Ok(target) => target,
         Err(why) => return why,
-    };
-    let Ok(target) = CellUnion::normalise(alloc, cells.as_slice()) else {
-        return OUT_OF_MEMORY;
     };
     let Ok(list) = store.table().meeting(alloc, &target) else {
         return OUT_OF_MEMORY;
@@ -105,12 +102,9 @@ pub fn meet_store_from(
     ensures { ListsOf (λ cells. rows_met_from from (length out.old) cells store.now) ids.now result number.new out.old out.new }
 {
     *number = 0;
-    let cells = match cells_of(alloc, ids) {
-        Ok(cells) => cells,
+    let target = match normal_of(alloc, ids) {
+        Ok(target) => target,
         Err(why) => return why,
-    };
-    let Ok(target) = CellUnion::normalise(alloc, cells.as_slice()) else {
-        return OUT_OF_MEMORY;
     };
     let Ok(list) = met_from(alloc, store.table(), &target, from, out.len()) else {
         return OUT_OF_MEMORY;
@@ -129,12 +123,9 @@ pub fn labels_store(
     ensures { ListsOf (λ cells. labels_met cells store.now) ids.now result number.new out.old out.new }
 {
     *number = 0;
-    let cells = match cells_of(alloc, ids) {
-        Ok(cells) => cells,
+    let target = match normal_of(alloc, ids) {
+        Ok(target) => target,
         Err(why) => return why,
-    };
-    let Ok(target) = CellUnion::normalise(alloc, cells.as_slice()) else {
-        return OUT_OF_MEMORY;
     };
     let Ok(list) = store.table().labels(alloc, &target) else {
         return OUT_OF_MEMORY;

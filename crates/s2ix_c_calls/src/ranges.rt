@@ -5,7 +5,7 @@ ghost use Rattle.s2id_core.specs.CellId.{level_of};
 ghost use Rattle.s2ix_table_ranges.specs.RangeList.{range_table};
 ghost use Rattle.s2ix_table_ranges.specs.Table.{range_at};
 ghost use Rattle.s2ix_c_calls.specs.Lists.{leaf_numbered, Lists};
-ghost use Rattle.s2ix_c_calls.specs.Ranges.{begun_from, FindsFull, FindsFullBefore, FindsRange, IsEmptyAt, IsRangeOf, ReadsRange, rows_of_range};
+ghost use Rattle.s2ix_c_calls.specs.Ranges.{begun_from, FindsFull, FindsFullBefore, FindsRange, IsEmptyAt, IsRangeOf, ReadsRange, rows_of_range, TellsPlace};
 
 use crate::queries::leaf_of;
 use crate::rows::{Row, put_rows};
@@ -149,11 +149,11 @@ fn full_from<T: RangeTable>(table: &T, from: usize) -> Option<usize>
     None
 }
 
-/// The place of the first range from a place on that has a pair over it.
-pub fn full_store(store: &Store, from: usize, place: &mut usize) -> u32
-    ensures { FindsFull from (range_table store.now.bag.held) result place.new }
+// Tells the place of a range, if there is one.
+fn tell_place(found: Option<usize>, place: &mut usize) -> u32
+    ensures { TellsPlace found result place.new }
 {
-    match full_from(table_of(store), from) {
+    match found {
         Some(found) => {
             *place = found;
             DONE
@@ -163,6 +163,13 @@ pub fn full_store(store: &Store, from: usize, place: &mut usize) -> u32
             NO_RANGE
         }
     }
+}
+
+/// The place of the first range from a place on that has a pair over it.
+pub fn full_store(store: &Store, from: usize, place: &mut usize) -> u32
+    ensures { FindsFull from (range_table store.now.bag.held) result place.new }
+{
+    tell_place(full_from(table_of(store), from), place)
 }
 
 // The last range before a place that has a pair over it. No two neighbours are both empty, so it looks at two at most.
@@ -187,14 +194,5 @@ fn full_before<T: RangeTable>(table: &T, before: usize) -> Option<usize>
 pub fn full_store_before(store: &Store, before: usize, place: &mut usize) -> u32
     ensures { FindsFullBefore before (range_table store.now.bag.held) result place.new }
 {
-    match full_before(table_of(store), before) {
-        Some(found) => {
-            *place = found;
-            DONE
-        }
-        None => {
-            *place = 0;
-            NO_RANGE
-        }
-    }
+    tell_place(full_before(table_of(store), before), place)
 }

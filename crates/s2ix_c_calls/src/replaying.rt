@@ -1,12 +1,12 @@
 //! The bags to which a dump and a journal lead.
 
 ghost use Rattle.std.specs.Prelude.{◌≡◌, None, IfOk, IfErr, OnOk};
-ghost use Rattle.s2ix_bag.specs.Replay.{replay_refusal, replayed, rewind_refusal, rewound};
+ghost use Rattle.s2ix_bag.specs.Replay.{IsReplayError};
 ghost use Rattle.s2ix_text_read_dump.specs.DumpFaults.{dump_fault};
 ghost use Rattle.s2ix_text_read_journal.specs.JournalFaults.{journal_fault};
 ghost use Rattle.s2ix_text_write.specs.Dump.{IsDump};
 ghost use Rattle.s2ix_text_write.specs.Journal.{IsJournalText};
-ghost use Rattle.s2ix_c_calls.specs.Replaying.{IsOfTexts, IsRefusedIn, IsUnread, LeadTo, refused_at, refused_by};
+ghost use Rattle.s2ix_c_calls.specs.Replaying.{IsOfTexts, IsRefusedIn, IsUnread, LeadTo, led_by, refusal_by, refused_at, refused_by};
 ghost use Rattle.s2ix_c_calls.specs.Status.{no_dump, no_journal, out_of_memory};
 
 use crate::status::{
@@ -94,40 +94,42 @@ fn of_change(error: ReplayError) -> Refused
     }
 }
 
-/// The bag after a journal's changes.
-pub fn texts_replayed(
+/// Which way a journal's changes lead from a dump's collection.
+#[derive(Clone, Copy)]
+pub enum Direction {
+    /// They are done to it, the first of them first.
+    Forward,
+    /// They are taken back from it, the last of them first.
+    Back,
+}
+
+// The bag to which changes lead.
+fn led(
     alloc: Global,
-    dump: &[u8],
-    journal: &[u8],
-    limits: Limits,
-) -> Result<Bag, Refused>
-    ensures bag { IfOk result (LeadTo replayed replay_refusal limits dump.now journal.now) }
-    ensures refused { IfErr result (IsRefusedIn replay_refusal limits dump.now journal.now) }
-    ensures status { IfErr result (λ refused. IsOfTexts refused.status) }
+    direction: Direction,
+    bag: &Bag,
+    changes: &[Change],
+) -> Result<Bag, ReplayError>
+    ensures bag { IfOk result (λ reached. reached ≡ led_by direction bag.now changes.now) }
+    ensures accepted { OnOk result (refusal_by direction bag.now changes.now ≡ None) }
+    ensures refused { IfErr result (λ error. IsReplayError error (refusal_by direction bag.now changes.now)) }
 {
-    let bag = match bag_of(alloc, dump, limits) {
-        Ok(bag) => bag,
-        Err(refused) => return Err(refused),
-    };
-    let changes = match changes_of(alloc, journal, limits) {
-        Ok(changes) => changes,
-        Err(refused) => return Err(refused),
-    };
-    match replay(alloc, &bag, changes.as_slice()) {
-        Ok(after) => Ok(after),
-        Err(error) => Err(of_change(error)),
+    match direction {
+        Direction::Forward => replay(alloc, bag, changes),
+        Direction::Back => rewind(alloc, bag, changes),
     }
 }
 
-/// The bag before a journal's changes.
-pub fn texts_rewound(
+/// The bag to which a journal's changes lead from a dump's collection, or what is refused first in the two texts.
+pub fn texts_led(
     alloc: Global,
+    direction: Direction,
     dump: &[u8],
     journal: &[u8],
     limits: Limits,
 ) -> Result<Bag, Refused>
-    ensures bag { IfOk result (LeadTo rewound rewind_refusal limits dump.now journal.now) }
-    ensures refused { IfErr result (IsRefusedIn rewind_refusal limits dump.now journal.now) }
+    ensures bag { IfOk result (LeadTo (led_by direction) (refusal_by direction) limits dump.now journal.now) }
+    ensures refused { IfErr result (IsRefusedIn (refusal_by direction) limits dump.now journal.now) }
     ensures status { IfErr result (λ refused. IsOfTexts refused.status) }
 {
     let bag = match bag_of(alloc, dump, limits) {
@@ -138,8 +140,8 @@ pub fn texts_rewound(
         Ok(changes) => changes,
         Err(refused) => return Err(refused),
     };
-    match rewind(alloc, &bag, changes.as_slice()) {
-        Ok(before) => Ok(before),
+    match led(alloc, direction, &bag, changes.as_slice()) {
+        Ok(reached) => Ok(reached),
         Err(error) => Err(of_change(error)),
     }
 }

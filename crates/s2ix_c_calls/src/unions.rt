@@ -15,7 +15,7 @@ use s2ix_edit_plan::Edit;
 use std::alloc::Global;
 
 // The cells of numbers, or why there are none: a number that is no cell's, or want of memory.
-pub(crate) fn cells_of(alloc: Global, ids: &[u64]) -> Result<Vec<CellId>, u32>
+fn cells_of(alloc: Global, ids: &[u64]) -> Result<Vec<CellId>, u32>
     ensures cells { IfOk result (λ cells. AreCells ids.now cells.items) }
     ensures refused { IfErr result (λ why. ((why ≡ no_cell) × LacksCell ids.now) ⊎ (why ≡ out_of_memory)) }
 {
@@ -31,23 +31,6 @@ pub(crate) fn cells_of(alloc: Global, ids: &[u64]) -> Result<Vec<CellId>, u32>
         }
     }
     Ok(cells)
-}
-
-/// The edit that adds a union under a label.
-pub fn union_of(alloc: Global, ids: &[u64], label: u32) -> Result<Edit, u32>
-    ensures { AsksUnion ids.now label result }
-{
-    let cells = match cells_of(alloc, ids) {
-        Ok(cells) => cells,
-        Err(why) => return Err(why),
-    };
-    let Some(label) = Label::new(label) else {
-        return Err(NO_LABEL);
-    };
-    let Ok(union) = CellUnion::normalise(alloc, cells.as_slice()) else {
-        return Err(OUT_OF_MEMORY);
-    };
-    Ok(Edit::AddUnion { union, label })
 }
 
 /// The union of cells by their numbers, or why there is none: a number that is no cell's, or want of memory.
@@ -78,4 +61,18 @@ pub fn normals_of(
     let first = normal_of(alloc, first)?;
     let second = normal_of(alloc, second)?;
     Ok((first, second))
+}
+
+/// The edit that adds a union under a label.
+pub fn union_of(alloc: Global, ids: &[u64], label: u32) -> Result<Edit, u32>
+    ensures { AsksUnion ids.now label result }
+{
+    let union = match normal_of(alloc, ids) {
+        Ok(union) => union,
+        Err(why) => return Err(why),
+    };
+    match Label::new(label) {
+        Some(label) => Ok(Edit::AddUnion { union, label }),
+        None => Err(NO_LABEL),
+    }
 }

@@ -1,10 +1,10 @@
 -- The limits are those that the three numbers made, and where the texts lead or what is refused in them is told of the texts.
 use Rattle.std.proofs.Common.{ap, inl, inr}
 use Rattle.s2ix_c_calls.specs.Replaying.{refused_at}
-use Rattle.s2ix_c.proofs.replaying.s2ix_rewind.Goals as goal
+use Rattle.s2ix_c.proofs.replaying.open_led.Goals as goal
 
-pub returns-in-Ok-clause-rewound : goal.returns-in-Ok-clause-rewound
-returns-in-Ok-clause-rewound c = λ is_done. (
+pub returns-in-Ok-clause-led : goal.returns-in-Ok-clause-led
+returns-in-Ok-clause-led c = λ is_done. (
   c.in-Some.limits,
   c.in-Some.ensures.pairs,
   c.in-Some.ensures.count,
