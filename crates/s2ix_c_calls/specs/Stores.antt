@@ -1,18 +1,12 @@
 -- What calls make of a store.
-use Rattle.std.specs.Prelude.{◌≡◌, ◌≢◌, ◌⊎◌, ℕ, None, Result, Ok, Err, [], length, List}
+use Rattle.std.specs.Prelude.{◌≡◌, ◌≢◌, ◌⊎◌, ℕ, None, [], length, List}
 use Rattle.s2ix_bag_pairs.specs.declared.pair.Held.{Held}
 use Rattle.s2ix_edit_plan.specs.declared.edit.Edit.{Edit}
-use Rattle.s2ix_edit_plan.specs.declared.errors.EditError.{EditError}
 use Rattle.s2ix_edit_plan.specs.Refusals.{edit_refusal}
 use Rattle.s2ix_edit_plan.specs.Rows.{rows_change, rows_refusal}
 use Rattle.s2ix_edit_plan.specs.State.{State, change_of, starting_at}
 use Rattle.s2ix_edit.specs.Steps.{after_edit, after_rows, after_undo, after_redo, undo_size, redo_size}
-use Rattle.s2ix_c_calls.specs.Status.{done, out_of_memory, nothing_to_undo, nothing_to_redo, edit_status, IsRefusal}
-
--- what an edit answers, as a call tells it: how many pairs it changed, or the status of why it is refused
-abbrev pub TellsEdited : Result ℕ EditError → ℕ → ℕ → Type 0
-TellsEdited (Ok changed) status number = (status ≡ done) × (number ≡ changed)
-TellsEdited (Err error) status number = (status ≡ edit_status error) × (number ≡ 0)
+use Rattle.s2ix_c_calls.specs.Status.{done, out_of_memory, nothing_to_undo, nothing_to_redo, IsRefusal}
 
 -- an edit of a store: if it is done, the store is the one after it; else it is as it was, and the status says why
 pub record IsEdited (edit : Edit) (status number : ℕ) (s t : State) : Type 0 where

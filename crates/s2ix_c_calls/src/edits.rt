@@ -1,17 +1,17 @@
 //! The edits of a store.
 
-ghost use Rattle.s2ix_c_calls.specs.Stores.{IsAdded, IsEdited, TellsEdited};
+ghost use Rattle.s2ix_c_calls.specs.Stores.{IsAdded, IsEdited};
 
 use crate::status::{DONE, status_of};
 use s2ix_bag_pairs::Held;
 use s2ix_edit::Store;
-use s2ix_edit_plan::{Edit, EditError};
+use s2ix_edit_plan::Edit;
 
-// Tells how many pairs an edit changed, or why it is refused.
-fn tell_changed(edited: Result<usize, EditError>, number: &mut usize) -> u32
-    ensures { TellsEdited edited result number.new }
+/// Carries an edit out on a store; `number` is how many pairs changed their counts.
+pub fn edit_store(store: &mut Store, edit: &Edit, number: &mut usize) -> u32
+    ensures { IsEdited edit.now result number.new store.old store.new }
 {
-    match edited {
+    match store.edit(edit) {
         Ok(changed) => {
             *number = changed;
             DONE
@@ -23,16 +23,18 @@ fn tell_changed(edited: Result<usize, EditError>, number: &mut usize) -> u32
     }
 }
 
-/// Carries an edit out on a store; `number` is how many pairs changed their counts.
-pub fn edit_store(store: &mut Store, edit: &Edit, number: &mut usize) -> u32
-    ensures { IsEdited edit.now result number.new store.old store.new }
-{
-    tell_changed(store.edit(edit), number)
-}
-
 /// Adds pairs to the counts of a store, as one change; `number` is how many pairs gained copies.
 pub fn add_store(store: &mut Store, rows: &[Held], number: &mut usize) -> u32
     ensures { IsAdded rows.now result number.new store.old store.new }
 {
-    tell_changed(store.add_all(rows), number)
+    match store.add_all(rows) {
+        Ok(changed) => {
+            *number = changed;
+            DONE
+        }
+        Err(why) => {
+            *number = 0;
+            status_of(why)
+        }
+    }
 }
