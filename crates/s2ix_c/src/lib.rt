@@ -11,7 +11,6 @@ mod cells;
 mod changes;
 mod counts;
 mod edits;
-mod exporting;
 mod handles;
 mod listing;
 mod queries;

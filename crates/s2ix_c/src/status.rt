@@ -1,4 +1,4 @@
-//! The numbers that calls answer with. `include/s2ix.h` names them.
+//! What the numbers that calls answer with say.
 
 ghost use Rattle.s2ix_c_calls.specs.Lists.{IsPut};
 ghost use Rattle.s2ix_c_calls.specs.Texts.{status_text};

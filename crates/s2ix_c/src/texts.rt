@@ -1,7 +1,8 @@
-//! What a store holds as a dump, and its changes as a journal.
+//! What a store holds as a dump or as JSON, and its changes as a journal.
 
 ghost use Rattle.std.specs.Prelude.{◌≡◌, Ok};
 ghost use Rattle.s2ix_handle.specs.Handle.{held_of};
+ghost use Rattle.s2ix_text_export.specs.Export.{export_text};
 ghost use Rattle.s2ix_text_write.specs.Dump.{dump_text};
 ghost use Rattle.s2ix_text_write.specs.Journal.{journal_text};
 ghost use Rattle.s2ix_c.specs.Calls.{Through};
@@ -9,7 +10,7 @@ ghost use Rattle.s2ix_c_calls.specs.Lists.{Lists};
 ghost use Rattle.s2ix_c_calls.specs.Status.{closed};
 
 use s2ix_c_calls::status::CLOSED;
-use s2ix_c_calls::{dump_store, journal_store};
+use s2ix_c_calls::{dump_store, export_store, journal_store};
 use s2ix_handle::Handle;
 use std::alloc::Global;
 
@@ -51,6 +52,27 @@ pub extern "C" fn s2ix_journal(
         return CLOSED;
     };
     let status = journal_store(alloc, &store, out, number);
+    *handle = Handle::of(alloc, store);
+    status
+}
+
+/// The export of what is held: one line of compact JSON, without a line feed.
+#[tactic(auto, using(crate::proofs::Through::through_open, crate::proofs::Through::through_closed))]
+#[unsafe(no_mangle)]
+pub extern "C" fn s2ix_export(
+    alloc: Global,
+    handle: &mut Handle,
+    out: &mut [u8],
+    number: &mut usize,
+) -> u32
+    ensures { Through (λ s t. (t ≡ s) × Lists (Ok (export_text s.bag.held)) result number.new out.old out.new)
+        ((result ≡ closed) × (number.new ≡ 0) × (out.new ≡ out.old)) (held_of handle.old) (held_of handle.new) }
+{
+    let Some(store) = handle.take(alloc) else {
+        *number = 0;
+        return CLOSED;
+    };
+    let status = export_store(alloc, &store, out, number);
     *handle = Handle::of(alloc, store);
     status
 }
