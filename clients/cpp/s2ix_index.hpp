@@ -623,6 +623,17 @@ class Index {
     });
   }
 
+  // Carries out one line of a script, given without its line feed, and returns its answer (docs/FORMATS.md): `ok N`, `no NAME`, or the lines
+  // of a query, each with its line feed; nothing for a blank line or a comment. A refused line throws nothing. It costs what the line's own
+  // call does. S2IX_CLOSED.
+  std::string line(std::string_view line) {
+    std::string answer(32, '\0');  // (room for the answer of each edit, so that only a long answer is asked for twice)
+    detail::fill(answer, [&](char* bytes, std::size_t room, std::size_t* number) {
+      return s2ix_line(&handle_, detail::bytes(line), line.size(), reinterpret_cast<std::uint8_t*>(bytes), room, number);
+    });
+    return answer;
+  }
+
  private:
   template <class Id>
   friend class BasicS2CellIndex;

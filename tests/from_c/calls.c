@@ -68,6 +68,10 @@ static void refused_while_closed(void) {
     EXPECT(row.cell + row.label + row.count, 6);
     EXPECT(s2ix_dump(&handle, byte, 1, &number), S2IX_CLOSED);
     EXPECT(byte[0], 9);
+    number = 7;
+    EXPECT(s2ix_line(&handle, byte, 0, byte, 1, &number), S2IX_CLOSED);
+    EXPECT(number, 0);
+    EXPECT(byte[0], 9);
     s2ix_close(&handle);
     s2ix_close(&handle);
     EXPECT(handle.is_open, false);
@@ -385,6 +389,44 @@ static void copied(void) {
     s2ix_close(&copy);
 }
 
+/* Carries a line out with some room: its status, its number and its answer are these, and nothing else of the buffer is written. */
+static void carried_out(s2ix_handle *handle, const char *line, size_t room, uint32_t status, size_t wanted, const char *answer) {
+    uint8_t text[64];
+    size_t number = 7;
+    memset(text, 7, sizeof text);
+    EXPECT(s2ix_line(handle, (const uint8_t *)line, strlen(line), text, room, &number), status);
+    EXPECT(number, wanted);
+    EXPECT(memcmp(text, answer, strlen(answer)), 0);
+    for (size_t place = strlen(answer); place < sizeof text; place++) EXPECT(text[place], 7);
+}
+
+static void lines(void) {
+    s2ix_handle handle = {0};
+    size_t number;
+    EXPECT(s2ix_open(&handle, 10, 10, 10), S2IX_DONE);
+    carried_out(&handle, "add 1 3 2", 31, S2IX_NO_ROOM, 32, "");
+    EXPECT(s2ix_done_count(&handle, &number), S2IX_DONE);
+    EXPECT(number, 0);
+    carried_out(&handle, "add 1 3 2", 32, S2IX_DONE, 5, "ok 1\n");
+    carried_out(&handle, "undo", 31, S2IX_NO_ROOM, 32, "");
+    EXPECT(s2ix_done_count(&handle, &number), S2IX_DONE);
+    EXPECT(number, 1);
+    carried_out(&handle, "dump", 20, S2IX_NO_ROOM, 21, "");
+    carried_out(&handle, "dump", 21, S2IX_DONE, 21, "s2ix 2\n1 3 2\nend 1 2\n");
+    carried_out(&handle, "remove 1 4", 64, S2IX_DONE, 11, "no NotHeld\n");
+    carried_out(&handle, "fly 1", 13, S2IX_NO_ROOM, 14, "");
+    carried_out(&handle, "fly 1", 14, S2IX_DONE, 14, "no BadCommand\n");
+    carried_out(&handle, "# add 1 3", 0, S2IX_DONE, 0, "");
+    carried_out(&handle, "", 0, S2IX_DONE, 0, "");
+    carried_out(&handle, "undo", 32, S2IX_DONE, 5, "ok 1\n");
+    carried_out(&handle, "redo", 32, S2IX_DONE, 5, "ok 1\n");
+    carried_out(&handle, "redo", 32, S2IX_DONE, 17, "no NothingToRedo\n");
+    carried_out(&handle, "forget", 32, S2IX_DONE, 5, "ok 0\n");
+    EXPECT(s2ix_done_count(&handle, &number), S2IX_DONE);
+    EXPECT(number, 0);
+    s2ix_close(&handle);
+}
+
 static void written_and_read(void) {
     static const char wanted[] = "s2ix 2\n1 3 2\nend 1 2\n";
     const size_t len = sizeof wanted - 1;
@@ -569,6 +611,7 @@ int main(void) {
     paged();
     told();
     copied();
+    lines();
     written_and_read();
     journalled();
     changed();

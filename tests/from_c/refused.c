@@ -21,6 +21,7 @@ enum { ROOM = 4096 };
 static const uint64_t first = 0x0400000000000000, second = 0x0c00000000000000, face = 0x1000000000000000, leaf = 0x0400000000000001;
 static const uint64_t two[] = {0x0c00000000000000, 0x0400000000000000};
 static const char dump[] = "s2ix 2\n04 7 1\n0400000000000001 8 2\n0c 7 1\nend 3 4\n";
+static const char add_line[] = "add 1 1", meet_line[] = "meet 1";
 /* The first leads on from that dump, the second to it. */
 static const char onwards[] = "s2ix-journal 2\nchange 2\n04 7 1 3\n1c 7 0 1\nend 1\n";
 static const char up_to[] = "s2ix-journal 2\nchange 2\n04 7 0 1\n0c 7 2 1\nend 1\n";
@@ -83,6 +84,8 @@ CALL(contents) { return (void)other, s2ix_contents(handle, 1, 0, ROWS, &told->nu
 CALL(dumps) { return (void)other, s2ix_dump(handle, told->bytes, ROOM, &told->number); }
 CALL(journals) { return (void)other, s2ix_journal(handle, told->bytes, ROOM, &told->number); }
 CALL(exports) { return (void)other, s2ix_export(handle, told->bytes, ROOM, &told->number); }
+CALL(adds_by_line) { return (void)other, s2ix_line(handle, TEXT(add_line), told->bytes, ROOM, &told->number); }
+CALL(asks_by_line) { return (void)other, s2ix_line(handle, TEXT(meet_line), told->bytes, ROOM, &told->number); }
 
 /* Calls without a handle. */
 CALL(border) { return (void)handle, (void)other, s2ix_cell_border(first, 3, CELLS, &told->number); }
@@ -156,6 +159,8 @@ static const struct {
     {"dump", dumps, true},
     {"journal", journals, true},
     {"export", exports, true},
+    {"line of an edit", adds_by_line, true},
+    {"line of a query", asks_by_line, true},
     {"border", border, true},
     {"union_normalise", normal_list, true},
     {"union_from_leaves", from_leaves, true},

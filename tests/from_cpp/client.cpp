@@ -106,6 +106,7 @@ void Closed() {
   REFUSED(S2IX_CLOSED, index.meet_from({kFace}, 0, 1));
   REFUSED(S2IX_CLOSED, index.journal());
   REFUSED(S2IX_CLOSED, index.export_json());
+  REFUSED(S2IX_CLOSED, index.line("undo"));
   REFUSED(S2IX_CLOSED, index.change(1));
 }
 
@@ -268,6 +269,17 @@ void ChangedAndReplayed() {
   REFUSED(S2IX_NO_LIMITS, s2ix::Index::rewind(dump, journal, s2ix::Limits{0, 1, 1}));
 }
 
+void Lines() {
+  s2ix::Index index;
+  EXPECT(index.line("add 04 7 2") == "ok 1\n" && index.count(kFirst, 7) == 2);
+  EXPECT(index.line("at 0400000000000001") == "04:7:2\nend 1\n" && index.line("dump") == index.dump());
+  EXPECT(index.line("fly") == "no BadCommand\n" && index.line("remove 04 7 3") == "no NotHeld\n");
+  EXPECT(index.line("").empty() && index.line({}).empty() && index.line("# undo").empty() && index.done_count() == 1);
+  EXPECT(index.line("undo") == "ok 1\n" && index.line("undo") == "no NothingToUndo\n" && index.undone_count() == 1);
+  for (std::uint32_t label = 0; label < 30; label++) index.add(kFirst, label);
+  EXPECT(index.line("dump") == index.dump() && index.line("journal") == index.journal());
+}
+
 void WrittenAndRead() {
   s2ix::Index index;
   for (std::uint32_t label = 0; label < 30; label++) index.add(kFirst, label, label + 1);
@@ -422,6 +434,7 @@ int main() {
   ChangedByTheirLabels();
   Asked();
   AskedForMany();
+  Lines();
   WrittenAndRead();
   ChangedAndReplayed();
   Cells();

@@ -96,6 +96,8 @@ const Call kCalls[] = {
     {"dump", [](s2ix::Index& index) { return index.dump(); }},
     {"journal", [](s2ix::Index& index) { return index.journal(); }},
     {"export_json", [](s2ix::Index& index) { return index.export_json(); }},
+    {"line of an edit", [](s2ix::Index& index) { return index.line("add 1 1"); }},
+    {"line of a query", [](s2ix::Index& index) { return index.line("export"); }},
     {"border", [](s2ix::Index&) { return s2ix::cell::border(kFirst, 3); }},
     {"normalise", [](s2ix::Index&) { return s2ix::cell_union::normalise({kFirst, kSecond}); }},
     {"from_leaves", [](s2ix::Index&) { return s2ix::cell_union::from_leaves(3, 77); }},

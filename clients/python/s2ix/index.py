@@ -398,6 +398,14 @@ class Index:
         """What is held as one line of compact JSON, without a line feed. O(n). Raises Closed or OutOfMemory."""
         return str(self._list(self._calls.s2ix_export, 1), "ascii")
 
+    def line(self, text: Text) -> str:
+        """Carries out one line of a script, given without its line feed, and returns its answer: `ok N`, `no NAME`, or the lines of a query,
+        each with its line feed; nothing for a blank line or a comment. A refused line raises nothing. It costs what the line's own call does.
+        Raises Closed or OutOfMemory."""
+        given = _bytes_of(text)
+        at_given = ctypes.cast(ctypes.c_char_p(given), ctypes.c_void_p).value or 0
+        return str(self._list(self._calls.s2ix_line, 1, at_given, len(given)), "ascii")
+
     # How calls are made.
 
     def _region(self, label: int) -> memoryview:

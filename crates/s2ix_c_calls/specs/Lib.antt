@@ -6,3 +6,4 @@ pub mod Texts
 pub mod Ranges
 pub mod Changes
 pub mod Replaying
+pub mod Line

@@ -4,6 +4,7 @@ pub use Rattle.s2ix_cli_fields.specs.Fields
 pub use Rattle.s2ix_cli_script.specs.Meaning
 pub use Rattle.s2ix_cli_step.specs.Carry
 pub use Rattle.s2ix_cli_step.specs.Step
+pub use Rattle.s2ix_cli_line.specs.InBuffer
 pub use Rattle.s2ix_cli_run.specs.Run
 pub use Rattle.s2ix_cli_run.specs.Script
 pub use Rattle.s2ix_cli_files.specs.Reads

@@ -20,7 +20,7 @@
 //! `turns` pieces.
 //!
 //! The crates behind this one: `s2ix_cli_fields` cuts a line into fields; `s2ix_cli_script` says what a line asks for; `s2ix_cli_answers`
-//! writes what queries find; `s2ix_cli_step` carries out one line; `s2ix_cli_run` runs a script; `s2ix_cli_files` checks, loads, replays and
+//! writes what queries find; `s2ix_cli_step` carries out one line; `s2ix_cli_line` answers one in a buffer; `s2ix_cli_run` runs a script; `s2ix_cli_files` checks, loads, replays and
 //! rewinds whole texts; `s2ix_cli_words` reads the program's words and tells its status.
 #![tactic(auto)]
 
@@ -37,6 +37,7 @@ pub use s2ix_cli_files::{
     Refusal, TextsError, check_text, dump_fault_name, journal_fault_name, load_text, replay_texts,
     rewind_texts,
 };
+pub use s2ix_cli_line::{NoAnswer, answer_line};
 pub use s2ix_cli_run::{RunEnd, RunOptions, run};
 pub use s2ix_cli_script::{
     Instruction, LONGEST_LINE, LineError, LineFault, add_union_named, cell_named, drop_named,

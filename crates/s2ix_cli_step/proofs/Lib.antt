@@ -1,4 +1,5 @@
 pub mod Asked
 pub mod Kept
-mod Told
-mod WantedMemory
+mod Names
+pub mod Told
+pub mod WantedMemory

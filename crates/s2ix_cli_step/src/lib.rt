@@ -14,3 +14,4 @@ mod steps;
 
 pub use carry::{carry_instruction, carry_out};
 pub use outcome::LineOutcome;
+pub use steps::StepError;

@@ -1,5 +1,5 @@
 //! Telling what a step of the store came to: how many pairs changed, or why it was refused.
-ghost use Rattle.std.specs.Prelude.{◌≡◌, ◌≢◌, ◌↔◌, ◌+◌, ℕ, List, Err, IfErr, IfSome, IsNone};
+ghost use Rattle.std.specs.Prelude.{◌≡◌, ◌≢◌, ◌↔◌, ◌+◌, ◌≤◌, ℕ, List, length, Err, IfErr, IfSome, IsNone};
 ghost use Rattle.s2ix_edit_plan.specs.declared.errors.EditError.{EditError};
 ghost use Rattle.s2ix_edit_plan.specs.declared.errors.RedoError.{RedoError};
 ghost use Rattle.s2ix_edit_plan.specs.declared.errors.UndoError.{UndoError};
@@ -15,17 +15,18 @@ use s2ix_cli_script::{edit_error_name, redo_error_name, undo_error_name};
 use s2ix_edit_plan::{EditError, RedoError, UndoError};
 use s2ix_text_io::{RunFault, Sink};
 
-// Why a step of the store was refused.
-pub(crate) trait StepError: Copy {
+/// Why a step of the store was refused.
+pub trait StepError: Copy {
     // the name that is printed
     ghost printed: { Self → List ℕ };
 
     // the one that is never printed, since it ends the run
     ghost want: { Self };
 
-    // The name that is printed, or `None` where memory was wanted.
+    /// The name that is printed, or `None` if memory was wanted. It has at most 28 bytes.
     fn printed_name(self) -> Option<&'static str>
         ensures name { IfSome result (λ name. name.now ≡ printed self) }
+        ensures short { IfSome result (λ name. length name.now ≤ 28) }
         ensures memory { IsNone result ↔ (self ≡ want) };
 }
 
@@ -34,6 +35,7 @@ impl StepError for EditError {
 
     ghost want = { EditError.OutOfMemory };
 
+    #[tactic(auto, using(crate::proofs::Names::edit_name_short))]
     fn printed_name(self) -> Option<&'static str> {
         match self {
             EditError::OutOfMemory => None,
@@ -47,6 +49,7 @@ impl StepError for UndoError {
 
     ghost want = { UndoError.OutOfMemory };
 
+    #[tactic(auto, using(crate::proofs::Names::undo_name_short))]
     fn printed_name(self) -> Option<&'static str> {
         match self {
             UndoError::OutOfMemory => None,
@@ -60,6 +63,7 @@ impl StepError for RedoError {
 
     ghost want = { RedoError.OutOfMemory };
 
+    #[tactic(auto, using(crate::proofs::Names::redo_name_short))]
     fn printed_name(self) -> Option<&'static str> {
         match self {
             RedoError::OutOfMemory => None,

@@ -1,0 +1,35 @@
+//! A line of a script, carried out on a store, with its answer in a buffer.
+
+ghost use Rattle.std.specs.Prelude.{◌≡◌};
+ghost use Rattle.s2ix_handle.specs.Handle.{held_of};
+ghost use Rattle.s2ix_c.specs.Calls.{Through};
+ghost use Rattle.s2ix_c_calls.specs.Line.{IsCarriedOut};
+ghost use Rattle.s2ix_c_calls.specs.Status.{closed};
+
+use s2ix_c_calls::line_store;
+use s2ix_c_calls::status::CLOSED;
+use s2ix_handle::Handle;
+use std::alloc::Global;
+
+/// Carries a line of a script out, and puts its answer to the front of `out`; `number` is how many bytes it has. With too little room
+/// nothing is done, and `number` is how much the line wants.
+#[tactic(auto, using(crate::proofs::Through::through_open, crate::proofs::Through::through_closed))]
+#[unsafe(no_mangle)]
+pub extern "C" fn s2ix_line(
+    alloc: Global,
+    handle: &mut Handle,
+    line: &[u8],
+    out: &mut [u8],
+    number: &mut usize,
+) -> u32
+    ensures { Through (IsCarriedOut line.now result number.new out.old out.new)
+        ((result ≡ closed) × (number.new ≡ 0) × (out.new ≡ out.old)) (held_of handle.old) (held_of handle.new) }
+{
+    let Some(mut store) = handle.take(alloc) else {
+        *number = 0;
+        return CLOSED;
+    };
+    let status = line_store(alloc, &mut store, line, out, number);
+    *handle = Handle::of(alloc, store);
+    status
+}

@@ -1,0 +1,58 @@
+-- A line carried out, with its answer in a buffer of the caller.
+use Rattle.std.specs.Prelude.{◌≡◌, ◌<◌, ◌≤◌, ◌⊎◌, ℕ, if◌then◌else◌, not, Bool, true, false, Option, Some, None, Result, Ok, Err, List, length, take, drop}
+use Rattle.s2ix_edit_plan.specs.State.{State}
+use Rattle.s2ix_cli_script.specs.declared.instruction.Instruction.{Instruction}
+use Rattle.s2ix_cli_script.specs.declared.line_fault.LineFault.{LineFault}
+use Rattle.s2ix_cli_script.specs.Meaning.{meaning_of}
+use Rattle.s2ix_cli_step.specs.Asking.{is_question}
+use Rattle.s2ix_cli_step.specs.Step.{Step, step_at}
+use Rattle.s2ix_cli_step.specs.Wants.{MeaningWants}
+use Rattle.s2ix_cli_line.specs.declared.no_answer.NoAnswer.{NoAnswer}
+use Rattle.s2ix_cli_line.specs.declared.no_answer.NoAnswer.TheVariants.{OutOfMemory, NoRoom}
+
+-- a text at the front of a buffer, which stays as it was after it
+pub record IsAtFront (text : List ℕ) (count : ℕ) (old new : List ℕ) : Type 0 where
+  pub long : count ≡ length text
+  pub front : take count new ≡ text
+  pub behind : drop count new ≡ drop count old
+
+-- a text was put to the front of a buffer, or the buffer is as it was
+abbrev pub Puts : List ℕ → List ℕ → List ℕ → Result ℕ NoAnswer → Type 0
+Puts text before behind (Ok count) = IsAtFront text count before behind
+Puts text before behind (Err why) = behind ≡ before
+
+-- a step was taken, and its answer is at the front of a buffer; or there is no answer, and neither store nor buffer has changed
+abbrev pub Answers : Step → State → State → List ℕ → List ℕ → Result ℕ NoAnswer → Type 0
+Answers step old new before behind (Ok count) = (new ≡ step.after) × IsAtFront step.answer count before behind
+Answers step old new before behind (Err why) = (new ≡ old) × (behind ≡ before)
+
+-- whether a line of this meaning asks for an edit, an undo, a redo or a forget
+abbrev pub asks_step : Result (Option Instruction) LineFault → Bool
+asks_step (Ok (Some instruction)) = not (is_question instruction)
+asks_step (Ok None) = false
+asks_step (Err fault) = false
+
+-- whether a line of this meaning asks a question
+abbrev pub asks_question : Result (Option Instruction) LineFault → Bool
+asks_question (Ok (Some instruction)) = is_question instruction
+asks_question (Ok None) = false
+asks_question (Err fault) = false
+
+-- how much room a line of this meaning wants: 32 bytes for the answer of a step, else as many as its answer has
+abbrev pub room_at : State → Result (Option Instruction) LineFault → ℕ
+room_at s meaning = if asks_step meaning then 32 else length (step_at s meaning).answer
+
+-- how much room a line wants
+abbrev pub room_for : State → List ℕ → ℕ
+room_for s line = room_at s (meaning_of line)
+
+-- what is told of a buffer of this length, if so much room is wanted: an answer keeps within the room, and the buffer has it; `NoRoom` tells
+-- the room, and the buffer is shorter
+abbrev pub IsWithin : ℕ → ℕ → Result ℕ NoAnswer → Type 0
+IsWithin room len (Ok count) = (count ≤ room) × (room ≤ len)
+IsWithin room len (Err (NoRoom needed)) = (needed ≡ room) × (len < room)
+IsWithin room len (Err OutOfMemory) = Unit {0}
+
+-- a line of this meaning may want memory: to be carried out, or to keep the answer of a question
+abbrev pub MayWantMemory : State → Result (Option Instruction) LineFault → Type 0
+MayWantMemory s meaning = MeaningWants s meaning ⊎ (asks_question meaning ≡ true)
