@@ -20,8 +20,8 @@
 //! `turns` pieces.
 //!
 //! The crates behind this one: `s2ix_cli_fields` cuts a line into fields; `s2ix_cli_script` says what a line asks for; `s2ix_cli_answers`
-//! writes what queries find; `s2ix_cli_step` carries out one line; `s2ix_cli_line` answers one in a buffer; `s2ix_cli_run` runs a script; `s2ix_cli_files` checks, loads, replays and
-//! rewinds whole texts; `s2ix_cli_words` reads the program's words and tells its status.
+//! writes what queries find; `s2ix_cli_step` carries out one line; `s2ix_cli_line` answers one in a buffer; `s2ix_cli_run` runs a script;
+//! `s2ix_cli_files` checks, loads, replays and rewinds whole texts; `s2ix_cli_words` reads the program's words and tells its status.
 #![tactic(auto)]
 
 pub mod laws;
