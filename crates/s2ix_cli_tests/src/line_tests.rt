@@ -20,7 +20,10 @@ fn check_answer(
     let mut buffer = [b'.'; ROOM];
     let told = answer_line(alloc, store, line, &mut buffer[..room.min(ROOM)]);
     let is_kept = buffer.iter().skip(answer.len()).all(|byte| *byte == b'.');
-    assert!(rt; told == Ok(answer.len()) && buffer.starts_with(answer) && is_kept, "{told:?}, {buffer:?}");
+    assert!(rt;
+        told == Ok(answer.len()) && buffer.starts_with(answer) && is_kept,
+        "{told:?}, {buffer:?}"
+    );
 }
 
 // A line has too little room: it tells how much it wants, and neither the buffer nor the changes of the store are others.
@@ -36,7 +39,10 @@ fn check_no_room(
     let (done, undone) = (store.done().len(), store.undone().len());
     let told = answer_line(alloc, store, line, &mut buffer[..room.min(ROOM)]);
     let is_kept = buffer.iter().all(|byte| *byte == b'.');
-    assert!(rt; told == Err(NoAnswer::NoRoom { needed }) && is_kept, "{told:?}, {buffer:?}");
+    assert!(rt;
+        told == Err(NoAnswer::NoRoom { needed }) && is_kept,
+        "{told:?}, {buffer:?}"
+    );
     assert!(rt; store.done().len() == done && store.undone().len() == undone);
 }
 
@@ -85,7 +91,14 @@ fn a_step_wants_room_for_the_longest_answer(rt: HostRuntime) {
 fn a_question_wants_room_for_its_answer(rt: HostRuntime) {
     let mut store = fresh(&rt, rt.alloc());
     check_answer(&rt, rt.alloc(), &mut store, b"add 1 7", ROOM, b"ok 1\n");
-    check_answer(&rt, rt.alloc(), &mut store, b"meet 0c", 12, b"1:7:1\nend 1\n");
+    check_answer(
+        &rt,
+        rt.alloc(),
+        &mut store,
+        b"meet 0c",
+        12,
+        b"1:7:1\nend 1\n",
+    );
     check_no_room(&rt, rt.alloc(), &mut store, b"meet 0c", 11, 12);
     check_no_room(&rt, rt.alloc(), &mut store, b"dump", 0, 21);
 }
@@ -93,7 +106,14 @@ fn a_question_wants_room_for_its_answer(rt: HostRuntime) {
 #[test]
 fn a_refused_line_wants_room_for_its_name(rt: HostRuntime) {
     let mut store = fresh(&rt, rt.alloc());
-    check_answer(&rt, rt.alloc(), &mut store, b"fly 1", 14, b"no BadCommand\n");
+    check_answer(
+        &rt,
+        rt.alloc(),
+        &mut store,
+        b"fly 1",
+        14,
+        b"no BadCommand\n",
+    );
     check_no_room(&rt, rt.alloc(), &mut store, b"fly 1", 13, 14);
     check_answer(&rt, rt.alloc(), &mut store, b"", 0, b"");
 }
