@@ -12,8 +12,8 @@ IsTurnedAway line status number room s =
     ((status ≡ no_room) × (number ≡ room_for s line) × (room < number))
     ⊎ ((status ≡ out_of_memory) × (number ≡ 0) × MayWantMemory s (meaning_of line))
 
--- a line on a store: if it is done, the store is the one after it, and its answer is at the front of the buffer, which had the room that the
--- line wants; else store and buffer are as they were, and the status says why
+-- a line on a store: if it is done, the store is the one after it, and its answer is at the front of the buffer, which had the room that
+-- the line wants; else store and buffer are as they were, and the status says why
 pub record IsCarriedOut (line : List ℕ) (status number : ℕ) (before behind : List ℕ) (s t : State) : Type 0 where
   pub after : status ≡ done → t ≡ (step_of s line).after
   pub answer : status ≡ done → IsAtFront (step_of s line).answer number before behind

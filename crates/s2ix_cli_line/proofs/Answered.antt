@@ -8,20 +8,14 @@ use Rattle.s2ix_cli_script.specs.Meaning.{asks_on_union, meaning_of}
 use Rattle.s2ix_cli_step.specs.Step.{step_at, step_of}
 use Rattle.s2ix_cli_step.proofs.WantedMemory.{line_wants}
 use Rattle.s2ix_cli_line.specs.declared.no_answer.NoAnswer.{NoAnswer}
-use Rattle.s2ix_cli_line.specs.InBuffer.{Answers, IsWithin, MayWantMemory, room_at, room_for}
+use Rattle.s2ix_cli_line.specs.InBuffer.{Answers, MayWantMemory}
 
-module _ (s : State) (line : List ℕ) (meaning : Result (Option Instruction) LineFault) (is : meaning_of line ≡ meaning) where
-  pub answers_by : (new : State) (before behind : List ℕ) (told : Result ℕ NoAnswer) → Answers (step_at s meaning) s new before behind told
-      → Answers (step_of s line) s new before behind told
-  unfolding step_of
-  answers_by new before behind told answered =
-      subst (λ (m : Result (Option Instruction) LineFault). Answers (step_at s m) s new before behind told) (sym is) answered
-
-  pub room_by : (len : ℕ) (told : Result ℕ NoAnswer) → IsWithin (room_at s meaning) len told → IsWithin (room_for s line) len told
-  room_by len told within = subst (λ (m : Result (Option Instruction) LineFault). IsWithin (room_at s m) len told) (sym is) within
-
-  pub memory_by : MayWantMemory s meaning → MayWantMemory s (meaning_of line)
-  memory_by wants = subst (λ (m : Result (Option Instruction) LineFault). MayWantMemory s m) (sym is) wants
+pub answers_by : (s : State) (line : List ℕ) (meaning : Result (Option Instruction) LineFault) → meaning_of line ≡ meaning → (new : State)
+    (before behind : List ℕ) (told : Result ℕ NoAnswer) → Answers (step_at s meaning) s new before behind told
+    → Answers (step_of s line) s new before behind told
+unfolding step_of
+answers_by s line meaning is new before behind told answered =
+    subst (λ (m : Result (Option Instruction) LineFault). Answers (step_at s m) s new before behind told) (sym is) answered
 
 pub lacks_memory : (s : State) (meaning : Result (Option Instruction) LineFault) → is_ok_with asks_on_union meaning ≡ true
     → MayWantMemory s meaning

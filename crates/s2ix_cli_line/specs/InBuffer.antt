@@ -1,5 +1,6 @@
 -- A line carried out, with its answer in a buffer of the caller.
-use Rattle.std.specs.Prelude.{◌≡◌, ◌<◌, ◌≤◌, ◌⊎◌, ℕ, if◌then◌else◌, not, Bool, true, false, Option, Some, None, Result, Ok, Err, List, length, take, drop}
+use Rattle.std.specs.Prelude.{◌≡◌, ◌<◌, ◌≤◌, ◌⊎◌, ℕ, if◌then◌else◌, not, Bool, true, false, Option, Some, None, Result, Ok, Err}
+use Rattle.std.specs.Prelude.{List, length, take, drop}
 use Rattle.s2ix_edit_plan.specs.State.{State}
 use Rattle.s2ix_cli_script.specs.declared.instruction.Instruction.{Instruction}
 use Rattle.s2ix_cli_script.specs.declared.line_fault.LineFault.{LineFault}
@@ -46,8 +47,8 @@ room_at s meaning = if asks_step meaning then 32 else length (step_at s meaning)
 abbrev pub room_for : State → List ℕ → ℕ
 room_for s line = room_at s (meaning_of line)
 
--- what is told of a buffer of this length, if so much room is wanted: an answer keeps within the room, and the buffer has it; `NoRoom` tells
--- the room, and the buffer is shorter
+-- what is told of a buffer of this length, if so much room is wanted: an answer keeps within the room, and the buffer has it; `NoRoom`
+-- tells the room, and the buffer is shorter
 abbrev pub IsWithin : ℕ → ℕ → Result ℕ NoAnswer → Type 0
 IsWithin room len (Ok count) = (count ≤ room) × (room ≤ len)
 IsWithin room len (Err (NoRoom needed)) = (needed ≡ room) × (len < room)

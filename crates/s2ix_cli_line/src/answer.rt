@@ -20,7 +20,7 @@ use std::alloc::Global;
 /// answer with at most as many. Any other line changes nothing, and wants as many bytes as its answer has. `NoRoom` says how many bytes
 /// are wanted, and `OutOfMemory` that a growth was refused; then nothing has changed and nothing is written. A question's answer is kept
 /// in memory until it is written. It takes the time of the line's instruction, and O(n) for a line of n bytes.
-#[tactic(auto, using(crate::proofs::Answered::answers_by, crate::proofs::Answered::room_by, crate::proofs::Answered::memory_by, crate::proofs::Answered::lacks_memory))]
+#[tactic(auto, using(crate::proofs::Answered::answers_by, crate::proofs::Answered::lacks_memory))]
 pub fn answer_line(
     alloc: Global,
     store: &mut Store,
