@@ -403,8 +403,7 @@ class Index:
         each with its line feed; nothing for a blank line or a comment. A refused line raises nothing. It costs what the line's own call does.
         Raises Closed or OutOfMemory."""
         given = _bytes_of(text)
-        at_given = ctypes.cast(ctypes.c_char_p(given), ctypes.c_void_p).value or 0
-        return str(self._list(self._calls.s2ix_line, 1, at_given, len(given)), "ascii")
+        return str(self._list(self._calls.s2ix_line, 1, given, len(given)), "ascii")
 
     # How calls are made.
 
@@ -417,7 +416,7 @@ class Index:
         start, many, _kept = cells_in(cells)
         return self._list(call, size, start, many)
 
-    def _list(self, call: Callable[..., int], size: int, *given: int) -> memoryview:
+    def _list(self, call: Callable[..., int], size: int, *given: Union[int, bytes]) -> memoryview:
         """The bytes of a list whose items have so many, in the buffer that is kept; it grows if the call finds that there is too little room."""
         while True:
             status = call(self._at_handle, *given, self._at_words, self._bytes // size, self._at_count)
