@@ -4,8 +4,8 @@
    Cells are S2's 64-bit ids, labels are 0 to 2147483647. Each call returns a status, except that s2ix_close returns nothing and some calls
    on cells return a bool. A call whose status is not S2IX_DONE leaves the store as it was. A call that gives a list takes a buffer with
    room for `room` items, and sets *number to how many items the list has. If the buffer has room for all, the call puts them at its front;
-   else the status is S2IX_NO_ROOM and the buffer stays as it was. If it is refused for another reason, *number is 0, except for a wrong row
-   of s2ix_add_all. No pointer is NULL, not even one to no items. What a call writes overlaps nothing else that it is given, so never copy a
+   else the status is S2IX_NO_ROOM and the buffer stays as it was. A call refused for another reason sets *number to 0, except s2ix_add_all
+   for a wrong row. No pointer is NULL, not even one to no items. What a call writes overlaps nothing else that it is given, so never copy a
    handle to itself. A query takes the store out of its handle and puts it back, so the handle isn't const. Costs are in n, the number of
    pairs held. */
 #ifndef S2IX_H
@@ -22,8 +22,8 @@ extern "C" {
 /* A store, or none. It starts as {0}, which is closed. Never copy it by assignment.
 
    A handle may go from thread to thread, which is proved. One call at a time takes it, queries too: a lock, a thread's start or join, or
-   a sequentially consistent atomic must order its calls. Different handles may be used at once on different threads. A store and those that
-   s2ix_copy made of it share memory, and count its users by atomics, so this holds of them too. */
+   a sequentially consistent atomic must order its calls. Different handles may be used at once on different threads. This holds for a store
+   and its copies by s2ix_copy too: they share memory, but count its users by atomics. */
 typedef struct s2ix_handle {
     void *address;
     bool is_open;
@@ -59,7 +59,7 @@ enum s2ix_status {
     S2IX_NO_SUCH_LABEL = 17,  /* no pair of the label is held */
     S2IX_NOT_HELD = 18,       /* too few copies held */
     S2IX_TOO_FINE = 19,       /* the level is above 30, or more than 8 above that of the cell, or of a cell of the label */
-    S2IX_NO_SUCH_CHANGE = 20, /* fewer changes than the number can be undone, or the number is 0 */
+    S2IX_NO_SUCH_CHANGE = 20, /* the number is 0, or above that of the changes to undo */
     S2IX_BELOW_ZERO = 21,     /* a count would be below 0 */
     S2IX_NO_CHANGE = 22,      /* nothing would change */
     S2IX_TOO_MANY_COPIES = 23,
@@ -87,17 +87,17 @@ uint32_t s2ix_load(s2ix_handle *handle, const uint8_t *text, size_t len, uint32_
 /* Opens a handle of the store that starts from a dump's collection after a journal's changes, under limits as those of s2ix_open, with
    nothing to undo or redo. If the call is not refused, it frees the store that the handle had. The first thing that is refused decides: a
    line of the dump, a line of the journal, or a change. *place is the number of that line, or of that change for S2IX_MISMATCH,
-   S2IX_TOO_MANY_COPIES and S2IX_TOO_MANY_PAIRS, counted from 1; *entry is the number of the entry in it for S2IX_MISMATCH. Both are 0
-   otherwise. O(n + m log n) for n bytes and pairs and m entries. S2IX_NO_LIMITS, S2IX_NO_DUMP, S2IX_NO_JOURNAL, S2IX_MISMATCH,
-   S2IX_TOO_MANY_COPIES, S2IX_TOO_MANY_PAIRS, S2IX_OUT_OF_MEMORY. */
+   S2IX_TOO_MANY_COPIES and S2IX_TOO_MANY_PAIRS; for S2IX_MISMATCH *entry is the number of the entry in the change. Both count from 1 in the
+   order of the text, and are 0 otherwise. O(n + m log n) for n bytes and pairs and m entries. S2IX_NO_LIMITS, S2IX_NO_DUMP,
+   S2IX_NO_JOURNAL, S2IX_MISMATCH, S2IX_TOO_MANY_COPIES, S2IX_TOO_MANY_PAIRS, S2IX_OUT_OF_MEMORY. */
 uint32_t s2ix_replay(s2ix_handle *handle, const uint8_t *dump, size_t dump_len, const uint8_t *journal, size_t journal_len, uint32_t pairs,
                      uint32_t copies, uint32_t changes, size_t *place, size_t *entry);
 
-/* The same for the collection before the changes: they are taken back from the dump's, the last one first. */
+/* The same, but the changes are taken back from the dump's collection, the last one first. */
 uint32_t s2ix_rewind(s2ix_handle *handle, const uint8_t *dump, size_t dump_len, const uint8_t *journal, size_t journal_len, uint32_t pairs,
                      uint32_t copies, uint32_t changes, size_t *place, size_t *entry);
 
-/* Opens `copy` on a new store that starts from what the handle's store holds, with nothing to undo or redo. If the call is not refused, it
+/* Opens `copy` on a new store with the same pairs and limits, and with nothing to undo or redo. If the call is not refused, it
    frees the store that `copy` had. The two stores share memory, and may be used at once on different threads. O(n). S2IX_CLOSED,
    S2IX_OUT_OF_MEMORY. */
 uint32_t s2ix_copy(s2ix_handle *handle, s2ix_handle *copy);
@@ -136,14 +136,14 @@ uint32_t s2ix_grow(s2ix_handle *handle, uint32_t label, uint8_t level, size_t *n
 /* Replaces a label's pairs by one copy at each cell of the label's region. S2IX_NO_LABEL, S2IX_NO_SUCH_LABEL. */
 uint32_t s2ix_normalise_label(s2ix_handle *handle, uint32_t label, size_t *number);
 
-/* Takes back the change with a number, counted from 1 among those that can be undone, and leaves those that followed it.
+/* Takes back a change, and leaves those that followed it. The changes that can be undone are numbered, the oldest as 1.
    S2IX_NO_SUCH_CHANGE, S2IX_BELOW_ZERO. */
 uint32_t s2ix_revert(s2ix_handle *handle, uint32_t change, size_t *number);
 
 /* Takes the last change back; *number is how many pairs it had. S2IX_CLOSED, S2IX_NOTHING_TO_UNDO, S2IX_OUT_OF_MEMORY. */
 uint32_t s2ix_undo(s2ix_handle *handle, size_t *number);
 
-/* Does the change that was undone last again. S2IX_CLOSED, S2IX_NOTHING_TO_REDO, S2IX_OUT_OF_MEMORY. */
+/* Redoes the change that was undone last. S2IX_CLOSED, S2IX_NOTHING_TO_REDO, S2IX_OUT_OF_MEMORY. */
 uint32_t s2ix_redo(s2ix_handle *handle, size_t *number);
 
 /* Keeps what is held and drops all changes: nothing is left to undo or redo. S2IX_CLOSED. */
@@ -156,9 +156,9 @@ uint32_t s2ix_clear(s2ix_handle *handle);
    S2IX_CLOSED, S2IX_NO_CELL, S2IX_NO_ROOM. */
 uint32_t s2ix_at(s2ix_handle *handle, uint64_t leaf, s2ix_row *rows, size_t room, size_t *number);
 
-/* The pairs that share a leaf with a union of cells, in any order and repeated or not: each once, by first shared leaf, then falling level,
-   then rising label. O(k + r + t log n) for k pairs, r ranges and t cells, and O(t log t) to sort them. S2IX_CLOSED, S2IX_NO_CELL,
-   S2IX_NO_ROOM, S2IX_OUT_OF_MEMORY. */
+/* The pairs that share a leaf with some of the cells, which come in any order, repeated or not. Each pair comes once, by first shared leaf,
+   then falling level, then rising label. O(k + r + t log n) for k pairs, r ranges and t cells, and O(t log t) to sort them. S2IX_CLOSED,
+   S2IX_NO_CELL, S2IX_NO_ROOM, S2IX_OUT_OF_MEMORY. */
 uint32_t s2ix_meet(s2ix_handle *handle, const uint64_t *cells, size_t len, s2ix_row *rows, size_t room, size_t *number);
 
 /* The pairs of that list from a place on, counted from 0: as many as there is room for, never S2IX_NO_ROOM. *number is how many are put:
@@ -196,7 +196,7 @@ uint32_t s2ix_copies(s2ix_handle *handle, uint64_t *copies);
 uint32_t s2ix_done_count(s2ix_handle *handle, size_t *number);
 uint32_t s2ix_undone_count(s2ix_handle *handle, size_t *number);
 
-/* The entries of the change with a number, counted from 1 among those that can be undone: by rising cell, then label. It does not allocate.
+/* The entries of a change by its number, as in s2ix_revert: by rising cell, then label. It does not allocate.
    O(k) for k entries. S2IX_CLOSED, S2IX_NO_SUCH_CHANGE, S2IX_NO_ROOM. */
 uint32_t s2ix_change(s2ix_handle *handle, uint32_t change, s2ix_entry *entries, size_t room, size_t *number);
 
@@ -206,7 +206,7 @@ uint32_t s2ix_faces_rebuilt(s2ix_handle *handle, size_t *number);
 /* How many ranges of leaves there are over which the same pairs lie: at least 1. O(1). S2IX_CLOSED. */
 uint32_t s2ix_range_count(s2ix_handle *handle, size_t *number);
 
-/* The range that has a leaf: its place among them, counted from 0, the number of its first leaf, and the first leaf number after it. Its
+/* The range that has a leaf: its place, counted from 0, the number of its first leaf, and the first leaf number after it. Its
    pairs are those that s2ix_at puts for *start, and the next range begins with *limit, unless that is 0xc000000000000001. All three are 0
    if the call is refused. O(log n). S2IX_CLOSED, S2IX_NO_CELL. */
 uint32_t s2ix_find(s2ix_handle *handle, uint64_t leaf, size_t *place, uint64_t *start, uint64_t *limit);
@@ -241,9 +241,9 @@ uint32_t s2ix_export(s2ix_handle *handle, uint8_t *text, size_t room, size_t *nu
 /* Carries out one line of a script (docs/FORMATS.md), given without its line feed, and puts its answer to the front of the buffer, as
    bytes: `ok N`, `no NAME`, or the lines of a query, each with its line feed. A blank line or a comment has no answer. A line that is
    refused answers `no NAME`, and its status is S2IX_DONE all the same. The room is tested before the line is carried out: an edit, an undo,
-   a redo and a forget want 32 bytes; each other line changes nothing, and wants as many as its answer has. With less room the status is
-   S2IX_NO_ROOM, and *number is how much the line wants: so no edit is done twice. It costs what the line's own call does, and O(m) for m
-   bytes of line and answer. S2IX_CLOSED, S2IX_NO_ROOM, S2IX_OUT_OF_MEMORY. */
+   a redo and a forget want 32 bytes; each other line changes nothing, and wants as many as its answer has. With less room nothing is done,
+   the status is S2IX_NO_ROOM, and *number is the room that the line wants. It costs what the line's own call does, and O(m) for m bytes of
+   line and answer. S2IX_CLOSED, S2IX_NO_ROOM, S2IX_OUT_OF_MEMORY. */
 uint32_t s2ix_line(s2ix_handle *handle, const uint8_t *line, size_t length, uint8_t *answer, size_t room, size_t *number);
 
 /* Cells, without a handle. Each call takes O(1) if nothing else is said, and only s2ix_cell_border allocates. A call that gives a cell, a

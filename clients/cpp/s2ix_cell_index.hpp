@@ -30,8 +30,8 @@ namespace s2ix {
 //   a pair added n times is kept n times          is kept once with a count; visits and iterators give it n times, as S2 does
 //   a visit comes in no stated order              by first shared leaf, then falling level, then rising label
 //   a CellIterator reads the index                has its own copy of the pairs, as they were when it was made
-//   no Add while an iterator or a visit runs      an edit moves the ranges: then position a RangeIterator anew. A ContentsIterator keeps the
-//                                                 pairs that StartUnion read. A visitor must not edit
+//   no Add while an iterator or a visit runs      Build() and edits move the ranges: position a RangeIterator anew. A ContentsIterator
+//                                                 keeps the pairs that StartUnion read. A visitor must not edit
 //   a RangeIterator is unpositioned at first      is done at first, and its Prev() returns false
 //   Next() and limit_id() when done: undefined    Next() stays, and limit_id() returns the end of all leaves
 //   Seek() to what is no leaf: undefined          throws Error, and the iterator stays

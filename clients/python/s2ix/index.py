@@ -59,10 +59,10 @@ _entries_in = struct.Struct("=QIII4x").iter_unpack
 class Index:
     """A collection of S2 cells under labels that can be edited, undone and asked. Each pair of a cell and a label has a count.
 
-    Cells are S2's 64-bit ids, or tokens; labels are 0 to 2147483647. A number may be what has an `__index__`, as those of numpy. Each
-    edit is one change, which can be undone or reverted. A refused call raises a class of S2ixError and changes nothing. Cells spelled wrong,
-    and numbers out of range, are refused first. Besides what it names, each edit may raise Closed, JournalFull, NoChange, TooManyCopies,
-    TooManyPairs or OutOfMemory.
+    Cells are S2's 64-bit ids, or tokens; labels are 0 to 2147483647. A number may be what has an `__index__`, as those of numpy. Each edit
+    is one change, which can be undone or reverted. A refused call changes nothing and raises a class of S2ixError, or ValueError for copies
+    or a level below 0. Cells spelled wrong, and numbers out of range, are refused first. Besides what it names, each edit may raise Closed,
+    JournalFull, NoChange, TooManyCopies, TooManyPairs or OutOfMemory.
 
     Close an index by `close`, or use it in a `with`. One thread at a time may use an index; its copies may be used on other threads.
 
@@ -113,8 +113,8 @@ class Index:
     @classmethod
     def replay(cls, dump: Text, journal: Text, pairs: int = 1_000_000, copies: int = MOST_U32, changes: int = 100_000) -> Index:
         """Opens an index of what a dump holds after a journal's changes, with nothing to undo or redo. O(n + m log n) for n bytes and m entries.
-        What is refused first is raised: NoDump or NoJournal, whose `line` has the fault, or Mismatch, TooManyCopies or TooManyPairs, whose
-        `change` is refused, counted from 1; and NoLimits or OutOfMemory."""
+        What is refused first is raised: NoDump or NoJournal, whose `line` is the faulty one, or Mismatch, TooManyCopies or TooManyPairs,
+        whose `change` is the refused one, counted from 1; and NoLimits or OutOfMemory."""
         return cls._led("s2ix_replay", dump, journal, pairs, copies, changes)
 
     @classmethod
@@ -228,8 +228,8 @@ class Index:
         return self._number_of(self._calls.s2ix_normalise_label, label)
 
     def revert(self, change: int) -> int:
-        """Takes back the change with a number, counted from 1 among those that can be undone, and leaves those that followed it; returns how many
-        pairs changed. This is a change of its own. Raises NoSuchChange, BelowZero, and what each edit may."""
+        """Takes back a change and leaves those that followed it; returns how many pairs changed. The changes that can be undone are numbered,
+        the oldest as 1. This is a change of its own. Raises NoSuchChange, BelowZero, and what each edit may."""
         change = check(change, MOST_U32, NoSuchChange)
         return self._number_of(self._calls.s2ix_revert, change)
 
@@ -240,7 +240,7 @@ class Index:
         return self._number_of(self._calls.s2ix_undo)
 
     def redo(self) -> int:
-        """Does the change that was undone last again; returns how many pairs it has. Raises Closed, NothingToRedo or OutOfMemory."""
+        """Redoes the change that was undone last; returns how many pairs it has. Raises Closed, NothingToRedo or OutOfMemory."""
         return self._number_of(self._calls.s2ix_redo)
 
     def forget(self) -> None:
@@ -281,7 +281,7 @@ class Index:
         return self._of_cells(self._calls.s2ix_labels, _HALF, cells).cast("I").tolist()
 
     def region(self, label: int) -> list[int]:
-        """The region of a label: the normal union of its cells, rising; none if no pair of it is held. O(n + m log m) for m pairs of the label.
+        """The region of a label: the normal union of its cells, rising; [] if no pair of it is held. O(n + m log m) for m pairs of the label.
         Raises Closed, NoLabel or OutOfMemory."""
         return self._region(label).tolist()
 
@@ -319,7 +319,7 @@ class Index:
         return self._number_of(self._calls.s2ix_undone_count)
 
     def faces_rebuilt(self) -> int:
-        """How many faces, 0 to 6, the last accepted edit, undo or redo read again. O(1). Raises Closed."""
+        """How many faces, 0 to 6, the last accepted edit, undo or redo rebuilt. O(1). Raises Closed."""
         return self._number_of(self._calls.s2ix_faces_rebuilt)
 
     def range_count(self) -> int:
@@ -327,7 +327,7 @@ class Index:
         return self._number_of(self._calls.s2ix_range_count)
 
     def change(self, number: int) -> list[Entry]:
-        """The entries of the change with a number, counted from 1 among those that can be undone: by rising cell, then label. O(k) for k
+        """The entries of a change by its number, as in `revert`: by rising cell, then label. O(k) for k
         entries. Raises Closed or NoSuchChange."""
         check(number, MOST_U32, NoSuchChange)
         return list(map(Entry._make, _entries_in(self._list(self._calls.s2ix_change, _ENTRY, number))))
@@ -400,7 +400,7 @@ class Index:
 
     def line(self, text: Text) -> str:
         """Carries out one line of a script, given without its line feed, and returns its answer: `ok N`, `no NAME`, or the lines of a query,
-        each with its line feed; nothing for a blank line or a comment. A refused line raises nothing. It costs what the line's own call does.
+        each with its line feed; '' for a blank line or a comment. A refused line raises nothing. It costs what the line's own call does.
         Raises Closed or OutOfMemory."""
         given = _bytes_of(text)
         return str(self._list(self._calls.s2ix_line, 1, given, len(given)), "ascii")

@@ -183,7 +183,7 @@ pub extern "C" fn s2ix_normalise_label(
     do_edit(alloc, handle, normalise_of(label), number)
 }
 
-/// Takes back the change with a number, counted from 1 among those that can be undone, and leaves those that followed it.
+/// Takes back a change, and leaves those that followed it. The changes that can be undone are numbered, the oldest as 1.
 #[unsafe(no_mangle)]
 pub extern "C" fn s2ix_revert(
     alloc: Global,

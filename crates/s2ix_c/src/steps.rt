@@ -27,7 +27,7 @@ pub extern "C" fn s2ix_undo(alloc: Global, handle: &mut Handle, number: &mut usi
     status
 }
 
-/// Does the change that was undone last again; `number` is how many pairs it has.
+/// Redoes the change that was undone last; `number` is how many pairs it has.
 #[tactic(auto, using(crate::proofs::Through::through_open, crate::proofs::Through::through_closed))]
 #[unsafe(no_mangle)]
 pub extern "C" fn s2ix_redo(alloc: Global, handle: &mut Handle, number: &mut usize) -> u32

@@ -1,7 +1,7 @@
 //! What the calls for C do: with a store once it is out of its handle, and with numbers that name cells, labels and edits.
 //!
-//! A call answers with a status, and puts lists, texts and numbers where its caller wants them. `s2ix_c` exports one call over each of
-//! these, and says there what it does to a handle.
+//! A call answers with a status, and puts lists, texts and numbers where its caller wants them. `s2ix_c` exports the
+//! calls, and says there what each does to a handle.
 #![tactic(auto)]
 
 mod asked;

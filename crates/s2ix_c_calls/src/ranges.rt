@@ -38,7 +38,7 @@ fn range_of(store: &Store, leaf: CellId) -> (usize, RangeRow)
     (place, row)
 }
 
-/// The range that has a leaf: its place, counted from 0, its first leaf number, and the one with which it ends.
+/// The range that has a leaf: its place, counted from 0, its first leaf number, and the first one after it.
 pub fn find_store(
     store: &Store,
     leaf: u64,
@@ -61,7 +61,7 @@ pub fn find_store(
     DONE
 }
 
-/// The range at a place, counted from 0: its first leaf number, the one with which it ends, and whether no pair lies over it.
+/// The range at a place, counted from 0: its first leaf number, the first one after it, and whether no pair lies over it.
 pub fn read_store(
     store: &Store,
     place: usize,

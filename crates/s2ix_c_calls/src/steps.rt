@@ -27,7 +27,7 @@ pub fn undo_store(store: &mut Store, number: &mut usize) -> u32
     }
 }
 
-/// Does the change of a store that was undone last again; `number` is how many pairs it has.
+/// Redoes the change of a store that was undone last; `number` is how many pairs it has.
 pub fn redo_store(store: &mut Store, number: &mut usize) -> u32
     ensures { IsRedone result number.new store.old store.new }
 {

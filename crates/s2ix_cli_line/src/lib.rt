@@ -1,6 +1,6 @@
 //! One line of a script, carried out over a store, with its answer in a buffer of the caller.
 //!
-//! [`answer_line`] is for a caller that holds no sink, as C does. It tests the room of the buffer before the store takes a step, so a call
+//! [`answer_line`] is for a caller without a sink, as in C. It tests the room of the buffer before the store takes a step, so a call
 //! that is made again with a longer buffer never does an edit twice. `s2ix_cli_step` says what a line comes to, and prints its answer.
 #![tactic(auto)]
 

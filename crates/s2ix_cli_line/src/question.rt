@@ -1,4 +1,4 @@
-//! Answering a question: it is printed to memory first, since only then its length is known.
+//! Answering a question: the answer is printed to memory first, since only then its length is known.
 ghost use Rattle.std.specs.Prelude.{◌≡◌, true, length};
 ghost use Rattle.s2ix_cli_step.specs.Asking.{is_question};
 ghost use Rattle.s2ix_cli_step.specs.Step.{instruction_step};

@@ -9,8 +9,8 @@ use std::alloc::Global;
 use std::marker::{Model, Send};
 use std::ptr::null_mut;
 
-/// Where a store lies, with the store itself; or null, with nothing. `state` is that of the store. To drop one frees nothing: what is not
-/// null goes back into a box first.
+/// Where a store lies, with the store itself; or null, with nothing. `state` is that of the store. Dropping one frees nothing:
+/// call `into_box` first if it is not null.
 #[repr(C)]
 #[derive(Drop)]
 pub struct Address {

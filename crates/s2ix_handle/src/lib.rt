@@ -1,4 +1,4 @@
-//! A store for a caller that is not Rattle. A [`Handle`] is open, and owns a store, or closed; its caller passes it on and never looks inside.
+//! A store for a caller in another language. A [`Handle`] is open, and owns a store, or closed; its caller passes it on and never looks inside.
 #![tactic(auto)]
 
 mod address;
