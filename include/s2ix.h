@@ -241,10 +241,10 @@ uint32_t s2ix_export(s2ix_handle *handle, uint8_t *text, size_t room, size_t *nu
 /* Carries out one line of a script (docs/FORMATS.md), given without its line feed, and puts its answer to the front of the buffer, as
    bytes: `ok N`, `no NAME`, or the lines of a query, each with its line feed. A blank line or a comment has no answer. A line that is
    refused answers `no NAME`, and its status is S2IX_DONE all the same. The room is tested before the line is carried out: an edit, an undo,
-   a redo and a forget want 32 bytes; each other line changes nothing, and wants as many as its answer has. With less room nothing is done,
-   the status is S2IX_NO_ROOM, and *number is the room that the line wants. It costs what the line's own call does, and O(m) for m bytes of
-   line and answer. S2IX_CLOSED, S2IX_NO_ROOM, S2IX_OUT_OF_MEMORY. */
-uint32_t s2ix_line(s2ix_handle *handle, const uint8_t *line, size_t length, uint8_t *answer, size_t room, size_t *number);
+   a redo and a forget want 32 bytes; each other line changes nothing, and wants as many as its answer has. With less room nothing is done;
+   for S2IX_NO_ROOM *number is the room that the line wants. It costs what the line's own call does, and O(m) for m bytes of line and
+   answer. S2IX_CLOSED, S2IX_NO_ROOM, S2IX_OUT_OF_MEMORY. */
+uint32_t s2ix_line(s2ix_handle *handle, const uint8_t *line, size_t len, uint8_t *answer, size_t room, size_t *number);
 
 /* Cells, without a handle. Each call takes O(1) if nothing else is said, and only s2ix_cell_border allocates. A call that gives a cell, a
    level or a face gives 0 if it is refused. A call that returns a bool returns false if a number is no cell's. */

@@ -23,7 +23,7 @@ impl Model for Address {
     ghost also_owns = { λ a. owned_at a.state a.alloc a.start };
 }
 
-// It may go to another thread, since the store may that lies there, and any thread may free a block of the heap.
+// It may go to another thread, since the store there may, and any thread may free a block of the heap.
 unsafe impl Send for Address {}
 
 impl Address {
