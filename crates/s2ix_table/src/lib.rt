@@ -23,9 +23,9 @@
 //! | What lies over each range? | [`ranges`], [`contents`] | O(1) a step |
 //! | What did a query read? | a [`Cost`], from `visit_counted`, or from a [`Meter`] after a [`walk`] | as `visit` |
 //!
-//! A table of n pairs has at most 2 * n + 1 ranges. [`ChainTable`] shares its chains: each pair has one place in it. [`FacedTable`] has one
-//! such table for each face and rebuilds only the faces of a change ([`FacedTable::rebuilt`], over a [`BagReader`]): a store keeps one.
-//! [`CopiedTable`] has a list for each range, and is slow to build: tests compare the others with it.
+//! A table of n pairs has at most 2 * n + 1 ranges. The ranges of a [`ChainTable`] share their chains, so that it has each pair once.
+//! [`FacedTable`] has one such table for each face and rebuilds only the faces of a change ([`FacedTable::rebuilt`], over a [`BagReader`]):
+//! a store keeps one. [`CopiedTable`] has a list for each range, and is slow to build: tests compare the others with it.
 //!
 //! The crates behind this one: `s2ix_table_ranges` defines the ranges of a bag and what meets a target; `s2ix_table_walk` finds what meets a
 //! target and counts what it reads; `s2ix_table_queries` has the trait and its queries; `s2ix_table_chain` builds shared chains;
