@@ -91,10 +91,10 @@ abbrev pub rows_with : Option Label → State → Result (List Row) ℕ
 rows_with (Some label) s = Ok (map row_of (held_of label s.bag.held))
 rows_with None s = Err no_label
 
--- the pairs from a place on, as many as a buffer has room for, put to its front
+-- the pairs from a place on, as many as a buffer has room for
 abbrev pub rows_from : ℕ → ℕ → State → List Row
 rows_from from room s = map row_of (take room (drop from s.bag.held))
 
+-- these pairs are put to its front
 abbrev pub PutsPage : ℕ → State → ℕ → ℕ → List Row → List Row → Type 0
-PutsPage from s status number old new =
-    (status ≡ done) × (number ≡ length (rows_from from (length old) s)) × (take number new ≡ rows_from from (length old) s)
+PutsPage from s status number old new = (status ≡ done) × IsPut (rows_from from (length old) s) status number old new

@@ -22,7 +22,7 @@ use Rattle.s2ix_edit_plan.specs.Edit.{with_more}
 use Rattle.s2ix_edit_plan.specs.Errors.{IsEditRefusal, MayWantMemory}
 use Rattle.s2ix_edit_plan.specs.Plan.{entries_refusal}
 use Rattle.s2ix_edit_plan.specs.Refusals.{has_count_above}
-use Rattle.s2ix_edit_plan.specs.Rows.{IsGainError, PlansRows, copies_at, gain_of, gains_from, gains_of, rows_change, rows_plan_refusal, with_rows}
+use Rattle.s2ix_edit_plan.specs.Rows.{IsRowsError, PlansRows, copies_at, gain_of, gains_from, gains_of, rows_change, rows_plan_refusal, with_rows}
 use Rattle.s2ix_edit_plan.proofs.Above.{above_from_count, any_above_changed}
 use Rattle.s2ix_edit_plan.proofs.Plans.{an_entry, between_changed, no_entry}
 use Rattle.s2ix_edit_plan.proofs.Refused.{changes_some, entries_by_three, first_of_three, same_where_none}
@@ -251,7 +251,7 @@ rest_copies rows rest first i k is =
 
 -- where no entry of a pending row can be made, none of all rows can
 pub pending_error : (hs : Collection) (pending : Held) (rows : List Held) (error : EditError)
-    → pending.count ≤ copies_at rows (rank_of pending.pair) → IsGainError hs (pending ∷ []) error → IsGainError hs rows error
+    → pending.count ≤ copies_at rows (rank_of pending.pair) → IsRowsError hs (pending ∷ []) error → IsRowsError hs rows error
 pending_error hs pending rows error least either =
     ⊎_elim
     (λ memory. inl memory)
@@ -273,7 +273,7 @@ pending_error hs pending rows error least either =
 -- a pending sum that no `u32` holds is above every limit
 pub sum_error : (hs : Collection) (pending next : Held) (rest rows : List Held) → rank_of next.pair ≡ rank_of pending.pair
     → pending.count + copies_at (next ∷ rest) (rank_of pending.pair) ≤ copies_at rows (rank_of pending.pair)
-    → 4294967296 ≤ pending.count + next.count → IsGainError hs rows TooManyCopies
+    → 4294967296 ≤ pending.count + next.count → IsRowsError hs rows TooManyCopies
 sum_error hs pending next rest rows same least high =
     inr (refl, (rank_of pending.pair, omega (arith, least, high, own_copies next rest (rank_of pending.pair) same)))
 
@@ -379,10 +379,19 @@ pub rows_want_memory : (bag : LimitedCollection) (rows : List Held) → MayWantM
 rows_want_memory bag rows =
     subst MayWantMemory (sym (by_three bag rows)) (memory_of_three _ _ _)
 
+-- rows have the same copies in any order
+pub permuted_error : (hs : Collection) (rows sorted : List Held) (error : EditError) → IsPermutation rows sorted
+    → IsRowsError hs sorted error → IsRowsError hs rows error
+permuted_error hs rows sorted error same either =
+    ⊎_elim
+    (λ memory. inl memory)
+    (λ above. inr (above.0, (above.1.0, omega (arith, above.1.1, permuted_copies rows sorted above.1.0 same))))
+    either
+
 -- a sum that is above every limit is a refusal
-pub gain_refused : (bag : LimitedCollection) (rows sorted : List Held) (error : EditError) → IsBag bag → IsPermutation rows sorted
-    → IsGainError bag.held sorted error → IsEditRefusal error (rows_plan_refusal bag rows)
-gain_refused bag rows sorted error b same either =
+pub error_refused : (bag : LimitedCollection) (rows : List Held) (error : EditError) → IsBag bag → IsRowsError bag.held rows error
+    → IsEditRefusal error (rows_plan_refusal bag rows)
+error_refused bag rows error b either =
     let Refused : EditError → Type 0 = λ e. IsEditRefusal e (rows_plan_refusal bag rows) in
     ⊎_elim
     (λ memory. subst Refused (sym memory) (rows_want_memory bag rows))
@@ -392,7 +401,7 @@ gain_refused bag rows sorted error b same either =
     let sum = rows_counted rows bag.held rank b.rises in
     subst Refused (sym above.0)
     (rows_too_high bag rows b (above_from_count (count_limit bag.limits) (with_rows rows bag.held) rank
-    (omega (arith, range, sum, permuted_copies rows sorted rank same, above.1.1)))))
+    (omega (arith, range, sum, above.1.1)))))
     either
 
 -- ---- rows of no copies

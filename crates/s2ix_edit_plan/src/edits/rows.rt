@@ -1,11 +1,11 @@
 //! The change that adds rows, each a pair with copies, to the counts of a bag.
 
-ghost use Rattle.std.specs.Prelude.{◌≡◌, ◌≢◌, ◌↔◌, ◌==◌, [], ◌∷◌, ◌++◌, IsOk, IfOk, IfErr, OnOk, IsTrue};
+ghost use Rattle.std.specs.Prelude.{◌≡◌, ◌↔◌, ◌==◌, [], ◌∷◌, ◌++◌, IsOk, IfOk, IfErr, OnOk, IsTrue};
 ghost use Rattle.std.specs.List.Sorted.{IsNonDecreasingBy, IsPermutation};
 ghost use Rattle.s2ix_bag_pairs.specs.Collection.{IsBag, copies_in};
 ghost use Rattle.s2ix_bag_pairs.specs.Pair.{rank_of};
 ghost use Rattle.s2ix_edit_plan.specs.Errors.{IsEditRefusal};
-ghost use Rattle.s2ix_edit_plan.specs.Rows.{IsGainError, PlansRows, gain_of, gains_of, rows_plan_refusal};
+ghost use Rattle.s2ix_edit_plan.specs.Rows.{IsRowsError, PlansRows, gain_of, gains_of, rows_plan_refusal};
 
 use crate::edits::entries::push_entry;
 use crate::errors::EditError;
@@ -25,8 +25,7 @@ pub fn plan_rows(alloc: Global, bag: &Bag, rows: &[Held]) -> Result<Change, Edit
     ensures plan { IfOk result (PlansRows bag.now rows.now) }
     ensures refused { IfErr result (λ error.
         IsEditRefusal error (rows_plan_refusal bag.now rows.now)) }
-    ensures planned { result ≢ Err EditError.NoChange }
-    ensures pairs { result ≢ Err EditError.TooManyPairs }
+    ensures above { IfErr result (IsRowsError bag.now.held rows.now) }
     ensures nothing { copies_in rows.now ≡ 0 → IsOk result }
 {
     if adds_nothing(bag, rows) {
@@ -66,7 +65,7 @@ fn by_pair(alloc: Global, rows: &[Held]) -> Result<Vec<Held>, OutOfMemory>
 // The entries of rows that come in the order of their pairs.
 fn gains(alloc: Global, bag: &Bag, rows: &[Held]) -> Result<Vec<Entry>, EditError>
     ensures entries { IfOk result (λ entries. entries.items ≡ gains_of bag.now.held rows.now) }
-    ensures above { IfErr result (IsGainError bag.now.held rows.now) }
+    ensures above { IfErr result (IsRowsError bag.now.held rows.now) }
 {
     let mut entries = Vec::new(alloc);
     let Some((first, rest)) = rows.split_first() else {
@@ -91,7 +90,7 @@ fn gains(alloc: Global, bag: &Bag, rows: &[Held]) -> Result<Vec<Entry>, EditErro
 // Appends the entry of a row.
 fn push_gain(entries: &mut Vec<Entry>, bag: &Bag, row: Held) -> Result<(), EditError>
     ensures pushed { OnOk result (entries.new.items ≡ entries.old.items ++ gain_of bag.now.held row) }
-    ensures above { IfErr result (IsGainError bag.now.held (row ∷ [])) }
+    ensures above { IfErr result (IsRowsError bag.now.held (row ∷ [])) }
 {
     let before = bag.count(row.pair);
     let Some(after) = before.checked_add(row.count) else {

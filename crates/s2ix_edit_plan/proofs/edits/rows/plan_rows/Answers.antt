@@ -4,9 +4,9 @@ use Rattle.std.proofs.lemmas.Result.{err_from_is_err_and}
 use Rattle.s2ix_bag_pairs.specs.declared.pair.Entry.{Entry}
 use Rattle.s2ix_bag_pairs.specs.declared.pair.Held.{Held}
 use Rattle.s2ix_bag_pairs.specs.Collection.{copies_in}
-use Rattle.s2ix_edit_plan.specs.Rows.{IsGainError, PlansRows, gains_of}
-use Rattle.s2ix_edit_plan.proofs.Rows.{gain_refused, gains_plan, nothing_plans}
-use Rattle.s2ix_edit_plan.proofs.edits.rows.plan_rows.Goals.{In_ok-entries}
+use Rattle.s2ix_edit_plan.specs.Rows.{IsRowsError, PlansRows, gains_of}
+use Rattle.s2ix_edit_plan.proofs.Rows.{error_refused, gains_plan, nothing_plans, permuted_error}
+use Rattle.s2ix_edit_plan.proofs.edits.rows.plan_rows.Goals.{In_err-entries, In_ok-entries}
 use Rattle.s2ix_edit_plan.proofs.edits.rows.plan_rows.Goals as goal
 
 pub returns-then-adds_nothing-clause-plan : goal.returns-then-adds_nothing-clause-plan
@@ -16,13 +16,23 @@ returns-then-adds_nothing-clause-plan c =
     (nothing_plans c.args.bag.now c.args.rows.now c.adds_nothing.ensures.within
     (eqb-true (copies_in c.args.rows.now) 0 (sym c.adds_nothing.ensures.copies ∙ c.if-adds_nothing.true)))
 
+above : (c : In_err-entries) → IsRowsError c.args.bag.now.held c.args.rows.now c.in_err-entries.field-0.0
+above c =
+    let Failed : List Held → Type 0 = λ rows. IsRowsError c.args.bag.now.held rows c.in_err-entries.field-0.0 in
+    permuted_error c.args.bag.now.held c.args.rows.now c.in_ok-sorted.sorted.items c.in_err-entries.field-0.0 c.in_ok-sorted.ensures.same
+    (subst Failed c.as_slice.ensures.value c.in_err-entries.ensures.above)
+
+pub returns-in_err-entries-clause-above : goal.returns-in_err-entries-clause-above
+returns-in_err-entries-clause-above c =
+    let p = err_from_is_err_and c.from_residual-in_err-entries.result c.from_residual-in_err-entries.ensures.1 in
+    rw (p.1, p.2) (above (goal.at-returns-in_err-entries-clause-above c).In_err-entries)
+
 pub returns-in_err-entries-clause-refused : goal.returns-in_err-entries-clause-refused
 returns-in_err-entries-clause-refused c =
     let p = err_from_is_err_and c.from_residual-in_err-entries.result c.from_residual-in_err-entries.ensures.1 in
-    let Failed : List Held → Type 0 = λ rows. IsGainError c.args.bag.now.held rows c.in_err-entries.field-0.0 in
     rw (p.1, p.2)
-    (gain_refused c.args.bag.now c.args.rows.now c.in_ok-sorted.sorted.items c.in_err-entries.field-0.0 c.adds_nothing.ensures.within
-    c.in_ok-sorted.ensures.same (subst Failed c.as_slice.ensures.value c.in_err-entries.ensures.above))
+    (error_refused c.args.bag.now c.args.rows.now c.in_err-entries.field-0.0 c.adds_nothing.ensures.within
+    (above (goal.at-returns-in_err-entries-clause-refused c).In_err-entries))
 
 plan : (c : In_ok-entries) → PlansRows c.args.bag.now c.args.rows.now c.in_ok-entries.entries.items
 plan c =
