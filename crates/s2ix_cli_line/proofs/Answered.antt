@@ -8,7 +8,7 @@ use Rattle.s2ix_cli_script.specs.Meaning.{asks_on_union, meaning_of}
 use Rattle.s2ix_cli_step.specs.Step.{step_at, step_of}
 use Rattle.s2ix_cli_step.proofs.WantedMemory.{line_wants}
 use Rattle.s2ix_cli_line.specs.declared.no_answer.NoAnswer.{NoAnswer}
-use Rattle.s2ix_cli_line.specs.InBuffer.{Answers, MayWantMemory}
+use Rattle.s2ix_cli_line.specs.InBuffer.{AnswerWants, Answers}
 
 pub answers_by : (s : State) (line : List ℕ) (meaning : Result (Option Instruction) LineFault) → meaning_of line ≡ meaning → (new : State)
     (before behind : List ℕ) (told : Result ℕ NoAnswer) → Answers (step_at s meaning) s new before behind told
@@ -18,5 +18,5 @@ answers_by s line meaning is new before behind told answered =
     subst (λ (m : Result (Option Instruction) LineFault). Answers (step_at s m) s new before behind told) (sym is) answered
 
 pub lacks_memory : (s : State) (meaning : Result (Option Instruction) LineFault) → is_ok_with asks_on_union meaning ≡ true
-    → MayWantMemory s meaning
+    → AnswerWants s meaning
 lacks_memory s meaning wants = inl (line_wants s meaning wants)

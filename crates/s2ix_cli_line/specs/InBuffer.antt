@@ -55,5 +55,5 @@ IsWithin room len (Err (NoRoom needed)) = (needed ≡ room) × (len < room)
 IsWithin room len (Err OutOfMemory) = Unit {0}
 
 -- a line of this meaning may want memory: to be carried out, or to keep the answer of a question
-abbrev pub MayWantMemory : State → Result (Option Instruction) LineFault → Type 0
-MayWantMemory s meaning = MeaningWants s meaning ⊎ (asks_question meaning ≡ true)
+abbrev pub AnswerWants : State → Result (Option Instruction) LineFault → Type 0
+AnswerWants s meaning = MeaningWants s meaning ⊎ (asks_question meaning ≡ true)

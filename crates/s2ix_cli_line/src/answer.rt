@@ -3,7 +3,7 @@ ghost use Rattle.std.specs.Prelude.{◌≡◌, ◌≢◌, Err, Ok, Some, length}
 ghost use Rattle.s2ix_cli_answers.specs.Answers.{no_line};
 ghost use Rattle.s2ix_cli_script.specs.Meaning.{meaning_of};
 ghost use Rattle.s2ix_cli_step.specs.Step.{instruction_step, step_of};
-ghost use Rattle.s2ix_cli_line.specs.InBuffer.{Answers, IsWithin, MayWantMemory, Puts, room_at, room_for};
+ghost use Rattle.s2ix_cli_line.specs.InBuffer.{AnswerWants, Answers, IsWithin, Puts, room_at, room_for};
 
 use crate::front::put_line;
 use crate::no_answer::NoAnswer;
@@ -28,7 +28,7 @@ pub fn answer_line(
     out: &mut [u8],
 ) -> Result<usize, NoAnswer>
     ensures answers { Answers (step_of store.old line.now) store.old store.new out.old out.new result }
-    ensures memory { result ≡ Err NoAnswer.OutOfMemory → MayWantMemory store.old (meaning_of line.now) }
+    ensures memory { result ≡ Err NoAnswer.OutOfMemory → AnswerWants store.old (meaning_of line.now) }
     ensures room { IsWithin (room_for store.old line.now) (length out.old) result }
 {
     match meaning(alloc, line) {
@@ -47,7 +47,7 @@ fn answer_instruction(
     out: &mut [u8],
 ) -> Result<usize, NoAnswer>
     ensures answers { Answers (instruction_step store.old instruction) store.old store.new out.old out.new result }
-    ensures memory { result ≡ Err NoAnswer.OutOfMemory → MayWantMemory store.old (Ok (Some instruction)) }
+    ensures memory { result ≡ Err NoAnswer.OutOfMemory → AnswerWants store.old (Ok (Some instruction)) }
     ensures room { IsWithin (room_at store.old (Ok (Some instruction))) (length out.old) result }
 {
     match instruction {
