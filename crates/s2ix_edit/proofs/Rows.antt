@@ -1,15 +1,12 @@
 -- Rows added to the counts of a store.
-use Rattle.std.proofs.Common.{◌≡◌, ◌↔◌, ℕ, ◌+◌, ◌<◌, List, [], ◌∷◌, ◌++◌, length, reverse, take, Bool, true, false, cond, find, Option, Some, None, Result, Ok, Err, OnOk, IfErr, refl, sym, ap, ap₂, ◌∙◌, subst, arith}
-use Rattle.std.proofs.lemmas.Bool.{cond-false, cond-true, leb-false, leb-true, le-leb, lt-leb}
+use Rattle.std.proofs.Common.{◌≡◌, ◌↔◌, ℕ, ◌+◌, List, [], ◌∷◌, ◌++◌, reverse, Bool, true, false, cond, find, Option, Some, None, Result, Err, OnOk, IfErr, refl, sym, ap, ap₂, ◌∙◌}
+use Rattle.std.proofs.lemmas.Bool.{cond-false, leb-false, lt-leb}
 use Rattle.std.proofs.lemmas.List.{length-append}
-use Rattle.s2ix_bag_lists.specs.Apply.{apply_refusal}
-use Rattle.s2ix_bag_lists.proofs.Refusals.{made_is_bag, taken_from_none}
 use Rattle.s2ix_bag_pairs.specs.declared.pair.Entry.{Entry}
 use Rattle.s2ix_bag_pairs.specs.declared.pair.Held.{Held}
 use Rattle.s2ix_bag_pairs.specs.declared.pair.Pair.{Pair}
 use Rattle.s2ix_bag_pairs.specs.Change.{change_between}
-use Rattle.s2ix_bag_pairs.specs.Collection.{Collection, LimitedCollection, IsBag, copies_in, count_in}
-use Rattle.s2ix_bag_pairs.specs.Limits.{changes_limit}
+use Rattle.s2ix_bag_pairs.specs.Collection.{Collection, copies_in, count_in}
 use Rattle.s2ix_bag_pairs.specs.Pair.{rank_of}
 use Rattle.s2ix_bag_pairs.proofs.Inverse.{changed_inverse_between}
 use Rattle.s2ix_edit_plan.specs.declared.errors.EditError.{EditError}

@@ -6,12 +6,13 @@ use Rattle.std.proofs.lemmas.List.Elements.{All-head, All-tail}
 use Rattle.s2ix_bag_pairs.specs.declared.pair.Held.{Held}
 use Rattle.s2ix_bag_pairs.specs.declared.pair.Entry.{Entry}
 use Rattle.s2ix_bag_pairs.specs.Change.{changed, counts_at, count_after, IsChangeList, IsChangeListFrom}
-use Rattle.s2ix_bag_pairs.specs.Collection.{Collection, IsCollection, count_at}
+use Rattle.s2ix_bag_pairs.specs.Collection.{Collection, LimitedCollection, IsCollection, count_at}
+use Rattle.s2ix_bag_pairs.specs.Limits.{count_limit}
 use Rattle.s2ix_bag_pairs.specs.Pair.{rank_of}
 use Rattle.s2ix_bag_pairs.proofs.Changes.{count_changed, counts_head, counts_tail, counts_below}
 use Rattle.s2ix_bag_pairs.proofs.Counts.{count_head, count_tail}
 use Rattle.s2ix_bag_lists.proofs.Lengths.{AreAfterWithin, small_changed}
-use Rattle.s2ix_edit_plan.specs.Refusals.{has_count_above}
+use Rattle.s2ix_edit_plan.specs.Refusals.{has_count_above, has_count_above_every_limit}
 use Rattle.s2ix_bag_lists.proofs.Refusals.{none_from_within, within_from_none}
 
 -- if no count that a change has for a pair passes the limit, none after does
@@ -51,6 +52,26 @@ above_from_count c hs k above =
     (λ has. has)
     (λ none. let small = count_within c hs k none in absurd (omega (arith, small, above)))
     (cases_Bool (has_count_above c hs))
+
+-- a count above a limit is above each lower one
+above_lower : (c d : ℕ) (hs : Collection) → c ≤ d → has_count_above d hs ≡ true → has_count_above c hs ≡ true
+above_lower c d [] le above = cc
+above_lower c d (h ∷ hs) le above =
+    ⊎_elim
+    (λ high. ap (λ t. t || has_count_above c hs) high)
+    (λ low.
+    let small = ltb-false c h.count low in
+    let own : ltb d h.count ≡ false = le-ltb d h.count (omega (arith, le, small)) in
+    let rest : has_count_above d hs ≡ true = sym (ap (λ t. t || has_count_above d hs) own) ∙ above in
+    ap (λ t. t || has_count_above c hs) low ∙ above_lower c d hs le rest)
+    (cases_Bool (ltb c h.count))
+
+-- so a count above every limit is above a bag's
+pub above_own : (bag : LimitedCollection) (hs : Collection) → has_count_above_every_limit hs ≡ true
+    → has_count_above (count_limit bag.limits) hs ≡ true
+above_own bag hs above =
+    let range = bag.limits.in_range in
+    above_lower (count_limit bag.limits) 4294967295 hs (omega (arith, range)) above
 
 -- if no count of a changed collection passes the limit, no count after does
 within_from_changed : (c : ℕ) (hs : Collection) (es : List Entry) → IsCollection hs → IsChangeList es

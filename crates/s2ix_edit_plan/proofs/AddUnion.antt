@@ -6,15 +6,14 @@ use Rattle.s2ix_bag_pairs.specs.declared.label.Label.{Label}
 use Rattle.s2ix_bag_pairs.specs.declared.pair.Entry.{Entry}
 use Rattle.s2ix_bag_lists.specs.Apply.{AreBefore}
 use Rattle.s2ix_bag_pairs.specs.Change.{changed, IsChangeListFrom}
-use Rattle.s2ix_bag_pairs.specs.Collection.{Collection, LimitedCollection, IsBag, IsCollection, count_at, count_in, set_count}
-use Rattle.s2ix_bag_pairs.specs.Limits.{count_limit}
+use Rattle.s2ix_bag_pairs.specs.Collection.{Collection, LimitedCollection, IsCollection, count_at, count_in, set_count}
 use Rattle.s2ix_bag_pairs.specs.Pair.{rank_of}
 use Rattle.s2ix_bag_pairs.proofs.Changes.{change_lower}
 use Rattle.s2ix_bag_pairs.proofs.Collections.{count_set_other, count_set_same, set_keeps}
 use Rattle.s2ix_bag_lists.proofs.Refusals.{no_mismatch}
 use Rattle.s2ix_edit_plan.specs.Edit.{pair_of, with_each, with_more}
 use Rattle.s2ix_edit_plan.proofs.Plans.{Makes}
-use Rattle.s2ix_edit_plan.specs.Refusals.{has_count_above}
+use Rattle.s2ix_edit_plan.specs.Refusals.{has_count_above_every_limit}
 use Rattle.s2ix_edit_plan.proofs.Above.{above_from_count}
 
 -- the entry that gives one cell a copy more
@@ -119,11 +118,10 @@ pub with_each_same : (label : Label) (cs : List CellId) (hs : Collection) (c : C
     → count_in (with_each label cs hs) (pair_of c label) ≡ count_in hs (pair_of c label) + 1
 with_each_same label cs hs c is pairs has = each_at 0 label cs hs c has.0 is (rises_from_zero cs pairs) has.1 has.2
 
--- a sum above every limit is a count above the limit
-pub addition_above : (bag : LimitedCollection) (label : Label) (cs : List CellId) (c : CellId) → IsBag bag
-    → AllPairs (λ a b. raw_of a < raw_of b) cs → Contains cs c → 4294967296 ≤ count_in bag.held (pair_of c label) + 1
-    → has_count_above (count_limit bag.limits) (with_each label cs bag.held) ≡ true
-addition_above bag label cs c b pairs has high =
-    let range = bag.limits.in_range in
-    let sum = with_each_same label cs bag.held c b.rises pairs has in
-    above_from_count (count_limit bag.limits) (with_each label cs bag.held) (rank_of (pair_of c label)) (omega (arith, range, sum, high))
+-- a sum that no `u32` holds is a count above every limit
+pub addition_above : (label : Label) (cs : List CellId) (hs : Collection) (c : CellId) → IsCollection hs
+    → AllPairs (λ a b. raw_of a < raw_of b) cs → Contains cs c → 4294967296 ≤ count_in hs (pair_of c label) + 1
+    → has_count_above_every_limit (with_each label cs hs) ≡ true
+addition_above label cs hs c is pairs has high =
+    let sum = with_each_same label cs hs c is pairs has in
+    above_from_count 4294967295 (with_each label cs hs) (rank_of (pair_of c label)) (omega (arith, sum, high))

@@ -10,12 +10,11 @@ use Rattle.s2ix_bag_pairs.specs.Limits.{pairs_limit, count_limit, changes_limit}
 use Rattle.s2ix_edit_plan.specs.declared.errors.EditError.{EditError}
 use Rattle.s2ix_edit_plan.specs.declared.errors.EditError.TheVariants.{NoChange, TooManyCopies, TooManyPairs}
 use Rattle.s2ix_edit_plan.specs.declared.edit.Edit.{Edit}
-use Rattle.s2ix_edit_plan.specs.declared.edit.Edit.TheVariants.{Add}
-use Rattle.s2ix_edit_plan.specs.Edit.{edited, edited_by}
+use Rattle.s2ix_edit_plan.specs.Edit.{edited, edited_by, with_more}
 use Rattle.s2ix_edit_plan.specs.History.{standing}
 use Rattle.s2ix_edit_plan.specs.State.{State, change_of, history_of}
 use Rattle.s2ix_edit_plan.specs.Plan.{Plans, entries_refusal}
-use Rattle.s2ix_edit_plan.specs.Refusals.{asks_too_fine, edit_refusal, goes_below_zero, has_count_above, lacks_change, lacks_label, plan_refusal, refusals_with_room, is_due, takes_too_many}
+use Rattle.s2ix_edit_plan.specs.Refusals.{asks_too_fine, edit_refusal, goes_below_zero, has_count_above, has_count_above_every_limit, lacks_change, lacks_label, plan_refusal, refusals_with_room, is_due, takes_too_many}
 use Rattle.s2ix_edit_plan.proofs.Above.{above_from_count, any_above_changed, none_above}
 use Rattle.s2ix_edit_plan.proofs.Plans.{between_changed}
 use Rattle.s2ix_edit_plan.proofs.EachRefusal.{it_is_due}
@@ -151,15 +150,12 @@ too_many bag changes edit b known allowed fits stood above low many =
     ∙ ap (λ t. first_of_three false t (ltb (pairs_limit bag.limits) (length new))) low
     ∙ ap (λ t. first_of_three false false t) many
 
--- a sum above every limit is refused for its copies
-pub sum_too_high : (bag : LimitedCollection) (changes : List (List Entry)) (p : Pair) (copies before : ℕ) → IsBag bag
-    → before ≡ count_in bag.held p → 4294967296 ≤ before + copies → plan_refusal bag changes (Add p copies) ≡ Some TooManyCopies
-sum_too_high bag changes p copies before b is_before high =
-    let range = bag.limits.in_range in
-    let sum = count_in-set_count_same p (count_in bag.held p + copies) bag.held b.rises in
-    too_high bag changes (Add p copies) b refl refl refl refl refl
-    (above_from_count (count_limit bag.limits) (edited_by changes (Add p copies) bag.held) (rank_of p)
-    (omega (arith, range, sum, is_before, high)))
+-- a sum that no `u32` holds is a count above every limit
+pub sum_above : (hs : Collection) (p : Pair) (copies before : ℕ) → IsCollection hs → before ≡ count_in hs p
+    → 4294967296 ≤ before + copies → has_count_above_every_limit (with_more p copies hs) ≡ true
+sum_above hs p copies before is is_before high =
+    let sum = count_in-set_count_same p (count_in hs p + copies) hs is in
+    above_from_count 4294967295 (with_more p copies hs) (rank_of p) (omega (arith, sum, is_before, high))
 
 -- the change that a store records of an edit is its plan
 pub change_planned : (s : State) (edit : Edit) (es : List Entry) → standing (history_of s) ≡ s.done → IsBag s.bag

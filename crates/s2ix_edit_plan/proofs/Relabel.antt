@@ -12,9 +12,8 @@ use Rattle.s2ix_bag_pairs.specs.declared.pair.Held.{Held}
 use Rattle.s2ix_bag_pairs.specs.declared.pair.Entry.{Entry}
 use Rattle.s2ix_bag_lists.specs.Apply.{AreBefore}
 use Rattle.s2ix_bag_pairs.specs.Change.{changed, removal_of, IsChangeListFrom}
-use Rattle.s2ix_bag_pairs.specs.Collection.{Collection, LimitedCollection, IsBag, IsCollection, IsCollectionFrom, count_at, count_in, set_count}
+use Rattle.s2ix_bag_pairs.specs.Collection.{Collection, LimitedCollection, IsCollection, IsCollectionFrom, count_at, count_in, set_count}
 use Rattle.s2ix_bag_pairs.specs.Label.{value_of}
-use Rattle.s2ix_bag_pairs.specs.Limits.{count_limit}
 use Rattle.s2ix_bag_pairs.specs.OfLabel.{held_of}
 use Rattle.s2ix_bag_pairs.specs.Pair.{rank_of}
 use Rattle.s2ix_bag_pairs.proofs.Changes.{change_lower}
@@ -25,7 +24,7 @@ use Rattle.s2ix_bag_lists.proofs.Refusals.{no_mismatch}
 use Rattle.s2ix_edit_plan.specs.Edit.{with_all_moved, with_moved, pair_of}
 use Rattle.s2ix_edit_plan.specs.Plan.{move_entries}
 use Rattle.s2ix_edit_plan.proofs.Plans.{Makes}
-use Rattle.s2ix_edit_plan.specs.Refusals.{has_count_above}
+use Rattle.s2ix_edit_plan.specs.Refusals.{has_count_above_every_limit}
 use Rattle.s2ix_edit_plan.proofs.Above.{above_from_count}
 
 -- ---- the counts of two pairs set
@@ -357,18 +356,16 @@ moves_more hs target front h before after es new es_is is_before is_after is =
     is ∙ ap₂ (λ (xs ys : List Entry). xs ++ ys) es_is (ap entry own ∙ sym (append-nil (move_of hs target h)))
     ∙ sym (flat_map-append (move_of hs target) front (h ∷ []))
 
--- a sum above every limit is a count above the limit
-pub sum_above : (bag : LimitedCollection) (source target : Label) (front : List Held) (h : Held) (rest : List Held) → IsBag bag
-    → value_of source ≢ value_of target → front ++ h ∷ rest ≡ held_of source bag.held
-    → 4294967296 ≤ count_in bag.held (pair_of h.pair.cell target) + h.count
-    → has_count_above (count_limit bag.limits) (with_all_moved target (held_of source bag.held) bag.held) ≡ true
-sum_above bag source target front h rest b apart is high =
-    let hs = bag.held in
+-- a sum that no `u32` holds is a count above every limit
+pub sum_above : (hs : Collection) (source target : Label) (front : List Held) (h : Held) (rest : List Held) → IsCollection hs
+    → value_of source ≢ value_of target → front ++ h ∷ rest ≡ held_of source hs
+    → 4294967296 ≤ count_in hs (pair_of h.pair.cell target) + h.count
+    → has_count_above_every_limit (with_all_moved target (held_of source hs) hs) ≡ true
+sum_above hs source target front h rest c apart is high =
     let Part : List Held → Type 0 = λ ks. ArePart hs (value_of source) 0 ks in
-    let own = part_at hs (value_of source) 0 front h rest (subst Part (sym is) (part_of hs source b.rises)) in
+    let own = part_at hs (value_of source) 0 front h rest (subst Part (sym is) (part_of hs source c)) in
     let one : rank_of h.pair ≡ rank_of (pair_of h.pair.cell source) = omega (arith, own.0) in
     let counted = ap (λ k. count_at hs k) one in
-    let sum = relabelled_target source target hs h.pair.cell b.rises apart in
-    let range = bag.limits.in_range in
-    above_from_count (count_limit bag.limits) (with_all_moved target (held_of source hs) hs) (rank_of (pair_of h.pair.cell target))
-    (omega (arith, range, sum, counted, own.1, high))
+    let sum = relabelled_target source target hs h.pair.cell c apart in
+    above_from_count 4294967295 (with_all_moved target (held_of source hs) hs) (rank_of (pair_of h.pair.cell target))
+    (omega (arith, sum, counted, own.1, high))

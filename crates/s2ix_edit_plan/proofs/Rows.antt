@@ -21,9 +21,9 @@ use Rattle.s2ix_edit_plan.specs.declared.errors.EditError.TheVariants.{NoChange,
 use Rattle.s2ix_edit_plan.specs.Edit.{with_more}
 use Rattle.s2ix_edit_plan.specs.Errors.{IsEditRefusal, MayWantMemory}
 use Rattle.s2ix_edit_plan.specs.Plan.{entries_refusal}
-use Rattle.s2ix_edit_plan.specs.Refusals.{has_count_above}
+use Rattle.s2ix_edit_plan.specs.Refusals.{has_count_above, has_count_above_every_limit}
 use Rattle.s2ix_edit_plan.specs.Rows.{IsRowsError, PlansRows, copies_at, gain_of, gains_from, gains_of, rows_change, rows_plan_refusal, with_rows}
-use Rattle.s2ix_edit_plan.proofs.Above.{above_from_count, any_above_changed}
+use Rattle.s2ix_edit_plan.proofs.Above.{above_from_count, above_own, any_above_changed}
 use Rattle.s2ix_edit_plan.proofs.Plans.{an_entry, between_changed, no_entry}
 use Rattle.s2ix_edit_plan.proofs.Refused.{changes_some, entries_by_three, first_of_three, same_where_none}
 
@@ -357,12 +357,13 @@ rows_refused bag rows es b plans =
     ∙ ap (λ hs. first_of_three (length es == 0) high (many hs)) (sym plans.result)
     ∙ entries_by_three bag es
 
--- rows that make a count above the limit are refused for their copies
+-- rows that make a count above every limit are refused for their copies
 rows_too_high : (bag : LimitedCollection) (rows : List Held) → IsBag bag
-    → has_count_above (count_limit bag.limits) (with_rows rows bag.held) ≡ true → rows_plan_refusal bag rows ≡ Some TooManyCopies
+    → has_count_above_every_limit (with_rows rows bag.held) ≡ true → rows_plan_refusal bag rows ≡ Some TooManyCopies
 unfolding first_of_three is_high
-rows_too_high bag rows b high =
+rows_too_high bag rows b every =
     let new = with_rows rows bag.held in
+    let high = above_own bag new every in
     let many : Bool = ltb (pairs_limit bag.limits) (length new) in
     by_three bag rows
     ∙ ap (λ t. first_of_three t (is_high bag new) many) (changes_some bag new b (with_rows_keeps rows bag.held b.rises) high)
@@ -379,29 +380,30 @@ pub rows_want_memory : (bag : LimitedCollection) (rows : List Held) → MayWantM
 rows_want_memory bag rows =
     subst MayWantMemory (sym (by_three bag rows)) (memory_of_three _ _ _)
 
--- rows have the same copies in any order
-pub permuted_error : (hs : Collection) (rows sorted : List Held) (error : EditError) → IsPermutation rows sorted
-    → IsRowsError hs sorted error → IsRowsError hs rows error
-permuted_error hs rows sorted error same either =
+-- a sum that is above every limit is a count that is
+rows_above : (rows sorted : List Held) (hs : Collection) (rank : ℕ) → IsCollection hs → IsPermutation rows sorted
+    → 4294967295 < count_at hs rank + copies_at sorted rank → has_count_above_every_limit (with_rows rows hs) ≡ true
+rows_above rows sorted hs rank is same above =
+    above_from_count 4294967295 (with_rows rows hs) rank
+    (omega (arith, rows_counted rows hs rank is, permuted_copies rows sorted rank same, above))
+
+pub copies_above : (rows sorted : List Held) (hs : Collection) (error : EditError) → IsCollection hs → IsPermutation rows sorted
+    → IsRowsError hs sorted error → error ≡ TooManyCopies → has_count_above_every_limit (with_rows rows hs) ≡ true
+copies_above rows sorted hs error is same either copies =
     ⊎_elim
-    (λ memory. inl memory)
-    (λ above. inr (above.0, (above.1.0, omega (arith, above.1.1, permuted_copies rows sorted above.1.0 same))))
+    (λ memory. let clash = sym copies ∙ memory in cc)
+    (λ above. rows_above rows sorted hs above.1.0 is same above.1.1)
     either
 
--- a sum that is above every limit is a refusal
-pub error_refused : (bag : LimitedCollection) (rows : List Held) (error : EditError) → IsBag bag → IsRowsError bag.held rows error
-    → IsEditRefusal error (rows_plan_refusal bag rows)
-error_refused bag rows error b either =
+-- and a refusal
+pub error_refused : (bag : LimitedCollection) (rows sorted : List Held) (error : EditError) → IsBag bag → IsPermutation rows sorted
+    → IsRowsError bag.held sorted error → IsEditRefusal error (rows_plan_refusal bag rows)
+error_refused bag rows sorted error b same either =
     let Refused : EditError → Type 0 = λ e. IsEditRefusal e (rows_plan_refusal bag rows) in
     ⊎_elim
     (λ memory. subst Refused (sym memory) (rows_want_memory bag rows))
     (λ above.
-    let range = bag.limits.in_range in
-    let rank = above.1.0 in
-    let sum = rows_counted rows bag.held rank b.rises in
-    subst Refused (sym above.0)
-    (rows_too_high bag rows b (above_from_count (count_limit bag.limits) (with_rows rows bag.held) rank
-    (omega (arith, range, sum, above.1.1)))))
+    subst Refused (sym above.0) (rows_too_high bag rows b (rows_above rows sorted bag.held above.1.0 b.rises same above.1.1)))
     either
 
 -- ---- rows of no copies

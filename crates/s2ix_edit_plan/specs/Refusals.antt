@@ -65,6 +65,10 @@ goes_below_zero changes edit hs = false
 abbrev pub has_count_above : ℕ → Collection → Bool
 has_count_above limit hs = list_any (λ h. nat_lt limit h.count) hs
 
+-- whether a count is above every limit that a bag can have: above 4,294,967,295
+abbrev pub has_count_above_every_limit : Collection → Bool
+has_count_above_every_limit hs = has_count_above 4294967295 hs
+
 -- when each refusal is due, for an edit of a bag that these changes led to, and that makes this collection
 abbrev pub is_due : LimitedCollection → List (List Entry) → Edit → Collection → EditError → Bool
 is_due bag changes edit new JournalFull = nat_le (changes_limit bag.limits) (length changes)

@@ -46,11 +46,6 @@ pub record PlansRows (bag : LimitedCollection) (rows : List Held) (es : List Ent
   pub matches : first_mismatch bag es ≡ None
   pub result : changed bag.held es ≡ with_rows rows bag.held
 
--- why rows have no plan: memory was wanted, or a pair's count with its copies in the rows is above every limit
-abbrev pub IsRowsError : Collection → List Held → EditError → Type 0
-IsRowsError hs rows error =
-    (error ≡ OutOfMemory) ⊎ ((error ≡ TooManyCopies) × ((rank : ℕ) × (4294967295 < count_at hs rank + copies_at rows rank)))
-
 -- ---- how the entries are found
 
 -- the entry of one row: none where it has no copies
@@ -67,3 +62,8 @@ gains_from hs row (next ∷ rows) =
 abbrev pub gains_of : Collection → List Held → List Entry
 gains_of hs [] = []
 gains_of hs (row ∷ rows) = gains_from hs row rows
+
+-- memory was wanted, or the sum of a pair's count and its copies in the rows is above every limit
+abbrev pub IsRowsError : Collection → List Held → EditError → Type 0
+IsRowsError hs rows error =
+    (error ≡ OutOfMemory) ⊎ ((error ≡ TooManyCopies) × ((rank : ℕ) × (4294967295 < count_at hs rank + copies_at rows rank)))

@@ -1,5 +1,7 @@
-ghost use Rattle.std.specs.Prelude.{◌≡◌, ◌≢◌, IsOk};
+ghost use Rattle.std.specs.Prelude.{◌≡◌, ◌≢◌, true, IsOk};
+ghost use Rattle.s2ix_edit_plan.specs.Edit.{with_more};
 ghost use Rattle.s2ix_edit_plan.specs.Plan.{AlwaysPlans, AlwaysRefuses};
+ghost use Rattle.s2ix_edit_plan.specs.Refusals.{has_count_above_every_limit};
 
 use crate::edit::Edit;
 use crate::edits::entries::one_pair;
@@ -13,6 +15,8 @@ pub(crate) fn plan(alloc: Global, bag: &Bag, pair: Pair, copies: u32) -> Result<
     ensures plan { AlwaysPlans bag.now (Edit.Add pair copies) result }
     ensures refused { AlwaysRefuses bag.now (Edit.Add pair copies) result }
     ensures pairs { result ≢ Err EditError.TooManyPairs }
+    ensures copies { result ≡ Err EditError.TooManyCopies
+        → has_count_above_every_limit (with_more pair copies bag.now.held) ≡ true }
     ensures planned { result ≢ Err EditError.NoChange }
     ensures nothing { copies ≡ 0 → IsOk result }
 {

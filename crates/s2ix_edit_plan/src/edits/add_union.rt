@@ -1,5 +1,7 @@
-ghost use Rattle.std.specs.Prelude.{◌≡◌, ◌≢◌, length, IsOk};
+ghost use Rattle.std.specs.Prelude.{◌≡◌, ◌≢◌, true, length, IsOk};
+ghost use Rattle.s2ix_edit_plan.specs.Edit.{with_each};
 ghost use Rattle.s2ix_edit_plan.specs.Plan.{AlwaysPlans, AlwaysRefuses};
+ghost use Rattle.s2ix_edit_plan.specs.Refusals.{has_count_above_every_limit};
 
 use crate::edit::Edit;
 use crate::edits::entries::push_entry;
@@ -20,6 +22,8 @@ pub(crate) fn plan(
     ensures plan { AlwaysPlans bag.now (Edit.AddUnion union.now label) result }
     ensures refused { AlwaysRefuses bag.now (Edit.AddUnion union.now label) result }
     ensures pairs { result ≢ Err EditError.TooManyPairs }
+    ensures copies { result ≡ Err EditError.TooManyCopies
+        → has_count_above_every_limit (with_each label union.now bag.now.held) ≡ true }
     ensures planned { result ≢ Err EditError.NoChange }
     ensures nothing { length union.now ≡ 0 → IsOk result }
 {

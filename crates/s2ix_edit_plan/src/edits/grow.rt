@@ -23,6 +23,7 @@ pub(crate) fn plan(alloc: Global, bag: &Bag, label: Label, level: u8) -> Result<
     ensures plan { AlwaysPlans bag.now (Edit.Grow label level) result }
     ensures refused { AlwaysRefuses bag.now (Edit.Grow label level) result }
     ensures pairs { result ≢ Err EditError.TooManyPairs }
+    ensures copies { result ≢ Err EditError.TooManyCopies }
     ensures planned { result ≢ Err EditError.NoChange }
 {
     if lacks_label(bag, label) {

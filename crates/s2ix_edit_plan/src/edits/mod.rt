@@ -14,8 +14,9 @@ pub(crate) mod rows;
 
 ghost use Rattle.std.specs.Prelude.{◌≡◌, ◌≢◌, ◌⊎◌, true, false, Some, None, IsOk, IfOk, IfErr};
 ghost use Rattle.s2ix_edit_plan.specs.declared.errors.EditError.TheVariants.{NoChange};
+ghost use Rattle.s2ix_edit_plan.specs.Edit.{edited_by};
 ghost use Rattle.s2ix_edit_plan.specs.Plan.{IsPlanRefusal, Plans};
-ghost use Rattle.s2ix_edit_plan.specs.Refusals.{asks_no_copies, plan_refusal, reverts};
+ghost use Rattle.s2ix_edit_plan.specs.Refusals.{asks_no_copies, has_count_above_every_limit, plan_refusal, reverts};
 
 use crate::edit::Edit;
 use crate::errors::EditError;
@@ -42,13 +43,16 @@ pub fn plan(alloc: Global, bag: &Bag, changes: &[Change], edit: &Edit) -> Result
     ensures planned { result ≢ Err EditError.NoChange }
 
     // An edit of no copies is planned without allocating, and a `Revert` asks for memory only if nothing here refuses it. No other edit is
-    // refused for its pairs here.
+    // refused for its pairs here, nor for its copies unless a count would be above every limit.
     ensures nothing { asks_no_copies edit.now ≡ true → IsOk result }
     ensures reverting { reverts edit.now ≡ true
         → result ≡ Err EditError.OutOfMemory
         → let refusal = plan_refusal bag.now changes.now edit.now in
         (refusal ≡ None) ⊎ (refusal ≡ Some NoChange) }
     ensures pairs { reverts edit.now ≡ false → result ≢ Err EditError.TooManyPairs }
+    ensures copies { reverts edit.now ≡ false
+        → result ≡ Err EditError.TooManyCopies
+        → has_count_above_every_limit (edited_by changes.now edit.now bag.now.held) ≡ true }
 {
     match edit {
         Edit::Add { pair, copies } => add::plan(alloc, bag, *pair, *copies),

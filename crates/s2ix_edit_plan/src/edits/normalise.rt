@@ -18,6 +18,7 @@ pub(crate) fn plan(alloc: Global, bag: &Bag, label: Label) -> Result<Change, Edi
     ensures plan { AlwaysPlans bag.now (Edit.Normalise label) result }
     ensures refused { AlwaysRefuses bag.now (Edit.Normalise label) result }
     ensures pairs { result ≢ Err EditError.TooManyPairs }
+    ensures copies { result ≢ Err EditError.TooManyCopies }
     ensures planned { result ≢ Err EditError.NoChange }
 {
     if lacks_label(bag, label) {

@@ -1,7 +1,9 @@
-ghost use Rattle.std.specs.Prelude.{◌≡◌, ◌≢◌, ◌++◌, false, OnOk};
+ghost use Rattle.std.specs.Prelude.{◌≡◌, ◌≢◌, ◌++◌, true, false, OnOk};
 ghost use Rattle.s2ix_bag_pairs.specs.Label.{value_of};
+ghost use Rattle.s2ix_bag_pairs.specs.OfLabel.{held_of};
+ghost use Rattle.s2ix_edit_plan.specs.Edit.{with_all_moved};
 ghost use Rattle.s2ix_edit_plan.specs.Plan.{AlwaysPlans, AlwaysRefuses, move_entries};
-ghost use Rattle.s2ix_edit_plan.specs.Refusals.{holds_none};
+ghost use Rattle.s2ix_edit_plan.specs.Refusals.{has_count_above_every_limit, holds_none};
 
 use crate::edit::Edit;
 use crate::edits::entries::{lacks_label, removal};
@@ -22,6 +24,8 @@ pub(crate) fn plan(
     ensures plan { AlwaysPlans bag.now (Edit.Relabel source target) result }
     ensures refused { AlwaysRefuses bag.now (Edit.Relabel source target) result }
     ensures pairs { result ≢ Err EditError.TooManyPairs }
+    ensures copies { result ≡ Err EditError.TooManyCopies
+        → has_count_above_every_limit (with_all_moved target (held_of source bag.now.held) bag.now.held) ≡ true }
     ensures planned { result ≢ Err EditError.NoChange }
 {
     if lacks_label(bag, source) {
@@ -41,6 +45,8 @@ fn plan_moves(alloc: Global, bag: &Bag, source: Label, target: Label) -> Result<
     ensures plan { AlwaysPlans bag.now (Edit.Relabel source target) result }
     ensures refused { AlwaysRefuses bag.now (Edit.Relabel source target) result }
     ensures pairs { result ≢ Err EditError.TooManyPairs }
+    ensures copies { result ≡ Err EditError.TooManyCopies
+        → has_count_above_every_limit (with_all_moved target (held_of source bag.now.held) bag.now.held) ≡ true }
     ensures planned { result ≢ Err EditError.NoChange }
 {
     let mut entries = Vec::new(alloc);

@@ -13,6 +13,7 @@ pub(crate) fn plan(alloc: Global, bag: &Bag, pair: Pair, copies: u32) -> Result<
     ensures plan { AlwaysPlans bag.now (Edit.Remove pair copies) result }
     ensures refused { AlwaysRefuses bag.now (Edit.Remove pair copies) result }
     ensures pairs { result ≢ Err EditError.TooManyPairs }
+    ensures copies { result ≢ Err EditError.TooManyCopies }
     ensures planned { result ≢ Err EditError.NoChange }
     ensures nothing { copies ≡ 0 → IsOk result }
 {

@@ -1,11 +1,12 @@
 //! The change that adds rows, each a pair with copies, to the counts of a bag.
 
-ghost use Rattle.std.specs.Prelude.{◌≡◌, ◌↔◌, ◌==◌, [], ◌∷◌, ◌++◌, IsOk, IfOk, IfErr, OnOk, IsTrue};
+ghost use Rattle.std.specs.Prelude.{◌≡◌, ◌≢◌, ◌↔◌, ◌==◌, [], ◌∷◌, ◌++◌, true, IsOk, IfOk, IfErr, OnOk, IsTrue};
 ghost use Rattle.std.specs.List.Sorted.{IsNonDecreasingBy, IsPermutation};
 ghost use Rattle.s2ix_bag_pairs.specs.Collection.{IsBag, copies_in};
 ghost use Rattle.s2ix_bag_pairs.specs.Pair.{rank_of};
 ghost use Rattle.s2ix_edit_plan.specs.Errors.{IsEditRefusal};
-ghost use Rattle.s2ix_edit_plan.specs.Rows.{IsRowsError, PlansRows, gain_of, gains_of, rows_plan_refusal};
+ghost use Rattle.s2ix_edit_plan.specs.Refusals.{has_count_above_every_limit};
+ghost use Rattle.s2ix_edit_plan.specs.Rows.{IsRowsError, PlansRows, gain_of, gains_of, rows_plan_refusal, with_rows};
 
 use crate::edits::entries::push_entry;
 use crate::errors::EditError;
@@ -25,7 +26,10 @@ pub fn plan_rows(alloc: Global, bag: &Bag, rows: &[Held]) -> Result<Change, Edit
     ensures plan { IfOk result (PlansRows bag.now rows.now) }
     ensures refused { IfErr result (λ error.
         IsEditRefusal error (rows_plan_refusal bag.now rows.now)) }
-    ensures above { IfErr result (IsRowsError bag.now.held rows.now) }
+    ensures planned { result ≢ Err EditError.NoChange }
+    ensures pairs { result ≢ Err EditError.TooManyPairs }
+    ensures copies { result ≡ Err EditError.TooManyCopies
+        → has_count_above_every_limit (with_rows rows.now bag.now.held) ≡ true }
     ensures nothing { copies_in rows.now ≡ 0 → IsOk result }
 {
     if adds_nothing(bag, rows) {

@@ -1,5 +1,7 @@
-use Rattle.std.proofs.Common.{refl, ap}
-use Rattle.s2ix_edit_plan.specs.Refusals.{reverts}
+use Rattle.std.proofs.Common.{Bool, refl, ap, ◌∙◌}
+use Rattle.s2ix_edit_plan.specs.declared.edit.Edit.{Edit}
+use Rattle.s2ix_edit_plan.specs.Edit.{edited_by}
+use Rattle.s2ix_edit_plan.specs.Refusals.{has_count_above_every_limit, reverts}
 use Rattle.s2ix_edit_plan.proofs.Plans.{asks_copies, cells_added, copies_added, copies_removed, reads_no_change}
 use Rattle.s2ix_edit_plan.proofs.edits.plan.Goals as goal
 
@@ -50,3 +52,24 @@ returns-in-Normalise-clause-reverting c = λ takes. absurd (reads_no_change _ _ 
 
 pub returns-in-Revert-clause-pairs : goal.returns-in-Revert-clause-pairs
 returns-in-Revert-clause-pairs c = λ reads. let takes = ap reverts c.in-Revert.is in cc
+
+pub returns-in-Add-clause-copies : goal.returns-in-Add-clause-copies
+returns-in-Add-clause-copies c =
+    λ reads above.
+    let made : Edit → Bool = λ edit. has_count_above_every_limit (edited_by c.args.changes.now edit c.args.bag.now.held) in
+    ap made c.in-Add.is ∙ c.plan.ensures.copies above
+
+pub returns-in-AddUnion-clause-copies : goal.returns-in-AddUnion-clause-copies
+returns-in-AddUnion-clause-copies c =
+    λ reads above.
+    let made : Edit → Bool = λ edit. has_count_above_every_limit (edited_by c.args.changes.now edit c.args.bag.now.held) in
+    ap made c.in-AddUnion.is ∙ c.plan-in-AddUnion.ensures.copies above
+
+pub returns-in-Relabel-clause-copies : goal.returns-in-Relabel-clause-copies
+returns-in-Relabel-clause-copies c =
+    λ reads above.
+    let made : Edit → Bool = λ edit. has_count_above_every_limit (edited_by c.args.changes.now edit c.args.bag.now.held) in
+    ap made c.in-Relabel.is ∙ c.plan-in-Relabel.ensures.copies above
+
+pub returns-in-Revert-clause-copies : goal.returns-in-Revert-clause-copies
+returns-in-Revert-clause-copies c = λ reads above. let takes = ap reverts c.in-Revert.is in cc

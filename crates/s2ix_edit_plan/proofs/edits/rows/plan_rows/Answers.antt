@@ -4,8 +4,9 @@ use Rattle.std.proofs.lemmas.Result.{err_from_is_err_and}
 use Rattle.s2ix_bag_pairs.specs.declared.pair.Entry.{Entry}
 use Rattle.s2ix_bag_pairs.specs.declared.pair.Held.{Held}
 use Rattle.s2ix_bag_pairs.specs.Collection.{copies_in}
+use Rattle.s2ix_edit_plan.specs.declared.errors.EditError.TheVariants.{TooManyCopies}
 use Rattle.s2ix_edit_plan.specs.Rows.{IsRowsError, PlansRows, gains_of}
-use Rattle.s2ix_edit_plan.proofs.Rows.{error_refused, gains_plan, nothing_plans, permuted_error}
+use Rattle.s2ix_edit_plan.proofs.Rows.{copies_above, error_refused, gains_plan, nothing_plans}
 use Rattle.s2ix_edit_plan.proofs.edits.rows.plan_rows.Goals.{In_err-entries, In_ok-entries}
 use Rattle.s2ix_edit_plan.proofs.edits.rows.plan_rows.Goals as goal
 
@@ -16,23 +17,28 @@ returns-then-adds_nothing-clause-plan c =
     (nothing_plans c.args.bag.now c.args.rows.now c.adds_nothing.ensures.within
     (eqb-true (copies_in c.args.rows.now) 0 (sym c.adds_nothing.ensures.copies ∙ c.if-adds_nothing.true)))
 
-above : (c : In_err-entries) → IsRowsError c.args.bag.now.held c.args.rows.now c.in_err-entries.field-0.0
-above c =
+error : (c : In_err-entries) → IsRowsError c.args.bag.now.held c.in_ok-sorted.sorted.items c.in_err-entries.field-0.0
+error c =
     let Failed : List Held → Type 0 = λ rows. IsRowsError c.args.bag.now.held rows c.in_err-entries.field-0.0 in
-    permuted_error c.args.bag.now.held c.args.rows.now c.in_ok-sorted.sorted.items c.in_err-entries.field-0.0 c.in_ok-sorted.ensures.same
-    (subst Failed c.as_slice.ensures.value c.in_err-entries.ensures.above)
+    subst Failed c.as_slice.ensures.value c.in_err-entries.ensures.above
 
-pub returns-in_err-entries-clause-above : goal.returns-in_err-entries-clause-above
-returns-in_err-entries-clause-above c =
+pub returns-in_err-entries-clause-copies : goal.returns-in_err-entries-clause-copies
+returns-in_err-entries-clause-copies c =
+    λ is.
     let p = err_from_is_err_and c.from_residual-in_err-entries.result c.from_residual-in_err-entries.ensures.1 in
-    rw (p.1, p.2) (above (goal.at-returns-in_err-entries-clause-above c).In_err-entries)
+    let both = sym p.1 ∙ is in
+    let told = p.2 in
+    let copies : c.in_err-entries.field-0.0 ≡ TooManyCopies = cc in
+    copies_above c.args.rows.now c.in_ok-sorted.sorted.items c.args.bag.now.held c.in_err-entries.field-0.0
+    c.adds_nothing.ensures.within.rises c.in_ok-sorted.ensures.same
+    (error (goal.at-returns-in_err-entries-clause-copies c).In_err-entries) copies
 
 pub returns-in_err-entries-clause-refused : goal.returns-in_err-entries-clause-refused
 returns-in_err-entries-clause-refused c =
     let p = err_from_is_err_and c.from_residual-in_err-entries.result c.from_residual-in_err-entries.ensures.1 in
     rw (p.1, p.2)
-    (error_refused c.args.bag.now c.args.rows.now c.in_err-entries.field-0.0 c.adds_nothing.ensures.within
-    (above (goal.at-returns-in_err-entries-clause-refused c).In_err-entries))
+    (error_refused c.args.bag.now c.args.rows.now c.in_ok-sorted.sorted.items c.in_err-entries.field-0.0 c.adds_nothing.ensures.within
+    c.in_ok-sorted.ensures.same (error (goal.at-returns-in_err-entries-clause-refused c).In_err-entries))
 
 plan : (c : In_ok-entries) → PlansRows c.args.bag.now c.args.rows.now c.in_ok-entries.entries.items
 plan c =
