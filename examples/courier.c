@@ -18,24 +18,24 @@ static void done(uint32_t status) {
 }
 
 static void print_token(uint64_t cell) {
-    uint8_t text[16];
-    size_t length;
+    uint8_t text[16] = {0};
+    size_t length = 0;
     done(s2ix_cell_to_token(cell, text, &length)), fwrite(text, 1, length, stdout);
 }
 
 static void show(const char *question, s2ix_handle *zones) {
-    s2ix_row rows[ROOM];
-    size_t number;
+    s2ix_row rows[ROOM] = {0};
+    size_t number = 0;
     done(s2ix_at(zones, courier, rows, ROOM, &number)), puts(question);
     for (size_t k = 0; k < number; k++) printf("  "), print_token(rows[k].cell), printf(" zone %u, %u\n", rows[k].label, rows[k].count);
 }
 
 int main(void) {
     s2ix_handle zones = {0};
-    size_t number;
-    uint32_t labels[ROOM];
-    uint64_t cells[ROOM];
-    uint8_t dump[1024];
+    size_t number = 0;
+    uint32_t labels[ROOM] = {0};
+    uint64_t cells[ROOM] = {0};
+    uint8_t dump[1024] = {0};
     done(s2ix_open(&zones, 1000, 100, 100));
     /* Each edit is a change: these are the first to the fourth. */
     done(s2ix_add_union(&zones, centre, 3, CENTRE, &number)), printf("the centre has %zu cells\n", number);

@@ -5,9 +5,10 @@
    on cells return a bool. A call whose status is not S2IX_DONE leaves the store as it was. A call that gives a list takes a buffer with
    room for `room` items, and sets *number to how many items the list has. If the buffer has room for all, the call puts them at its front;
    else the status is S2IX_NO_ROOM and the buffer stays as it was. A call refused for another reason sets *number to 0, except s2ix_add_all
-   for a wrong row. No pointer is NULL, not even one to no items. What a call writes overlaps nothing else that it is given, so never copy a
-   handle to itself. A query takes the store out of its handle and puts it back, so the handle isn't const. Costs are in n, the number of
-   pairs held. */
+   for a wrong row. If more than one status is due, an edit tells of a wrong cell or label first, and any other call of a closed handle. No
+   pointer is NULL, not even one to no items. What a call writes overlaps nothing else that it is given, so never give s2ix_copy one handle
+   twice. A query takes the store out of its handle and puts it back, so the handle isn't const. In costs, n is the number of pairs held if
+   nothing else is said. */
 #ifndef S2IX_H
 #define S2IX_H
 
@@ -55,7 +56,7 @@ enum s2ix_status {
     S2IX_NOTHING_TO_REDO = 7,
     S2IX_NO_ROOM = 8,         /* the buffer is too short */
     S2IX_NO_DUMP = 9,         /* the text is no dump under the limits */
-    S2IX_JOURNAL_FULL = 16,   /* as many changes can be undone as the limit allows */
+    S2IX_JOURNAL_FULL = 16,   /* the changes to undo are as many as the limit allows: s2ix_forget makes room */
     S2IX_NO_SUCH_LABEL = 17,  /* no pair of the label is held */
     S2IX_NOT_HELD = 18,       /* too few copies held */
     S2IX_TOO_FINE = 19,       /* the level is above 30, or more than 8 above that of the cell, or of a cell of the label */
@@ -71,7 +72,7 @@ enum s2ix_status {
     S2IX_MISMATCH = 29        /* a change has another count of a pair than is held */
 };
 
-/* What a status means, in words, as *number bytes with no zero after them. S2IX_NO_ROOM. */
+/* What a status means, in words, as *number bytes with no zero after them; 64 bytes are room enough. S2IX_NO_ROOM. */
 uint32_t s2ix_status_text(uint32_t status, uint8_t *text, size_t room, size_t *number);
 
 /* Opens a handle of an empty store of at most `pairs` pairs (1 to 1,000,000), `copies` copies of each (1 and up) and `changes` changes to
@@ -79,9 +80,9 @@ uint32_t s2ix_status_text(uint32_t status, uint8_t *text, size_t room, size_t *n
    S2IX_OUT_OF_MEMORY. */
 uint32_t s2ix_open(s2ix_handle *handle, uint32_t pairs, uint32_t copies, uint32_t changes);
 
-/* Opens a handle of the store that starts from a dump's collection, under limits as those of s2ix_open. If the call is not refused, it
-   frees the store that the handle had. If the text is no dump, *line is the number of its first line with a fault, counted from 1; else it
-   is 0. O(n) for n bytes. S2IX_NO_LIMITS, S2IX_NO_DUMP, S2IX_OUT_OF_MEMORY. */
+/* Opens a handle of the store that starts from a dump's collection, under limits as those of s2ix_open, with nothing to undo or redo. If
+   the call is not refused, it frees the store that the handle had. If the text is no dump, *line is the number of its first line with a
+   fault, counted from 1; else it is 0. O(n) for n bytes. S2IX_NO_LIMITS, S2IX_NO_DUMP, S2IX_OUT_OF_MEMORY. */
 uint32_t s2ix_load(s2ix_handle *handle, const uint8_t *text, size_t len, uint32_t pairs, uint32_t copies, uint32_t changes, size_t *line);
 
 /* Opens a handle of the store that starts from a dump's collection after a journal's changes, under limits as those of s2ix_open, with
@@ -140,19 +141,20 @@ uint32_t s2ix_normalise_label(s2ix_handle *handle, uint32_t label, size_t *numbe
    S2IX_NO_SUCH_CHANGE, S2IX_BELOW_ZERO. */
 uint32_t s2ix_revert(s2ix_handle *handle, uint32_t change, size_t *number);
 
-/* Takes the last change back; *number is how many pairs it had. S2IX_CLOSED, S2IX_NOTHING_TO_UNDO, S2IX_OUT_OF_MEMORY. */
+/* Takes the last change back; *number is how many pairs it had. The time grows with the pairs held on the faces of these. S2IX_CLOSED,
+   S2IX_NOTHING_TO_UNDO, S2IX_OUT_OF_MEMORY. */
 uint32_t s2ix_undo(s2ix_handle *handle, size_t *number);
 
-/* Redoes the change that was undone last. S2IX_CLOSED, S2IX_NOTHING_TO_REDO, S2IX_OUT_OF_MEMORY. */
+/* Redoes the change that was undone last, in the time of s2ix_undo. S2IX_CLOSED, S2IX_NOTHING_TO_REDO, S2IX_OUT_OF_MEMORY. */
 uint32_t s2ix_redo(s2ix_handle *handle, size_t *number);
 
-/* Keeps what is held and drops all changes: nothing is left to undo or redo. S2IX_CLOSED. */
+/* Keeps what is held and drops all changes: nothing is left to undo or redo. O(k) for k changes. S2IX_CLOSED. */
 uint32_t s2ix_forget(s2ix_handle *handle);
 
 /* Drops all pairs and all changes, and keeps the limits: nothing is left to undo or redo. O(n). S2IX_CLOSED, S2IX_OUT_OF_MEMORY. */
 uint32_t s2ix_clear(s2ix_handle *handle);
 
-/* The pairs over a leaf, the innermost cell first, the labels of one cell rising. It does not allocate. O(log n + k) for k pairs.
+/* The pairs whose cells contain a leaf, the innermost cell first, the labels of one cell rising. It does not allocate. O(log n + k) for k pairs.
    S2IX_CLOSED, S2IX_NO_CELL, S2IX_NO_ROOM. */
 uint32_t s2ix_at(s2ix_handle *handle, uint64_t leaf, s2ix_row *rows, size_t room, size_t *number);
 

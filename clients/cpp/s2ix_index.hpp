@@ -548,7 +548,7 @@ class Index {
         [&](Entry* to, std::size_t room, std::size_t* many) { return s2ix_change(&handle_, number, to, room, many); });
   }
 
-  // How many faces, 0 to 6, the last accepted edit, undo or redo read again. O(1). S2IX_CLOSED.
+  // How many faces, 0 to 6, the last accepted edit, undo or redo rebuilt. O(1). S2IX_CLOSED.
   std::size_t faces_rebuilt() const {
     return detail::number([&](std::size_t* to) { return s2ix_faces_rebuilt(&handle_, to); });
   }

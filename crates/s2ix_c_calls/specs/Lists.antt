@@ -63,16 +63,17 @@ abbrev pub region_cells : Option Label → State → Result (List ℕ) ℕ
 region_cells (Some label) s = Ok (map raw_of (region_of label s.bag.held))
 region_cells None s = Err no_label
 
--- the pairs that share a leaf with a union of cells, and their labels
+-- the pairs that share a leaf with a union of cells
 abbrev pub rows_met : List CellId → State → List Row
 rows_met cells s = map row_of (meeting_of (normal_form cells) s.bag.held)
 
--- the pairs of that list from a place on, as many as a buffer has room for
-abbrev pub rows_met_from : ℕ → ℕ → List CellId → State → List Row
-rows_met_from from room cells s = map row_of (take room (drop from (meeting_of (normal_form cells) s.bag.held)))
-
+-- their labels, once and rising
 abbrev pub labels_met : List CellId → State → List ℕ
 labels_met cells s = map value_of (label_list (meeting_of (normal_form cells) s.bag.held))
+
+-- the pairs that are met, from a place on, as many as a buffer has room for
+abbrev pub rows_met_from : ℕ → ℕ → List CellId → State → List Row
+rows_met_from from room cells s = map row_of (take room (drop from (meeting_of (normal_form cells) s.bag.held)))
 
 -- whether a pair's count is asked for by numbers that are right, and the count
 abbrev pub Counts : Result Pair ℕ → State → ℕ → ℕ → Type 0
@@ -95,6 +96,6 @@ rows_with None s = Err no_label
 abbrev pub rows_from : ℕ → ℕ → State → List Row
 rows_from from room s = map row_of (take room (drop from s.bag.held))
 
--- these pairs are put to its front
+-- these pairs are put to the buffer's front
 abbrev pub PutsPage : ℕ → State → ℕ → ℕ → List Row → List Row → Type 0
 PutsPage from s status number old new = (status ≡ done) × IsPut (rows_from from (length old) s) status number old new

@@ -34,10 +34,12 @@ abbrev pub refusal_by : Direction → Refusing
 refusal_by Forward = replay_refusal
 refusal_by Back = rewind_refusal
 
--- one text is a dump and the other a journal, and P holds of the bag under these limits and of the changes
+-- one text is a dump and the other a journal, neither has a fault under these limits, and P holds of the bag under them and of the changes
 abbrev pub AreTexts : Limits → List ℕ → List ℕ → (LimitedCollection → List (List Entry) → Type 0) → Type 0
 AreTexts limits dump journal P =
-    (hs : Collection) × IsDump dump hs × (changes : List (List Entry)) × IsJournalText journal changes × P (record { limits = limits; held = hs }) changes
+    (dump_fault limits dump ≡ None) × (journal_fault limits journal ≡ None)
+    × (hs : Collection) × IsDump dump hs × (changes : List (List Entry)) × IsJournalText journal changes
+    × P (record { limits = limits; held = hs }) changes
 
 -- a dump and a journal lead to a bag
 abbrev pub LeadTo : Leading → Refusing → Limits → List ℕ → List ℕ → LimitedCollection → Type 0

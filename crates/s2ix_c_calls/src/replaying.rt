@@ -62,6 +62,7 @@ fn bag_of(alloc: Global, text: &[u8], limits: Limits) -> Result<Bag, Refused>
 // The changes of a journal.
 fn changes_of(alloc: Global, text: &[u8], limits: Limits) -> Result<Vec<Change>, Refused>
     ensures text { IfOk result (λ changes. IsJournalText text.now changes.items) }
+    ensures accepted { OnOk result (journal_fault limits text.now ≡ None) }
     ensures refused { IfErr result (IsUnread no_journal (journal_fault limits text.now)) }
     ensures status { IfErr result (λ refused. IsOfTexts refused.status) }
 {

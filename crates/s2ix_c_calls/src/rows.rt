@@ -1,6 +1,6 @@
 //! Lists in buffers of the caller.
 
-ghost use Rattle.std.specs.Prelude.{◌≡◌, ◌⊎◌, ◌≤◌, length, map, IfErr, IfOk};
+ghost use Rattle.std.specs.Prelude.{◌≡◌, ◌⊎◌, ◌≤◌, length, map, IfErr, IfOk, OnOk};
 ghost use Rattle.s2ix_c_calls.specs.Asked.{IsFirstWrong, NameHeld, held_asked};
 ghost use Rattle.s2ix_c_calls.specs.Lists.{IsPut, row_of};
 ghost use Rattle.s2ix_c_calls.specs.Status.{out_of_memory};
@@ -54,6 +54,7 @@ pub(crate) fn held_for(row: Row) -> Result<Held, u32>
 #[tactic(auto, using(crate::proofs::OfRows::first_wrong))]
 pub fn held_list(alloc: Global, rows: &[Row], number: &mut usize) -> Result<Vec<Held>, u32>
     ensures rows { IfOk result (λ list. NameHeld rows.now list.items) }
+    ensures right { OnOk result (number.new ≡ 0) }
     ensures wrong { IfErr result (λ why.
         IsFirstWrong rows.now number.new why ⊎ ((why ≡ out_of_memory) × (number.new ≡ 0))) }
 {

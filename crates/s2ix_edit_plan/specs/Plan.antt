@@ -1,5 +1,5 @@
 -- Carrying an edit out: the entries that it plans, and where a store refuses them.
-use Rattle.std.specs.Prelude.{◌≡◌, ℕ, ◌==◌, nat_lt, if◌then◌else◌, false, Option, Some, None, Result, IfOk, IfErr, List, [], ◌∷◌, length}
+use Rattle.std.specs.Prelude.{◌≡◌, ◌⊎◌, ℕ, ◌==◌, nat_lt, if◌then◌else◌, false, Option, Some, None, Result, IfOk, IfErr, List, [], ◌∷◌, length}
 use Rattle.std.specs.List.{list_any}
 use Rattle.s2id_core.specs.declared.cell_id.CellId.{CellId}
 use Rattle.s2ix_bag_pairs.specs.declared.label.Label.{Label}
@@ -47,6 +47,10 @@ AlwaysPlans bag edit result = (changes : List (List Entry)) → IfOk result (Pla
 
 abbrev pub AlwaysRefuses : LimitedCollection → Edit → Result (List Entry) EditError → Type 0
 AlwaysRefuses bag edit result = (changes : List (List Entry)) → IfErr result (IsPlanRefusal bag changes edit)
+
+-- nothing refuses the edit, memory and a full journal aside, except that it may change nothing
+abbrev pub IsUnrefused : LimitedCollection → List (List Entry) → Edit → Type 0
+IsUnrefused bag changes edit = (plan_refusal bag changes edit ≡ None) ⊎ (plan_refusal bag changes edit ≡ Some NoChange)
 
 -- why a store refuses planned entries, memory aside: none of them, else a count after above the limit, else more
 -- distinct pairs than the limit; `None` where it takes them

@@ -12,8 +12,8 @@ pub enum Edit {
     Remove { pair: Pair, copies: u32 },
     /// Takes away all copies of the label's pairs.
     DropLabel { label: Label },
-    /// Moves all copies of `source` to `target`, cell by cell. If the two are one label, nothing would change, and a store refuses that with
-    /// `NoChange`.
+    /// Moves all copies of `source` to `target`, cell by cell. If the two are one label that is held, nothing would change, and a store
+    /// refuses that with `NoChange`.
     Relabel { source: Label, target: Label },
     /// Adds a ring around the label: one copy under it for each cell of the level that overlaps no cell of the label, but shares an edge
     /// with a cell of the level that overlaps one.

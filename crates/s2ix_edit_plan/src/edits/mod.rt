@@ -12,11 +12,10 @@ mod remove;
 mod revert;
 pub(crate) mod rows;
 
-ghost use Rattle.std.specs.Prelude.{◌≡◌, ◌≢◌, ◌⊎◌, true, false, Some, None, IsOk, IfOk, IfErr};
-ghost use Rattle.s2ix_edit_plan.specs.declared.errors.EditError.TheVariants.{NoChange};
+ghost use Rattle.std.specs.Prelude.{◌≡◌, ◌≢◌, true, false, IsOk, IfOk, IfErr, OnOk};
 ghost use Rattle.s2ix_edit_plan.specs.Edit.{edited_by};
-ghost use Rattle.s2ix_edit_plan.specs.Plan.{IsPlanRefusal, Plans};
-ghost use Rattle.s2ix_edit_plan.specs.Refusals.{asks_no_copies, has_count_above_every_limit, plan_refusal, reverts};
+ghost use Rattle.s2ix_edit_plan.specs.Plan.{IsPlanRefusal, IsUnrefused, Plans};
+ghost use Rattle.s2ix_edit_plan.specs.Refusals.{asks_no_copies, has_count_above_every_limit, reverts};
 
 use crate::edit::Edit;
 use crate::errors::EditError;
@@ -42,13 +41,13 @@ pub fn plan(alloc: Global, bag: &Bag, changes: &[Change], edit: &Edit) -> Result
     ensures refused { IfErr result (IsPlanRefusal bag.now changes.now edit.now) }
     ensures planned { result ≢ Err EditError.NoChange }
 
-    // An edit of no copies is planned without allocating, and a `Revert` asks for memory only if nothing here refuses it. No other edit is
-    // refused for its pairs here, nor for its copies unless a count would be above every limit.
+    // An edit of no copies is planned without allocating. A `Revert` is planned, or asks for memory, only if nothing refuses it but that it
+    // may change nothing. No other edit is refused for its pairs here, nor for its copies unless a count would be above every limit.
     ensures nothing { asks_no_copies edit.now ≡ true → IsOk result }
     ensures reverting { reverts edit.now ≡ true
         → result ≡ Err EditError.OutOfMemory
-        → let refusal = plan_refusal bag.now changes.now edit.now in
-        (refusal ≡ None) ⊎ (refusal ≡ Some NoChange) }
+        → IsUnrefused bag.now changes.now edit.now }
+    ensures fits { reverts edit.now ≡ true → OnOk result (IsUnrefused bag.now changes.now edit.now) }
     ensures pairs { reverts edit.now ≡ false → result ≢ Err EditError.TooManyPairs }
     ensures copies { reverts edit.now ≡ false
         → result ≡ Err EditError.TooManyCopies

@@ -1,8 +1,6 @@
-ghost use Rattle.std.specs.Prelude.{◌≡◌, ◌≢◌, ◌⊎◌, Some, None, IfOk, IfErr, IfSome, IfNone};
+ghost use Rattle.std.specs.Prelude.{◌≡◌, ◌≢◌, Some, None, IfOk, IfErr, IfSome, IfNone, OnOk};
 ghost use Rattle.s2ix_edit_plan.specs.Edit.{numbered};
-ghost use Rattle.s2ix_edit_plan.specs.declared.errors.EditError.TheVariants.{NoChange};
-ghost use Rattle.s2ix_edit_plan.specs.Plan.{IsPlanRefusal, Plans};
-ghost use Rattle.s2ix_edit_plan.specs.Refusals.{plan_refusal};
+ghost use Rattle.s2ix_edit_plan.specs.Plan.{IsPlanRefusal, IsUnrefused, Plans};
 
 use crate::edit::Edit;
 use crate::errors::EditError;
@@ -20,9 +18,8 @@ pub(crate) fn plan(
     ensures plan { IfOk result (Plans bag.now changes.now (Edit.Revert number)) }
     ensures refused { IfErr result (IsPlanRefusal bag.now changes.now (Edit.Revert number)) }
     ensures planned { result ≢ Err EditError.NoChange }
-    ensures memory { result ≡ Err EditError.OutOfMemory
-        → let refusal = plan_refusal bag.now changes.now (Edit.Revert number) in
-        (refusal ≡ None) ⊎ (refusal ≡ Some NoChange) }
+    ensures fits { OnOk result (IsUnrefused bag.now changes.now (Edit.Revert number)) }
+    ensures memory { result ≡ Err EditError.OutOfMemory → IsUnrefused bag.now changes.now (Edit.Revert number) }
 {
     let Some(change) = change_of_number(changes, number) else {
         return Err(EditError::NoSuchChange);

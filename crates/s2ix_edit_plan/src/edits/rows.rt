@@ -19,8 +19,8 @@ use std::alloc::Global;
 /// The change that adds the copies of each row to the count of the row's pair: an entry for each pair that gains copies, and none if no
 /// row has any. Rows come in any order, and a pair may come more than once. The bag stays as it is.
 ///
-/// `TooManyCopies` is returned if a sum is above 4,294,967,295. The bag's limits are tested only when the change is applied.
-/// `OutOfMemory` may replace it. If no row has copies it does not allocate. O(m log m + m log n) for m rows and n pairs held. This
+/// `TooManyCopies` is returned only if a sum is above 4,294,967,295; `OutOfMemory` may replace it. The bag's limits are tested only when
+/// the change is applied. If no row has copies it does not allocate. O(m log m + m log n) for m rows and n pairs held. This
 /// project's own.
 pub fn plan_rows(alloc: Global, bag: &Bag, rows: &[Held]) -> Result<Change, EditError>
     ensures plan { IfOk result (PlansRows bag.now rows.now) }

@@ -23,6 +23,11 @@ returns-clause-plan c =
     plans_back c.args.bag.now c.args.changes.now c.args.number c.in-Some.change.now c.in_ok-reverting.field-0 c.reverting.ensures.rises
     c.in-Some.ensures.some known.accepted known.entries
 
+pub returns-clause-fits : goal.returns-clause-fits
+returns-clause-fits c =
+    has_plan_back c.args.bag.now c.args.changes.now c.args.number c.in-Some.change.now c.reverting.ensures.within
+    c.reverting.ensures.rises c.in-Some.ensures.some c.in_ok-reverting.ensures.accepted
+
 pub returns-in_err-reverting-clause-memory : goal.returns-in_err-reverting-clause-memory
 returns-in_err-reverting-clause-memory c =
     λ wants.
