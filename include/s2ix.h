@@ -154,8 +154,8 @@ uint32_t s2ix_forget(s2ix_handle *handle);
 /* Drops all pairs and all changes, and keeps the limits: nothing is left to undo or redo. O(n). S2IX_CLOSED, S2IX_OUT_OF_MEMORY. */
 uint32_t s2ix_clear(s2ix_handle *handle);
 
-/* The pairs whose cells contain a leaf, the innermost cell first, the labels of one cell rising. It does not allocate. O(log n + k) for k pairs.
-   S2IX_CLOSED, S2IX_NO_CELL, S2IX_NO_ROOM. */
+/* The pairs whose cells contain a leaf, the innermost cell first, the labels of one cell rising. It does not allocate. O(log n + k) for k
+   pairs. S2IX_CLOSED, S2IX_NO_CELL, S2IX_NO_ROOM. */
 uint32_t s2ix_at(s2ix_handle *handle, uint64_t leaf, s2ix_row *rows, size_t room, size_t *number);
 
 /* The pairs that share a leaf with some of the cells, which come in any order, repeated or not. Each pair comes once, by first shared leaf,
