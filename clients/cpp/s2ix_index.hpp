@@ -444,7 +444,8 @@ class Index {
   // Lists. One form of each call puts the list in place of what a vector of the caller held, and uses its memory again; if the call throws,
   // the vector is empty. The other form returns a new vector.
 
-  // The pairs over a leaf, the innermost cell first, the labels of one cell rising. O(log n + k) for k pairs. S2IX_CLOSED, S2IX_NO_CELL.
+  // The pairs whose cells contain a leaf, the innermost cell first, the labels of one cell rising. O(log n + k) for k pairs. S2IX_CLOSED,
+  // S2IX_NO_CELL.
   void at(std::uint64_t leaf, std::vector<Row>& rows) const {
     detail::fill(rows, [&](Row* to, std::size_t room, std::size_t* number) { return s2ix_at(&handle_, leaf, to, room, number); });
   }

@@ -254,8 +254,8 @@ class Index:
     # Queries.
 
     def at(self, leaf: Cell) -> list[Row]:
-        """The pairs over a leaf, the innermost cell first, the labels of one cell rising. O(log n + k) for k pairs. Raises Closed or
-        NoCell."""
+        """The pairs whose cells contain a leaf, the innermost cell first, the labels of one cell rising. O(log n + k) for k pairs.
+        Raises Closed or NoCell."""
         if leaf.__class__ is not int:
             leaf = number_of(leaf)
         elif leaf >> 64:
