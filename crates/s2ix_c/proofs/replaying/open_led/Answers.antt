@@ -19,7 +19,7 @@ returns-in-Ok-clause-refused c = λ not_done not_limits.
       c.in-Some.ensures.pairs,
       c.in-Some.ensures.count,
       c.in-Some.ensures.changes,
-      inr (inr (lead.0, lead.1, lead.2, lead.3, inl (ap (λ status. refused_at status 0 0) (c.keep_bag.ensures.refused not_done).0))),
+      inr (inr (lead.0, lead.1, lead.2, lead.3, lead.4, lead.5, inl (ap (λ status. refused_at status 0 0) (c.keep_bag.ensures.refused not_done).0))),
     )
 
 pub returns-in-Err-clause-refused : goal.returns-in-Err-clause-refused
