@@ -9,6 +9,7 @@ mod chains;
 mod changes;
 mod counts;
 mod edits;
+pub mod laws;
 mod line;
 mod listing;
 mod queries;
