@@ -8,13 +8,15 @@ use s2ix_bag_pairs::Held;
 use s2ix_table_ranges::RangeRow;
 use s2ix_table_walk::{Cost, Reader, SAMPLE_STEP, Window};
 
-/// A reader of a table that counts what is read of it. It keeps two things at hand: the stretch of the face that was last asked for, in
-/// which a search reads where ranges begin, and the note that makes the next read of a range nearby quicker.
+/// A reader of a table that counts what is read of it. It keeps three things at hand: the stretch of the face that was last asked for, in
+/// which a search reads where ranges begin, the first range of that face's window, and the note that makes the next read of a range nearby
+/// quicker.
 #[derive(Debug, Drop)]
 pub struct Meter<'a, T: RangeTable> {
     table: &'a T,
     cost: Cost,
     near: Stretch<'a>,
+    window_first: usize,
     note: usize,
     pub ghost near_is: { IsStretch (T.ranges table.now) near.first near.count near.starts.now },
     pub ghost sample_is: { IsSample near.count near.starts.now near.sample.now },
@@ -30,11 +32,13 @@ impl<'a, T: RangeTable> Meter<'a, T> {
         ensures shown { ⟦<Meter<'a, T> as Reader>⟧.shown result
             ≡ record { pairs = T.pairs table.now; ranges = T.ranges table.now; chain = T.chain table.now } }
         ensures unread { ⟦<Meter<'a, T> as Reader>⟧.spent result ≡ no_cost }
+        ensures sampled { ⟦<Meter<'a, T> as Reader>⟧.sampled_from result ≡ 0 }
     {
         Meter {
             table,
             cost: Cost::none(),
             near: Stretch::none(),
+            window_first: 0,
             note: 0,
         }
     }
@@ -47,6 +51,8 @@ impl<T: RangeTable> Reader for Meter<'_, T> {
 
     ghost spent = { λ meter. meter.cost };
 
+    ghost sampled_from = { λ meter. meter.window_first };
+
     ghost is_shown = { λ meter. record { is_collection = T.is_collection meter.table.now; is_table = T.is_table meter.table.now; few = T.few meter.table.now } };
 
     fn range_count(&self) -> usize {
@@ -57,7 +63,9 @@ impl<T: RangeTable> Reader for Meter<'_, T> {
         self.cost.add_probe();
         self.near = self.table.stretch(face);
         self.note = self.near.note;
-        self.table.window(face)
+        let window = self.table.window(face);
+        self.window_first = window.first;
+        window
     }
 
     fn first(&self, k: usize) -> Option<T::Place> {
@@ -83,8 +91,7 @@ impl<T: RangeTable> Reader for Meter<'_, T> {
     }
 
     fn sampled_by(&self, k: usize) -> usize {
-        let own = k.wrapping_sub(self.near.first);
-        k.saturating_sub(own.wrapping_add(1) % SAMPLE_STEP)
+        k - k.saturating_sub(self.window_first) % SAMPLE_STEP
     }
 
     fn sampled_start(&mut self, k: usize) -> u64 {

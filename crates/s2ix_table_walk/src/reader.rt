@@ -1,4 +1,4 @@
-ghost use Rattle.std.specs.Prelude.{◌≡◌, ◌<◌, ◌≤◌, ◌+◌, ◌∷◌, length, drop};
+ghost use Rattle.std.specs.Prelude.{◌≡◌, ◌<◌, ◌≤◌, ◌+◌, ◌-◌, ◌%◌, ◌∷◌, ℕ, length, drop};
 ghost use Rattle.s2ix_table_walk.specs.Places.{IsPlace, LeadsTo};
 ghost use Rattle.s2ix_table_ranges.specs.Table.{range_at};
 ghost use Rattle.s2ix_table_walk.specs.Costs.{with_look, with_probe};
@@ -25,6 +25,9 @@ pub trait Reader {
     // what was read so far
     ghost spent: { Self → CostSpent };
 
+    // the first range of the window that was told last: samples are counted from it
+    ghost sampled_from: { Self → ℕ };
+
     /// How many ranges there are.
     fn range_count(&self) -> usize
         ensures { result ≡ length (shown self.now).ranges };
@@ -33,6 +36,7 @@ pub trait Reader {
     fn window(&mut self, face: u8) -> Window
         requires { face < 6 }
         ensures window { HaveFace (shown self.old).ranges face result.first result.size }
+        ensures sampled { sampled_from self.new ≡ result.first }
         ensures same { shown self.new ≡ shown self.old }
         ensures counts { spent self.new ≡ with_probe (spent self.old) };
 
@@ -52,6 +56,7 @@ pub trait Reader {
         ensures start { result.start ≡ (range_at (shown self.old).ranges k).start }
         ensures limit { result.limit ≡ (range_at (shown self.old).ranges k).limit }
         ensures same { shown self.new ≡ shown self.old }
+        ensures sampled { sampled_from self.new ≡ sampled_from self.old }
         ensures counts { spent self.new ≡ with_probe (spent self.old) };
 
     /// Where a range begins, as [`row`](Reader::row) gives it: one probe. A search reads ranges by it.
@@ -59,19 +64,19 @@ pub trait Reader {
         requires { k < length (shown self.old).ranges }
         ensures start { result ≡ (range_at (shown self.old).ranges k).start }
         ensures same { shown self.new ≡ shown self.old }
+        ensures sampled { sampled_from self.new ≡ sampled_from self.old }
         ensures counts { spent self.new ≡ with_probe (spent self.old) }
     {
         self.row(k).start
     }
 
-    /// A range at most 15 places before the given one, or that one itself. [`sampled_start`](Reader::sampled_start) is quickest at it and
-    /// at every 16th range after it.
+    /// A range at most 15 places before the given one, or that one itself: the last one by it that lies a multiple of 16 places after the
+    /// first range of the window that was told last. [`sampled_start`](Reader::sampled_start) is quickest at it and at every 16th range
+    /// after it.
     fn sampled_by(&self, k: usize) -> usize
         ensures by { result ≤ k }
         ensures near { k < result + 16 }
-    {
-        k
-    }
+        ensures sampled { result ≡ k - (k - sampled_from self.now) % 16 };
 
     /// Where a range begins, as [`start`](Reader::start) gives it: one probe. A search among very many ranges first reads every 16th one so:
     /// a reader may have their starts in a short list, which stays in the processor's cache.
@@ -79,6 +84,7 @@ pub trait Reader {
         requires { k < length (shown self.old).ranges }
         ensures start { result ≡ (range_at (shown self.old).ranges k).start }
         ensures same { shown self.new ≡ shown self.old }
+        ensures sampled { sampled_from self.new ≡ sampled_from self.old }
         ensures counts { spent self.new ≡ with_probe (spent self.old) }
     {
         self.start(k)
@@ -91,6 +97,7 @@ pub trait Reader {
         ensures limit { result.0.limit ≡ (range_at (shown self.old).ranges k).limit }
         ensures first { LeadsTo (shown self.old).chain result.1 (range_at (shown self.old).ranges k).contents }
         ensures same { shown self.new ≡ shown self.old }
+        ensures sampled { sampled_from self.new ≡ sampled_from self.old }
         ensures counts { spent self.new ≡ with_probe (spent self.old) }
     {
         let first = self.first(k);
@@ -102,6 +109,7 @@ pub trait Reader {
         requires { IsPlace (shown self.old).chain place }
         ensures held { (shown self.old).chain place ≡ result ∷ drop 1 ((shown self.old).chain place) }
         ensures same { shown self.new ≡ shown self.old }
+        ensures sampled { sampled_from self.new ≡ sampled_from self.old }
         ensures counts { spent self.new ≡ with_look (spent self.old) };
 
     /// What was read so far.
