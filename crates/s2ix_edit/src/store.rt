@@ -189,7 +189,7 @@ impl Store {
     {
         let number = change.entries().len();
         let faces = changed_face_count(&change);
-        let (bag, table) = apply_planned(self.alloc, &self.bag, &self.table, &change)?;
+        let (bag, table, _reads) = apply_planned(self.alloc, &self.bag, &self.table, &change)?;
         push_change(&mut self.done, change)?;
         self.undone.clear();
         self.bag = bag;
@@ -218,7 +218,7 @@ impl Store {
         };
         let faces = changed_face_count(last);
         let inverse = last.inverse(self.alloc)?;
-        let (bag, table) = apply_recorded(self.alloc, &self.bag, &self.table, &inverse)?;
+        let (bag, table, _reads) = apply_recorded(self.alloc, &self.bag, &self.table, &inverse)?;
         let number = shift_last(&mut self.done, &mut self.undone)?;
         self.bag = bag;
         self.table = table;
@@ -245,7 +245,7 @@ impl Store {
             return Err(RedoError::NothingToRedo);
         };
         let faces = changed_face_count(last);
-        let (bag, table) = apply_recorded(self.alloc, &self.bag, &self.table, last)?;
+        let (bag, table, _reads) = apply_recorded(self.alloc, &self.bag, &self.table, last)?;
         let number = shift_last(&mut self.undone, &mut self.done)?;
         self.bag = bag;
         self.table = table;

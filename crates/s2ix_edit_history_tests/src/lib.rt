@@ -6,6 +6,8 @@
 #![tactic(auto)]
 
 #[cfg(test)]
+mod refused_growths;
+#[cfg(test)]
 mod refused_tests;
 #[cfg(test)]
 mod sum_tests;
