@@ -6,6 +6,8 @@ use Rattle.s2ix_edit_plan.specs.State.{State}
 use Rattle.s2ix_text_io.specs.Faults.{source_faults}
 use Rattle.s2ix_text_io.specs.Pieces.{ReadsOn}
 use Rattle.s2ix_text_io.specs.Puts.{AppendsFront}
+use Rattle.s2ix_text_io.specs.declared.sink.Sink.{Ghosts as Sink}
+use Rattle.s2ix_text_io.specs.declared.source.Source.{Ghosts as Source}
 use Rattle.s2ix_text_io.specs.declared.run_fault.RunFault.{RunFault}
 use Rattle.s2ix_text_io.specs.declared.run_fault.RunFault.TheVariants.{Read, Write, OutOfMemory, ReaderTooLong}
 use Rattle.s2ix_cli_script.specs.Lines.{script_lines}
@@ -14,6 +16,7 @@ use Rattle.s2ix_cli_run.specs.declared.run_end.RunEnd.{RunEnd}
 use Rattle.s2ix_cli_run.specs.declared.coming.PieceEnd.{PieceEnd}
 use Rattle.s2ix_cli_run.specs.declared.coming.PieceEnd.TheVariants.{GoesOn, Stops}
 use Rattle.s2ix_cli_run.specs.Coming.{ended_behind, unended_behind, ended_lines, kept_of}
+use Rattle.s2ix_cli_run.specs.InTurn.{AnswersInTurn, AsksOnce, IsAnswered}
 use Rattle.s2ix_cli_run.specs.Piece.{CarriesPiece, CarriesLast, CountsMore, Reached, Stopped, FaultAmong}
 use Rattle.s2ix_cli_run.specs.Run.{SourceEnd, AreRead, Flushes, Ran, KeepsOn, IsStateAfter, Finishes, line_left}
 use Rattle.s2ix_cli_run.specs.Script.{MOST, Run, after, carried_lines, counted_in, output_of, refused_in}
@@ -110,6 +113,13 @@ FaultAmong-source Read lines run f = absurd f
 FaultAmong-source ReaderTooLong lines run f = absurd f
 FaultAmong-source Write lines run f = refl
 FaultAmong-source OutOfMemory lines run f = refl
+
+pub FaultAmong-asks : {S : Type 0} (source : Source S) (old new : S) (n : ℕ) (fault : RunFault) (lines : List (List ℕ)) (run : Run)
+    → FaultAmong fault lines run → source.gives old n new → AsksOnce source (Err fault) old new
+FaultAmong-asks source old new n Read lines run f call = absurd f
+FaultAmong-asks source old new n ReaderTooLong lines run f call = absurd f
+FaultAmong-asks source old new n Write lines run f call = (n, call)
+FaultAmong-asks source old new n OutOfMemory lines run f call = (n, call)
 
 -- ---- no more can be read
 
@@ -391,3 +401,13 @@ pub ReadsOn-more : {S : Type 0} (gives : S → ℕ → S → Type 0) (pieces n :
 ReadsOn-more gives pieces n old mid new on some call =
     let more : ReadsOn gives (suc pieces) old new = (mid, on, n, some, call) in
     subst (λ k. ReadsOn gives k old new) (suc_is pieces) more
+
+-- ---- a piece more that is answered
+
+pub AnswersInTurn-more : {S K : Type 0} (source : Source S) (sink : Sink K) (store : State) (pieces n : ℕ) (old mid new : S)
+    (old_sink mid_sink new_sink : K)
+    → AnswersInTurn source sink store pieces old old_sink mid mid_sink → 0 < n → source.gives mid n new
+    → IsAnswered source sink store old old_sink new new_sink → AnswersInTurn source sink store (pieces + 1) old old_sink new new_sink
+AnswersInTurn-more source sink store pieces n old mid new old_sink mid_sink new_sink on some call answered =
+    let more : AnswersInTurn source sink store (suc pieces) old old_sink new new_sink = (mid, mid_sink, on, n, some, call, answered) in
+    subst (λ k. AnswersInTurn source sink store k old old_sink new new_sink) (suc_is pieces) more

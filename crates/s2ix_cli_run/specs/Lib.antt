@@ -1,4 +1,5 @@
 pub mod Coming
+pub mod InTurn
 pub mod Laws
 pub mod Piece
 pub mod Run

@@ -2,6 +2,7 @@
 ghost use Rattle.std.specs.Prelude.{◌≡◌, ◌+◌, ℕ, List, IfErr};
 ghost use Rattle.std.specs.Io.KnownBytes.{Consumes};
 ghost use Rattle.s2ix_text_io.specs.Faults.{CanCount, source_faults, sink_faults, IsPatient};
+ghost use Rattle.s2ix_cli_run.specs.InTurn.{AnswersBeforeAsking};
 ghost use Rattle.s2ix_cli_run.specs.Run.{Ran, Flushes, source_end};
 
 use crate::coming::{PieceEnd, carry_last, carry_piece};
@@ -43,6 +44,7 @@ pub fn run<S: Source, K: Sink>(
           taken_before = K.taken sink.old;
           taken_after = K.taken sink.new;
         }) }
+    ensures in_turn { AnswersBeforeAsking S.Source K.Sink store.old result source.old sink.old source.new }
     ensures flushed { Flushes K.flushes result sink.old sink.new }
     ensures too_long { IfErr result (λ fault. IsPatient S.gives fault options.turns source.old source.new) }
     ensures source_faults { S.fault_count source.new ≡ S.fault_count source.old + source_faults result }

@@ -1,9 +1,9 @@
 -- A piece is carried out after those before it; the piece with no byte is the end.
-use Rattle.std.proofs.Common.{◌+◌, [], take, sym, ap, ◌∙◌, inr, subst, arith}
+use Rattle.std.proofs.Common.{◌+◌, ◌<◌, [], take, refl, sym, ap, ◌∙◌, inr, subst, arith}
 use Rattle.std.proofs.lemmas.Result.{err_from_is_err_and}
 use Rattle.s2ix_cli_run.specs.Coming.{unended_behind}
 use Rattle.s2ix_cli_run.specs.Run.{BringsLast, EndWasRead}
-use Rattle.s2ix_cli_run.proofs.Between.{Between-last, Between-more, Between-flushing, Between-fault, Between-fault_last, Between-ends, Between-reading, Between-ended, Between-ends_flushing, Between-stops, FaultAmong-flushes, FaultAmong-reads, FaultAmong-source, ReadsOn-more, goes_on, stops_at}
+use Rattle.s2ix_cli_run.proofs.Between.{AnswersInTurn-more, FaultAmong-asks, Between-last, Between-more, Between-flushing, Between-fault, Between-fault_last, Between-ends, Between-reading, Between-ended, Between-ends_flushing, Between-stops, FaultAmong-flushes, FaultAmong-reads, FaultAmong-source, ReadsOn-more, goes_on, stops_at}
 use Rattle.s2ix_cli_run.proofs.Steps.{plus_none}
 use Rattle.s2ix_cli_run.proofs.script.run.Goals as goal
 
@@ -16,6 +16,14 @@ returns-in_err-count-clause-ran g c =
 
 pub returns-clause-ran : goal.returns-clause-ran
 returns-clause-ran g c = Between-ended _ _ _ _ _ _ c.pieces.invariant.0
+
+pub returns-in_err-count-clause-in_turn : goal.returns-in_err-count-clause-in_turn
+returns-in_err-count-clause-in_turn g c =
+    let p = err_from_is_err_and c.from_residual.result c.from_residual.ensures.1 in
+    rw (p.1, p.2) (c.pieces._turn, c.pieces.source, c.pieces.sink, c.pieces.invariant.5, c.in_err-count.ensures.bytes)
+
+pub returns-clause-in_turn : goal.returns-clause-in_turn
+returns-clause-in_turn g c = (c.pieces._turn, c.pieces.source, c.pieces.sink, c.pieces.invariant.5, refl)
 
 -- ---- the end of the input
 
@@ -101,6 +109,22 @@ returns-then-count-eq0-clause-ran g c =
     Between-ends _ _ _ _ _ _ _ _ _ b _ _ _ _ (c.in_ok-told.ensures.carries c.args.options.stop (unended_behind [] b.input) b.is_held)
     c.in_ok-flush.ensures.bytes _ end
 
+pub returns-in_err-told-clause-in_turn : goal.returns-in_err-told-clause-in_turn
+returns-in_err-told-clause-in_turn g c =
+    let exit = c.from_residual-in_err-told in
+    let p = err_from_is_err_and exit.result exit.ensures.1 in
+    let b = c.pieces.invariant.0 in
+    rw (p.1, p.2) (c.pieces._turn, c.pieces.source, c.pieces.sink, c.pieces.invariant.5, FaultAmong-asks g.S.Source _ _ _ _ _ _ (c.in_err-told.ensures.carries c.args.options.stop (unended_behind [] b.input) b.is_held) c.in_ok-count.ensures.call)
+
+pub returns-in_err-flush-clause-in_turn : goal.returns-in_err-flush-clause-in_turn
+returns-in_err-flush-clause-in_turn g c =
+    let exit = c.from_residual-in_err-flush in
+    let p = err_from_is_err_and exit.result exit.ensures.1 in
+    rw (p.1, p.2) (c.pieces._turn, c.pieces.source, c.pieces.sink, c.pieces.invariant.5, (_, c.in_ok-count.ensures.call))
+
+pub returns-then-count-eq0-clause-in_turn : goal.returns-then-count-eq0-clause-in_turn
+returns-then-count-eq0-clause-in_turn g c = (c.pieces._turn, c.pieces.source, c.pieces.sink, c.pieces.invariant.5, (_, c.in_ok-count.ensures.call))
+
 -- ---- a piece
 
 pub returns-in_err-end-clause-ran : goal.returns-in_err-end-clause-ran
@@ -137,15 +161,39 @@ returns-in-Stops-clause-ran g c =
     Between-stops _ _ _ _ _ _ _ _ _ _ _ b c.in_ok-count.ensures.bytes _ _ c.in_ok-flush-2.ensures.bytes _ _ _
     (stops_at _ _ front _ _ _ _ c.in-Stops.is (c.in_ok-end.ensures.carries front b.is_held)) last
 
+pub returns-in_err-end-clause-in_turn : goal.returns-in_err-end-clause-in_turn
+returns-in_err-end-clause-in_turn g c =
+    let exit = c.from_residual-in_err-end in
+    let p = err_from_is_err_and exit.result exit.ensures.1 in
+    let b = c.pieces.invariant.0 in
+    rw (p.1, p.2) (c.pieces._turn, c.pieces.source, c.pieces.sink, c.pieces.invariant.5, FaultAmong-asks g.S.Source _ _ _ _ _ _ (c.in_err-end.ensures.carries (unended_behind [] b.input) b.is_held) c.in_ok-count.ensures.call)
+
+pub returns-in_err-flush-2-clause-in_turn : goal.returns-in_err-flush-2-clause-in_turn
+returns-in_err-flush-2-clause-in_turn g c =
+    let exit = c.from_residual-in_err-flush-2 in
+    let p = err_from_is_err_and exit.result exit.ensures.1 in
+    rw (p.1, p.2) (c.pieces._turn, c.pieces.source, c.pieces.sink, c.pieces.invariant.5, (_, c.in_ok-count.ensures.call))
+
+pub returns-in-Stops-clause-in_turn : goal.returns-in-Stops-clause-in_turn
+returns-in-Stops-clause-in_turn g c = (c.pieces._turn, c.pieces.source, c.pieces.sink, c.pieces.invariant.5, (_, c.in_ok-count.ensures.call))
+
 pub pieces-preserved : goal.pieces-preserved
 pieces-preserved g c =
     let b = c.pieces.invariant.0 in
-    let front = unended_behind [] b.input in (
-      Between-more _ _ _ _ _ _ _ _ _ _ _ b c.in_ok-count.ensures.bytes _ _ c.in_ok-flush-2.ensures.bytes _ _ _
-          (goes_on _ _ front _ _ _ _ c.in-GoesOn.is (c.in_ok-end.ensures.carries front b.is_held)),
-      ReadsOn-more g.S.Source.gives _ _ _ _ _ c.pieces.invariant.1 (let some = c.if-count-eq0.false in omega arith)
-          c.in_ok-count.ensures.call,
+    let front = unended_behind [] b.input in
+    let some : 0 < c.in_ok-count.count = let some = c.if-count-eq0.false in omega arith in
+    let more = Between-more _ _ _ _ _ _ _ _ _ _ _ b c.in_ok-count.ensures.bytes _ _ c.in_ok-flush-2.ensures.bytes _ _ _
+    (goes_on _ _ front _ _ _ _ c.in-GoesOn.is (c.in_ok-end.ensures.carries front b.is_held)) in (
+      more,
+      ReadsOn-more g.S.Source.gives _ _ _ _ _ c.pieces.invariant.1 some c.in_ok-count.ensures.call,
       inr (_, c.in_ok-flush-2.ensures.call),
       c.in_ok-count.ensures.faults ∙ plus_none _ ∙ c.pieces.invariant.3,
       c.in_ok-flush-2.ensures.faults ∙ plus_none _ ∙ c.in_ok-end.ensures.faults ∙ plus_none _ ∙ c.pieces.invariant.4,
+      AnswersInTurn-more g.S.Source g.K.Sink _ _ _ _ _ _ _ _ _ c.pieces.invariant.5 some c.in_ok-count.ensures.call
+          (record {
+            input = more.input;
+            consumed = more.consumed;
+            output = more.reached.stands.output;
+            flushed = (_, c.in_ok-flush-2.ensures.call);
+          }),
     )

@@ -1,6 +1,7 @@
 -- Between two pieces: the lines whose ends were read are carried out, and what was written is flushed.
 use Rattle.std.proofs.Common.{◌≡◌, ◌⊎◌}
 use Rattle.s2ix_text_io.specs.Pieces.{ReadsOn}
+use Rattle.s2ix_cli_run.specs.InTurn.{AnswersInTurn}
 use Rattle.s2ix_cli_run.specs.Run.{IsFlushed}
 use Rattle.s2ix_cli_run.proofs.Between.{Between}
 use Rattle.s2ix_cli_run.proofs.Steps.{over}
@@ -14,3 +15,4 @@ invariant-pieces g l =
     × ((l.sink ≡ l.fn.sink) ⊎ IsFlushed g.K.Sink.flushes l.sink)
     × (g.S.Source.fault_count l.source ≡ g.S.Source.fault_count l.fn.source)
     × (g.K.Sink.fault_count l.sink ≡ g.K.Sink.fault_count l.fn.sink)
+    × AnswersInTurn g.S.Source g.K.Sink l.fn.store l._turn l.fn.source l.fn.sink l.source l.sink
