@@ -13,6 +13,8 @@ mod flush_fault;
 #[cfg(test)]
 mod history_fault_tests;
 #[cfg(test)]
+mod in_turn_tests;
+#[cfg(test)]
 mod piece_tests;
 #[cfg(test)]
 mod random_pieces;
