@@ -44,7 +44,7 @@ pub fn run<S: Source, K: Sink>(
           taken_before = K.taken sink.old;
           taken_after = K.taken sink.new;
         }) }
-    ensures in_turn { AnswersBeforeAsking S.Source K.Sink store.old result source.old sink.old source.new }
+    ensures answered { AnswersBeforeAsking S.Source K.Sink store.old result source.old sink.old source.new }
     ensures flushed { Flushes K.flushes result sink.old sink.new }
     ensures too_long { IfErr result (λ fault. IsPatient S.gives fault options.turns source.old source.new) }
     ensures source_faults { S.fault_count source.new ≡ S.fault_count source.old + source_faults result }

@@ -17,13 +17,13 @@ returns-in_err-count-clause-ran g c =
 pub returns-clause-ran : goal.returns-clause-ran
 returns-clause-ran g c = Between-ended _ _ _ _ _ _ c.pieces.invariant.0
 
-pub returns-in_err-count-clause-in_turn : goal.returns-in_err-count-clause-in_turn
-returns-in_err-count-clause-in_turn g c =
+pub returns-in_err-count-clause-answered : goal.returns-in_err-count-clause-answered
+returns-in_err-count-clause-answered g c =
     let p = err_from_is_err_and c.from_residual.result c.from_residual.ensures.1 in
     rw (p.1, p.2) (c.pieces._turn, c.pieces.source, c.pieces.sink, c.pieces.invariant.5, c.in_err-count.ensures.bytes)
 
-pub returns-clause-in_turn : goal.returns-clause-in_turn
-returns-clause-in_turn g c = (c.pieces._turn, c.pieces.source, c.pieces.sink, c.pieces.invariant.5, refl)
+pub returns-clause-answered : goal.returns-clause-answered
+returns-clause-answered g c = (c.pieces._turn, c.pieces.source, c.pieces.sink, c.pieces.invariant.5, refl)
 
 -- ---- the end of the input
 
@@ -109,21 +109,21 @@ returns-then-count-eq0-clause-ran g c =
     Between-ends _ _ _ _ _ _ _ _ _ b _ _ _ _ (c.in_ok-told.ensures.carries c.args.options.stop (unended_behind [] b.input) b.is_held)
     c.in_ok-flush.ensures.bytes _ end
 
-pub returns-in_err-told-clause-in_turn : goal.returns-in_err-told-clause-in_turn
-returns-in_err-told-clause-in_turn g c =
+pub returns-in_err-told-clause-answered : goal.returns-in_err-told-clause-answered
+returns-in_err-told-clause-answered g c =
     let exit = c.from_residual-in_err-told in
     let p = err_from_is_err_and exit.result exit.ensures.1 in
     let b = c.pieces.invariant.0 in
     rw (p.1, p.2) (c.pieces._turn, c.pieces.source, c.pieces.sink, c.pieces.invariant.5, FaultAmong-asks g.S.Source _ _ _ _ _ _ (c.in_err-told.ensures.carries c.args.options.stop (unended_behind [] b.input) b.is_held) c.in_ok-count.ensures.call)
 
-pub returns-in_err-flush-clause-in_turn : goal.returns-in_err-flush-clause-in_turn
-returns-in_err-flush-clause-in_turn g c =
+pub returns-in_err-flush-clause-answered : goal.returns-in_err-flush-clause-answered
+returns-in_err-flush-clause-answered g c =
     let exit = c.from_residual-in_err-flush in
     let p = err_from_is_err_and exit.result exit.ensures.1 in
     rw (p.1, p.2) (c.pieces._turn, c.pieces.source, c.pieces.sink, c.pieces.invariant.5, (_, c.in_ok-count.ensures.call))
 
-pub returns-then-count-eq0-clause-in_turn : goal.returns-then-count-eq0-clause-in_turn
-returns-then-count-eq0-clause-in_turn g c = (c.pieces._turn, c.pieces.source, c.pieces.sink, c.pieces.invariant.5, (_, c.in_ok-count.ensures.call))
+pub returns-then-count-eq0-clause-answered : goal.returns-then-count-eq0-clause-answered
+returns-then-count-eq0-clause-answered g c = (c.pieces._turn, c.pieces.source, c.pieces.sink, c.pieces.invariant.5, (_, c.in_ok-count.ensures.call))
 
 -- ---- a piece
 
@@ -161,21 +161,21 @@ returns-in-Stops-clause-ran g c =
     Between-stops _ _ _ _ _ _ _ _ _ _ _ b c.in_ok-count.ensures.bytes _ _ c.in_ok-flush-2.ensures.bytes _ _ _
     (stops_at _ _ front _ _ _ _ c.in-Stops.is (c.in_ok-end.ensures.carries front b.is_held)) last
 
-pub returns-in_err-end-clause-in_turn : goal.returns-in_err-end-clause-in_turn
-returns-in_err-end-clause-in_turn g c =
+pub returns-in_err-end-clause-answered : goal.returns-in_err-end-clause-answered
+returns-in_err-end-clause-answered g c =
     let exit = c.from_residual-in_err-end in
     let p = err_from_is_err_and exit.result exit.ensures.1 in
     let b = c.pieces.invariant.0 in
     rw (p.1, p.2) (c.pieces._turn, c.pieces.source, c.pieces.sink, c.pieces.invariant.5, FaultAmong-asks g.S.Source _ _ _ _ _ _ (c.in_err-end.ensures.carries (unended_behind [] b.input) b.is_held) c.in_ok-count.ensures.call)
 
-pub returns-in_err-flush-2-clause-in_turn : goal.returns-in_err-flush-2-clause-in_turn
-returns-in_err-flush-2-clause-in_turn g c =
+pub returns-in_err-flush-2-clause-answered : goal.returns-in_err-flush-2-clause-answered
+returns-in_err-flush-2-clause-answered g c =
     let exit = c.from_residual-in_err-flush-2 in
     let p = err_from_is_err_and exit.result exit.ensures.1 in
     rw (p.1, p.2) (c.pieces._turn, c.pieces.source, c.pieces.sink, c.pieces.invariant.5, (_, c.in_ok-count.ensures.call))
 
-pub returns-in-Stops-clause-in_turn : goal.returns-in-Stops-clause-in_turn
-returns-in-Stops-clause-in_turn g c = (c.pieces._turn, c.pieces.source, c.pieces.sink, c.pieces.invariant.5, (_, c.in_ok-count.ensures.call))
+pub returns-in-Stops-clause-answered : goal.returns-in-Stops-clause-answered
+returns-in-Stops-clause-answered g c = (c.pieces._turn, c.pieces.source, c.pieces.sink, c.pieces.invariant.5, (_, c.in_ok-count.ensures.call))
 
 pub pieces-preserved : goal.pieces-preserved
 pieces-preserved g c =
