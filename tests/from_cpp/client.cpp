@@ -147,7 +147,7 @@ std::size_t WrongRow(s2ix::Index& index, const std::vector<s2ix::Row>& rows) {
   try {
     index.add_all(rows);
   } catch (const s2ix::Error& error) {
-    return error.row();
+    return error.place().value_or(rows.size());
   }
   return rows.size();
 }
@@ -259,11 +259,11 @@ void ChangedAndReplayed() {
   REFUSED(S2IX_NO_SUCH_CHANGE, index.change(2));
   EXPECT(s2ix::Index::replay(dump, journal).dump() == after && s2ix::Index::rewind(after, journal).dump() == dump);
   EXPECT(s2ix::Index::replay(dump, journal).done_count() == 0);
-  const s2ix::Error mismatch = Thrown([&] { s2ix::Index::replay(after, journal); });
+  const s2ix::Error mismatch = Thrown([&] { (void)s2ix::Index::replay(after, journal); });
   EXPECT(mismatch.status() == S2IX_MISMATCH && mismatch.change() == 1 && mismatch.entry() == 1 && mismatch.line() == 0);
-  const s2ix::Error no_journal = Thrown([&] { s2ix::Index::rewind(dump, dump); });
+  const s2ix::Error no_journal = Thrown([&] { (void)s2ix::Index::rewind(dump, dump); });
   EXPECT(no_journal.status() == S2IX_NO_JOURNAL && no_journal.line() == 1 && no_journal.change() == 0);
-  const s2ix::Error copies = Thrown([&] { s2ix::Index::replay(dump, "s2ix-journal 2\nchange 1\n0c 9 0 1\nend 1\n", s2ix::Limits{1, 5, 5}); });
+  const s2ix::Error copies = Thrown([&] { (void)s2ix::Index::replay(dump, "s2ix-journal 2\nchange 1\n0c 9 0 1\nend 1\n", s2ix::Limits{1, 5, 5}); });
   EXPECT(copies.status() == S2IX_TOO_MANY_PAIRS && copies.change() == 1 && copies.entry() == 0);
   REFUSED(S2IX_NO_DUMP, s2ix::Index::replay("", journal));
   REFUSED(S2IX_NO_LIMITS, s2ix::Index::rewind(dump, journal, s2ix::Limits{0, 1, 1}));
@@ -291,7 +291,7 @@ void WrittenAndRead() {
   REFUSED(S2IX_NO_DUMP, s2ix::Index::load(dump, s2ix::Limits{1, 100, 1}));
   REFUSED(S2IX_NO_DUMP, s2ix::Index::load({}));
   try {
-    s2ix::Index::load("s2ix 2\n04 0 0\n");
+    (void)s2ix::Index::load("s2ix 2\n04 0 0\n");
     EXPECT(false);
   } catch (const s2ix::Error& error) {
     EXPECT(error.line() == 2 && std::string(error.what()) == "s2ix: " + s2ix::status_text(S2IX_NO_DUMP) + ": line 2");
