@@ -164,7 +164,7 @@ class BasicS2CellIndex {
   // Gives all pairs, each copy of each.
   class CellIterator {
    public:
-    explicit CellIterator(const BasicS2CellIndex* index) : rows_(index->built().meet_from(Cells(faces, 6), 0, std::numeric_limits<std::size_t>::max())) {}
+    explicit CellIterator(const BasicS2CellIndex* index) : rows_(index->built().meet_from(Cells(faces, 6), 0, all)) {}
 
     Id cell_id() const { return Id(rows_[row_].cell); }
     Label label() const { return static_cast<Label>(rows_[row_].label); }
@@ -358,6 +358,8 @@ class BasicS2CellIndex {
 
  private:
   static constexpr std::uint64_t end_of_leaves = 0xc000000000000001;
+
+  static constexpr std::size_t all = std::numeric_limits<std::size_t>::max();
 
   // The cells of the six faces, which share a leaf with each cell.
   static constexpr std::uint64_t faces[6] = {0x1000000000000000, 0x3000000000000000, 0x5000000000000000,

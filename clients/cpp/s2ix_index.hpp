@@ -582,8 +582,9 @@ class Index {
                   [&](std::uint32_t status) { return detail::wrong_pair(status, cell.number(), label); });
   }
 
-  // Adds the count of each row to that of its cell under its label, as one change: rows in any order, repeated or not. They are refused as a
-  // whole. O(m log m + m log n) for m rows, and the pairs held on their faces. S2IX_NO_CELL, S2IX_NO_LABEL, with the first row that is wrong.
+  // Adds the count of each row to that of its cell under its label, as one change: rows in any order, repeated or not. Each row keeps its
+  // cell: unlike add_union, the call normalises nothing. They are refused as a whole. O(m log m + m log n) for m rows, and the pairs held on
+  // their faces. S2IX_NO_CELL, S2IX_NO_LABEL, with the first row that is wrong.
   std::size_t add_all(const Row* rows, std::size_t size) {
     static constexpr Row none{};
     std::size_t place = 0;
@@ -600,7 +601,8 @@ class Index {
                   [&](std::uint32_t status) { return detail::wrong_pair(status, cell.number(), label); });
   }
 
-  // Adds one copy under a label for each cell of the normal form of a union. S2IX_NO_CELL, S2IX_NO_LABEL.
+  // Adds one copy under a label for each cell of the normal form of a union, so four siblings become their parent, and a cell within another
+  // goes; add_all adds cells as they are. S2IX_NO_CELL, S2IX_NO_LABEL.
   std::size_t add_union(const Cells& cells, std::uint32_t label) {
     return number([&](::s2ix_handle* handle, std::size_t* to) { return s2ix_add_union(handle, cells.data(), cells.size(), label, to); },
                   [&](std::uint32_t status) {
@@ -662,7 +664,10 @@ class Index {
   // The pairs whose cells contain a leaf, the innermost cell first, the labels of one cell rising. O(log n + k) for k pairs. S2IX_CLOSED,
   // S2IX_NO_CELL.
   void at(Cell leaf, std::vector<Row>& rows) const {
-    list(rows, [&](::s2ix_handle* handle, Row* to, std::size_t room, std::size_t* number) { return s2ix_at(handle, leaf.number(), to, room, number); },
+    list(rows,
+         [&](::s2ix_handle* handle, Row* to, std::size_t room, std::size_t* number) {
+           return s2ix_at(handle, leaf.number(), to, room, number);
+         },
          [&](std::uint32_t status) { return detail::wrong_leaf(status, leaf.number()); });
   }
   [[nodiscard]] std::vector<Row> at(Cell leaf) const {
@@ -713,7 +718,10 @@ class Index {
 
   // The region of a label: the normal union of its cells, rising. O(n + m log m) for m pairs of the label. S2IX_CLOSED, S2IX_NO_LABEL.
   void region(std::uint32_t label, std::vector<std::uint64_t>& cells) const {
-    list(cells, [&](::s2ix_handle* handle, std::uint64_t* to, std::size_t room, std::size_t* number) { return s2ix_region(handle, label, to, room, number); },
+    list(cells,
+         [&](::s2ix_handle* handle, std::uint64_t* to, std::size_t room, std::size_t* number) {
+           return s2ix_region(handle, label, to, room, number);
+         },
          [&](std::uint32_t status) { return detail::wrong_label(status, {label}); });
   }
   [[nodiscard]] std::vector<std::uint64_t> region(std::uint32_t label) const {
@@ -724,7 +732,10 @@ class Index {
 
   // The pairs of a label, by rising cell. O(n) for all n pairs that are held. S2IX_CLOSED, S2IX_NO_LABEL.
   void of_label(std::uint32_t label, std::vector<Row>& rows) const {
-    list(rows, [&](::s2ix_handle* handle, Row* to, std::size_t room, std::size_t* number) { return s2ix_of_label(handle, label, to, room, number); },
+    list(rows,
+         [&](::s2ix_handle* handle, Row* to, std::size_t room, std::size_t* number) {
+           return s2ix_of_label(handle, label, to, room, number);
+         },
          [&](std::uint32_t status) { return detail::wrong_label(status, {label}); });
   }
   [[nodiscard]] std::vector<Row> of_label(std::uint32_t label) const {
@@ -830,16 +841,16 @@ class Index {
     return number([&](::s2ix_handle* handle, std::size_t* to) { return s2ix_previous_full(handle, before, to); });
   }
 
-  // The dump of what is held (docs/FORMATS.md). O(n). S2IX_CLOSED.
+  // The dump of what is held (FORMATS.md). O(n). S2IX_CLOSED.
   [[nodiscard]] std::string dump() const { return text(s2ix_dump, s2ix_len, 32); }
 
-  // The journal of the changes that can be undone, the oldest first (docs/FORMATS.md). O(n) for n entries. S2IX_CLOSED.
+  // The journal of the changes that can be undone, the oldest first (FORMATS.md). O(n) for n entries. S2IX_CLOSED.
   [[nodiscard]] std::string journal() const { return text(s2ix_journal, s2ix_done_count, 64); }
 
-  // The export of what is held: one line of compact JSON, without a line feed (docs/FORMATS.md). O(n). S2IX_CLOSED.
+  // The export of what is held: one line of compact JSON, without a line feed (FORMATS.md). O(n). S2IX_CLOSED.
   [[nodiscard]] std::string export_json() const { return text(s2ix_export, s2ix_len, 32); }
 
-  // Carries out one line of a script, given without its line feed, and returns its answer (docs/FORMATS.md): `ok N`, `no NAME`, or the lines
+  // Carries out one line of a script, given without its line feed, and returns its answer (FORMATS.md): `ok N`, `no NAME`, or the lines
   // of a query, each with its line feed; nothing for a blank line or a comment. A refused line throws nothing. It costs what the line's own
   // call does. S2IX_CLOSED.
   std::string line(std::string_view line) {
