@@ -22,6 +22,18 @@
 
 namespace s2ix {
 
+namespace detail {
+
+// A cell as S2 prints it.
+inline std::string printed(Cell cell) {
+  if (cell::is_valid(cell.number())) return cell::path(cell.number());
+  char text[32] = {};
+  std::snprintf(text, sizeof text, "Invalid: %016" PRIx64, cell.number());
+  return text;
+}
+
+}  // namespace detail
+
 // S2's own class over an Index: the same names, arguments and meanings. What differs from S2:
 //
 //   S2                                            here
@@ -67,7 +79,7 @@ class BasicS2CellIndex {
 
     // As S2 prints one: (0/32, 7).
     friend std::ostream& operator<<(std::ostream& out, const LabelledCell& pair) {
-      return out << '(' << path_of(raw(pair.cell_id)) << ", " << pair.label << ')';
+      return out << '(' << detail::printed(pair.cell_id) << ", " << pair.label << ')';
     }
   };
 
@@ -366,14 +378,6 @@ class BasicS2CellIndex {
                                              0x7000000000000000, 0x9000000000000000, 0xb000000000000000};
 
   static std::uint64_t raw(const Id& id) { return Cell(id).number(); }
-
-  // A cell as S2 prints it.
-  static std::string path_of(std::uint64_t cell) {
-    if (cell::is_valid(cell)) return cell::path(cell);
-    char text[32] = {};
-    std::snprintf(text, sizeof text, "Invalid: %016" PRIx64, cell);
-    return text;
-  }
 
   static void check_label(Label label) {
     if (label < 0) detail::refuse(S2IX_NO_LABEL, detail::wrong_label(S2IX_NO_LABEL, {static_cast<std::uint32_t>(label)}));
