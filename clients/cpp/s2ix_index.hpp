@@ -198,11 +198,13 @@ struct NoneWrong {
   return where;
 }
 
+constexpr std::uint32_t highest_label = 2147483647;
+
 // Of some labels, the first that is none.
 [[nodiscard]] inline Where wrong_label(std::uint32_t status, std::initializer_list<std::uint32_t> labels) {
   Where where;
   if (status != S2IX_NO_LABEL) return where;
-  const auto wrong = std::find_if(labels.begin(), labels.end(), [](std::uint32_t label) { return label > 2147483647; });
+  const auto wrong = std::find_if(labels.begin(), labels.end(), [](std::uint32_t label) { return label > highest_label; });
   if (wrong != labels.end()) where.value = *wrong;
   return where;
 }
@@ -916,7 +918,7 @@ class Index {
       const std::size_t room = std::min(most, number - std::min(from, number));
       rows.resize(room == 0 ? 1 : room);
       const std::uint32_t answered = call(handle, rows.data(), room, &number);
-      rows.resize(number);
+      rows.resize(answered == S2IX_DONE ? number : 0);
       return answered;
     });
     detail::check(status, wrong);
