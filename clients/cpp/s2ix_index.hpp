@@ -272,39 +272,36 @@ Answer answer_of(std::uint64_t cell, Call call) {
 }
 
 // Puts a list in place of what `items` held, and returns the status of the call; refused, or without memory, it leaves no items. It asks with
-// room for as many as they held, or for `room` if that is more, and a second time if the list is longer. So it costs what the list does, however
-// much memory the items have: s2ix.h takes initialised room alone, and to grow them to their capacity would write all of it.
+// room for as many as they held, or for `room` if that is more, and a second time if the list is longer. So it costs what the list does,
+// however much the items may hold: s2ix.h takes only initialised room, and to grow them to their capacity would write to all of it.
 template <class Items, class Call>
 std::uint32_t fill(Items& items, Call call, std::size_t room = 0) {
-  using Item = typename Items::value_type;
-  constexpr std::size_t few = 256 / sizeof(Item);
+  room = std::max(room, 256 / sizeof(typename Items::value_type));
+  if (items.capacity() < room) items.clear();
+  if (items.size() < room) items.resize(room);
   std::size_t number = 0;
-  std::uint32_t status = S2IX_NO_ROOM;
-  if (items.size() <= few && room <= few) {
-    Item first[few] = {};
-    status = call(first, few, &number);
-    items.clear();
-    if (status == S2IX_DONE) items.assign(first, first + number);
-  } else {
-    if (items.capacity() < room) items.clear();
-    if (items.size() < room) items.resize(room);
-    status = call(items.data(), items.size(), &number);
-    items.resize(status == S2IX_DONE ? number : 0);
-  }
+  std::uint32_t status = call(items.data(), items.size(), &number);
   if (status == S2IX_NO_ROOM) {
+    items.clear();
     items.resize(number);
     status = call(items.data(), items.size(), &number);
-    items.resize(status == S2IX_DONE ? number : 0);
   }
+  items.resize(status == S2IX_DONE ? number : 0);
   return status;
 }
 
-// A new list, as a call puts it, which keeps no more than twice its memory.
+// Frees what a list was asked for with and doesn't need, if that is much.
+template <class Items>
+void trim(Items& items) {
+  if (items.capacity() * sizeof(typename Items::value_type) > 1024 && items.capacity() / 2 > items.size()) items.shrink_to_fit();
+}
+
+// A new list, as a call puts it.
 template <class Items, class Call, class Wrong>
 Items filled(Call call, Wrong wrong, std::size_t room = 0) {
   Items items;
   check(fill(items, call, room), wrong);
-  if (items.capacity() / 2 > items.size()) items.shrink_to_fit();
+  trim(items);
   return items;
 }
 
@@ -660,8 +657,9 @@ class Index {
   void clear() { detail::check(handle_.with(s2ix_clear)); }
 
   // Lists. One form of each call puts the list in place of what a vector of the caller held, and uses its memory again; if the call throws,
-  // the vector is empty. The other form returns a new vector. Each costs what its list does, however much room the vector has; but a list of
-  // more items than the vector held, and of more than 256 bytes, is looked for twice, so keep a vector for each kind of call.
+  // the vector is empty. The other form returns a new vector. Each costs what its list does, however much the vector may hold. A list of more
+  // items than the vector held is made twice, but not one of at most 16 items, or 64 of a meet, or a sixteenth of all pairs under a label: so
+  // keep a vector for each kind of call.
 
   // The pairs whose cells contain a leaf, the innermost cell first, the labels of one cell rising. O(log n + k) for k pairs. S2IX_CLOSED,
   // S2IX_NO_CELL.
@@ -685,7 +683,7 @@ class Index {
          [&](::s2ix_handle* handle, Row* to, std::size_t room, std::size_t* number) {
            return s2ix_meet(handle, cells.data(), cells.size(), to, room, number);
          },
-         [&](std::uint32_t status) { return detail::wrong_in(status, cells); });
+         [&](std::uint32_t status) { return detail::wrong_in(status, cells); }, 64);
   }
   [[nodiscard]] std::vector<Row> meet(const Cells& cells) const {
     std::vector<Row> rows;
@@ -710,7 +708,7 @@ class Index {
          [&](::s2ix_handle* handle, std::uint32_t* to, std::size_t room, std::size_t* number) {
            return s2ix_labels(handle, cells.data(), cells.size(), to, room, number);
          },
-         [&](std::uint32_t status) { return detail::wrong_in(status, cells); });
+         [&](std::uint32_t status) { return detail::wrong_in(status, cells); }, 256);
   }
   [[nodiscard]] std::vector<std::uint32_t> labels(const Cells& cells) const {
     std::vector<std::uint32_t> found;
@@ -720,29 +718,23 @@ class Index {
 
   // The region of a label: the normal union of its cells, rising. O(n + m log m) for m pairs of the label. S2IX_CLOSED, S2IX_NO_LABEL.
   void region(std::uint32_t label, std::vector<std::uint64_t>& cells) const {
-    list(cells,
-         [&](::s2ix_handle* handle, std::uint64_t* to, std::size_t room, std::size_t* number) {
-           return s2ix_region(handle, label, to, room, number);
-         },
-         [&](std::uint32_t status) { return detail::wrong_label(status, {label}); });
+    list_of(label, cells, s2ix_region);
   }
   [[nodiscard]] std::vector<std::uint64_t> region(std::uint32_t label) const {
     std::vector<std::uint64_t> cells;
     region(label, cells);
+    detail::trim(cells);
     return cells;
   }
 
   // The pairs of a label, by rising cell. O(n) for all n pairs that are held. S2IX_CLOSED, S2IX_NO_LABEL.
   void of_label(std::uint32_t label, std::vector<Row>& rows) const {
-    list(rows,
-         [&](::s2ix_handle* handle, Row* to, std::size_t room, std::size_t* number) {
-           return s2ix_of_label(handle, label, to, room, number);
-         },
-         [&](std::uint32_t status) { return detail::wrong_label(status, {label}); });
+    list_of(label, rows, s2ix_of_label);
   }
   [[nodiscard]] std::vector<Row> of_label(std::uint32_t label) const {
     std::vector<Row> rows;
     of_label(label, rows);
+    detail::trim(rows);
     return rows;
   }
 
@@ -899,13 +891,26 @@ class Index {
     return answer<std::size_t>(call, wrong);
   }
 
-  // Puts the list that a call puts in place of what `items` held.
+  // Puts the list that a call puts in place of what `items` held. It is first asked for with that much room at least.
   template <class Items, class Call, class Wrong = detail::NoneWrong>
-  void list(Items& items, Call call, Wrong wrong = Wrong()) const {
+  void list(Items& items, Call call, Wrong wrong = Wrong(), std::size_t least_room = 0) const {
     const std::uint32_t status = handle_.with([&](::s2ix_handle* handle) {
-      return detail::fill(items, [&](auto* to, std::size_t room, std::size_t* number) { return call(handle, to, room, number); });
+      return detail::fill(
+          items, [&](auto* to, std::size_t room, std::size_t* number) { return call(handle, to, room, number); }, least_room);
     });
     detail::check(status, wrong);
+  }
+
+  // The same of a label's items. The call reads all pairs for them, beside which room for some of these costs little.
+  template <class Items, class Call>
+  void list_of(std::uint32_t label, Items& items, Call call) const {
+    const std::uint32_t status = handle_.with([&](::s2ix_handle* handle) {
+      std::size_t pairs = 0;
+      s2ix_len(handle, &pairs);
+      return detail::fill(
+          items, [&](auto* to, std::size_t room, std::size_t* number) { return call(handle, label, to, room, number); }, pairs / 16);
+    });
+    detail::check(status, [&](std::uint32_t why) { return detail::wrong_label(why, {label}); });
   }
 
   // The pairs that a call puts from a place on: at most `most`, and at most as many as are held behind the place.
@@ -939,7 +944,7 @@ class Index {
           bytes_each * many);
     });
     detail::check(status);
-    if (text.capacity() / 2 > text.size()) text.shrink_to_fit();
+    detail::trim(text);
     return text;
   }
 

@@ -2,9 +2,10 @@
 // thread does, and as an S2CellIndex whose adds are not built yet. It ends with 'N passed, M failed', after a line for each other answer.
 #include "s2ix.hpp"
 
+#include <atomic>
 #include <functional>
 #include <iostream>
-#include <set>
+#include <string>
 #include <thread>
 
 namespace {
