@@ -20,7 +20,9 @@ void Expect(int line, bool holds) {
 #define EXPECT(holds) Expect(__LINE__, holds)
 
 constexpr std::uint64_t kFirst = 0x0400000000000000, kSecond = 0x0c00000000000000, kFace = 0x1000000000000000, kOther = 0x3000000000000000;
-constexpr int kThreads = 8, kRounds = 4000;
+constexpr int kThreads = 8, kRounds = 4000, kLabels = 1000;
+
+using Target = std::vector<std::uint64_t>;
 
 // Whether a list has the pairs of a cell with one label, then another.
 bool IsPair(const std::vector<s2ix::Row>& rows, std::uint64_t cell, std::uint32_t label) {
@@ -48,10 +50,15 @@ int WrongQueries(const s2ix::Index& index) {
   return wrong;
 }
 
-// Runs some work on several threads at once.
+// Runs some work on several threads, which begin together.
 void AtOnce(const std::function<void()>& work) {
+  std::atomic<int> waiting{kThreads};
+  const auto begin = [&] {
+    for (waiting--; waiting > 0;) std::this_thread::yield();
+    work();
+  };
   std::vector<std::thread> threads;
-  for (int k = 0; k < kThreads; k++) threads.emplace_back(work);
+  for (int k = 0; k < kThreads; k++) threads.emplace_back(begin);
   for (std::thread& thread : threads) thread.join();
 }
 
@@ -98,18 +105,18 @@ void EditedAtOnce() {
 void QueriedAsInS2() {
   for (int turn = 0; turn < 50; turn++) {
     s2ix::S2CellIndex filled;
-    for (int label = 0; label < 40; label++) filled.Add(kFirst, label);
+    for (int label = 0; label < kLabels; label++) filled.Add(kFirst, label);
     const s2ix::S2CellIndex index = std::move(filled);
     AtOnce([&] {
       int visited = 0;
-      EXPECT(index.VisitIntersectingCells(std::vector<std::uint64_t>{kFace}, [&](std::uint64_t, int) { return ++visited < 100; }));
-      EXPECT(visited == 40 && index.num_cells() == 40 && index.GetIntersectingLabels(std::vector<std::uint64_t>{kFirst}).size() == 40);
+      EXPECT(index.VisitIntersectingCells(Target{kFace}, [&](std::uint64_t, int) { return ++visited <= kLabels; }));
+      EXPECT(visited == kLabels && index.num_cells() == kLabels && index.GetIntersectingLabels(Target{kFirst}).size() == kLabels);
       s2ix::S2CellIndex::NonEmptyRangeIterator range(&index);
       range.Begin();
       s2ix::S2CellIndex::ContentsIterator contents(&index);
       contents.StartUnion(range);
       for (visited = 0; !contents.done(); contents.Next()) visited++;
-      EXPECT(visited == 40 && range.start_id() == 1 && !range.Prev());
+      EXPECT(visited == kLabels && range.start_id() == 1 && !range.Prev());
     });
     EXPECT(index.index().done_count() == 1);
   }
