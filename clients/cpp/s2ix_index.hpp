@@ -641,14 +641,10 @@ class Index {
   }
 
   // Takes the last change back, and returns how many pairs it had. S2IX_CLOSED, S2IX_NOTHING_TO_UNDO.
-  std::size_t undo() {
-    return number(s2ix_undo);
-  }
+  std::size_t undo() { return number(s2ix_undo); }
 
   // Does the change that was undone last again, and returns how many pairs it had. S2IX_CLOSED, S2IX_NOTHING_TO_REDO.
-  std::size_t redo() {
-    return number(s2ix_redo);
-  }
+  std::size_t redo() { return number(s2ix_redo); }
 
   // Keeps what is held and drops all changes: nothing is left to undo or redo. S2IX_CLOSED.
   void forget() { detail::check(handle_.with(s2ix_forget)); }
@@ -753,22 +749,14 @@ class Index {
   }
 
   // How many pairs are held. O(1). S2IX_CLOSED.
-  [[nodiscard]] std::size_t len() const {
-    return number(s2ix_len);
-  }
+  [[nodiscard]] std::size_t len() const { return number(s2ix_len); }
 
   // The sum of the counts. O(n). S2IX_CLOSED.
-  [[nodiscard]] std::uint64_t copies() const {
-    return answer<std::uint64_t>(s2ix_copies);
-  }
+  [[nodiscard]] std::uint64_t copies() const { return answer<std::uint64_t>(s2ix_copies); }
 
   // How many changes can be undone, and how many redone. O(1). S2IX_CLOSED.
-  [[nodiscard]] std::size_t done_count() const {
-    return number(s2ix_done_count);
-  }
-  [[nodiscard]] std::size_t undone_count() const {
-    return number(s2ix_undone_count);
-  }
+  [[nodiscard]] std::size_t done_count() const { return number(s2ix_done_count); }
+  [[nodiscard]] std::size_t undone_count() const { return number(s2ix_undone_count); }
 
   // The entries of the change with a number, counted from 1 among those that can be undone: by rising cell, then label. O(k) for k entries.
   // S2IX_CLOSED, S2IX_NO_SUCH_CHANGE.
@@ -780,14 +768,10 @@ class Index {
   }
 
   // How many faces, 0 to 6, the last accepted edit, undo or redo rebuilt. O(1). S2IX_CLOSED.
-  [[nodiscard]] std::size_t faces_rebuilt() const {
-    return number(s2ix_faces_rebuilt);
-  }
+  [[nodiscard]] std::size_t faces_rebuilt() const { return number(s2ix_faces_rebuilt); }
 
   // How many ranges of leaves there are over which the same pairs lie: at least 1. O(1). S2IX_CLOSED.
-  [[nodiscard]] std::size_t range_count() const {
-    return number(s2ix_range_count);
-  }
+  [[nodiscard]] std::size_t range_count() const { return number(s2ix_range_count); }
 
   // The range that has a leaf. O(log n). S2IX_CLOSED, S2IX_NO_CELL.
   [[nodiscard]] Range find(Cell leaf) const {
@@ -931,11 +915,11 @@ class Index {
   }
 
   // The text that a call puts. It is asked for with room for so many bytes for each of what another call counts.
-  std::string text(decltype(s2ix_dump)* call, decltype(s2ix_len)* count, std::size_t bytes_each) const {
+  std::string text(decltype(s2ix_dump)* call, decltype(s2ix_len)* counter, std::size_t bytes_each) const {
     std::string text;
     const std::uint32_t status = handle_.with([&](::s2ix_handle* handle) {
       std::size_t many = 0;
-      count(handle, &many);
+      counter(handle, &many);
       return detail::fill(
           text,
           [&](char* bytes, std::size_t room, std::size_t* number) {

@@ -1,5 +1,5 @@
-// What each form of a list costs: how often the library is asked for it, how much memory it takes, and how much of a vector's memory is touched. It
-// is linked with -Wl,--wrap=CALL for each call that is counted, and ends with 'N passed, M failed', after a line for each other cost.
+// What each form of a list costs: how often the library is asked for it, how much memory it takes, and how much of a vector's memory is touched.
+// It is linked with -Wl,--wrap=CALL for each call that is counted, and ends with 'N passed, M failed', after a line for each other cost.
 #include "s2ix.hpp"
 
 #include <sys/resource.h>
@@ -32,34 +32,35 @@ void* operator new(std::size_t size) {
 void operator delete(void* block) noexcept { std::free(block); }
 void operator delete(void* block, std::size_t) noexcept { std::free(block); }
 
-// A call that is counted, and what it is given.
-#define COUNTED(name, given, passed_on)               \
-  extern "C" std::uint32_t __real_##name given;       \
-  extern "C" std::uint32_t __wrap_##name given {      \
+using Handle = ::s2ix_handle*;
+using Rows = ::s2ix_row*;
+using Given = const std::uint64_t*;
+using Size = std::size_t;
+using Number = std::size_t*;
+
+// A call that is counted: its parameters, and their names alone.
+#define COUNTED(name, parameters, names)              \
+  extern "C" std::uint32_t __real_##name parameters;  \
+  extern "C" std::uint32_t __wrap_##name parameters { \
     asked++;                                          \
-    return __real_##name passed_on;                   \
+    return __real_##name names;                       \
   }
 
-COUNTED(s2ix_at, (::s2ix_handle * handle, std::uint64_t leaf, ::s2ix_row* rows, std::size_t room, std::size_t* number), (handle, leaf, rows, room, number))
-COUNTED(s2ix_meet, (::s2ix_handle * handle, const std::uint64_t* cells, std::size_t len, ::s2ix_row* rows, std::size_t room, std::size_t* number),
-        (handle, cells, len, rows, room, number))
-COUNTED(s2ix_meet_from,
-        (::s2ix_handle * handle, const std::uint64_t* cells, std::size_t len, std::size_t from, ::s2ix_row* rows, std::size_t room, std::size_t* number),
+COUNTED(s2ix_at, (Handle handle, std::uint64_t leaf, Rows rows, Size room, Number number), (handle, leaf, rows, room, number))
+COUNTED(s2ix_meet, (Handle handle, Given cells, Size len, Rows rows, Size room, Number number), (handle, cells, len, rows, room, number))
+COUNTED(s2ix_meet_from, (Handle handle, Given cells, Size len, Size from, Rows rows, Size room, Number number),
         (handle, cells, len, from, rows, room, number))
-COUNTED(s2ix_labels, (::s2ix_handle * handle, const std::uint64_t* cells, std::size_t len, std::uint32_t* labels, std::size_t room, std::size_t* number),
+COUNTED(s2ix_labels, (Handle handle, Given cells, Size len, std::uint32_t* labels, Size room, Number number),
         (handle, cells, len, labels, room, number))
-COUNTED(s2ix_region, (::s2ix_handle * handle, std::uint32_t label, std::uint64_t* cells, std::size_t room, std::size_t* number),
-        (handle, label, cells, room, number))
-COUNTED(s2ix_of_label, (::s2ix_handle * handle, std::uint32_t label, ::s2ix_row* rows, std::size_t room, std::size_t* number),
-        (handle, label, rows, room, number))
-COUNTED(s2ix_pairs, (::s2ix_handle * handle, std::size_t from, ::s2ix_row* rows, std::size_t room, std::size_t* number), (handle, from, rows, room, number))
-COUNTED(s2ix_contents, (::s2ix_handle * handle, std::size_t place, std::uint64_t from, ::s2ix_row* rows, std::size_t room, std::size_t* number),
+COUNTED(s2ix_region, (Handle handle, std::uint32_t label, std::uint64_t* cells, Size room, Number number), (handle, label, cells, room, number))
+COUNTED(s2ix_of_label, (Handle handle, std::uint32_t label, Rows rows, Size room, Number number), (handle, label, rows, room, number))
+COUNTED(s2ix_pairs, (Handle handle, Size from, Rows rows, Size room, Number number), (handle, from, rows, room, number))
+COUNTED(s2ix_contents, (Handle handle, Size place, std::uint64_t from, Rows rows, Size room, Number number),
         (handle, place, from, rows, room, number))
-COUNTED(s2ix_dump, (::s2ix_handle * handle, std::uint8_t* text, std::size_t room, std::size_t* number), (handle, text, room, number))
-COUNTED(s2ix_export, (::s2ix_handle * handle, std::uint8_t* text, std::size_t room, std::size_t* number), (handle, text, room, number))
-COUNTED(s2ix_journal, (::s2ix_handle * handle, std::uint8_t* text, std::size_t room, std::size_t* number), (handle, text, room, number))
-COUNTED(s2ix_union_normalise, (const std::uint64_t* cells, std::size_t len, std::uint64_t* out, std::size_t room, std::size_t* number),
-        (cells, len, out, room, number))
+COUNTED(s2ix_dump, (Handle handle, std::uint8_t* text, Size room, Number number), (handle, text, room, number))
+COUNTED(s2ix_export, (Handle handle, std::uint8_t* text, Size room, Number number), (handle, text, room, number))
+COUNTED(s2ix_journal, (Handle handle, std::uint8_t* text, Size room, Number number), (handle, text, room, number))
+COUNTED(s2ix_union_normalise, (Given cells, Size len, std::uint64_t* out, Size room, Number number), (cells, len, out, room, number))
 
 namespace {
 
