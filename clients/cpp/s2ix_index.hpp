@@ -198,7 +198,7 @@ struct NoneWrong {
   return where;
 }
 
-constexpr std::uint32_t highest_label = 2147483647;
+inline constexpr std::uint32_t highest_label = 2147483647;
 
 // Of some labels, the first that is none.
 [[nodiscard]] inline Where wrong_label(std::uint32_t status, std::initializer_list<std::uint32_t> labels) {

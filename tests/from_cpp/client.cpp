@@ -477,6 +477,12 @@ void NamedAsInS2() {
   EXPECT(index.num_cells() == 4 && index.index().len() == 3 && index.index().done_count() == 1);
   REFUSED(S2IX_NO_LABEL, index.Add(Id(kFirst), -1));
   REFUSED(S2IX_NO_CELL, index.Add(Id(kNoCell), 1));
+  const std::vector<Id> wrong = {Id(kFirst), Id(kNoCell)};
+  EXPECT(Names(S2IX_NO_LABEL, 4294967295, {}, [&] { index.Add(Id(kFirst), -1); }));
+  EXPECT(Names(S2IX_NO_CELL, kNoCell, {}, [&] { index.Add(Id(kNoCell), 1); }));
+  EXPECT(Names(S2IX_NO_CELL, kNoCell, 1, [&] { index.Add(wrong, 1); }));
+  EXPECT(Names(S2IX_NO_CELL, kNoCell, 1, [&] { (void)index.GetIntersectingLabels(wrong); }));
+  EXPECT(Names(S2IX_NO_CELL, kNoCell, 1, [&] { index.VisitIntersectingCells(wrong, [](Id, Label) { return true; }); }));
 
   std::multiset<std::pair<std::uint64_t, Label>> given;
   for (typename S2Index::CellIterator cells(&index); !cells.done(); cells.Next()) {
