@@ -39,8 +39,8 @@ inline std::string printed(Cell cell) {
 //   S2                                            here
 //   Build() comes once, between adds and queries  any number of times: it makes one change of the adds since the last Build()
 //   no query before Build()                       queries, index() and a CellIterator build first; other iterators don't
-//   several threads may query at once             they may, each with iterators of its own, and their calls take turns. Nothing else may run
-//                                                 beside an Add(), a Clear() or a move
+//   several threads may query at once             they may, each with iterators of its own, and their calls take turns: Build() first, if they
+//                                                 use RangeIterators. Nothing else may run beside an Add(), a Clear() or a move
 //   Clear()                                       drops the changes too: nothing is left to undo
 //   any number of pairs                           limits: at most 1,000,000 distinct pairs; Build() throws above them
 //   an invalid cell, a label below 0: undefined   Add and the queries throw Error
