@@ -1,5 +1,5 @@
-/* The S2 cell index that can be edited: stores behind handles, cells and unions of cells. docs/FROM_C.md says how to build the library, and
-   what the caller must ensure.
+/* The S2 cell index that can be edited: stores behind handles, cells and unions of cells. FROM_C.md says how to build the library, and what the
+   caller must ensure; FORMATS.md has the texts. Both lie in docs of the repository, and in share/doc/s2ix where ./install put this file.
 
    Cells are S2's 64-bit ids, labels are 0 to 2147483647. Each call returns a status, except that s2ix_close returns nothing and some calls
    on cells return a bool. A call whose status is not S2IX_DONE leaves the store as it was. A call that gives a list takes a buffer with
@@ -114,14 +114,16 @@ void s2ix_close(s2ix_handle *handle);
 uint32_t s2ix_add(s2ix_handle *handle, uint64_t cell, uint32_t label, uint32_t copies, size_t *number);
 
 /* Adds the count of each row to that of its cell under its label, as one change. Rows come in any order, repeated or not; one of count 0
-   adds nothing. All are added, or none. If a row's cell or label is wrong, *number is the place of the first such row, counted from 0. O(m
-   log m + m log n) for m rows, and the pairs held on their faces. S2IX_NO_CELL, S2IX_NO_LABEL. */
+   adds nothing. Each row keeps its cell: unlike s2ix_add_union, the call normalises nothing. All are added, or none. If a row's cell or label
+   is wrong, *number is the place of the first such row, counted from 0. O(m log m + m log n) for m rows, and the pairs held on their faces.
+   S2IX_NO_CELL, S2IX_NO_LABEL. */
 uint32_t s2ix_add_all(s2ix_handle *handle, const s2ix_row *rows, size_t len, size_t *number);
 
 /* Takes copies from the count of a cell under a label. S2IX_NO_CELL, S2IX_NO_LABEL, S2IX_NOT_HELD. */
 uint32_t s2ix_remove(s2ix_handle *handle, uint64_t cell, uint32_t label, uint32_t copies, size_t *number);
 
-/* Adds one copy under a label for each cell of the normal form of a union. S2IX_NO_CELL, S2IX_NO_LABEL. */
+/* Adds one copy under a label for each cell of the normal form of a union, so four siblings become their parent, and a cell within another goes;
+   s2ix_add_all adds cells as they are. S2IX_NO_CELL, S2IX_NO_LABEL. */
 uint32_t s2ix_add_union(s2ix_handle *handle, const uint64_t *cells, size_t len, uint32_t label, size_t *number);
 
 /* Takes away all copies of a label's pairs. S2IX_NO_LABEL, S2IX_NO_SUCH_LABEL. */
@@ -229,18 +231,18 @@ uint32_t s2ix_contents(s2ix_handle *handle, size_t place, uint64_t from, s2ix_ro
 uint32_t s2ix_next_full(s2ix_handle *handle, size_t from, size_t *place);
 uint32_t s2ix_previous_full(s2ix_handle *handle, size_t before, size_t *place);
 
-/* The dump of what is held, as bytes (docs/FORMATS.md). O(n). S2IX_CLOSED, S2IX_NO_ROOM, S2IX_OUT_OF_MEMORY. */
+/* The dump of what is held, as bytes (FORMATS.md). O(n). S2IX_CLOSED, S2IX_NO_ROOM, S2IX_OUT_OF_MEMORY. */
 uint32_t s2ix_dump(s2ix_handle *handle, uint8_t *text, size_t room, size_t *number);
 
-/* The journal of the changes that can be undone, the oldest first, as bytes (docs/FORMATS.md). O(n) for n entries. S2IX_CLOSED,
+/* The journal of the changes that can be undone, the oldest first, as bytes (FORMATS.md). O(n) for n entries. S2IX_CLOSED,
    S2IX_NO_ROOM, S2IX_OUT_OF_MEMORY. */
 uint32_t s2ix_journal(s2ix_handle *handle, uint8_t *text, size_t room, size_t *number);
 
-/* The export of what is held: one line of compact JSON with no line feed (docs/FORMATS.md). O(n), some 200 bytes a pair while it is made.
+/* The export of what is held: one line of compact JSON with no line feed (FORMATS.md). O(n), some 200 bytes a pair while it is made.
    S2IX_CLOSED, S2IX_NO_ROOM, S2IX_OUT_OF_MEMORY. */
 uint32_t s2ix_export(s2ix_handle *handle, uint8_t *text, size_t room, size_t *number);
 
-/* Carries out one line of a script (docs/FORMATS.md), given without its line feed, and puts its answer to the front of the buffer, as
+/* Carries out one line of a script (FORMATS.md), given without its line feed, and puts its answer to the front of the buffer, as
    bytes: `ok N`, `no NAME`, or the lines of a query, each with its line feed. A blank line or a comment has no answer. A line that is
    refused answers `no NAME`, and its status is S2IX_DONE all the same. The room is tested before the line is carried out: an edit, an undo,
    a redo and a forget want 32 bytes; each other line changes nothing, and wants as many as its answer has. With less room nothing is done;

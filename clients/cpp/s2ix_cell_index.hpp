@@ -5,24 +5,42 @@
 #include "s2ix_index.hpp"
 
 #include <algorithm>
+#include <atomic>
+#include <cinttypes>
 #include <cstddef>
 #include <cstdint>
+#include <cstdio>
 #include <functional>
 #include <iterator>
 #include <limits>
-#include <type_traits>
+#include <mutex>
+#include <ostream>
+#include <string>
 #include <unordered_set>
 #include <utility>
 #include <vector>
 
 namespace s2ix {
 
+namespace detail {
+
+// A cell as S2 prints it.
+inline std::string printed(Cell cell) {
+  if (cell::is_valid(cell.number())) return cell::path(cell.number());
+  char text[32] = {};
+  std::snprintf(text, sizeof text, "Invalid: %016" PRIx64, cell.number());
+  return text;
+}
+
+}  // namespace detail
+
 // S2's own class over an Index: the same names, arguments and meanings. What differs from S2:
 //
 //   S2                                            here
 //   Build() comes once, between adds and queries  any number of times: it makes one change of the adds since the last Build()
 //   no query before Build()                       queries, index() and a CellIterator build first; other iterators don't
-//   several threads may query at once             one thread at a time, also for queries
+//   several threads may query at once             they may, each with iterators of its own, and their calls take turns: Build() first, if they
+//                                                 use RangeIterators. Nothing else may run beside an Add(), a Clear() or a move
 //   Clear()                                       drops the changes too: nothing is left to undo
 //   any number of pairs                           limits: at most 1,000,000 distinct pairs; Build() throws above them
 //   an invalid cell, a label below 0: undefined   Add and the queries throw Error
@@ -59,33 +77,52 @@ class BasicS2CellIndex {
 
     bool operator==(const LabelledCell& other) const { return cell_id == other.cell_id && label == other.label; }
     bool operator<(const LabelledCell& other) const { return cell_id != other.cell_id ? cell_id < other.cell_id : label < other.label; }
+
+    // As S2 prints one: (0/32, 7).
+    friend std::ostream& operator<<(std::ostream& out, const LabelledCell& pair) {
+      return out << '(' << detail::printed(pair.cell_id) << ", " << pair.label << ')';
+    }
   };
 
   BasicS2CellIndex() = default;
   explicit BasicS2CellIndex(Limits limits) : limits_(limits), index_(limits) {}
+  BasicS2CellIndex(BasicS2CellIndex&& other) noexcept
+      : limits_(other.limits_), added_(std::move(other.added_)), has_added_(other.has_added_.exchange(false)), index_(std::move(other.index_)) {}
+  BasicS2CellIndex& operator=(BasicS2CellIndex&& other) noexcept {
+    if (this != &other) {
+      limits_ = other.limits_;
+      added_ = std::exchange(other.added_, {});
+      has_added_ = other.has_added_.exchange(false);
+      index_ = std::move(other.index_);
+    }
+    return *this;
+  }
 
   // The index beneath, for edits, undo and all else that S2 lacks. It first builds what was added, as Build() does.
-  Index& index() { return built(); }
-  const Index& index() const { return built(); }
+  [[nodiscard]] Index& index() { return built(); }
+  [[nodiscard]] const Index& index() const { return built(); }
 
   // How many pairs were added, repeated ones included. O(n).
-  int num_cells() const { return static_cast<int>(std::min<std::uint64_t>(built().copies(), std::numeric_limits<int>::max())); }
+  [[nodiscard]] int num_cells() const { return static_cast<int>(std::min<std::uint64_t>(built().copies(), std::numeric_limits<int>::max())); }
 
   // Adds a pair, or one more copy of it. O(1).
   void Add(Id cell_id, Label label) {
     const std::uint64_t cell = raw(cell_id);
     check_label(label);
-    if (!cell::is_valid(cell)) throw Error(S2IX_NO_CELL);
+    if (!cell::is_valid(cell)) detail::refuse(S2IX_NO_CELL, detail::wrong_cell(S2IX_NO_CELL, {cell}));
     added_.push_back(Row{cell, static_cast<std::uint32_t>(label), 1});
+    has_added_ = true;
   }
 
   // Adds a pair for each cell of a union. O(n log n) for n cells.
   template <class Union, class = decltype(std::begin(std::declval<const Union&>()))>
   void Add(const Union& cell_ids, Label label) {
     check_label(label);
-    const std::vector<std::uint64_t> cells = cell_union::normalise(raws(cell_ids));
-    added_.reserve(added_.size() + cells.size());
-    for (std::uint64_t cell : cells) added_.push_back(Row{cell, static_cast<std::uint32_t>(label), 1});
+    const std::vector<std::uint64_t> cells = cell_union::normalise(cell_ids);
+    added_.insert(added_.end(), cells.size(), Row{0, static_cast<std::uint32_t>(label), 1});
+    std::transform(cells.begin(), cells.end(), added_.end() - static_cast<std::ptrdiff_t>(cells.size()),
+                   [&](std::uint64_t cell) { return Row{cell, static_cast<std::uint32_t>(label), 1}; });
+    has_added_ = true;
   }
 
   // Makes one change of what was added since the last time, if anything was.
@@ -95,6 +132,7 @@ class BasicS2CellIndex {
   void Clear() {
     index_ = Index(limits_);
     added_.clear();
+    has_added_ = false;
   }
 
   // Keeps the pairs, and what was added but not built, and drops all changes: nothing is left to undo, and the next Build() has room.
@@ -106,7 +144,7 @@ class BasicS2CellIndex {
   // Visits the pairs that share a leaf with a union, each copy of each, until the visitor returns false. Returns false if it did, else true.
   template <class Union>
   bool VisitIntersectingCells(const Union& target, const CellVisitor& visitor) const {
-    const std::vector<std::uint64_t> cells = raws(target);
+    const Cells cells(target);
     // (in pages that grow, so that a visit which ends early reads little of a long list)
     std::size_t from = 0;
     for (std::size_t most = 256;; most *= 4) {
@@ -133,13 +171,13 @@ class BasicS2CellIndex {
   template <class Union, class Set>
   void GetIntersectingLabels(const Union& target, Set* labels) const {
     labels->clear();
-    for (std::uint32_t label : built().labels(raws(target))) labels->insert(static_cast<Label>(label));
+    for (std::uint32_t label : built().labels(target)) labels->insert(static_cast<Label>(label));
   }
 
   // Gives all pairs, each copy of each.
   class CellIterator {
    public:
-    explicit CellIterator(const BasicS2CellIndex* index) : rows_(index->built().meet(Cells(faces, 6))) {}
+    explicit CellIterator(const BasicS2CellIndex* index) : rows_(index->built().meet_from(Cells(faces, 6), 0, all)) {}
 
     Id cell_id() const { return Id(rows_[row_].cell); }
     Label label() const { return static_cast<Label>(rows_[row_].label); }
@@ -210,14 +248,19 @@ class BasicS2CellIndex {
 
    protected:
     std::size_t place() const { return place_; }
-    ::s2ix_handle* handle() const { return &index_->index_.handle_; }
     std::size_t place_of(const Id& leaf) const { return index_->index_.find(raw(leaf)).place; }
+
+    // Makes a call with the handle, while no other is made.
+    template <class Call>
+    auto with(Call call) const {
+      return index_->index_.handle_.with(call);
+    }
 
     // Goes to the range at a place, or after the last one if there is none.
     void go(std::size_t place) {
       std::uint64_t start = 0, limit = 0;
       bool is_empty = true;
-      const std::uint32_t status = s2ix_range(handle(), place, &start, &limit, &is_empty);
+      const std::uint32_t status = with([&](::s2ix_handle* handle) { return s2ix_range(handle, place, &start, &limit, &is_empty); });
       if (status == S2IX_NO_RANGE) {
         place = index_->index_.range_count();
         start = limit = end_of_leaves;
@@ -253,7 +296,7 @@ class BasicS2CellIndex {
     // Goes to the last such range before and returns true; returns false if there is none, and stays.
     bool Prev() {
       std::size_t place = 0;
-      const std::uint32_t status = s2ix_previous_full(this->handle(), this->place(), &place);
+      const std::uint32_t status = this->with([&](::s2ix_handle* handle) { return s2ix_previous_full(handle, this->place(), &place); });
       if (status == S2IX_NO_RANGE) return false;
       detail::check(status);
       this->go(place);
@@ -267,7 +310,7 @@ class BasicS2CellIndex {
     // Goes to the first such range from a place on, or after the last one.
     void go_on(std::size_t from) {
       std::size_t place = 0;
-      const std::uint32_t status = s2ix_next_full(this->handle(), from, &place);
+      const std::uint32_t status = this->with([&](::s2ix_handle* handle) { return s2ix_next_full(handle, from, &place); });
       if (status == S2IX_NO_RANGE) return this->Finish();
       detail::check(status);
       this->go(place);
@@ -329,41 +372,36 @@ class BasicS2CellIndex {
  private:
   static constexpr std::uint64_t end_of_leaves = 0xc000000000000001;
 
+  static constexpr std::size_t all = std::numeric_limits<std::size_t>::max();
+
   // The cells of the six faces, which share a leaf with each cell.
   static constexpr std::uint64_t faces[6] = {0x1000000000000000, 0x3000000000000000, 0x5000000000000000,
                                              0x7000000000000000, 0x9000000000000000, 0xb000000000000000};
 
-  static std::uint64_t raw(const Id& id) {
-    if constexpr (std::is_same_v<Id, std::uint64_t>) {
-      return id;
-    } else {
-      return id.id();
-    }
-  }
-
-  template <class Union>
-  static std::vector<std::uint64_t> raws(const Union& ids) {
-    std::vector<std::uint64_t> cells;
-    for (const Id& id : ids) cells.push_back(raw(id));
-    return cells;
-  }
+  static std::uint64_t raw(const Id& id) { return Cell(id).number(); }
 
   static void check_label(Label label) {
-    if (label < 0) throw Error(S2IX_NO_LABEL);
+    if (label < 0) detail::refuse(S2IX_NO_LABEL, detail::wrong_label(S2IX_NO_LABEL, {static_cast<std::uint32_t>(label)}));
   }
 
   // The index with all that was added. If that is refused, it is as it was, and what was added stays to be built.
   Index& built() const {
-    if (!added_.empty()) {
-      index_.add_all(added_);
-      added_.clear();
+    if (has_added_.load(std::memory_order_acquire)) {
+      const std::lock_guard<std::mutex> held(building_);
+      if (!added_.empty()) {
+        index_.add_all(added_);
+        added_.clear();
+      }
+      has_added_.store(false, std::memory_order_release);
     }
     return index_;
   }
 
   Limits limits_;
-  // (a query builds what was added before it)
+  // (a query builds what was added before it, and another that comes meanwhile waits)
+  mutable std::mutex building_;
   mutable std::vector<Row> added_;
+  mutable std::atomic<bool> has_added_{false};
   mutable Index index_;
 };
 

@@ -4,17 +4,22 @@
 
 #include "s2ix.h"
 
+#include <algorithm>
 #include <array>
+#include <cinttypes>
 #include <cstddef>
 #include <cstdint>
+#include <cstdio>
 #include <initializer_list>
 #include <iterator>
 #include <limits>
+#include <mutex>
 #include <new>
+#include <optional>
 #include <stdexcept>
 #include <string>
 #include <string_view>
-#include <unordered_set>
+#include <type_traits>
 #include <utility>
 #include <vector>
 
@@ -27,99 +32,64 @@ using Row = ::s2ix_row;
 using Entry = ::s2ix_entry;
 
 // What a status says, in words.
-inline std::string status_text(std::uint32_t status) {
+[[nodiscard]] inline std::string status_text(std::uint32_t status) {
   std::uint8_t bytes[128] = {};
   std::size_t number = 0;
   const bool has_room = s2ix_status_text(status, bytes, sizeof bytes, &number) == S2IX_DONE;
   return std::string(bytes, bytes + (has_room ? number : 0));
 }
 
+// What a refusal tells beside its status: the methods of Error of the same names say what each is.
+struct Where {
+  std::size_t line = 0;
+  std::size_t change = 0;
+  std::size_t entry = 0;
+  std::optional<std::uint64_t> value = {};
+  std::optional<std::size_t> place = {};
+};
+
 // Why a call was refused. It left the store as it was.
 class Error : public std::runtime_error {
  public:
-  explicit Error(std::uint32_t status, std::size_t line = 0, std::size_t row = 0, std::size_t change = 0, std::size_t entry = 0)
-      : std::runtime_error(text(status, line, change, entry)), status_(status), line_(line), row_(row), change_(change), entry_(entry) {}
+  explicit Error(std::uint32_t status, const Where& where = Where())
+      : std::runtime_error(text(status, where)), status_(status), where_(where) {}
 
   // The status that s2ix.h has for the reason, as S2IX_NOT_HELD.
-  std::uint32_t status() const noexcept { return status_; }
+  [[nodiscard]] std::uint32_t status() const noexcept { return status_; }
 
   // The first line of a dump or a journal that has a fault, from 1; 0 if the call was refused for another reason.
-  std::size_t line() const noexcept { return line_; }
-
-  // The place, counted from 0, of the first row of add_all whose cell or label is wrong; 0 in all other cases.
-  std::size_t row() const noexcept { return row_; }
+  [[nodiscard]] std::size_t line() const noexcept { return where_.line; }
 
   // The change of a journal that is refused, from 1, and its entry with another count than is held, from 1; each is 0 if there is none.
-  std::size_t change() const noexcept { return change_; }
-  std::size_t entry() const noexcept { return entry_; }
+  [[nodiscard]] std::size_t change() const noexcept { return where_.change; }
+  [[nodiscard]] std::size_t entry() const noexcept { return where_.entry; }
+
+  // The number that is no cell's or no leaf's, for S2IX_NO_CELL, or no label's, for S2IX_NO_LABEL. None if no number is wrong by itself, as
+  // when a cell has no parent of a level.
+  [[nodiscard]] std::optional<std::uint64_t> value() const noexcept { return where_.value; }
+
+  // The place of that number among the cells or rows of the call, counted from 0, and of several wrong ones the first. If a call takes two
+  // lists, it counts on through the second. None if the number was not in a list.
+  [[nodiscard]] std::optional<std::size_t> place() const noexcept { return where_.place; }
 
  private:
-  static std::string text(std::uint32_t status, std::size_t line, std::size_t change, std::size_t entry) {
+  static std::string text(std::uint32_t status, const Where& where) {
     std::string words = "s2ix: " + status_text(status);
-    if (line != 0) words += ": line " + std::to_string(line);
-    if (change != 0) words += ": change " + std::to_string(change);
-    if (entry != 0) words += ", entry " + std::to_string(entry);
+    if (where.line != 0) words += ": line " + std::to_string(where.line);
+    if (where.change != 0) words += ": change " + std::to_string(where.change);
+    if (where.entry != 0) words += ", entry " + std::to_string(where.entry);
+    if (where.value) {
+      char number[24] = {};
+      std::snprintf(number, sizeof number, status == S2IX_NO_CELL ? "%#" PRIx64 : "%" PRIu64, *where.value);
+      words += std::string(": ") + number;
+    }
+    if (where.place) words += " at place " + std::to_string(*where.place);
     return words;
   }
 
   std::uint32_t status_;
-  std::size_t line_;
-  std::size_t row_;
-  std::size_t change_;
-  std::size_t entry_;
+  Where where_;
 };
-
-namespace detail {
-
-inline void check(std::uint32_t status, std::size_t line = 0, std::size_t row = 0, std::size_t change = 0, std::size_t entry = 0) {
-  if (status == S2IX_OUT_OF_MEMORY) throw std::bad_alloc();
-  if (status != S2IX_DONE) throw Error(status, line, row, change, entry);
-}
-
-// The bytes of a text: never a null pointer, even for none.
-inline const std::uint8_t* bytes(std::string_view text) noexcept {
-  return reinterpret_cast<const std::uint8_t*>(text.empty() ? "" : text.data());
-}
-
-// What a call writes to the pointer it is given, if it is not refused.
-template <class Answer, class Call>
-Answer answer(Call call) {
-  Answer given{};
-  check(call(&given));
-  return given;
-}
-
-// The number that a call gives.
-template <class Call>
-std::size_t number(Call call) {
-  return answer<std::size_t>(call);
-}
-
-// Puts a list in place of what `items` held: first into the memory that they have, and if that is too short, into as much as it takes.
-template <class Items, class Call>
-void fill(Items& items, Call call) {
-  std::size_t number = 0;
-  items.resize(items.capacity() < 16 ? 16 : items.capacity());
-  std::uint32_t status = call(items.data(), items.size(), &number);
-  if (status == S2IX_NO_ROOM) {
-    items.clear();  // (so that nothing is left if there is no memory for more)
-    items.resize(number);
-    status = call(items.data(), items.size(), &number);
-  }
-  if (status != S2IX_DONE) items.clear();
-  check(status);
-  items.resize(number);
-}
-
-// A new list, as a call puts it.
-template <class Items, class Call>
-Items filled(Call call) {
-  Items items;
-  fill(items, call);
-  return items;
-}
-
-}  // namespace detail
 
 // What a store may hold. Limits{} has the widest limits.
 struct Limits {
@@ -135,23 +105,246 @@ struct Range {
   std::uint64_t limit;
 };
 
-// Some cells of the caller, in any order and repeated or not: a vector, a list in braces, or a pointer with a number. It copies none of them.
+namespace detail {
+
+// Whether a type has id(), as S2CellId has.
+template <class Item, class = void>
+struct HasId : std::false_type {};
+template <class Item>
+struct HasId<Item, std::enable_if_t<std::is_convertible_v<decltype(std::declval<const Item&>().id()), std::uint64_t>>> : std::true_type {};
+
+// Whether a type is a range of cells: of numbers of 64 bits, or of what has id().
+template <class Items, class = void>
+struct HasCells : std::false_type {};
+template <class Items>
+struct HasCells<Items, std::void_t<decltype(std::begin(std::declval<const Items&>()) != std::end(std::declval<const Items&>()))>> {
+  using Item = std::decay_t<decltype(*std::begin(std::declval<const Items&>()))>;
+  static constexpr bool value = HasId<Item>::value || (std::is_unsigned_v<Item> && sizeof(Item) == sizeof(std::uint64_t));
+};
+
+}  // namespace detail
+
+// A cell of the caller: its number, or what returns it from id(), as S2CellId does.
+class Cell {
+ public:
+  constexpr Cell(std::uint64_t number) noexcept : number_(number) {}
+  template <class Id, class = std::enable_if_t<detail::HasId<Id>::value>>
+  constexpr Cell(const Id& id) : number_(id.id()) {}
+
+  [[nodiscard]] constexpr std::uint64_t number() const noexcept { return number_; }
+
+ private:
+  std::uint64_t number_;
+};
+
+// Some cells of the caller, in any order and repeated or not: a list in braces, a pointer with a number, or any range of numbers or of what
+// has id(), as a vector or an S2CellUnion. Numbers in braces, in a vector or behind a pointer aren't copied, and must stay as they are meanwhile.
 class Cells {
  public:
-  Cells(const std::vector<std::uint64_t>& cells) : Cells(cells.data(), cells.size()) {}
-  Cells(std::initializer_list<std::uint64_t> cells) : Cells(cells.begin(), cells.size()) {}
-  Cells(const std::uint64_t* data, std::size_t size) : data_(size == 0 ? &none : data), size_(size) {}
+  Cells() noexcept = default;
+  Cells(const std::uint64_t* data, std::size_t size) noexcept : data_(size == 0 ? &none : data), size_(size) {}
+  Cells(const std::vector<std::uint64_t>& cells) noexcept : Cells(cells.data(), cells.size()) {}
+  Cells(std::vector<std::uint64_t>&& cells) noexcept : own_(std::move(cells)) {}
+  Cells(std::initializer_list<std::uint64_t> cells) noexcept : Cells(cells.begin(), cells.size()) {}
+  Cells(std::initializer_list<Cell> cells) { copy(cells); }
+  template <class Items, class = std::enable_if_t<detail::HasCells<Items>::value>>
+  Cells(const Items& cells) {
+    copy(cells);
+  }
 
   // Never a null pointer, even for no cells.
-  const std::uint64_t* data() const noexcept { return data_; }
-  std::size_t size() const noexcept { return size_; }
+  [[nodiscard]] const std::uint64_t* data() const noexcept { return own_.empty() ? data_ : own_.data(); }
+  [[nodiscard]] std::size_t size() const noexcept { return own_.empty() ? size_ : own_.size(); }
 
  private:
   static constexpr std::uint64_t none = 0;
 
-  const std::uint64_t* data_;
-  std::size_t size_;
+  template <class Items>
+  void copy(const Items& cells) {
+    own_.reserve(static_cast<std::size_t>(std::distance(std::begin(cells), std::end(cells))));
+    for (const auto& cell : cells) own_.push_back(Cell(cell).number());
+  }
+
+  std::vector<std::uint64_t> own_;
+  const std::uint64_t* data_ = &none;
+  std::size_t size_ = 0;
 };
+
+namespace detail {
+
+// The bytes of a text: never a null pointer, even for none.
+inline const std::uint8_t* bytes(std::string_view text) noexcept {
+  return reinterpret_cast<const std::uint8_t*>(text.empty() ? "" : text.data());
+}
+
+// Which number a refused call speaks of: none.
+struct NoneWrong {
+  [[nodiscard]] Where operator()(std::uint32_t) const noexcept { return {}; }
+};
+
+// Of some cells that a call was given one by one, the first that is none.
+[[nodiscard]] inline Where wrong_cell(std::uint32_t status, std::initializer_list<std::uint64_t> cells) {
+  Where where;
+  if (status != S2IX_NO_CELL) return where;
+  const auto wrong = std::find_if_not(cells.begin(), cells.end(), s2ix_cell_is_valid);
+  if (wrong != cells.end()) where.value = *wrong;
+  return where;
+}
+
+// The number that a call took for a leaf.
+[[nodiscard]] inline Where wrong_leaf(std::uint32_t status, std::uint64_t leaf) noexcept {
+  Where where;
+  if (status == S2IX_NO_CELL) where.value = leaf;
+  return where;
+}
+
+inline constexpr std::uint32_t highest_label = 2147483647;
+
+// Of some labels, the first that is none.
+[[nodiscard]] inline Where wrong_label(std::uint32_t status, std::initializer_list<std::uint32_t> labels) {
+  Where where;
+  if (status != S2IX_NO_LABEL) return where;
+  const auto wrong = std::find_if(labels.begin(), labels.end(), [](std::uint32_t label) { return label > highest_label; });
+  if (wrong != labels.end()) where.value = *wrong;
+  return where;
+}
+
+// The cell or label of a row, whichever the status speaks of, and the row's place.
+[[nodiscard]] inline Where wrong_row(std::uint32_t status, const Row* rows, std::size_t place) {
+  Where where;
+  if (status != S2IX_NO_CELL && status != S2IX_NO_LABEL) return where;
+  where.value = status == S2IX_NO_CELL ? rows[place].cell : rows[place].label;
+  where.place = place;
+  return where;
+}
+
+// Of a cell and a label, the one that the status speaks of.
+[[nodiscard]] inline Where wrong_pair(std::uint32_t status, std::uint64_t cell, std::uint32_t label) {
+  return status == S2IX_NO_LABEL ? wrong_label(status, {label}) : wrong_cell(status, {cell});
+}
+
+// Of the cells of a list, and then of a second one, the first that is none.
+[[nodiscard]] inline Where wrong_in(std::uint32_t status, const Cells& first, const Cells& second = Cells()) {
+  Where where;
+  if (status != S2IX_NO_CELL) return where;
+  std::size_t place = 0;
+  for (const Cells* cells : {&first, &second}) {
+    const std::uint64_t* const end = cells->data() + cells->size();
+    const std::uint64_t* const wrong = std::find_if_not(cells->data(), end, s2ix_cell_is_valid);
+    place += static_cast<std::size_t>(wrong - cells->data());
+    if (wrong == end) continue;
+    where.value = *wrong;
+    where.place = place;
+    break;
+  }
+  return where;
+}
+
+// The same of a list, and then of a single cell.
+[[nodiscard]] inline Where wrong_in_or(std::uint32_t status, const Cells& cells, std::uint64_t cell) {
+  const Where where = wrong_in(status, cells);
+  return where.value ? where : wrong_cell(status, {cell});
+}
+
+[[noreturn]] inline void refuse(std::uint32_t status, const Where& where) {
+  if (status == S2IX_OUT_OF_MEMORY) throw std::bad_alloc();
+  throw Error(status, where);
+}
+
+// Throws if a call was refused; only then `wrong` is asked which number the status speaks of.
+template <class Wrong = NoneWrong>
+void check(std::uint32_t status, Wrong wrong = Wrong()) {
+  if (status != S2IX_DONE) refuse(status, wrong(status));
+}
+
+// What a call writes to the pointer it is given, if it is not refused.
+template <class Answer, class Call, class Wrong = NoneWrong>
+Answer answer(Call call, Wrong wrong = Wrong()) {
+  Answer given{};
+  check(call(&given), wrong);
+  return given;
+}
+
+// The same of a call on one cell.
+template <class Answer, class Call>
+Answer answer_of(std::uint64_t cell, Call call) {
+  return answer<Answer>(call, [&](std::uint32_t status) { return wrong_cell(status, {cell}); });
+}
+
+// Puts a list in place of what `items` held, and returns the status of the call; refused, or without memory, it leaves no items. It asks with
+// room for as many as they held, or for `room` if that is more, and a second time if the list is longer. So it costs what the list does,
+// however much the items may hold: s2ix.h takes only initialised room, and to grow them to their capacity would write to all of it.
+template <class Items, class Call>
+std::uint32_t fill(Items& items, Call call, std::size_t room = 0) {
+  room = std::max(room, 256 / sizeof(typename Items::value_type));
+  if (items.capacity() < room) items.clear();
+  if (items.size() < room) items.resize(room);
+  std::size_t number = 0;
+  std::uint32_t status = call(items.data(), items.size(), &number);
+  if (status == S2IX_NO_ROOM) {
+    items.clear();
+    items.resize(number);
+    status = call(items.data(), items.size(), &number);
+  }
+  items.resize(status == S2IX_DONE ? number : 0);
+  return status;
+}
+
+// Frees what a list was asked for with and doesn't need, if that is much.
+template <class Items>
+void trim(Items& items) {
+  if (items.capacity() * sizeof(typename Items::value_type) > 1024 && items.capacity() / 2 > items.size()) items.shrink_to_fit();
+}
+
+// A new list, as a call puts it.
+template <class Items, class Call, class Wrong>
+Items filled(Call call, Wrong wrong, std::size_t room = 0) {
+  Items items;
+  check(fill(items, call, room), wrong);
+  trim(items);
+  return items;
+}
+
+// The new union that a call makes of two.
+inline std::vector<std::uint64_t> of_two(decltype(s2ix_union_union)* call, const Cells& first, const Cells& second) {
+  return filled<std::vector<std::uint64_t>>(
+      [&](std::uint64_t* to, std::size_t room, std::size_t* number) {
+        return call(first.data(), first.size(), second.data(), second.size(), to, room, number);
+      },
+      [&](std::uint32_t status) { return wrong_in(status, first, second); }, first.size() + second.size());
+}
+
+// A handle, which one call at a time takes, of whichever thread. It may be moved while no call is made.
+class Handle {
+ public:
+  Handle() noexcept = default;
+  Handle(Handle&& other) noexcept : handle_(std::exchange(other.handle_, ::s2ix_handle{})) {}
+  Handle& operator=(Handle&& other) noexcept {
+    if (this != &other) {
+      s2ix_close(&handle_);
+      handle_ = std::exchange(other.handle_, ::s2ix_handle{});
+    }
+    return *this;
+  }
+  ~Handle() { s2ix_close(&handle_); }
+
+  // Makes a call with the handle, while no other is made.
+  template <class Call>
+  auto with(Call call) const {
+    const std::lock_guard<std::mutex> held(mutex_);
+    return call(&handle_);
+  }
+
+  // The handle itself, for calls that are made while no other is.
+  ::s2ix_handle* unlocked() noexcept { return &handle_; }
+
+ private:
+  mutable std::mutex mutex_;
+  // (a query changes no store, but it takes the store out of the handle and puts it back)
+  mutable ::s2ix_handle handle_{};
+};
+
+}  // namespace detail
 
 // Single cells. Each call takes O(1), if nothing else is said. If a number is no cell's, a call that returns a bool returns false, and each
 // other call throws with S2IX_NO_CELL. A call also throws for the reasons that are named.
@@ -161,93 +354,95 @@ namespace cell {
 using Square = ::s2ix_square;
 
 // Whether a number is a cell's.
-inline bool is_valid(std::uint64_t cell) noexcept { return s2ix_cell_is_valid(cell); }
+[[nodiscard]] inline bool is_valid(std::uint64_t cell) noexcept { return s2ix_cell_is_valid(cell); }
 
 // Whether a cell is of level 30.
-inline bool is_leaf(std::uint64_t cell) noexcept { return s2ix_cell_is_leaf(cell); }
+[[nodiscard]] inline bool is_leaf(std::uint64_t cell) noexcept { return s2ix_cell_is_leaf(cell); }
 
 // Whether each leaf of the other cell is one of the cell's.
-inline bool contains(std::uint64_t cell, std::uint64_t other) noexcept { return s2ix_cell_contains(cell, other); }
+[[nodiscard]] inline bool contains(std::uint64_t cell, std::uint64_t other) noexcept { return s2ix_cell_contains(cell, other); }
 
 // Whether two cells share a leaf: then one contains the other.
-inline bool intersects(std::uint64_t cell, std::uint64_t other) noexcept { return s2ix_cell_intersects(cell, other); }
+[[nodiscard]] inline bool intersects(std::uint64_t cell, std::uint64_t other) noexcept { return s2ix_cell_intersects(cell, other); }
 
 // The cell that a text spells: 1 to 16 hexadecimal digits of either case; those missing on the right are zeros.
-inline std::uint64_t from_token(std::string_view token) {
+[[nodiscard]] inline std::uint64_t from_token(std::string_view token) {
   return detail::answer<std::uint64_t>([&](std::uint64_t* cell) { return s2ix_cell_from_token(detail::bytes(token), token.size(), cell); });
 }
 
 // A cell's token, of 1 to 16 digits.
-inline std::string to_token(std::uint64_t cell) {
+[[nodiscard]] inline std::string to_token(std::uint64_t cell) {
   std::uint8_t text[16] = {};
-  const std::size_t length = detail::number([&](std::size_t* to) { return s2ix_cell_to_token(cell, text, to); });
+  const std::size_t length = detail::answer_of<std::size_t>(cell, [&](std::size_t* to) { return s2ix_cell_to_token(cell, text, to); });
   return std::string(text, text + length);
 }
 
 // A cell's path for people, as 0/32: the face, a slash, and the child positions from level 1 down.
-inline std::string path(std::uint64_t cell) {
+[[nodiscard]] inline std::string path(std::uint64_t cell) {
   std::uint8_t text[32] = {};
-  const std::size_t length = detail::number([&](std::size_t* to) { return s2ix_cell_path(cell, text, to); });
+  const std::size_t length = detail::answer_of<std::size_t>(cell, [&](std::size_t* to) { return s2ix_cell_path(cell, text, to); });
   return std::string(text, text + length);
 }
 
 // The cell of a level that a cell lies in, itself at its own level. S2IX_NO_CELL, for a finer level too.
-inline std::uint64_t parent(std::uint64_t cell, std::uint8_t level) {
-  return detail::answer<std::uint64_t>([&](std::uint64_t* to) { return s2ix_cell_parent(cell, level, to); });
+[[nodiscard]] inline std::uint64_t parent(std::uint64_t cell, std::uint8_t level) {
+  return detail::answer_of<std::uint64_t>(cell, [&](std::uint64_t* to) { return s2ix_cell_parent(cell, level, to); });
 }
 
 // The child at a position, 0 to 3 along the curve. S2IX_NO_CELL, for a leaf and for another position too.
-inline std::uint64_t child(std::uint64_t cell, std::uint8_t position) {
-  return detail::answer<std::uint64_t>([&](std::uint64_t* to) { return s2ix_cell_child(cell, position, to); });
+[[nodiscard]] inline std::uint64_t child(std::uint64_t cell, std::uint8_t position) {
+  return detail::answer_of<std::uint64_t>(cell, [&](std::uint64_t* to) { return s2ix_cell_child(cell, position, to); });
 }
 
 // The level, 0 for a whole face to 30 for a leaf.
-inline std::uint8_t level(std::uint64_t cell) {
-  return detail::answer<std::uint8_t>([&](std::uint8_t* to) { return s2ix_cell_level(cell, to); });
+[[nodiscard]] inline std::uint8_t level(std::uint64_t cell) {
+  return detail::answer_of<std::uint8_t>(cell, [&](std::uint8_t* to) { return s2ix_cell_level(cell, to); });
 }
 
 // The face, 0 to 5.
-inline std::uint8_t face(std::uint64_t cell) {
-  return detail::answer<std::uint8_t>([&](std::uint8_t* to) { return s2ix_cell_face(cell, to); });
+[[nodiscard]] inline std::uint8_t face(std::uint64_t cell) {
+  return detail::answer_of<std::uint8_t>(cell, [&](std::uint8_t* to) { return s2ix_cell_face(cell, to); });
 }
 
 // The cell's first leaf along the curve, and its last.
-inline std::uint64_t range_min(std::uint64_t cell) {
-  return detail::answer<std::uint64_t>([&](std::uint64_t* to) { return s2ix_cell_range_min(cell, to); });
+[[nodiscard]] inline std::uint64_t range_min(std::uint64_t cell) {
+  return detail::answer_of<std::uint64_t>(cell, [&](std::uint64_t* to) { return s2ix_cell_range_min(cell, to); });
 }
-inline std::uint64_t range_max(std::uint64_t cell) {
-  return detail::answer<std::uint64_t>([&](std::uint64_t* to) { return s2ix_cell_range_max(cell, to); });
+[[nodiscard]] inline std::uint64_t range_max(std::uint64_t cell) {
+  return detail::answer_of<std::uint64_t>(cell, [&](std::uint64_t* to) { return s2ix_cell_range_max(cell, to); });
 }
 
 // The level of the smallest cell that contains both. S2IX_NO_CELL, for cells of two faces too.
-inline std::uint8_t common_level(std::uint64_t cell, std::uint64_t other) {
-  return detail::answer<std::uint8_t>([&](std::uint8_t* to) { return s2ix_cell_common_level(cell, other, to); });
+[[nodiscard]] inline std::uint8_t common_level(std::uint64_t cell, std::uint64_t other) {
+  return detail::answer<std::uint8_t>([&](std::uint8_t* to) { return s2ix_cell_common_level(cell, other, to); },
+                                      [&](std::uint32_t status) { return detail::wrong_cell(status, {cell, other}); });
 }
 
 // The next cell of its level along the curve; the first of face 0 comes after the last of face 5.
-inline std::uint64_t next(std::uint64_t cell) {
-  return detail::answer<std::uint64_t>([&](std::uint64_t* to) { return s2ix_cell_next(cell, to); });
+[[nodiscard]] inline std::uint64_t next(std::uint64_t cell) {
+  return detail::answer_of<std::uint64_t>(cell, [&](std::uint64_t* to) { return s2ix_cell_next(cell, to); });
 }
 
 // The four cells of its level that share an edge with a cell: down, right, up, left.
-inline std::array<std::uint64_t, 4> edge_neighbors(std::uint64_t cell) {
-  return detail::answer<std::array<std::uint64_t, 4>>([&](auto* to) { return s2ix_cell_edge_neighbors(cell, to->data()); });
+[[nodiscard]] inline std::array<std::uint64_t, 4> edge_neighbors(std::uint64_t cell) {
+  return detail::answer_of<std::array<std::uint64_t, 4>>(cell, [&](auto* to) { return s2ix_cell_edge_neighbors(cell, to->data()); });
 }
 
 // The cells of a level outside a cell that share an edge with a cell of that level inside it: each once, rising, at most 1024.
 // O(n log n) for n cells. S2IX_COARSER, S2IX_TOO_FINE.
-inline std::vector<std::uint64_t> border(std::uint64_t cell, std::uint8_t level) {
+[[nodiscard]] inline std::vector<std::uint64_t> border(std::uint64_t cell, std::uint8_t level) {
   return detail::filled<std::vector<std::uint64_t>>(
-      [&](std::uint64_t* to, std::size_t room, std::size_t* number) { return s2ix_cell_border(cell, level, to, room, number); });
+      [&](std::uint64_t* to, std::size_t room, std::size_t* number) { return s2ix_cell_border(cell, level, to, room, number); },
+      [&](std::uint32_t status) { return detail::wrong_cell(status, {cell}); });
 }
 
 // The square of a cell.
-inline Square to_face_ij(std::uint64_t cell) {
-  return detail::answer<Square>([&](Square* to) { return s2ix_cell_to_face_ij(cell, to); });
+[[nodiscard]] inline Square to_face_ij(std::uint64_t cell) {
+  return detail::answer_of<Square>(cell, [&](Square* to) { return s2ix_cell_to_face_ij(cell, to); });
 }
 
 // The cell of a square. S2IX_NO_CELL, for a face above 5, a level above 30, or a column or row of 2^level or more.
-inline std::uint64_t from_face_ij(std::uint8_t face, std::uint32_t i, std::uint32_t j, std::uint8_t level) {
+[[nodiscard]] inline std::uint64_t from_face_ij(std::uint8_t face, std::uint32_t i, std::uint32_t j, std::uint8_t level) {
   return detail::answer<std::uint64_t>([&](std::uint64_t* to) { return s2ix_cell_from_face_ij(face, i, j, level, to); });
 }
 
@@ -258,52 +453,52 @@ inline std::uint64_t from_face_ij(std::uint8_t face, std::uint32_t i, std::uint3
 namespace cell_union {
 
 // The normal list of the same leaves: never longer than the list.
-inline std::vector<std::uint64_t> normalise(Cells cells) {
-  return detail::filled<std::vector<std::uint64_t>>([&](std::uint64_t* to, std::size_t room, std::size_t* number) {
-    return s2ix_union_normalise(cells.data(), cells.size(), to, room, number);
-  });
+[[nodiscard]] inline std::vector<std::uint64_t> normalise(const Cells& cells) {
+  return detail::filled<std::vector<std::uint64_t>>(
+      [&](std::uint64_t* to, std::size_t room, std::size_t* number) {
+        return s2ix_union_normalise(cells.data(), cells.size(), to, room, number);
+      },
+      [&](std::uint32_t status) { return detail::wrong_in(status, cells); }, cells.size());
 }
 
 // The leaves with numbers from `start` to below `limit`: at most 184 cells. Bounds are odd; equal ones give no cells. S2IX_NO_SPAN.
-inline std::vector<std::uint64_t> from_leaves(std::uint64_t start, std::uint64_t limit) {
+[[nodiscard]] inline std::vector<std::uint64_t> from_leaves(std::uint64_t start, std::uint64_t limit) {
   return detail::filled<std::vector<std::uint64_t>>(
-      [&](std::uint64_t* to, std::size_t room, std::size_t* number) { return s2ix_union_from_leaves(start, limit, to, room, number); });
+      [&](std::uint64_t* to, std::size_t room, std::size_t* number) { return s2ix_union_from_leaves(start, limit, to, room, number); },
+      detail::NoneWrong(), 184);
 }
 
 // The leaves of either union.
-inline std::vector<std::uint64_t> union_of(Cells first, Cells second) {
-  return detail::filled<std::vector<std::uint64_t>>([&](std::uint64_t* to, std::size_t room, std::size_t* number) {
-    return s2ix_union_union(first.data(), first.size(), second.data(), second.size(), to, room, number);
-  });
+[[nodiscard]] inline std::vector<std::uint64_t> union_of(const Cells& first, const Cells& second) {
+  return detail::of_two(s2ix_union_union, first, second);
 }
 
 // The leaves of both unions.
-inline std::vector<std::uint64_t> intersection(Cells first, Cells second) {
-  return detail::filled<std::vector<std::uint64_t>>([&](std::uint64_t* to, std::size_t room, std::size_t* number) {
-    return s2ix_union_intersection(first.data(), first.size(), second.data(), second.size(), to, room, number);
-  });
+[[nodiscard]] inline std::vector<std::uint64_t> intersection(const Cells& first, const Cells& second) {
+  return detail::of_two(s2ix_union_intersection, first, second);
 }
 
 // The leaves of the first union without those of the second.
-inline std::vector<std::uint64_t> difference(Cells first, Cells second) {
-  return detail::filled<std::vector<std::uint64_t>>([&](std::uint64_t* to, std::size_t room, std::size_t* number) {
-    return s2ix_union_difference(first.data(), first.size(), second.data(), second.size(), to, room, number);
-  });
+[[nodiscard]] inline std::vector<std::uint64_t> difference(const Cells& first, const Cells& second) {
+  return detail::of_two(s2ix_union_difference, first, second);
 }
 
 // Whether each leaf of a cell is one of the union's.
-inline bool contains(Cells cells, std::uint64_t cell) {
-  return detail::answer<bool>([&](bool* to) { return s2ix_union_contains(cells.data(), cells.size(), cell, to); });
+[[nodiscard]] inline bool contains(const Cells& cells, std::uint64_t cell) {
+  return detail::answer<bool>([&](bool* to) { return s2ix_union_contains(cells.data(), cells.size(), cell, to); },
+                              [&](std::uint32_t status) { return detail::wrong_in_or(status, cells, cell); });
 }
 
 // Whether some leaf of a cell is one of the union's.
-inline bool intersects(Cells cells, std::uint64_t cell) {
-  return detail::answer<bool>([&](bool* to) { return s2ix_union_intersects(cells.data(), cells.size(), cell, to); });
+[[nodiscard]] inline bool intersects(const Cells& cells, std::uint64_t cell) {
+  return detail::answer<bool>([&](bool* to) { return s2ix_union_intersects(cells.data(), cells.size(), cell, to); },
+                              [&](std::uint32_t status) { return detail::wrong_in_or(status, cells, cell); });
 }
 
 // How many leaves the union has.
-inline std::uint64_t leaf_count(Cells cells) {
-  return detail::answer<std::uint64_t>([&](std::uint64_t* to) { return s2ix_union_leaf_count(cells.data(), cells.size(), to); });
+[[nodiscard]] inline std::uint64_t leaf_count(const Cells& cells) {
+  return detail::answer<std::uint64_t>([&](std::uint64_t* to) { return s2ix_union_leaf_count(cells.data(), cells.size(), to); },
+                                       [&](std::uint32_t status) { return detail::wrong_in(status, cells); });
 }
 
 }  // namespace cell_union
@@ -313,143 +508,165 @@ class BasicS2CellIndex;
 
 // A store of pairs of cells and labels. It can be moved, and copied only by copy(); once moved from or closed, it refuses each call with
 // S2IX_CLOSED.
+//
+// Threads may share an Index: a call takes its lock, so one that comes while another runs waits, and each answers as of one moment. That
+// holds for all calls but handle(), and but for a move or the end of the Index, for which no other may be running. So a const Index& may be
+// shared as any const object of C++. Calls on one Index never run side by side: let each thread have a copy() for that.
 class Index {
  public:
   // An index of no pairs. S2IX_NO_LIMITS.
-  explicit Index(Limits limits = Limits()) { detail::check(s2ix_open(&handle_, limits.pairs, limits.copies, limits.changes)); }
+  explicit Index(Limits limits = Limits()) {
+    detail::check(handle_.with([&](::s2ix_handle* handle) { return s2ix_open(handle, limits.pairs, limits.copies, limits.changes); }));
+  }
 
   // The index that starts from a dump's pairs. S2IX_NO_LIMITS; S2IX_NO_DUMP, with the first line that has a fault. O(n) for n bytes.
-  static Index load(std::string_view dump, Limits limits = Limits()) {
+  [[nodiscard]] static Index load(std::string_view dump, Limits limits = Limits()) {
     Index index{Closed()};
     std::size_t line = 0;
-    std::uint32_t status =
-        s2ix_load(&index.handle_, detail::bytes(dump), dump.size(), limits.pairs, limits.copies, limits.changes, &line);
-    detail::check(status, line);
+    const std::uint32_t status =
+        s2ix_load(index.handle(), detail::bytes(dump), dump.size(), limits.pairs, limits.copies, limits.changes, &line);
+    detail::check(status, [&](std::uint32_t) {
+      Where where;
+      where.line = line;
+      return where;
+    });
     return index;
   }
 
   // The index that starts from a dump's pairs after a journal's changes, with nothing to undo or redo. The first thing that is refused
   // decides: S2IX_NO_DUMP or S2IX_NO_JOURNAL, with the first line that has a fault; S2IX_MISMATCH, S2IX_TOO_MANY_COPIES or
   // S2IX_TOO_MANY_PAIRS, with the change. S2IX_NO_LIMITS. O(n + m log n) for n bytes and m entries.
-  static Index replay(std::string_view dump, std::string_view journal, Limits limits = Limits()) {
+  [[nodiscard]] static Index replay(std::string_view dump, std::string_view journal, Limits limits = Limits()) {
     return led(s2ix_replay, dump, journal, limits);
   }
 
   // The same before the journal's changes: they are taken back, the last one first.
-  static Index rewind(std::string_view dump, std::string_view journal, Limits limits = Limits()) {
+  [[nodiscard]] static Index rewind(std::string_view dump, std::string_view journal, Limits limits = Limits()) {
     return led(s2ix_rewind, dump, journal, limits);
   }
 
-  Index(Index&& other) noexcept : handle_(std::exchange(other.handle_, ::s2ix_handle{})) {}
-  Index& operator=(Index&& other) noexcept {
-    if (this != &other) {
-      close();
-      handle_ = std::exchange(other.handle_, ::s2ix_handle{});
-    }
-    return *this;
-  }
+  Index(Index&&) noexcept = default;
+  Index& operator=(Index&&) noexcept = default;
   Index(const Index&) = delete;
   Index& operator=(const Index&) = delete;
-  ~Index() { close(); }
+  ~Index() = default;
 
-  // An index that starts from what this one holds, with nothing to undo or redo. The two share memory, and may be used at once on different
-  // threads. O(n). S2IX_CLOSED.
-  Index copy() const {
+  // An index that starts from what this one holds, with nothing to undo or redo. The two share memory, and may be used side by side on
+  // different threads. O(n). S2IX_CLOSED.
+  [[nodiscard]] Index copy() const {
     Index index{Closed()};
-    detail::check(s2ix_copy(&handle_, &index.handle_));
+    detail::check(handle_.with([&](::s2ix_handle* handle) { return s2ix_copy(handle, index.handle()); }));
     return index;
   }
 
   // Closes the index and frees all that its store had; a closed one stays closed. O(n).
-  void close() noexcept { s2ix_close(&handle_); }
+  void close() noexcept {
+    handle_.with([](::s2ix_handle* handle) { s2ix_close(handle); });
+  }
 
-  bool is_open() const noexcept { return handle_.is_open; }
+  [[nodiscard]] bool is_open() const noexcept {
+    return handle_.with([](::s2ix_handle* handle) { return handle->is_open; });
+  }
 
-  // The handle, to pass to calls of s2ix.h.
-  ::s2ix_handle* handle() noexcept { return &handle_; }
+  // The handle, to pass to calls of s2ix.h. These don't take the lock: no other call on the index may run meanwhile.
+  [[nodiscard]] ::s2ix_handle* handle() noexcept { return handle_.unlocked(); }
 
   // Edits: each is one change, which can be undone, and returns how many pairs changed their counts. Besides the statuses named, each may
   // throw with S2IX_CLOSED, S2IX_JOURNAL_FULL, S2IX_NO_CHANGE, S2IX_TOO_MANY_COPIES or S2IX_TOO_MANY_PAIRS. The time grows with the pairs
   // held on the faces that change.
 
   // Adds copies to the count of a cell under a label. S2IX_NO_CELL, S2IX_NO_LABEL.
-  std::size_t add(std::uint64_t cell, std::uint32_t label, std::uint32_t copies = 1) {
-    return detail::number([&](std::size_t* to) { return s2ix_add(&handle_, cell, label, copies, to); });
+  std::size_t add(Cell cell, std::uint32_t label, std::uint32_t copies = 1) {
+    return number([&](::s2ix_handle* handle, std::size_t* to) { return s2ix_add(handle, cell.number(), label, copies, to); },
+                  [&](std::uint32_t status) { return detail::wrong_pair(status, cell.number(), label); });
   }
 
-  // Adds the count of each row to that of its cell under its label, as one change: rows in any order, repeated or not. They are refused as a
-  // whole. O(m log m + m log n) for m rows, and the pairs held on their faces. S2IX_NO_CELL, S2IX_NO_LABEL, with the first row that is wrong.
+  // Adds the count of each row to that of its cell under its label, as one change: rows in any order, repeated or not. Each row keeps its
+  // cell: unlike add_union, the call normalises nothing. They are refused as a whole. O(m log m + m log n) for m rows, and the pairs held on
+  // their faces. S2IX_NO_CELL, S2IX_NO_LABEL, with the first row that is wrong.
   std::size_t add_all(const Row* rows, std::size_t size) {
     static constexpr Row none{};
-    std::size_t number = 0;
-    const std::uint32_t status = s2ix_add_all(&handle_, size == 0 ? &none : rows, size, &number);
-    detail::check(status, 0, number);
-    return number;
+    std::size_t place = 0;
+    const std::uint32_t status =
+        handle_.with([&](::s2ix_handle* handle) { return s2ix_add_all(handle, size == 0 ? &none : rows, size, &place); });
+    detail::check(status, [&](std::uint32_t why) { return detail::wrong_row(why, rows, place); });
+    return place;
   }
   std::size_t add_all(const std::vector<Row>& rows) { return add_all(rows.data(), rows.size()); }
 
   // Takes copies from the count of a cell under a label. S2IX_NO_CELL, S2IX_NO_LABEL, S2IX_NOT_HELD.
-  std::size_t remove(std::uint64_t cell, std::uint32_t label, std::uint32_t copies = 1) {
-    return detail::number([&](std::size_t* to) { return s2ix_remove(&handle_, cell, label, copies, to); });
+  std::size_t remove(Cell cell, std::uint32_t label, std::uint32_t copies = 1) {
+    return number([&](::s2ix_handle* handle, std::size_t* to) { return s2ix_remove(handle, cell.number(), label, copies, to); },
+                  [&](std::uint32_t status) { return detail::wrong_pair(status, cell.number(), label); });
   }
 
-  // Adds one copy under a label for each cell of the normal form of a union. S2IX_NO_CELL, S2IX_NO_LABEL.
-  std::size_t add_union(Cells cells, std::uint32_t label) {
-    return detail::number([&](std::size_t* to) { return s2ix_add_union(&handle_, cells.data(), cells.size(), label, to); });
+  // Adds one copy under a label for each cell of the normal form of a union, so four siblings become their parent, and a cell within another
+  // goes; add_all adds cells as they are. S2IX_NO_CELL, S2IX_NO_LABEL.
+  std::size_t add_union(const Cells& cells, std::uint32_t label) {
+    return number([&](::s2ix_handle* handle, std::size_t* to) { return s2ix_add_union(handle, cells.data(), cells.size(), label, to); },
+                  [&](std::uint32_t status) {
+                    return status == S2IX_NO_LABEL ? detail::wrong_label(status, {label}) : detail::wrong_in(status, cells);
+                  });
   }
 
   // Takes away all copies of a label's pairs. S2IX_NO_LABEL, S2IX_NO_SUCH_LABEL.
   std::size_t drop_label(std::uint32_t label) {
-    return detail::number([&](std::size_t* to) { return s2ix_drop_label(&handle_, label, to); });
+    return number([&](::s2ix_handle* handle, std::size_t* to) { return s2ix_drop_label(handle, label, to); },
+                  [&](std::uint32_t status) { return detail::wrong_label(status, {label}); });
   }
 
   // Moves all copies of one label to another, cell by cell. S2IX_NO_LABEL, S2IX_NO_SUCH_LABEL.
   std::size_t relabel(std::uint32_t source, std::uint32_t target) {
-    return detail::number([&](std::size_t* to) { return s2ix_relabel(&handle_, source, target, to); });
+    return number([&](::s2ix_handle* handle, std::size_t* to) { return s2ix_relabel(handle, source, target, to); },
+                  [&](std::uint32_t status) { return detail::wrong_label(status, {source, target}); });
   }
 
   // Adds one copy under a label for each cell of a level that overlaps no cell of the label and shares an edge with a cell of the level that
   // overlaps one. S2IX_NO_LABEL, S2IX_NO_SUCH_LABEL, S2IX_TOO_FINE.
   std::size_t grow(std::uint32_t label, std::uint8_t level) {
-    return detail::number([&](std::size_t* to) { return s2ix_grow(&handle_, label, level, to); });
+    return number([&](::s2ix_handle* handle, std::size_t* to) { return s2ix_grow(handle, label, level, to); },
+                  [&](std::uint32_t status) { return detail::wrong_label(status, {label}); });
   }
 
   // Replaces a label's pairs by one copy at each cell of the label's region. S2IX_NO_LABEL, S2IX_NO_SUCH_LABEL.
   std::size_t normalise_label(std::uint32_t label) {
-    return detail::number([&](std::size_t* to) { return s2ix_normalise_label(&handle_, label, to); });
+    return number([&](::s2ix_handle* handle, std::size_t* to) { return s2ix_normalise_label(handle, label, to); },
+                  [&](std::uint32_t status) { return detail::wrong_label(status, {label}); });
   }
 
   // Takes back the change with a number, counted from 1 among those that can be undone, and leaves those that followed it.
   // S2IX_NO_SUCH_CHANGE, S2IX_BELOW_ZERO.
   std::size_t revert(std::uint32_t change) {
-    return detail::number([&](std::size_t* to) { return s2ix_revert(&handle_, change, to); });
+    return number([&](::s2ix_handle* handle, std::size_t* to) { return s2ix_revert(handle, change, to); });
   }
 
   // Takes the last change back, and returns how many pairs it had. S2IX_CLOSED, S2IX_NOTHING_TO_UNDO.
-  std::size_t undo() {
-    return detail::number([&](std::size_t* to) { return s2ix_undo(&handle_, to); });
-  }
+  std::size_t undo() { return number(s2ix_undo); }
 
   // Does the change that was undone last again, and returns how many pairs it had. S2IX_CLOSED, S2IX_NOTHING_TO_REDO.
-  std::size_t redo() {
-    return detail::number([&](std::size_t* to) { return s2ix_redo(&handle_, to); });
-  }
+  std::size_t redo() { return number(s2ix_redo); }
 
   // Keeps what is held and drops all changes: nothing is left to undo or redo. S2IX_CLOSED.
-  void forget() { detail::check(s2ix_forget(&handle_)); }
+  void forget() { detail::check(handle_.with(s2ix_forget)); }
 
   // Drops all pairs and all changes, and keeps the limits: nothing is left to undo or redo. O(n). S2IX_CLOSED.
-  void clear() { detail::check(s2ix_clear(&handle_)); }
+  void clear() { detail::check(handle_.with(s2ix_clear)); }
 
   // Lists. One form of each call puts the list in place of what a vector of the caller held, and uses its memory again; if the call throws,
-  // the vector is empty. The other form returns a new vector.
+  // the vector is empty. The other form returns a new vector. Each costs what its list does, however much the vector may hold. A list of more
+  // items than the vector held is made twice, but not one of at most 16 items, or 64 of a meet, or a sixteenth of all pairs under a label: so
+  // keep a vector for each kind of call.
 
   // The pairs whose cells contain a leaf, the innermost cell first, the labels of one cell rising. O(log n + k) for k pairs. S2IX_CLOSED,
   // S2IX_NO_CELL.
-  void at(std::uint64_t leaf, std::vector<Row>& rows) const {
-    detail::fill(rows, [&](Row* to, std::size_t room, std::size_t* number) { return s2ix_at(&handle_, leaf, to, room, number); });
+  void at(Cell leaf, std::vector<Row>& rows) const {
+    list(rows,
+         [&](::s2ix_handle* handle, Row* to, std::size_t room, std::size_t* number) {
+           return s2ix_at(handle, leaf.number(), to, room, number);
+         },
+         [&](std::uint32_t status) { return detail::wrong_leaf(status, leaf.number()); });
   }
-  std::vector<Row> at(std::uint64_t leaf) const {
+  [[nodiscard]] std::vector<Row> at(Cell leaf) const {
     std::vector<Row> rows;
     at(leaf, rows);
     return rows;
@@ -457,35 +674,39 @@ class Index {
 
   // The pairs that share a leaf with a union of cells: each once, by first shared leaf, then falling level, then rising label.
   // O(k + r + t log n) for k pairs, r ranges and t cells. S2IX_CLOSED, S2IX_NO_CELL.
-  void meet(Cells cells, std::vector<Row>& rows) const {
-    detail::fill(rows, [&](Row* to, std::size_t room, std::size_t* number) {
-      return s2ix_meet(&handle_, cells.data(), cells.size(), to, room, number);
-    });
+  void meet(const Cells& cells, std::vector<Row>& rows) const {
+    list(rows,
+         [&](::s2ix_handle* handle, Row* to, std::size_t room, std::size_t* number) {
+           return s2ix_meet(handle, cells.data(), cells.size(), to, room, number);
+         },
+         [&](std::uint32_t status) { return detail::wrong_in(status, cells); }, 64);
   }
-  std::vector<Row> meet(Cells cells) const {
+  [[nodiscard]] std::vector<Row> meet(const Cells& cells) const {
     std::vector<Row> rows;
     meet(cells, rows);
     return rows;
   }
 
-  // The pairs of that list from a place on, counted from 0: as many as there are, and at most `most`, for which it takes memory. If there are
-  // fewer, the list ends there. It takes the time of a meet whose list ends with the last of them. An edit may move the places. S2IX_CLOSED,
-  // S2IX_NO_CELL.
-  std::vector<Row> meet_from(Cells cells, std::size_t from, std::size_t most) const {
-    std::vector<Row> rows(most == 0 ? 1 : most);
-    rows.resize(detail::number([&](std::size_t* to) {
-      return s2ix_meet_from(&handle_, cells.data(), cells.size(), from, rows.data(), most, to);
-    }));
-    return rows;
+  // The pairs of that list from a place on, counted from 0: as many as there are, and at most `most`, for which it takes memory, or for as
+  // many as are held if that is less. If there are fewer, the list ends there. It takes the time of a meet whose list ends with the last of
+  // them. An edit may move the places. S2IX_CLOSED, S2IX_NO_CELL.
+  [[nodiscard]] std::vector<Row> meet_from(const Cells& cells, std::size_t from, std::size_t most) const {
+    return page(from, most,
+                [&](::s2ix_handle* handle, Row* to, std::size_t room, std::size_t* number) {
+                  return s2ix_meet_from(handle, cells.data(), cells.size(), from, to, room, number);
+                },
+                [&](std::uint32_t status) { return detail::wrong_in(status, cells); });
   }
 
   // The labels of the pairs that meet gives: each once, rising. S2IX_CLOSED, S2IX_NO_CELL.
-  void labels(Cells cells, std::vector<std::uint32_t>& labels) const {
-    detail::fill(labels, [&](std::uint32_t* to, std::size_t room, std::size_t* number) {
-      return s2ix_labels(&handle_, cells.data(), cells.size(), to, room, number);
-    });
+  void labels(const Cells& cells, std::vector<std::uint32_t>& labels) const {
+    list(labels,
+         [&](::s2ix_handle* handle, std::uint32_t* to, std::size_t room, std::size_t* number) {
+           return s2ix_labels(handle, cells.data(), cells.size(), to, room, number);
+         },
+         [&](std::uint32_t status) { return detail::wrong_in(status, cells); }, 256);
   }
-  std::vector<std::uint32_t> labels(Cells cells) const {
+  [[nodiscard]] std::vector<std::uint32_t> labels(const Cells& cells) const {
     std::vector<std::uint32_t> found;
     labels(cells, found);
     return found;
@@ -493,91 +714,86 @@ class Index {
 
   // The region of a label: the normal union of its cells, rising. O(n + m log m) for m pairs of the label. S2IX_CLOSED, S2IX_NO_LABEL.
   void region(std::uint32_t label, std::vector<std::uint64_t>& cells) const {
-    detail::fill(cells, [&](std::uint64_t* to, std::size_t room, std::size_t* number) { return s2ix_region(&handle_, label, to, room, number); });
+    list_of(label, cells, s2ix_region);
   }
-  std::vector<std::uint64_t> region(std::uint32_t label) const {
+  [[nodiscard]] std::vector<std::uint64_t> region(std::uint32_t label) const {
     std::vector<std::uint64_t> cells;
     region(label, cells);
+    detail::trim(cells);
     return cells;
   }
 
   // The pairs of a label, by rising cell. O(n) for all n pairs that are held. S2IX_CLOSED, S2IX_NO_LABEL.
   void of_label(std::uint32_t label, std::vector<Row>& rows) const {
-    detail::fill(rows, [&](Row* to, std::size_t room, std::size_t* number) { return s2ix_of_label(&handle_, label, to, room, number); });
+    list_of(label, rows, s2ix_of_label);
   }
-  std::vector<Row> of_label(std::uint32_t label) const {
+  [[nodiscard]] std::vector<Row> of_label(std::uint32_t label) const {
     std::vector<Row> rows;
     of_label(label, rows);
+    detail::trim(rows);
     return rows;
   }
 
-  // The pairs from a place on, counted from 0, in rising order of cell, then label: as many as there are, and at most `most`, for which it
-  // takes memory. O(most). S2IX_CLOSED.
-  std::vector<Row> pairs(std::size_t from, std::size_t most) const {
-    std::vector<Row> rows(most == 0 ? 1 : most);
-    rows.resize(detail::number([&](std::size_t* to) { return s2ix_pairs(&handle_, from, rows.data(), most, to); }));
-    return rows;
+  // The pairs from a place on, counted from 0, in rising order of cell, then label: as many as there are, and at most `most`. O(k) for k
+  // pairs. S2IX_CLOSED.
+  [[nodiscard]] std::vector<Row> pairs(std::size_t from, std::size_t most) const {
+    return page(from, most, [&](::s2ix_handle* handle, Row* to, std::size_t room, std::size_t* number) {
+      return s2ix_pairs(handle, from, to, room, number);
+    });
   }
 
   // How many copies of a cell are held under a label: 0 if the pair is not held. O(log n). S2IX_CLOSED, S2IX_NO_CELL, S2IX_NO_LABEL.
-  std::uint32_t count(std::uint64_t cell, std::uint32_t label) const {
-    return detail::answer<std::uint32_t>([&](std::uint32_t* count) { return s2ix_count(&handle_, cell, label, count); });
+  [[nodiscard]] std::uint32_t count(Cell cell, std::uint32_t label) const {
+    return answer<std::uint32_t>([&](::s2ix_handle* handle, std::uint32_t* to) { return s2ix_count(handle, cell.number(), label, to); },
+                                 [&](std::uint32_t status) { return detail::wrong_pair(status, cell.number(), label); });
   }
 
   // How many pairs are held. O(1). S2IX_CLOSED.
-  std::size_t len() const {
-    return detail::number([&](std::size_t* to) { return s2ix_len(&handle_, to); });
-  }
+  [[nodiscard]] std::size_t len() const { return number(s2ix_len); }
 
   // The sum of the counts. O(n). S2IX_CLOSED.
-  std::uint64_t copies() const {
-    return detail::answer<std::uint64_t>([&](std::uint64_t* copies) { return s2ix_copies(&handle_, copies); });
-  }
+  [[nodiscard]] std::uint64_t copies() const { return answer<std::uint64_t>(s2ix_copies); }
 
   // How many changes can be undone, and how many redone. O(1). S2IX_CLOSED.
-  std::size_t done_count() const {
-    return detail::number([&](std::size_t* to) { return s2ix_done_count(&handle_, to); });
-  }
-  std::size_t undone_count() const {
-    return detail::number([&](std::size_t* to) { return s2ix_undone_count(&handle_, to); });
-  }
+  [[nodiscard]] std::size_t done_count() const { return number(s2ix_done_count); }
+  [[nodiscard]] std::size_t undone_count() const { return number(s2ix_undone_count); }
 
   // The entries of the change with a number, counted from 1 among those that can be undone: by rising cell, then label. O(k) for k entries.
   // S2IX_CLOSED, S2IX_NO_SUCH_CHANGE.
-  std::vector<Entry> change(std::uint32_t number) const {
-    return detail::filled<std::vector<Entry>>(
-        [&](Entry* to, std::size_t room, std::size_t* many) { return s2ix_change(&handle_, number, to, room, many); });
+  [[nodiscard]] std::vector<Entry> change(std::uint32_t number) const {
+    std::vector<Entry> entries;
+    list(entries,
+         [&](::s2ix_handle* handle, Entry* to, std::size_t room, std::size_t* many) { return s2ix_change(handle, number, to, room, many); });
+    return entries;
   }
 
   // How many faces, 0 to 6, the last accepted edit, undo or redo rebuilt. O(1). S2IX_CLOSED.
-  std::size_t faces_rebuilt() const {
-    return detail::number([&](std::size_t* to) { return s2ix_faces_rebuilt(&handle_, to); });
-  }
+  [[nodiscard]] std::size_t faces_rebuilt() const { return number(s2ix_faces_rebuilt); }
 
   // How many ranges of leaves there are over which the same pairs lie: at least 1. O(1). S2IX_CLOSED.
-  std::size_t range_count() const {
-    return detail::number([&](std::size_t* to) { return s2ix_range_count(&handle_, to); });
-  }
+  [[nodiscard]] std::size_t range_count() const { return number(s2ix_range_count); }
 
   // The range that has a leaf. O(log n). S2IX_CLOSED, S2IX_NO_CELL.
-  Range find(std::uint64_t leaf) const {
-    return detail::answer<Range>([&](Range* to) { return s2ix_find(&handle_, leaf, &to->place, &to->start, &to->limit); });
+  [[nodiscard]] Range find(Cell leaf) const {
+    return answer<Range>(
+        [&](::s2ix_handle* handle, Range* to) { return s2ix_find(handle, leaf.number(), &to->place, &to->start, &to->limit); },
+        [&](std::uint32_t status) { return detail::wrong_leaf(status, leaf.number()); });
   }
 
   // The range at a place, counted from 0. An edit may move the places. O(1). S2IX_CLOSED, S2IX_NO_RANGE.
-  Range range(std::size_t place) const {
-    return detail::answer<Range>([&](Range* to) {
+  [[nodiscard]] Range range(std::size_t place) const {
+    return answer<Range>([&](::s2ix_handle* handle, Range* to) {
       bool is_empty = false;
       to->place = place;
-      return s2ix_range(&handle_, place, &to->start, &to->limit, &is_empty);
+      return s2ix_range(handle, place, &to->start, &to->limit, &is_empty);
     });
   }
 
   // Whether no pair lies over the range at a place. O(1). S2IX_CLOSED, S2IX_NO_RANGE.
-  bool is_empty(std::size_t place) const {
-    return detail::answer<bool>([&](bool* is_empty) {
+  [[nodiscard]] bool is_empty(std::size_t place) const {
+    return answer<bool>([&](::s2ix_handle* handle, bool* is_empty) {
       Range range{};
-      return s2ix_range(&handle_, place, &range.start, &range.limit, is_empty);
+      return s2ix_range(handle, place, &range.start, &range.limit, is_empty);
     });
   }
 
@@ -585,52 +801,41 @@ class Index {
   // labels of one cell rising. If `from` is 0, these are all; if it is an earlier range's limit, those that don't lie over that range. O(k)
   // for k pairs. S2IX_CLOSED, S2IX_NO_RANGE.
   void contents(std::size_t place, std::uint64_t from, std::vector<Row>& rows) const {
-    detail::fill(rows, [&](Row* to, std::size_t room, std::size_t* number) {
-      return s2ix_contents(&handle_, place, from, to, room, number);
+    list(rows, [&](::s2ix_handle* handle, Row* to, std::size_t room, std::size_t* number) {
+      return s2ix_contents(handle, place, from, to, room, number);
     });
   }
-  std::vector<Row> contents(std::size_t place, std::uint64_t from = 0) const {
+  [[nodiscard]] std::vector<Row> contents(std::size_t place, std::uint64_t from = 0) const {
     std::vector<Row> rows;
     contents(place, from, rows);
     return rows;
   }
 
   // The place of the first range from a place on, and of the last range before one, that has a pair over it. O(1). S2IX_CLOSED, S2IX_NO_RANGE.
-  std::size_t next_full(std::size_t from) const {
-    return detail::number([&](std::size_t* to) { return s2ix_next_full(&handle_, from, to); });
+  [[nodiscard]] std::size_t next_full(std::size_t from) const {
+    return number([&](::s2ix_handle* handle, std::size_t* to) { return s2ix_next_full(handle, from, to); });
   }
-  std::size_t previous_full(std::size_t before) const {
-    return detail::number([&](std::size_t* to) { return s2ix_previous_full(&handle_, before, to); });
-  }
-
-  // The dump of what is held (docs/FORMATS.md). O(n). S2IX_CLOSED.
-  std::string dump() const {
-    return detail::filled<std::string>([&](char* bytes, std::size_t room, std::size_t* number) {
-      return s2ix_dump(&handle_, reinterpret_cast<std::uint8_t*>(bytes), room, number);
-    });
+  [[nodiscard]] std::size_t previous_full(std::size_t before) const {
+    return number([&](::s2ix_handle* handle, std::size_t* to) { return s2ix_previous_full(handle, before, to); });
   }
 
-  // The journal of the changes that can be undone, the oldest first (docs/FORMATS.md). O(n) for n entries. S2IX_CLOSED.
-  std::string journal() const {
-    return detail::filled<std::string>([&](char* bytes, std::size_t room, std::size_t* number) {
-      return s2ix_journal(&handle_, reinterpret_cast<std::uint8_t*>(bytes), room, number);
-    });
-  }
+  // The dump of what is held (FORMATS.md). O(n). S2IX_CLOSED.
+  [[nodiscard]] std::string dump() const { return text(s2ix_dump, s2ix_len, 32); }
 
-  // The export of what is held: one line of compact JSON, without a line feed (docs/FORMATS.md). O(n). S2IX_CLOSED.
-  std::string export_json() const {
-    return detail::filled<std::string>([&](char* bytes, std::size_t room, std::size_t* number) {
-      return s2ix_export(&handle_, reinterpret_cast<std::uint8_t*>(bytes), room, number);
-    });
-  }
+  // The journal of the changes that can be undone, the oldest first (FORMATS.md). O(n) for n entries. S2IX_CLOSED.
+  [[nodiscard]] std::string journal() const { return text(s2ix_journal, s2ix_done_count, 64); }
 
-  // Carries out one line of a script, given without its line feed, and returns its answer (docs/FORMATS.md): `ok N`, `no NAME`, or the lines
+  // The export of what is held: one line of compact JSON, without a line feed (FORMATS.md). O(n). S2IX_CLOSED.
+  [[nodiscard]] std::string export_json() const { return text(s2ix_export, s2ix_len, 32); }
+
+  // Carries out one line of a script, given without its line feed, and returns its answer (FORMATS.md): `ok N`, `no NAME`, or the lines
   // of a query, each with its line feed; nothing for a blank line or a comment. A refused line throws nothing. It costs what the line's own
   // call does. S2IX_CLOSED.
   std::string line(std::string_view line) {
-    std::string answer(32, '\0');  // (room for the answer of each edit, so that only a long answer is asked for twice)
-    detail::fill(answer, [&](char* bytes, std::size_t room, std::size_t* number) {
-      return s2ix_line(&handle_, detail::bytes(line), line.size(), reinterpret_cast<std::uint8_t*>(bytes), room, number);
+    std::string answer;
+    // (asked with room for the answer of each edit, so that only a long answer is asked for twice)
+    list(answer, [&](::s2ix_handle* handle, char* bytes, std::size_t room, std::size_t* number) {
+      return s2ix_line(handle, detail::bytes(line), line.size(), reinterpret_cast<std::uint8_t*>(bytes), room, number);
     });
     return answer;
   }
@@ -646,15 +851,88 @@ class Index {
   static Index led(decltype(s2ix_replay)* call, std::string_view dump, std::string_view journal, Limits limits) {
     Index index{Closed()};
     std::size_t place = 0, entry = 0;
-    const std::uint32_t status = call(&index.handle_, detail::bytes(dump), dump.size(), detail::bytes(journal), journal.size(), limits.pairs,
+    const std::uint32_t status = call(index.handle(), detail::bytes(dump), dump.size(), detail::bytes(journal), journal.size(), limits.pairs,
                                       limits.copies, limits.changes, &place, &entry);
-    const bool is_line = status == S2IX_NO_DUMP || status == S2IX_NO_JOURNAL;
-    detail::check(status, is_line ? place : 0, 0, is_line ? 0 : place, entry);
+    detail::check(status, [&](std::uint32_t why) {
+      Where where;
+      (why == S2IX_NO_DUMP || why == S2IX_NO_JOURNAL ? where.line : where.change) = place;
+      where.entry = entry;
+      return where;
+    });
     return index;
   }
 
-  // (a query changes no store, but s2ix.h takes each handle as one that may change)
-  mutable ::s2ix_handle handle_{};
+  // What a call writes to the pointer it is given. `wrong` says of which number a refusal speaks.
+  template <class Answer, class Call, class Wrong = detail::NoneWrong>
+  Answer answer(Call call, Wrong wrong = Wrong()) const {
+    Answer given{};
+    detail::check(handle_.with([&](::s2ix_handle* handle) { return call(handle, &given); }), wrong);
+    return given;
+  }
+
+  template <class Call, class Wrong = detail::NoneWrong>
+  std::size_t number(Call call, Wrong wrong = Wrong()) const {
+    return answer<std::size_t>(call, wrong);
+  }
+
+  // Puts the list that a call puts in place of what `items` held. It is first asked for with that much room at least.
+  template <class Items, class Call, class Wrong = detail::NoneWrong>
+  void list(Items& items, Call call, Wrong wrong = Wrong(), std::size_t least_room = 0) const {
+    const std::uint32_t status = handle_.with([&](::s2ix_handle* handle) {
+      return detail::fill(
+          items, [&](auto* to, std::size_t room, std::size_t* number) { return call(handle, to, room, number); }, least_room);
+    });
+    detail::check(status, wrong);
+  }
+
+  // The same of a label's items. The call reads all pairs for them, beside which room for some of these costs little.
+  template <class Items, class Call>
+  void list_of(std::uint32_t label, Items& items, Call call) const {
+    const std::uint32_t status = handle_.with([&](::s2ix_handle* handle) {
+      std::size_t pairs = 0;
+      s2ix_len(handle, &pairs);
+      return detail::fill(
+          items, [&](auto* to, std::size_t room, std::size_t* number) { return call(handle, label, to, room, number); }, pairs / 16);
+    });
+    detail::check(status, [&](std::uint32_t why) { return detail::wrong_label(why, {label}); });
+  }
+
+  // The pairs that a call puts from a place on: at most `most`, and at most as many as are held behind the place.
+  template <class Call, class Wrong = detail::NoneWrong>
+  std::vector<Row> page(std::size_t from, std::size_t most, Call call, Wrong wrong = Wrong()) const {
+    std::vector<Row> rows;
+    const std::uint32_t status = handle_.with([&](::s2ix_handle* handle) {
+      std::size_t number = 0;
+      s2ix_len(handle, &number);
+      const std::size_t room = std::min(most, number - std::min(from, number));
+      rows.resize(room == 0 ? 1 : room);
+      const std::uint32_t answered = call(handle, rows.data(), room, &number);
+      rows.resize(answered == S2IX_DONE ? number : 0);
+      return answered;
+    });
+    detail::check(status, wrong);
+    return rows;
+  }
+
+  // The text that a call puts. It is asked for with room for so many bytes for each of what another call counts.
+  std::string text(decltype(s2ix_dump)* call, decltype(s2ix_len)* counter, std::size_t bytes_each) const {
+    std::string text;
+    const std::uint32_t status = handle_.with([&](::s2ix_handle* handle) {
+      std::size_t many = 0;
+      counter(handle, &many);
+      return detail::fill(
+          text,
+          [&](char* bytes, std::size_t room, std::size_t* number) {
+            return call(handle, reinterpret_cast<std::uint8_t*>(bytes), room, number);
+          },
+          bytes_each * many);
+    });
+    detail::check(status);
+    detail::trim(text);
+    return text;
+  }
+
+  detail::Handle handle_;
 };
 
 }  // namespace s2ix

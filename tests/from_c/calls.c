@@ -1,4 +1,5 @@
 /* Calls each export of the library, with its refusals, and says 'c library: well', or the first lines at which an answer was another. */
+#include "blocks.h"
 #include "s2ix.h"
 
 #include <stdint.h>
@@ -6,10 +7,12 @@
 #include <string.h>
 
 /* How many calls of cells and unions answer other than they should, in cells.c, how many of ranges, in ranges.c, and how many on several
-   threads, in threads.c. */
+   threads, in threads.c; how many fields lie elsewhere, in layout.c; and how often something else is freed than should be, in freed.c. */
 int cell_faults(void);
 int range_faults(void);
 int thread_faults(void);
+int layout_faults(void);
+int freed_faults(void);
 
 static int faults;
 
@@ -600,7 +603,7 @@ static void journalled(void) {
 }
 
 int main(void) {
-    faults = cell_faults() + range_faults() + thread_faults();
+    faults = cell_faults() + range_faults() + thread_faults() + layout_faults() + freed_faults();
     refused_while_closed();
     untold_while_closed();
     opened();
@@ -618,6 +621,7 @@ int main(void) {
     replayed();
     exported();
     found();
+    EXPECT(blocks_held(), 0);
     if (faults == 0)
         printf("c library: well\n");
     return faults != 0;

@@ -1,6 +1,8 @@
 /* Refuses each growth of memory in turn, in each call of s2ix.h that allocates: the call must return S2IX_OUT_OF_MEMORY, tell nothing and
    leave the stores, and then do all when it is made again. Calls that do not allocate may not ask for a growth. It has a malloc of its
-   own. It says 'growths refused from c: N', or the lines at which something else came about. */
+   own. In the end all that was allocated is freed, by refused calls too. It says 'growths refused from c: N', or the lines at which something
+   else came about. */
+#include "blocks.h"
 #include "s2ix.h"
 
 #include <stdio.h>
@@ -264,6 +266,7 @@ static int refuse(const char *name, call *call, bool allocates) {
     }
     s2ix_close(&handle);
     s2ix_close(&other);
+    expect(name, growths, "something is not freed", blocks_held() == 0);
     return refused;
 }
 

@@ -2,7 +2,9 @@
 #include "s2ix.hpp"
 
 #include <iostream>
+#include <list>
 #include <set>
+#include <sstream>
 
 namespace {
 
@@ -147,7 +149,7 @@ std::size_t WrongRow(s2ix::Index& index, const std::vector<s2ix::Row>& rows) {
   try {
     index.add_all(rows);
   } catch (const s2ix::Error& error) {
-    return error.row();
+    return error.place().value_or(rows.size());
   }
   return rows.size();
 }
@@ -259,14 +261,71 @@ void ChangedAndReplayed() {
   REFUSED(S2IX_NO_SUCH_CHANGE, index.change(2));
   EXPECT(s2ix::Index::replay(dump, journal).dump() == after && s2ix::Index::rewind(after, journal).dump() == dump);
   EXPECT(s2ix::Index::replay(dump, journal).done_count() == 0);
-  const s2ix::Error mismatch = Thrown([&] { s2ix::Index::replay(after, journal); });
+  const s2ix::Error mismatch = Thrown([&] { (void)s2ix::Index::replay(after, journal); });
   EXPECT(mismatch.status() == S2IX_MISMATCH && mismatch.change() == 1 && mismatch.entry() == 1 && mismatch.line() == 0);
-  const s2ix::Error no_journal = Thrown([&] { s2ix::Index::rewind(dump, dump); });
+  const s2ix::Error no_journal = Thrown([&] { (void)s2ix::Index::rewind(dump, dump); });
   EXPECT(no_journal.status() == S2IX_NO_JOURNAL && no_journal.line() == 1 && no_journal.change() == 0);
-  const s2ix::Error copies = Thrown([&] { s2ix::Index::replay(dump, "s2ix-journal 2\nchange 1\n0c 9 0 1\nend 1\n", s2ix::Limits{1, 5, 5}); });
+  const s2ix::Error copies = Thrown([&] { (void)s2ix::Index::replay(dump, "s2ix-journal 2\nchange 1\n0c 9 0 1\nend 1\n", s2ix::Limits{1, 5, 5}); });
   EXPECT(copies.status() == S2IX_TOO_MANY_PAIRS && copies.change() == 1 && copies.entry() == 0);
   REFUSED(S2IX_NO_DUMP, s2ix::Index::replay("", journal));
   REFUSED(S2IX_NO_LIMITS, s2ix::Index::rewind(dump, journal, s2ix::Limits{0, 1, 1}));
+}
+
+// Whether a call is refused for a number, at a place or at none, and says so.
+template <class Call>
+bool Names(std::uint32_t status, std::uint64_t value, std::optional<std::size_t> place, Call call) {
+  const s2ix::Error error = Thrown(call);
+  std::ostringstream words;
+  words << "s2ix: " << s2ix::status_text(status) << ": ";
+  if (status == S2IX_NO_CELL) words << std::hex << "0x";
+  words << value << std::dec;
+  if (place) words << " at place " << *place;
+  return error.status() == status && error.value() == value && error.place() == place && error.what() == words.str();
+}
+
+void NamesWhatIsWrong() {
+  namespace cell = s2ix::cell;
+  namespace cell_union = s2ix::cell_union;
+  s2ix::Index index;
+  index.add(kFirst, 1);
+  const std::vector<std::uint64_t> wrong = {kFirst, kFace, kNoCell, 10};
+  const std::vector<s2ix::Row> no_cells = {{kFirst, 1, 1}, {kNoCell, 1, 1}}, no_labels = {{kFirst, 1, 1}, {kFirst, 1, 1}, {kFirst, kNoLabel, 1}};
+  EXPECT(Names(S2IX_NO_CELL, kNoCell, {}, [&] { index.add(kNoCell, 1); }));
+  EXPECT(Names(S2IX_NO_LABEL, kNoLabel, {}, [&] { index.add(kFirst, kNoLabel); }));
+  EXPECT(Names(S2IX_NO_CELL, kNoCell, {}, [&] { index.remove(kNoCell, 1); }));
+  EXPECT(Names(S2IX_NO_CELL, kNoCell, 1, [&] { index.add_all(no_cells); }));
+  EXPECT(Names(S2IX_NO_LABEL, kNoLabel, 2, [&] { index.add_all(no_labels); }));
+  EXPECT(Names(S2IX_NO_CELL, kNoCell, 2, [&] { index.add_union(wrong, 1); }));
+  EXPECT(Names(S2IX_NO_LABEL, kNoLabel, {}, [&] { index.add_union({kFirst}, kNoLabel); }));
+  EXPECT(Names(S2IX_NO_LABEL, kNoLabel, {}, [&] { index.drop_label(kNoLabel); }));
+  EXPECT(Names(S2IX_NO_LABEL, kNoLabel, {}, [&] { index.relabel(1, kNoLabel); }));
+  EXPECT(Names(S2IX_NO_LABEL, kNoLabel, {}, [&] { index.grow(kNoLabel, 1); }));
+  EXPECT(Names(S2IX_NO_LABEL, kNoLabel, {}, [&] { index.normalise_label(kNoLabel); }));
+  EXPECT(Names(S2IX_NO_CELL, kFirst, {}, [&] { (void)index.at(kFirst); }));
+  EXPECT(Names(S2IX_NO_CELL, kNoCell, 2, [&] { (void)index.meet(wrong); }));
+  EXPECT(Names(S2IX_NO_CELL, kNoCell, 2, [&] { (void)index.meet_from(wrong, 0, 9); }));
+  EXPECT(Names(S2IX_NO_CELL, kNoCell, 0, [&] { (void)index.labels({kNoCell, 10}); }));
+  EXPECT(Names(S2IX_NO_LABEL, kNoLabel, {}, [&] { (void)index.region(kNoLabel); }));
+  EXPECT(Names(S2IX_NO_LABEL, kNoLabel, {}, [&] { (void)index.of_label(kNoLabel); }));
+  EXPECT(Names(S2IX_NO_CELL, kNoCell, {}, [&] { (void)index.count(kNoCell, 1); }));
+  EXPECT(Names(S2IX_NO_LABEL, kNoLabel, {}, [&] { (void)index.count(kFirst, kNoLabel); }));
+  EXPECT(Names(S2IX_NO_CELL, kFace, {}, [&] { (void)index.find(kFace); }));
+  EXPECT(Names(S2IX_NO_CELL, kNoCell, {}, [&] { (void)cell::path(kNoCell); }));
+  EXPECT(Names(S2IX_NO_CELL, kNoCell, {}, [&] { (void)cell::common_level(kFirst, kNoCell); }));
+  EXPECT(Names(S2IX_NO_CELL, kNoCell, {}, [&] { (void)cell::border(kNoCell, 0); }));
+  EXPECT(Names(S2IX_NO_CELL, kNoCell, 2, [&] { (void)cell_union::normalise(wrong); }));
+  EXPECT(Names(S2IX_NO_CELL, kNoCell, 3, [&] { (void)cell_union::union_of({kFirst}, wrong); }));
+  EXPECT(Names(S2IX_NO_CELL, kNoCell, 2, [&] { (void)cell_union::intersection(wrong, {kNoCell}); }));
+  EXPECT(Names(S2IX_NO_CELL, 10, 0, [&] { (void)cell_union::difference({10}, wrong); }));
+  EXPECT(Names(S2IX_NO_CELL, kNoCell, 2, [&] { (void)cell_union::contains(wrong, kFirst); }));
+  EXPECT(Names(S2IX_NO_CELL, kNoCell, {}, [&] { (void)cell_union::intersects({kFirst}, kNoCell); }));
+  EXPECT(Names(S2IX_NO_CELL, kNoCell, 2, [&] { (void)cell_union::leaf_count(wrong); }));
+  // (no number is wrong by itself)
+  for (const s2ix::Error& error :
+       {Thrown([&] { (void)cell::parent(kFace, 1); }), Thrown([&] { (void)cell::common_level(kFace, 0x3000000000000000); }),
+        Thrown([&] { (void)cell::from_token("x"); }), Thrown([&] { index.remove(kFirst, 1, 9); })}) {
+    EXPECT(!error.value() && !error.place() && error.what() == "s2ix: " + s2ix::status_text(error.status()));
+  }
 }
 
 void Lines() {
@@ -291,7 +350,7 @@ void WrittenAndRead() {
   REFUSED(S2IX_NO_DUMP, s2ix::Index::load(dump, s2ix::Limits{1, 100, 1}));
   REFUSED(S2IX_NO_DUMP, s2ix::Index::load({}));
   try {
-    s2ix::Index::load("s2ix 2\n04 0 0\n");
+    (void)s2ix::Index::load("s2ix 2\n04 0 0\n");
     EXPECT(false);
   } catch (const s2ix::Error& error) {
     EXPECT(error.line() == 2 && std::string(error.what()) == "s2ix: " + s2ix::status_text(S2IX_NO_DUMP) + ": line 2");
@@ -367,6 +426,38 @@ struct SomeId {
   std::uint64_t raw_;
 };
 
+// A class of unions, as S2's.
+class SomeUnion {
+ public:
+  explicit SomeUnion(std::vector<SomeId> ids) : ids_(std::move(ids)) {}
+  std::vector<SomeId>::const_iterator begin() const { return ids_.begin(); }
+  std::vector<SomeId>::const_iterator end() const { return ids_.end(); }
+
+ private:
+  std::vector<SomeId> ids_;
+};
+
+// Cells by what has id(), alone and in any range, and by numbers in any range.
+void TakesWhatHasId() {
+  const SomeId first(kFirst), second(kSecond);
+  const std::vector<SomeId> ids = {second, first};
+  const SomeUnion both(ids);
+  s2ix::Index index;
+  EXPECT(index.add(first, 1, 2) == 1 && index.remove(first, 1) == 1 && index.count(first, 1) == 1);
+  EXPECT(index.add_union(both, 2) == 2 && index.add_union(ids, 2) == 2 && index.count(kSecond, 2) == 2);
+  EXPECT(index.at(SomeId(kLeaf)).size() == 2 && index.find(SomeId(kLeaf)).place == 0);
+  EXPECT(index.meet(both).size() == 3 && index.meet(ids).size() == 3);
+  EXPECT(index.meet({first, second}).size() == 3 && index.meet({second}).size() == 1);
+  EXPECT((index.labels(both) == std::vector<std::uint32_t>{1, 2}) && index.meet_from(both, 1, 9).size() == 2);
+  EXPECT(index.meet(std::set<std::uint64_t>{kFirst}).size() == 2 && index.meet(std::list<SomeId>{second}).size() == 1);
+  EXPECT(index.meet(std::array<std::uint64_t, 2>{kSecond, kFirst}).size() == 3 && index.meet(s2ix::cell_union::normalise(both)).size() == 3);
+  EXPECT((s2ix::cell_union::normalise(both) == std::vector<std::uint64_t>{kFirst, kSecond}) && s2ix::cell_union::contains(both, kFirst));
+  const s2ix::Cells kept = std::vector<std::uint64_t>{kSecond}, copied = kept;
+  EXPECT(index.meet(kept).size() == 1 && index.meet(copied).size() == 1 && s2ix::Cells(both).size() == 2 && s2ix::Cells().size() == 0);
+  static_assert(!std::is_constructible_v<s2ix::Cells, std::string> && !std::is_constructible_v<s2ix::Cells, std::vector<int>>);
+  static_assert(!std::is_constructible_v<s2ix::Cell, std::string> && !std::is_convertible_v<std::vector<SomeId>, s2ix::Cell>);
+}
+
 std::uint64_t RawOf(std::uint64_t id) { return id; }
 std::uint64_t RawOf(const SomeId& id) { return id.id(); }
 
@@ -386,6 +477,12 @@ void NamedAsInS2() {
   EXPECT(index.num_cells() == 4 && index.index().len() == 3 && index.index().done_count() == 1);
   REFUSED(S2IX_NO_LABEL, index.Add(Id(kFirst), -1));
   REFUSED(S2IX_NO_CELL, index.Add(Id(kNoCell), 1));
+  const std::vector<Id> wrong = {Id(kFirst), Id(kNoCell)};
+  EXPECT(Names(S2IX_NO_LABEL, 4294967295, {}, [&] { index.Add(Id(kFirst), -1); }));
+  EXPECT(Names(S2IX_NO_CELL, kNoCell, {}, [&] { index.Add(Id(kNoCell), 1); }));
+  EXPECT(Names(S2IX_NO_CELL, kNoCell, 1, [&] { index.Add(wrong, 1); }));
+  EXPECT(Names(S2IX_NO_CELL, kNoCell, 1, [&] { (void)index.GetIntersectingLabels(wrong); }));
+  EXPECT(Names(S2IX_NO_CELL, kNoCell, 1, [&] { index.VisitIntersectingCells(wrong, [](Id, Label) { return true; }); }));
 
   std::multiset<std::pair<std::uint64_t, Label>> given;
   for (typename S2Index::CellIterator cells(&index); !cells.done(); cells.Next()) {
@@ -421,6 +518,18 @@ void NamedAsInS2() {
   EXPECT(index.num_cells() == 0 && typename S2Index::CellIterator(&index).done());
   const typename S2Index::LabelledCell less(Id(kFirst), 2), more(Id(kFirst), 3);
   EXPECT(less < more && !(more < less) && !(less == more) && typename S2Index::LabelledCell().label == -1);
+  std::ostringstream printed;
+  printed << typename S2Index::LabelledCell(Id(kSecond), 7) << typename S2Index::LabelledCell();
+  EXPECT(printed.str() == "(0/1, 7)(Invalid: 0000000000000000, -1)");
+  index.Add(both, 3);
+  S2Index moved = std::move(index), assigned;
+  EXPECT(moved.num_cells() == 2 && !index.index().is_open());
+  moved.Add(Id(kLeaf), 3);
+  assigned = std::move(moved);
+  EXPECT(assigned.num_cells() == 3 && assigned.index().done_count() == 2);
+  moved.Clear();
+  moved.Add(Id(kLeaf), 3);
+  EXPECT(moved.num_cells() == 1);
 }
 
 }  // namespace
@@ -437,6 +546,8 @@ int main() {
   Lines();
   WrittenAndRead();
   ChangedAndReplayed();
+  NamesWhatIsWrong();
+  TakesWhatHasId();
   Cells();
   Unions();
   NamedAsInS2<std::uint64_t>();

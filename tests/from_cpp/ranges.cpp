@@ -7,6 +7,7 @@
 #include <map>
 #include <random>
 #include <set>
+#include <sstream>
 
 #ifdef WITH_S2
 #include <s2/s2cell_index.h>
@@ -290,6 +291,18 @@ void BesideS2(const Pairs& pairs, std::mt19937_64& chance) {
   ours.VisitIntersectingCells(target, [&](S2CellId cell, int label) { return our_visit.insert({cell.id(), label}), true; });
   theirs.VisitIntersectingCells(target, [&](S2CellId cell, int label) { return their_visit.insert({cell.id(), label}), true; });
   EXPECT(our_visit == their_visit);
+  Pairs met;
+  for (const s2ix::Row& row : ours.index().meet(target)) {
+    for (std::uint32_t copy = 0; copy < row.count; copy++) met.insert({row.cell, static_cast<int>(row.label)});
+  }
+  EXPECT(met == their_visit);
+  s2ix::Index index;
+  EXPECT(index.add(target[0], 1) == 1 && index.add_union(target, 2) == target.size() && index.count(target[0], 2) == 1);
+  EXPECT(index.meet(target.cell_ids()).size() == 1 + target.size() && index.labels({target[0]}) == index.labels(target));
+  std::ostringstream our_text, their_text;
+  our_text << IndexOf<S2CellId>::LabelledCell(target[0], 7) << IndexOf<S2CellId>::LabelledCell();
+  their_text << S2CellIndex::LabelledCell(target[0], 7) << S2CellIndex::LabelledCell();
+  EXPECT(our_text.str() == their_text.str());
 }
 #endif
 

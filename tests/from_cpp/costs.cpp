@@ -1,0 +1,181 @@
+// What each form of a list costs: how often the library is asked for it, how much memory it takes, and how much of a vector's memory is touched.
+// It is linked with -Wl,--wrap=CALL for each call that is counted, and ends with 'N passed, M failed', after a line for each other cost.
+#include "s2ix.hpp"
+
+#include <sys/resource.h>
+
+#include <cstdlib>
+#include <iostream>
+
+namespace {
+
+int passed, failed;
+
+void Expect(int line, bool holds) {
+  (holds ? passed : failed)++;
+  if (!holds) std::cout << "costs.cpp:" << line << ": another cost\n";
+}
+
+#define EXPECT(holds) Expect(__LINE__, holds)
+
+// How often the library was asked for lists, and how many bytes a program took by new.
+int asked;
+std::size_t taken;
+
+}  // namespace
+
+void* operator new(std::size_t size) {
+  taken += size;
+  if (void* block = std::malloc(size)) return block;
+  throw std::bad_alloc();
+}
+void operator delete(void* block) noexcept { std::free(block); }
+void operator delete(void* block, std::size_t) noexcept { std::free(block); }
+
+using Handle = ::s2ix_handle*;
+using Rows = ::s2ix_row*;
+using Given = const std::uint64_t*;
+using Size = std::size_t;
+using Number = std::size_t*;
+
+// A call that is counted: its parameters, and their names alone.
+#define COUNTED(name, parameters, names)              \
+  extern "C" std::uint32_t __real_##name parameters;  \
+  extern "C" std::uint32_t __wrap_##name parameters { \
+    asked++;                                          \
+    return __real_##name names;                       \
+  }
+
+COUNTED(s2ix_at, (Handle handle, std::uint64_t leaf, Rows rows, Size room, Number number), (handle, leaf, rows, room, number))
+COUNTED(s2ix_meet, (Handle handle, Given cells, Size len, Rows rows, Size room, Number number), (handle, cells, len, rows, room, number))
+COUNTED(s2ix_meet_from, (Handle handle, Given cells, Size len, Size from, Rows rows, Size room, Number number),
+        (handle, cells, len, from, rows, room, number))
+COUNTED(s2ix_labels, (Handle handle, Given cells, Size len, std::uint32_t* labels, Size room, Number number),
+        (handle, cells, len, labels, room, number))
+COUNTED(s2ix_region, (Handle handle, std::uint32_t label, std::uint64_t* cells, Size room, Number number), (handle, label, cells, room, number))
+COUNTED(s2ix_of_label, (Handle handle, std::uint32_t label, Rows rows, Size room, Number number), (handle, label, rows, room, number))
+COUNTED(s2ix_pairs, (Handle handle, Size from, Rows rows, Size room, Number number), (handle, from, rows, room, number))
+COUNTED(s2ix_contents, (Handle handle, Size place, std::uint64_t from, Rows rows, Size room, Number number),
+        (handle, place, from, rows, room, number))
+COUNTED(s2ix_dump, (Handle handle, std::uint8_t* text, Size room, Number number), (handle, text, room, number))
+COUNTED(s2ix_export, (Handle handle, std::uint8_t* text, Size room, Number number), (handle, text, room, number))
+COUNTED(s2ix_journal, (Handle handle, std::uint8_t* text, Size room, Number number), (handle, text, room, number))
+COUNTED(s2ix_union_normalise, (Given cells, Size len, std::uint64_t* out, Size room, Number number), (cells, len, out, room, number))
+
+namespace {
+
+constexpr std::uint64_t kFirst = 0x0400000000000000, kLeaf = 0x0400000000000001, kFace = 0x1000000000000000, kOther = 0x3000000000000000;
+constexpr std::size_t kMany = 20000;
+
+// How often a call asks the library, and how many bytes it takes.
+struct Cost {
+  int asked;
+  std::size_t taken;
+};
+
+template <class Call>
+Cost CostOf(Call call) {
+  asked = 0;
+  taken = 0;
+  call();
+  return {asked, taken};
+}
+
+// How many pages of memory a call is the first to touch.
+template <class Call>
+long PagesOf(Call call) {
+  ::rusage before{}, after{};
+  getrusage(RUSAGE_SELF, &before);
+  call();
+  getrusage(RUSAGE_SELF, &after);
+  return after.ru_minflt - before.ru_minflt;
+}
+
+// Two pairs over a leaf, 40 over another, and many elsewhere: each 20th of these with label 1, the others each with a label of its own.
+s2ix::Index Zones() {
+  std::vector<s2ix::Row> rows = {{kFirst, 1, 1}, {kFirst, 2, 1}};
+  for (std::uint32_t label = 0; label < 40; label++) rows.push_back({0x0c00000000000000, label, 1});
+  for (std::uint32_t k = 0; k < kMany; k++) rows.push_back({kOther + 1 + 2 * std::uint64_t{k}, k % 20 == 0 ? 1 : 100 + k, 1});
+  s2ix::Index index;
+  index.add_all(rows);
+  return index;
+}
+
+// A form that puts a list into a vector with much room writes to none of that room but what the list takes.
+void LeavesRoomUntouched() {
+  const s2ix::Index index = Zones();
+  std::vector<s2ix::Row> rows;
+  std::vector<std::uint32_t> labels;
+  std::vector<std::uint64_t> cells;
+  rows.reserve(std::size_t{1} << 22);
+  labels.reserve(std::size_t{1} << 24);
+  cells.reserve(std::size_t{1} << 23);
+  EXPECT(PagesOf([&] { index.at(kLeaf, rows); }) < 64 && rows.size() == 2);
+  EXPECT(PagesOf([&] { index.meet({kFirst}, rows); }) < 64 && rows.size() == 2);
+  EXPECT(PagesOf([&] { index.contents(0, 0, rows); }) < 64 && rows.size() == 2);
+  EXPECT(PagesOf([&] { index.labels({kFirst}, labels); }) < 64 && labels.size() == 2);
+  EXPECT(PagesOf([&] { index.region(2, cells); }) < 64 && cells.size() == 2);
+  EXPECT(PagesOf([&] { index.of_label(2, rows); }) < 64 && rows.size() == 2);
+}
+
+// A vector that held as many items, or a list of few, is asked for once, and takes no memory.
+void AsksOnce() {
+  const s2ix::Index index = Zones();
+  std::vector<s2ix::Row> rows;
+  index.meet({kFace, kOther}, rows);
+  EXPECT(rows.size() == 42 + kMany);
+  Cost cost = CostOf([&] { index.meet({kFace, kOther}, rows); });
+  EXPECT(cost.asked == 1 && cost.taken == 0 && rows.size() == 42 + kMany);
+  cost = CostOf([&] { index.at(kLeaf, rows); });
+  EXPECT(cost.asked == 1 && cost.taken == 0 && rows.size() == 2);
+  cost = CostOf([&] { index.at(kLeaf, rows); });
+  EXPECT(cost.asked == 1 && cost.taken == 0 && rows.size() == 2);
+  cost = CostOf([&] { EXPECT(index.at(kLeaf).size() == 2); });
+  EXPECT(cost.asked == 1 && cost.taken <= 256);
+  cost = CostOf([&] { EXPECT(index.at(0x0c00000000000001).size() == 40); });
+  EXPECT(cost.asked == 2 && cost.taken <= 256 + 40 * sizeof(s2ix::Row));
+  cost = CostOf([&] { EXPECT(index.meet({kFace}).size() == 42); });
+  EXPECT(cost.asked == 1 && cost.taken <= 1024);
+  cost = CostOf([&] { EXPECT(index.labels({kFirst}).size() == 2); });
+  EXPECT(cost.asked == 1 && cost.taken <= 1024);
+  // (all pairs are read for a label's, so some memory is taken for them too, and given back)
+  cost = CostOf([&] { rows = index.of_label(1); });
+  EXPECT(cost.asked == 1 && rows.size() == 2 + kMany / 20 && rows.capacity() <= 2 * rows.size());
+  cost = CostOf([&] { rows = index.of_label(2); });
+  EXPECT(cost.asked == 1 && rows.size() == 2 && rows.capacity() == 2 && cost.taken <= 2 * kMany);
+  cost = CostOf([&] { EXPECT(index.region(1).size() == 2 + kMany / 20); });
+  EXPECT(cost.asked == 1);
+}
+
+// What is known of a list beforehand is used: the library makes it once.
+void AsksOnceForWhatIsKnown() {
+  s2ix::Index index = Zones();
+  std::vector<s2ix::Row> rows;
+  Cost cost = CostOf([&] { rows = index.pairs(0, std::numeric_limits<std::size_t>::max()); });
+  EXPECT(cost.asked == 1 && cost.taken == (42 + kMany) * sizeof(s2ix::Row) && rows.size() == 42 + kMany);
+  cost = CostOf([&] { rows = index.pairs(40 + kMany, 1000000); });
+  EXPECT(cost.asked == 1 && cost.taken == 2 * sizeof(s2ix::Row) && rows.size() == 2);
+  cost = CostOf([&] { rows = index.meet_from({kFace, kOther}, 0, 1000000); });
+  EXPECT(cost.asked == 1 && cost.taken == (42 + kMany) * sizeof(s2ix::Row) && rows.size() == 42 + kMany);
+  EXPECT(CostOf([&] { EXPECT(!index.dump().empty()); }).asked == 1);
+  EXPECT(CostOf([&] { EXPECT(!index.export_json().empty()); }).asked == 1);
+  index.forget();
+  for (std::uint32_t label = 200; label < 240; label++) index.add(kFace, label);
+  EXPECT(CostOf([&] { EXPECT(!index.journal().empty()); }).asked == 1);
+  std::vector<std::uint64_t> leaves;
+  for (std::uint64_t k = 0; k < 4096; k++) leaves.push_back(1 + 2 * k);
+  cost = CostOf([&] { leaves = s2ix::cell_union::normalise(leaves); });
+  EXPECT(cost.asked == 1 && leaves.size() == 1 && leaves.capacity() < 64);
+  const std::vector<std::uint64_t> target = {kFirst};
+  EXPECT(CostOf([&] { index.meet(target, rows); }).taken == 0);
+}
+
+}  // namespace
+
+int main() {
+  LeavesRoomUntouched();
+  AsksOnce();
+  AsksOnceForWhatIsKnown();
+  std::cout << passed << " passed, " << failed << " failed\n";
+  return failed == 0 ? 0 : 1;
+}

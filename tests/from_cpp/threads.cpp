@@ -1,0 +1,134 @@
+// Shares one index among threads, which query it by a const reference, and are answered as one thread is: while nobody edits it, while another
+// thread does, and as an S2CellIndex whose adds are not built yet. It ends with 'N passed, M failed', after a line for each other answer.
+#include "s2ix.hpp"
+
+#include <atomic>
+#include <functional>
+#include <iostream>
+#include <string>
+#include <thread>
+
+namespace {
+
+std::atomic<int> passed, failed;
+
+void Expect(int line, bool holds) {
+  (holds ? passed : failed)++;
+  if (!holds) std::cout << "threads.cpp:" + std::to_string(line) + ": another answer\n";
+}
+
+#define EXPECT(holds) Expect(__LINE__, holds)
+
+constexpr std::uint64_t kFirst = 0x0400000000000000, kSecond = 0x0c00000000000000, kFace = 0x1000000000000000, kOther = 0x3000000000000000;
+constexpr int kThreads = 8, kRounds = 4000, kLabels = 1000;
+
+using Target = std::vector<std::uint64_t>;
+
+// Whether a list has the pairs of a cell with one label, then another.
+bool IsPair(const std::vector<s2ix::Row>& rows, std::uint64_t cell, std::uint32_t label) {
+  return rows.size() == 2 && rows[0].cell == cell && rows[0].label == label && rows[0].count == label && rows[1].cell == kFace;
+}
+
+// How many of some queries are answered otherwise than they should be, or throw.
+int WrongQueries(const s2ix::Index& index) {
+  int wrong = 0;
+  std::vector<s2ix::Row> rows;
+  for (int round = 0; round < kRounds; round++) {
+    try {
+      index.at(kFirst + 1, rows);
+      wrong += !IsPair(rows, kFirst, 1);
+      index.at(kSecond + 1, rows);
+      wrong += !IsPair(rows, kSecond, 2);
+      wrong += index.labels({kSecond}) != std::vector<std::uint32_t>{2, 3};
+      wrong += index.meet({kFace}).size() != 3 || index.of_label(2).size() != 1;
+      wrong += index.count(kFirst, 1) != 1 || !index.is_open() || index.find(kSecond + 1).limit != 0x1000000000000001;
+      if (round % 100 == 0) wrong += index.copy().at(kFirst + 1).size() != 2;
+    } catch (const std::exception&) {
+      wrong++;
+    }
+  }
+  return wrong;
+}
+
+// Runs some work on several threads, which begin together.
+void AtOnce(const std::function<void()>& work) {
+  std::atomic<int> waiting{kThreads};
+  const auto begin = [&] {
+    for (waiting--; waiting > 0;) std::this_thread::yield();
+    work();
+  };
+  std::vector<std::thread> threads;
+  for (int k = 0; k < kThreads; k++) threads.emplace_back(begin);
+  for (std::thread& thread : threads) thread.join();
+}
+
+s2ix::Index Zones() {
+  s2ix::Index index;
+  index.add_all({{kFirst, 1, 1}, {kSecond, 2, 2}, {kFace, 3, 1}});
+  return index;
+}
+
+void Queried() {
+  const s2ix::Index index = Zones();
+  AtOnce([&] { EXPECT(WrongQueries(index) == 0); });
+  EXPECT(index.len() == 3);
+}
+
+void QueriedWhileEdited() {
+  s2ix::Index index = Zones();
+  std::atomic<bool> ended{false};
+  std::thread editor([&] {
+    for (std::uint32_t label = 4; !ended; label++) {
+      EXPECT(index.add(kOther, label) == 1);
+      if (label % 3 != 0) EXPECT(index.undo() == 1);
+      if (label % 1000 == 0) index.forget();
+    }
+  });
+  AtOnce([&] { EXPECT(WrongQueries(index) == 0); });
+  ended = true;
+  editor.join();
+  EXPECT(index.at(kFirst + 1).size() == 2);
+}
+
+// Each thread's adds are there in the end.
+void EditedAtOnce() {
+  s2ix::Index index;
+  std::atomic<std::uint32_t> next{0};
+  AtOnce([&] {
+    const std::uint32_t first = next++ * 100;
+    for (std::uint32_t label = first; label < first + 100; label++) EXPECT(index.add(kFirst, label) == 1);
+  });
+  EXPECT(index.len() == 100 * kThreads && index.done_count() == 100 * kThreads);
+}
+
+// The first query of any thread builds what was added, and each has iterators of its own.
+void QueriedAsInS2() {
+  for (int turn = 0; turn < 50; turn++) {
+    s2ix::S2CellIndex filled;
+    for (int label = 0; label < kLabels; label++) filled.Add(kFirst, label);
+    const s2ix::S2CellIndex index = std::move(filled);
+    AtOnce([&] {
+      int visited = 0;
+      EXPECT(index.VisitIntersectingCells(Target{kFace}, [&](std::uint64_t, int) { return ++visited <= kLabels; }));
+      EXPECT(visited == kLabels && index.num_cells() == kLabels && index.GetIntersectingLabels(Target{kFirst}).size() == kLabels);
+      s2ix::S2CellIndex::NonEmptyRangeIterator range(&index);
+      range.Begin();
+      s2ix::S2CellIndex::ContentsIterator contents(&index);
+      contents.StartUnion(range);
+      for (visited = 0; !contents.done(); contents.Next()) visited++;
+      EXPECT(visited == kLabels && range.start_id() == 1 && !range.Prev());
+    });
+    EXPECT(index.index().done_count() == 1);
+  }
+}
+
+}  // namespace
+
+int main() {
+  Queried();
+  QueriedWhileEdited();
+  EditedAtOnce();
+  QueriedAsInS2();
+  std::cout << passed << " passed, " << failed << " failed\n";
+  return failed == 0 ? 0 : 1;
+}
