@@ -90,7 +90,7 @@ class Index:
     [3, 9]
     """
 
-    __slots__ = ("_calls", "_handle", "_at_handle", "_close", "_ask_at", "_buffers", "_edit", "__weakref__")
+    __slots__ = ("_calls", "_handle", "_at_handle", "_close", "_ask_at", "_buffers", "_edit", "_running", "__weakref__")
 
     def __init__(self, pairs: int = 1_000_000, copies: int = MOST_U32, changes: int = 100_000) -> None:
         """Opens an empty index of at most `pairs` pairs (1 to 1,000,000), `copies` copies of each (1 to 4294967295), and `changes` changes that can
@@ -111,8 +111,8 @@ class Index:
         self._close.atexit = False
         # The buffers that no call has. A call takes the last one by pop, which gives it to no other, and puts it back.
         self._buffers: list[_Buffer] = []
-        # What stands for the last edit, so that an iterator sees whether there was another.
-        self._edit = object()
+        # What stands for the last edit, and for each that runs: so an iterator sees whether there was another.
+        self._edit, self._running = object(), set[object]()
 
     @classmethod
     def load(cls, text: Text, pairs: int = 1_000_000, copies: int = MOST_U32, changes: int = 100_000) -> Index:
@@ -207,8 +207,7 @@ class Index:
         wrong, counted from 0, and what is wrong; and what each edit may."""
         start, many, _kept = rows_in(rows)
         number = ctypes.c_size_t()
-        self._edit = object()
-        status = self._calls.s2ix_add_all(self._at_handle, start, many, addressof(number))
+        status = self._as_edit(self._calls.s2ix_add_all, self._at_handle, start, many, addressof(number))
         if status in (NoCell.status, NoLabel.status):
             raise wrong_row(REFUSALS[status], start, number.value)
         expect(status)
@@ -283,8 +282,7 @@ class Index:
 
     def clear(self) -> None:
         """Drops all pairs and all changes, and keeps the limits: nothing is left to undo or redo. O(n). Raises Closed or OutOfMemory."""
-        self._edit = object()
-        expect(self._calls.s2ix_clear(self._at_handle))
+        expect(self._as_edit(self._calls.s2ix_clear, self._at_handle))
 
     # Queries.
 
@@ -400,7 +398,7 @@ class Index:
     def ranges(self, full: bool = False) -> Iterator[Range]:
         """The ranges in order, which together have all leaves; with `full`, only those over which a pair lies. O(1) for each. Raises Closed, and
         RuntimeError if there was an edit, even a refused one, since the first: an edit moves the places."""
-        place, edit = 0, self._edit
+        place, edit = 0, self._last_edit()
         while True:
             try:
                 found = self.range(self._number_of(self._calls.s2ix_next_full, place) if full else place)
@@ -473,11 +471,14 @@ class Index:
         each with its line feed; '' for a blank line or a comment. A refused line raises nothing. It costs what the line's own call does.
         Raises Closed or OutOfMemory."""
         given = bytes_of(text)
-        if given.partition(b" ")[0] not in _STILL and not _STILL.issuperset(given.split(None, 1)[:1]):
-            self._edit = object()
-        return self._listed(self._calls.s2ix_line, 1, _text_of, given, len(given))
+        if given.partition(b" ")[0] in _STILL or _STILL.issuperset(given.split(None, 1)[:1]):
+            return self._answer(given)
+        return self._as_edit(self._answer, given)
 
     # How calls are made.
+
+    def _answer(self, line: bytes) -> str:
+        return self._listed(self._calls.s2ix_line, 1, _text_of, line, len(line))
 
     def _region(self, label: int, read: Callable[[memoryview], _Read]) -> _Read:
         label = check(label, MOST_U32, NoLabel)
@@ -512,7 +513,7 @@ class Index:
 
     def _paged(self, call: Callable[..., int], cells: Optional[array[int]] = None) -> Iterator[Row]:
         """The rows of a list, of all pairs or of those that meet cells, that comes page by page, each twice as long as the one before."""
-        place, room, edit = 0, _FIRST // _PACKED, self._edit
+        place, room, edit = 0, _FIRST // _PACKED, self._last_edit()
         lists = [] if cells is None else [cells.buffer_info()]
         while True:
             try:
@@ -548,16 +549,29 @@ class Index:
         asked = ctypes.byref(self._handle), leaf, ctypes.byref(words, 2 * _WORD), many, ctypes.byref(words)
         return view.cast("Q"), view[2 * _WORD :], asked, addressof(words), addressof(words) + 2 * _WORD
 
+    def _edited(self, call: Callable[..., int], *given: int) -> int:
+        """Makes a call that edits and answers one number."""
+        return self._as_edit(self._number_of, call, *given)
+
+    def _as_edit(self, make: Callable[..., _Read], *given: Any) -> _Read:
+        """Makes a call that edits, so that iterators see it: the edit is told before the call, and runs until it has returned."""
+        edit = object()
+        try:
+            self._running.add(edit)
+            self._edit = edit
+            return make(*given)
+        finally:
+            self._running.discard(edit)
+
+    def _last_edit(self) -> object:
+        """What stands for the last edit. If one runs, it may come before or after what is read next: so it is none."""
+        edit = self._edit
+        return object() if self._running else edit
+
     def _expect_still(self, edit: object) -> None:
         """Raises RuntimeError unless an edit is the last."""
         if self._edit is not edit:
             raise RuntimeError("the index was edited while an iterator went along it")
-
-    def _edited(self, call: Callable[..., int], *given: int) -> int:
-        """Makes a call that edits and answers one number."""
-        # (before the call: an iterator that sees what it did sees this too)
-        self._edit = object()
-        return self._number_of(call, *given)
 
     def _number_of(self, call: Callable[..., int], *given: int) -> int:
         """Makes a call that answers one number."""
