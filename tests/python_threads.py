@@ -221,6 +221,33 @@ def check_close(count, name):
         count.expect(f"close {name}", (in_threads(work, 0.1)[0], closed.is_set()), ([], True))
 
 
+class Stand:
+    """The calls of an index, where another stands for s2ix_add."""
+
+    def __init__(self, calls, add):
+        self.calls, self.s2ix_add = calls, add
+
+    def __getattr__(self, name):
+        return getattr(self.calls, name)
+
+
+def walk_in_an_edit(index, walk):
+    """A walk whose first item is read when an edit has begun, but has not come to the library."""
+    calls, walks = index._calls, []
+
+    def in_turn(*given):
+        walks.append(walk())
+        next(walks[0])
+        return calls.s2ix_add(*given)
+
+    try:
+        index._calls = Stand(calls, in_turn)
+        index.add(FACES[0], 5)
+    finally:
+        index._calls = calls
+    return walks[0]
+
+
 def check_iterators(count):
     """An iterator refuses a page after an edit, and none after a query."""
     zones = Zones()
@@ -230,6 +257,9 @@ def check_iterators(count):
             first = next(rows)
             tried(edit, NothingToRedo)
             count.expect(f"{name} after an edit", (tried(lambda: [first, *rows], RuntimeError), next(walk())), (None, first))
+        rows = walk_in_an_edit(zones.index, walk)
+        count.expect(f"{name} from the midst of an edit", tried(lambda: [*rows], RuntimeError), None)
+        zones.index.undo()
         for query in (lambda: zones.index.at(FIRST_LEAF), lambda: zones.index.line(" at 0000000000000001"), zones.index.forget, zones.index.dump, zones.index.copy):
             rows = walk()
             first = next(rows)

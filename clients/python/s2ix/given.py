@@ -54,7 +54,7 @@ def cells_in(cells: Cells, after: int = 0) -> tuple[int, int, object]:
         view = _view_of(cells)
         if view is None and (isinstance(cells, bool) or not hasattr(cells, "__index__")):
             words = _array_of(cells, after)
-        elif view is None or view.ndim == 0:
+        elif view is None or view.ndim == 0 and view.format != "?":
             # (one number that is no int, as those of numpy)
             words = array("Q", (_number_at(after, words),))
         elif view.itemsize != _WORD or view.format.lstrip("@=<") not in ("Q", "L") or view.ndim != 1:

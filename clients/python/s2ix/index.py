@@ -401,14 +401,17 @@ class Index:
         place, edit = 0, self._last_edit()
         while True:
             try:
-                found = self.range(self._number_of(self._calls.s2ix_next_full, place) if full else place)
+                found = self.range(place)
             except NoRange:
                 found = None
-            self._expect_still(edit)
+            if place:
+                self._expect_still(edit)
             if found is None:
                 return
-            yield found
-            place = found.place + 1
+            # (two neighbours are never both empty)
+            if not (full and found.is_empty):
+                yield found
+            place += 1
 
     def find(self, leaf: Cell) -> Range:
         """The range that has a leaf. O(log n). Raises Closed or NoCell."""
