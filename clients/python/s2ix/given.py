@@ -41,7 +41,9 @@ def bytes_of(text: Text) -> bytes:
 def cells_in(cells: Cells, after: int = 0) -> tuple[int, int, object]:
     """Where cells lie, how many there are, and what keeps them there. A refusal's place counts on from so many cells."""
     words: Any = cells
-    if isinstance(cells, array):
+    if cells.__class__ is int and 0 <= cells <= MOST_U64:  # type: ignore[operator]
+        words = array("Q", (cells,))
+    elif isinstance(cells, array):
         if cells.typecode not in "QL" or cells.itemsize != _WORD:
             raise TypeError(f"cells are 64-bit numbers without sign, not an array of {cells.typecode!r}")
         if cells:

@@ -25,8 +25,8 @@ _Read = TypeVar("_Read")
 # How many bytes a packed row has, a packed entry, a cell and a label; and a buffer at first.
 _PACKED, _ENTRY, _WORD, _HALF = 16, 24, 8, 4
 _FIRST = 4096
-# The first words of lines that change no pair.
-_STILL = frozenset(b"at meet labels ranges region common only path neighbors face dump journal export forget".split())
+# What lines begin with that change no pair.
+_STILL = tuple(b"at meet labels ranges region common only path neighbors face dump journal export forget #".split())
 
 
 class Row(NamedTuple):
@@ -77,9 +77,10 @@ class Index:
     Close an index by `close`, or use it in a `with`.
 
     Threads may share an index. Each call answers as if it were alone: what it writes to is its own, and it waits while another call on the index
-    runs. Other threads may come between two calls of yours: hold a lock of your own over calls that belong together. An iterator is for one
-    thread at a time, and raises RuntimeError if an edit came since its first item. Leave the cells and rows that a call is given as they are
-    while it runs.
+    runs. A finalizer or a signal handler may call too. Another thread may come between two calls: hold a lock of your own over calls that
+    belong together. `undo` takes the last change back, whichever thread made it. An iterator is for one thread at a time. It reads page by
+    page; if there was an edit since its first page, even a refused one, the next page raises RuntimeError. While a call runs, change neither
+    the array nor the memory that it is given. In the forked child of a process with threads, use no index of the parent.
 
     >>> with Index() as index:
     ...     index.add_union(["04", "0c"], 9)
@@ -196,7 +197,7 @@ class Index:
         label = check(label, MOST_U32, NoLabel)
         copies = check_natural(copies, MOST_U32, TooManyCopies, "copies")
         try:
-            return self._edited(self._calls.s2ix_add, number, label, copies)
+            return self._edited(self._number_of, self._calls.s2ix_add, number, label, copies)
         except NoCell:
             raise no_cell(number) from None
 
@@ -207,7 +208,7 @@ class Index:
         wrong, counted from 0, and what is wrong; and what each edit may."""
         start, many, _kept = rows_in(rows)
         number = ctypes.c_size_t()
-        status = self._as_edit(self._calls.s2ix_add_all, self._at_handle, start, many, addressof(number))
+        status = self._edited(self._calls.s2ix_add_all, self._at_handle, start, many, addressof(number))
         if status in (NoCell.status, NoLabel.status):
             raise wrong_row(REFUSALS[status], start, number.value)
         expect(status)
@@ -220,7 +221,7 @@ class Index:
         label = check(label, MOST_U32, NoLabel)
         copies = check_natural(copies, MOST_U32, NotHeld, "copies")
         try:
-            return self._edited(self._calls.s2ix_remove, number, label, copies)
+            return self._edited(self._number_of, self._calls.s2ix_remove, number, label, copies)
         except NoCell:
             raise no_cell(number) from None
 
@@ -231,50 +232,50 @@ class Index:
         label = check(label, MOST_U32, NoLabel)
         start, many, _kept = cells_in(cells)
         try:
-            return self._edited(self._calls.s2ix_add_union, start, many, label)
+            return self._edited(self._number_of, self._calls.s2ix_add_union, start, many, label)
         except NoCell:
             raise wrong_cell((start, many)) from None
 
     def drop_label(self, label: int) -> int:
         """Takes away all copies of a label's pairs; returns how many pairs there were. Raises NoLabel, NoSuchLabel, and what each edit may."""
         label = check(label, MOST_U32, NoLabel)
-        return self._edited(self._calls.s2ix_drop_label, label)
+        return self._edited(self._number_of, self._calls.s2ix_drop_label, label)
 
     def relabel(self, source: int, target: int) -> int:
         """Moves all copies of one label to another, cell by cell; returns how many pairs changed. Raises NoLabel, NoSuchLabel, and what each
         edit may."""
         source = check(source, MOST_U32, NoLabel)
         target = check(target, MOST_U32, NoLabel)
-        return self._edited(self._calls.s2ix_relabel, source, target)
+        return self._edited(self._number_of, self._calls.s2ix_relabel, source, target)
 
     def grow(self, label: int, level: int) -> int:
         """Adds one copy under a label for each cell of a level that overlaps no cell of the label and shares an edge with a cell of the level
         that overlaps one; returns how many pairs changed. Raises NoLabel, NoSuchLabel, TooFine, and what each edit may."""
         label = check(label, MOST_U32, NoLabel)
         level = check_natural(level, MOST_U8, TooFine, "level")
-        return self._edited(self._calls.s2ix_grow, label, level)
+        return self._edited(self._number_of, self._calls.s2ix_grow, label, level)
 
     def normalise_label(self, label: int) -> int:
         """Replaces a label's pairs by one copy at each cell of the label's region; returns how many pairs changed. Raises NoLabel, NoSuchLabel,
         and what each edit may."""
         label = check(label, MOST_U32, NoLabel)
-        return self._edited(self._calls.s2ix_normalise_label, label)
+        return self._edited(self._number_of, self._calls.s2ix_normalise_label, label)
 
     def revert(self, change: int) -> int:
         """Takes back a change and leaves those that followed it; returns how many pairs changed. The changes that can be undone are numbered,
         the oldest as 1. This is a change of its own. Raises NoSuchChange, BelowZero, and what each edit may."""
         change = check(change, MOST_U32, NoSuchChange)
-        return self._edited(self._calls.s2ix_revert, change)
+        return self._edited(self._number_of, self._calls.s2ix_revert, change)
 
     # Steps.
 
     def undo(self) -> int:
         """Takes the last change back; returns how many pairs it had. Raises Closed, NothingToUndo or OutOfMemory."""
-        return self._edited(self._calls.s2ix_undo)
+        return self._edited(self._number_of, self._calls.s2ix_undo)
 
     def redo(self) -> int:
         """Redoes the change that was undone last; returns how many pairs it has. Raises Closed, NothingToRedo or OutOfMemory."""
-        return self._edited(self._calls.s2ix_redo)
+        return self._edited(self._number_of, self._calls.s2ix_redo)
 
     def forget(self) -> None:
         """Keeps what is held and drops all changes: nothing is left to undo or redo. Raises Closed."""
@@ -282,7 +283,7 @@ class Index:
 
     def clear(self) -> None:
         """Drops all pairs and all changes, and keeps the limits: nothing is left to undo or redo. O(n). Raises Closed or OutOfMemory."""
-        expect(self._as_edit(self._calls.s2ix_clear, self._at_handle))
+        expect(self._edited(self._calls.s2ix_clear, self._at_handle))
 
     # Queries.
 
@@ -474,9 +475,9 @@ class Index:
         each with its line feed; '' for a blank line or a comment. A refused line raises nothing. It costs what the line's own call does.
         Raises Closed or OutOfMemory."""
         given = bytes_of(text)
-        if given.partition(b" ")[0] in _STILL or _STILL.issuperset(given.split(None, 1)[:1]):
-            return self._answer(given)
-        return self._as_edit(self._answer, given)
+        if given.startswith(_STILL) or given.lstrip().startswith(_STILL):
+            return self._listed(self._calls.s2ix_line, 1, _text_of, given, len(given))
+        return self._edited(self._answer, given)
 
     # How calls are made.
 
@@ -552,11 +553,7 @@ class Index:
         asked = ctypes.byref(self._handle), leaf, ctypes.byref(words, 2 * _WORD), many, ctypes.byref(words)
         return view.cast("Q"), view[2 * _WORD :], asked, addressof(words), addressof(words) + 2 * _WORD
 
-    def _edited(self, call: Callable[..., int], *given: int) -> int:
-        """Makes a call that edits and answers one number."""
-        return self._as_edit(self._number_of, call, *given)
-
-    def _as_edit(self, make: Callable[..., _Read], *given: Any) -> _Read:
+    def _edited(self, make: Callable[..., _Read], *given: Any) -> _Read:
         """Makes a call that edits, so that iterators see it: the edit is told before the call, and runs until it has returned."""
         edit = object()
         try:
