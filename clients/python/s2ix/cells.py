@@ -1,4 +1,4 @@
-"""Questions about cells, without an index. A cell is a number or a token; each function raises NoCell for what is none.
+"""Questions about cells, without an index. A cell is a number or a token; each function raises NoCell for what is none, and names it.
 
 >>> [hex(cell) for cell in edge_neighbors("1")]
 ['0xb000000000000000', '0x3000000000000000', '0x5000000000000000', '0x9000000000000000']
@@ -11,7 +11,7 @@ from typing import Any, NamedTuple
 from . import library
 from .given import MOST_U8, MOST_U32, check, check_natural, number_of
 from .refusals import NoCell, TooFine, expect
-from .tokens import Cell
+from .tokens import Cell, is_cell, no_cell
 from .unions import listed
 
 
@@ -28,8 +28,8 @@ class Square(NamedTuple):
 
 def path(cell: Cell) -> str:
     """The path for people, as 0/32: the face, a slash, and the child positions from level 1 down."""
-    text, many = (ctypes.c_uint8 * 32)(), ctypes.c_size_t()
-    expect(library.load().s2ix_cell_path(number_of(cell), ctypes.addressof(text), ctypes.addressof(many)))
+    number, text, many = number_of(cell), (ctypes.c_uint8 * 32)(), ctypes.c_size_t()
+    _expect(library.load().s2ix_cell_path(number, ctypes.addressof(text), ctypes.addressof(many)), number)
     return str(bytes(text)[: many.value], "ascii")
 
 
@@ -57,7 +57,7 @@ def face(cell: Cell) -> int:
 
 def is_leaf(cell: Cell) -> bool:
     """Whether a cell is of level 30. It is False of a number that is no cell's."""
-    return library.load().s2ix_cell_is_leaf(number_of(cell))
+    return bool(library.load().s2ix_cell_is_leaf(number_of(cell)))
 
 
 def range_min(cell: Cell) -> int:
@@ -72,17 +72,19 @@ def range_max(cell: Cell) -> int:
 
 def contains(cell: Cell, other: Cell) -> bool:
     """Whether each leaf of the other cell is one of the cell's. It is False if a number is no cell's."""
-    return library.load().s2ix_cell_contains(number_of(cell), number_of(other))
+    return bool(library.load().s2ix_cell_contains(number_of(cell), number_of(other)))
 
 
 def intersects(cell: Cell, other: Cell) -> bool:
     """Whether two cells share a leaf: then one contains the other. It is False if a number is no cell's."""
-    return library.load().s2ix_cell_intersects(number_of(cell), number_of(other))
+    return bool(library.load().s2ix_cell_intersects(number_of(cell), number_of(other)))
 
 
 def common_level(cell: Cell, other: Cell) -> int:
     """The level of the smallest cell that contains both. Raises NoCell for cells of two faces too."""
-    return _told(ctypes.c_uint8, "s2ix_cell_common_level", number_of(cell), number_of(other))
+    number, second, level = number_of(cell), number_of(other), ctypes.c_uint8()
+    _expect(library.load().s2ix_cell_common_level(number, second, ctypes.addressof(level)), number, second)
+    return level.value
 
 
 def next_cell(cell: Cell) -> int:
@@ -92,8 +94,8 @@ def next_cell(cell: Cell) -> int:
 
 def edge_neighbors(cell: Cell) -> list[int]:
     """The four cells of its level that share an edge with a cell: down, right, up, left."""
-    cells = (ctypes.c_uint64 * 4)()
-    expect(library.load().s2ix_cell_edge_neighbors(number_of(cell), ctypes.addressof(cells)))
+    number, cells = number_of(cell), (ctypes.c_uint64 * 4)()
+    _expect(library.load().s2ix_cell_edge_neighbors(number, ctypes.addressof(cells)), number)
     return list(cells)
 
 
@@ -101,24 +103,40 @@ def border(cell: Cell, level: int) -> list[int]:
     """The cells of a level outside a cell that share an edge with a cell of that level inside it: each once, rising, at most 1024.
     O(n log n) for n cells. Raises NoCell, Coarser, TooFine or OutOfMemory."""
     level = check_natural(level, MOST_U8, TooFine, "level")
-    return listed(library.load().s2ix_cell_border, number_of(cell), level)
+    number = number_of(cell)
+    try:
+        return listed(library.load().s2ix_cell_border, number, level)
+    except NoCell:
+        raise no_cell(number) from None
 
 
 def to_face_ij(cell: Cell) -> Square:
     """The square of a cell."""
-    square = library.Square()
-    expect(library.load().s2ix_cell_to_face_ij(number_of(cell), ctypes.addressof(square)))
+    number, square = number_of(cell), library.Square()
+    _expect(library.load().s2ix_cell_to_face_ij(number, ctypes.addressof(square)), number)
     return Square(square.i, square.j, square.face, square.level, square.orientation)
 
 
 def from_face_ij(face: int, i: int, j: int, level: int) -> int:
     """The cell of a square. Raises NoCell for a face above 5, a level above 30, or a column or row of 2^level or more."""
     square = [check(number, most, NoCell) for number, most in ((face, MOST_U8), (i, MOST_U32), (j, MOST_U32), (level, MOST_U8))]
-    return _told(ctypes.c_uint64, "s2ix_cell_from_face_ij", *square)
+    cell = ctypes.c_uint64()
+    expect(library.load().s2ix_cell_from_face_ij(*square, ctypes.addressof(cell)))
+    return cell.value
 
 
-def _told(kind: Any, name: str, *given: int) -> int:
+def _told(kind: Any, name: str, cell: int, *given: int) -> int:
     """The number that a call tells, of a kind of C."""
     told = kind()
-    expect(getattr(library.load(), name)(*given, ctypes.addressof(told)))
-    return told.value
+    status = getattr(library.load(), name)(cell, *given, ctypes.addressof(told))
+    if status:
+        _expect(status, cell)
+    return told.value  # type: ignore[no-any-return]
+
+
+def _expect(status: int, *numbers: int) -> None:
+    """Raises the class of a status, unless that is 0. NoCell has the first of some numbers that is no cell's."""
+    wrong = [number for number in numbers if not is_cell(number)] if status == NoCell.status else []
+    if wrong:
+        raise no_cell(wrong[0])
+    expect(status)

@@ -1,16 +1,18 @@
-"""What callers give: cells and rows in each form, and numbers that may be too great for the library."""
+"""What callers give: texts, cells and rows in each form, and numbers that may be too great for the library."""
 from __future__ import annotations
 
 import ctypes
 import operator
 import struct
 from array import array
-from itertools import starmap
+from itertools import chain, starmap
 from typing import Any, Iterable, Optional, Union
 
-from .refusals import NoCell, NoLabel, S2ixError, TooManyCopies
-from .tokens import Cell, cell_of
+from .refusals import NoCell, NoLabel, S2ixError, TooManyCopies, named, placed
+from .tokens import Cell, cell_of, is_cell, no_cell
 
+#: A text: what it says, or its bytes.
+Text = Union[str, bytes, bytearray, memoryview]
 #: One cell, or many: of any order, and repeated or not. A memoryview or array of 64-bit numbers is passed on as it lies.
 Cells = Union[Cell, Iterable[Cell], memoryview, "array[int]"]
 #: Rows to add, each a cell, a label and copies. A writable memoryview of packed rows is passed on as it lies.
@@ -18,27 +20,47 @@ Rows = Union[Iterable["tuple[Cell, int, int]"], memoryview]
 
 MOST_U8, MOST_U32, MOST_U64 = 255, 4_294_967_295, 18_446_744_073_709_551_615
 _WORD = 8
-_packed = struct.Struct("=QII").pack
-# Where no cells lie.
+_row = struct.Struct("=QII")
+_TEXTS = (str, bytes, bytearray, memoryview)
+# Where no cells lie. It is never written to.
 _NONE = ctypes.c_uint64()
 
 
-def cells_in(cells: Cells) -> tuple[int, int, object]:
-    """Where cells lie, how many there are, and what keeps them there."""
+def bytes_of(text: Text) -> bytes:
+    """The bytes of a text. A TypeError refuses what is none, so no number is taken for so many zeros."""
+    if isinstance(text, str):
+        return text.encode("utf-8", "surrogatepass")
+    if isinstance(text, bytes):
+        return text
+    view = _view_of(text)
+    if view is None or view.itemsize != 1 or view.ndim != 1:
+        raise TypeError(f"a text is a str or like bytes, not {type(text).__name__}")
+    return view.tobytes()
+
+
+def cells_in(cells: Cells, after: int = 0) -> tuple[int, int, object]:
+    """Where cells lie, how many there are, and what keeps them there. A refusal's place counts on from so many cells."""
     words: Any = cells
-    if isinstance(cells, array):
+    if cells.__class__ is int and 0 <= cells <= MOST_U64:  # type: ignore[operator]
+        words = array("Q", (cells,))
+    elif isinstance(cells, array):
         if cells.typecode not in "QL" or cells.itemsize != _WORD:
             raise TypeError(f"cells are 64-bit numbers without sign, not an array of {cells.typecode!r}")
         if cells:
             # (while `first` lives, the array can't be resized, by another thread or by what an argument's __index__ does)
             first = ctypes.c_char.from_buffer(cells)
             return ctypes.addressof(first), len(cells), first
-    elif isinstance(cells, (int, str)):
-        words = array("Q", (number_of(cells),))
+    elif isinstance(cells, (int, str)) and not isinstance(cells, bool):
+        words = array("Q", (_number_at(after, cells),))
     else:
         view = _view_of(cells)
-        if view is None:
-            words = _array_of(cells)
+        if view is None and (isinstance(cells, bool) or not hasattr(cells, "__index__")):
+            words = _array_of(cells, after)
+        elif view is None or view.ndim == 0 and view.format != "?":
+            # (one number that is no int, as those of numpy)
+            words = array("Q", (_number_at(after, words),))
+        elif view.itemsize != _WORD or view.format.lstrip("@=<") not in ("Q", "L") or view.ndim != 1:
+            raise TypeError(f"cells are 64-bit numbers without sign in one row, not memory of {view.format!r}")
         elif view.readonly or not view.c_contiguous or not len(view):
             words = array("Q", view.tobytes())
         else:
@@ -48,31 +70,51 @@ def cells_in(cells: Cells) -> tuple[int, int, object]:
     return (start, many, words) if many else (ctypes.addressof(_NONE), 0, words)
 
 
-def _view_of(cells: Any) -> Optional[memoryview]:
-    """The memory of cells, if they are given as such."""
+def cells_copied(cells: Cells) -> array[int]:
+    """The numbers of cells in memory that no one else changes."""
+    start, many, kept = cells_in(cells)
+    return kept if isinstance(kept, array) and kept is not cells else array("Q", ctypes.string_at(start, many * _WORD))
+
+
+def _view_of(given: Any) -> Optional[memoryview]:
+    """The memory of what is given, if it is given as such."""
     try:
-        view = memoryview(cells)
+        return memoryview(given)
     except TypeError:
         return None
-    if view.itemsize != _WORD or view.format.lstrip("@=<") not in ("Q", "L") or view.ndim != 1:
-        raise TypeError(f"cells are 64-bit numbers without sign in one row, not memory of {view.format!r}")
-    return view
 
 
-def _array_of(cells: Iterable[Cell]) -> array[int]:
+def _array_of(cells: Any, after: int) -> array[int]:
     kept = list(cells)
     try:
         return array("Q", kept)
     except (TypeError, OverflowError):
-        return array("Q", map(number_of, kept))
+        return array("Q", starmap(_number_at, enumerate(kept, after)))
+
+
+def _number_at(place: int, cell: Cell) -> int:
+    """The number of a cell of a list, which is refused by its place."""
+    try:
+        return number_of(cell)
+    except NoCell as refusal:
+        raise placed(refusal, "place", place) from None
+
+
+def wrong_cell(*lists: tuple[int, int]) -> S2ixError:
+    """The refusal that names the first number that is no cell's: in lists, given by where they lie and how long they are. The place counts on
+    from a list to the next."""
+    numbers = chain.from_iterable((ctypes.c_uint64 * many).from_address(start) for start, many in lists)
+    for place, number in enumerate(numbers):
+        if not is_cell(number):
+            return placed(no_cell(number), "place", place)
+    return NoCell()
 
 
 def rows_in(rows: Rows) -> tuple[int, int, object]:
     """Where packed rows lie, how many there are, and what keeps them there."""
-    try:
-        view = memoryview(rows)  # type: ignore[arg-type]
-    except TypeError:
-        words = array("Q", _packed_rows(list(rows)))
+    view = _view_of(rows)
+    if view is None:
+        words = array("Q", _packed_rows(rows))
     else:
         if view.itemsize != 2 * _WORD or view.ndim != 1:
             raise TypeError(f"packed rows are of 16 bytes in one row, not memory of {view.format!r}")
@@ -85,22 +127,36 @@ def rows_in(rows: Rows) -> tuple[int, int, object]:
     return (start, many // 2, words) if many else (ctypes.addressof(_NONE), 0, words)
 
 
-def _packed_rows(rows: list[tuple[Cell, int, int]]) -> bytes:
+def _packed_rows(rows: Any) -> bytes:
+    kept = list(rows)
+    # (a text has items too: three bytes would be a row)
+    if isinstance(rows, str) or any(issubclass(kind, _TEXTS) for kind in set(map(type, kept))):
+        raise TypeError("rows are each a cell, a label and copies, not a text")
     try:
-        return b"".join(starmap(_packed, rows))
+        return b"".join(starmap(_row.pack, kept))
     except struct.error:
-        return b"".join(_packed_row(place, *row) for place, row in enumerate(rows))
+        return b"".join(_packed_row(place, *row) for place, row in enumerate(kept))
 
 
 def _packed_row(place: int, cell: Cell, label: int, copies: int) -> bytes:
     """A row by itself, which is refused by its place if it doesn't fit."""
+    refused: object = cell
     try:
         number = number_of(cell)
+        refused = label
         check(label, MOST_U32, NoLabel)
+        refused = copies
         check_natural(copies, MOST_U32, TooManyCopies, "copies")
     except S2ixError as refusal:
-        raise type(refusal)(f"row {place}: {refusal}") from None
-    return _packed(number, operator.index(label), operator.index(copies))
+        raise placed(named(type(refusal), str(refusal), refused), "row", place) from None
+    return _row.pack(number, operator.index(label), operator.index(copies))
+
+
+def wrong_row(refusal: type[S2ixError], start: int, place: int) -> S2ixError:
+    """The refusal of a row's cell or label, by the row's place in rows that lie packed at an address."""
+    number, label, _ = _row.unpack(ctypes.string_at(start + place * _row.size, _row.size))
+    named_alone = no_cell(number) if refusal is NoCell else named(refusal, f"{label} is no label", label)
+    return placed(named_alone, "row", place)
 
 
 def number_of(cell: Cell) -> int:
@@ -109,7 +165,7 @@ def number_of(cell: Cell) -> int:
         return cell_of(cell)
     number = operator.index(cell)
     if number >> 64:
-        raise NoCell(f"{number} is no 64-bit number")
+        raise named(NoCell, f"{number} is no 64-bit number", number)
     return number
 
 

@@ -5,11 +5,14 @@ import ctypes
 import ctypes.util
 import functools
 import os
+import sys
+import threading
 from ctypes import c_size_t as size
 from ctypes import c_uint8 as u8
 from ctypes import c_uint32 as u32
 from ctypes import c_uint64 as u64
 from ctypes import c_void_p as address
+from typing import Any, Callable
 
 
 class Handle(ctypes.Structure):
@@ -134,7 +137,7 @@ def places() -> list[str]:
 def load() -> ctypes.PyDLL:
     """The library, with each call typed.
 
-    Python's lock is kept during a call, so that two threads never call at once with one handle. If the library is nowhere, OSError is raised.
+    Python's lock, the GIL, is kept during a call, unless this Python has none. If the library is nowhere, OSError is raised.
     """
     found = places()
     if not found:
@@ -144,3 +147,41 @@ def load() -> ctypes.PyDLL:
         call = getattr(library, name)
         call.argtypes, call.restype = takes, ANSWERS.get(name, u32)
     return library
+
+
+def of_a_handle() -> Any:
+    """The calls for one handle, of which one at a time runs. If the GIL is kept, no two calls run at once as it is."""
+    return load() if has_gil() else InTurn(load())
+
+
+def has_gil() -> bool:
+    """Whether this Python has a GIL, for good: one that has it never drops it again."""
+    return getattr(sys, "_is_gil_enabled", lambda: True)()
+
+
+class InTurn:
+    """The calls of the library for one handle, where there is no GIL: each waits until no other runs.
+
+    A signal handler or a finalizer may run on a thread that has the lock, before a call or after it. It may call too, since the lock lets
+    the same thread in again."""
+
+    def __init__(self, library: ctypes.PyDLL) -> None:
+        self._library, self._lock = library, threading.RLock()
+
+    def __getattr__(self, name: str) -> Callable[..., Any]:
+        call = self._in_turn(getattr(self._library, name))
+        setattr(self, name, call)
+        return call
+
+    def __getitem__(self, name: str) -> Callable[..., Any]:
+        """A call whose types are not looked at."""
+        return self._in_turn(self._library[name])
+
+    def _in_turn(self, call: Callable[..., Any]) -> Callable[..., Any]:
+        lock = self._lock
+
+        def made(*given: Any) -> Any:
+            with lock:
+                return call(*given)
+
+        return made

@@ -2,12 +2,19 @@
 nothing."""
 from __future__ import annotations
 
+from typing import Optional
+
 
 class S2ixError(Exception):
-    """What each refusal of the index is; `status` is its number in C, and `change` is that of a journal's change which is refused, or 0."""
+    """What each refusal of the index is; `status` is its number in C, and `change` is that of a journal's change which is refused, or 0.
+
+    `value` is the number or token that is refused, and `place` its place in the list that was given, counted from 0. NoCell has them, and so
+    has each refusal of a row; else they are None."""
 
     status = 0
     change = 0
+    value: Optional[object] = None
+    place: Optional[int] = None
 
     def __init__(self, *words: object) -> None:
         super().__init__(*(words or (type(self).__doc__,)))
@@ -44,12 +51,13 @@ class Mismatch(S2ixError):
 
 
 #: The class of each status.
-REFUSALS: dict[int, type[S2ixError]] = {each.status: each for each in (NoDump, NoJournal, Mismatch)}
+REFUSALS: dict[int, type[S2ixError]] = {NoDump.status: NoDump, NoJournal.status: NoJournal, Mismatch.status: Mismatch}
 
 
 def _refusal(status: int, name: str, text: str) -> type[S2ixError]:
-    REFUSALS[status] = type(name, (S2ixError,), {"__doc__": text, "__module__": __name__, "status": status})
-    return REFUSALS[status]
+    made: type[S2ixError] = type(name, (S2ixError,), {"__doc__": text, "__module__": __name__, "status": status})
+    REFUSALS[status] = made
+    return made
 
 
 Closed = _refusal(1, "Closed", "the handle is closed")
@@ -78,3 +86,17 @@ def expect(status: int) -> None:
     """Raises the class of a status, unless that is 0."""
     if status:
         raise REFUSALS.get(status, S2ixError)()
+
+
+def named(refusal: type[S2ixError], words: str, value: object) -> S2ixError:
+    """A refusal that has what is refused."""
+    made = refusal(words)
+    made.value = value
+    return made
+
+
+def placed(refusal: S2ixError, item: str, place: int) -> S2ixError:
+    """The same refusal of an item of a list, which has its place."""
+    made = named(type(refusal), f"{item} {place}: {refusal}", refusal.value)
+    made.place = place
+    return made

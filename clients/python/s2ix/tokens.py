@@ -1,10 +1,11 @@
 """Cells as numbers and as tokens."""
 from __future__ import annotations
 
+import operator
 import re
 from typing import Union
 
-from .refusals import NoCell
+from .refusals import NoCell, S2ixError, named
 
 #: A cell: its number, or a token that spells it.
 Cell = Union[int, str]
@@ -16,6 +17,7 @@ _LOWEST_BITS = 0x1555555555555555
 
 def is_cell(number: int) -> bool:
     """Whether a number is a cell's: its face is 0 to 5, and its lowest bit marks a level from 0 to 30."""
+    number = operator.index(number)
     return 0 < number < 6 << 61 and (number & -number) & _LOWEST_BITS != 0
 
 
@@ -28,10 +30,10 @@ def cell_of(text: str) -> int:
     '0x1c00000000000000'
     """
     if not _is_spelled(text):
-        raise NoCell(f"{text!r} is no token of 1 to 16 hexadecimal digits")
+        raise named(NoCell, f"{text!r} is no token of 1 to 16 hexadecimal digits", text)
     number = int(text.ljust(16, "0"), 16)
     if not is_cell(number):
-        raise NoCell(f"{text!r} is no token of a cell")
+        raise named(NoCell, f"{text!r} is no token of a cell", text)
     return number
 
 
@@ -43,6 +45,12 @@ def token_of(cell: int) -> str:
     >>> token_of(0x1C00000000000000)
     '1c'
     """
-    if not is_cell(cell):
-        raise NoCell(f"{cell:#x} is no number of a cell")
-    return f"{cell:016x}".rstrip("0")
+    number = operator.index(cell)
+    if not is_cell(number):
+        raise no_cell(number)
+    return f"{number:016x}".rstrip("0")
+
+
+def no_cell(number: int, kind: str = "cell") -> S2ixError:
+    """The refusal of a number that is no cell's, or no leaf's."""
+    return named(NoCell, f"{number:#x} is no number of a {kind}", number)

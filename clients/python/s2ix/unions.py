@@ -1,7 +1,8 @@
 """Unions of cells, without an index: sets of leaves, given as cells in any order, repeated or not.
 
 A list that is returned is normal: it rises, no cell lies within another, and no four are all the children of one. Each function first puts
-what it is given into that form, in O(n log n) for n cells. Each raises NoCell or OutOfMemory.
+what it is given into that form, in O(n log n) for n cells. Each raises NoCell, with the first that is none and its place, or OutOfMemory; the places
+of a second list count on from the first.
 
 >>> [hex(cell) for cell in normalise(["1c", "14", "0c", "04"])]
 ['0x1000000000000000']
@@ -13,15 +14,18 @@ from array import array
 from typing import Callable
 
 from . import library
-from .given import MOST_U64, Cells, cells_in, check, number_of
-from .refusals import NoRoom, NoSpan, expect
-from .tokens import Cell
+from .given import MOST_U64, Cells, cells_in, check, number_of, wrong_cell
+from .refusals import NoCell, NoRoom, NoSpan, expect
+from .tokens import Cell, no_cell
 
 
 def normalise(cells: Cells) -> list[int]:
     """The normal list of the same leaves: never longer than the list."""
     start, many, _kept = cells_in(cells)
-    return listed(library.load().s2ix_union_normalise, start, many)
+    try:
+        return listed(library.load().s2ix_union_normalise, start, many)
+    except NoCell:
+        raise wrong_cell((start, many)) from None
 
 
 def from_leaves(start: int, limit: int) -> list[int]:
@@ -60,7 +64,10 @@ def leaf_count(cells: Cells) -> int:
     """How many leaves the union has."""
     start, many, _kept = cells_in(cells)
     count = ctypes.c_uint64()
-    expect(library.load().s2ix_union_leaf_count(start, many, ctypes.addressof(count)))
+    status = library.load().s2ix_union_leaf_count(start, many, ctypes.addressof(count))
+    if status == NoCell.status:
+        raise wrong_cell((start, many))
+    expect(status)
     return count.value
 
 
@@ -78,12 +85,19 @@ def listed(call: Callable[..., int], *given: int) -> list[int]:
 
 def _of_two(call: Callable[..., int], first: Cells, second: Cells) -> list[int]:
     start, many, _kept = cells_in(first)
-    other, more, _also_kept = cells_in(second)
-    return listed(call, start, many, other, more)
+    other, more, _also_kept = cells_in(second, many)
+    try:
+        return listed(call, start, many, other, more)
+    except NoCell:
+        raise wrong_cell((start, many), (other, more)) from None
 
 
 def _is_so(call: Callable[..., int], cells: Cells, cell: Cell) -> bool:
     start, many, _kept = cells_in(cells)
-    answer = ctypes.c_bool()
-    expect(call(start, many, number_of(cell), ctypes.addressof(answer)))
+    number, answer = number_of(cell), ctypes.c_bool()
+    status = call(start, many, number, ctypes.addressof(answer))
+    if status == NoCell.status:
+        refusal = wrong_cell((start, many))
+        raise refusal if refusal.place is not None else no_cell(number)
+    expect(status)
     return answer.value
