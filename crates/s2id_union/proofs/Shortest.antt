@@ -1,7 +1,6 @@
 -- A normal list is the shortest with its leaves.
-use Rattle.std.proofs.Common.{◌≡◌, ◌<◌, ◌≤◌, inl, inr, List, [], ◌∷◌, length, sym, arith, subst, AllPairs, Contains}
+use Rattle.std.proofs.Common.{◌≡◌, ◌≤◌, inl, inr, List, [], ◌∷◌, length, get_or, sym, arith, subst, AllPairs, Contains}
 use Rattle.std.specs.List.{remove}
-use Rattle.std.specs.List.Sorted.{IsPermutation}
 use Rattle.std.proofs.lemmas.List.Edits.{length-remove}
 use Rattle.std.proofs.lemmas.List.Sorted.{Contains-permutation, IsPermutation-remove}
 use Rattle.s2id_core.specs.declared.cell_id.CellId.{CellId}
@@ -79,4 +78,4 @@ none_in_both a b follow y in_a in_b =
 
 pub shortest : (xs ys : List CellId) → IsNormal xs → HaveSameRegion xs ys → length xs ≤ length ys
 shortest xs ys normal same =
-    as_many Holds xs ys (λ i j d lt l. none_in_both _ _ (follow_from_normal xs normal i j d lt l)) (holds_one xs ys normal same)
+    as_many Holds xs ys (λ i j d lt l. none_in_both (get_or xs i d) (get_or xs j d) (follow_from_normal xs normal i j d lt l)) (holds_one xs ys normal same)
