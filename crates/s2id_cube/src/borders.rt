@@ -1,4 +1,4 @@
-ghost use Rattle.std.specs.Prelude.{◌≡◌, ◌↔◌, ℕ, ◌+◌, ◌-◌, ◌*◌, ◌^◌, ◌<◌, ◌≤◌, ◌⊎◌, IfOk, IsErrOf, Any, AllPairs, Contains as HasElement};
+ghost use Rattle.std.specs.Prelude.{◌≡◌, ◌↔◌, ℕ, ◌+◌, ◌-◌, ◌*◌, ◌^◌, ◌<◌, ◌≤◌, ◌⊎◌, IfOk, IsErrOf, Any, AllPairs, Contains as HasElement, length};
 ghost use Rattle.s2id_core.specs.declared.cell_id.CellId.{CellId};
 ghost use Rattle.s2id_core.specs.Path.{Path};
 ghost use Rattle.s2id_core.specs.CellId.{raw_of, path_of, level_of};
@@ -12,10 +12,9 @@ use s2id_core::{CellId, OutOfMemory};
 use std::alloc::Global;
 
 /// The cells of a level just outside the cell: each shares an edge with a cell of that level inside it. Each comes once, in rising order.
-/// At the cell's own level these are its four edge neighbours (S2 has `AppendAllNeighbors`, which counts corners too). O(n log n) in the `n
-/// = 4 * 2^(level - cell's level)` cells along its sides, at most
-/// 1024. `Coarser` for a level below the cell's; `TooFine` for one above 30, or more than 8 above the cell's;
-/// `OutOfMemory` if a growth is refused.
+/// At the cell's own level these are its four edge neighbours (S2 has `AppendAllNeighbors`, which counts corners too). At most
+/// `n = 4 * 2^(level - cell's level)` cells, so at most 1024; O(n log n). `Coarser` for a level below the cell's; `TooFine` for one above
+/// 30, or more than 8 above the cell's; `OutOfMemory` if a growth is refused.
 pub fn border(alloc: Global, cell: CellId, level: u8) -> Result<Vec<CellId>, BorderError>
     ensures coarser { IsErrOf result BorderError.Coarser ↔ (level < level_of cell) }
     ensures too_fine { IsErrOf result BorderError.TooFine
@@ -27,6 +26,8 @@ pub fn border(alloc: Global, cell: CellId, level: u8) -> Result<Vec<CellId>, Bor
     ensures complete { IfOk result (λ cells. (q : Path)
         → IsOnBorder (path_of cell) level q
         → Any (λ x. path_of x ≡ q) cells.items) }
+    ensures along_sides { IfOk result (λ cells. length cells.items ≤ 4 * 2 ^ (level - level_of cell)) }
+    ensures at_most { IfOk result (λ cells. length cells.items ≤ 1024) }
 {
     let own = cell.level();
     if level < own {
@@ -48,9 +49,10 @@ fn cells_round(alloc: Global, square: FaceIj, depth: u8) -> Result<Vec<CellId>, 
     requires level { square.level + depth ≤ 30 }
     requires column { square.i < 2 ^ square.level }
     requires row { square.j < 2 ^ square.level }
-    ensures { IfOk result (λ cells. (x : CellId)
+    ensures cells { IfOk result (λ cells. (x : CellId)
         → HasElement cells.items x
         ↔ IsOverSides square depth 4 (path_of x)) }
+    ensures length { IfOk result (λ cells. length cells.items ≡ 4 * 2 ^ depth) }
 {
     let mut cells = Vec::with_capacity(alloc, 4 << depth)?;
     for side in 0..4 {
@@ -67,9 +69,10 @@ fn add_side(cells: &mut Vec<CellId>, square: FaceIj, depth: u8, side: u8) -> Res
     requires column { square.i < 2 ^ square.level }
     requires row { square.j < 2 ^ square.level }
     requires side { side < 4 }
-    ensures { IfOk result (λ _. (x : CellId)
+    ensures cells { IfOk result (λ _. (x : CellId)
         → HasElement cells.new.items x
         ↔ (HasElement cells.old.items x ⊎ IsOverFirst square depth side (2 ^ depth) (path_of x))) }
+    ensures length { IfOk result (λ _. length cells.new.items ≡ length cells.old.items + 2 ^ depth) }
 {
     for along in 0..1 << depth {
         cells.push(over_side(square, depth, side, along))?;

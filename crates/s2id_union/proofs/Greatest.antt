@@ -63,7 +63,7 @@ pub record IsPlaced (n m h : ℕ) : Type 0 where
   pub first : first_at n ≡ 2 * (m * 4 ^ h) + 1
   pub last : end_at n ≡ 2 * (m * 4 ^ h) + 2 * 4 ^ h + 1
 
-placed : (m h n : ℕ) → h ≤ 30 → n < 6 * 2 ^ 61 → n ≡ (2 * m + 1) * 4 ^ h → IsPlaced n m h
+pub placed : (m h n : ℕ) → h ≤ 30 → n < 6 * 2 ^ 61 → n ≡ (2 * m + 1) * 4 ^ h → IsPlaced n m h
 placed m h n le below e =
     let pos = four_pos h in
     let number = number-path_at m h n le e in

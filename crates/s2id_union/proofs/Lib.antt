@@ -13,3 +13,5 @@ mod Forms
 mod Joining
 mod Counting
 mod Equal
+mod Shortest
+mod FewCells

@@ -46,6 +46,7 @@ impl CellUnion {
         ensures normal { IfOk result IsNormal }
         ensures form { IfOk result (λ union.
             union ≡ cells_where (λ q. nat_le start q && nat_lt q limit)) }
+        ensures at_most { IfOk result (λ union. length union ≤ 184) }
         ensures accepted { OnOk result (IsLeafRange start limit) }
         ensures refused { IfErr result (λ error. IsRangeRefusal error start limit) }
     {
@@ -79,12 +80,13 @@ impl CellUnion {
         meets(self.cells.as_slice(), cell)
     }
 
-    /// The union of the leaves of any cells, in any order and repeated or not (S2's constructor from ids). O(n log n + c) for n cells given
-    /// and c cells made. `OutOfMemory` if a growth is refused.
+    /// The union of the leaves of any cells, in any order and repeated or not (S2's constructor from ids). It never has more cells than were
+    /// given. O(n log n) for n cells given. `OutOfMemory` if a growth is refused.
     pub fn normalise(alloc: Global, cells: &[CellId]) -> Result<CellUnion, OutOfMemory>
         ensures region { IfOk result (λ union. HaveSameRegion union cells.now) }
         ensures normal { IfOk result IsNormal }
         ensures form { IfOk result (λ union. union ≡ normal_form cells.now) }
+        ensures at_most { IfOk result (λ union. length union ≤ length cells.now) }
     {
         let cells = normal_list(alloc, cells)?;
         Ok(CellUnion { cells })

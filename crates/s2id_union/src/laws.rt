@@ -1,6 +1,6 @@
 //! Laws: functions that do nothing; their contracts state facts about definitions.
 
-ghost use Rattle.std.specs.Prelude.{◌≡◌, ◌↔◌, ℕ, ◌+◌, Bool, IsTrue, List};
+ghost use Rattle.std.specs.Prelude.{◌≡◌, ◌↔◌, ℕ, ◌+◌, ◌≤◌, Bool, IsTrue, List, length};
 ghost use Rattle.s2id_core.specs.declared.cell_id.CellId.{CellId};
 ghost use Rattle.s2id_core.specs.Leaves.{IsLeafPath};
 ghost use Rattle.s2id_core.specs.Path.{Path, number_of};
@@ -14,6 +14,11 @@ use crate::error::RangeError;
 /// Two normal lists with the same region are equal.
 pub fn one_normal_list()
     ensures { (xs ys : List CellId) → IsNormal xs → IsNormal ys → HaveSameRegion xs ys → xs ≡ ys }
+{}
+
+/// A normal list is the shortest with its region: no list of cells that has the same leaves is shorter.
+pub fn normal_list_is_shortest()
+    ensures { (xs ys : List CellId) → IsNormal xs → HaveSameRegion xs ys → length xs ≤ length ys }
 {}
 
 /// The normal form of any cells is normal and has their region, a normal list is its own normal form, and lists with

@@ -12,6 +12,7 @@ mod changes;
 mod counts;
 mod edits;
 mod handles;
+pub mod laws;
 mod line;
 mod listing;
 mod queries;
