@@ -1,20 +1,25 @@
 -- A span of leaves is covered by few cells: of each level at most three at either end, and whole faces between.
-use Rattle.std.proofs.Common.{◌≡◌, ◌↔◌, ℕ, zero, suc, ◌+◌, ◌-◌, ◌*◌, ◌/◌, ◌^◌, ◌<◌, ◌≤◌, ◌⊎◌, inl, inr, List, [], ◌∷◌, ◌++◌, length, sym, ◌∙◌, ap, refl, arith, subst}
-use Rattle.std.specs.Prelude.{min}
+use Rattle.std.proofs.Common.{◌≡◌, ◌↔◌, ℕ, zero, suc, ◌+◌, ◌-◌, ◌*◌, ◌/◌, ◌^◌, ◌<◌, ◌≤◌, ◌⊎◌, inl, inr, Bool, List, [], ◌∷◌, ◌++◌, length, sym, ◌∙◌, ap, refl, arith, subst}
+use Rattle.std.specs.Prelude.{◌&&◌, nat_le, nat_lt, min}
 use Rattle.std.proofs.Math.Nat.{mod-lt, mul-le-mul_right}
-use Rattle.std.proofs.lemmas.Bool.{cases_eq, cases_lt}
+use Rattle.std.proofs.lemmas.Bool.{and_parts, and_from, cases_eq, cases_lt, leb-true, ltb-true, le-leb, lt-ltb}
 use Rattle.std.proofs.lemmas.List.{length-append}
 use Rattle.std.proofs.lemmas.List.Elements.{Contains-append_left, Contains-append_right, Contains-append_cases}
 use Rattle.std.proofs.lemmas.Nat.{div-add-mod'}
 use Rattle.s2id_core.specs.declared.cell_id.CellId.{CellId}
 use Rattle.s2id_core.specs.CellId.{first_of, end_of}
+use Rattle.s2id_core.specs.Path.{number_of}
 use Rattle.s2id_core.proofs.Lists.{at_head, cons_cases, none_in_nil}
 use Rattle.s2id_core.proofs.Powers.{four_pos, four_step, lt_of_mul}
+use Rattle.s2id_core.proofs.Spans.{number_of_leaf}
 use Rattle.s2id_union.specs.Covers.{Covers}
 use Rattle.s2id_union.specs.Loops.{InSpan, IsAdded}
+use Rattle.s2id_union.specs.NormalForm.{cells_where}
 use Rattle.s2id_union.specs.Range.{IsLeafRange}
-use Rattle.s2id_union.proofs.Covering.{covers_nil}
+use Rattle.s2id_union.specs.Region.{HaveSameRegion}
+use Rattle.s2id_union.proofs.Covering.{covers_nil, covers_from_region, region_from_covers}
 use Rattle.s2id_union.proofs.Greatest.{placed}
+use Rattle.s2id_union.proofs.Largest.{where_normal, where_region}
 use Rattle.s2id_union.proofs.Made.{normal_from_added, same_leaves}
 use Rattle.s2id_union.proofs.Shortest.{shortest}
 
@@ -275,25 +280,64 @@ few_span a b rise most =
           few_moved a b (90 * min i 1 + (j - i) + 90 * min (6 - j) 1) a b 184 (few_parts 30 i j a b (90 * min i 1) (90 * min (6 - j) 1) (omega arith) c1 between f1 most (few_first i a c1 c2 (omega arith)) (few_last j b f1 f2 most)) refl refl (omega arith)
     ]
 
--- the normal list of a span has no more
-pub few_added : (old cells : List CellId) (start limit : ℕ) → old ≡ [] → IsLeafRange start limit → IsAdded old cells start limit
-    → length cells ≤ 184
-few_added old cells start limit none range h =
+-- at most 184 cells that have the leaves with numbers from `start` up to and without `limit`
+record HasRangeFew (start limit : ℕ) : Type 0 where
+  cells : List CellId
+  few : length cells ≤ 184
+  covers : (q : ℕ) → Covers cells q ↔ InSpan start limit q
+
+-- the same by the bounds of a range of leaf numbers
+few_between : (start limit : ℕ) → IsLeafRange start limit → HasRangeFew start limit
+few_between start limit range =
     let r1 = range.odd_start in
     let r2 = range.odd_limit in
     let r3 = range.rises in
     let r4 = range.on_curve in
     let s = few_span (start / 2) (limit / 2) (omega arith) (omega arith) in
-    let few = s.few in
     let at_start : 2 * (start / 2) + 1 ≡ start = omega arith in
     let at_limit : 2 * (limit / 2) + 1 ≡ limit = omega arith in
-    let covers : (q : ℕ) → Covers s.cells q ↔ InSpan start limit q = subst (λ x. (q : ℕ) → Covers s.cells q ↔ InSpan x limit q) at_start (subst (λ x. (q : ℕ) → Covers s.cells q ↔ InSpan (2 * (start / 2) + 1) x q) at_limit s.covers) in
+    record {
+      cells = s.cells;
+      few = s.few;
+      covers = subst (λ x. (q : ℕ) → Covers s.cells q ↔ InSpan x limit q) at_start (subst (λ x. (q : ℕ) → Covers s.cells q ↔ InSpan (2 * (start / 2) + 1) x q) at_limit s.covers);
+    }
+
+-- the normal list of a span has no more
+pub few_added : (old cells : List CellId) (start limit : ℕ) → old ≡ [] → IsLeafRange start limit → IsAdded old cells start limit
+    → length cells ≤ 184
+few_added old cells start limit none range h =
+    let s = few_between start limit range in
+    let few = s.few in
     let same : (q : ℕ) → Covers cells q ↔ Covers s.cells q = λ q. (
       λ v. elim ((h.covers q).0 v) [
         | inl o ↦ absurd (covers_nil q (subst (λ xs. Covers xs q) none o))
-        | inr r ↦ (covers q).1 r
+        | inr r ↦ (s.covers q).1 r
       ],
-      λ v. (h.covers q).1 (inr ((covers q).0 v)),
+      λ v. (h.covers q).1 (inr ((s.covers q).0 v)),
     ) in
     let least = shortest cells s.cells (normal_from_added old cells start limit h) (same_leaves cells s.cells same) in
+    omega arith
+
+-- and so has the list of the largest cells in it
+pub few_where : (start limit : ℕ) → IsLeafRange start limit → length (cells_where (λ q. nat_le start q && nat_lt q limit)) ≤ 184
+few_where start limit range =
+    let s = few_between start limit range in
+    let few = s.few in
+    let passes : ℕ → Bool = λ q. nat_le start q && nat_lt q limit in
+    let odd = range.odd_limit in
+    let same : HaveSameRegion (cells_where passes) s.cells = λ leaf deep.
+    let n = number_of leaf in
+    let number = number_of_leaf leaf deep in (
+      λ i.
+          let both = (where_region passes leaf deep).0 i in
+          let first = and_parts (nat_le start n) (nat_lt n limit) both.0 in
+          region_from_covers s.cells leaf deep ((s.covers n).1 (record { from = leb-true start n first.0; to = ltb-true n limit first.1 })),
+      λ i.
+          let r = (s.covers n).0 (covers_from_region s.cells leaf i) in
+          let from = r.from in
+          let to = r.to in
+          (where_region passes leaf deep).1 (and_from (nat_le start n) (nat_lt n limit) (le-leb start n from) (lt-ltb n limit to), and_from (nat_le start (n + 1)) (nat_lt (n + 1) limit) (le-leb start (n + 1) (omega arith)) (lt-ltb (n + 1) limit (omega arith))),
+    )
+    in
+    let least = shortest (cells_where passes) s.cells (where_normal passes) same in
     omega arith

@@ -1,11 +1,12 @@
 //! Laws: functions that do nothing; their contracts state facts about definitions.
 
-ghost use Rattle.std.specs.Prelude.{◌≡◌, ◌↔◌, ℕ, ◌+◌, ◌≤◌, Bool, IsTrue, List, length};
+ghost use Rattle.std.specs.Prelude.{◌≡◌, ◌↔◌, ℕ, ◌+◌, ◌≤◌, ◌&&◌, nat_le, nat_lt, Bool, IsTrue, List, length};
 ghost use Rattle.s2id_core.specs.declared.cell_id.CellId.{CellId};
 ghost use Rattle.s2id_core.specs.Leaves.{IsLeafPath};
 ghost use Rattle.s2id_core.specs.Path.{Path, number_of};
 ghost use Rattle.s2id_union.specs.declared.error.RangeError.{RangeError};
 ghost use Rattle.s2id_union.specs.NormalForm.{normal_form, cells_where};
+ghost use Rattle.s2id_union.specs.Range.{IsLeafRange};
 ghost use Rattle.s2id_union.specs.Region.{InRegion, IsNormal, HaveSameRegion};
 
 use crate::cell_union::CellUnion;
@@ -21,11 +22,12 @@ pub fn normal_list_is_shortest()
     ensures { (xs ys : List CellId) → IsNormal xs → HaveSameRegion xs ys → length xs ≤ length ys }
 {}
 
-/// The normal form of any cells is normal and has their region, a normal list is its own normal form, and lists with
-/// the same region have the same normal form.
+/// The normal form of any cells is normal, has their region and is not longer, a normal list is its own normal form, and lists with the
+/// same region have the same normal form.
 pub fn normal_form_is_normal()
     ensures normal { (cells : List CellId) → IsNormal (normal_form cells) }
     ensures region { (cells : List CellId) → HaveSameRegion (normal_form cells) cells }
+    ensures at_most { (cells : List CellId) → length (normal_form cells) ≤ length cells }
     ensures itself { (cells : List CellId) → IsNormal cells → normal_form cells ≡ cells }
     ensures same { (xs ys : List CellId) → HaveSameRegion xs ys → normal_form xs ≡ normal_form ys }
 {}
@@ -37,6 +39,13 @@ pub fn cells_where_is_normal()
         → IsLeafPath leaf
         → InRegion (cells_where passes) leaf
         ↔ (IsTrue (passes (number_of leaf)) × IsTrue (passes (number_of leaf + 1))) }
+{}
+
+/// The normal list of a span of leaves has at most 184 cells: three of each level 1 to 30 at either end, and four whole faces between.
+pub fn spans_have_few_cells()
+    ensures { (start limit : ℕ)
+        → IsLeafRange start limit
+        → length (cells_where (λ q. nat_le start q && nat_lt q limit)) ≤ 184 }
 {}
 
 /// Two unions are equal exactly if they have the same cells, or the same leaves.
