@@ -189,7 +189,9 @@ class Index:
     def close(self) -> None:
         """Frees all that is held. Each later call raises Closed, but a second `close` does nothing. It waits for a call that runs on another
         thread."""
-        self._close()
+        # (not by the finalizer, which closes for one thread, and returns to another before that is done)
+        self._calls.s2ix_close(self._at_handle)
+        self._close.detach()
 
     def add(self, cell: Cell, label: int, copies: int = 1) -> int:
         """Adds copies to the count of a cell under a label; returns how many pairs changed. Raises NoCell, NoLabel, and what each edit may."""
