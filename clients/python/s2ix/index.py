@@ -170,7 +170,7 @@ class Index:
 
     def copy(self) -> Index:
         """An index of its own that starts from what is held, under the same limits, with nothing to undo or redo. They share memory,
-        and no call on one waits for the other. O(n). Raises Closed or OutOfMemory."""
+        and calls on one need not wait for the other. O(n). Raises Closed or OutOfMemory."""
         other = type(self).__new__(type(self))
         other._prepare()
         expect(self._calls.s2ix_copy(self._at_handle, other._at_handle))
