@@ -325,8 +325,8 @@ class Index:
     def meet_view(self, cells: Cells) -> memoryview:
         """What `meet` returns, packed: each item is a cell of 8 bytes, a label of 4 and a count of 4. `add_all` takes it for rows.
 
-        Python can't go along items of more than one number. `struct.iter_unpack("=QII", view)` does, and `numpy.asarray(view)` is an array with
-        the fields `cell`, `label` and `count`; neither copies.
+        A loop of Python can't read items of more than one number. `struct.iter_unpack("=QII", view)` gives each as a tuple, and
+        `numpy.asarray(view)` is an array of the dtype `[("cell", "<u8"), ("label", "<u4"), ("count", "<u4")]`; neither copies.
         """
         return self._of_cells(self._calls.s2ix_meet, _PACKED, _packed, cells)
 
