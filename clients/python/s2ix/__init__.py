@@ -1,7 +1,7 @@
 """The S2 cell index that can be edited, from Python: `Index` holds labelled cells, and its methods edit, undo and ask.
 
-Cells are S2's 64-bit ids or their tokens. Each refusal is a class under S2ixError. `s2ix.cells` and `s2ix.unions` ask about cells without an
-index. `python3 -m s2ix` shows a session.
+Cells are S2's 64-bit ids or their tokens. Each refusal is a class under S2ixError. Threads may share an index. `s2ix.cells` and `s2ix.unions`
+ask about cells without an index. `python3 -m s2ix` shows a session.
 """
 from . import cells, unions
 from .index import Entry, Index, Range, Row

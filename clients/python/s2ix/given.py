@@ -59,7 +59,7 @@ def cells_in(cells: Cells, after: int = 0) -> tuple[int, int, object]:
         elif view is None or view.ndim == 0 and view.format != "?":
             # (one number that is no int, as those of numpy)
             words = array("Q", (_number_at(after, words),))
-        elif view.itemsize != _WORD or view.format.lstrip("@=<") not in ("Q", "L") or view.ndim != 1:
+        elif view.itemsize not in (_WORD, 0) or view.format.lstrip("@=<") not in ("Q", "L") or view.ndim != 1:
             raise TypeError(f"cells are 64-bit numbers without sign in one row, not memory of {view.format!r}")
         elif view.readonly or not view.c_contiguous or not len(view):
             words = array("Q", view.tobytes())
@@ -77,7 +77,7 @@ def cells_copied(cells: Cells) -> array[int]:
 
 
 def _view_of(given: Any) -> Optional[memoryview]:
-    """The memory of what is given, if it is given as such."""
+    """The memory of what is given, if it is given as such. In Python 3.9 the items of an empty array of ctypes have 0 bytes."""
     try:
         return memoryview(given)
     except TypeError:
@@ -116,7 +116,7 @@ def rows_in(rows: Rows) -> tuple[int, int, object]:
     if view is None:
         words = array("Q", _packed_rows(rows))
     else:
-        if view.itemsize != 2 * _WORD or view.ndim != 1:
+        if view.itemsize not in (2 * _WORD, 0) or view.ndim != 1:
             raise TypeError(f"packed rows are of 16 bytes in one row, not memory of {view.format!r}")
         if not view.readonly and view.c_contiguous and len(view):
             first = ctypes.c_char.from_buffer(view)

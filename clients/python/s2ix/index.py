@@ -170,7 +170,7 @@ class Index:
 
     def copy(self) -> Index:
         """An index of its own that starts from what is held, under the same limits, with nothing to undo or redo. They share memory,
-        and no call on one waits for the other. O(n). Raises Closed or OutOfMemory."""
+        and calls on one need not wait for the other. O(n). Raises Closed or OutOfMemory."""
         other = type(self).__new__(type(self))
         other._prepare()
         expect(self._calls.s2ix_copy(self._at_handle, other._at_handle))
@@ -189,7 +189,9 @@ class Index:
     def close(self) -> None:
         """Frees all that is held. Each later call raises Closed, but a second `close` does nothing. It waits for a call that runs on another
         thread."""
-        self._close()
+        # (not by the finalizer, which closes for one thread, and returns to another before that is done)
+        self._calls.s2ix_close(self._at_handle)
+        self._close.detach()
 
     def add(self, cell: Cell, label: int, copies: int = 1) -> int:
         """Adds copies to the count of a cell under a label; returns how many pairs changed. Raises NoCell, NoLabel, and what each edit may."""
@@ -323,8 +325,8 @@ class Index:
     def meet_view(self, cells: Cells) -> memoryview:
         """What `meet` returns, packed: each item is a cell of 8 bytes, a label of 4 and a count of 4. `add_all` takes it for rows.
 
-        Python can't go along items of more than one number. `struct.iter_unpack("=QII", view)` does, and `numpy.asarray(view)` is an array with
-        the fields `cell`, `label` and `count`; neither copies.
+        A loop of Python can't read items of more than one number. `struct.iter_unpack("=QII", view)` gives each as a tuple, and
+        `numpy.asarray(view)` is an array of the dtype `[("cell", "<u8"), ("label", "<u4"), ("count", "<u4")]`; neither copies.
         """
         return self._of_cells(self._calls.s2ix_meet, _PACKED, _packed, cells)
 

@@ -5,7 +5,7 @@ import ctypes
 import ctypes.util
 import functools
 import os
-import sys
+import sysconfig
 import threading
 from ctypes import c_size_t as size
 from ctypes import c_uint8 as u8
@@ -150,17 +150,18 @@ def load() -> ctypes.PyDLL:
 
 
 def of_a_handle() -> Any:
-    """The calls for one handle, of which one at a time runs. If the GIL is kept, no two calls run at once as it is."""
+    """The calls for one handle, of which one at a time runs. Where there is a GIL, each call keeps it, so no two run at once as it is."""
     return load() if has_gil() else InTurn(load())
 
 
+@functools.lru_cache(maxsize=None)
 def has_gil() -> bool:
-    """Whether this Python has a GIL, for good: one that has it never drops it again."""
-    return getattr(sys, "_is_gil_enabled", lambda: True)()
+    """Whether this Python always has a GIL. One that is built to do without may take it for a while, as it does for some imports."""
+    return not sysconfig.get_config_var("Py_GIL_DISABLED")
 
 
 class InTurn:
-    """The calls of the library for one handle, where there is no GIL: each waits until no other runs.
+    """The calls of the library for one handle, where there may be no GIL: each waits until no other runs.
 
     A signal handler or a finalizer may run on a thread that has the lock, before a call or after it. It may call too, since the lock lets
     the same thread in again."""
