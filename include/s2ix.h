@@ -5,10 +5,10 @@
    on cells return a bool. A call whose status is not S2IX_DONE leaves the store as it was. A call that gives a list takes a buffer with
    room for `room` items, and sets *number to how many items the list has. If the buffer has room for all, the call puts them at its front;
    else the status is S2IX_NO_ROOM and the buffer stays as it was. A call refused for another reason sets *number to 0, except s2ix_add_all
-   for a wrong row. If more than one status is due, an edit tells of a wrong cell or label first, and any other call of a closed handle. No
-   pointer is NULL, not even one to no items. What a call writes overlaps nothing else that it is given, so never give s2ix_copy one handle
-   twice. A query takes the store out of its handle and puts it back, so the handle isn't const. In costs, n is the number of pairs held if
-   nothing else is said. */
+   for a wrong row and s2ix_add_union for a wrong cell. If more than one status is due, an edit tells of a wrong cell or label first, and
+   any other call of a closed handle; S2IX_OUT_OF_MEMORY comes after both. No pointer is NULL, not even one to no items. What a call writes
+   overlaps nothing else that it is given, so never give s2ix_copy one handle twice. A query takes the store out of its handle and puts it
+   back, so the handle isn't const. In costs, n is the number of pairs held if nothing else is said. */
 #ifndef S2IX_H
 #define S2IX_H
 
@@ -121,7 +121,9 @@ uint32_t s2ix_add_all(s2ix_handle *handle, const s2ix_row *rows, size_t len, siz
 /* Takes copies from the count of a cell under a label. S2IX_NO_CELL, S2IX_NO_LABEL, S2IX_NOT_HELD. */
 uint32_t s2ix_remove(s2ix_handle *handle, uint64_t cell, uint32_t label, uint32_t copies, size_t *number);
 
-/* Adds one copy under a label for each cell of the normal form of a union. S2IX_NO_CELL, S2IX_NO_LABEL. */
+/* Adds one copy under a label for each cell of the normal form of a union, whose cells come in any order, repeated or not. A wrong label
+   comes before a wrong cell. For S2IX_NO_CELL *number is the place of the first number that is no cell's, counted from 0. S2IX_NO_CELL,
+   S2IX_NO_LABEL. */
 uint32_t s2ix_add_union(s2ix_handle *handle, const uint64_t *cells, size_t len, uint32_t label, size_t *number);
 
 /* Takes away all copies of a label's pairs. S2IX_NO_LABEL, S2IX_NO_SUCH_LABEL. */

@@ -1,5 +1,5 @@
 -- What numbers ask for.
-use Rattle.std.specs.Prelude.{◌≡◌, ◌⊎◌, ℕ, List, map, take, slice_get, Contains, Option, Some, None, Result, Ok, Err}
+use Rattle.std.specs.Prelude.{◌≡◌, ◌⊎◌, ℕ, List, map, take, slice_get, All, Contains, Option, Some, None, Result, Ok, Err, IsOk}
 use Rattle.s2id_core.specs.declared.cell_id.CellId.{CellId}
 use Rattle.s2id_core.specs.Cell.{IsCellNumber}
 use Rattle.s2id_core.specs.CellId.{raw_of}
@@ -89,10 +89,13 @@ held_asked row = with_count row.count (pair_numbered row.cell row.label)
 abbrev pub NameHeld : List Row → List Held → Type 0
 NameHeld rows held = map held_asked rows ≡ map Ok held
 
+-- each row names a pair
+pub record AreRight (rows : List Row) : Type 0 where
+  pub each : All (λ row. IsOk (held_asked row)) rows
+
 -- the first row with a wrong number stands at this place, and the status says what is wrong
 pub record IsFirstWrong (rows : List Row) (place why : ℕ) : Type 0 where
-  pub held : List Held
-  pub before : NameHeld (take place rows) held
+  pub before : AreRight (take place rows)
   pub row : Row
   pub there : slice_get rows place ≡ Some row
   pub wrong : held_asked row ≡ Err why

@@ -1,11 +1,13 @@
 //! The edits of a store.
 
-ghost use Rattle.s2ix_c_calls.specs.Stores.{IsAdded, IsEdited};
+ghost use Rattle.s2ix_c_calls.specs.Stores.{AddsRows, IsAdded, IsEdited, RefusesRows};
 
-use crate::status::{DONE, status_of};
+use crate::rows::{Row, held_list, wrong_row};
+use crate::status::{CLOSED, DONE, OUT_OF_MEMORY, status_of};
 use s2ix_bag_pairs::Held;
 use s2ix_edit::Store;
 use s2ix_edit_plan::Edit;
+use std::alloc::Global;
 
 /// Carries an edit out on a store; `number` is how many pairs changed their counts.
 pub fn edit_store(store: &mut Store, edit: &Edit, number: &mut usize) -> u32
@@ -23,8 +25,8 @@ pub fn edit_store(store: &mut Store, edit: &Edit, number: &mut usize) -> u32
     }
 }
 
-/// Adds pairs to the counts of a store, as one change; `number` is how many pairs gained copies.
-pub fn add_store(store: &mut Store, rows: &[Held], number: &mut usize) -> u32
+// Adds pairs to the counts of a store, as one change; `number` is how many pairs gained copies.
+pub(crate) fn add_store(store: &mut Store, rows: &[Held], number: &mut usize) -> u32
     ensures { IsAdded rows.now result number.new store.old store.new }
 {
     match store.add_all(rows) {
@@ -36,5 +38,31 @@ pub fn add_store(store: &mut Store, rows: &[Held], number: &mut usize) -> u32
             *number = 0;
             status_of(why)
         }
+    }
+}
+
+/// Adds the count of each row to that of the pair that the row names, as one change; `number` is how many pairs gained copies. If a row is
+/// wrong, the first such row decides, and `number` is its place, counted from 0. Memory is wanted only if all rows are right, and there are
+/// some.
+pub fn add_rows(alloc: Global, store: &mut Store, rows: &[Row], number: &mut usize) -> u32
+    ensures { AddsRows rows.now result number.new store.old store.new }
+{
+    if let Some(why) = wrong_row(rows, number) {
+        return why;
+    }
+    match held_list(alloc, rows) {
+        Ok(held) => add_store(store, held.as_slice(), number),
+        Err(_) => OUT_OF_MEMORY,
+    }
+}
+
+/// What a closed handle answers to rows: what is wrong with the first that names no pair, and `number` is its place, counted from 0; or that
+/// it is closed. It does not allocate. O(n) for n rows.
+pub fn refuse_rows(rows: &[Row], number: &mut usize) -> u32
+    ensures { RefusesRows rows.now result number.new }
+{
+    match wrong_row(rows, number) {
+        Some(why) => why,
+        None => CLOSED,
     }
 }
