@@ -4,11 +4,14 @@
    Cells are S2's 64-bit ids, labels are 0 to 2147483647. Each call returns a status, except that s2ix_close returns nothing and some calls
    on cells return a bool. A call whose status is not S2IX_DONE leaves the store as it was. A call that gives a list takes a buffer with
    room for `room` items, and sets *number to how many items the list has. If the buffer has room for all, the call puts them at its front;
-   else the status is S2IX_NO_ROOM and the buffer stays as it was. A call refused for another reason sets *number to 0, except s2ix_add_all
-   for a wrong row and s2ix_add_union for a wrong cell. If more than one status is due, an edit tells of a wrong cell or label first, and
-   any other call of a closed handle; S2IX_OUT_OF_MEMORY comes after both. No pointer is NULL, not even one to no items. What a call writes
-   overlaps nothing else that it is given, so never give s2ix_copy one handle twice. A query takes the store out of its handle and puts it
-   back, so the handle isn't const. In costs, n is the number of pairs held if nothing else is said. */
+   else the status is S2IX_NO_ROOM and the buffer stays as it was. A call refused for another reason sets *number to 0, with one exception:
+   if a call that takes a list of rows or cells finds a wrong one, *number is the place of the first, counted from 0; with two lists the
+   places count on through the second. If more than one status is due, an edit tells of a wrong cell or label first, and any other call of a
+   closed handle; want of memory comes last, except that a call that gathers its list may tell of it in place of S2IX_NO_ROOM. Where nothing
+   is asked for, no memory is wanted: no rows, no cells, a label that is not held, equal bounds, no room for a page. No pointer is NULL, not
+   even one to no items. What a call writes overlaps nothing else that it is given, so never give s2ix_copy one handle twice. A query takes
+   the store out of its handle and puts it back, so the handle isn't const. In costs, n is the number of pairs held if nothing else is said.
+   */
 #ifndef S2IX_H
 #define S2IX_H
 
@@ -122,8 +125,7 @@ uint32_t s2ix_add_all(s2ix_handle *handle, const s2ix_row *rows, size_t len, siz
 uint32_t s2ix_remove(s2ix_handle *handle, uint64_t cell, uint32_t label, uint32_t copies, size_t *number);
 
 /* Adds one copy under a label for each cell of the normal form of a union, whose cells come in any order, repeated or not. A wrong label
-   comes before a wrong cell. For S2IX_NO_CELL *number is the place of the first number that is no cell's, counted from 0. S2IX_NO_CELL,
-   S2IX_NO_LABEL. */
+   comes before a wrong cell. S2IX_NO_CELL, S2IX_NO_LABEL. */
 uint32_t s2ix_add_union(s2ix_handle *handle, const uint64_t *cells, size_t len, uint32_t label, size_t *number);
 
 /* Takes away all copies of a label's pairs. S2IX_NO_LABEL, S2IX_NO_SUCH_LABEL. */
@@ -178,7 +180,7 @@ uint32_t s2ix_labels(s2ix_handle *handle, const uint64_t *cells, size_t len, uin
    S2IX_NO_ROOM, S2IX_OUT_OF_MEMORY. */
 uint32_t s2ix_region(s2ix_handle *handle, uint32_t label, uint64_t *cells, size_t room, size_t *number);
 
-/* The pairs of a label, by rising cell. O(n) for all n pairs that are held. S2IX_CLOSED, S2IX_NO_LABEL, S2IX_NO_ROOM, S2IX_OUT_OF_MEMORY.
+/* The pairs of a label, by rising cell. It does not allocate. O(n) for all n pairs that are held. S2IX_CLOSED, S2IX_NO_LABEL, S2IX_NO_ROOM.
    */
 uint32_t s2ix_of_label(s2ix_handle *handle, uint32_t label, s2ix_row *rows, size_t room, size_t *number);
 
@@ -222,8 +224,8 @@ uint32_t s2ix_range(s2ix_handle *handle, size_t place, uint64_t *start, uint64_t
 
 /* Of the pairs over the range at a place, those whose cells begin at the leaf number `from` or later, the innermost cell first, the labels
    of one cell rising. If `from` is 0, these are all of them. If it is the *limit of an earlier range, they are the pairs that don't lie
-   over that range: so a caller that goes up the ranges gets each pair once. O(k) for k pairs put. S2IX_CLOSED, S2IX_NO_RANGE, S2IX_NO_ROOM,
-   S2IX_OUT_OF_MEMORY. */
+   over that range: so a caller that goes up the ranges gets each pair once. It does not allocate. O(k) for k pairs put. S2IX_CLOSED,
+   S2IX_NO_RANGE, S2IX_NO_ROOM. */
 uint32_t s2ix_contents(s2ix_handle *handle, size_t place, uint64_t from, s2ix_row *rows, size_t room, size_t *number);
 
 /* The place of the first range from `from` on, and of the last range before `before`, that has a pair over it. If there is none, the status

@@ -299,6 +299,7 @@ static void asked_for_labels(s2ix_handle *handle) {
     EXPECT(s2ix_labels(handle, &face, 0, labels, 0, &number), S2IX_DONE);
     EXPECT(number, 0);
     EXPECT(s2ix_labels(handle, &no_cell, 1, labels, 3, &number), S2IX_NO_CELL);
+    EXPECT(number, 0);
 
     EXPECT(s2ix_region(handle, 9, region, 0, &number), S2IX_NO_ROOM);
     EXPECT(number, 1);
@@ -338,10 +339,13 @@ static void asked(void) {
     EXPECT(rows[0].label, 0x07070707);
     EXPECT(s2ix_meet(&handle, both, 2, rows, 3, &number), S2IX_DONE);
     EXPECT(rows[2].label, 3);
+    EXPECT(s2ix_meet(&handle, both, 2, rows, 0, &number), S2IX_NO_ROOM);
+    EXPECT(number, 3);
     EXPECT(s2ix_meet(&handle, both, 0, rows, 0, &number), S2IX_DONE);
     EXPECT(number, 0);
-    both[0] = no_cell;
+    both[1] = no_cell;
     EXPECT(s2ix_meet(&handle, both, 2, rows, 3, &number), S2IX_NO_CELL);
+    EXPECT(number, 1);
 
     asked_for_labels(&handle);
     s2ix_close(&handle);

@@ -170,7 +170,7 @@ static void joined(void) {
     EXPECT(number, 2);
     EXPECT(out[0], face);
     EXPECT(s2ix_union_normalise(refused, 2, out, 4, &number), S2IX_NO_CELL);
-    EXPECT(number, 0);
+    EXPECT(number, 1);
     EXPECT(s2ix_union_normalise(refused, 0, out, 0, &number), S2IX_DONE);
     EXPECT(number, 0);
     EXPECT(s2ix_union_from_leaves(1, 0x2000000000000001, out, 4, &number), S2IX_DONE);
@@ -181,6 +181,9 @@ static void joined(void) {
     EXPECT(s2ix_union_from_leaves(1, curve_end + 2, out, 4, &number), S2IX_NO_SPAN);
     EXPECT(number, 0);
     EXPECT(s2ix_union_from_leaves(2, 3, out, 4, &number), S2IX_NO_SPAN);
+    EXPECT(s2ix_union_from_leaves(2, 2, out, 4, &number), S2IX_NO_SPAN);
+    EXPECT(s2ix_union_from_leaves(curve_end, curve_end, out, 0, &number), S2IX_DONE);
+    EXPECT(number, 0);
     EXPECT(s2ix_union_from_leaves(3, 1, out, 4, &number), S2IX_NO_SPAN);
     EXPECT(s2ix_union_union(children, 2, children + 2, 2, out, 4, &number), S2IX_DONE);
     EXPECT(number, 1);
@@ -188,17 +191,26 @@ static void joined(void) {
     EXPECT(s2ix_union_union(children, 1, children + 2, 1, out, 1, &number), S2IX_NO_ROOM);
     EXPECT(number, 2);
     EXPECT(s2ix_union_union(children, 1, refused, 2, out, 4, &number), S2IX_NO_CELL);
+    EXPECT(number, 2);
+    EXPECT(s2ix_union_union(children, 0, refused, 0, out, 0, &number), S2IX_DONE);
     EXPECT(number, 0);
     EXPECT(s2ix_union_intersection(&face, 1, children + 1, 2, out, 4, &number), S2IX_DONE);
     EXPECT(number, 2);
     EXPECT(out[0], children[1]);
     EXPECT(out[1], children[2]);
     EXPECT(s2ix_union_intersection(refused, 2, children, 1, out, 4, &number), S2IX_NO_CELL);
+    EXPECT(number, 1);
+    EXPECT(s2ix_union_intersection(children, 0, refused, 2, out, 4, &number), S2IX_NO_CELL);
+    EXPECT(number, 1);
+    EXPECT(s2ix_union_intersection(children, 2, children, 0, out, 4, &number), S2IX_DONE);
+    EXPECT(number, 0);
     EXPECT(s2ix_union_difference(&face, 1, children + 1, 2, out, 4, &number), S2IX_DONE);
     EXPECT(number, 2);
     EXPECT(out[0], children[0]);
     EXPECT(out[1], children[3]);
     EXPECT(s2ix_union_difference(refused, 2, children, 1, out, 4, &number), S2IX_NO_CELL);
+    EXPECT(number, 1);
+    EXPECT(s2ix_union_difference(children, 0, children, 1, out, 0, &number), S2IX_DONE);
     EXPECT(number, 0);
 }
 

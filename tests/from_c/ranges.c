@@ -194,7 +194,9 @@ static void visited(void) {
     EXPECT(number, 0);
     number = 9;
     EXPECT(s2ix_meet_from(&handle, refused, 2, 0, rows, 5, &number), S2IX_NO_CELL);
-    EXPECT(number == 0 && is_row(rows[0], leaf, 1, 1), true);
+    EXPECT(number == 1 && is_row(rows[0], leaf, 1, 1), true);
+    EXPECT(s2ix_meet_from(&handle, refused, 2, 0, rows, 0, &number), S2IX_NO_CELL);
+    EXPECT(number, 1);
     s2ix_close(&handle);
 }
 

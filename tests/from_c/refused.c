@@ -19,7 +19,7 @@ void *realloc(void *old, size_t size) { return ++asked == refused_growth ? NULL 
 enum { ROOM = 4096 };
 
 static const uint64_t first = 0x0400000000000000, second = 0x0c00000000000000, face = 0x1000000000000000, leaf = 0x0400000000000001;
-static const uint64_t two[] = {0x0c00000000000000, 0x0400000000000000};
+static const uint64_t two[] = {0x0c00000000000000, 0x0400000000000000}, wrong[] = {0x0400000000000000, 6};
 static const char dump[] = "s2ix 2\n04 7 1\n0400000000000001 8 2\n0c 7 1\nend 3 4\n";
 static const char add_line[] = "add 1 1", meet_line[] = "meet 1";
 /* The first leads on from that dump, the second to it. */
@@ -81,8 +81,6 @@ CALL(meets) { return (void)other, s2ix_meet(handle, two, 2, ROWS, &told->number)
 CALL(meets_from) { return (void)other, s2ix_meet_from(handle, two, 2, 1, ROWS, &told->number); }
 CALL(labels) { return (void)other, s2ix_labels(handle, &face, 1, LABELS, &told->number); }
 CALL(region) { return (void)other, s2ix_region(handle, 7, CELLS, &told->number); }
-CALL(of_label) { return (void)other, s2ix_of_label(handle, 7, ROWS, &told->number); }
-CALL(contents) { return (void)other, s2ix_contents(handle, 1, 0, ROWS, &told->number); }
 CALL(dumps) { return (void)other, s2ix_dump(handle, told->bytes, ROOM, &told->number); }
 CALL(journals) { return (void)other, s2ix_journal(handle, told->bytes, ROOM, &told->number); }
 CALL(exports) { return (void)other, s2ix_export(handle, told->bytes, ROOM, &told->number); }
@@ -132,6 +130,8 @@ CALL(undoes_without_room) { return (void)other, due(s2ix_line(handle, TEXT("undo
 CALL(redoes_without_room) { return (void)other, due(s2ix_line(handle, TEXT("redo"), told->bytes, 31, &told->number), S2IX_NO_ROOM); }
 
 /* Calls that do not allocate. */
+CALL(of_label) { return (void)other, s2ix_of_label(handle, 7, ROWS, &told->number); }
+CALL(contents) { return (void)other, s2ix_contents(handle, 1, 0, ROWS, &told->number); }
 CALL(at) { return (void)other, s2ix_at(handle, leaf, ROWS, &told->number); }
 CALL(pairs) { return (void)other, s2ix_pairs(handle, 0, ROWS, &told->number); }
 CALL(change) { return (void)other, s2ix_change(handle, 1, told->entries, sizeof told->entries / sizeof *told->entries, &told->number); }
@@ -146,6 +146,41 @@ CALL(previous_full) { return (void)other, s2ix_previous_full(handle, 2, &told->n
 CALL(finds) { return (void)other, s2ix_find(handle, leaf, &told->number, told->cells, told->cells + 1); }
 CALL(counts) { return (void)other, s2ix_count(handle, first, 7, told->labels); }
 CALL(forgets) { return (void)other, (void)told, s2ix_forget(handle); }
+/* Nothing is asked for: an empty list of cells, a label that isn't held, equal bounds, no room for a page. */
+CALL(asks_for_nothing) {
+    bool answer = true;
+    uint32_t status = s2ix_meet(handle, two, 0, ROWS, &told->number);
+    status += told->number + s2ix_meet_from(handle, two, 0, 0, ROWS, &told->number);
+    status += told->number + s2ix_meet_from(handle, two, 2, 0, told->rows, 0, &told->number);
+    status += told->number + s2ix_labels(handle, two, 0, LABELS, &told->number);
+    status += told->number + s2ix_region(handle, 9, CELLS, &told->number);
+    status += told->number + s2ix_of_label(handle, 9, ROWS, &told->number);
+    status += told->number + s2ix_union_normalise(two, 0, CELLS, &told->number);
+    status += told->number + s2ix_union_from_leaves(3, 3, CELLS, &told->number);
+    status += told->number + s2ix_union_union(two, 0, two, 0, CELLS, &told->number);
+    status += told->number + s2ix_union_intersection(two, 0, two, 2, CELLS, &told->number);
+    status += told->number + s2ix_union_intersection(two, 2, two, 0, CELLS, &told->number);
+    status += told->number + s2ix_union_difference(two, 0, two, 2, CELLS, &told->number);
+    status += told->number + s2ix_union_contains(two, 0, first, &answer) + answer;
+    status += s2ix_union_intersects(two, 0, first, &answer) + answer + s2ix_union_leaf_count(two, 0, told->cells);
+    return (void)other, status;
+}
+/* A number is no cell's: its place is told, and no memory is wanted. */
+CALL(asks_for_no_cell) {
+    bool answer = true;
+    bool is_told = s2ix_meet(handle, wrong, 2, ROWS, &told->number) == S2IX_NO_CELL && told->number == 1;
+    is_told &= s2ix_meet_from(handle, wrong, 2, 0, ROWS, &told->number) == S2IX_NO_CELL && told->number == 1;
+    is_told &= s2ix_meet_from(handle, wrong, 2, 0, told->rows, 0, &told->number) == S2IX_NO_CELL && told->number == 1;
+    is_told &= s2ix_labels(handle, wrong, 2, LABELS, &told->number) == S2IX_NO_CELL && told->number == 1;
+    is_told &= s2ix_union_normalise(wrong, 2, CELLS, &told->number) == S2IX_NO_CELL && told->number == 1;
+    is_told &= s2ix_union_union(two, 2, wrong, 2, CELLS, &told->number) == S2IX_NO_CELL && told->number == 3;
+    is_told &= s2ix_union_intersection(two, 0, wrong, 2, CELLS, &told->number) == S2IX_NO_CELL && told->number == 1;
+    is_told &= s2ix_union_difference(wrong, 2, two, 2, CELLS, &told->number) == S2IX_NO_CELL && told->number == 1;
+    is_told &= s2ix_union_contains(two, 2, wrong[1], &answer) == S2IX_NO_CELL && !answer;
+    is_told &= s2ix_union_intersects(wrong, 2, first, &answer) == S2IX_NO_CELL && !answer;
+    is_told &= s2ix_union_leaf_count(wrong, 2, told->cells) == S2IX_NO_CELL && told->cells[0] == 0;
+    return (void)other, is_told ? S2IX_DONE : S2IX_NO_CELL;
+}
 CALL(closes_other) {
     s2ix_close(other);
     return (void)told, s2ix_len(handle, &told->number);
@@ -177,8 +212,6 @@ static const struct {
     {"meet_from", meets_from, true},
     {"labels", labels, true},
     {"region", region, true},
-    {"of_label", of_label, true},
-    {"contents", contents, true},
     {"dump", dumps, true},
     {"journal", journals, true},
     {"export", exports, true},
@@ -204,6 +237,10 @@ static const struct {
     {"line of an edit without room", adds_without_room, false},
     {"line of an undo without room", undoes_without_room, false},
     {"line of a redo without room", redoes_without_room, false},
+    {"of_label", of_label, false},
+    {"contents", contents, false},
+    {"nothing asked for", asks_for_nothing, false},
+    {"no cell", asks_for_no_cell, false},
     {"at", at, false},
     {"pairs", pairs, false},
     {"change", change, false},

@@ -1,15 +1,16 @@
 //! Unions of cells by their numbers, without a handle. A list may have its cells in any order, and repeated or not.
 
-ghost use Rattle.std.specs.Prelude.{◌&&◌, ◌||◌, not};
+ghost use Rattle.std.specs.Prelude.{◌≡◌, ◌≢◌, ◌⊎◌, ◌&&◌, ◌||◌, not, []};
 ghost use Rattle.s2id_core.specs.declared.cell_id.CellId.{CellId};
 ghost use Rattle.s2id_union.specs.Region.{HasAllOf, Meets};
 ghost use Rattle.s2ix_c.specs.CellUnions.{CountsLeaves, Decides, ListsOfTwo, ListsSpan, normal_numbers, numbers_by};
 ghost use Rattle.s2ix_c_calls.specs.Lists.{ListsOf};
+ghost use Rattle.s2ix_c_calls.specs.Status.{out_of_memory};
 
 use s2id_core::CellId;
 use s2id_union::{CellUnion, RangeError};
 use s2ix_c_calls::status::{DONE, NO_CELL, NO_SPAN, OUT_OF_MEMORY};
-use s2ix_c_calls::{normal_of, normals_of, put_cells};
+use s2ix_c_calls::{check_both, normal_of, normals_of, put_cells};
 use std::alloc::Global;
 
 /// The normal list of the cells: rising, no cell within another, and no four that are all the children of one.
@@ -20,10 +21,14 @@ pub extern "C" fn s2ix_union_normalise(
     out: &mut [u64],
     number: &mut usize,
 ) -> u32
-    ensures { ListsOf normal_numbers ids.now result number.new out.old out.new }
+    ensures list { ListsOf normal_numbers ids.now result number.new out.old out.new }
+    ensures memory { result ≡ out_of_memory → ids.now ≢ [] }
 {
     *number = 0;
-    match normal_of(alloc, ids) {
+    if ids.is_empty() {
+        return DONE;
+    }
+    match normal_of(alloc, ids, number) {
         Ok(normal) => put_cells(normal.cells(), out, number),
         Err(why) => why,
     }
@@ -44,7 +49,8 @@ pub extern "C" fn s2ix_union_from_leaves(
     match CellUnion::from_leaves(alloc, start, limit) {
         Ok(union) => put_cells(union.cells(), out, number),
         Err(RangeError::BadRange) => NO_SPAN,
-        Err(RangeError::OutOfMemory) => OUT_OF_MEMORY,
+        Err(RangeError::OutOfMemory) if start < limit => OUT_OF_MEMORY,
+        Err(RangeError::OutOfMemory) => DONE,
     }
 }
 
@@ -57,10 +63,13 @@ pub extern "C" fn s2ix_union_union(
     out: &mut [u64],
     number: &mut usize,
 ) -> u32
-    ensures { ListsOfTwo (numbers_by (λ a b. a || b)) first.now second.now result number.new out.old out.new }
+    ensures list { ListsOfTwo (numbers_by (λ a b. a || b)) first.now second.now result number.new out.old out.new }
+    ensures memory { result ≡ out_of_memory → (first.now ≢ []) ⊎ (second.now ≢ []) }
 {
-    *number = 0;
-    let (first, second) = match normals_of(alloc, first, second) {
+    if first.is_empty() && second.is_empty() {
+        return check_both(first, second, number);
+    }
+    let (first, second) = match normals_of(alloc, first, second, number) {
         Ok(unions) => unions,
         Err(why) => return why,
     };
@@ -79,10 +88,13 @@ pub extern "C" fn s2ix_union_intersection(
     out: &mut [u64],
     number: &mut usize,
 ) -> u32
-    ensures { ListsOfTwo (numbers_by (λ a b. a && b)) first.now second.now result number.new out.old out.new }
+    ensures list { ListsOfTwo (numbers_by (λ a b. a && b)) first.now second.now result number.new out.old out.new }
+    ensures memory { result ≡ out_of_memory → (first.now ≢ []) × (second.now ≢ []) }
 {
-    *number = 0;
-    let (first, second) = match normals_of(alloc, first, second) {
+    if first.is_empty() || second.is_empty() {
+        return check_both(first, second, number);
+    }
+    let (first, second) = match normals_of(alloc, first, second, number) {
         Ok(unions) => unions,
         Err(why) => return why,
     };
@@ -101,10 +113,13 @@ pub extern "C" fn s2ix_union_difference(
     out: &mut [u64],
     number: &mut usize,
 ) -> u32
-    ensures { ListsOfTwo (numbers_by (λ a b. a && not b)) first.now second.now result number.new out.old out.new }
+    ensures list { ListsOfTwo (numbers_by (λ a b. a && not b)) first.now second.now result number.new out.old out.new }
+    ensures memory { result ≡ out_of_memory → first.now ≢ [] }
 {
-    *number = 0;
-    let (first, second) = match normals_of(alloc, first, second) {
+    if first.is_empty() {
+        return check_both(first, second, number);
+    }
+    let (first, second) = match normals_of(alloc, first, second, number) {
         Ok(unions) => unions,
         Err(why) => return why,
     };
@@ -125,12 +140,16 @@ pub extern "C" fn s2ix_union_contains(
     ensures { Decides HasAllOf ids.now cell result answer.new }
 {
     *answer = false;
-    let union = match normal_of(alloc, ids) {
-        Ok(union) => union,
-        Err(why) => return why,
-    };
     let Some(cell) = CellId::from_raw(cell) else {
         return NO_CELL;
+    };
+    if ids.is_empty() {
+        return DONE;
+    }
+    let mut place = 0;
+    let union = match normal_of(alloc, ids, &mut place) {
+        Ok(union) => union,
+        Err(why) => return why,
     };
     *answer = union.contains(cell);
     DONE
@@ -147,12 +166,16 @@ pub extern "C" fn s2ix_union_intersects(
     ensures { Decides Meets ids.now cell result answer.new }
 {
     *answer = false;
-    let union = match normal_of(alloc, ids) {
-        Ok(union) => union,
-        Err(why) => return why,
-    };
     let Some(cell) = CellId::from_raw(cell) else {
         return NO_CELL;
+    };
+    if ids.is_empty() {
+        return DONE;
+    }
+    let mut place = 0;
+    let union = match normal_of(alloc, ids, &mut place) {
+        Ok(union) => union,
+        Err(why) => return why,
     };
     *answer = union.intersects(cell);
     DONE
@@ -164,7 +187,11 @@ pub extern "C" fn s2ix_union_leaf_count(alloc: Global, ids: &[u64], count: &mut 
     ensures { CountsLeaves ids.now result count.new }
 {
     *count = 0;
-    match normal_of(alloc, ids) {
+    if ids.is_empty() {
+        return DONE;
+    }
+    let mut place = 0;
+    match normal_of(alloc, ids, &mut place) {
         Ok(union) => {
             *count = union.leaf_count();
             DONE

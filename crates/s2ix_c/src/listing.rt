@@ -4,7 +4,7 @@ ghost use Rattle.std.specs.Prelude.{◌≡◌};
 ghost use Rattle.s2ix_bag_pairs.specs.Label.{label_numbered};
 ghost use Rattle.s2ix_handle.specs.Handle.{held_of};
 ghost use Rattle.s2ix_c.specs.Calls.{Through};
-ghost use Rattle.s2ix_c_calls.specs.Lists.{Lists, PutsPage, rows_with};
+ghost use Rattle.s2ix_c_calls.specs.Lists.{Puts, PutsPage, rows_with};
 ghost use Rattle.s2ix_c_calls.specs.Status.{closed};
 
 use s2ix_c_calls::status::CLOSED;
@@ -34,7 +34,7 @@ pub extern "C" fn s2ix_pairs(
     status
 }
 
-/// The pairs of a label, by rising cell.
+/// The pairs of a label, by rising cell. It does not allocate.
 #[tactic(auto, using(crate::proofs::Through::through_open, crate::proofs::Through::through_closed))]
 #[unsafe(no_mangle)]
 pub extern "C" fn s2ix_of_label(
@@ -44,14 +44,14 @@ pub extern "C" fn s2ix_of_label(
     out: &mut [Row],
     number: &mut usize,
 ) -> u32
-    ensures { Through (λ s t. (t ≡ s) × Lists (rows_with (label_numbered label) s) result number.new out.old out.new)
+    ensures { Through (λ s t. (t ≡ s) × Puts (rows_with (label_numbered label) s) result number.new out.old out.new)
         ((result ≡ closed) × (number.new ≡ 0) × (out.new ≡ out.old)) (held_of handle.old) (held_of handle.new) }
 {
     let Some(store) = handle.take(alloc) else {
         *number = 0;
         return CLOSED;
     };
-    let status = label_store(alloc, &store, label, out, number);
+    let status = label_store(&store, label, out, number);
     *handle = Handle::of(alloc, store);
     status
 }

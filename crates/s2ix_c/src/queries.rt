@@ -1,11 +1,11 @@
 //! Queries of the store of a handle. None changes it.
 
-ghost use Rattle.std.specs.Prelude.{◌≡◌, length, take};
+ghost use Rattle.std.specs.Prelude.{◌≡◌, ◌≢◌, [], length, take};
 ghost use Rattle.s2ix_bag_pairs.specs.Label.{label_numbered};
 ghost use Rattle.s2ix_handle.specs.Handle.{held_of};
 ghost use Rattle.s2ix_c.specs.Calls.{Through};
-ghost use Rattle.s2ix_c_calls.specs.Lists.{leaf_numbered, labels_met, Lists, ListsOf, Puts, region_cells, rows_met, rows_met_from, rows_over};
-ghost use Rattle.s2ix_c_calls.specs.Status.{closed};
+ghost use Rattle.s2ix_c_calls.specs.Lists.{leaf_numbered, labels_met, ListsOf, Puts, PutsGathered, region_cells, rows_met, rows_met_from, rows_over};
+ghost use Rattle.s2ix_c_calls.specs.Status.{closed, no_room, out_of_memory};
 
 use s2ix_c_calls::status::CLOSED;
 use s2ix_c_calls::{Row, at_store, labels_store, meet_store, meet_store_from, region_store};
@@ -45,8 +45,9 @@ pub extern "C" fn s2ix_meet(
     out: &mut [Row],
     number: &mut usize,
 ) -> u32
-    ensures { Through (λ s t. (t ≡ s) × ListsOf (λ cells. rows_met cells s) ids.now result number.new out.old out.new)
+    ensures list { Through (λ s t. (t ≡ s) × ListsOf (λ cells. rows_met cells s) ids.now result number.new out.old out.new)
         ((result ≡ closed) × (number.new ≡ 0) × (out.new ≡ out.old)) (held_of handle.old) (held_of handle.new) }
+    ensures memory { result ≡ out_of_memory → ids.now ≢ [] }
 {
     let Some(store) = handle.take(alloc) else {
         *number = 0;
@@ -68,8 +69,10 @@ pub extern "C" fn s2ix_meet_from(
     out: &mut [Row],
     number: &mut usize,
 ) -> u32
-    ensures { Through (λ s t. (t ≡ s) × ListsOf (λ cells. rows_met_from from (length out.old) cells s) ids.now result number.new out.old out.new)
+    ensures list { Through (λ s t. (t ≡ s) × ListsOf (λ cells. rows_met_from from (length out.old) cells s) ids.now result number.new out.old out.new)
         ((result ≡ closed) × (number.new ≡ 0) × (out.new ≡ out.old)) (held_of handle.old) (held_of handle.new) }
+    ensures memory { result ≡ out_of_memory → (ids.now ≢ []) × (out.old ≢ []) }
+    ensures room { result ≢ no_room }
 {
     let Some(store) = handle.take(alloc) else {
         *number = 0;
@@ -90,8 +93,9 @@ pub extern "C" fn s2ix_labels(
     out: &mut [u32],
     number: &mut usize,
 ) -> u32
-    ensures { Through (λ s t. (t ≡ s) × ListsOf (λ cells. labels_met cells s) ids.now result number.new out.old out.new)
+    ensures list { Through (λ s t. (t ≡ s) × ListsOf (λ cells. labels_met cells s) ids.now result number.new out.old out.new)
         ((result ≡ closed) × (number.new ≡ 0) × (out.new ≡ out.old)) (held_of handle.old) (held_of handle.new) }
+    ensures memory { result ≡ out_of_memory → ids.now ≢ [] }
 {
     let Some(store) = handle.take(alloc) else {
         *number = 0;
@@ -112,7 +116,7 @@ pub extern "C" fn s2ix_region(
     out: &mut [u64],
     number: &mut usize,
 ) -> u32
-    ensures { Through (λ s t. (t ≡ s) × Lists (region_cells (label_numbered label) s) result number.new out.old out.new)
+    ensures { Through (λ s t. (t ≡ s) × PutsGathered (region_cells (label_numbered label) s) result number.new out.old out.new)
         ((result ≡ closed) × (number.new ≡ 0) × (out.new ≡ out.old)) (held_of handle.old) (held_of handle.new) }
 {
     let Some(store) = handle.take(alloc) else {

@@ -4,7 +4,7 @@ ghost use Rattle.std.specs.Prelude.{◌≡◌, IsTrue};
 ghost use Rattle.s2ix_handle.specs.Handle.{held_of};
 ghost use Rattle.s2ix_table_ranges.specs.RangeList.{range_table};
 ghost use Rattle.s2ix_c.specs.Calls.{Through};
-ghost use Rattle.s2ix_c_calls.specs.Lists.{leaf_numbered, Lists};
+ghost use Rattle.s2ix_c_calls.specs.Lists.{leaf_numbered, Puts};
 ghost use Rattle.s2ix_c_calls.specs.Ranges.{FindsFull, FindsFullBefore, FindsRange, ReadsRange, rows_of_range};
 ghost use Rattle.s2ix_c_calls.specs.Status.{closed};
 
@@ -64,7 +64,8 @@ pub extern "C" fn s2ix_range(
 }
 
 /// Of the pairs over the range at a place, those whose cells begin at the leaf number `from` or later: with 0 all of them, and with the end
-/// of an earlier range those that don't lie over that one. The innermost cell comes first, the labels of one cell rise.
+/// of an earlier range those that don't lie over that one. The innermost cell comes first, the labels of one cell rise. It does
+/// not allocate.
 #[tactic(auto, using(crate::proofs::Through::through_open, crate::proofs::Through::through_closed))]
 #[unsafe(no_mangle)]
 pub extern "C" fn s2ix_contents(
@@ -75,14 +76,14 @@ pub extern "C" fn s2ix_contents(
     out: &mut [Row],
     number: &mut usize,
 ) -> u32
-    ensures { Through (λ s t. (t ≡ s) × Lists (rows_of_range place from (range_table s.bag.held)) result number.new out.old out.new)
+    ensures { Through (λ s t. (t ≡ s) × Puts (rows_of_range place from (range_table s.bag.held)) result number.new out.old out.new)
         ((result ≡ closed) × (number.new ≡ 0) × (out.new ≡ out.old)) (held_of handle.old) (held_of handle.new) }
 {
     let Some(store) = handle.take(alloc) else {
         *number = 0;
         return CLOSED;
     };
-    let status = contents_store(alloc, &store, place, from, out, number);
+    let status = contents_store(&store, place, from, out, number);
     *handle = Handle::of(alloc, store);
     status
 }

@@ -1,18 +1,25 @@
 -- The pairs of a range whose cells begin at a leaf or later are the front of its chain.
-use Rattle.std.proofs.Common.{◌≡◌, ℕ, ◌<◌, ◌≤◌, inl, inr, [], ◌∷◌, ◌++◌, List, length, refl, sym, ◌∙◌, ap, arith, subst, le-leb}
+use Rattle.std.proofs.Common.{◌≡◌, ℕ, suc, ◌<◌, ◌≤◌, inl, inr, [], ◌∷◌, ◌+◌, List, length, map, take, drop, refl, sym, ◌∙◌, ap, arith, subst, le-leb}
 use Rattle.std.specs.List.{AllByRecursion}
-use Rattle.std.proofs.lemmas.List.{append_assoc, append-nil}
-use Rattle.std.proofs.lemmas.Bool.{lt-leb, cases_lt, cond-true, cond-false}
+use Rattle.std.proofs.lemmas.Bool.{lt-leb, cases_lt, cond_both, cond-true, cond-false}
 use Rattle.s2id_core.specs.CellId.{first_of}
 use Rattle.s2ix_bag_pairs.specs.declared.pair.Held.{Held}
 use Rattle.s2ix_bag_pairs.specs.Collection.{Collection}
+use Rattle.s2ix_bag_pairs.specs.Label.{value_of}
+use Rattle.s2ix_bag_pairs.specs.OfLabel.{held_of}
+use Rattle.s2ix_bag_pairs.specs.declared.label.Label.{Label}
+use Rattle.std.specs.Prelude.{◌==◌}
 use Rattle.s2ix_table_ranges.specs.InOrder.{Rises}
 use Rattle.s2ix_table_ranges.specs.Contents.{contents_at, depth_key}
 use Rattle.s2ix_table_ranges.specs.Table.{Range, range_at, IsRangeTable}
-use Rattle.s2ix_table_ranges.proofs.Over.{IsOver, every_content, contents_rise, nested_over}
+use Rattle.s2ix_table_ranges.proofs.Over.{IsOver, every_content, contents_rise, length_contents, nested_over}
 use Rattle.s2ix_table_walk.specs.Walking.{front_from}
 use Rattle.s2ix_table_walk.proofs.Meetings.{front_here, front_stops}
+use Rattle.std.proofs.lemmas.List.{length-map}
+use Rattle.s2ix_c_calls.specs.declared.rows.Row.{Row}
+use Rattle.s2ix_c_calls.specs.Lists.{IsPut, row_of}
 use Rattle.s2ix_c_calls.specs.Ranges.{begun_from}
+use Rattle.s2ix_c_calls.specs.Status.{done}
 
 -- of pairs over one leaf, those further out than one that begins before a leaf begin before it too
 none_begun : (q from : ℕ) (h : Held) (hs : Collection) → IsOver h q → AllByRecursion (λ a. IsOver a q) hs
@@ -43,19 +50,72 @@ front_of_range held ranges place from table within =
     subst (λ (cs : Collection). front_from from cs ≡ begun_from from cs) same
     (front_is_begun start from (contents_at start held) (every_content (λ a. IsOver a start) start held (λ h c over. over)) (contents_rise start held))
 
--- ---- what is taken of a chain, and what is still to be taken: one more, one that begins before, and none left
+-- no more pairs lie over a range than there are
+pub few_in_range : (held : Collection) (ranges : List Range) (place : ℕ) → IsRangeTable held ranges → place < length ranges
+    → length (range_at ranges place).contents ≤ length held
+few_in_range held ranges place table within =
+    let start = (range_at ranges place).start in
+    let same = table.shared place start within (table.odd place within) (omega arith) (table.rises place within) in
+    subst (λ (cs : Collection). length cs ≤ length held) same (length_contents start held)
 
-pub front_grows : (from : ℕ) (list more chain rest outer whole : Collection) (h : Held) → more ≡ list ++ h ∷ [] → chain ≡ h ∷ rest → outer ≡ rest
-    → from ≤ first_of h.pair.cell → list ++ front_from from chain ≡ whole → more ++ front_from from outer ≡ whole
-front_grows from list more chain rest outer whole h is_more is same le all =
-    ap (λ m. m ++ front_from from outer) is_more ∙ append_assoc list (h ∷ []) (front_from from outer)
-    ∙ ap (λ r. list ++ h ∷ front_from from r) same ∙ sym (ap (λ z. list ++ z) (ap (front_from from) is ∙ front_here from h rest le)) ∙ all
+-- no more pairs have a label than there are
+pub few_of_label : (label : Label) (hs : Collection) → length (held_of label hs) ≤ length hs
+few_of_label label [] = omega arith
+few_of_label label (h ∷ hs) =
+    let rest = few_of_label label hs in
+    cond_both (value_of h.pair.label == value_of label) (h ∷ held_of label hs) (held_of label hs) (λ ks. length ks ≤ suc (length hs)) (λ _. omega arith) (λ _. omega arith)
 
-pub front_ends : (from : ℕ) (list chain rest whole : Collection) (h : Held) → chain ≡ h ∷ rest → first_of h.pair.cell < from
-    → list ++ front_from from chain ≡ whole → list ≡ whole
-front_ends from list chain rest whole h is early all =
-    sym (ap (λ z. list ++ z) (ap (front_from from) is ∙ front_stops from h rest early) ∙ append-nil list) ∙ all
+-- ---- how many are counted of a chain, and how many are still to be: one more, one that begins before, and none left
 
-pub front_is_whole : (from : ℕ) (list chain whole : Collection) → chain ≡ [] → list ++ front_from from chain ≡ whole → list ≡ whole
+pub count_grows : (from many whole : ℕ) (chain rest outer : Collection) (h : Held) → chain ≡ h ∷ rest → outer ≡ rest → from ≤ first_of h.pair.cell
+    → many + length (front_from from chain) ≡ whole → many + 1 + length (front_from from outer) ≡ whole
+count_grows from many whole chain rest outer h is same late all =
+    let here = ap length (ap (front_from from) is ∙ front_here from h rest late) in
+    let left = ap (λ r. length (front_from from r)) same in
+    omega (arith, here, left, all)
+
+pub count_ends : (from many whole : ℕ) (chain rest : Collection) (h : Held) → chain ≡ h ∷ rest → first_of h.pair.cell < from
+    → many + length (front_from from chain) ≡ whole → many ≡ whole
+count_ends from many whole chain rest h is early all =
+    let none = ap length (ap (front_from from) is ∙ front_stops from h rest early) in
+    omega (arith, none, all)
+
+pub count_is_whole : (from many whole : ℕ) (chain : Collection) → chain ≡ [] → many + length (front_from from chain) ≡ whole → many ≡ whole
 unfolding front_from
-front_is_whole from list chain whole none all = sym (ap (λ c. list ++ front_from from c) none ∙ append-nil list) ∙ all
+count_is_whole from many whole chain none all =
+    let left : length (front_from from chain) ≡ 0 = ap (λ c. length (front_from from c)) none in
+    omega (arith, left, all)
+
+pub front_short : (from : ℕ) (hs : Collection) → length (front_from from hs) ≤ length hs
+unfolding front_from
+front_short from [] = omega arith
+front_short from (h ∷ hs) =
+    elim (cases_lt (first_of h.pair.cell) from) [
+      | inl early ↦ let none = ap length (front_stops from h hs early) in omega (arith, none)
+      | inr late ↦ let here = ap length (front_here from h hs late) in let rest = front_short from hs in omega (arith, here, rest)
+    ]
+
+-- the front of a chain is taken of it
+pub front_is_taken : (from : ℕ) (hs : Collection) → front_from from hs ≡ take (length (front_from from hs)) hs
+unfolding front_from
+front_is_taken from [] = refl
+front_is_taken from (h ∷ hs) =
+    elim (cases_lt (first_of h.pair.cell) from) [
+      | inl early ↦
+          let none = front_stops from h hs early in none ∙ sym (ap (λ l. take (length l) (h ∷ hs)) none)
+      | inr late ↦
+          let here = front_here from h hs late in
+          here ∙ ap (λ l. h ∷ l) (front_is_taken from hs) ∙ sym (ap (λ l. take (length l) (h ∷ hs)) here)
+    ]
+
+pub puts_begun : (from many : ℕ) (chain contents : Collection) (old new : List Row) → many ≡ length (front_from from chain)
+    → front_from from chain ≡ begun_from from contents → take many new ≡ map row_of (take many chain) → drop many new ≡ drop many old
+    → IsPut (map row_of (begun_from from contents)) done many old new
+puts_begun from many chain contents old new counted begun front behind =
+    let taken : take many chain ≡ begun_from from contents =
+    ap (λ n. take n chain) counted ∙ sym (front_is_taken from chain) ∙ begun in record {
+      long = counted ∙ ap length begun ∙ sym (length-map (begun_from from contents) row_of);
+      put = λ _. front ∙ ap (map row_of) taken;
+      behind = λ _. behind;
+      short = λ refused. absurd (refused refl);
+    }

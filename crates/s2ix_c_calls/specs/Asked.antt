@@ -22,6 +22,24 @@ AreCells ids cells = map raw_of cells ≡ ids
 abbrev pub LacksCell : List ℕ → Type 0
 LacksCell ids = (id : ℕ) × Contains ids id × (IsCellNumber id → ⊥)
 
+-- the first number that is no cell's stands at this place
+pub record IsFirstNoCell (ids : List ℕ) (place : ℕ) : Type 0 where
+  pub cells : List CellId
+  pub before : AreCells (take place ids) cells
+  pub id : ℕ
+  pub there : slice_get ids place ≡ Some id
+  pub wrong : IsCellNumber id → ⊥
+
+-- each of the numbers is a cell's
+abbrev pub AreAllCells : List ℕ → Type 0
+AreAllCells ids = (cells : List CellId) × AreCells ids cells
+
+-- why there is no union of the cells with these numbers: one is no cell's, and a number tells the place of the first; or memory is wanted
+abbrev pub LacksUnion : List ℕ → ℕ → ℕ → Type 0
+LacksUnion ids why number =
+    ((why ≡ no_cell) × IsFirstNoCell ids number)
+    ⊎ ((why ≡ out_of_memory) × (number ≡ 0) × AreAllCells ids)
+
 -- the pair of a cell and a label that are there, or the status of the first that is not
 abbrev pub pair_of : Option CellId → Option Label → Result Pair ℕ
 pair_of None label = Err no_cell

@@ -7,3 +7,4 @@ pub mod Ranges
 pub mod Changes
 pub mod Replaying
 pub mod Line
+pub mod Laws

@@ -1,5 +1,5 @@
 -- Lists in buffers of the caller.
-use Rattle.std.specs.Prelude.{◌≡◌, ◌≢◌, ◌⊎◌, ℕ, ◌<◌, ◌==◌, if◌then◌else◌, Option, Some, None, Result, Ok, Err, List, length, map, take, drop}
+use Rattle.std.specs.Prelude.{◌≡◌, ◌≢◌, ◌⊎◌, ℕ, ◌<◌, ◌==◌, if◌then◌else◌, Option, Some, None, Result, Ok, Err, List, [], length, map, take, drop}
 use Rattle.s2id_core.specs.declared.cell_id.CellId.{CellId}
 use Rattle.s2id_core.specs.CellId.{raw_of, level_of}
 use Rattle.s2id_core.specs.Spelled.{cell_numbered}
@@ -15,7 +15,7 @@ use Rattle.s2ix_table_ranges.specs.LabelList.{label_list}
 use Rattle.s2ix_table_ranges.specs.Meeting.{meeting_of}
 use Rattle.s2ix_edit_plan.specs.Region.{region_of}
 use Rattle.s2ix_edit_plan.specs.State.{State}
-use Rattle.s2ix_c_calls.specs.Asked.{AreCells, LacksCell}
+use Rattle.s2ix_c_calls.specs.Asked.{AreCells, LacksUnion}
 use Rattle.s2ix_c_calls.specs.declared.rows.Row.{Row}
 use Rattle.s2ix_c_calls.specs.Status.{done, no_cell, no_label, no_room, out_of_memory}
 
@@ -44,6 +44,11 @@ Puts (Err why) status number old new = IsRefused why status number old new
 abbrev pub Lists : {A : Type 0} → Result (List A) ℕ → ℕ → ℕ → List A → List A → Type 0
 Lists (Ok list) status number old new = IsPut list status number old new ⊎ IsRefused out_of_memory status number old new
 Lists (Err why) status number old new = IsRefused why status number old new
+
+-- the same for a list that is gathered before it is put: if it has items, want of memory may be told in its place
+abbrev pub PutsGathered : {A : Type 0} → Result (List A) ℕ → ℕ → ℕ → List A → List A → Type 0
+PutsGathered (Ok list) status number old new = IsPut list status number old new ⊎ ((list ≢ []) × IsRefused out_of_memory status number old new)
+PutsGathered (Err why) status number old new = IsRefused why status number old new
 
 -- the leaf with this number, if it is a leaf's
 abbrev pub leaf_if : Option CellId → Option CellId
@@ -80,12 +85,12 @@ abbrev pub Counts : Result Pair ℕ → State → ℕ → ℕ → Type 0
 Counts (Ok pair) s status count = (status ≡ done) × (count ≡ count_in s.bag.held pair)
 Counts (Err why) s status count = (status ≡ why) × (count ≡ 0)
 
--- what is asked of a union of cells with these numbers, in a buffer; or one of them is no cell's, or memory is wanted
+-- a list made of the union of the cells with these numbers, in a buffer, or why there is none. The union and most lists are gathered before
+-- they are put, so want of memory may be told in place of a buffer that is too short, but never in place of a number that is no cell's
 abbrev pub ListsOf : {A : Type 0} → (List CellId → List A) → List ℕ → ℕ → ℕ → List A → List A → Type 0
 ListsOf list ids status number old new =
     ((cells : List CellId) × AreCells ids cells × IsPut (list cells) status number old new)
-    ⊎ (LacksCell ids × IsRefused no_cell status number old new)
-    ⊎ IsRefused out_of_memory status number old new
+    ⊎ (LacksUnion ids status number × (new ≡ old))
 
 -- the pairs of a label
 abbrev pub rows_with : Option Label → State → Result (List Row) ℕ

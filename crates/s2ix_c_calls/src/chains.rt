@@ -1,10 +1,13 @@
-//! The pairs over a leaf, put into a buffer of the caller straight from the chain of a table, with no list between them.
+//! The pairs over a leaf or a range, put into a buffer of the caller straight from the chain of a table, with no list between them.
 
-ghost use Rattle.std.specs.Prelude.{◌≡◌, ◌≤◌, Some, length, map, take, drop};
+ghost use Rattle.std.specs.Prelude.{◌≡◌, ◌<◌, ◌≤◌, ℕ, Some, length, map, take, drop};
 ghost use Rattle.s2id_core.specs.CellId.{level_of, raw_of};
 ghost use Rattle.s2ix_table_ranges.specs.Contents.{contents_at};
+ghost use Rattle.s2ix_table_ranges.specs.Table.{range_at};
 ghost use Rattle.s2ix_table_walk.specs.Places.{IsPlace, from_place};
+ghost use Rattle.s2ix_table_walk.specs.Walking.{front_from};
 ghost use Rattle.s2ix_c_calls.specs.Lists.{IsPut, row_of};
+ghost use Rattle.s2ix_c_calls.specs.Ranges.{begun_from};
 
 use crate::rows::{Row, row_for};
 use crate::status::{DONE, NO_ROOM};
@@ -37,17 +40,20 @@ fn length_from<T: RangeTable>(table: &T, first: Option<T::Place>) -> usize
     many
 }
 
-// Writes the pairs of a chain from a place on to the front of `out`, which has room for them.
-fn write_from<T: RangeTable>(table: &T, first: Option<T::Place>, out: &mut [Row])
+// Writes the first `many` pairs of a chain from a place on to the front of `out`, which has room for them.
+fn write_from<T: RangeTable>(table: &T, first: Option<T::Place>, many: usize, out: &mut [Row])
     requires place { (p : T.Place) → first ≡ Some p → IsPlace (T.chain table.now) p }
-    requires room { length (from_place (T.chain table.now) first) ≤ length out.old }
-    ensures front { take (length (from_place (T.chain table.now) first)) out.new ≡ map row_of (from_place (T.chain table.now) first) }
-    ensures behind { drop (length (from_place (T.chain table.now) first)) out.new
-        ≡ drop (length (from_place (T.chain table.now) first)) out.old }
+    requires some { many ≤ length (from_place (T.chain table.now) first) }
+    requires room { many ≤ length out.old }
+    ensures front { take many out.new ≡ map row_of (take many (from_place (T.chain table.now) first)) }
+    ensures behind { drop many out.new ≡ drop many out.old }
 {
     let mut count = 0;
     let mut next = first;
     while let Some(place) = next {
+        if count == many {
+            return;
+        }
         out[count] = row_for(table.held_at(place));
         count += 1;
         next = table.outer(place);
@@ -70,6 +76,56 @@ pub(crate) fn put_contents<T: RangeTable>(
     if *number > out.len() {
         return NO_ROOM;
     }
-    write_from(table, first, out);
+    write_from(table, first, *number, out);
+    DONE
+}
+
+// Where the chain of a range begins, or `None` if nothing lies over it.
+fn first_in<T: RangeTable>(table: &T, range: usize) -> Option<T::Place>
+    requires { range < length (T.ranges table.now) }
+    ensures place { (p : T.Place) → result ≡ Some p → IsPlace (T.chain table.now) p }
+    ensures begun { (from : ℕ) → front_from from (from_place (T.chain table.now) result)
+        ≡ begun_from from (range_at (T.ranges table.now) range).contents }
+    ensures few { length (from_place (T.chain table.now) result) ≤ 1000000 }
+{
+    table.first(range)
+}
+
+// How many pairs a chain has from a place on up to the first whose cell begins before the leaf number `from`.
+fn length_begun<T: RangeTable>(table: &T, first: Option<T::Place>, from: u64) -> usize
+    requires place { (p : T.Place) → first ≡ Some p → IsPlace (T.chain table.now) p }
+    requires few { length (from_place (T.chain table.now) first) ≤ 1000000 }
+    ensures { result ≡ length (front_from from (from_place (T.chain table.now) first)) }
+{
+    let mut many = 0;
+    let mut next = first;
+    while let Some(place) = next {
+        if table.held_at(place).pair.cell.span_start() < from {
+            return many;
+        }
+        many += 1;
+        next = table.outer(place);
+    }
+    many
+}
+
+// Puts the pairs over a range whose cells begin at the leaf number `from` or later to the front of `out`, if it has room for them; `number`
+// is how many there are. It does not allocate. O(k) for k pairs.
+pub(crate) fn put_begun<T: RangeTable>(
+    table: &T,
+    range: usize,
+    from: u64,
+    out: &mut [Row],
+    number: &mut usize,
+) -> u32
+    requires { range < length (T.ranges table.now) }
+    ensures { IsPut (map row_of (begun_from from (range_at (T.ranges table.now) range).contents)) result number.new out.old out.new }
+{
+    let first = first_in(table, range);
+    *number = length_begun(table, first, from);
+    if *number > out.len() {
+        return NO_ROOM;
+    }
+    write_from(table, first, *number, out);
     DONE
 }

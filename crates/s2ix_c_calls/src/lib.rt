@@ -33,4 +33,4 @@ pub use replaying::{Direction, Refused, texts_led};
 pub use rows::{Row, put_bytes, put_cells};
 pub use steps::{clear_store, redo_store, undo_store};
 pub use texts::{dump_store, export_store, journal_store};
-pub use unions::{normal_of, normals_of, union_of};
+pub use unions::{check_both, check_cells, normal_of, normals_of, union_of};

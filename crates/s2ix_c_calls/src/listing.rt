@@ -1,16 +1,14 @@
 //! The pairs of a store, in rising order. No call here changes it.
 
-ghost use Rattle.std.specs.Prelude.{◌≡◌, IfOk};
+ghost use Rattle.std.specs.Prelude.{◌≡◌, ◌≤◌, drop, length, map, take};
 ghost use Rattle.s2ix_bag_pairs.specs.Label.{label_numbered};
 ghost use Rattle.s2ix_bag_pairs.specs.OfLabel.{held_of as held_with};
-ghost use Rattle.s2ix_c_calls.specs.Lists.{Lists, PutsPage, rows_with};
+ghost use Rattle.s2ix_c_calls.specs.Lists.{Puts, PutsPage, row_of, rows_with};
 
-use crate::rows::{Row, put_rows, row_for};
-use crate::status::{DONE, NO_LABEL, OUT_OF_MEMORY};
-use s2id_core::OutOfMemory;
-use s2ix_bag_pairs::{Held, Label};
+use crate::rows::{Row, row_for};
+use crate::status::{DONE, NO_LABEL, NO_ROOM};
+use s2ix_bag_pairs::Label;
 use s2ix_edit::Store;
-use std::alloc::Global;
 
 /// The pairs from a place on, counted from 0 in rising order: as many as the buffer has room for. `number` is how many are put.
 pub fn pairs_store(store: &Store, from: usize, out: &mut [Row], number: &mut usize) -> u32
@@ -26,29 +24,43 @@ pub fn pairs_store(store: &Store, from: usize, out: &mut [Row], number: &mut usi
     DONE
 }
 
-// The pairs of a label.
-fn labelled(alloc: Global, store: &Store, label: Label) -> Result<Vec<Held>, OutOfMemory>
-    ensures { IfOk result (λ list. list.items ≡ held_with label store.now.bag.held) }
+// How many pairs have a label. O(n) for all n pairs.
+fn count_labelled(store: &Store, label: Label) -> usize
+    ensures { result ≡ length (held_with label store.now.bag.held) }
 {
-    Ok(store.bag().of_label(label).collect(alloc)?)
+    let mut many = 0;
+    for _held in store.bag().of_label(label) {
+        many += 1;
+    }
+    many
 }
 
-/// The pairs of a label, by rising cell.
-pub fn label_store(
-    alloc: Global,
-    store: &Store,
-    label: u32,
-    out: &mut [Row],
-    number: &mut usize,
-) -> u32
-    ensures { Lists (rows_with (label_numbered label) store.now) result number.new out.old out.new }
+// Writes the pairs of a label to the front of `out`, which has room for them. O(n) for all n pairs.
+fn write_labelled(store: &Store, label: Label, out: &mut [Row])
+    requires { length (held_with label store.now.bag.held) ≤ length out.old }
+    ensures front { take (length (held_with label store.now.bag.held)) out.new ≡ map row_of (held_with label store.now.bag.held) }
+    ensures behind { drop (length (held_with label store.now.bag.held)) out.new
+        ≡ drop (length (held_with label store.now.bag.held)) out.old }
+{
+    let mut count = 0;
+    for held in store.bag().of_label(label) {
+        out[count] = row_for(held);
+        count += 1;
+    }
+}
+
+/// The pairs of a label, by rising cell. It does not allocate: it goes through the pairs once to count, and once to write.
+pub fn label_store(store: &Store, label: u32, out: &mut [Row], number: &mut usize) -> u32
+    ensures { Puts (rows_with (label_numbered label) store.now) result number.new out.old out.new }
 {
     *number = 0;
     let Some(label) = Label::new(label) else {
         return NO_LABEL;
     };
-    let Ok(list) = labelled(alloc, store, label) else {
-        return OUT_OF_MEMORY;
-    };
-    put_rows(list.as_slice(), out, number)
+    *number = count_labelled(store, label);
+    if *number > out.len() {
+        return NO_ROOM;
+    }
+    write_labelled(store, label, out);
+    DONE
 }

@@ -1,19 +1,21 @@
 //! Queries of a store. None changes it.
 
-ghost use Rattle.std.specs.Prelude.{◌≡◌, IfSome, IfOk, drop, length, take};
+ghost use Rattle.std.specs.Prelude.{◌≡◌, ◌≢◌, ◌↔◌, [], Some, IsTrue, IfSome, drop, length, map, take};
 ghost use Rattle.s2id_core.specs.CellId.{level_of};
 ghost use Rattle.s2ix_bag_pairs.specs.Label.{label_numbered};
+ghost use Rattle.s2ix_bag_pairs.specs.OfLabel.{held_of as held_with};
 ghost use Rattle.s2ix_table_ranges.specs.Meeting.{meeting_of};
-ghost use Rattle.s2ix_c_calls.specs.Lists.{leaf_numbered, labels_met, Lists, ListsOf, Puts, region_cells, rows_met, rows_met_from, rows_over};
+ghost use Rattle.s2ix_c_calls.specs.Lists.{leaf_numbered, labels_met, IsPut, ListsOf, Puts, PutsGathered, region_cells, rows_met, rows_met_from, rows_over, row_of};
+ghost use Rattle.s2ix_c_calls.specs.Status.{done, no_room, out_of_memory};
 
 use crate::asked::cell_of;
 use crate::chains::put_contents;
-use crate::rows::{Row, put_cells, put_labels, put_rows};
-use crate::status::{NO_CELL, NO_LABEL, OUT_OF_MEMORY};
-use crate::unions::normal_of;
-use s2id_core::{CellId, OutOfMemory};
+use crate::rows::{Row, put_cells, put_labels, put_rows, row_for};
+use crate::status::{DONE, NO_CELL, NO_LABEL, OUT_OF_MEMORY};
+use crate::unions::{check_cells, normal_of};
+use s2id_core::CellId;
 use s2id_union::CellUnion;
-use s2ix_bag_pairs::{Held, Label};
+use s2ix_bag_pairs::Label;
 use s2ix_edit::Store;
 use s2ix_table_queries::{Meter, RangeTable};
 use s2ix_table_walk::Meeting;
@@ -50,10 +52,14 @@ pub fn meet_store(
     out: &mut [Row],
     number: &mut usize,
 ) -> u32
-    ensures { ListsOf (λ cells. rows_met cells store.now) ids.now result number.new out.old out.new }
+    ensures list { ListsOf (λ cells. rows_met cells store.now) ids.now result number.new out.old out.new }
+    ensures memory { result ≡ out_of_memory → ids.now ≢ [] }
 {
     *number = 0;
-    let target = match normal_of(alloc, ids) {
+    if ids.is_empty() {
+        return DONE;
+    }
+    let target = match normal_of(alloc, ids, number) {
         Ok(target) => target,
         Err(why) => return why,
     };
@@ -63,31 +69,27 @@ pub fn meet_store(
     put_rows(list.as_slice(), out, number)
 }
 
-// The pairs that a target meets, from a place on, and at most so many of them.
-fn met_from<T: RangeTable>(
-    alloc: Global,
-    table: &T,
-    target: &CellUnion,
-    from: usize,
-    most: usize,
-) -> Result<Vec<Held>, OutOfMemory>
-    ensures { IfOk result (λ list. list.items ≡ take most (drop from (meeting_of target.now (T.pairs table.now)))) }
+// Puts the pairs that a target meets, from a place on, to the front of `out`: as many as it has room for. The answer is how many are put.
+// It does not allocate.
+fn put_met_from<T: RangeTable>(table: &T, target: &CellUnion, from: usize, out: &mut [Row]) -> usize
+    ensures { IsPut (map row_of (take (length out.old) (drop from (meeting_of target.now (T.pairs table.now))))) done result out.old out.new }
 {
     let mut meter = Meter::new(table);
     let mut meeting = Meeting::new(&mut meter, target);
     let mut passed = 0;
-    let mut list = Vec::new(alloc);
-    while list.len() < most {
+    let mut count = 0;
+    while count < out.len() {
         let Some(held) = meeting.advance() else {
-            return Ok(list);
+            return count;
         };
         if passed < from {
             passed += 1;
         } else {
-            list.push(held)?;
+            out[count] = row_for(held);
+            count += 1;
         }
     }
-    Ok(list)
+    count
 }
 
 /// The pairs that `meet_store` puts, from a place on, counted from 0: as many as the buffer has room for. It goes no further along the table.
@@ -99,17 +101,23 @@ pub fn meet_store_from(
     out: &mut [Row],
     number: &mut usize,
 ) -> u32
-    ensures { ListsOf (λ cells. rows_met_from from (length out.old) cells store.now) ids.now result number.new out.old out.new }
+    ensures list { ListsOf (λ cells. rows_met_from from (length out.old) cells store.now) ids.now result number.new out.old out.new }
+    ensures memory { result ≡ out_of_memory → (ids.now ≢ []) × (out.old ≢ []) }
+    ensures room { result ≢ no_room }
 {
     *number = 0;
-    let target = match normal_of(alloc, ids) {
+    if ids.is_empty() {
+        return DONE;
+    }
+    if out.is_empty() {
+        return check_cells(ids, number);
+    }
+    let target = match normal_of(alloc, ids, number) {
         Ok(target) => target,
         Err(why) => return why,
     };
-    let Ok(list) = met_from(alloc, store.table(), &target, from, out.len()) else {
-        return OUT_OF_MEMORY;
-    };
-    put_rows(list.as_slice(), out, number)
+    *number = put_met_from(store.table(), &target, from, out);
+    DONE
 }
 
 /// The labels of the pairs that share a leaf with a union of cells: each once, rising.
@@ -120,10 +128,14 @@ pub fn labels_store(
     out: &mut [u32],
     number: &mut usize,
 ) -> u32
-    ensures { ListsOf (λ cells. labels_met cells store.now) ids.now result number.new out.old out.new }
+    ensures list { ListsOf (λ cells. labels_met cells store.now) ids.now result number.new out.old out.new }
+    ensures memory { result ≡ out_of_memory → ids.now ≢ [] }
 {
     *number = 0;
-    let target = match normal_of(alloc, ids) {
+    if ids.is_empty() {
+        return DONE;
+    }
+    let target = match normal_of(alloc, ids, number) {
         Ok(target) => target,
         Err(why) => return why,
     };
@@ -133,16 +145,37 @@ pub fn labels_store(
     put_labels(list.as_slice(), out, number)
 }
 
-/// The region of a label: the normal union of the cells that are held with it, rising.
-pub fn region_store(store: &Store, label: u32, out: &mut [u64], number: &mut usize) -> u32
-    ensures { Lists (region_cells (label_numbered label) store.now) result number.new out.old out.new }
+// Whether no pair has a label. O(n) for all n pairs; it does not allocate.
+fn lacks_label(store: &Store, label: Label) -> bool
+    ensures { IsTrue result ↔ (held_with label store.now.bag.held ≡ []) }
+{
+    store.bag().of_label(label).next().is_none()
+}
+
+// The region of a label, put to the front of `out`, if it has room for it; `number` is how many cells it has.
+#[tactic(auto, using(crate::proofs::NoCells::puts_no_region, crate::proofs::NoCells::gathers_region))]
+fn put_region(store: &Store, label: Label, out: &mut [u64], number: &mut usize) -> u32
+    ensures { PutsGathered (region_cells (Some label) store.now) result number.new out.old out.new }
 {
     *number = 0;
-    let Some(label) = Label::new(label) else {
-        return NO_LABEL;
-    };
-    let Ok(region) = store.region(label) else {
-        return OUT_OF_MEMORY;
-    };
-    put_cells(region.cells(), out, number)
+    if lacks_label(store, label) {
+        return DONE;
+    }
+    match store.region(label) {
+        Ok(region) => put_cells(region.cells(), out, number),
+        Err(_) => OUT_OF_MEMORY,
+    }
+}
+
+/// The region of a label: the normal union of the cells that are held with it, rising. If none is, no memory is wanted.
+pub fn region_store(store: &Store, label: u32, out: &mut [u64], number: &mut usize) -> u32
+    ensures { PutsGathered (region_cells (label_numbered label) store.now) result number.new out.old out.new }
+{
+    match Label::new(label) {
+        Some(label) => put_region(store, label, out, number),
+        None => {
+            *number = 0;
+            NO_LABEL
+        }
+    }
 }

@@ -1,22 +1,21 @@
 //! The ranges of leaves of a store. No call here changes it.
 
-ghost use Rattle.std.specs.Prelude.{◌≡◌, ◌≢◌, ◌<◌, ◌≤◌, ℕ, None, [], IfOk, IfSome, length};
+ghost use Rattle.std.specs.Prelude.{◌≡◌, ◌≢◌, ◌<◌, ◌≤◌, ℕ, None, [], IfSome, length};
 ghost use Rattle.s2id_core.specs.CellId.{level_of};
 ghost use Rattle.s2ix_table_ranges.specs.RangeList.{range_table};
 ghost use Rattle.s2ix_table_ranges.specs.Table.{range_at};
-ghost use Rattle.s2ix_c_calls.specs.Lists.{leaf_numbered, Lists};
-ghost use Rattle.s2ix_c_calls.specs.Ranges.{begun_from, FindsFull, FindsFullBefore, FindsRange, IsEmptyAt, IsRangeOf, ReadsRange, rows_of_range, TellsPlace};
+ghost use Rattle.s2ix_c_calls.specs.Lists.{leaf_numbered, Puts};
+ghost use Rattle.s2ix_c_calls.specs.Ranges.{FindsFull, FindsFullBefore, FindsRange, IsEmptyAt, IsRangeOf, ReadsRange, rows_of_range, TellsPlace};
 
+use crate::chains::put_begun;
 use crate::queries::leaf_of;
-use crate::rows::{Row, put_rows};
-use crate::status::{DONE, NO_CELL, NO_RANGE, OUT_OF_MEMORY};
-use s2id_core::{CellId, OutOfMemory};
-use s2ix_bag_pairs::Held;
+use crate::rows::Row;
+use crate::status::{DONE, NO_CELL, NO_RANGE};
+use s2id_core::CellId;
 use s2ix_edit::{Store, StoreTable};
 use s2ix_table_queries::RangeTable;
 use s2ix_table_ranges::RangeRow;
 use s2ix_table_ranges::laws::range_table_is_the_collections;
-use std::alloc::Global;
 
 // The table of a store: its ranges are those of what the store holds.
 pub(crate) fn table_of(store: &Store) -> &StoreTable
@@ -85,51 +84,24 @@ pub fn read_store(
     DONE
 }
 
-// Of the pairs over the range at a place, those whose cells begin at a leaf number or later. It reads these and one more: each cell
-// further out begins no later than the one before it.
-fn begun_in<T: RangeTable>(
-    alloc: Global,
-    table: &T,
-    place: usize,
-    from: u64,
-) -> Result<Vec<Held>, OutOfMemory>
-    requires { place < length (T.ranges table.now) }
-    ensures { IfOk result (λ list. list.items ≡ begun_from from (range_at (T.ranges table.now) place).contents) }
-{
-    let mut list = Vec::new(alloc);
-    let mut next = table.first(place);
-    while let Some(at) = next {
-        let held = table.held_at(at);
-        if held.pair.cell.span_start() < from {
-            return Ok(list);
-        }
-        list.push(held)?;
-        next = table.outer(at);
-    }
-    Ok(list)
-}
-
 /// Of the pairs over the range at a place, those whose cells begin at the leaf number `from` or later: the innermost cell first, the
-/// labels of one cell rising.
+/// labels of one cell rising. It does not allocate: it goes along the chain once to count, and once to write. It reads these pairs and one
+/// more: each cell further out begins no later than the one before it.
 pub fn contents_store(
-    alloc: Global,
     store: &Store,
     place: usize,
     from: u64,
     out: &mut [Row],
     number: &mut usize,
 ) -> u32
-    ensures { Lists (rows_of_range place from (range_table store.now.bag.held)) result number.new out.old out.new }
+    ensures { Puts (rows_of_range place from (range_table store.now.bag.held)) result number.new out.old out.new }
 {
     *number = 0;
     let table = table_of(store);
     if place >= table.range_count() {
         return NO_RANGE;
     }
-    let Ok(list) = begun_in(alloc, table, place, from) else {
-        return OUT_OF_MEMORY;
-    };
-    put_rows(list.as_slice(), out, number)
+    put_begun(table, place, from, out, number)
 }
 
 // The first range from a place on that has a pair over it. No two neighbours are both empty, so it looks at two at most.

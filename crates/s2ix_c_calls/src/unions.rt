@@ -1,73 +1,137 @@
 //! Unions of cells by their numbers.
 
-ghost use Rattle.std.specs.Prelude.{◌≡◌, ◌⊎◌, ◌≤◌, ◌<◌, length, map, take, IfErr, IfOk, Contains, List};
+ghost use Rattle.std.specs.Prelude.{◌≡◌, ◌≢◌, ◌⊎◌, ◌≤◌, ◌<◌, None, length, map, take, IfErr, IfOk, IfSome, OnOk, Contains, List, ◌++◌};
 ghost use Rattle.s2id_core.specs.CellId.{raw_of};
 ghost use Rattle.s2id_union.specs.NormalForm.{normal_form};
-ghost use Rattle.s2ix_c_calls.specs.Asked.{AreCells, AsksUnion, LacksCell};
-ghost use Rattle.s2ix_c_calls.specs.Status.{no_cell, out_of_memory};
+ghost use Rattle.s2ix_c_calls.specs.Asked.{AreAllCells, AreCells, AsksUnion, IsFirstNoCell, LacksUnion};
+ghost use Rattle.s2ix_c_calls.specs.Status.{done, no_cell};
 ghost use Rattle.s2id_core.specs.declared.cell_id.CellId.{CellId};
 
-use crate::status::{NO_CELL, NO_LABEL, OUT_OF_MEMORY};
-use s2id_core::CellId;
+use crate::status::{DONE, NO_CELL, NO_LABEL, OUT_OF_MEMORY};
+use s2id_core::{CellId, OutOfMemory};
 use s2id_union::CellUnion;
 use s2ix_bag_pairs::Label;
 use s2ix_edit_plan::Edit;
 use std::alloc::Global;
 
-// The cells of numbers, or why there are none: a number that is no cell's, or want of memory.
-fn cells_of(alloc: Global, ids: &[u64]) -> Result<Vec<CellId>, u32>
-    ensures cells { IfOk result (λ cells. AreCells ids.now cells.items) }
-    ensures refused { IfErr result (λ why. ((why ≡ no_cell) × LacksCell ids.now) ⊎ (why ≡ out_of_memory)) }
+// The place of the first number that is no cell's, counted from 0. It does not allocate.
+#[tactic(auto, using(crate::proofs::OfNumbers::first_no_cell, crate::proofs::OfNumbers::no_numbers, crate::proofs::OfNumbers::one_more, crate::proofs::OfNumbers::all_taken))]
+fn wrong_cell(ids: &[u64]) -> Option<usize>
+    ensures first { IfSome result (IsFirstNoCell ids.now) }
+    ensures none { result ≡ None → AreAllCells ids.now }
 {
-    let Ok(mut cells) = Vec::with_capacity(alloc, ids.len()) else {
-        return Err(OUT_OF_MEMORY);
-    };
-    for id in ids {
-        let Some(cell) = CellId::from_raw(*id) else {
-            return Err(NO_CELL);
+    for (place, id) in ids.iter().enumerate() {
+        let Some(_cell) = CellId::from_raw(*id) else {
+            return Some(place);
         };
-        if cells.push(cell).is_err() {
-            return Err(OUT_OF_MEMORY);
+    }
+    None
+}
+
+/// Looks for the first number that is no cell's: `number` is its place, counted from 0, or 0 if each is a cell's. O(n) for n numbers; it
+/// does not allocate.
+pub fn check_cells(ids: &[u64], number: &mut usize) -> u32
+    ensures right { result ≡ done → (number.new ≡ 0) × AreAllCells ids.now }
+    ensures wrong { result ≢ done → (result ≡ no_cell) × IsFirstNoCell ids.now number.new }
+{
+    *number = 0;
+    if let Some(place) = wrong_cell(ids) {
+        *number = place;
+        return NO_CELL;
+    }
+    DONE
+}
+
+/// Looks for the first number of two lists, one after the other, that is no cell's: its place counts on through the second list. O(n) for n
+/// numbers; it does not allocate.
+#[tactic(auto, using(crate::proofs::OfNumbers::first_of_first, crate::proofs::OfNumbers::first_of_second))]
+pub fn check_both(first: &[u64], second: &[u64], number: &mut usize) -> u32
+    ensures right { result ≡ done → (number.new ≡ 0) × AreAllCells first.now × AreAllCells second.now }
+    ensures wrong { result ≢ done → (result ≡ no_cell) × IsFirstNoCell (first.now ++ second.now) number.new }
+{
+    *number = 0;
+    if let Some(place) = wrong_cell(first) {
+        *number = place;
+        return NO_CELL;
+    }
+    if let Some(place) = wrong_cell(second) {
+        *number = first.len() + place;
+        return NO_CELL;
+    }
+    DONE
+}
+
+// The cells of numbers that are all cells'.
+fn cells_of(alloc: Global, ids: &[u64]) -> Result<Vec<CellId>, OutOfMemory>
+    requires { AreAllCells ids.now }
+    ensures { IfOk result (λ cells. AreCells ids.now cells.items) }
+{
+    let mut cells = Vec::with_capacity(alloc, ids.len())?;
+    for id in ids {
+        match CellId::from_raw(*id) {
+            Some(cell) => cells.push(cell)?,
+            None => unreachable!(),
         }
     }
     Ok(cells)
 }
 
-/// The union of cells by their numbers, or why there is none: a number that is no cell's, or want of memory.
-pub fn normal_of(alloc: Global, ids: &[u64]) -> Result<CellUnion, u32>
-    ensures union { IfOk result (λ union. (cells : List CellId) × AreCells ids.now cells × (union ≡ normal_form cells)) }
-    ensures refused { IfErr result (λ why. ((why ≡ no_cell) × LacksCell ids.now) ⊎ (why ≡ out_of_memory)) }
+// The union of cells by numbers that are all cells'.
+fn normal_union(alloc: Global, ids: &[u64]) -> Result<CellUnion, OutOfMemory>
+    requires { AreAllCells ids.now }
+    ensures { IfOk result (λ union. (cells : List CellId) × AreCells ids.now cells × (union ≡ normal_form cells)) }
 {
-    let cells = match cells_of(alloc, ids) {
-        Ok(cells) => cells,
-        Err(why) => return Err(why),
-    };
-    match CellUnion::normalise(alloc, cells.as_slice()) {
+    let cells = cells_of(alloc, ids)?;
+    CellUnion::normalise(alloc, cells.as_slice())
+}
+
+/// The union of cells by their numbers, or why there is none: the first number that is no cell's, with its place, counted from 0, in
+/// `number`; or want of memory, if each is a cell's. O(n log n) for n numbers.
+pub fn normal_of(alloc: Global, ids: &[u64], number: &mut usize) -> Result<CellUnion, u32>
+    ensures union { IfOk result (λ union. (cells : List CellId) × AreCells ids.now cells × (union ≡ normal_form cells)) }
+    ensures right { OnOk result (number.new ≡ 0) }
+    ensures refused { IfErr result (λ why. LacksUnion ids.now why number.new) }
+{
+    let status = check_cells(ids, number);
+    if status != DONE {
+        return Err(status);
+    }
+    match normal_union(alloc, ids) {
         Ok(union) => Ok(union),
         Err(_) => Err(OUT_OF_MEMORY),
     }
 }
 
-/// Two unions of cells by their numbers, or why there are none.
+/// Two unions of cells by their numbers, or why there are none: the place of the first number that is no cell's counts on through the
+/// second list.
+#[tactic(auto, using(crate::proofs::OfNumbers::all_of_both))]
 pub fn normals_of(
     alloc: Global,
     first: &[u64],
     second: &[u64],
+    number: &mut usize,
 ) -> Result<(CellUnion, CellUnion), u32>
     ensures first { IfOk result (λ both. (cells : List CellId) × AreCells first.now cells × (both.0 ≡ normal_form cells)) }
     ensures second { IfOk result (λ both. (cells : List CellId) × AreCells second.now cells × (both.1 ≡ normal_form cells)) }
-    ensures refused { IfErr result (λ why. ((why ≡ no_cell) × (LacksCell first.now ⊎ LacksCell second.now)) ⊎ (why ≡ out_of_memory)) }
+    ensures right { OnOk result (number.new ≡ 0) }
+    ensures refused { IfErr result (λ why. LacksUnion (first.now ++ second.now) why number.new) }
 {
-    let first = normal_of(alloc, first)?;
-    let second = normal_of(alloc, second)?;
-    Ok((first, second))
+    let status = check_both(first, second, number);
+    if status != DONE {
+        return Err(status);
+    }
+    match (normal_union(alloc, first), normal_union(alloc, second)) {
+        (Ok(first), Ok(second)) => Ok((first, second)),
+        _ => Err(OUT_OF_MEMORY),
+    }
 }
 
 /// The edit that adds a union under a label.
 pub fn union_of(alloc: Global, ids: &[u64], label: u32) -> Result<Edit, u32>
     ensures { AsksUnion ids.now label result }
 {
-    let union = match normal_of(alloc, ids) {
+    let mut place = 0;
+    let union = match normal_of(alloc, ids, &mut place) {
         Ok(union) => union,
         Err(why) => return Err(why),
     };

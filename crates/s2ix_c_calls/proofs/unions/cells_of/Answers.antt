@@ -1,9 +1,11 @@
--- The number at which it stops is no cell's.
-use Rattle.std.proofs.Common.{refl, inl}
-use Rattle.std.specs.Prelude.{false, get_or}
+-- Each number is a cell's.
+use Rattle.std.proofs.Common.{false, refl}
 use Rattle.std.proofs.lemmas.Bool.{both_ways}
-use Rattle.std.proofs.lemmas.List.Elements.{Contains-get_or}
+use Rattle.s2ix_c_calls.proofs.OfNumbers.{each_valid}
 use Rattle.s2ix_c_calls.proofs.unions.cells_of.Goals as goal
 
-pub returns-in_default-from_raw-clause-refused : goal.returns-in_default-from_raw-clause-refused
-returns-in_default-from_raw-clause-refused c = inl (refl, (get_or c.args.ids.now c.loop-id.id-index 0, Contains-get_or c.args.ids.now c.loop-id.id-index 0 c.loop-id-test.true, λ h. both_ways false refl (c.in_default-from_raw.ensures.found.1 h)))
+pub unreachable-requires : goal.unreachable-requires
+unreachable-requires c =
+    let ids = c.args.ids.now in
+    let place = c.loop-id.id-index in
+    both_ways false refl (c.in-None.ensures.found.1 (each_valid ids place c.requires c.loop-id-test.true))
