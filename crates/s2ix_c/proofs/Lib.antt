@@ -1,3 +1,2 @@
 pub mod Through
-mod OfUnion
 mod OfCells

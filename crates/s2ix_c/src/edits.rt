@@ -10,8 +10,8 @@ ghost use Rattle.s2ix_c_calls.specs.Status.{closed};
 
 use s2ix_c_calls::status::CLOSED;
 use s2ix_c_calls::{
-    Row, add_of, add_rows, drop_of, edit_store, grow_of, normalise_of, refuse_rows, relabel_of,
-    remove_of, union_of,
+    Row, add_of, add_rows, add_union, drop_of, edit_store, grow_of, normalise_of, refuse_rows,
+    refuse_union, relabel_of, remove_of,
 };
 use s2ix_edit_plan::Edit;
 use s2ix_handle::Handle;
@@ -100,7 +100,9 @@ pub extern "C" fn s2ix_remove(
     do_edit(alloc, handle, remove_of(cell, label, copies), number)
 }
 
-/// Adds one copy under a label for each cell of the normal form of a union of cells, in any order and repeated or not.
+/// Adds one copy under a label for each cell of the normal form of a union of cells, in any order and repeated or not. A wrong label decides
+/// first, then the first number that is no cell's, of which `number` is the place.
+#[tactic(auto, using(crate::proofs::Through::through_open, crate::proofs::Through::through_closed))]
 #[unsafe(no_mangle)]
 pub extern "C" fn s2ix_add_union(
     alloc: Global,
@@ -111,7 +113,12 @@ pub extern "C" fn s2ix_add_union(
 ) -> u32
     ensures { DoesUnion ids.now label result number.new (held_of handle.old) (held_of handle.new) }
 {
-    do_edit(alloc, handle, union_of(alloc, ids, label), number)
+    let Some(mut store) = handle.take(alloc) else {
+        return refuse_union(ids, label, number);
+    };
+    let status = add_union(alloc, &mut store, ids, label, number);
+    *handle = Handle::of(alloc, store);
+    status
 }
 
 /// Takes away all copies of a label's pairs.

@@ -13,7 +13,7 @@ module _ (rows : List Row) (place : ℕ) (row : Row) (within : place < length ro
   pub right_more : (held : Held) → AreRight (take place rows) → held_asked row ≡ Ok held → AreRight (take (place + 1) rows)
   right_more held before right =
       let Right : Result Held ℕ → Type 0 = λ r. IsOk r in
-      record { each = All-more (λ r. IsOk (held_asked r)) rows place row within before.each (subst Right (sym right ∙ ap held_asked is) tt) }
+      record { each = All-more (λ r. IsOk (held_asked r)) rows place row within before.each (subst Right (sym right ∙ ap held_asked is) refl) }
 
   -- a row that names none, behind rows that do, is the first that is wrong
   pub first_wrong : (why : ℕ) → AreRight (take place rows) → held_asked row ≡ Err why → IsFirstWrong rows place why

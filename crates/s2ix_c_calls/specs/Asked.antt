@@ -4,13 +4,12 @@ use Rattle.s2id_core.specs.declared.cell_id.CellId.{CellId}
 use Rattle.s2id_core.specs.Cell.{IsCellNumber}
 use Rattle.s2id_core.specs.CellId.{raw_of}
 use Rattle.s2id_core.specs.Spelled.{cell_numbered}
-use Rattle.s2id_union.specs.NormalForm.{normal_form}
 use Rattle.s2ix_bag_pairs.specs.declared.label.Label.{Label}
 use Rattle.s2ix_bag_pairs.specs.declared.pair.Held.{Held}
 use Rattle.s2ix_bag_pairs.specs.declared.pair.Pair.{Pair}
 use Rattle.s2ix_bag_pairs.specs.Label.{label_numbered}
 use Rattle.s2ix_edit_plan.specs.declared.edit.Edit.{Edit}
-use Rattle.s2ix_edit_plan.specs.declared.edit.Edit.TheVariants.{Add, AddUnion, Remove, DropLabel, Relabel, Grow, Normalise}
+use Rattle.s2ix_edit_plan.specs.declared.edit.Edit.TheVariants.{Add, Remove, DropLabel, Relabel, Grow, Normalise}
 use Rattle.s2ix_c_calls.specs.declared.rows.Row.{Row}
 use Rattle.s2ix_c_calls.specs.Status.{no_cell, no_label, out_of_memory}
 
@@ -82,17 +81,6 @@ asked_grow label level = of_label (λ label. Grow label level) (label_numbered l
 
 abbrev pub asked_normalise : ℕ → Result Edit ℕ
 asked_normalise label = of_label (λ label. Normalise label) (label_numbered label)
-
--- the edit that adds a union of cells under a label that is there
-abbrev pub asked_add_union : List CellId → ℕ → Result Edit ℕ
-asked_add_union cells label = of_label (λ label. AddUnion (normal_form cells) label) (label_numbered label)
-
--- what numbers of cells and of a label ask for; or one is no cell's, or memory is wanted
-abbrev pub AsksUnion : List ℕ → ℕ → Result Edit ℕ → Type 0
-AsksUnion ids label asked =
-    ((cells : List CellId) × AreCells ids cells × (asked ≡ asked_add_union cells label))
-    ⊎ (LacksCell ids × (asked ≡ Err no_cell))
-    ⊎ (asked ≡ Err out_of_memory)
 
 -- a pair that is there, with a count
 abbrev pub with_count : ℕ → Result Pair ℕ → Result Held ℕ
