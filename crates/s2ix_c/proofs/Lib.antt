@@ -2,3 +2,4 @@ pub mod Through
 mod OfUnion
 pub mod OfRows
 mod OfCells
+mod OfNone
