@@ -1,2 +1,3 @@
 pub mod Through
 mod OfCells
+mod OfNone
