@@ -8,9 +8,10 @@
    if a call that takes a list of rows or cells finds a wrong one, *number is the place of the first, counted from 0; with two lists the
    places count on through the second. If more than one status is due, an edit tells of a wrong cell or label first, and any other call of a
    closed handle; want of memory comes last, except that a call that gathers its list may tell of it in place of S2IX_NO_ROOM. Where nothing
-   is asked for, no memory is wanted: no cells, a label that is not held, equal bounds, no room for a page. No pointer is NULL, not even one
-   to no items. What a call writes overlaps nothing else that it is given, so never give s2ix_copy one handle twice. A query takes the store
-   out of its handle and puts it back, so the handle isn't const. In costs, n is the number of pairs held if nothing else is said. */
+   is asked for, no memory is wanted: no rows, no cells, a label that is not held, equal bounds, no room for a page. No pointer is NULL, not
+   even one to no items. What a call writes overlaps nothing else that it is given, so never give s2ix_copy one handle twice. A query takes
+   the store out of its handle and puts it back, so the handle isn't const. In costs, n is the number of pairs held if nothing else is said.
+   */
 #ifndef S2IX_H
 #define S2IX_H
 
@@ -124,8 +125,8 @@ uint32_t s2ix_add_all(s2ix_handle *handle, const s2ix_row *rows, size_t len, siz
 /* Takes copies from the count of a cell under a label. S2IX_NO_CELL, S2IX_NO_LABEL, S2IX_NOT_HELD. */
 uint32_t s2ix_remove(s2ix_handle *handle, uint64_t cell, uint32_t label, uint32_t copies, size_t *number);
 
-/* Adds one copy under a label for each cell of the normal form of a union, so four siblings become their parent, and a cell within another goes;
-   s2ix_add_all adds cells as they are. S2IX_NO_CELL, S2IX_NO_LABEL. */
+/* Adds one copy under a label for each cell of the normal form of a union: four siblings become their parent, and a cell within another
+   goes; s2ix_add_all adds cells as they are. A wrong label comes before a wrong cell. S2IX_NO_CELL, S2IX_NO_LABEL. */
 uint32_t s2ix_add_union(s2ix_handle *handle, const uint64_t *cells, size_t len, uint32_t label, size_t *number);
 
 /* Takes away all copies of a label's pairs. S2IX_NO_LABEL, S2IX_NO_SUCH_LABEL. */

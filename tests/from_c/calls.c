@@ -28,6 +28,8 @@ static void expect(int line, long long found, long long wanted) {
 /* Two neighbours on face 0, the face, a leaf below the first, and numbers that are no cells. */
 static const uint64_t first = 0x0400000000000000, second = 0x0c00000000000000, face = 0x1000000000000000, leaf = 0x0400000000000001;
 static const uint64_t no_cell = 6, highest_label = 2147483647;
+static const s2ix_row wrong_rows[] = {{0x0400000000000000, 1, 1}, {0x0400000000000000, UINT32_MAX, 1}};
+static const uint64_t wrong_cells[] = {0x0400000000000000, 6};
 
 static void refused_while_closed(void) {
     s2ix_handle handle = {0};
@@ -41,8 +43,17 @@ static void refused_while_closed(void) {
     number = 7;
     EXPECT(s2ix_add_all(&handle, &row, 0, &number), S2IX_CLOSED);
     EXPECT(number, 0);
+    EXPECT(s2ix_add_all(&handle, wrong_rows, 2, &number), S2IX_NO_LABEL);
+    EXPECT(number, 1);
+    EXPECT(s2ix_add_all(&handle, wrong_rows, 1, &number), S2IX_CLOSED);
+    EXPECT(number, 0);
     EXPECT(s2ix_remove(&handle, first, 1, 1, &number), S2IX_CLOSED);
     EXPECT(s2ix_add_union(&handle, &first, 1, 1, &number), S2IX_CLOSED);
+    EXPECT(s2ix_add_union(&handle, &first, 0, UINT32_MAX, &number), S2IX_NO_LABEL);
+    EXPECT(s2ix_add_union(&handle, wrong_cells, 2, UINT32_MAX, &number), S2IX_NO_LABEL);
+    EXPECT(number, 0);
+    EXPECT(s2ix_add_union(&handle, wrong_cells, 2, 1, &number), S2IX_NO_CELL);
+    EXPECT(number, 1);
     EXPECT(s2ix_drop_label(&handle, 1, &number), S2IX_CLOSED);
     EXPECT(s2ix_relabel(&handle, 1, 2, &number), S2IX_CLOSED);
     EXPECT(s2ix_grow(&handle, 1, 2, &number), S2IX_CLOSED);
@@ -166,7 +177,11 @@ static void edited(void) {
     EXPECT(number, 2);
     both[1] = no_cell;
     EXPECT(s2ix_add_union(&handle, both, 2, 1, &number), S2IX_NO_CELL);
+    EXPECT(number, 1);
+    EXPECT(s2ix_add_union(&handle, both, 2, (uint32_t)highest_label + 1, &number), S2IX_NO_LABEL);
+    EXPECT(number, 0);
     EXPECT(s2ix_add_union(&handle, both, 1, (uint32_t)highest_label + 1, &number), S2IX_NO_LABEL);
+    EXPECT(s2ix_add_union(&handle, both, 0, (uint32_t)highest_label + 1, &number), S2IX_NO_LABEL);
     EXPECT(s2ix_add_union(&handle, both, 0, 1, &number), S2IX_NO_CHANGE);
     EXPECT(s2ix_count(&handle, second, 1, &count), S2IX_DONE);
     EXPECT(count, 1);
@@ -213,6 +228,33 @@ static void added_at_once(void) {
     EXPECT(s2ix_undo(&handle, &number), S2IX_DONE);
     EXPECT(number, 2);
     EXPECT(s2ix_len(&handle, &number), S2IX_DONE);
+    EXPECT(number, 0);
+    s2ix_close(&handle);
+}
+
+/* Each edit that passes a limit, or would change nothing, is refused for that. */
+static void limited(void) {
+    s2ix_handle handle = {0};
+    size_t number;
+    uint64_t both[2] = {first, second};
+    s2ix_row rows[2] = {{face, 7, 5}, {leaf, 7, 1}};
+    EXPECT(s2ix_open(&handle, 3, 5, 9), S2IX_DONE);
+    EXPECT(s2ix_add(&handle, first, 1, 5, &number), S2IX_DONE);
+    EXPECT(s2ix_add(&handle, first, 2, 1, &number), S2IX_DONE);
+    EXPECT(s2ix_add_union(&handle, both, 2, 1, &number), S2IX_TOO_MANY_COPIES);
+    EXPECT(s2ix_add_union(&handle, both, 2, 3, &number), S2IX_TOO_MANY_PAIRS);
+    EXPECT(s2ix_relabel(&handle, 1, 2, &number), S2IX_TOO_MANY_COPIES);
+    EXPECT(s2ix_grow(&handle, 2, 1, &number), S2IX_TOO_MANY_PAIRS);
+    EXPECT(s2ix_normalise_label(&handle, 2, &number), S2IX_NO_CHANGE);
+    EXPECT(s2ix_add_all(&handle, rows, 2, &number), S2IX_TOO_MANY_PAIRS);
+    EXPECT(s2ix_add(&handle, face, 3, 1, &number), S2IX_DONE);
+    EXPECT(s2ix_add(&handle, face, 4, 1, &number), S2IX_TOO_MANY_PAIRS);
+    EXPECT(s2ix_remove(&handle, face, 3, 1, &number), S2IX_DONE);
+    EXPECT(s2ix_add(&handle, second, 3, 1, &number), S2IX_DONE);
+    EXPECT(s2ix_revert(&handle, 4, &number), S2IX_TOO_MANY_PAIRS);
+    EXPECT(s2ix_remove(&handle, first, 1, 5, &number), S2IX_DONE);
+    EXPECT(s2ix_add(&handle, first, 1, 1, &number), S2IX_DONE);
+    EXPECT(s2ix_revert(&handle, 6, &number), S2IX_TOO_MANY_COPIES);
     EXPECT(number, 0);
     s2ix_close(&handle);
 }
@@ -418,6 +460,11 @@ static void lines(void) {
     carried_out(&handle, "undo", 31, S2IX_NO_ROOM, 32, "");
     EXPECT(s2ix_done_count(&handle, &number), S2IX_DONE);
     EXPECT(number, 1);
+    carried_out(&handle, "redo", 31, S2IX_NO_ROOM, 32, "");
+    carried_out(&handle, "addunion 3 04 0c", 31, S2IX_NO_ROOM, 32, "");
+    carried_out(&handle, "meet 1", 0, S2IX_NO_ROOM, 12, "");
+    carried_out(&handle, "region 3", 0, S2IX_NO_ROOM, 8, "");
+    carried_out(&handle, "dump", 0, S2IX_NO_ROOM, 21, "");
     carried_out(&handle, "dump", 20, S2IX_NO_ROOM, 21, "");
     carried_out(&handle, "dump", 21, S2IX_DONE, 21, "s2ix 2\n1 3 2\nend 1 2\n");
     carried_out(&handle, "remove 1 4", 64, S2IX_DONE, 11, "no NotHeld\n");
@@ -613,6 +660,7 @@ int main(void) {
     opened();
     edited();
     added_at_once();
+    limited();
     edited_labels();
     asked();
     paged();

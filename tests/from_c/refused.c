@@ -28,6 +28,8 @@ static const char add_line[] = "add 1 1", meet_line[] = "meet 1";
 static const char onwards[] = "s2ix-journal 2\nchange 2\n04 7 1 3\n1c 7 0 1\nend 1\n";
 static const char up_to[] = "s2ix-journal 2\nchange 2\n04 7 0 1\n0c 7 2 1\nend 1\n";
 static const s2ix_row rows[] = {{0x1000000000000000, 7, 1}, {0x0400000000000000, 7, 2}, {0x1000000000000000, 7, 1}};
+static const s2ix_row wrong_rows[] = {{0x1000000000000000, 7, 1}, {0x0400000000000000, 7, 2}, {0x1000000000000000, 0x80000000, 1}};
+static const uint64_t wrong_cells[] = {0x0c00000000000000, 0x0400000000000000, 0};
 
 /* What a call told: its number, and what it put. */
 typedef struct told {
@@ -107,6 +109,27 @@ CALL(intersects) {
     return (void)handle, (void)other, status;
 }
 CALL(leaf_count) { return (void)handle, (void)other, s2ix_union_leaf_count(two, 2, told->cells); }
+
+/* Calls that are refused without a growth: such a call counts as done if it returns the status that is due. */
+static uint32_t due(uint32_t status, uint32_t wanted) { return status == wanted ? S2IX_DONE : status; }
+
+CALL(adds_no_row) { return (void)other, due(s2ix_add_all(handle, rows, 0, &told->number), S2IX_NO_CHANGE); }
+CALL(adds_wrong_row) { return (void)other, due(s2ix_add_all(handle, wrong_rows, 3, &told->number), S2IX_NO_LABEL); }
+CALL(adds_row_to_closed) {
+    s2ix_handle closed = {0};
+    return (void)handle, (void)other, due(s2ix_add_all(&closed, rows, 3, &told->number), S2IX_CLOSED);
+}
+CALL(adds_no_copy) { return (void)other, due(s2ix_add(handle, first, 7, 0, &told->number), S2IX_NO_CHANGE); }
+CALL(adds_no_cell) { return (void)other, due(s2ix_add_union(handle, two, 0, 6, &told->number), S2IX_NO_CHANGE); }
+CALL(adds_wrong_label) { return (void)other, due(s2ix_add_union(handle, two, 2, 0x80000000, &told->number), S2IX_NO_LABEL); }
+CALL(adds_wrong_cell) { return (void)other, due(s2ix_add_union(handle, wrong_cells, 3, 6, &told->number), S2IX_NO_CELL); }
+CALL(adds_union_to_closed) {
+    s2ix_handle closed = {0};
+    return (void)handle, (void)other, due(s2ix_add_union(&closed, two, 2, 6, &told->number), S2IX_CLOSED);
+}
+CALL(adds_without_room) { return (void)other, due(s2ix_line(handle, TEXT(add_line), told->bytes, 31, &told->number), S2IX_NO_ROOM); }
+CALL(undoes_without_room) { return (void)other, due(s2ix_line(handle, TEXT("undo"), told->bytes, 31, &told->number), S2IX_NO_ROOM); }
+CALL(redoes_without_room) { return (void)other, due(s2ix_line(handle, TEXT("redo"), told->bytes, 31, &told->number), S2IX_NO_ROOM); }
 
 /* Calls that do not allocate. */
 CALL(of_label) { return (void)other, s2ix_of_label(handle, 7, ROWS, &told->number); }
@@ -205,6 +228,17 @@ static const struct {
     {"union_contains", contains, true},
     {"union_intersects", intersects, true},
     {"union_leaf_count", leaf_count, true},
+    {"add_all of no row", adds_no_row, false},
+    {"add_all of a wrong row", adds_wrong_row, false},
+    {"add_all to a closed handle", adds_row_to_closed, false},
+    {"add of no copy", adds_no_copy, false},
+    {"add_union of no cell", adds_no_cell, false},
+    {"add_union of a wrong label", adds_wrong_label, false},
+    {"add_union of a wrong cell", adds_wrong_cell, false},
+    {"add_union to a closed handle", adds_union_to_closed, false},
+    {"line of an edit without room", adds_without_room, false},
+    {"line of an undo without room", undoes_without_room, false},
+    {"line of a redo without room", redoes_without_room, false},
     {"of_label", of_label, false},
     {"contents", contents, false},
     {"nothing asked for", asks_for_nothing, false},

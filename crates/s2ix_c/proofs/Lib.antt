@@ -1,4 +1,3 @@
 pub mod Through
-mod OfUnion
-pub mod OfRows
 mod OfCells
+mod OfNone

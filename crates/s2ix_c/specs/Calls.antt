@@ -1,8 +1,6 @@
 -- What calls on a handle make of its store.
 use Rattle.std.specs.Prelude.{◌≡◌, ◌≢◌, ◌⊎◌, ℕ, Option, Some, None, Result, Ok, Err, List}
-use Rattle.s2id_core.specs.declared.cell_id.CellId.{CellId}
 use Rattle.s2ix_bag_pairs.specs.declared.limits.Limits.{Limits}
-use Rattle.s2ix_bag_pairs.specs.declared.pair.Held.{Held}
 use Rattle.s2ix_bag_pairs.specs.Limits.{pairs_limit, count_limit, changes_limit}
 use Rattle.s2ix_edit_plan.specs.declared.edit.Edit.{Edit}
 use Rattle.s2ix_edit_plan.specs.State.{State, starting_at}
@@ -10,10 +8,9 @@ use Rattle.s2ix_bag_pairs.specs.Collection.{Collection}
 use Rattle.s2ix_text_write.specs.Dump.{IsDump}
 use Rattle.s2ix_text_read_dump.specs.declared.errors.DumpFault.{DumpFault}
 use Rattle.s2ix_text_read_dump.specs.DumpFaults.{dump_fault}
-use Rattle.s2ix_c_calls.specs.Asked.{AreCells, IsFirstWrong, LacksCell, NameHeld, asked_add_union}
 use Rattle.s2ix_c_calls.specs.declared.rows.Row.{Row}
-use Rattle.s2ix_c_calls.specs.Status.{done, closed, no_cell, out_of_memory}
-use Rattle.s2ix_c_calls.specs.Stores.{IsAdded, IsEdited}
+use Rattle.s2ix_c_calls.specs.Status.{done, closed, out_of_memory}
+use Rattle.s2ix_c_calls.specs.Stores.{AddsRows, AddsUnion, IsEdited, RefusesRows, RefusesUnion}
 
 -- a call on a handle: a closed one stays closed, and C holds; an open one stays open, and P holds of its store's states before and after
 abbrev pub Through : (State → State → Type 0) → Type 0 → Option State → Option State → Type 0
@@ -39,12 +36,10 @@ abbrev pub Opens : ℕ → ℕ → ℕ → (Limits → State) → Option State �
 Opens pairs copies changes state new =
     (limits : Limits) × (pairs_limit limits ≡ pairs) × (count_limit limits ≡ copies) × (changes_limit limits ≡ changes) × (new ≡ Some (state limits))
 
--- a union of cells under a label, carried out on a handle; or one of the numbers is no cell's, or memory is wanted
+-- a union of cells under a label, added to the counts of the store of a handle
 abbrev pub DoesUnion : List ℕ → ℕ → ℕ → ℕ → Option State → Option State → Type 0
 DoesUnion ids label status number old new =
-    ((cells : List CellId) × AreCells ids cells × DoesEdit (asked_add_union cells label) status number old new)
-    ⊎ (LacksCell ids × Refuses no_cell status number old new)
-    ⊎ Refuses out_of_memory status number old new
+    Through (AddsUnion ids label status number) (RefusesUnion ids label status number) old new
 
 -- the handle is open, and its store starts from the collection that the text is a dump of
 abbrev pub Loads : List ℕ → ℕ → ℕ → ℕ → Option State → Type 0
@@ -62,9 +57,6 @@ pub record IsCopied (s : State) (status : ℕ) (old new : Option State) : Type 0
   pub accepted : status ≡ done → new ≡ Some (starting_at s.bag)
   pub refused : status ≢ done → (status ≡ out_of_memory) × (new ≡ old)
 
--- rows, carried out on a handle; or one of them is wrong, and the number is the place of the first that is; or memory is wanted
+-- rows, added to the counts of the store of a handle
 abbrev pub DoesRows : List Row → ℕ → ℕ → Option State → Option State → Type 0
-DoesRows rows status number old new =
-    ((held : List Held) × NameHeld rows held × Through (IsAdded held status number) ((status ≡ closed) × (number ≡ 0)) old new)
-    ⊎ (IsFirstWrong rows number status × (new ≡ old))
-    ⊎ Refuses out_of_memory status number old new
+DoesRows rows status number old new = Through (AddsRows rows status number) (RefusesRows rows status number) old new

@@ -5,14 +5,13 @@ ghost use Rattle.s2ix_edit_plan.specs.declared.edit.Edit.TheVariants.{Revert};
 ghost use Rattle.s2ix_handle.specs.Handle.{held_of};
 ghost use Rattle.s2ix_c_calls.specs.Asked.{asked_add, asked_drop, asked_grow, asked_normalise, asked_relabel, asked_remove};
 ghost use Rattle.s2ix_c.specs.Calls.{DoesEdit, DoesRows, DoesUnion, Through};
-ghost use Rattle.s2ix_c_calls.specs.Stores.{IsAdded, IsEdited};
+ghost use Rattle.s2ix_c_calls.specs.Stores.{IsEdited};
 ghost use Rattle.s2ix_c_calls.specs.Status.{closed};
 
-use s2ix_bag_pairs::Held;
 use s2ix_c_calls::status::CLOSED;
 use s2ix_c_calls::{
-    Row, add_of, add_store, drop_of, edit_store, grow_of, held_list, normalise_of, relabel_of,
-    remove_of, union_of,
+    Row, add_of, add_rows, add_union, drop_of, edit_store, grow_of, normalise_of, refuse_rows,
+    refuse_union, relabel_of, remove_of,
 };
 use s2ix_edit_plan::Edit;
 use s2ix_handle::Handle;
@@ -66,24 +65,9 @@ pub extern "C" fn s2ix_add(
     do_edit(alloc, handle, add_of(cell, label, copies), number)
 }
 
-// Adds pairs to the counts of a handle's store.
-#[tactic(auto, using(crate::proofs::Through::through_open, crate::proofs::Through::through_closed))]
-fn add_handle(alloc: Global, handle: &mut Handle, rows: &[Held], number: &mut usize) -> u32
-    ensures { Through (IsAdded rows.now result number.new) ((result ≡ closed) × (number.new ≡ 0))
-        (held_of handle.old) (held_of handle.new) }
-{
-    let Some(mut store) = handle.take(alloc) else {
-        *number = 0;
-        return CLOSED;
-    };
-    let status = add_store(&mut store, rows, number);
-    *handle = Handle::of(alloc, store);
-    status
-}
-
 /// Adds the count of each row to that of its cell under its label, as one change: rows in any order, and repeated or not. If a row's cell or
 /// label is wrong, `number` is the place of the first such row.
-#[tactic(auto, using(crate::proofs::OfRows::does_rows, crate::proofs::OfRows::refuses_rows))]
+#[tactic(auto, using(crate::proofs::Through::through_open, crate::proofs::Through::through_closed))]
 #[unsafe(no_mangle)]
 pub extern "C" fn s2ix_add_all(
     alloc: Global,
@@ -93,10 +77,12 @@ pub extern "C" fn s2ix_add_all(
 ) -> u32
     ensures { DoesRows rows.now result number.new (held_of handle.old) (held_of handle.new) }
 {
-    match held_list(alloc, rows, number) {
-        Ok(held) => add_handle(alloc, handle, held.as_slice(), number),
-        Err(why) => why,
-    }
+    let Some(mut store) = handle.take(alloc) else {
+        return refuse_rows(rows, number);
+    };
+    let status = add_rows(alloc, &mut store, rows, number);
+    *handle = Handle::of(alloc, store);
+    status
 }
 
 /// Takes copies from the count of a cell under a label.
@@ -114,7 +100,9 @@ pub extern "C" fn s2ix_remove(
     do_edit(alloc, handle, remove_of(cell, label, copies), number)
 }
 
-/// Adds one copy under a label for each cell of the normal form of a union of cells, in any order and repeated or not.
+/// Adds one copy under a label for each cell of the normal form of a union of cells, in any order and repeated or not. A wrong label decides
+/// first, then the first number that is no cell's, of which `number` is the place.
+#[tactic(auto, using(crate::proofs::Through::through_open, crate::proofs::Through::through_closed))]
 #[unsafe(no_mangle)]
 pub extern "C" fn s2ix_add_union(
     alloc: Global,
@@ -125,7 +113,12 @@ pub extern "C" fn s2ix_add_union(
 ) -> u32
     ensures { DoesUnion ids.now label result number.new (held_of handle.old) (held_of handle.new) }
 {
-    do_edit(alloc, handle, union_of(alloc, ids, label), number)
+    let Some(mut store) = handle.take(alloc) else {
+        return refuse_union(ids, label, number);
+    };
+    let status = add_union(alloc, &mut store, ids, label, number);
+    *handle = Handle::of(alloc, store);
+    status
 }
 
 /// Takes away all copies of a label's pairs.

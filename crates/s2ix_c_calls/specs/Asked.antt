@@ -1,16 +1,15 @@
 -- What numbers ask for.
-use Rattle.std.specs.Prelude.{◌≡◌, ◌⊎◌, ℕ, List, map, take, slice_get, Contains, Option, Some, None, Result, Ok, Err}
+use Rattle.std.specs.Prelude.{◌≡◌, ◌⊎◌, ℕ, List, map, take, slice_get, All, Contains, Option, Some, None, Result, Ok, Err, IsOk}
 use Rattle.s2id_core.specs.declared.cell_id.CellId.{CellId}
 use Rattle.s2id_core.specs.Cell.{IsCellNumber}
 use Rattle.s2id_core.specs.CellId.{raw_of}
 use Rattle.s2id_core.specs.Spelled.{cell_numbered}
-use Rattle.s2id_union.specs.NormalForm.{normal_form}
 use Rattle.s2ix_bag_pairs.specs.declared.label.Label.{Label}
 use Rattle.s2ix_bag_pairs.specs.declared.pair.Held.{Held}
 use Rattle.s2ix_bag_pairs.specs.declared.pair.Pair.{Pair}
 use Rattle.s2ix_bag_pairs.specs.Label.{label_numbered}
 use Rattle.s2ix_edit_plan.specs.declared.edit.Edit.{Edit}
-use Rattle.s2ix_edit_plan.specs.declared.edit.Edit.TheVariants.{Add, AddUnion, Remove, DropLabel, Relabel, Grow, Normalise}
+use Rattle.s2ix_edit_plan.specs.declared.edit.Edit.TheVariants.{Add, Remove, DropLabel, Relabel, Grow, Normalise}
 use Rattle.s2ix_c_calls.specs.declared.rows.Row.{Row}
 use Rattle.s2ix_c_calls.specs.Status.{no_cell, no_label, out_of_memory}
 
@@ -83,17 +82,6 @@ asked_grow label level = of_label (λ label. Grow label level) (label_numbered l
 abbrev pub asked_normalise : ℕ → Result Edit ℕ
 asked_normalise label = of_label (λ label. Normalise label) (label_numbered label)
 
--- the edit that adds a union of cells under a label that is there
-abbrev pub asked_add_union : List CellId → ℕ → Result Edit ℕ
-asked_add_union cells label = of_label (λ label. AddUnion (normal_form cells) label) (label_numbered label)
-
--- what numbers of cells and of a label ask for; or one is no cell's, or memory is wanted
-abbrev pub AsksUnion : List ℕ → ℕ → Result Edit ℕ → Type 0
-AsksUnion ids label asked =
-    ((cells : List CellId) × AreCells ids cells × (asked ≡ asked_add_union cells label))
-    ⊎ (LacksCell ids × (asked ≡ Err no_cell))
-    ⊎ (asked ≡ Err out_of_memory)
-
 -- a pair that is there, with a count
 abbrev pub with_count : ℕ → Result Pair ℕ → Result Held ℕ
 with_count count (Ok pair) = Ok (record { pair = pair; count = count })
@@ -107,10 +95,13 @@ held_asked row = with_count row.count (pair_numbered row.cell row.label)
 abbrev pub NameHeld : List Row → List Held → Type 0
 NameHeld rows held = map held_asked rows ≡ map Ok held
 
+-- each row names a pair
+pub record AreRight (rows : List Row) : Type 0 where
+  pub each : All (λ row. IsOk (held_asked row)) rows
+
 -- the first row with a wrong number stands at this place, and the status says what is wrong
 pub record IsFirstWrong (rows : List Row) (place why : ℕ) : Type 0 where
-  pub held : List Held
-  pub before : NameHeld (take place rows) held
+  pub before : AreRight (take place rows)
   pub row : Row
   pub there : slice_get rows place ≡ Some row
   pub wrong : held_asked row ≡ Err why

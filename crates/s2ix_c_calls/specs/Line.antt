@@ -6,11 +6,11 @@ use Rattle.s2ix_cli_step.specs.Step.{step_of}
 use Rattle.s2ix_cli_line.specs.InBuffer.{AnswerWants, IsAtFront, room_for}
 use Rattle.s2ix_c_calls.specs.Status.{done, no_room, out_of_memory}
 
--- why a line is not carried out: the room is less than it wants, which the number tells; or memory is wanted
+-- why a line is not carried out: the room is less than it wants, which the number tells; or memory is wanted, as with so much room it may
 abbrev pub IsTurnedAway : List ℕ → ℕ → ℕ → ℕ → State → Type 0
 IsTurnedAway line status number room s =
     ((status ≡ no_room) × (number ≡ room_for s line) × (room < number))
-    ⊎ ((status ≡ out_of_memory) × (number ≡ 0) × AnswerWants s (meaning_of line))
+    ⊎ ((status ≡ out_of_memory) × (number ≡ 0) × AnswerWants s room (meaning_of line))
 
 -- a line on a store: if it is done, the store is the one after it, and its answer is at the front of the buffer, which had the room that
 -- the line wants; else store and buffer are as they were, and the status says why

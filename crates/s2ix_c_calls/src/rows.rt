@@ -1,15 +1,14 @@
 //! Lists in buffers of the caller.
 
-ghost use Rattle.std.specs.Prelude.{◌≡◌, ◌⊎◌, ◌≤◌, length, map, IfErr, IfOk, OnOk};
-ghost use Rattle.s2ix_c_calls.specs.Asked.{IsFirstWrong, NameHeld, held_asked};
+ghost use Rattle.std.specs.Prelude.{◌≡◌, ◌≢◌, ◌≤◌, [], length, map, IfOk, IfSome, IsErr, IsNone};
+ghost use Rattle.s2ix_c_calls.specs.Asked.{AreRight, IsFirstWrong, NameHeld, held_asked};
 ghost use Rattle.s2ix_c_calls.specs.Lists.{IsPut, row_of};
-ghost use Rattle.s2ix_c_calls.specs.Status.{out_of_memory};
 ghost use Rattle.s2id_core.specs.CellId.{raw_of};
 ghost use Rattle.s2ix_bag_pairs.specs.Label.{value_of};
 
 use crate::asked::pair_of;
-use crate::status::{DONE, NO_ROOM, OUT_OF_MEMORY};
-use s2id_core::CellId;
+use crate::status::{DONE, NO_ROOM};
+use s2id_core::{CellId, OutOfMemory};
 use s2ix_bag_pairs::{Held, Label};
 use std::alloc::Global;
 
@@ -50,28 +49,35 @@ pub(crate) fn held_for(row: Row) -> Result<Held, u32>
     }
 }
 
-/// The pairs that rows name, with their counts. If a row is wrong, `number` is the place of the first that is, else 0.
-#[tactic(auto, using(crate::proofs::OfRows::first_wrong))]
-pub fn held_list(alloc: Global, rows: &[Row], number: &mut usize) -> Result<Vec<Held>, u32>
-    ensures rows { IfOk result (λ list. NameHeld rows.now list.items) }
-    ensures right { OnOk result (number.new ≡ 0) }
-    ensures wrong { IfErr result (λ why.
-        IsFirstWrong rows.now number.new why ⊎ ((why ≡ out_of_memory) × (number.new ≡ 0))) }
+// What is wrong with the first row that names no pair, if there is one; then `number` is its place, counted from 0, else 0. It does not
+// allocate.
+#[tactic(auto, using(crate::proofs::OfRows::first_wrong, crate::proofs::OfRows::right_more, crate::proofs::OfRows::all_right))]
+pub(crate) fn wrong_row(rows: &[Row], number: &mut usize) -> Option<u32>
+    ensures wrong { IfSome result (IsFirstWrong rows.now number.new) }
+    ensures right { IsNone result → AreRight rows.now × (number.new ≡ 0) }
 {
     *number = 0;
-    let mut list = Vec::new(alloc);
     for (place, row) in rows.iter().enumerate() {
-        match held_for(*row) {
-            Ok(held) => {
-                if list.push(held).is_err() {
-                    return Err(OUT_OF_MEMORY);
-                }
-            }
-            Err(why) => {
-                *number = place;
-                return Err(why);
-            }
+        if let Err(why) = held_for(*row) {
+            *number = place;
+            return Some(why);
         }
+    }
+    None
+}
+
+// The pairs that rows name, with their counts. No memory is wanted if there are no rows.
+pub(crate) fn held_list(alloc: Global, rows: &[Row]) -> Result<Vec<Held>, OutOfMemory>
+    requires { AreRight rows.now }
+    ensures rows { IfOk result (λ list. NameHeld rows.now list.items) }
+    ensures memory { IsErr result → rows.now ≢ [] }
+{
+    let mut list = Vec::with_capacity(alloc, rows.len())?;
+    for row in rows {
+        let Ok(held) = held_for(*row) else {
+            unreachable!()
+        };
+        list.push(held)?;
     }
     Ok(list)
 }

@@ -3,15 +3,13 @@
 ghost use Rattle.std.specs.Prelude.{◌≡◌, ◌≢◌, ◌⊎◌, ◌≤◌, ◌<◌, None, length, map, take, IfErr, IfOk, IfSome, OnOk, Contains, List, ◌++◌};
 ghost use Rattle.s2id_core.specs.CellId.{raw_of};
 ghost use Rattle.s2id_union.specs.NormalForm.{normal_form};
-ghost use Rattle.s2ix_c_calls.specs.Asked.{AreAllCells, AreCells, AsksUnion, IsFirstNoCell, LacksUnion};
+ghost use Rattle.s2ix_c_calls.specs.Asked.{AreAllCells, AreCells, IsFirstNoCell, LacksUnion};
 ghost use Rattle.s2ix_c_calls.specs.Status.{done, no_cell};
 ghost use Rattle.s2id_core.specs.declared.cell_id.CellId.{CellId};
 
-use crate::status::{DONE, NO_CELL, NO_LABEL, OUT_OF_MEMORY};
+use crate::status::{DONE, NO_CELL, OUT_OF_MEMORY};
 use s2id_core::{CellId, OutOfMemory};
 use s2id_union::CellUnion;
-use s2ix_bag_pairs::Label;
-use s2ix_edit_plan::Edit;
 use std::alloc::Global;
 
 // The place of the first number that is no cell's, counted from 0. It does not allocate.
@@ -123,20 +121,5 @@ pub fn normals_of(
     match (normal_union(alloc, first), normal_union(alloc, second)) {
         (Ok(first), Ok(second)) => Ok((first, second)),
         _ => Err(OUT_OF_MEMORY),
-    }
-}
-
-/// The edit that adds a union under a label.
-pub fn union_of(alloc: Global, ids: &[u64], label: u32) -> Result<Edit, u32>
-    ensures { AsksUnion ids.now label result }
-{
-    let mut place = 0;
-    let union = match normal_of(alloc, ids, &mut place) {
-        Ok(union) => union,
-        Err(why) => return Err(why),
-    };
-    match Label::new(label) {
-        Some(label) => Ok(Edit::AddUnion { union, label }),
-        None => Err(NO_LABEL),
     }
 }

@@ -4,10 +4,10 @@ use Rattle.std.specs.Prelude.{List, length, take, drop}
 use Rattle.s2ix_edit_plan.specs.State.{State}
 use Rattle.s2ix_cli_script.specs.declared.instruction.Instruction.{Instruction}
 use Rattle.s2ix_cli_script.specs.declared.line_fault.LineFault.{LineFault}
-use Rattle.s2ix_cli_script.specs.Meaning.{meaning_of}
+use Rattle.s2ix_cli_script.specs.Meaning.{is_on_union, meaning_of}
 use Rattle.s2ix_cli_step.specs.Asking.{is_question}
 use Rattle.s2ix_cli_step.specs.Step.{Step, step_at}
-use Rattle.s2ix_cli_step.specs.Wants.{MeaningWants}
+use Rattle.s2ix_cli_step.specs.Wants.{InstructionWants}
 use Rattle.s2ix_cli_line.specs.declared.no_answer.NoAnswer.{NoAnswer}
 use Rattle.s2ix_cli_line.specs.declared.no_answer.NoAnswer.TheVariants.{OutOfMemory, NoRoom}
 
@@ -33,12 +33,6 @@ asks_step (Ok (Some instruction)) = not (is_question instruction)
 asks_step (Ok None) = false
 asks_step (Err fault) = false
 
--- whether a line of this meaning asks a question
-abbrev pub asks_question : Result (Option Instruction) LineFault → Bool
-asks_question (Ok (Some instruction)) = is_question instruction
-asks_question (Ok None) = false
-asks_question (Err fault) = false
-
 -- how much room a line of this meaning wants: 32 bytes for the answer of a step, else as many as its answer has
 abbrev pub room_at : State → Result (Option Instruction) LineFault → ℕ
 room_at s meaning = if asks_step meaning then 32 else length (step_at s meaning).answer
@@ -54,6 +48,10 @@ IsWithin room len (Ok count) = (count ≤ room) × (room ≤ len)
 IsWithin room len (Err (NoRoom needed)) = (needed ≡ room) × (len < room)
 IsWithin room len (Err OutOfMemory) = Unit {0}
 
--- a line of this meaning may want memory: to be carried out, or to keep the answer of a question
-abbrev pub AnswerWants : State → Result (Option Instruction) LineFault → Type 0
-AnswerWants s meaning = MeaningWants s meaning ⊎ (asks_question meaning ≡ true)
+-- a line of this meaning may want memory, if the buffer has this length: while the union of its instruction is made, to keep the answer of
+-- a question, or to be carried out if it asks for a step; but no step is taken without room for its answer
+abbrev pub AnswerWants : State → ℕ → Result (Option Instruction) LineFault → Type 0
+AnswerWants s len (Ok None) = ⊥
+AnswerWants s len (Ok (Some instruction)) =
+    (is_on_union instruction ≡ true) ⊎ (is_question instruction ≡ true) ⊎ ((32 ≤ len) × InstructionWants s instruction)
+AnswerWants s len (Err fault) = ⊥

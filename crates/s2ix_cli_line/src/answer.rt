@@ -18,8 +18,10 @@ use std::alloc::Global;
 ///
 /// The line is only carried out if `out` has room for its answer: 32 bytes if it asks for an edit, an undo, a redo or `forget`, which
 /// answer with at most as many. Any other line changes nothing, and wants as many bytes as its answer has. `NoRoom` says how many bytes
-/// are wanted, and `OutOfMemory` that a growth was refused; then nothing has changed and nothing is written. A question's answer is kept
-/// in memory until it is written. It takes the time of the line's instruction, and O(n) for a line of n bytes.
+/// are wanted, and `OutOfMemory` that a growth was refused; then nothing has changed and nothing is written. The room for a step is tested
+/// before the step allocates, so `OutOfMemory` comes in place of `NoRoom` only for a question, whose answer is kept in memory until it is
+/// written, and for a line of a union, which is made while the line is read. It takes the time of the line's instruction, and O(n) for a
+/// line of n bytes.
 #[tactic(auto, using(crate::proofs::Answered::answers_by, crate::proofs::Answered::lacks_memory))]
 pub fn answer_line(
     alloc: Global,
@@ -28,7 +30,7 @@ pub fn answer_line(
     out: &mut [u8],
 ) -> Result<usize, NoAnswer>
     ensures answers { Answers (step_of store.old line.now) store.old store.new out.old out.new result }
-    ensures memory { result ≡ Err NoAnswer.OutOfMemory → AnswerWants store.old (meaning_of line.now) }
+    ensures memory { result ≡ Err NoAnswer.OutOfMemory → AnswerWants store.old (length out.old) (meaning_of line.now) }
     ensures room { IsWithin (room_for store.old line.now) (length out.old) result }
 {
     match meaning(alloc, line) {
@@ -47,7 +49,7 @@ fn answer_instruction(
     out: &mut [u8],
 ) -> Result<usize, NoAnswer>
     ensures answers { Answers (instruction_step store.old instruction) store.old store.new out.old out.new result }
-    ensures memory { result ≡ Err NoAnswer.OutOfMemory → AnswerWants store.old (Ok (Some instruction)) }
+    ensures memory { result ≡ Err NoAnswer.OutOfMemory → AnswerWants store.old (length out.old) (Ok (Some instruction)) }
     ensures room { IsWithin (room_at store.old (Ok (Some instruction))) (length out.old) result }
 {
     match instruction {
