@@ -43,8 +43,8 @@ returns-clause-memory c = λ is_want. (
   subst (λ found. IsDumpError OutOfMemory found) (sym c.in-Ok.ensures.accepted) tt,
 )
 
-pub returns-in-Err-from_bag-clause-memory : goal.returns-in-Err-from_bag-clause-memory
-returns-in-Err-from_bag-clause-memory c = λ is_want. (
+pub returns-in_default-from_bag-clause-memory : goal.returns-in_default-from_bag-clause-memory
+returns-in_default-from_bag-clause-memory c = λ is_want. (
   c.in-Some.limits,
   c.in-Some.ensures.pairs,
   c.in-Some.ensures.count,
