@@ -53,6 +53,7 @@ typedef uint32_t call(s2ix_handle *handle, s2ix_handle *other, told *told);
 #define TEXT(text) (const uint8_t *)text, sizeof text - 1
 
 CALL(opens) { return (void)handle, (void)told, s2ix_open(other, 9, 9, 9); }
+CALL(opens_narrow) { return (void)handle, (void)told, s2ix_open(other, 1, 1, 1); }
 CALL(loads) { return (void)handle, s2ix_load(other, (const uint8_t *)dump, sizeof dump - 1, 9, 9, 9, &told->number); }
 CALL(replays) {
     size_t entry = 1;
@@ -194,6 +195,7 @@ static const struct {
     bool allocates;
 } calls[] = {
     {"open", opens, true},
+    {"open of one pair", opens_narrow, true},
     {"load", loads, true},
     {"replay", replays, true},
     {"rewind", rewinds, true},
@@ -253,6 +255,10 @@ static const struct {
     {"count", counts, false},
     {"forget", forgets, false},
     {"close", closes_other, false},
+}, of_empty[] = {
+    /* The handle's store is empty. */
+    {"copy of an empty store", copies, true},
+    {"clear of an empty store", clears, true},
 };
 
 /* All that a store shows: what it holds, its changes that can be undone, and how many can be redone. */
@@ -280,12 +286,14 @@ static void show(s2ix_handle *handle, shown *shown) {
     if (s2ix_undone_count(handle, &shown->undone) != S2IX_DONE) abort();
 }
 
-/* Two stores, the first with changes that can be undone and one that can be redone. */
-static void start(s2ix_handle *handle, s2ix_handle *other) {
+/* Two stores: the first is empty, or has changes that can be undone and one that can be redone. */
+static void start(s2ix_handle *handle, s2ix_handle *other, bool is_empty) {
     size_t number;
     uint64_t both[] = {first, second};
     if (s2ix_open(handle, 1000, 1000, 1000) != S2IX_DONE || s2ix_open(other, 5, 5, 5) != S2IX_DONE) abort();
-    if (s2ix_add(other, second, 3, 1, &number) != S2IX_DONE || s2ix_add_union(handle, both, 2, 7, &number) != S2IX_DONE) abort();
+    if (s2ix_add(other, second, 3, 1, &number) != S2IX_DONE) abort();
+    if (is_empty) return;
+    if (s2ix_add_union(handle, both, 2, 7, &number) != S2IX_DONE) abort();
     if (s2ix_add(handle, leaf, 8, 2, &number) != S2IX_DONE) abort();
     if (s2ix_add(handle, 0x3000000000000000, 9, 1, &number) != S2IX_DONE || s2ix_undo(handle, &number) != S2IX_DONE) abort();
 }
@@ -307,10 +315,10 @@ static shown before[2], after[2], found[2];
 static told right, given;
 
 /* Refuses each growth of a call in turn. Returns how many calls gave up. */
-static int refuse(const char *name, call *call, bool allocates) {
+static int refuse(const char *name, call *call, bool allocates, bool is_empty) {
     int refused = 0;
     s2ix_handle handle = {0}, other = {0};
-    start(&handle, &other);
+    start(&handle, &other, is_empty);
     show(&handle, &before[0]);
     show(&other, &before[1]);
     expect(name, 0, "a call with memory is refused", make(call, &handle, &other, &right, 0) == S2IX_DONE);
@@ -319,7 +327,7 @@ static int refuse(const char *name, call *call, bool allocates) {
     show(&handle, &after[0]);
     show(&other, &after[1]);
     for (long growth = 1; growth <= growths; growth++) {
-        start(&handle, &other);
+        start(&handle, &other, is_empty);
         uint32_t status = make(call, &handle, &other, &given, growth);
         if (status != S2IX_DONE) {
             refused++;
@@ -344,10 +352,11 @@ static int refuse(const char *name, call *call, bool allocates) {
 int main(void) {
     int refused = 0;
     for (size_t k = 0; k < sizeof calls / sizeof *calls; k++) {
-        int each = refuse(calls[k].name, calls[k].make, calls[k].allocates);
+        int each = refuse(calls[k].name, calls[k].make, calls[k].allocates, false);
         expect(calls[k].name, 0, "a call that doesn't allocate gives up", each == 0 || calls[k].allocates);
         refused += each;
     }
+    for (size_t k = 0; k < sizeof of_empty / sizeof *of_empty; k++) refused += refuse(of_empty[k].name, of_empty[k].make, of_empty[k].allocates, true);
     printf("growths refused from c: %d\n", refused);
     return faults > 0;
 }

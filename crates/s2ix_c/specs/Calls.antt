@@ -6,9 +6,11 @@ use Rattle.s2ix_edit_plan.specs.declared.edit.Edit.{Edit}
 use Rattle.s2ix_edit_plan.specs.State.{State, starting_at}
 use Rattle.s2ix_bag_pairs.specs.Collection.{Collection}
 use Rattle.s2ix_text_write.specs.Dump.{IsDump}
+use Rattle.s2ix_text_read_dump.specs.declared.errors.DumpError.TheVariants.{OutOfMemory}
 use Rattle.s2ix_text_read_dump.specs.declared.errors.DumpFault.{DumpFault}
-use Rattle.s2ix_text_read_dump.specs.DumpFaults.{dump_fault}
+use Rattle.s2ix_text_read_dump.specs.DumpFaults.{IsDumpError, dump_fault}
 use Rattle.s2ix_c_calls.specs.declared.rows.Row.{Row}
+use Rattle.s2ix_c_calls.specs.Replaying.{OfLimits}
 use Rattle.s2ix_c_calls.specs.Status.{done, closed, out_of_memory}
 use Rattle.s2ix_c_calls.specs.Stores.{AddsRows, AddsUnion, IsEdited, RefusesRows, RefusesUnion}
 
@@ -51,6 +53,10 @@ abbrev pub HasFaultIn : List ℕ → ℕ → ℕ → ℕ → ℕ → Type 0
 HasFaultIn text pairs copies changes line =
     (limits : Limits) × (pairs_limit limits ≡ pairs) × (count_limit limits ≡ copies) × (changes_limit limits ≡ changes)
     × (fault : DumpFault) × (dump_fault limits text ≡ Some (line, fault))
+
+-- reading the text as a dump under the limits with these numbers may want memory: its first line has no fault
+abbrev pub MayWantMemory : List ℕ → ℕ → ℕ → ℕ → Type 0
+MayWantMemory text pairs copies changes = OfLimits pairs copies changes (λ limits. IsDumpError OutOfMemory (dump_fault limits text))
 
 -- another handle is open, and its store starts from what a store holds; or memory is wanted, and it is as it was
 pub record IsCopied (s : State) (status : ℕ) (old new : Option State) : Type 0 where

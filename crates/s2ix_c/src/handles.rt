@@ -5,7 +5,7 @@ ghost use Rattle.s2ix_bag_pairs.specs.declared.limits.Limits.{Limits};
 ghost use Rattle.s2ix_bag_pairs.specs.Ranges.{AreLimits};
 ghost use Rattle.s2ix_edit_plan.specs.State.{starting_at};
 ghost use Rattle.s2ix_handle.specs.Handle.{held_of};
-ghost use Rattle.s2ix_c.specs.Calls.{HasFaultIn, IsCopied, Loads, Opens, Through};
+ghost use Rattle.s2ix_c.specs.Calls.{HasFaultIn, IsCopied, Loads, MayWantMemory, Opens, Through};
 ghost use Rattle.s2ix_c_calls.specs.Stores.{IsCleared};
 ghost use Rattle.s2ix_c_calls.specs.Status.{closed, done, no_dump, no_limits, out_of_memory};
 
@@ -79,6 +79,7 @@ pub extern "C" fn s2ix_load(
     ensures limits { (result ≡ no_limits) ↔ (AreLimits pairs copies changes → ⊥) }
     ensures fault { result ≡ no_dump → HasFaultIn text.now pairs copies changes line.new }
     ensures no_fault { result ≢ no_dump → line.new ≡ 0 }
+    ensures memory { result ≡ out_of_memory → MayWantMemory text.now pairs copies changes }
     ensures answers { (result ≡ done) ⊎ (result ≡ no_limits) ⊎ (result ≡ no_dump) ⊎ (result ≡ out_of_memory) }
 {
     *line = 0;

@@ -1,18 +1,18 @@
 //! Stores that start from where a dump and a journal lead.
 
 ghost use Rattle.std.specs.Prelude.{◌≡◌, ◌↔◌, ◌≢◌, ◌⊎◌, Some};
-ghost use Rattle.s2ix_bag.specs.Replay.{replay_refusal, replayed, rewind_refusal, rewound};
 ghost use Rattle.s2ix_bag_pairs.specs.Ranges.{AreLimits};
 ghost use Rattle.s2ix_edit_plan.specs.State.{starting_at};
 ghost use Rattle.s2ix_handle.specs.Handle.{held_of};
-ghost use Rattle.s2ix_c_calls.specs.Replaying.{OpensLed, RefusesIn, led_by, refusal_by, refused_at};
+ghost use Rattle.s2ix_c_calls.specs.declared.replaying.Direction.TheVariants.{Back, Forward};
+ghost use Rattle.s2ix_c_calls.specs.Replaying.{OpensLed, RefusesIn, refused_at};
 ghost use Rattle.s2ix_c_calls.specs.Status.{done, no_limits, out_of_memory};
 
 use crate::handles::keep;
 use s2ix_bag::Bag;
 use s2ix_bag_pairs::Limits;
 use s2ix_c_calls::status::{NO_LIMITS, OUT_OF_MEMORY};
-use s2ix_c_calls::{Direction, texts_led};
+use s2ix_c_calls::{Direction, refused_of, texts_led};
 use s2ix_edit::Store;
 use s2ix_handle::Handle;
 use std::alloc::Global;
@@ -41,12 +41,11 @@ fn open_led(
     place: &mut usize,
     entry: &mut usize,
 ) -> u32
-    ensures led { result ≡ done
-        → OpensLed (led_by direction) (refusal_by direction) dump.now journal.now pairs copies changes (held_of handle.new) }
+    ensures led { result ≡ done → OpensLed direction dump.now journal.now pairs copies changes (held_of handle.new) }
     ensures unchanged { result ≢ done → held_of handle.new ≡ held_of handle.old }
     ensures limits { (result ≡ no_limits) ↔ (AreLimits pairs copies changes → ⊥) }
     ensures refused { result ≢ done → result ≢ no_limits
-        → RefusesIn (refusal_by direction) dump.now journal.now pairs copies changes (refused_at result place.new entry.new) }
+        → RefusesIn direction dump.now journal.now pairs copies changes (refused_at result place.new entry.new) }
     ensures nowhere { (result ≡ done) ⊎ (result ≡ no_limits) → (place.new ≡ 0) × (entry.new ≡ 0) }
 {
     *place = 0;
@@ -56,7 +55,8 @@ fn open_led(
     };
     match texts_led(alloc, direction, dump, journal, limits) {
         Ok(bag) => keep_bag(alloc, handle, bag),
-        Err(refused) => {
+        Err(error) => {
+            let refused = refused_of(error);
             *place = refused.place;
             *entry = refused.entry;
             refused.status
@@ -79,11 +79,11 @@ pub extern "C" fn s2ix_replay(
     place: &mut usize,
     entry: &mut usize,
 ) -> u32
-    ensures replayed { result ≡ done → OpensLed replayed replay_refusal dump.now journal.now pairs copies changes (held_of handle.new) }
+    ensures replayed { result ≡ done → OpensLed Forward dump.now journal.now pairs copies changes (held_of handle.new) }
     ensures unchanged { result ≢ done → held_of handle.new ≡ held_of handle.old }
     ensures limits { (result ≡ no_limits) ↔ (AreLimits pairs copies changes → ⊥) }
     ensures refused { result ≢ done → result ≢ no_limits
-        → RefusesIn replay_refusal dump.now journal.now pairs copies changes (refused_at result place.new entry.new) }
+        → RefusesIn Forward dump.now journal.now pairs copies changes (refused_at result place.new entry.new) }
     ensures nowhere { (result ≡ done) ⊎ (result ≡ no_limits) → (place.new ≡ 0) × (entry.new ≡ 0) }
 {
     open_led(
@@ -114,11 +114,11 @@ pub extern "C" fn s2ix_rewind(
     place: &mut usize,
     entry: &mut usize,
 ) -> u32
-    ensures rewound { result ≡ done → OpensLed rewound rewind_refusal dump.now journal.now pairs copies changes (held_of handle.new) }
+    ensures rewound { result ≡ done → OpensLed Back dump.now journal.now pairs copies changes (held_of handle.new) }
     ensures unchanged { result ≢ done → held_of handle.new ≡ held_of handle.old }
     ensures limits { (result ≡ no_limits) ↔ (AreLimits pairs copies changes → ⊥) }
     ensures refused { result ≢ done → result ≢ no_limits
-        → RefusesIn rewind_refusal dump.now journal.now pairs copies changes (refused_at result place.new entry.new) }
+        → RefusesIn Back dump.now journal.now pairs copies changes (refused_at result place.new entry.new) }
     ensures nowhere { (result ≡ done) ⊎ (result ≡ no_limits) → (place.new ≡ 0) × (entry.new ≡ 0) }
 {
     open_led(

@@ -1,38 +1,40 @@
--- Where a dump and a journal lead.
-use Rattle.std.specs.Prelude.{◌≡◌, ◌≢◌, ◌⊎◌, ℕ, Option, Some, None, List}
-use Rattle.std.specs.Option.{option_map}
+-- Where a dump and a journal lead, and why they lead nowhere.
+use Rattle.std.specs.Prelude.{◌≡◌, ◌≢◌, ℕ, Option, Some, None, List, take}
 use Rattle.s2ix_bag.specs.declared.replay_error.ReplayError.{ReplayError}
-use Rattle.s2ix_bag.specs.declared.replay_error.ReplayError.TheVariants.{Mismatch, TooManyCopies, TooManyPairs, OutOfMemory}
-use Rattle.s2ix_bag.specs.Replay.{replay_refusal, replayed, rewind_refusal, rewound}
+use Rattle.s2ix_bag.specs.declared.replay_error.ReplayError.TheVariants as replay
+use Rattle.s2ix_bag.specs.Replay.{IsReplayError, first_refusal, replay_refusal, replayed, rewind_refusal, rewound, way_back, with_numbers}
 use Rattle.s2ix_bag_pairs.specs.Collection.{Collection, LimitedCollection}
 use Rattle.s2ix_bag_pairs.specs.declared.limits.Limits.{Limits}
 use Rattle.s2ix_bag_pairs.specs.declared.pair.Entry.{Entry}
 use Rattle.s2ix_bag_pairs.specs.Limits.{pairs_limit, count_limit, changes_limit}
 use Rattle.s2ix_edit_plan.specs.State.{State, starting_at}
-use Rattle.s2ix_text_read_dump.specs.DumpFaults.{dump_fault}
-use Rattle.s2ix_text_read_journal.specs.JournalFaults.{journal_fault}
+use Rattle.s2ix_text_read_dump.specs.declared.errors.DumpError.TheVariants as dump_error
+use Rattle.s2ix_text_read_dump.specs.DumpFaults.{IsDumpError, dump_fault}
+use Rattle.s2ix_text_read_journal.specs.declared.errors.JournalError.TheVariants as journal_error
+use Rattle.s2ix_text_read_journal.specs.JournalFaults.{IsJournalError, journal_fault}
 use Rattle.s2ix_text_write.specs.Dump.{IsDump}
 use Rattle.s2ix_text_write.specs.Journal.{IsJournalText}
 use Rattle.s2ix_c_calls.specs.declared.replaying.Direction.{Direction}
 use Rattle.s2ix_c_calls.specs.declared.replaying.Direction.TheVariants.{Forward, Back}
+use Rattle.s2ix_c_calls.specs.declared.replaying.LedError.{LedError}
+use Rattle.s2ix_c_calls.specs.declared.replaying.LedError.TheVariants.{Dump, Journal, Replay}
 use Rattle.s2ix_c_calls.specs.declared.replaying.Refused.{Refused}
 use Rattle.s2ix_c_calls.specs.Status.{done, no_dump, no_journal, no_limits, mismatch, out_of_memory, too_many_copies, too_many_pairs}
 
--- where changes lead from a bag, and the first of them that is refused
-abbrev pub Leading : Type 0
-Leading = LimitedCollection → List (List Entry) → LimitedCollection
-
-abbrev pub Refusing : Type 0
-Refusing = LimitedCollection → List (List Entry) → Option ReplayError
-
--- each direction by what it makes of a bag, and by what it refuses
-abbrev pub led_by : Direction → Leading
+-- the bag to which changes lead from another
+abbrev pub led_by : Direction → LimitedCollection → List (List Entry) → LimitedCollection
 led_by Forward = replayed
 led_by Back = rewound
 
-abbrev pub refusal_by : Direction → Refusing
+-- the first refusal of any of the changes
+abbrev pub refusal_by : Direction → LimitedCollection → List (List Entry) → Option ReplayError
 refusal_by Forward = replay_refusal
 refusal_by Back = rewind_refusal
+
+-- the refusal of the change that is made first: the first of the journal if changes are done, the last if they are taken back
+abbrev pub first_refusal_by : Direction → LimitedCollection → List (List Entry) → Option ReplayError
+first_refusal_by Forward start changes = first_refusal start (take 1 (with_numbers changes))
+first_refusal_by Back start changes = first_refusal start (take 1 (way_back (with_numbers changes)))
 
 -- one text is a dump and the other a journal, neither has a fault under these limits, and P holds of the bag under them and of the changes
 abbrev pub AreTexts : Limits → List ℕ → List ℕ → (LimitedCollection → List (List Entry) → Type 0) → Type 0
@@ -42,36 +44,42 @@ AreTexts limits dump journal P =
     × P (record { limits = limits; held = hs }) changes
 
 -- a dump and a journal lead to a bag
-abbrev pub LeadTo : Leading → Refusing → Limits → List ℕ → List ℕ → LimitedCollection → Type 0
-LeadTo led refusal limits dump journal bag = AreTexts limits dump journal (λ start changes. (refusal start changes ≡ None) × (bag ≡ led start changes))
+abbrev pub LeadTo : Direction → Limits → List ℕ → List ℕ → LimitedCollection → Type 0
+LeadTo direction limits dump journal bag =
+    AreTexts limits dump journal (λ start changes. (refusal_by direction start changes ≡ None) × (bag ≡ led_by direction start changes))
+
+-- a change is refused, or memory is wanted for the changes, the first of which is not refused
+abbrev pub IsChangeError : Direction → ReplayError → LimitedCollection → List (List Entry) → Type 0
+IsChangeError direction error start changes =
+    IsReplayError error (refusal_by direction start changes)
+    × (error ≡ replay.OutOfMemory → first_refusal_by direction start changes ≡ None)
+
+-- why a dump and a journal lead to no bag: the dump is not read; the journal isn't, below a dump that is; or a change is refused. Want of
+-- memory never comes in place of a fault on the first line of the text that is read, nor of the refusal of the change that is made first
+abbrev pub IsLedError : Direction → Limits → List ℕ → List ℕ → LedError → Type 0
+IsLedError direction limits dump journal (Dump error) = IsDumpError error (dump_fault limits dump)
+IsLedError direction limits dump journal (Journal error) =
+    (dump_fault limits dump ≡ None) × IsJournalError error (journal_fault limits journal)
+IsLedError direction limits dump journal (Replay error) = AreTexts limits dump journal (IsChangeError direction error)
 
 -- a status, and the two numbers that say what it is about
 abbrev pub refused_at : ℕ → ℕ → ℕ → Refused
 refused_at status place entry = record { status = status; place = place; entry = entry }
 
--- a refused change: its status, its number, and the number of the entry whose count is not the bag's, or 0
-abbrev pub refused_by : ReplayError → Refused
-refused_by (Mismatch change entry) = refused_at mismatch change entry
-refused_by (TooManyCopies change) = refused_at too_many_copies change 0
-refused_by (TooManyPairs change) = refused_at too_many_pairs change 0
-refused_by OutOfMemory = refused_at out_of_memory 0 0
+-- what an error tells: its status; the line of a fault or the number of a change; and the number of the entry whose count is not the bag's
+abbrev pub refused_by : LedError → Refused
+refused_by (Dump (dump_error.At line fault)) = refused_at no_dump line 0
+refused_by (Dump dump_error.OutOfMemory) = refused_at out_of_memory 0 0
+refused_by (Journal (journal_error.At line fault)) = refused_at no_journal line 0
+refused_by (Journal journal_error.OutOfMemory) = refused_at out_of_memory 0 0
+refused_by (Replay (replay.Mismatch change entry)) = refused_at mismatch change entry
+refused_by (Replay (replay.TooManyCopies change)) = refused_at too_many_copies change 0
+refused_by (Replay (replay.TooManyPairs change)) = refused_at too_many_pairs change 0
+refused_by (Replay replay.OutOfMemory) = refused_at out_of_memory 0 0
 
 -- the status of what texts are refused for is neither of these
 abbrev pub IsOfTexts : ℕ → Type 0
 IsOfTexts status = (status ≢ done) × (status ≢ no_limits)
-
--- why a text is not read: its first fault, told by a status and the fault's line; or memory is wanted
-abbrev pub IsUnread : {Fault : Type 0} → ℕ → Option (ℕ × Fault) → Refused → Type 0
-IsUnread {Fault} status found refused =
-    ((line : ℕ) × (fault : Fault) × (found ≡ Some (line, fault)) × (refused ≡ refused_at status line 0))
-    ⊎ (refused ≡ refused_at out_of_memory 0 0)
-
--- what is refused first: a line of the dump, a line of the journal, or a change; want of memory may be told in place of each
-abbrev pub IsRefusedIn : Refusing → Limits → List ℕ → List ℕ → Refused → Type 0
-IsRefusedIn refusal limits dump journal refused =
-    IsUnread no_dump (dump_fault limits dump) refused
-    ⊎ ((dump_fault limits dump ≡ None) × IsUnread no_journal (journal_fault limits journal) refused)
-    ⊎ AreTexts limits dump journal (λ start changes. (refused ≡ refused_at out_of_memory 0 0) ⊎ (option_map refused_by (refusal start changes) ≡ Some refused))
 
 -- P holds of the limits with these numbers
 abbrev pub OfLimits : ℕ → ℕ → ℕ → (Limits → Type 0) → Type 0
@@ -79,11 +87,11 @@ OfLimits pairs copies changes P =
     (limits : Limits) × (pairs_limit limits ≡ pairs) × (count_limit limits ≡ copies) × (changes_limit limits ≡ changes) × P limits
 
 -- the handle is open, and its store starts from the bag that a dump and a journal lead to under the limits with these numbers
-abbrev pub OpensLed : Leading → Refusing → List ℕ → List ℕ → ℕ → ℕ → ℕ → Option State → Type 0
-OpensLed led refusal dump journal pairs copies changes new =
-    OfLimits pairs copies changes (λ limits. (bag : LimitedCollection) × LeadTo led refusal limits dump journal bag × (new ≡ Some (starting_at bag)))
+abbrev pub OpensLed : Direction → List ℕ → List ℕ → ℕ → ℕ → ℕ → Option State → Type 0
+OpensLed direction dump journal pairs copies changes new =
+    OfLimits pairs copies changes (λ limits. (bag : LimitedCollection) × LeadTo direction limits dump journal bag × (new ≡ Some (starting_at bag)))
 
--- what is refused first under the limits with these numbers
-abbrev pub RefusesIn : Refusing → List ℕ → List ℕ → ℕ → ℕ → ℕ → Refused → Type 0
-RefusesIn refusal dump journal pairs copies changes refused =
-    OfLimits pairs copies changes (λ limits. IsRefusedIn refusal limits dump journal refused)
+-- why they lead to no bag under these limits
+abbrev pub RefusesIn : Direction → List ℕ → List ℕ → ℕ → ℕ → ℕ → Refused → Type 0
+RefusesIn direction dump journal pairs copies changes refused =
+    OfLimits pairs copies changes (λ limits. (error : LedError) × IsLedError direction limits dump journal error × (refused ≡ refused_by error))

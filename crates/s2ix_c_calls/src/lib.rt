@@ -29,7 +29,7 @@ pub use line::line_store;
 pub use listing::{label_store, pairs_store};
 pub use queries::{at_store, labels_store, meet_store, meet_store_from, region_store};
 pub use ranges::{contents_store, find_store, full_store, full_store_before, read_store};
-pub use replaying::{Direction, Refused, texts_led};
+pub use replaying::{Direction, LedError, Refused, refused_of, texts_led};
 pub use rows::{Row, put_bytes, put_cells};
 pub use steps::{clear_store, redo_store, undo_store};
 pub use texts::{dump_store, export_store, journal_store};
