@@ -26,7 +26,7 @@ pub extern "C" fn s2ix_union_normalise(
 {
     *number = 0;
     if ids.is_empty() {
-        return DONE;
+        return DONE; // no cells, so an empty list
     }
     match normal_of(alloc, ids, number) {
         Ok(normal) => put_cells(normal.cells(), out, number),
@@ -50,7 +50,7 @@ pub extern "C" fn s2ix_union_from_leaves(
         Ok(union) => put_cells(union.cells(), out, number),
         Err(RangeError::BadRange) => NO_SPAN,
         Err(RangeError::OutOfMemory) if start < limit => OUT_OF_MEMORY,
-        Err(RangeError::OutOfMemory) => DONE,
+        Err(RangeError::OutOfMemory) => DONE, // equal bounds, so no cells
     }
 }
 
@@ -67,7 +67,7 @@ pub extern "C" fn s2ix_union_union(
     ensures memory { result ≡ out_of_memory → (first.now ≢ []) ⊎ (second.now ≢ []) }
 {
     if first.is_empty() && second.is_empty() {
-        return check_both(first, second, number);
+        return check_both(first, second, number); // neither has a leaf
     }
     let (first, second) = match normals_of(alloc, first, second, number) {
         Ok(unions) => unions,
@@ -92,7 +92,7 @@ pub extern "C" fn s2ix_union_intersection(
     ensures memory { result ≡ out_of_memory → (first.now ≢ []) × (second.now ≢ []) }
 {
     if first.is_empty() || second.is_empty() {
-        return check_both(first, second, number);
+        return check_both(first, second, number); // one has no leaf
     }
     let (first, second) = match normals_of(alloc, first, second, number) {
         Ok(unions) => unions,
@@ -117,7 +117,7 @@ pub extern "C" fn s2ix_union_difference(
     ensures memory { result ≡ out_of_memory → first.now ≢ [] }
 {
     if first.is_empty() {
-        return check_both(first, second, number);
+        return check_both(first, second, number); // the first has no leaf
     }
     let (first, second) = match normals_of(alloc, first, second, number) {
         Ok(unions) => unions,
@@ -144,7 +144,7 @@ pub extern "C" fn s2ix_union_contains(
         return NO_CELL;
     };
     if ids.is_empty() {
-        return DONE;
+        return DONE; // no cells, so no leaf of the cell's
     }
     let mut place = 0;
     let union = match normal_of(alloc, ids, &mut place) {
@@ -170,7 +170,7 @@ pub extern "C" fn s2ix_union_intersects(
         return NO_CELL;
     };
     if ids.is_empty() {
-        return DONE;
+        return DONE; // no cells, so no shared leaf
     }
     let mut place = 0;
     let union = match normal_of(alloc, ids, &mut place) {
@@ -188,7 +188,7 @@ pub extern "C" fn s2ix_union_leaf_count(alloc: Global, ids: &[u64], count: &mut 
 {
     *count = 0;
     if ids.is_empty() {
-        return DONE;
+        return DONE; // no cells, so no leaves
     }
     let mut place = 0;
     match normal_of(alloc, ids, &mut place) {

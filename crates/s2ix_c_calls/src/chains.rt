@@ -81,14 +81,14 @@ pub(crate) fn put_contents<T: RangeTable>(
 }
 
 // Where the chain of a range begins, or `None` if nothing lies over it.
-fn first_in<T: RangeTable>(table: &T, range: usize) -> Option<T::Place>
-    requires { range < length (T.ranges table.now) }
+fn first_in<T: RangeTable>(table: &T, place: usize) -> Option<T::Place>
+    requires { place < length (T.ranges table.now) }
     ensures place { (p : T.Place) → result ≡ Some p → IsPlace (T.chain table.now) p }
     ensures begun { (from : ℕ) → front_from from (from_place (T.chain table.now) result)
-        ≡ begun_from from (range_at (T.ranges table.now) range).contents }
+        ≡ begun_from from (range_at (T.ranges table.now) place).contents }
     ensures few { length (from_place (T.chain table.now) result) ≤ 1000000 }
 {
-    table.first(range)
+    table.first(place)
 }
 
 // How many pairs a chain has from a place on up to the first whose cell begins before the leaf number `from`.
@@ -97,35 +97,36 @@ fn length_begun<T: RangeTable>(table: &T, first: Option<T::Place>, from: u64) ->
     requires few { length (from_place (T.chain table.now) first) ≤ 1000000 }
     ensures { result ≡ length (front_from from (from_place (T.chain table.now) first)) }
 {
-    let mut many = 0;
+    let mut begun = 0;
     let mut next = first;
     while let Some(place) = next {
         if table.held_at(place).pair.cell.span_start() < from {
-            return many;
+            return begun;
         }
-        many += 1;
+        begun += 1;
         next = table.outer(place);
     }
-    many
+    begun
 }
 
 // Puts the pairs over a range whose cells begin at the leaf number `from` or later to the front of `out`, if it has room for them; `number`
 // is how many there are. It does not allocate. O(k) for k pairs.
 pub(crate) fn put_begun<T: RangeTable>(
     table: &T,
-    range: usize,
+    place: usize,
     from: u64,
     out: &mut [Row],
     number: &mut usize,
 ) -> u32
-    requires { range < length (T.ranges table.now) }
-    ensures { IsPut (map row_of (begun_from from (range_at (T.ranges table.now) range).contents)) result number.new out.old out.new }
+    requires { place < length (T.ranges table.now) }
+    ensures { IsPut (map row_of (begun_from from (range_at (T.ranges table.now) place).contents)) result number.new out.old out.new }
 {
-    let first = first_in(table, range);
-    *number = length_begun(table, first, from);
-    if *number > out.len() {
+    let first = first_in(table, place);
+    let many = length_begun(table, first, from);
+    *number = many;
+    if many > out.len() {
         return NO_ROOM;
     }
-    write_from(table, first, *number, out);
+    write_from(table, first, many, out);
     DONE
 }

@@ -57,7 +57,7 @@ pub fn meet_store(
 {
     *number = 0;
     if ids.is_empty() {
-        return DONE;
+        return DONE; // no cells, so no pairs
     }
     let target = match normal_of(alloc, ids, number) {
         Ok(target) => target,
@@ -107,7 +107,7 @@ pub fn meet_store_from(
 {
     *number = 0;
     if ids.is_empty() {
-        return DONE;
+        return DONE; // no cells, so an empty page
     }
     if out.is_empty() {
         return check_cells(ids, number);
@@ -133,7 +133,7 @@ pub fn labels_store(
 {
     *number = 0;
     if ids.is_empty() {
-        return DONE;
+        return DONE; // no cells, so no labels
     }
     let target = match normal_of(alloc, ids, number) {
         Ok(target) => target,
@@ -159,7 +159,7 @@ fn put_region(store: &Store, label: Label, out: &mut [u64], number: &mut usize) 
 {
     *number = 0;
     if lacks_label(store, label) {
-        return DONE;
+        return DONE; // no pair, so no cells
     }
     match store.region(label) {
         Ok(region) => put_cells(region.cells(), out, number),

@@ -33,8 +33,8 @@ pub fn check_cells(ids: &[u64], number: &mut usize) -> u32
     ensures wrong { result ≢ done → (result ≡ no_cell) × IsFirstNoCell ids.now number.new }
 {
     *number = 0;
-    if let Some(place) = wrong_cell(ids) {
-        *number = place;
+    if let Some(found) = wrong_cell(ids) {
+        *number = found;
         return NO_CELL;
     }
     DONE
@@ -114,9 +114,9 @@ pub fn normals_of(
     ensures right { OnOk result (number.new ≡ 0) }
     ensures refused { IfErr result (λ why. LacksUnion (first.now ++ second.now) why number.new) }
 {
-    let status = check_both(first, second, number);
-    if status != DONE {
-        return Err(status);
+    let checked = check_both(first, second, number);
+    if checked != DONE {
+        return Err(checked);
     }
     match (normal_union(alloc, first), normal_union(alloc, second)) {
         (Ok(first), Ok(second)) => Ok((first, second)),

@@ -7,11 +7,11 @@ use Rattle.s2ix_c_calls.proofs.chains.first_in.Goals as goal
 
 pub returns-clause-begun : goal.returns-clause-begun
 returns-clause-begun g c = λ from.
-    ap (front_from from) c.first.ensures.pairs_are ∙ front_of_range _ _ c.args.range from (g.met.T.RangeTable.is_table c.args.table.now) c.requires
+    ap (front_from from) c.first.ensures.pairs_are ∙ front_of_range _ _ c.args.place from (g.met.T.RangeTable.is_table c.args.table.now) c.requires
 
 pub returns-clause-few : goal.returns-clause-few
 returns-clause-few g c =
     let t = c.args.table.now in
-    let within = few_in_range (g.T.RangeTable.pairs t) (g.T.RangeTable.ranges t) c.args.range (g.met.T.RangeTable.is_table t) c.requires in
+    let within = few_in_range (g.T.RangeTable.pairs t) (g.T.RangeTable.ranges t) c.args.place (g.met.T.RangeTable.is_table t) c.requires in
     let few = g.met.T.RangeTable.few t in
     subst (λ (l : List Held). length l ≤ 1000000) (sym c.first.ensures.pairs_are) (omega arith)

@@ -7,7 +7,7 @@ use Rattle.s2ix_c_calls.proofs.chains.length_begun.Given as goal
 abbrev pub invariant-loop-next : goal.invariant-loop-next
 invariant-loop-next g l =
     ((p : g.row.T-Place.Denot) → l.next ≡ Some p → IsPlace (g.T.RangeTable.chain l.table) p)
-    × (l.many + length (front_from l.from (from_place (g.T.RangeTable.chain l.table) l.next))
+    × (l.begun + length (front_from l.from (from_place (g.T.RangeTable.chain l.table) l.next))
     ≡ length (front_from l.from (from_place (g.T.RangeTable.chain l.table) l.fn.first)))
 
 abbrev pub decreases-loop-next : goal.decreases-loop-next
