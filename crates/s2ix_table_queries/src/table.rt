@@ -67,8 +67,8 @@ pub trait RangeTable: Sized {
         }
     }
 
-    /// Consecutive ranges over a face, 0 to 5, with a list of where each begins; by default none, for a table that keeps no such list.
-    /// O(1).
+    /// Consecutive ranges over a face, 0 to 5, with a list of where each begins; by default none, for a table that keeps no such list. No
+    /// clause says that they lie over this face: with those of another, a search would only be slower. O(1).
     fn stretch(&self, face: u8) -> Stretch<'_>
         requires { face < 6 }
         ensures stretch { IsStretch (ranges self.now) result.first result.count result.starts.now }
