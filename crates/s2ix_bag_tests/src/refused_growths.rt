@@ -6,7 +6,7 @@ use s2ix_bag_samples::{WIDEST, bag_of, holds_pairs};
 use std::alloc::Global;
 use std::process::Abort;
 
-// Pairs on each face, nine of them on face 2.
+// Pairs on each face, ten of them on face 2.
 const HELD: &str =
     "1:3:1 3:3:1 5:1:1 5:2:1 5:3:1 5:5:1 5:6:1 5:7:1 5:8:1 5:9:1 5:10:1 7:3:1 9:3:1 b:3:1";
 
