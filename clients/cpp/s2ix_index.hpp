@@ -583,7 +583,7 @@ class Index {
   }
 
   // Adds the count of each row to that of its cell under its label, as one change: rows in any order, repeated or not. Each row keeps its
-  // cell: unlike add_union, the call normalises nothing. They are refused as a whole. O(m log m + m log n) for m rows, and the pairs held on
+  // cell: unlike add_union, the call normalises nothing. All are added, or none. O(m log m + m log n) for m rows, and the pairs held on
   // their faces. S2IX_NO_CELL, S2IX_NO_LABEL, with the first row that is wrong.
   std::size_t add_all(const Row* rows, std::size_t size) {
     static constexpr Row none{};
@@ -914,7 +914,7 @@ class Index {
     return rows;
   }
 
-  // The text that a call puts. It is asked for with room for so many bytes for each of what another call counts.
+  // The text of a call. The first call has room for `bytes_each` bytes for each item that `counter` counts.
   std::string text(decltype(s2ix_dump)* call, decltype(s2ix_len)* counter, std::size_t bytes_each) const {
     std::string text;
     const std::uint32_t status = handle_.with([&](::s2ix_handle* handle) {

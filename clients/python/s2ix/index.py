@@ -204,10 +204,10 @@ class Index:
             raise no_cell(number) from None
 
     def add_all(self, rows: Rows) -> int:
-        """Adds rows, each a cell, a label and copies, as one change: in any order, and repeated or not; returns how many pairs changed. They are
-        refused as a whole. Each row keeps its cell: only `add_union` normalises. O(m log m + m log n) for m rows, and the pairs held on
-        their faces. `meet_view` says how rows in a memoryview are packed. Raises NoCell or NoLabel with the place of the first row that is
-        wrong, counted from 0, and what is wrong; and what each edit may."""
+        """Adds rows, each a cell, a label and copies, as one change: in any order, and repeated or not; returns how many pairs changed. All are
+        added, or none. Each row keeps its cell: only `add_union` normalises. O(m log m + m log n) for m rows, and the pairs held on
+        their faces. `meet_view` says how rows in a memoryview are packed. Raises NoCell or NoLabel, with the wrong value of the first
+        wrong row and its place, counted from 0; and what each edit may."""
         start, many, _kept = rows_in(rows)
         number = ctypes.c_size_t()
         status = self._edited(self._calls.s2ix_add_all, self._at_handle, start, many, addressof(number))
@@ -436,8 +436,7 @@ class Index:
     def contents(self, place: int, start: int = 0) -> list[Row]:
         """The pairs over the range at a place, the innermost cell first, the labels of one cell rising; of these only the ones whose cells begin
         at the leaf number `start` or later. If `start` is the `limit` of an earlier range, the pairs over that range are left out. O(k) for
-        k pairs.
-        Raises Closed, NoRange, NoCell if `start` is no 64-bit number, or OutOfMemory."""
+        k pairs. Raises Closed, NoRange, NoCell if `start` is no 64-bit number, or OutOfMemory."""
         place = check(place, MOST_U64, NoRange)
         return self._listed(self._calls.s2ix_contents, _PACKED, _rows_of, place, number_of(start))
 
