@@ -10,9 +10,10 @@
    reason sets *number to 0, with one exception: if a call that takes a list of rows or cells finds a wrong one, *number is the place of the
    first, counted from 0; with two lists the places count on through the second.
 
-   If more than one status is due, an edit tells of a wrong cell or label first, and any other call of a closed handle. Want of memory comes
-   last, except that a call that gathers its list may tell of it in place of S2IX_NO_ROOM. Where nothing is asked for, no memory is wanted:
-   no rows, no cells, a label that is not held, equal bounds, no room for a page.
+   If more than one status is due, an edit tells of a wrong cell or label first, and any other call of a closed handle. S2IX_OUT_OF_MEMORY
+   comes after these. A call that gathers its list may return it in place of S2IX_NO_ROOM, and an edit in place of S2IX_NO_CHANGE,
+   S2IX_TOO_MANY_COPIES or S2IX_TOO_MANY_PAIRS; s2ix_add_all and s2ix_add_union also in place of S2IX_JOURNAL_FULL. Where nothing is asked
+   for, no memory is wanted: no rows, no cells, a label that is not held, equal bounds, no room for a page.
 
    You must ensure this, since no call can check it:
 

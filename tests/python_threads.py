@@ -194,10 +194,13 @@ def check_signals(count, name):
         wrong.extend(f"{name} in a handler" for name, found, wanted in zones.ask(0, 3) if found != wanted)
 
     before = signal.signal(signal.SIGALRM, handle)
-    signal.setitimer(signal.ITIMER_REAL, 0.0005, 0.0005)
     try:
-        while time.monotonic() < until:
-            wrong += [f"{name} around a handler" for name, found, wanted in zones.edit(1, 0) if found != wanted]
+        for step in itertools.count(1):
+            if time.monotonic() > until:
+                break
+            # (one signal for each step, so that no handler comes into another)
+            signal.setitimer(signal.ITIMER_REAL, step % 40 * 1e-5 + 1e-5)
+            wrong += [f"{name} around a handler" for name, found, wanted in zones.edit(1, step) if found != wanted]
     finally:
         signal.setitimer(signal.ITIMER_REAL, 0)
         signal.signal(signal.SIGALRM, before)

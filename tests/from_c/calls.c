@@ -297,6 +297,8 @@ static void asked_for_labels(s2ix_handle *handle) {
     uint64_t region[3];
     EXPECT(s2ix_labels(handle, &face, 1, labels, 2, &number), S2IX_NO_ROOM);
     EXPECT(number, 3);
+    EXPECT(s2ix_labels(handle, &face, 1, labels, 0, &number), S2IX_NO_ROOM);
+    EXPECT(number, 3);
     EXPECT(s2ix_labels(handle, &face, 1, labels, 3, &number), S2IX_DONE);
     EXPECT(labels[0] == 3 && labels[1] == 5 && labels[2] == 9, true);
     EXPECT(s2ix_labels(handle, &face, 0, labels, 0, &number), S2IX_DONE);

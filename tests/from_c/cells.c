@@ -131,6 +131,8 @@ static void squared(void) {
     EXPECT(s2ix_cell_border(face, 1, border, 8, &number), S2IX_DONE);
     EXPECT(number, 8);
     EXPECT(border[0] < border[7], true);
+    EXPECT(s2ix_cell_border(face, 0, border, 0, &number), S2IX_NO_ROOM);
+    EXPECT(number, 4);
     EXPECT(s2ix_cell_border(face, 0, border, 4, &number), S2IX_DONE);
     EXPECT(number, 4);
     EXPECT(border[0], 0x3000000000000000);
@@ -168,6 +170,8 @@ static void joined(void) {
     EXPECT(out[1], 7);
     EXPECT(s2ix_union_normalise(shuffled, 2, out, 1, &number), S2IX_NO_ROOM);
     EXPECT(number, 2);
+    EXPECT(s2ix_union_normalise(shuffled, 2, out, 0, &number), S2IX_NO_ROOM);
+    EXPECT(number, 2);
     EXPECT(out[0], face);
     EXPECT(s2ix_union_normalise(refused, 2, out, 4, &number), S2IX_NO_CELL);
     EXPECT(number, 1);
@@ -190,10 +194,14 @@ static void joined(void) {
     EXPECT(out[0], face);
     EXPECT(s2ix_union_union(children, 1, children + 2, 1, out, 1, &number), S2IX_NO_ROOM);
     EXPECT(number, 2);
+    EXPECT(s2ix_union_union(children, 1, children + 2, 1, out, 0, &number), S2IX_NO_ROOM);
+    EXPECT(number, 2);
     EXPECT(s2ix_union_union(children, 1, refused, 2, out, 4, &number), S2IX_NO_CELL);
     EXPECT(number, 2);
     EXPECT(s2ix_union_union(children, 0, refused, 0, out, 0, &number), S2IX_DONE);
     EXPECT(number, 0);
+    EXPECT(s2ix_union_intersection(&face, 1, children + 1, 2, out, 0, &number), S2IX_NO_ROOM);
+    EXPECT(number, 2);
     EXPECT(s2ix_union_intersection(&face, 1, children + 1, 2, out, 4, &number), S2IX_DONE);
     EXPECT(number, 2);
     EXPECT(out[0], children[1]);
@@ -204,6 +212,8 @@ static void joined(void) {
     EXPECT(number, 1);
     EXPECT(s2ix_union_intersection(children, 2, children, 0, out, 4, &number), S2IX_DONE);
     EXPECT(number, 0);
+    EXPECT(s2ix_union_difference(&face, 1, children + 1, 2, out, 0, &number), S2IX_NO_ROOM);
+    EXPECT(number, 2);
     EXPECT(s2ix_union_difference(&face, 1, children + 1, 2, out, 4, &number), S2IX_DONE);
     EXPECT(number, 2);
     EXPECT(out[0], children[0]);

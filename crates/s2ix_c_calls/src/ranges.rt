@@ -85,8 +85,9 @@ pub fn read_store(
 }
 
 /// Of the pairs over the range at a place, those whose cells begin at the leaf number `from` or later: the innermost cell first, the
-/// labels of one cell rising. It does not allocate: it goes along the chain once to count, and once to write. It reads these pairs and one
-/// more: each cell further out begins no later than the one before it.
+/// labels of one cell rising. If `from` is the limit of an earlier range, these are the pairs that don't lie over that one
+/// (`laws::pairs_from_a_limit_are_new`). It does not allocate: it goes along the chain once to count, and once to write. It reads these
+/// pairs and one more: each cell further out begins no later than the one before it.
 pub fn contents_store(
     store: &Store,
     place: usize,

@@ -1,3 +1,4 @@
 mod Trees
 mod Asked
 mod Matched
+mod Plain

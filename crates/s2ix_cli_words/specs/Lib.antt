@@ -3,3 +3,4 @@ pub mod Help
 pub mod Words
 pub mod Flushing
 pub mod Statuses
+pub mod Shown

@@ -2,6 +2,7 @@
 ghost use Rattle.std.specs.Prelude.{◌≡◌, ◌↔◌, ℕ, Some, IfErr, IfNone, IfOk, IfSome, IsTrue, codes, option_map, string_bytes};
 ghost use Rattle.clap.specs.Words.{first_of, found_of, rows_of, subcommand_rows_of};
 ghost use Rattle.s2ix_bag_pairs.specs.declared.limits.Limits.{Limits as OfLimits};
+ghost use Rattle.s2ix_cli_words.specs.Shown.{ArePlain, Says};
 ghost use Rattle.s2ix_cli_words.specs.Words.{AreGiven, IsFile, IsGiven, IsMet, IsOf, IsUsage, Lacks, Refuses};
 
 use crate::usage::{limit_usage, usage};
@@ -21,6 +22,7 @@ const NO_COMMAND: &str = "error: a command is wanted\n\nFor more information, tr
 pub(crate) fn command_met(alloc: Global, matches: &ArgMatches<'_>) -> Result<Command, WordsFault>
     ensures met { IfOk result (IsMet (subcommand_rows_of matches.now)) }
     ensures refused { IfErr result (Refuses (IsMet (subcommand_rows_of matches.now))) }
+    ensures plain { IfErr result (Says ArePlain) }
 {
     match matches.subcommand() {
         Some((word, given)) => command_given(alloc, word, given),
@@ -32,6 +34,7 @@ pub(crate) fn command_met(alloc: Global, matches: &ArgMatches<'_>) -> Result<Com
 fn command_given(alloc: Global, word: &str, given: &ArgMatches<'_>) -> Result<Command, WordsFault>
     ensures given { IfOk result (IsOf word.now (rows_of (found_of given.now))) }
     ensures refused { IfErr result (Refuses (IsOf word.now (rows_of (found_of given.now)))) }
+    ensures plain { IfErr result (Says ArePlain) }
 {
     match word {
         "run" => run_given(alloc, given),
@@ -57,6 +60,7 @@ fn command_given(alloc: Global, word: &str, given: &ArgMatches<'_>) -> Result<Co
 fn run_given(alloc: Global, given: &ArgMatches<'_>) -> Result<Command, WordsFault>
     ensures given { IfOk result (IsOf (codes "run") (rows_of (found_of given.now))) }
     ensures refused { IfErr result (Refuses (IsOf (codes "run") (rows_of (found_of given.now)))) }
+    ensures plain { IfErr result (Says ArePlain) }
 {
     let Some(limits) = limits_given(given) else {
         return Err(limits_fault(alloc, given));
@@ -80,7 +84,8 @@ fn limits_given(given: &ArgMatches<'_>) -> Option<Limits>
 
 // What is told of the first limit that is no number in its range.
 fn limits_fault(alloc: Global, given: &ArgMatches<'_>) -> WordsFault
-    ensures { IsUsage result }
+    ensures usage { IsUsage result }
+    ensures plain { Says ArePlain result }
 {
     let widest = Limits::default();
     if let Some(fault) = limit_fault(alloc, given, "max-pairs", widest.pairs()) {
@@ -103,7 +108,8 @@ fn limit_fault(
     option: &str,
     greatest: u32,
 ) -> Option<WordsFault>
-    ensures { IfSome result IsUsage }
+    ensures usage { IfSome result IsUsage }
+    ensures plain { IfSome result (Says ArePlain) }
 {
     let text = text_given(given, option)?;
     match text.parse::<u32>() {
@@ -147,6 +153,7 @@ fn has_flag(given: &ArgMatches<'_>, flag: &str) -> bool
 fn file_given(alloc: Global, given: &ArgMatches<'_>, name: &str) -> Result<String, WordsFault>
     ensures given { IfOk result (IsFile name.now (rows_of (found_of given.now))) }
     ensures refused { IfErr result (Lacks name.now (rows_of (found_of given.now))) }
+    ensures plain { IfErr result (Says ArePlain) }
 {
     match text_given(given, name) {
         Some(file) => Ok(String::from_str(alloc, file)?),

@@ -1,32 +1,33 @@
 //! What is told where the words ask for no command.
+ghost use Rattle.std.specs.Prelude.{◌≡◌, IfOk, string_bytes};
+ghost use Rattle.s2ix_cli_words.specs.Shown.{ArePlain, Says, as_usage, not_utf8_text};
 ghost use Rattle.s2ix_cli_words.specs.Words.{IsUsage};
 
 use crate::WordsFault;
-use crate::shown::{error_text, on_one_line};
+use crate::shown::{error_text, escaped_word, on_one_line, plain_text};
 use crate::tree::limit_error;
 use std::alloc::{AllocError, Global};
 
 /// Usage with this text.
 pub(crate) fn usage(alloc: Global, text: &str) -> WordsFault
-    ensures { IsUsage result }
+    ensures usage { IsUsage result }
+    ensures plain { Says ArePlain result }
 {
-    told(String::from_str(alloc, text))
+    told(plain_text(alloc, text))
 }
 
 /// The usage of a value that is no number in the range of its option, a limit.
 pub(crate) fn limit_usage(alloc: Global, option: &str, value: &str, greatest: u32) -> WordsFault
-    ensures { IsUsage result }
+    ensures usage { IsUsage result }
+    ensures plain { Says ArePlain result }
 {
     told(limit_text(alloc, option, value, greatest))
 }
 
 // What clap says of a value that is no number in the range of its option.
-fn limit_text(
-    alloc: Global,
-    option: &str,
-    value: &str,
-    greatest: u32,
-) -> Result<String, AllocError> {
+fn limit_text(alloc: Global, option: &str, value: &str, greatest: u32) -> Result<String, AllocError>
+    ensures { IfOk result (λ text. ArePlain (string_bytes text)) }
+{
     let value = on_one_line(alloc, value)?;
     error_text(
         alloc,
@@ -38,16 +39,25 @@ fn limit_text(
 /// bytes.
 pub fn not_utf8(alloc: Global, word: &[u8]) -> WordsFault
     ensures usage { IsUsage result }
+    ensures text { Says (λ text. text ≡ not_utf8_text word.now) result }
 {
-    let word = word.escape_ascii();
-    told(format!(in alloc;
+    told(strange_text(alloc, word))
+}
+
+// What is told of a word that is no UTF-8.
+fn strange_text(alloc: Global, word: &[u8]) -> Result<String, AllocError>
+    ensures { IfOk result (λ text. string_bytes text ≡ not_utf8_text word.now) }
+{
+    let word = escaped_word(alloc, word)?;
+    format!(in alloc;
         "error: the word '{word}' is no UTF-8\n\nFor more information, try '--help'.\n"
-    ))
+    )
 }
 
 // Usage with this text, where there was room for it.
 fn told(text: Result<String, AllocError>) -> WordsFault
-    ensures { IsUsage result }
+    ensures usage { IsUsage result }
+    ensures text { result ≡ as_usage text }
 {
     match text {
         Ok(text) => WordsFault::Usage(text),

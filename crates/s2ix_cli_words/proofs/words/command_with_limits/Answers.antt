@@ -24,4 +24,4 @@ pub returns-in-Err-clause-refused : goal.returns-in-Err-clause-refused
 returns-in-Err-clause-refused c =
     let words : List Text = map string_bytes c.args.words.now in
     let has = subst (λ a. is_simple_and_free a ≡ true → HasKind (fault_of a words) c.in-Err.error) c.in_ok-program.ensures c.in-Err.ensures.kinds is_free in
-    told_refused words (kind_of c.in-Err.error) c.refusal.result c.refusal.ensures has
+    told_refused words (kind_of c.in-Err.error) c.refusal.result c.refusal.ensures.kind has
