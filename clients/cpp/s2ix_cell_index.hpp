@@ -250,7 +250,7 @@ class BasicS2CellIndex {
     std::size_t place() const { return place_; }
     std::size_t place_of(const Id& leaf) const { return index_->index_.find(raw(leaf)).place; }
 
-    // Makes a call with the handle, while no other is made.
+    // Makes a call with the handle, while no other runs.
     template <class Call>
     auto with(Call call) const {
       return index_->index_.handle_.with(call);
@@ -384,7 +384,7 @@ class BasicS2CellIndex {
     if (label < 0) detail::refuse(S2IX_NO_LABEL, detail::wrong_label(S2IX_NO_LABEL, {static_cast<std::uint32_t>(label)}));
   }
 
-  // The index with all that was added. If that is refused, it is as it was, and what was added stays to be built.
+  // The index with all that was added. If the library refuses the adds, the index is as it was, and they wait for the next Build().
   Index& built() const {
     if (has_added_.load(std::memory_order_acquire)) {
       const std::lock_guard<std::mutex> held(building_);

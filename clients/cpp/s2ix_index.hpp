@@ -655,8 +655,8 @@ class Index {
 
   // Lists. One form of each call puts the list in place of what a vector of the caller held, and uses its memory again; if the call throws,
   // the vector is empty. The other form returns a new vector. Each costs what its list does, whatever the capacity of the vector. If a list has
-  // more items than the vector held, the library makes it twice, unless it has at most 16 items, 64 for a meet, or a sixteenth of all pairs for
-  // a label: so keep a vector for each kind of call.
+  // more items than the vector held, the library makes it twice. It makes a short list once: at most 16 rows, 64 rows of meet, 256 labels, or
+  // for a label a sixteenth of all pairs. So keep a vector for each kind of call.
 
   // The pairs whose cells contain a leaf, the innermost cell first, the labels of one cell rising. O(log n + k) for k pairs. S2IX_CLOSED,
   // S2IX_NO_CELL.
