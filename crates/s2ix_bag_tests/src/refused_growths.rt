@@ -6,11 +6,13 @@ use s2ix_bag_samples::{WIDEST, bag_of, holds_pairs};
 use std::alloc::Global;
 use std::process::Abort;
 
-// A pair on each face.
-const HELD: &str = "1:3:1 3:3:1 5:3:1 7:3:1 9:3:1 b:3:1";
+// Pairs on each face, nine of them on face 2.
+const HELD: &str =
+    "1:3:1 3:3:1 5:1:1 5:2:1 5:3:1 5:5:1 5:6:1 5:7:1 5:8:1 5:9:1 5:10:1 7:3:1 9:3:1 b:3:1";
 
-// Another count on face 2, and another pair.
-const CHANGED: &str = "1:3:1 3:3:1 5:3:2 5:4:1 7:3:1 9:3:1 b:3:1";
+// Another count on face 2, and another pair; and none on face 3.
+const CHANGED: &str =
+    "1:3:1 3:3:1 5:1:1 5:2:1 5:3:2 5:4:1 5:5:1 5:6:1 5:7:1 5:8:1 5:9:1 5:10:1 9:3:1 b:3:1";
 
 fn bag(rt: &impl Abort, alloc: Global, pairs: &str) -> Bag {
     bag_of(alloc, WIDEST, pairs).expect(rt, SET_UP)
@@ -40,7 +42,7 @@ fn a_copied_bag(rt: HostRuntime) {
     assert!(rt; holds_pairs(&held, HELD) && holds_pairs(&copy, HELD));
 }
 
-// A bag, and a change of one face.
+// A bag, and a change of one face, which takes another face's only pair away.
 fn bag_and_change(rt: &impl Abort, alloc: Global) -> (Bag, Change) {
     let held = bag(rt, alloc, HELD);
     let changed = bag(rt, alloc, CHANGED);
@@ -51,7 +53,7 @@ fn bag_and_change(rt: &impl Abort, alloc: Global) -> (Bag, Change) {
 #[test]
 fn a_bag_and_a_change(rt: HostRuntime) {
     let (held, change) = bag_and_change(&rt, rt.alloc());
-    assert!(rt; holds_pairs(&held, HELD) && change.entries().len() == 2);
+    assert!(rt; holds_pairs(&held, HELD) && change.entries().len() == 3);
 }
 
 #[test]

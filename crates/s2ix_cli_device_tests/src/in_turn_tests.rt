@@ -1,5 +1,5 @@
 //! Each piece is answered, and the answers are flushed, before another one is asked for: a reader sees at each of its calls how much a
-//! writer has flushed. Its test is of what no contract says: what is done to a source and what is done to a sink have no common order.
+//! writer has flushed. No contract says so, since none orders what is done to a source and what is done to a sink.
 use crate::stores::empty_store;
 use s2ix_cli::{RunOptions, run};
 use s2ix_text::{FromRead, RunFault, ToWrite};

@@ -17,4 +17,6 @@ mod journal_tests;
 #[cfg(test)]
 mod random_texts;
 #[cfg(test)]
+mod refused_growths;
+#[cfg(test)]
 mod texts;

@@ -1,5 +1,5 @@
 -- The limits are those that the three numbers made, and where the texts lead or what is refused in them is told of the texts.
-use Rattle.std.proofs.Common.{ap, sym, subst}
+use Rattle.std.proofs.Common.{ap, rules, sym, subst}
 use Rattle.s2ix_text_read_dump.specs.declared.errors.DumpError.TheVariants.{OutOfMemory}
 use Rattle.s2ix_text_read_dump.specs.DumpFaults.{IsDumpError}
 use Rattle.s2ix_c_calls.specs.declared.replaying.LedError.TheVariants.{Dump}
@@ -35,5 +35,5 @@ returns-in-Err-clause-refused c = λ not_done not_limits. (
   c.in-Some.ensures.pairs,
   c.in-Some.ensures.count,
   c.in-Some.ensures.changes,
-  (c.in-Err.error, c.in-Err.ensures.refused, c.refused_of-refused.ensures.refused),
+  (c.in-Err.error, c.in-Err.ensures.refused, search rules),
 )
