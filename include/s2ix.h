@@ -1,18 +1,28 @@
-/* The S2 cell index that can be edited: stores behind handles, cells and unions of cells. FROM_C.md says how to build the library, and what the
-   caller must ensure; FORMATS.md has the texts. Both lie in docs of the repository, and in share/doc/s2ix where ./install put this file.
+/* The S2 cell index that can be edited: stores behind handles, cells and unions of cells. FROM_C.md says how to build the library; FORMATS.md
+   has the texts. Both lie in docs of the repository, and in share/doc/s2ix where ./install put this file.
 
    Cells are S2's 64-bit ids, labels are 0 to 2147483647. Each call returns a status, except that s2ix_close returns nothing and some calls
-   on cells return a bool. A call whose status is not S2IX_DONE leaves the store as it was. A call that gives a list takes a buffer with
-   room for `room` items, and sets *number to how many items the list has. If the buffer has room for all, the call puts them at its front;
-   else the status is S2IX_NO_ROOM and the buffer stays as it was. A call refused for another reason sets *number to 0, with one exception:
-   if a call that takes a list of rows or cells finds a wrong one, *number is the place of the first, counted from 0; with two lists the
-   places count on through the second. If more than one status is due, an edit tells of a wrong cell or label first, and any other call of a
-   closed handle. S2IX_OUT_OF_MEMORY comes after these. A call that gathers its list may return it in place of S2IX_NO_ROOM, and an edit in
-   place of S2IX_NO_CHANGE, S2IX_TOO_MANY_COPIES or S2IX_TOO_MANY_PAIRS; s2ix_add_all and s2ix_add_union also in place of S2IX_JOURNAL_FULL.
-   Where nothing is asked for, no memory is wanted: no rows, no cells, a label that is not held, equal bounds, no room for a page. No
-   pointer is NULL, not even one to no items. What a call writes overlaps nothing else that it is given, so never give s2ix_copy one handle
-   twice. A query takes the store out of its handle and puts it back, so the handle isn't const. In costs, n is the number of pairs held if
-   nothing else is said. */
+   on cells return a bool. A call whose status is not S2IX_DONE leaves the store as it was. In costs, n is the number of pairs held if
+   nothing else is said. A query takes the store out of its handle and puts it back, so the handle isn't const.
+
+   A call that gives a list takes a buffer with room for `room` items, and sets *number to how many items the list has. If the buffer has
+   room for all, the call puts them at its front; else the status is S2IX_NO_ROOM and the buffer stays as it was. A call refused for another
+   reason sets *number to 0, with one exception: if a call that takes a list of rows or cells finds a wrong one, *number is the place of the
+   first, counted from 0; with two lists the places count on through the second.
+
+   If more than one status is due, an edit tells of a wrong cell or label first, and any other call of a closed handle. S2IX_OUT_OF_MEMORY
+   comes after these. A call that gathers its list may return it in place of S2IX_NO_ROOM, and an edit in place of S2IX_NO_CHANGE,
+   S2IX_TOO_MANY_COPIES or S2IX_TOO_MANY_PAIRS; s2ix_add_all and s2ix_add_union also in place of S2IX_JOURNAL_FULL. Where nothing is asked
+   for, no memory is wanted: no rows, no cells, a label that is not held, equal bounds, no room for a page.
+
+   You must ensure this, since no call can check it:
+
+   - A handle starts as {0}, and only these calls change it. Never use a copy of an open one.
+   - A lock, a thread's start or join, or a sequentially consistent atomic orders the calls on one handle.
+   - Each pointer is aligned and points to as many initialised items as the call says. None is NULL, not even one to no items.
+   - What a call writes overlaps nothing else that it is given, so never give s2ix_copy one handle twice.
+   - malloc, realloc and free belong to one allocator.
+   - No call is made in a signal handler, or in the forked child of a process with threads. */
 #ifndef S2IX_H
 #define S2IX_H
 
@@ -26,9 +36,8 @@ extern "C" {
 
 /* A store, or none. It starts as {0}, which is closed. Never copy it by assignment.
 
-   A handle may go from thread to thread, which is proved. One call at a time takes it, queries too: a lock, a thread's start or join, or
-   a sequentially consistent atomic must order its calls. Different handles may be used at once on different threads. This holds for a store
-   and its copies by s2ix_copy too: they share memory, but count its users by atomics. */
+   A handle may go from thread to thread, which is proved. One call at a time takes it, queries too. Different handles may be used at once on
+   different threads. This holds for a store and its copies by s2ix_copy too: they share memory, but count its users by atomics. */
 typedef struct s2ix_handle {
     void *address;
     bool is_open;

@@ -18,9 +18,9 @@ FIRST_LEAF, LEAF_END = 1, 0xC000000000000001
 
 
 def in_threads(work, seconds=SECONDS):
-    """What is wrong, if threads do some work again and again, and how many answers were right.
+    """What is wrong when threads do some work again and again, and how many answers were right.
 
-    The work of a thread and a step yields names, what is found and what is wanted."""
+    The work of a thread and a step yields triples: a name, the answer that is found, and the answer that is wanted."""
     wrong, right, start, until = [], [0] * THREADS, threading.Barrier(THREADS), time.monotonic() + seconds
 
     def repeat(place):
@@ -157,7 +157,7 @@ def check_edits(count, name):
 
 
 class Dropped:
-    """What only the collection of cycles finds: then it asks about an index, in the midst of a call of that thread."""
+    """An object in a cycle, so that only the garbage collector drops it: then it asks about an index, in the midst of a call of that thread."""
 
     def __init__(self, ask, wrong):
         self.own, self.ask, self.wrong = self, ask, wrong
@@ -225,7 +225,7 @@ def check_close(count, name):
 
 
 class Stand:
-    """The calls of an index, where another stands for s2ix_add."""
+    """The calls of an index, but for s2ix_add, which another function stands for."""
 
     def __init__(self, calls, add):
         self.calls, self.s2ix_add = calls, add
@@ -296,7 +296,7 @@ def check_cells(count):
 
 
 def check_threads(count):
-    """All of these, by the calls as this Python makes them, and by those of a Python without a GIL."""
+    """All checks of this file, with the calls that this Python makes, and with those that a Python without a GIL makes."""
     check_cells(count)
     check_iterators(count)
     has_gil = library.has_gil

@@ -3,11 +3,11 @@
 // Index holds a store of pairs of cells and labels, with counts, and has each call of s2ix.h as a method (s2ix_index.hpp). S2CellIndex has the
 // names of S2's own class over such a store (s2ix_cell_index.hpp): a program for S2 changes one include and one type, and gains edits and undo.
 //
-// Cells are S2's 64-bit ids, or what has id(), as S2CellId. A call that is refused throws and leaves the store as it was: std::bad_alloc if
-// memory is refused, Error for each other reason, with the number that is no cell's or no label's.
+// Cells are S2's 64-bit ids, or what has id(), as S2CellId. A call that is refused leaves the store as it was and throws: std::bad_alloc if
+// memory is refused, else Error, which has the number that is no cell's or no label's.
 //
 // Threads may share an Index, and a const one as any const object of C++: each call takes the lock of its Index, so calls on one Index take
-// turns. Different ones may be used side by side, also an Index and its copies. Threads that must not wait for one another have a copy() each.
+// turns. Calls on different ones run side by side, on an Index and its copies too: give each thread a copy() if it must not wait for others.
 //
 // The namespace cell has calls on single cells, cell_union those on unions of cells. FORMATS.md, which says what the texts are, lies in docs of
 // the repository, and in share/doc/s2ix where ./install put this file.

@@ -39,8 +39,8 @@ inline std::string printed(Cell cell) {
 //   S2                                            here
 //   Build() comes once, between adds and queries  any number of times: it makes one change of the adds since the last Build()
 //   no query before Build()                       queries, index() and a CellIterator build first; other iterators don't
-//   several threads may query at once             they may, each with iterators of its own, and their calls take turns: Build() first, if they
-//                                                 use RangeIterators. Nothing else may run beside an Add(), a Clear() or a move
+//   several threads may query at once             they may too, each with iterators of its own; their calls take turns. Build() first, if they
+//                                                 use RangeIterators. No other call may run beside an Add(), a Clear() or a move
 //   Clear()                                       drops the changes too: nothing is left to undo
 //   any number of pairs                           limits: at most 1,000,000 distinct pairs; Build() throws above them
 //   an invalid cell, a label below 0: undefined   Add and the queries throw Error
@@ -250,7 +250,7 @@ class BasicS2CellIndex {
     std::size_t place() const { return place_; }
     std::size_t place_of(const Id& leaf) const { return index_->index_.find(raw(leaf)).place; }
 
-    // Makes a call with the handle, while no other is made.
+    // Makes a call with the handle, while no other runs.
     template <class Call>
     auto with(Call call) const {
       return index_->index_.handle_.with(call);
@@ -384,7 +384,7 @@ class BasicS2CellIndex {
     if (label < 0) detail::refuse(S2IX_NO_LABEL, detail::wrong_label(S2IX_NO_LABEL, {static_cast<std::uint32_t>(label)}));
   }
 
-  // The index with all that was added. If that is refused, it is as it was, and what was added stays to be built.
+  // The index with all that was added. If the library refuses the adds, the index is as it was, and they wait for the next Build().
   Index& built() const {
     if (has_added_.load(std::memory_order_acquire)) {
       const std::lock_guard<std::mutex> held(building_);
@@ -398,7 +398,7 @@ class BasicS2CellIndex {
   }
 
   Limits limits_;
-  // (a query builds what was added before it, and another that comes meanwhile waits)
+  // (a query builds what was added before it, and other queries wait meanwhile)
   mutable std::mutex building_;
   mutable std::vector<Row> added_;
   mutable std::atomic<bool> has_added_{false};

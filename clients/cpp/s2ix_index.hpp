@@ -28,7 +28,7 @@ namespace s2ix {
 // A pair of a cell and a label that a store holds, with its count: row.cell, row.label, row.count.
 using Row = ::s2ix_row;
 
-// A pair in a change: entry.cell, entry.label, and its counts entry.before and entry.after, of which 0 is that of a pair that is not held.
+// A pair in a change: entry.cell, entry.label, and its counts entry.before and entry.after. 0 is the count of a pair that is not held.
 using Entry = ::s2ix_entry;
 
 // What a status says, in words.
@@ -68,8 +68,8 @@ class Error : public std::runtime_error {
   // when a cell has no parent of a level.
   [[nodiscard]] std::optional<std::uint64_t> value() const noexcept { return where_.value; }
 
-  // The place of that number among the cells or rows of the call, counted from 0, and of several wrong ones the first. If a call takes two
-  // lists, it counts on through the second. None if the number was not in a list.
+  // The place of that number among the cells or rows of the call, counted from 0; if several are wrong, the place of the first. If a call
+  // takes two lists, the places count on through the second. None if the number was not in a list.
   [[nodiscard]] std::optional<std::size_t> place() const noexcept { return where_.place; }
 
  private:
@@ -137,8 +137,9 @@ class Cell {
   std::uint64_t number_;
 };
 
-// Some cells of the caller, in any order and repeated or not: a list in braces, a pointer with a number, or any range of numbers or of what
-// has id(), as a vector or an S2CellUnion. Numbers in braces, in a vector or behind a pointer aren't copied, and must stay as they are meanwhile.
+// Some cells of the caller, in any order and repeated or not: a list in braces, a pointer with a length, or any range of numbers or of what
+// has id(), as a vector or an S2CellUnion. Numbers in braces, in a vector or behind a pointer aren't copied: they must live, and stay as they
+// are, as long as the Cells. So pass braces to a call, and keep no Cells that was made of them.
 class Cells {
  public:
   Cells() noexcept = default;
@@ -182,7 +183,7 @@ struct NoneWrong {
   [[nodiscard]] Where operator()(std::uint32_t) const noexcept { return {}; }
 };
 
-// Of some cells that a call was given one by one, the first that is none.
+// The first of some numbers that is no cell's; they weren't in a list.
 [[nodiscard]] inline Where wrong_cell(std::uint32_t status, std::initializer_list<std::uint64_t> cells) {
   Where where;
   if (status != S2IX_NO_CELL) return where;
@@ -200,7 +201,7 @@ struct NoneWrong {
 
 inline constexpr std::uint32_t highest_label = 2147483647;
 
-// Of some labels, the first that is none.
+// The first of some numbers that is no label's.
 [[nodiscard]] inline Where wrong_label(std::uint32_t status, std::initializer_list<std::uint32_t> labels) {
   Where where;
   if (status != S2IX_NO_LABEL) return where;
@@ -218,12 +219,12 @@ inline constexpr std::uint32_t highest_label = 2147483647;
   return where;
 }
 
-// Of a cell and a label, the one that the status speaks of.
+// The cell or the label, whichever the status speaks of.
 [[nodiscard]] inline Where wrong_pair(std::uint32_t status, std::uint64_t cell, std::uint32_t label) {
   return status == S2IX_NO_LABEL ? wrong_label(status, {label}) : wrong_cell(status, {cell});
 }
 
-// Of the cells of a list, and then of a second one, the first that is none.
+// The first number of a list that is no cell's, or if there is none, the first of a second list, and its place.
 [[nodiscard]] inline Where wrong_in(std::uint32_t status, const Cells& first, const Cells& second = Cells()) {
   Where where;
   if (status != S2IX_NO_CELL) return where;
@@ -240,7 +241,7 @@ inline constexpr std::uint32_t highest_label = 2147483647;
   return where;
 }
 
-// The same of a list, and then of a single cell.
+// The first number of a list that is no cell's, and its place, or if there is none, a single cell that is none.
 [[nodiscard]] inline Where wrong_in_or(std::uint32_t status, const Cells& cells, std::uint64_t cell) {
   const Where where = wrong_in(status, cells);
   return where.value ? where : wrong_cell(status, {cell});
@@ -271,9 +272,9 @@ Answer answer_of(std::uint64_t cell, Call call) {
   return answer<Answer>(call, [&](std::uint32_t status) { return wrong_cell(status, {cell}); });
 }
 
-// Puts a list in place of what `items` held, and returns the status of the call; refused, or without memory, it leaves no items. It asks with
-// room for as many as they held, or for `room` if that is more, and a second time if the list is longer. So it costs what the list does,
-// however much the items may hold: s2ix.h takes only initialised room, and to grow them to their capacity would write to all of it.
+// Puts a list in place of what `items` held, and returns the status of the call. If the call is refused, `items` is empty. The first call has
+// room for as many items as `items` held, or for `room` if that is more; if the list is longer, a second call has room for all. A call takes
+// only initialised room. So `items` doesn't grow to its capacity, which would write to all of it: this costs what the list does.
 template <class Items, class Call>
 std::uint32_t fill(Items& items, Call call, std::size_t room = 0) {
   room = std::max(room, 256 / sizeof(typename Items::value_type));
@@ -290,7 +291,7 @@ std::uint32_t fill(Items& items, Call call, std::size_t room = 0) {
   return status;
 }
 
-// Frees what a list was asked for with and doesn't need, if that is much.
+// Frees the room that a list doesn't need, if that is much.
 template <class Items>
 void trim(Items& items) {
   if (items.capacity() * sizeof(typename Items::value_type) > 1024 && items.capacity() / 2 > items.size()) items.shrink_to_fit();
@@ -314,7 +315,7 @@ inline std::vector<std::uint64_t> of_two(decltype(s2ix_union_union)* call, const
       [&](std::uint32_t status) { return wrong_in(status, first, second); }, first.size() + second.size());
 }
 
-// A handle, which one call at a time takes, of whichever thread. It may be moved while no call is made.
+// A handle. One call at a time takes it, from any thread. Move it only while no call runs.
 class Handle {
  public:
   Handle() noexcept = default;
@@ -328,14 +329,14 @@ class Handle {
   }
   ~Handle() { s2ix_close(&handle_); }
 
-  // Makes a call with the handle, while no other is made.
+  // Makes a call with the handle, while no other runs.
   template <class Call>
   auto with(Call call) const {
     const std::lock_guard<std::mutex> held(mutex_);
     return call(&handle_);
   }
 
-  // The handle itself, for calls that are made while no other is.
+  // The handle itself, without the lock: no other call may run meanwhile.
   ::s2ix_handle* unlocked() noexcept { return &handle_; }
 
  private:
@@ -509,9 +510,9 @@ class BasicS2CellIndex;
 // A store of pairs of cells and labels. It can be moved, and copied only by copy(); once moved from or closed, it refuses each call with
 // S2IX_CLOSED.
 //
-// Threads may share an Index: a call takes its lock, so one that comes while another runs waits, and each answers as of one moment. That
-// holds for all calls but handle(), and but for a move or the end of the Index, for which no other may be running. So a const Index& may be
-// shared as any const object of C++. Calls on one Index never run side by side: let each thread have a copy() for that.
+// Threads may share an Index, and a const Index& as any const object of C++: each call takes the lock of the Index, so it waits while another
+// runs. Only handle() takes no lock. No call may run while the Index is moved or destroyed. Calls on one Index never run side by side: for
+// that, each thread has a copy().
 class Index {
  public:
   // An index of no pairs. S2IX_NO_LIMITS.
@@ -582,7 +583,7 @@ class Index {
   }
 
   // Adds the count of each row to that of its cell under its label, as one change: rows in any order, repeated or not. Each row keeps its
-  // cell: unlike add_union, the call normalises nothing. They are refused as a whole. O(m log m + m log n) for m rows, and the pairs held on
+  // cell: unlike add_union, the call normalises nothing. All are added, or none. O(m log m + m log n) for m rows, and the pairs held on
   // their faces. S2IX_NO_CELL, S2IX_NO_LABEL, with the first row that is wrong.
   std::size_t add_all(const Row* rows, std::size_t size) {
     static constexpr Row none{};
@@ -653,9 +654,9 @@ class Index {
   void clear() { detail::check(handle_.with(s2ix_clear)); }
 
   // Lists. One form of each call puts the list in place of what a vector of the caller held, and uses its memory again; if the call throws,
-  // the vector is empty. The other form returns a new vector. Each costs what its list does, however much the vector may hold. A list of more
-  // items than the vector held is made twice, but not one of at most 16 items, or 64 of a meet, or a sixteenth of all pairs under a label: so
-  // keep a vector for each kind of call.
+  // the vector is empty. The other form returns a new vector. Each costs what its list does, whatever the capacity of the vector. If a list has
+  // more items than the vector held, the library makes it twice. It makes a short list once: at most 16 rows, 64 rows of meet, 256 labels, or
+  // for a label a sixteenth of all pairs. So keep a vector for each kind of call.
 
   // The pairs whose cells contain a leaf, the innermost cell first, the labels of one cell rising. O(log n + k) for k pairs. S2IX_CLOSED,
   // S2IX_NO_CELL.
@@ -687,9 +688,9 @@ class Index {
     return rows;
   }
 
-  // The pairs of that list from a place on, counted from 0: as many as there are, and at most `most`, for which it takes memory, or for as
-  // many as are held if that is less. If there are fewer, the list ends there. It takes the time of a meet whose list ends with the last of
-  // them. An edit may move the places. S2IX_CLOSED, S2IX_NO_CELL.
+  // At most `most` pairs of that list, from a place on, counted from 0. If there are fewer, the list ends there. It takes memory for `most`
+  // pairs, or for all that are held if these are fewer, and the time of a meet whose list ends with the last pair returned. An edit may move
+  // the places. S2IX_CLOSED, S2IX_NO_CELL.
   [[nodiscard]] std::vector<Row> meet_from(const Cells& cells, std::size_t from, std::size_t most) const {
     return page(from, most,
                 [&](::s2ix_handle* handle, Row* to, std::size_t room, std::size_t* number) {
@@ -734,8 +735,7 @@ class Index {
     return rows;
   }
 
-  // The pairs from a place on, counted from 0, in rising order of cell, then label: as many as there are, and at most `most`. O(k) for k
-  // pairs. S2IX_CLOSED.
+  // At most `most` pairs from a place on, counted from 0, in rising order of cell, then label. O(k) for k pairs. S2IX_CLOSED.
   [[nodiscard]] std::vector<Row> pairs(std::size_t from, std::size_t most) const {
     return page(from, most, [&](::s2ix_handle* handle, Row* to, std::size_t room, std::size_t* number) {
       return s2ix_pairs(handle, from, to, room, number);
@@ -833,7 +833,7 @@ class Index {
   // call does. S2IX_CLOSED.
   std::string line(std::string_view line) {
     std::string answer;
-    // (asked with room for the answer of each edit, so that only a long answer is asked for twice)
+    // (the first call has room for the answer of any edit, so that only a long answer needs a second call)
     list(answer, [&](::s2ix_handle* handle, char* bytes, std::size_t room, std::size_t* number) {
       return s2ix_line(handle, detail::bytes(line), line.size(), reinterpret_cast<std::uint8_t*>(bytes), room, number);
     });
@@ -875,7 +875,7 @@ class Index {
     return answer<std::size_t>(call, wrong);
   }
 
-  // Puts the list that a call puts in place of what `items` held. It is first asked for with that much room at least.
+  // Puts the list of a call in place of what `items` held. The first call has at least that much room.
   template <class Items, class Call, class Wrong = detail::NoneWrong>
   void list(Items& items, Call call, Wrong wrong = Wrong(), std::size_t least_room = 0) const {
     const std::uint32_t status = handle_.with([&](::s2ix_handle* handle) {
@@ -885,7 +885,7 @@ class Index {
     detail::check(status, wrong);
   }
 
-  // The same of a label's items. The call reads all pairs for them, beside which room for some of these costs little.
+  // The same for a label's items. The call reads all pairs for them, so room for some of these costs little more.
   template <class Items, class Call>
   void list_of(std::uint32_t label, Items& items, Call call) const {
     const std::uint32_t status = handle_.with([&](::s2ix_handle* handle) {
@@ -914,7 +914,7 @@ class Index {
     return rows;
   }
 
-  // The text that a call puts. It is asked for with room for so many bytes for each of what another call counts.
+  // The text of a call. The first call has room for `bytes_each` bytes for each item that `counter` counts.
   std::string text(decltype(s2ix_dump)* call, decltype(s2ix_len)* counter, std::size_t bytes_each) const {
     std::string text;
     const std::uint32_t status = handle_.with([&](::s2ix_handle* handle) {

@@ -1,4 +1,4 @@
-/* Calls each export of the library, with its refusals, and says 'c library: well', or the first lines at which an answer was another. */
+/* Calls each export of the library, with its refusals, and says 'c library: well', or the first lines at which an answer was wrong. */
 #include "blocks.h"
 #include "s2ix.h"
 

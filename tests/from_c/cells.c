@@ -1,4 +1,4 @@
-/* Calls each export on cells and on unions of cells, with its refusals, and says at which lines an answer was another. */
+/* Calls each export on cells and on unions of cells, with its refusals, and says at which lines an answer was wrong. */
 #include "s2ix.h"
 
 #include <stdint.h>

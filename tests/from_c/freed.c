@@ -1,5 +1,5 @@
-/* What the library holds of memory: a call that opens an open handle anew frees the store that was there, and s2ix_close and s2ix_clear free
-   all that a store had. A call that is refused holds nothing more than before. */
+/* Which memory the library holds: a call that opens an open handle anew frees the store that was there, and s2ix_close and s2ix_clear free
+   all that a store had. After a refused call it holds no more than before. */
 #include "blocks.h"
 #include "s2ix.h"
 

@@ -1,5 +1,5 @@
-/* What the structs of s2ix.h are in memory: the place, the size and the type of each field, and that each call reads and writes what belongs
-   there. No two fields of a struct have the same value here, so two that were exchanged would show. */
+/* How the structs of s2ix.h lie in memory: the place, the size and the type of each field, and that each call reads and writes the right field.
+   No two fields of a struct have the same value here, so the test fails if two are exchanged. */
 #include "s2ix.h"
 
 #include <stddef.h>

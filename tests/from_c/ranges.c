@@ -1,4 +1,4 @@
-/* Calls each export on ranges of leaves, and the visit from a place on, with their refusals, and says at which lines an answer was another. */
+/* Calls each export on ranges of leaves, and the visit from a place on, with their refusals, and says at which lines an answer was wrong. */
 #include "s2ix.h"
 
 #include <stdint.h>

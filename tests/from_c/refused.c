@@ -331,7 +331,7 @@ static int refuse(const char *name, call *call, bool allocates, bool is_empty) {
         uint32_t status = make(call, &handle, &other, &given, growth);
         if (status != S2IX_DONE) {
             refused++;
-            expect(name, growth, "the status is another", status == S2IX_OUT_OF_MEMORY);
+            expect(name, growth, "a wrong status", status == S2IX_OUT_OF_MEMORY);
             expect(name, growth, "a refused call tells something", memcmp(&given, &nothing, sizeof given) == 0);
             show(&handle, &found[0]);
             show(&other, &found[1]);

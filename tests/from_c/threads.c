@@ -1,6 +1,6 @@
 /* Edits and asks stores on several threads at once, each by a handle of its own: copies of one store, which share memory. Then it hands a
    handle from thread to thread. In the end each store must hold what the same edits make on one thread. It says at which lines an answer
-   was another. */
+   was wrong. */
 #include "s2ix.h"
 
 #include <pthread.h>

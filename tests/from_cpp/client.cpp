@@ -1,4 +1,4 @@
-// Calls each method of s2ix.hpp with its exceptions, and ends with 'N passed, M failed', after a line for each answer that was another.
+// Calls each method of s2ix.hpp with its exceptions, and ends with 'N passed, M failed', after a line for each wrong answer.
 #include "s2ix.hpp"
 
 #include <iostream>
@@ -12,7 +12,7 @@ int passed, failed;
 
 void Expect(int line, bool holds) {
   (holds ? passed : failed)++;
-  if (!holds) std::cout << "client.cpp:" << line << ": another answer\n";
+  if (!holds) std::cout << "client.cpp:" << line << ": a wrong answer\n";
 }
 
 #define EXPECT(holds) Expect(__LINE__, holds)

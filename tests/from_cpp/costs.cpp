@@ -1,5 +1,5 @@
 // What each form of a list costs: how often the library is asked for it, how much memory it takes, and how much of a vector's memory is touched.
-// It is linked with -Wl,--wrap=CALL for each call that is counted, and ends with 'N passed, M failed', after a line for each other cost.
+// It is linked with -Wl,--wrap=CALL for each call that is counted, and ends with 'N passed, M failed', after a line for each wrong cost.
 #include "s2ix.hpp"
 
 #include <sys/resource.h>
@@ -13,7 +13,7 @@ int passed, failed;
 
 void Expect(int line, bool holds) {
   (holds ? passed : failed)++;
-  if (!holds) std::cout << "costs.cpp:" << line << ": another cost\n";
+  if (!holds) std::cout << "costs.cpp:" << line << ": a wrong cost\n";
 }
 
 #define EXPECT(holds) Expect(__LINE__, holds)
@@ -91,7 +91,7 @@ long PagesOf(Call call) {
   return after.ru_minflt - before.ru_minflt;
 }
 
-// Two pairs over a leaf, 40 over another, and many elsewhere: each 20th of these with label 1, the others each with a label of its own.
+// Two pairs over a leaf, 40 over another, and many elsewhere: every 20th of these has label 1, each other a label of its own.
 s2ix::Index Zones() {
   std::vector<s2ix::Row> rows = {{kFirst, 1, 1}, {kFirst, 2, 1}};
   for (std::uint32_t label = 0; label < 40; label++) rows.push_back({0x0c00000000000000, label, 1});
@@ -101,7 +101,7 @@ s2ix::Index Zones() {
   return index;
 }
 
-// A form that puts a list into a vector with much room writes to none of that room but what the list takes.
+// A form that puts a list into a vector with much room writes only to the room that the list takes.
 void LeavesRoomUntouched() {
   const s2ix::Index index = Zones();
   std::vector<s2ix::Row> rows;
@@ -118,7 +118,7 @@ void LeavesRoomUntouched() {
   EXPECT(PagesOf([&] { index.of_label(2, rows); }) < 64 && rows.size() == 2);
 }
 
-// A vector that held as many items, or a list of few, is asked for once, and takes no memory.
+// If the vector held as many items, or the list has few, the library is asked once, and takes no memory.
 void AsksOnce() {
   const s2ix::Index index = Zones();
   std::vector<s2ix::Row> rows;

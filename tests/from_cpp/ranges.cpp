@@ -1,5 +1,5 @@
 // Goes along the ranges of an S2CellIndex by its iterators, beside a plain model, and beside S2's own class if its headers are there. It ends
-// with 'N passed, M failed', after a line for each answer that was another.
+// with 'N passed, M failed', after a line for each wrong answer.
 #include "s2ix.hpp"
 
 #include <algorithm>
@@ -19,7 +19,7 @@ int passed, failed;
 
 void Expect(int line, bool holds) {
   (holds ? passed : failed)++;
-  if (!holds) std::cout << "ranges.cpp:" << line << ": another answer\n";
+  if (!holds) std::cout << "ranges.cpp:" << line << ": a wrong answer\n";
 }
 
 #define EXPECT(holds) Expect(__LINE__, holds)

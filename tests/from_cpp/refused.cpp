@@ -133,7 +133,7 @@ int main() {
       const std::string outcome = OutcomeOf(call, growth);
       const bool holds = outcome == answered || (was_refused && outcome == thrown);
       (holds ? passed : failed)++;
-      if (!holds) std::cout << "refused.cpp: " << call.name << ", growth " << growth << ": another outcome\n";
+      if (!holds) std::cout << "refused.cpp: " << call.name << ", growth " << growth << ": a wrong outcome\n";
     }
   }
   std::cout << passed << " passed, " << failed << " failed\n";

@@ -1,5 +1,6 @@
-// Shares one index among threads, which query it by a const reference, and are answered as one thread is: while nobody edits it, while another
-// thread does, and as an S2CellIndex whose adds are not built yet. It ends with 'N passed, M failed', after a line for each other answer.
+// Shares one index among threads, which query it by a const reference and must get the answers that one thread gets: while nobody edits it,
+// while another thread edits it, and as an S2CellIndex whose adds are not built yet. It ends with 'N passed, M failed', after a line for each
+// wrong answer.
 #include "s2ix.hpp"
 
 #include <atomic>
@@ -14,7 +15,7 @@ std::atomic<int> passed, failed;
 
 void Expect(int line, bool holds) {
   (holds ? passed : failed)++;
-  if (!holds) std::cout << "threads.cpp:" + std::to_string(line) + ": another answer\n";
+  if (!holds) std::cout << "threads.cpp:" + std::to_string(line) + ": a wrong answer\n";
 }
 
 #define EXPECT(holds) Expect(__LINE__, holds)

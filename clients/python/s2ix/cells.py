@@ -1,4 +1,4 @@
-"""Questions about cells, without an index. A cell is a number or a token; each function raises NoCell for what is none, and names it.
+"""Questions about cells, without an index. A cell is a number or a token; each function raises NoCell for what is no cell, and names it.
 
 >>> [hex(cell) for cell in edge_neighbors("1")]
 ['0xb000000000000000', '0x3000000000000000', '0x5000000000000000', '0x9000000000000000']

@@ -1,4 +1,4 @@
-"""What callers give: texts, cells and rows in each form, and numbers that may be too great for the library."""
+"""What callers pass: texts, cells and rows in each form, and numbers that may be too great for the library."""
 from __future__ import annotations
 
 import ctypes
@@ -27,7 +27,7 @@ _NONE = ctypes.c_uint64()
 
 
 def bytes_of(text: Text) -> bytes:
-    """The bytes of a text. A TypeError refuses what is none, so no number is taken for so many zeros."""
+    """The bytes of a text. All else is a TypeError, a number too, since bytes(3) would be three zeros."""
     if isinstance(text, str):
         return text.encode("utf-8", "surrogatepass")
     if isinstance(text, bytes):
@@ -39,7 +39,7 @@ def bytes_of(text: Text) -> bytes:
 
 
 def cells_in(cells: Cells, after: int = 0) -> tuple[int, int, object]:
-    """Where cells lie, how many there are, and what keeps them there. A refusal's place counts on from so many cells."""
+    """Where cells lie, how many there are, and what keeps them there. `after` cells come before these, and a refusal's place counts them too."""
     words: Any = cells
     if cells.__class__ is int and 0 <= cells <= MOST_U64:  # type: ignore[operator]
         words = array("Q", (cells,))
@@ -77,7 +77,7 @@ def cells_copied(cells: Cells) -> array[int]:
 
 
 def _view_of(given: Any) -> Optional[memoryview]:
-    """The memory of what is given, if it is given as such. In Python 3.9 the items of an empty array of ctypes have 0 bytes."""
+    """The memory of an object, if it has some. In Python 3.9 the items of an empty array of ctypes have 0 bytes."""
     try:
         return memoryview(given)
     except TypeError:
@@ -93,7 +93,7 @@ def _array_of(cells: Any, after: int) -> array[int]:
 
 
 def _number_at(place: int, cell: Cell) -> int:
-    """The number of a cell of a list, which is refused by its place."""
+    """The number of a cell at a place of a list. A refusal has the place."""
     try:
         return number_of(cell)
     except NoCell as refusal:
@@ -101,8 +101,8 @@ def _number_at(place: int, cell: Cell) -> int:
 
 
 def wrong_cell(*lists: tuple[int, int]) -> S2ixError:
-    """The refusal that names the first number that is no cell's: in lists, given by where they lie and how long they are. The place counts on
-    from a list to the next."""
+    """The refusal of the first number in some lists that is no cell's. Each list is an address and a length; places count on from one to the
+    next."""
     numbers = chain.from_iterable((ctypes.c_uint64 * many).from_address(start) for start, many in lists)
     for place, number in enumerate(numbers):
         if not is_cell(number):

@@ -22,10 +22,10 @@ from .tokens import Cell, no_cell
 
 _Read = TypeVar("_Read")
 
-# How many bytes a packed row has, a packed entry, a cell and a label; and a buffer at first.
+# How many bytes a packed row has, a packed entry, a cell and a label; and how many a buffer has at first.
 _PACKED, _ENTRY, _WORD, _HALF = 16, 24, 8, 4
 _FIRST = 4096
-# What lines begin with that change no pair.
+# How a line begins that changes no pair.
 _STILL = tuple(b"at meet labels ranges region common only path neighbors face dump journal export forget #".split())
 
 
@@ -56,8 +56,8 @@ class Range(NamedTuple):
     is_empty: bool
 
 
-# What a call writes to, and no other call at the same time: the length of a list into the first word, the list after the second. These are its
-# words, the list's bytes, what s2ix_at is given, and the addresses of the length and of the list.
+# The memory that one call at a time writes to: the length of a list goes into the first word, the list behind the second. The parts are its
+# words, the list's bytes, the arguments of s2ix_at, and the addresses of the length and of the list.
 _Buffer = Tuple[memoryview, memoryview, Tuple[Any, ...], int, int]
 
 _row_in, _rows_in = struct.Struct("=QII").unpack_from, struct.Struct("=QII").iter_unpack
@@ -69,18 +69,18 @@ _entries_in = struct.Struct("=QIII4x").iter_unpack
 class Index:
     """A collection of S2 cells under labels that can be edited, undone and asked. Each pair of a cell and a label has a count.
 
-    Cells are S2's 64-bit ids, or tokens; labels are 0 to 2147483647. A number may be what has an `__index__`, as those of numpy. Each edit
+    Cells are S2's 64-bit ids, or tokens; labels are 0 to 2147483647. Anything with an `__index__` is a number, as those of numpy. Each edit
     is one change, which can be undone or reverted. A refused call changes nothing and raises a class of S2ixError, or ValueError for copies
     or a level below 0. Cells spelled wrong, and numbers out of range, are refused first. Besides what it names, each edit may raise Closed,
     JournalFull, NoChange, TooManyCopies, TooManyPairs or OutOfMemory.
 
     Close an index by `close`, or use it in a `with`.
 
-    Threads may share an index. Each call answers as if it were alone: what it writes to is its own, and it waits while another call on the index
-    runs. A finalizer or a signal handler may call too. Another thread may come between two calls: hold a lock of your own over calls that
-    belong together. `undo` takes the last change back, whichever thread made it. An iterator is for one thread at a time. It reads page by
-    page; if there was an edit since its first page, even a refused one, the next page raises RuntimeError. While a call runs, change neither
-    the array nor the memory that it is given. In the forked child of a process with threads, use no index of the parent.
+    Threads may share an index. Each call answers as if it were alone: it writes only to memory of its own, and waits while another call on the
+    index runs. A finalizer or a signal handler may call too. An edit of another thread may come between two calls: hold your own lock over
+    calls that belong together. `undo` takes the last change back, whichever thread made it. Only one thread at a time may use an iterator. It
+    reads page by page: if an edit came after its first page, even a refused one, the next page raises RuntimeError. While a call runs, don't
+    change the array or the memory that you gave it. In the forked child of a process with threads, use no index of the parent.
 
     >>> with Index() as index:
     ...     index.add_union(["04", "0c"], 9)
@@ -110,9 +110,9 @@ class Index:
         self._close = weakref.finalize(self, self._calls.s2ix_close, ctypes.byref(self._handle))
         # (when the process ends, other threads may still be in a call)
         self._close.atexit = False
-        # The buffers that no call has. A call takes the last one by pop, which gives it to no other, and puts it back.
+        # The buffers that no call uses. A call takes the last one by pop, so that no other call has it, and puts it back.
         self._buffers: list[_Buffer] = []
-        # What stands for the last edit, and for each that runs: so an iterator sees whether there was another.
+        # An object for the last edit, and one for each edit that runs, so that an iterator sees whether another came.
         self._edit, self._running = object(), set[object]()
 
     @classmethod
@@ -189,7 +189,7 @@ class Index:
     def close(self) -> None:
         """Frees all that is held. Each later call raises Closed, but a second `close` does nothing. It waits for a call that runs on another
         thread."""
-        # (not by the finalizer, which closes for one thread, and returns to another before that is done)
+        # (not by the finalizer: if two threads call it, it returns to the second before the first has closed)
         self._calls.s2ix_close(self._at_handle)
         self._close.detach()
 
@@ -204,10 +204,10 @@ class Index:
             raise no_cell(number) from None
 
     def add_all(self, rows: Rows) -> int:
-        """Adds rows, each a cell, a label and copies, as one change: in any order, and repeated or not; returns how many pairs changed. They are
-        refused as a whole. The cells are taken as they are: only `add_union` normalises. O(m log m + m log n) for m rows, and the pairs held on
-        their faces. `meet_view` says how rows in a memoryview are packed. Raises NoCell or NoLabel with the place of the first row that is
-        wrong, counted from 0, and what is wrong; and what each edit may."""
+        """Adds rows, each a cell, a label and copies, as one change: in any order, and repeated or not; returns how many pairs changed. All are
+        added, or none. Each row keeps its cell: only `add_union` normalises. O(m log m + m log n) for m rows, and the pairs held on
+        their faces. `meet_view` says how rows in a memoryview are packed. Raises NoCell or NoLabel, with the wrong value of the first
+        wrong row and its place, counted from 0; and what each edit may."""
         start, many, _kept = rows_in(rows)
         number = ctypes.c_size_t()
         status = self._edited(self._calls.s2ix_add_all, self._at_handle, start, many, addressof(number))
@@ -230,7 +230,7 @@ class Index:
     def add_union(self, cells: Cells, label: int) -> int:
         """Adds one copy under a label for each cell of the normal form of a union; returns how many pairs changed. So a cell within another adds
         nothing, nor does a repeated one, and four children are added as their parent; `add_all` adds each cell as it is. Raises NoCell with the
-        first that is none and its place, NoLabel, and what each edit may."""
+        first number that is no cell's and its place, NoLabel, and what each edit may."""
         label = check(label, MOST_U32, NoLabel)
         start, many, _kept = cells_in(cells)
         try:
@@ -436,8 +436,7 @@ class Index:
     def contents(self, place: int, start: int = 0) -> list[Row]:
         """The pairs over the range at a place, the innermost cell first, the labels of one cell rising; of these only the ones whose cells begin
         at the leaf number `start` or later. If `start` is the `limit` of an earlier range, the pairs over that range are left out. O(k) for
-        k pairs.
-        Raises Closed, NoRange, NoCell if `start` is no 64-bit number, or OutOfMemory."""
+        k pairs. Raises Closed, NoRange, NoCell if `start` is no 64-bit number, or OutOfMemory."""
         place = check(place, MOST_U64, NoRange)
         return self._listed(self._calls.s2ix_contents, _PACKED, _rows_of, place, number_of(start))
 
@@ -499,7 +498,7 @@ class Index:
             raise wrong_cell((start, many)) from None
 
     def _listed(self, call: Callable[..., int], size: int, read: Callable[[memoryview], _Read], *given: Union[int, bytes]) -> _Read:
-        """Makes a call that lists items of so many bytes, and reads these. If there is too little room, it is made again with enough."""
+        """Makes a call that lists items of so many bytes, and reads them. If the buffer has too little room, it makes the call again with enough."""
         try:
             buffer = self._buffers.pop()
         except IndexError:
@@ -518,7 +517,7 @@ class Index:
         return found
 
     def _paged(self, call: Callable[..., int], cells: Optional[array[int]] = None) -> Iterator[Row]:
-        """The rows of a list, of all pairs or of those that meet cells, that comes page by page, each twice as long as the one before."""
+        """All pairs, or those that meet cells, read page by page: each page is twice as long as the one before."""
         place, room, edit = 0, _FIRST // _PACKED, self._last_edit()
         lists = [] if cells is None else [cells.buffer_info()]
         while True:
@@ -534,7 +533,7 @@ class Index:
             place, room = place + room, 2 * room
 
     def _page(self, call: Callable[..., int], room: int, *given: int) -> list[Row]:
-        """So many rows of a list, or as many as are left."""
+        """One page of a list: so many rows, or as many as are left."""
         try:
             buffer = self._buffers.pop()
         except IndexError:
@@ -556,7 +555,7 @@ class Index:
         return view.cast("Q"), view[2 * _WORD :], asked, addressof(words), addressof(words) + 2 * _WORD
 
     def _edited(self, make: Callable[..., _Read], *given: Any) -> _Read:
-        """Makes a call that edits, so that iterators see it: the edit is told before the call, and runs until it has returned."""
+        """Makes a call that edits. Iterators see the edit from before the call, and as one that runs until the call has returned."""
         edit = object()
         try:
             self._running.add(edit)
@@ -566,12 +565,12 @@ class Index:
             self._running.discard(edit)
 
     def _last_edit(self) -> object:
-        """What stands for the last edit. If one runs, it may come before or after what is read next: so it is none."""
+        """The object of the last edit. While an edit runs it is a new one, since that edit may come before or after what is read next."""
         edit = self._edit
         return object() if self._running else edit
 
     def _expect_still(self, edit: object) -> None:
-        """Raises RuntimeError unless an edit is the last."""
+        """Raises RuntimeError if another edit followed this one."""
         if self._edit is not edit:
             raise RuntimeError("the index was edited while an iterator went along it")
 

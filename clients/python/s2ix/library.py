@@ -150,21 +150,21 @@ def load() -> ctypes.PyDLL:
 
 
 def of_a_handle() -> Any:
-    """The calls for one handle, of which one at a time runs. Where there is a GIL, each call keeps it, so no two run at once as it is."""
+    """The calls for one handle: only one of them runs at a time. If this Python has a GIL, each call keeps it, which is enough."""
     return load() if has_gil() else InTurn(load())
 
 
 @functools.lru_cache(maxsize=None)
 def has_gil() -> bool:
-    """Whether this Python always has a GIL. One that is built to do without may take it for a while, as it does for some imports."""
+    """Whether this Python always has a GIL. A Python that was built to run without one may still switch it on, as it does for some imports."""
     return not sysconfig.get_config_var("Py_GIL_DISABLED")
 
 
 class InTurn:
     """The calls of the library for one handle, where there may be no GIL: each waits until no other runs.
 
-    A signal handler or a finalizer may run on a thread that has the lock, before a call or after it. It may call too, since the lock lets
-    the same thread in again."""
+    A signal handler or a finalizer may run on a thread that has the lock, just before or after a call. It may call too, since a thread that has
+    the lock may take it again."""
 
     def __init__(self, library: ctypes.PyDLL) -> None:
         self._library, self._lock = library, threading.RLock()
@@ -175,7 +175,7 @@ class InTurn:
         return call
 
     def __getitem__(self, name: str) -> Callable[..., Any]:
-        """A call whose types are not looked at."""
+        """A call that doesn't check the types of its arguments."""
         return self._in_turn(self._library[name])
 
     def _in_turn(self, call: Callable[..., Any]) -> Callable[..., Any]:

@@ -6,10 +6,10 @@ from typing import Optional
 
 
 class S2ixError(Exception):
-    """What each refusal of the index is; `status` is its number in C, and `change` is that of a journal's change which is refused, or 0.
+    """What each refusal of the index is. `status` is its number in C. `change` is the number of the refused change of a journal, or 0.
 
-    `value` is the number or token that is refused, and `place` its place in the list that was given, counted from 0. NoCell has them, and so
-    has each refusal of a row; else they are None."""
+    `value` is the refused number or token, and `place` its place in the list that was passed, counted from 0. NoCell has a value if a number or
+    token is no cell's, and so has each refusal of a row. Without a value or a list they are None."""
 
     status = 0
     change = 0
@@ -89,14 +89,14 @@ def expect(status: int) -> None:
 
 
 def named(refusal: type[S2ixError], words: str, value: object) -> S2ixError:
-    """A refusal that has what is refused."""
+    """A refusal with the value that is refused."""
     made = refusal(words)
     made.value = value
     return made
 
 
 def placed(refusal: S2ixError, item: str, place: int) -> S2ixError:
-    """The same refusal of an item of a list, which has its place."""
+    """The same refusal, with the place of the refused item in its list."""
     made = named(type(refusal), f"{item} {place}: {refusal}", refusal.value)
     made.place = place
     return made

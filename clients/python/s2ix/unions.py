@@ -1,8 +1,8 @@
 """Unions of cells, without an index: sets of leaves, given as cells in any order, repeated or not.
 
 A list that is returned is normal: it rises, no cell lies within another, and no four are all the children of one. Each function first puts
-what it is given into that form, in O(n log n) for n cells. Each raises NoCell, with the first that is none and its place, or OutOfMemory; the places
-of a second list count on from the first.
+what it is given into that form, in O(n log n) for n cells. Each raises OutOfMemory, or NoCell with the first number that is no cell's and its
+place; the places of a second list count on from the first.
 
 >>> [hex(cell) for cell in normalise(["1c", "14", "0c", "04"])]
 ['0x1000000000000000']
