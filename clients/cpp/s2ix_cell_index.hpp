@@ -40,7 +40,8 @@ inline std::string printed(Cell cell) {
 //   Build() comes once, between adds and queries  any number of times: it makes one change of the adds since the last Build()
 //   no query before Build()                       queries, index() and a CellIterator build first; other iterators don't
 //   several threads may query at once             they may too, each with iterators of its own; their calls take turns. Build() first, if they
-//                                                 use RangeIterators. No other call may run beside an Add(), a Clear() or a move
+//                                                 use RangeIterators. No other call may run beside an Add(), a Clear(), a
+//                                                 move, or an edit through index()
 //   Clear()                                       drops the changes too: nothing is left to undo
 //   any number of pairs                           limits: at most 1,000,000 distinct pairs; Build() throws above them
 //   an invalid cell, a label below 0: undefined   Add and the queries throw Error
