@@ -12,8 +12,9 @@
 
    If more than one status is due, an edit tells of a wrong cell or label first, and any other call of a closed handle. S2IX_OUT_OF_MEMORY
    comes after these. A call that gathers its list may return it in place of S2IX_NO_ROOM, and an edit in place of S2IX_NO_CHANGE,
-   S2IX_TOO_MANY_COPIES or S2IX_TOO_MANY_PAIRS; s2ix_add_all and s2ix_add_union also in place of S2IX_JOURNAL_FULL. Where nothing is asked
-   for, no memory is wanted: no rows, no cells, a label that is not held, equal bounds, no room for a page.
+   S2IX_TOO_MANY_COPIES or S2IX_TOO_MANY_PAIRS; s2ix_add_all and s2ix_add_union also in place of S2IX_JOURNAL_FULL; s2ix_load, s2ix_replay
+   and s2ix_rewind in place of what is wrong after the dump's first line. Where nothing is asked for, no memory is wanted: no rows, no cells,
+   a label that is not held, equal bounds, no room for a page; but s2ix_line may want it for any query.
 
    You must ensure this, since no call can check it:
 
@@ -94,8 +95,8 @@ uint32_t s2ix_status_text(uint32_t status, uint8_t *text, size_t room, size_t *n
 uint32_t s2ix_open(s2ix_handle *handle, uint32_t pairs, uint32_t copies, uint32_t changes);
 
 /* Opens a handle of the store that starts from a dump's collection, under limits as those of s2ix_open, with nothing to undo or redo. If
-   the call is not refused, it frees the store that the handle had. If the text is no dump, *line is the number of its first line with a
-   fault, counted from 1; else it is 0. O(n) for n bytes. S2IX_NO_LIMITS, S2IX_NO_DUMP, S2IX_OUT_OF_MEMORY. */
+   the call is not refused, it frees the store that the handle had. For S2IX_NO_DUMP *line is the number of the text's first line
+   with a fault, counted from 1; else it is 0. O(n) for n bytes. S2IX_NO_LIMITS, S2IX_NO_DUMP, S2IX_OUT_OF_MEMORY. */
 uint32_t s2ix_load(s2ix_handle *handle, const uint8_t *text, size_t len, uint32_t pairs, uint32_t copies, uint32_t changes, size_t *line);
 
 /* Opens a handle of the store that starts from a dump's collection after a journal's changes, under limits as those of s2ix_open, with

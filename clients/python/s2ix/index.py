@@ -436,12 +436,12 @@ class Index:
     def contents(self, place: int, start: int = 0) -> list[Row]:
         """The pairs over the range at a place, the innermost cell first, the labels of one cell rising; of these only the ones whose cells begin
         at the leaf number `start` or later. If `start` is the `limit` of an earlier range, the pairs over that range are left out. O(k) for
-        k pairs. Raises Closed, NoRange, NoCell if `start` is no 64-bit number, or OutOfMemory."""
+        k pairs. Raises Closed, NoRange, or NoCell if `start` is no 64-bit number."""
         place = check(place, MOST_U64, NoRange)
         return self._listed(self._calls.s2ix_contents, _PACKED, _rows_of, place, number_of(start))
 
     def of_label(self, label: int) -> list[Row]:
-        """The pairs of a label, by rising cell. O(n) for all n pairs that are held. Raises Closed, NoLabel or OutOfMemory."""
+        """The pairs of a label, by rising cell. O(n) for all n pairs that are held. Raises Closed or NoLabel."""
         label = check(label, MOST_U32, NoLabel)
         return self._listed(self._calls.s2ix_of_label, _PACKED, _rows_of, label)
 
