@@ -24,6 +24,7 @@ const WHOLE: usize = 68;
 #[derive(Drop)]
 struct Watching<'a> {
     pieces: &'a [(&'a [u8], usize)],
+    given: usize,
     flushed: &'a Cell<usize>,
     // how many bytes were flushed at the first call at which they were others than they should be
     first_other: Option<usize>,
@@ -31,16 +32,16 @@ struct Watching<'a> {
 
 impl Read for Watching<'_> {
     fn read(&mut self, buf: &mut [u8]) -> io::Result<usize> {
-        let Some((&(piece, flushed), rest)) = self.pieces.split_first() else {
+        if self.given >= self.pieces.len() {
             return Ok(0);
-        };
+        }
+        let (mut piece, flushed) = self.pieces[self.given];
         let now = self.flushed.get();
         if now != flushed && self.first_other.is_none() {
             self.first_other = Some(now);
         }
-        self.pieces = rest;
-        let mut left = piece;
-        left.read(buf)
+        self.given += 1;
+        piece.read(buf)
     }
 }
 
@@ -76,6 +77,7 @@ fn run_of(alloc: Global, flushed: &Cell<usize>, turns: u64) -> Option<Ended> {
     let mut store = empty_store(alloc)?;
     let mut source = FromRead::new(Watching {
         pieces: &PIECES,
+        given: 0,
         flushed,
         first_other: None,
     });
@@ -86,7 +88,7 @@ fn run_of(alloc: Global, flushed: &Cell<usize>, turns: u64) -> Option<Ended> {
     Some(Ended {
         fault,
         first_other: reader.first_other,
-        left: reader.pieces.len(),
+        left: reader.pieces.len().saturating_sub(reader.given),
     })
 }
 
