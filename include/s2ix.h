@@ -2,25 +2,32 @@
    has the texts. Both lie in docs of the repository, and in share/doc/s2ix where ./install put this file.
 
    Cells are S2's 64-bit ids, labels are 0 to 2147483647. Each call returns a status, except that s2ix_close returns nothing and some calls
-   on cells return a bool. A call whose status is not S2IX_DONE leaves the store as it was. In costs, n is the number of pairs held if
-   nothing else is said. A query takes the store out of its handle and puts it back, so the handle isn't const.
+   on cells return a bool. A call whose status is not S2IX_DONE leaves the store as it was. In costs, n is the number of pairs held, unless
+   the call says otherwise. A query takes the store out of its handle and puts it back, so the handle isn't const.
 
    A call that gives a list takes a buffer with room for `room` items, and sets *number to how many items the list has. If the buffer has
    room for all, the call puts them at its front; else the status is S2IX_NO_ROOM and the buffer stays as it was. A call refused for another
    reason sets *number to 0, with one exception: if a call that takes a list of rows or cells finds a wrong one, *number is the place of the
    first, counted from 0; with two lists the places count on through the second.
 
-   If more than one status is due, an edit tells of a wrong cell or label first, and any other call of a closed handle. S2IX_OUT_OF_MEMORY
-   comes after these. A call that gathers its list may return it in place of S2IX_NO_ROOM, and an edit in place of S2IX_NO_CHANGE,
-   S2IX_TOO_MANY_COPIES or S2IX_TOO_MANY_PAIRS; s2ix_add_all and s2ix_add_union also in place of S2IX_JOURNAL_FULL; s2ix_load, s2ix_replay
-   and s2ix_rewind in place of what is wrong after the dump's first line. Where nothing is asked for, no memory is wanted: no rows, no cells,
-   a label that is not held, equal bounds, no room for a page; but s2ix_line may want it for any query.
+   There may be several reasons to refuse a call. An edit tells of a wrong cell or label first, then of a closed handle; any other call tells
+   of a closed handle first. S2IX_OUT_OF_MEMORY comes after these. If memory is refused, it may come in place of a reason that the call has
+   not looked for yet:
+
+   - in a call that names both statuses, S2IX_NO_ROOM;
+   - in an edit, S2IX_NO_CHANGE, S2IX_TOO_MANY_COPIES or S2IX_TOO_MANY_PAIRS;
+   - in s2ix_add_all and s2ix_add_union, S2IX_JOURNAL_FULL too;
+   - in s2ix_load, s2ix_replay and s2ix_rewind, whatever is wrong after the dump's first line.
+
+   A call that is asked for nothing wants no memory: no rows, no cells, a label that is not held, equal bounds, a page with no room. The
+   exception is s2ix_line, which may want memory for any query.
 
    You must ensure this, since no call can check it:
 
    - A handle starts as {0}, and only these calls change it. Never use a copy of an open one.
-   - A lock, a thread's start or join, or a sequentially consistent atomic orders the calls on one handle.
-   - Each pointer is aligned and points to as many initialised items as the call says. None is NULL, not even one to no items.
+   - The calls on one handle are ordered by a lock, a thread's start or join, or a sequentially consistent atomic. In C11 acquire and
+     release order them too, but the library's proof does not cover that.
+   - Each pointer is aligned and points to as many initialised items as the call says. None is NULL, not even a pointer to no items.
    - What a call writes overlaps nothing else that it is given, so never give s2ix_copy one handle twice.
    - malloc, realloc and free belong to one allocator.
    - No call is made in a signal handler, or in the forked child of a process with threads. */
@@ -81,7 +88,7 @@ enum s2ix_status {
     S2IX_TOO_MANY_PAIRS = 24,
     S2IX_COARSER = 25,        /* the level is below the cell's */
     S2IX_NO_SPAN = 26,        /* a bound is even, or not 1 <= start <= limit <= 0xc000000000000001 */
-    S2IX_NO_RANGE = 27,       /* no range is at the place; or none from it on, or before it, has a pair over it */
+    S2IX_NO_RANGE = 27,       /* no range is at the place; or none on the side that is asked for has a pair over it */
     S2IX_NO_JOURNAL = 28,     /* the text is no journal under the limits */
     S2IX_MISMATCH = 29        /* a change has another count of a pair than is held */
 };
@@ -90,7 +97,7 @@ enum s2ix_status {
 uint32_t s2ix_status_text(uint32_t status, uint8_t *text, size_t room, size_t *number);
 
 /* Opens a handle of an empty store of at most `pairs` pairs (1 to 1,000,000), `copies` copies of each (1 and up) and `changes` changes to
-   undo (1 to 100,000). If the call is not refused, it frees the store that the handle had. O(1), and the freeing. S2IX_NO_LIMITS,
+   undo (1 to 100,000). If the call is not refused, it frees the store that the handle had. O(1), besides the freeing. S2IX_NO_LIMITS,
    S2IX_OUT_OF_MEMORY. */
 uint32_t s2ix_open(s2ix_handle *handle, uint32_t pairs, uint32_t copies, uint32_t changes);
 
@@ -100,11 +107,11 @@ uint32_t s2ix_open(s2ix_handle *handle, uint32_t pairs, uint32_t copies, uint32_
 uint32_t s2ix_load(s2ix_handle *handle, const uint8_t *text, size_t len, uint32_t pairs, uint32_t copies, uint32_t changes, size_t *line);
 
 /* Opens a handle of the store that starts from a dump's collection after a journal's changes, under limits as those of s2ix_open, with
-   nothing to undo or redo. If the call is not refused, it frees the store that the handle had. The first thing that is refused decides: a
-   line of the dump, a line of the journal, or a change. *place is the number of that line, or of that change for S2IX_MISMATCH,
-   S2IX_TOO_MANY_COPIES and S2IX_TOO_MANY_PAIRS; for S2IX_MISMATCH *entry is the number of the entry in the change. Both count from 1 in the
-   order of the text, and are 0 otherwise. O(n + m log n) for n bytes and pairs and m entries. S2IX_NO_LIMITS, S2IX_NO_DUMP,
-   S2IX_NO_JOURNAL, S2IX_MISMATCH, S2IX_TOO_MANY_COPIES, S2IX_TOO_MANY_PAIRS, S2IX_OUT_OF_MEMORY. */
+   nothing to undo or redo. If the call is not refused, it frees the store that the handle had. The first thing that is wrong decides: a
+   line of the dump, a line of the journal, or a change. For S2IX_NO_DUMP and S2IX_NO_JOURNAL *place is the number of that line; for
+   S2IX_MISMATCH, S2IX_TOO_MANY_COPIES and S2IX_TOO_MANY_PAIRS it is the number of that change. For S2IX_MISMATCH *entry is the number of
+   the entry in the change. Both count from 1 in the order of the text, and are 0 otherwise. O(n + m log n) for n bytes and pairs and m
+   entries. S2IX_NO_LIMITS, S2IX_NO_DUMP, S2IX_NO_JOURNAL, S2IX_MISMATCH, S2IX_TOO_MANY_COPIES, S2IX_TOO_MANY_PAIRS, S2IX_OUT_OF_MEMORY. */
 uint32_t s2ix_replay(s2ix_handle *handle, const uint8_t *dump, size_t dump_len, const uint8_t *journal, size_t journal_len, uint32_t pairs,
                      uint32_t copies, uint32_t changes, size_t *place, size_t *entry);
 
@@ -129,15 +136,15 @@ uint32_t s2ix_add(s2ix_handle *handle, uint64_t cell, uint32_t label, uint32_t c
 
 /* Adds the count of each row to that of its cell under its label, as one change. Rows come in any order, repeated or not; one of count 0
    adds nothing. Each row keeps its cell: unlike s2ix_add_union, the call normalises nothing. All are added, or none. If a row's cell or label
-   is wrong, *number is the place of the first such row, counted from 0. O(m log m + m log n) for m rows, and the pairs held on their faces.
-   S2IX_NO_CELL, S2IX_NO_LABEL. */
+   is wrong, *number is the place of the first such row, counted from 0. O(m log m + m log n) for m rows, besides the time for the pairs
+   held on their faces. S2IX_NO_CELL, S2IX_NO_LABEL. */
 uint32_t s2ix_add_all(s2ix_handle *handle, const s2ix_row *rows, size_t len, size_t *number);
 
 /* Takes copies from the count of a cell under a label. S2IX_NO_CELL, S2IX_NO_LABEL, S2IX_NOT_HELD. */
 uint32_t s2ix_remove(s2ix_handle *handle, uint64_t cell, uint32_t label, uint32_t copies, size_t *number);
 
 /* Adds one copy under a label for each cell of the normal form of a union: four siblings become their parent, and a cell within another
-   goes; s2ix_add_all adds cells as they are. A wrong label comes before a wrong cell. S2IX_NO_CELL, S2IX_NO_LABEL. */
+   is left out; s2ix_add_all adds cells as they are. A wrong label comes before a wrong cell. S2IX_NO_CELL, S2IX_NO_LABEL. */
 uint32_t s2ix_add_union(s2ix_handle *handle, const uint64_t *cells, size_t len, uint32_t label, size_t *number);
 
 /* Takes away all copies of a label's pairs. S2IX_NO_LABEL, S2IX_NO_SUCH_LABEL. */
@@ -146,8 +153,8 @@ uint32_t s2ix_drop_label(s2ix_handle *handle, uint32_t label, size_t *number);
 /* Moves all copies of one label to another, cell by cell. S2IX_NO_LABEL, S2IX_NO_SUCH_LABEL. */
 uint32_t s2ix_relabel(s2ix_handle *handle, uint32_t source, uint32_t target, size_t *number);
 
-/* Adds one copy under a label for each cell of a level that overlaps no cell of the label and shares an edge with a cell of the level that
-   overlaps one. S2IX_NO_LABEL, S2IX_NO_SUCH_LABEL, S2IX_TOO_FINE. */
+/* Adds one copy under a label for each cell of a level just outside the label: it overlaps no cell of the label, but shares an edge with a
+   cell of the level that overlaps one. S2IX_NO_LABEL, S2IX_NO_SUCH_LABEL, S2IX_TOO_FINE. */
 uint32_t s2ix_grow(s2ix_handle *handle, uint32_t label, uint8_t level, size_t *number);
 
 /* Replaces a label's pairs by one copy at each cell of the label's region. S2IX_NO_LABEL, S2IX_NO_SUCH_LABEL. */
@@ -175,13 +182,14 @@ uint32_t s2ix_clear(s2ix_handle *handle);
 uint32_t s2ix_at(s2ix_handle *handle, uint64_t leaf, s2ix_row *rows, size_t room, size_t *number);
 
 /* The pairs that share a leaf with some of the cells, which come in any order, repeated or not. Each pair comes once, by first shared leaf,
-   then falling level, then rising label. O(k + r + t log n) for k pairs, r ranges and t cells, and O(t log t) to sort them. S2IX_CLOSED,
-   S2IX_NO_CELL, S2IX_NO_ROOM, S2IX_OUT_OF_MEMORY. */
+   then falling level, then rising label. O(k + r + t log n) for k pairs over r ranges and t cells, and O(t log t) to sort them.
+   S2IX_CLOSED, S2IX_NO_CELL, S2IX_NO_ROOM, S2IX_OUT_OF_MEMORY. */
 uint32_t s2ix_meet(s2ix_handle *handle, const uint64_t *cells, size_t len, s2ix_row *rows, size_t room, size_t *number);
 
-/* The pairs of that list from a place on, counted from 0: as many as there is room for, never S2IX_NO_ROOM. *number is how many are put:
-   less than `room` only if the list ends there. An edit may move the places. The time is that of s2ix_meet for a list that ends with the
-   last pair put, so the first few of many pairs come quickly. S2IX_CLOSED, S2IX_NO_CELL, S2IX_OUT_OF_MEMORY. */
+/* A page of that list: its pairs from the place `from` on, counted from 0, as many as there is room for. It never returns S2IX_NO_ROOM.
+   *number is how many pairs are put: less than `room` only if the list ends there. An edit may move the places. The call goes along the
+   list from its start up to the last pair that it puts. So it costs what s2ix_meet would if the list ended there, and the first few of many
+   pairs come quickly. S2IX_CLOSED, S2IX_NO_CELL, S2IX_OUT_OF_MEMORY. */
 uint32_t s2ix_meet_from(s2ix_handle *handle, const uint64_t *cells, size_t len, size_t from, s2ix_row *rows, size_t room, size_t *number);
 
 /* The labels of the pairs that s2ix_meet puts: each once, rising. It costs what s2ix_meet does, and O(m log m) for m pairs. The same
@@ -196,9 +204,9 @@ uint32_t s2ix_region(s2ix_handle *handle, uint32_t label, uint64_t *cells, size_
    */
 uint32_t s2ix_of_label(s2ix_handle *handle, uint32_t label, s2ix_row *rows, size_t room, size_t *number);
 
-/* The pairs from a place on, counted from 0, in rising order of cell, then label: as many as there is room for, never S2IX_NO_ROOM. *number
-   is how many are put: 0 if there is none at the place. An edit moves the places of the pairs after those that it changes. O(k) for k pairs
-   put. S2IX_CLOSED. */
+/* A page of all pairs, in rising order of cell, then label: those from the place `from` on, counted from 0, as many as there is room for.
+   It never returns S2IX_NO_ROOM. *number is how many pairs are put: 0 if there is none at the place. An edit moves the places of the pairs
+   after those that it changes. O(k) for k pairs put. S2IX_CLOSED. */
 uint32_t s2ix_pairs(s2ix_handle *handle, size_t from, s2ix_row *rows, size_t room, size_t *number);
 
 /* How many copies of a cell are held under a label: 0 if the pair is not held. O(log n). S2IX_CLOSED, S2IX_NO_CELL, S2IX_NO_LABEL. */
@@ -225,8 +233,8 @@ uint32_t s2ix_faces_rebuilt(s2ix_handle *handle, size_t *number);
 uint32_t s2ix_range_count(s2ix_handle *handle, size_t *number);
 
 /* The range that has a leaf: its place, counted from 0, the number of its first leaf, and the first leaf number after it. Its
-   pairs are those that s2ix_at puts for *start, and the next range begins with *limit, unless that is 0xc000000000000001. All three are 0
-   if the call is refused. O(log n). S2IX_CLOSED, S2IX_NO_CELL. */
+   pairs are those that s2ix_at puts for *start. The next range begins with *limit, unless that is the end of all leaves,
+   0xc000000000000001. All three are 0 if the call is refused. O(log n). S2IX_CLOSED, S2IX_NO_CELL. */
 uint32_t s2ix_find(s2ix_handle *handle, uint64_t leaf, size_t *place, uint64_t *start, uint64_t *limit);
 
 /* The range at a place, counted from 0: the number of its first leaf, the first leaf number after it, and whether no pair lies over it. If
@@ -235,13 +243,14 @@ uint32_t s2ix_find(s2ix_handle *handle, uint64_t leaf, size_t *place, uint64_t *
 uint32_t s2ix_range(s2ix_handle *handle, size_t place, uint64_t *start, uint64_t *limit, bool *is_empty);
 
 /* Of the pairs over the range at a place, those whose cells begin at the leaf number `from` or later, the innermost cell first, the labels
-   of one cell rising. If `from` is 0, these are all of them. If it is the *limit of an earlier range, they are the pairs that don't lie
-   over that range: so a caller that goes up the ranges gets each pair once. It does not allocate. O(k) for k pairs put. S2IX_CLOSED,
-   S2IX_NO_RANGE, S2IX_NO_ROOM. */
+   of one cell rising. If `from` is 0, these are all of them. If `from` is the *limit of an earlier range, these are the pairs that do not
+   also lie over the earlier range. So a caller that goes up the ranges, each time with the *limit of the range before, gets each pair once.
+   It does not allocate. O(k) for k pairs put. S2IX_CLOSED, S2IX_NO_RANGE, S2IX_NO_ROOM. */
 uint32_t s2ix_contents(s2ix_handle *handle, size_t place, uint64_t from, s2ix_row *rows, size_t room, size_t *number);
 
-/* The place of the first range from `from` on, and of the last range before `before`, that has a pair over it. If there is none, the status
-   is S2IX_NO_RANGE and *place is 0. Two neighbours are never both empty. O(1). S2IX_CLOSED, S2IX_NO_RANGE. */
+/* The place of a range that has a pair over it: s2ix_next_full looks for the first from the place `from` on, s2ix_previous_full for the
+   last before the place `before`. If there is none, the status is S2IX_NO_RANGE and *place is 0. Of two ranges side by side, one at least
+   has a pair over it. O(1). S2IX_CLOSED, S2IX_NO_RANGE. */
 uint32_t s2ix_next_full(s2ix_handle *handle, size_t from, size_t *place);
 uint32_t s2ix_previous_full(s2ix_handle *handle, size_t before, size_t *place);
 
@@ -258,10 +267,10 @@ uint32_t s2ix_export(s2ix_handle *handle, uint8_t *text, size_t room, size_t *nu
 
 /* Carries out one line of a script (FORMATS.md), given without its line feed, and puts its answer to the front of the buffer, as
    bytes: `ok N`, `no NAME`, or the lines of a query, each with its line feed. A blank line or a comment has no answer. A line that is
-   refused answers `no NAME`, and its status is S2IX_DONE all the same. The room is tested before the line is carried out: an edit, an undo,
-   a redo and a forget want 32 bytes; each other line changes nothing, and wants as many as its answer has. With less room nothing is done;
-   for S2IX_NO_ROOM *number is the room that the line wants. It costs what the line's own call does, and O(m) for m bytes of line and
-   answer. S2IX_CLOSED, S2IX_NO_ROOM, S2IX_OUT_OF_MEMORY. */
+   refused answers `no NAME`, and its status is S2IX_DONE all the same. An edit, an undo, a redo and a forget want room for 32 bytes; any
+   other line changes nothing, and wants room for its answer. With less room nothing is done: the status is S2IX_NO_ROOM, and *number is the
+   room that the line wants. It costs what the line's own call does, and O(m) for m bytes of line and answer. S2IX_CLOSED, S2IX_NO_ROOM,
+   S2IX_OUT_OF_MEMORY. */
 uint32_t s2ix_line(s2ix_handle *handle, const uint8_t *line, size_t len, uint8_t *answer, size_t room, size_t *number);
 
 /* Cells, without a handle. Each call takes O(1) if nothing else is said, and only s2ix_cell_border allocates. A call that gives a cell, a

@@ -50,7 +50,7 @@ inline std::string printed(Cell cell) {
 //   a visit comes in no stated order              by first shared leaf, then falling level, then rising label
 //   a CellIterator reads the index                has its own copy of the pairs, as they were when it was made
 //   no Add while an iterator or a visit runs      Build() and edits move the ranges: position a RangeIterator anew. A ContentsIterator
-//                                                 keeps the pairs that StartUnion read. A visitor must not edit
+//                                                 keeps the pairs that StartUnion read. A visitor's adds and edits throw std::logic_error
 //   a RangeIterator is unpositioned at first      is done at first, and its Prev() returns false
 //   Next() and limit_id() when done: undefined    Next() stays, and limit_id() returns the end of all leaves
 //   Seek() to what is no leaf: undefined          throws Error, and the iterator stays
@@ -99,7 +99,8 @@ class BasicS2CellIndex {
     return *this;
   }
 
-  // The index beneath, for edits, undo and all else that S2 lacks. It first builds what was added, as Build() does.
+  // The index beneath, for edits, undo and all else that S2 lacks. It first builds what was added, as Build() does. During a visit it
+  // refuses edits: see VisitIntersectingCells.
   [[nodiscard]] Index& index() { return built(); }
   [[nodiscard]] const Index& index() const { return built(); }
 
@@ -109,6 +110,7 @@ class BasicS2CellIndex {
   // Adds a pair, or one more copy of it. O(1).
   void Add(Id cell_id, Label label) {
     const std::uint64_t cell = raw(cell_id);
+    index_.handle_.check_unvisited();
     check_label(label);
     if (!cell::is_valid(cell)) detail::refuse(S2IX_NO_CELL, detail::wrong_cell(S2IX_NO_CELL, {cell}));
     added_.push_back(Row{cell, static_cast<std::uint32_t>(label), 1});
@@ -118,6 +120,7 @@ class BasicS2CellIndex {
   // Adds a pair for each cell of a union. O(n log n) for n cells.
   template <class Union, class = decltype(std::begin(std::declval<const Union&>()))>
   void Add(const Union& cell_ids, Label label) {
+    index_.handle_.check_unvisited();
     check_label(label);
     const std::vector<std::uint64_t> cells = cell_union::normalise(cell_ids);
     added_.insert(added_.end(), cells.size(), Row{0, static_cast<std::uint32_t>(label), 1});
@@ -131,6 +134,7 @@ class BasicS2CellIndex {
 
   // Drops all pairs and all changes, and what was added but not built.
   void Clear() {
+    index_.handle_.check_unvisited();
     index_ = Index(limits_);
     added_.clear();
     has_added_ = false;
@@ -143,13 +147,17 @@ class BasicS2CellIndex {
   using CellVisitor = std::function<bool(Id cell_id, Label label)>;
 
   // Visits the pairs that share a leaf with a union, each copy of each, until the visitor returns false. Returns false if it did, else true.
+  // The visitor may query the index, or visit it again, but not change it: until the visit ends, Add, Clear and Forget throw
+  // std::logic_error and change nothing, and through index() each edit, undo, redo, forget, clear and line does so too.
   template <class Union>
   bool VisitIntersectingCells(const Union& target, const CellVisitor& visitor) const {
-    const Cells cells(target);
+    const detail::Given cells(target);
+    const Index& beneath = built();
+    const detail::Handle::Visit visit(beneath.handle_);
     // (in pages that grow, so that a visit which ends early reads little of a long list)
     std::size_t from = 0;
     for (std::size_t most = 256;; most *= 4) {
-      const std::vector<Row> rows = built().meet_from(cells, from, most);
+      const std::vector<Row> rows = beneath.meet_from(cells, from, most);
       for (const Row& row : rows) {
         for (std::uint32_t copy = 0; copy < row.count; copy++) {
           if (!visitor(Id(row.cell), static_cast<Label>(row.label))) return false;

@@ -6,6 +6,7 @@
 
 #include <algorithm>
 #include <array>
+#include <atomic>
 #include <cinttypes>
 #include <cstddef>
 #include <cstdint>
@@ -138,15 +139,13 @@ class Cell {
 };
 
 // Some cells of the caller, in any order and repeated or not: a list in braces, a pointer with a length, or any range of numbers or of what
-// has id(), as a vector or an S2CellUnion. Numbers in braces, in a vector or behind a pointer aren't copied: they must live, and stay as they
-// are, as long as the Cells. So pass braces to a call, and keep no Cells that was made of them.
+// has id(), as a vector or an S2CellUnion. Calls take all of these too. Numbers behind a pointer aren't copied: they must live, and stay as
+// they are, as long as the Cells. Of all else a Cells has its own copy; but a call copies no numbers in braces or in a vector.
 class Cells {
  public:
   Cells() noexcept = default;
   Cells(const std::uint64_t* data, std::size_t size) noexcept : data_(size == 0 ? &none : data), size_(size) {}
-  Cells(const std::vector<std::uint64_t>& cells) noexcept : Cells(cells.data(), cells.size()) {}
   Cells(std::vector<std::uint64_t>&& cells) noexcept : own_(std::move(cells)) {}
-  Cells(std::initializer_list<std::uint64_t> cells) noexcept : Cells(cells.begin(), cells.size()) {}
   Cells(std::initializer_list<Cell> cells) { copy(cells); }
   template <class Items, class = std::enable_if_t<detail::HasCells<Items>::value>>
   Cells(const Items& cells) {
@@ -172,6 +171,19 @@ class Cells {
 };
 
 namespace detail {
+
+// The Cells that a call takes. It has no copy of numbers in braces, in a vector or in other Cells, since these live as long as the call.
+// So it is for parameters alone.
+class Given : public Cells {
+ public:
+  using Cells::Cells;
+  Given() noexcept = default;
+  Given(const Cells& cells) noexcept : Cells(cells.data(), cells.size()) {}
+  Given(const std::vector<std::uint64_t>& cells) noexcept : Cells(cells.data(), cells.size()) {}
+  Given(std::initializer_list<std::uint64_t> cells) noexcept : Cells(cells.begin(), cells.size()) {}
+  Given(const Given&) = delete;
+  Given& operator=(const Given&) = delete;
+};
 
 // The bytes of a text: never a null pointer, even for none.
 inline const std::uint8_t* bytes(std::string_view text) noexcept {
@@ -336,11 +348,37 @@ class Handle {
     return call(&handle_);
   }
 
+  // The same for a call that may change the store: it is refused during a visit.
+  template <class Call>
+  auto edit(Call call) {
+    const std::lock_guard<std::mutex> held(mutex_);
+    check_unvisited();
+    return call(&handle_);
+  }
+
+  // Throws during a visit.
+  void check_unvisited() const {
+    if (visits_ > 0) throw std::logic_error("s2ix: a visitor can't change the index that it visits");
+  }
+
+  // A visit of the store by several calls, which lasts as long as this lives.
+  class Visit {
+   public:
+    explicit Visit(const Handle& handle) noexcept : visits_(handle.visits_) { visits_++; }
+    Visit(const Visit&) = delete;
+    Visit& operator=(const Visit&) = delete;
+    ~Visit() { visits_--; }
+
+   private:
+    std::atomic<std::size_t>& visits_;
+  };
+
   // The handle itself, without the lock: no other call may run meanwhile.
   ::s2ix_handle* unlocked() noexcept { return &handle_; }
 
  private:
   mutable std::mutex mutex_;
+  mutable std::atomic<std::size_t> visits_{0};
   // (a query changes no store, but it takes the store out of the handle and puts it back)
   mutable ::s2ix_handle handle_{};
 };
@@ -454,7 +492,7 @@ using Square = ::s2ix_square;
 namespace cell_union {
 
 // The normal list of the same leaves: never longer than the list.
-[[nodiscard]] inline std::vector<std::uint64_t> normalise(const Cells& cells) {
+[[nodiscard]] inline std::vector<std::uint64_t> normalise(const detail::Given& cells) {
   return detail::filled<std::vector<std::uint64_t>>(
       [&](std::uint64_t* to, std::size_t room, std::size_t* number) {
         return s2ix_union_normalise(cells.data(), cells.size(), to, room, number);
@@ -470,34 +508,34 @@ namespace cell_union {
 }
 
 // The leaves of either union.
-[[nodiscard]] inline std::vector<std::uint64_t> union_of(const Cells& first, const Cells& second) {
+[[nodiscard]] inline std::vector<std::uint64_t> union_of(const detail::Given& first, const detail::Given& second) {
   return detail::of_two(s2ix_union_union, first, second);
 }
 
 // The leaves of both unions.
-[[nodiscard]] inline std::vector<std::uint64_t> intersection(const Cells& first, const Cells& second) {
+[[nodiscard]] inline std::vector<std::uint64_t> intersection(const detail::Given& first, const detail::Given& second) {
   return detail::of_two(s2ix_union_intersection, first, second);
 }
 
 // The leaves of the first union without those of the second.
-[[nodiscard]] inline std::vector<std::uint64_t> difference(const Cells& first, const Cells& second) {
+[[nodiscard]] inline std::vector<std::uint64_t> difference(const detail::Given& first, const detail::Given& second) {
   return detail::of_two(s2ix_union_difference, first, second);
 }
 
 // Whether each leaf of a cell is one of the union's.
-[[nodiscard]] inline bool contains(const Cells& cells, std::uint64_t cell) {
+[[nodiscard]] inline bool contains(const detail::Given& cells, std::uint64_t cell) {
   return detail::answer<bool>([&](bool* to) { return s2ix_union_contains(cells.data(), cells.size(), cell, to); },
                               [&](std::uint32_t status) { return detail::wrong_in_or(status, cells, cell); });
 }
 
 // Whether some leaf of a cell is one of the union's.
-[[nodiscard]] inline bool intersects(const Cells& cells, std::uint64_t cell) {
+[[nodiscard]] inline bool intersects(const detail::Given& cells, std::uint64_t cell) {
   return detail::answer<bool>([&](bool* to) { return s2ix_union_intersects(cells.data(), cells.size(), cell, to); },
                               [&](std::uint32_t status) { return detail::wrong_in_or(status, cells, cell); });
 }
 
 // How many leaves the union has.
-[[nodiscard]] inline std::uint64_t leaf_count(const Cells& cells) {
+[[nodiscard]] inline std::uint64_t leaf_count(const detail::Given& cells) {
   return detail::answer<std::uint64_t>([&](std::uint64_t* to) { return s2ix_union_leaf_count(cells.data(), cells.size(), to); },
                                        [&](std::uint32_t status) { return detail::wrong_in(status, cells); });
 }
@@ -534,7 +572,7 @@ class Index {
     return index;
   }
 
-  // The index that starts from a dump's pairs after a journal's changes, with nothing to undo or redo. The first thing that is refused
+  // The index that starts from a dump's pairs after a journal's changes, with nothing to undo or redo. The first thing that is wrong
   // decides: S2IX_NO_DUMP or S2IX_NO_JOURNAL, with the first line that has a fault; S2IX_MISMATCH, S2IX_TOO_MANY_COPIES or
   // S2IX_TOO_MANY_PAIRS, with the change. S2IX_NO_LIMITS. O(n + m log n) for n bytes and m entries.
   [[nodiscard]] static Index replay(std::string_view dump, std::string_view journal, Limits limits = Limits()) {
@@ -578,18 +616,18 @@ class Index {
 
   // Adds copies to the count of a cell under a label. S2IX_NO_CELL, S2IX_NO_LABEL.
   std::size_t add(Cell cell, std::uint32_t label, std::uint32_t copies = 1) {
-    return number([&](::s2ix_handle* handle, std::size_t* to) { return s2ix_add(handle, cell.number(), label, copies, to); },
-                  [&](std::uint32_t status) { return detail::wrong_pair(status, cell.number(), label); });
+    return edit([&](::s2ix_handle* handle, std::size_t* to) { return s2ix_add(handle, cell.number(), label, copies, to); },
+                [&](std::uint32_t status) { return detail::wrong_pair(status, cell.number(), label); });
   }
 
   // Adds the count of each row to that of its cell under its label, as one change: rows in any order, repeated or not. Each row keeps its
-  // cell: unlike add_union, the call normalises nothing. All are added, or none. O(m log m + m log n) for m rows, and the pairs held on
-  // their faces. S2IX_NO_CELL, S2IX_NO_LABEL, with the first row that is wrong.
+  // cell: unlike add_union, the call normalises nothing. All are added, or none. O(m log m + m log n) for m rows, besides the time for the
+  // pairs held on their faces. S2IX_NO_CELL, S2IX_NO_LABEL, with the first row that is wrong.
   std::size_t add_all(const Row* rows, std::size_t size) {
     static constexpr Row none{};
     std::size_t place = 0;
     const std::uint32_t status =
-        handle_.with([&](::s2ix_handle* handle) { return s2ix_add_all(handle, size == 0 ? &none : rows, size, &place); });
+        handle_.edit([&](::s2ix_handle* handle) { return s2ix_add_all(handle, size == 0 ? &none : rows, size, &place); });
     detail::check(status, [&](std::uint32_t why) { return detail::wrong_row(why, rows, place); });
     return place;
   }
@@ -597,66 +635,66 @@ class Index {
 
   // Takes copies from the count of a cell under a label. S2IX_NO_CELL, S2IX_NO_LABEL, S2IX_NOT_HELD.
   std::size_t remove(Cell cell, std::uint32_t label, std::uint32_t copies = 1) {
-    return number([&](::s2ix_handle* handle, std::size_t* to) { return s2ix_remove(handle, cell.number(), label, copies, to); },
-                  [&](std::uint32_t status) { return detail::wrong_pair(status, cell.number(), label); });
+    return edit([&](::s2ix_handle* handle, std::size_t* to) { return s2ix_remove(handle, cell.number(), label, copies, to); },
+                [&](std::uint32_t status) { return detail::wrong_pair(status, cell.number(), label); });
   }
 
-  // Adds one copy under a label for each cell of the normal form of a union, so four siblings become their parent, and a cell within another
-  // goes; add_all adds cells as they are. S2IX_NO_CELL, S2IX_NO_LABEL.
-  std::size_t add_union(const Cells& cells, std::uint32_t label) {
-    return number([&](::s2ix_handle* handle, std::size_t* to) { return s2ix_add_union(handle, cells.data(), cells.size(), label, to); },
-                  [&](std::uint32_t status) {
-                    return status == S2IX_NO_LABEL ? detail::wrong_label(status, {label}) : detail::wrong_in(status, cells);
-                  });
+  // Adds one copy under a label for each cell of the normal form of a union: four siblings become their parent, and a cell within another is
+  // left out; add_all adds cells as they are. S2IX_NO_CELL, S2IX_NO_LABEL.
+  std::size_t add_union(const detail::Given& cells, std::uint32_t label) {
+    return edit([&](::s2ix_handle* handle, std::size_t* to) { return s2ix_add_union(handle, cells.data(), cells.size(), label, to); },
+                [&](std::uint32_t status) {
+                  return status == S2IX_NO_LABEL ? detail::wrong_label(status, {label}) : detail::wrong_in(status, cells);
+                });
   }
 
   // Takes away all copies of a label's pairs. S2IX_NO_LABEL, S2IX_NO_SUCH_LABEL.
   std::size_t drop_label(std::uint32_t label) {
-    return number([&](::s2ix_handle* handle, std::size_t* to) { return s2ix_drop_label(handle, label, to); },
-                  [&](std::uint32_t status) { return detail::wrong_label(status, {label}); });
+    return edit([&](::s2ix_handle* handle, std::size_t* to) { return s2ix_drop_label(handle, label, to); },
+                [&](std::uint32_t status) { return detail::wrong_label(status, {label}); });
   }
 
   // Moves all copies of one label to another, cell by cell. S2IX_NO_LABEL, S2IX_NO_SUCH_LABEL.
   std::size_t relabel(std::uint32_t source, std::uint32_t target) {
-    return number([&](::s2ix_handle* handle, std::size_t* to) { return s2ix_relabel(handle, source, target, to); },
-                  [&](std::uint32_t status) { return detail::wrong_label(status, {source, target}); });
+    return edit([&](::s2ix_handle* handle, std::size_t* to) { return s2ix_relabel(handle, source, target, to); },
+                [&](std::uint32_t status) { return detail::wrong_label(status, {source, target}); });
   }
 
-  // Adds one copy under a label for each cell of a level that overlaps no cell of the label and shares an edge with a cell of the level that
-  // overlaps one. S2IX_NO_LABEL, S2IX_NO_SUCH_LABEL, S2IX_TOO_FINE.
+  // Adds one copy under a label for each cell of a level just outside the label: it overlaps no cell of the label, but shares an edge with a
+  // cell of the level that overlaps one. S2IX_NO_LABEL, S2IX_NO_SUCH_LABEL, S2IX_TOO_FINE.
   std::size_t grow(std::uint32_t label, std::uint8_t level) {
-    return number([&](::s2ix_handle* handle, std::size_t* to) { return s2ix_grow(handle, label, level, to); },
-                  [&](std::uint32_t status) { return detail::wrong_label(status, {label}); });
+    return edit([&](::s2ix_handle* handle, std::size_t* to) { return s2ix_grow(handle, label, level, to); },
+                [&](std::uint32_t status) { return detail::wrong_label(status, {label}); });
   }
 
   // Replaces a label's pairs by one copy at each cell of the label's region. S2IX_NO_LABEL, S2IX_NO_SUCH_LABEL.
   std::size_t normalise_label(std::uint32_t label) {
-    return number([&](::s2ix_handle* handle, std::size_t* to) { return s2ix_normalise_label(handle, label, to); },
-                  [&](std::uint32_t status) { return detail::wrong_label(status, {label}); });
+    return edit([&](::s2ix_handle* handle, std::size_t* to) { return s2ix_normalise_label(handle, label, to); },
+                [&](std::uint32_t status) { return detail::wrong_label(status, {label}); });
   }
 
   // Takes back the change with a number, counted from 1 among those that can be undone, and leaves those that followed it.
   // S2IX_NO_SUCH_CHANGE, S2IX_BELOW_ZERO.
   std::size_t revert(std::uint32_t change) {
-    return number([&](::s2ix_handle* handle, std::size_t* to) { return s2ix_revert(handle, change, to); });
+    return edit([&](::s2ix_handle* handle, std::size_t* to) { return s2ix_revert(handle, change, to); });
   }
 
   // Takes the last change back, and returns how many pairs it had. S2IX_CLOSED, S2IX_NOTHING_TO_UNDO.
-  std::size_t undo() { return number(s2ix_undo); }
+  std::size_t undo() { return edit(s2ix_undo); }
 
   // Does the change that was undone last again, and returns how many pairs it had. S2IX_CLOSED, S2IX_NOTHING_TO_REDO.
-  std::size_t redo() { return number(s2ix_redo); }
+  std::size_t redo() { return edit(s2ix_redo); }
 
   // Keeps what is held and drops all changes: nothing is left to undo or redo. S2IX_CLOSED.
-  void forget() { detail::check(handle_.with(s2ix_forget)); }
+  void forget() { detail::check(handle_.edit(s2ix_forget)); }
 
   // Drops all pairs and all changes, and keeps the limits: nothing is left to undo or redo. O(n). S2IX_CLOSED.
-  void clear() { detail::check(handle_.with(s2ix_clear)); }
+  void clear() { detail::check(handle_.edit(s2ix_clear)); }
 
   // Lists. One form of each call puts the list in place of what a vector of the caller held, and uses its memory again; if the call throws,
-  // the vector is empty. The other form returns a new vector. Each costs what its list does, whatever the capacity of the vector. If a list has
-  // more items than the vector held, the library makes it twice. It makes a short list once: at most 16 rows, 64 rows of meet, 256 labels, or
-  // for a label a sixteenth of all pairs. So keep a vector for each kind of call.
+  // the vector is empty. The other form returns a new vector. Each costs what its list does, whatever the capacity of the vector. The library
+  // makes a list once if the vector held as many items, or if the list is short: at most 16 rows, 64 rows of meet, 256 labels, and for region
+  // and of_label a sixteenth of all pairs held. It makes any other list twice. So keep a vector for each kind of call.
 
   // The pairs whose cells contain a leaf, the innermost cell first, the labels of one cell rising. O(log n + k) for k pairs. S2IX_CLOSED,
   // S2IX_NO_CELL.
@@ -674,24 +712,24 @@ class Index {
   }
 
   // The pairs that share a leaf with a union of cells: each once, by first shared leaf, then falling level, then rising label.
-  // O(k + r + t log n) for k pairs, r ranges and t cells. S2IX_CLOSED, S2IX_NO_CELL.
-  void meet(const Cells& cells, std::vector<Row>& rows) const {
+  // O(k + r + t log n) for k pairs over r ranges and t cells. S2IX_CLOSED, S2IX_NO_CELL.
+  void meet(const detail::Given& cells, std::vector<Row>& rows) const {
     list(rows,
          [&](::s2ix_handle* handle, Row* to, std::size_t room, std::size_t* number) {
            return s2ix_meet(handle, cells.data(), cells.size(), to, room, number);
          },
          [&](std::uint32_t status) { return detail::wrong_in(status, cells); }, 64);
   }
-  [[nodiscard]] std::vector<Row> meet(const Cells& cells) const {
+  [[nodiscard]] std::vector<Row> meet(const detail::Given& cells) const {
     std::vector<Row> rows;
     meet(cells, rows);
     return rows;
   }
 
-  // At most `most` pairs of that list, from a place on, counted from 0. If there are fewer, the list ends there. It takes memory for `most`
-  // pairs, or for all that are held if these are fewer, and the time of a meet whose list ends with the last pair returned. An edit may move
-  // the places. S2IX_CLOSED, S2IX_NO_CELL.
-  [[nodiscard]] std::vector<Row> meet_from(const Cells& cells, std::size_t from, std::size_t most) const {
+  // A page of that list: its pairs from the place `from` on, counted from 0, at most `most`; fewer only if the list ends there. The call
+  // goes along the list from its start up to the last pair that it returns. So it costs what meet would if the list ended there. It takes
+  // memory for `most` pairs, or for all that are held if these are fewer. An edit may move the places. S2IX_CLOSED, S2IX_NO_CELL.
+  [[nodiscard]] std::vector<Row> meet_from(const detail::Given& cells, std::size_t from, std::size_t most) const {
     return page(from, most,
                 [&](::s2ix_handle* handle, Row* to, std::size_t room, std::size_t* number) {
                   return s2ix_meet_from(handle, cells.data(), cells.size(), from, to, room, number);
@@ -700,14 +738,14 @@ class Index {
   }
 
   // The labels of the pairs that meet gives: each once, rising. S2IX_CLOSED, S2IX_NO_CELL.
-  void labels(const Cells& cells, std::vector<std::uint32_t>& labels) const {
+  void labels(const detail::Given& cells, std::vector<std::uint32_t>& labels) const {
     list(labels,
          [&](::s2ix_handle* handle, std::uint32_t* to, std::size_t room, std::size_t* number) {
            return s2ix_labels(handle, cells.data(), cells.size(), to, room, number);
          },
          [&](std::uint32_t status) { return detail::wrong_in(status, cells); }, 256);
   }
-  [[nodiscard]] std::vector<std::uint32_t> labels(const Cells& cells) const {
+  [[nodiscard]] std::vector<std::uint32_t> labels(const detail::Given& cells) const {
     std::vector<std::uint32_t> found;
     labels(cells, found);
     return found;
@@ -797,9 +835,9 @@ class Index {
     });
   }
 
-  // Of the pairs over the range at a place, those whose cells begin at the leaf number `from` or later, the innermost cell first, the
-  // labels of one cell rising. If `from` is 0, these are all; if it is an earlier range's limit, those that don't lie over that range. O(k)
-  // for k pairs. S2IX_CLOSED, S2IX_NO_RANGE.
+  // Of the pairs over the range at a place, those whose cells begin at the leaf number `from` or later, the innermost cell first, the labels
+  // of one cell rising. If `from` is 0, these are all of them. If `from` is the limit of an earlier range, these are the pairs that don't
+  // also lie over the earlier range. O(k) for k pairs. S2IX_CLOSED, S2IX_NO_RANGE.
   void contents(std::size_t place, std::uint64_t from, std::vector<Row>& rows) const {
     list(rows, [&](::s2ix_handle* handle, Row* to, std::size_t room, std::size_t* number) {
       return s2ix_contents(handle, place, from, to, room, number);
@@ -811,7 +849,8 @@ class Index {
     return rows;
   }
 
-  // The place of the first range from a place on, and of the last range before one, that has a pair over it. O(1). S2IX_CLOSED, S2IX_NO_RANGE.
+  // The place of a range that has a pair over it: the first from the place `from` on, or the last before the place `before`. O(1).
+  // S2IX_CLOSED, S2IX_NO_RANGE.
   [[nodiscard]] std::size_t next_full(std::size_t from) const {
     return number([&](::s2ix_handle* handle, std::size_t* to) { return s2ix_next_full(handle, from, to); });
   }
@@ -834,9 +873,12 @@ class Index {
   std::string line(std::string_view line) {
     std::string answer;
     // (the first call has room for the answer of any edit, so that only a long answer needs a second call)
-    list(answer, [&](::s2ix_handle* handle, char* bytes, std::size_t room, std::size_t* number) {
-      return s2ix_line(handle, detail::bytes(line), line.size(), reinterpret_cast<std::uint8_t*>(bytes), room, number);
+    const std::uint32_t status = handle_.edit([&](::s2ix_handle* handle) {
+      return detail::fill(answer, [&](char* bytes, std::size_t room, std::size_t* number) {
+        return s2ix_line(handle, detail::bytes(line), line.size(), reinterpret_cast<std::uint8_t*>(bytes), room, number);
+      });
     });
+    detail::check(status);
     return answer;
   }
 
@@ -873,6 +915,14 @@ class Index {
   template <class Call, class Wrong = detail::NoneWrong>
   std::size_t number(Call call, Wrong wrong = Wrong()) const {
     return answer<std::size_t>(call, wrong);
+  }
+
+  // The number that an edit writes.
+  template <class Call, class Wrong = detail::NoneWrong>
+  std::size_t edit(Call call, Wrong wrong = Wrong()) {
+    std::size_t given = 0;
+    detail::check(handle_.edit([&](::s2ix_handle* handle) { return call(handle, &given); }), wrong);
+    return given;
   }
 
   // Puts the list of a call in place of what `items` held. The first call has at least that much room.

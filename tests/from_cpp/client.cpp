@@ -458,6 +458,29 @@ void TakesWhatHasId() {
   static_assert(!std::is_constructible_v<s2ix::Cell, std::string> && !std::is_convertible_v<std::vector<SomeId>, s2ix::Cell>);
 }
 
+s2ix::Cells MadeOf(std::uint64_t first, std::uint64_t second) { return {first, second}; }
+
+// In braces a call takes numbers, ids, or a pointer with a length. Cells that are kept have their own copy.
+void KeepsCells() {
+  const std::uint64_t numbers[] = {kSecond, kFirst, kFace};
+  s2ix::Index index;
+  EXPECT(index.add_union({kFirst, kSecond}, 1) == 2 && index.add_union({numbers, 2}, 2) == 2);
+  EXPECT(index.meet({}).empty() && index.meet({numbers, 0}).empty() && index.meet({numbers[0]}).size() == 2);
+  EXPECT(index.meet({numbers, 1}).size() == 2 && index.meet({kFirst, SomeId(kSecond)}).size() == 4);
+  const s2ix::Cells returned = MadeOf(numbers[0], numbers[1]), kept = {numbers[2], numbers[0] + 1};
+  const s2ix::Cells of_ids = {SomeId(numbers[1]), numbers[0]};
+  EXPECT(returned.size() == 2 && returned.data()[0] == kSecond && returned.data()[1] == kFirst);
+  EXPECT(kept.size() == 2 && kept.data()[0] == kFace && kept.data()[1] == kSecond + 1);
+  EXPECT(of_ids.size() == 2 && of_ids.data()[0] == kFirst && of_ids.data()[1] == kSecond);
+  EXPECT(index.meet(returned).size() == 4 && index.meet(kept).size() == 4 && index.meet(of_ids).size() == 4);
+  EXPECT(index.meet(MadeOf(numbers[0], numbers[0])).size() == 2 && s2ix::cell_union::union_of(kept, {numbers[1]}).size() == 1);
+  const std::initializer_list<std::uint64_t> list = {numbers[0], numbers[1]};
+  const std::vector<std::uint64_t> vector = list;
+  const s2ix::Cells of_list = list, of_vector = vector;
+  EXPECT(of_list.size() == 2 && of_list.data() != list.begin() && index.meet(list).size() == 4);
+  EXPECT(of_vector.size() == 2 && of_vector.data() != vector.data() && index.meet(of_vector).size() == 4);
+}
+
 std::uint64_t RawOf(std::uint64_t id) { return id; }
 std::uint64_t RawOf(const SomeId& id) { return id.id(); }
 
@@ -532,6 +555,57 @@ void NamedAsInS2() {
   EXPECT(moved.num_cells() == 1);
 }
 
+// Whether a call is refused as a mistake of the program.
+template <class Call>
+bool IsMistake(Call call) {
+  try {
+    call();
+  } catch (const std::logic_error&) {
+    return true;
+  }
+  return false;
+}
+
+// Whether each call that changes an index is refused as a mistake.
+bool RefusesEdits(s2ix::Index& index) {
+  return IsMistake([&] { index.add(kSecond, 1); }) && IsMistake([&] { index.add_all({{kSecond, 1, 1}}); }) &&
+         IsMistake([&] { index.remove(kFirst, 1); }) && IsMistake([&] { index.add_union({kSecond}, 1); }) &&
+         IsMistake([&] { index.drop_label(1); }) && IsMistake([&] { index.relabel(1, 2); }) && IsMistake([&] { index.grow(1, 1); }) &&
+         IsMistake([&] { index.normalise_label(1); }) && IsMistake([&] { index.revert(1); }) && IsMistake([&] { index.undo(); }) &&
+         IsMistake([&] { index.redo(); }) && IsMistake([&] { index.forget(); }) && IsMistake([&] { index.clear(); }) &&
+         IsMistake([&] { index.line("undo"); });
+}
+
+// A visitor, here of three pages, may query and visit the index, but not change it. When the visit has ended, all may.
+template <class Id>
+void NotChangedByVisitors() {
+  using S2Index = s2ix::BasicS2CellIndex<Id>;
+  using Label = typename S2Index::Label;
+  constexpr Label kLabels = 2000;
+  const std::vector<Id> target = {Id(kFace)};
+  S2Index index;
+  s2ix::Index& beneath = index.index();
+  for (Label label = 0; label < kLabels; label++) index.Add(Id(kFirst), label);
+  Label visited = 0;
+  EXPECT(index.VisitIntersectingCells(target, [&](Id, Label label) {
+    EXPECT(label == visited++);
+    if (label % 250 != 0) return true;
+    EXPECT(RefusesEdits(beneath) && IsMistake([&] { index.Add(Id(kSecond), 1); }) && IsMistake([&] { index.Add(target, 1); }));
+    EXPECT(IsMistake([&] { index.Clear(); }) && IsMistake([&] { index.Forget(); }));
+    index.Build();
+    EXPECT(index.num_cells() == kLabels && index.GetIntersectingLabels(target).size() == kLabels && beneath.done_count() == 1);
+    EXPECT(!index.VisitIntersectingCells(target, [](Id, Label) { return false; }) && RefusesEdits(index.index()));
+    return true;
+  }));
+  EXPECT(visited == kLabels && beneath.undo() == kLabels && beneath.redo() == kLabels);
+  EXPECT(IsMistake([&] { index.VisitIntersectingCells(target, [&](Id, Label) { return beneath.undo() > 0; }); }));
+  EXPECT(beneath.undo() == kLabels && index.num_cells() == 0);
+  index.Add(Id(kSecond), 1);
+  EXPECT(index.num_cells() == 1 && beneath.line("undo") == "ok 1\n");
+  index.Forget();
+  index.Clear();
+}
+
 }  // namespace
 
 int main() {
@@ -548,10 +622,13 @@ int main() {
   ChangedAndReplayed();
   NamesWhatIsWrong();
   TakesWhatHasId();
+  KeepsCells();
   Cells();
   Unions();
   NamedAsInS2<std::uint64_t>();
   NamedAsInS2<SomeId>();
+  NotChangedByVisitors<std::uint64_t>();
+  NotChangedByVisitors<SomeId>();
   std::cout << passed << " passed, " << failed << " failed\n";
   return failed == 0 ? 0 : 1;
 }

@@ -168,6 +168,10 @@ void AsksOnceForWhatIsKnown() {
   EXPECT(cost.asked == 1 && leaves.size() == 1 && leaves.capacity() < 64);
   const std::vector<std::uint64_t> target = {kFirst};
   EXPECT(CostOf([&] { index.meet(target, rows); }).taken == 0);
+  // (neither numbers in braces nor Cells are copied for a call)
+  const s2ix::Cells kept = {target[0], kLeaf};
+  EXPECT(CostOf([&] { index.meet(kept, rows); }).taken == 0);
+  EXPECT(CostOf([&] { index.meet({target[0], kLeaf}, rows); }).taken == 0 && rows.size() == 42);
 }
 
 }  // namespace

@@ -30,12 +30,15 @@ bool IsPair(const std::vector<s2ix::Row>& rows, std::uint64_t cell, std::uint32_
   return rows.size() == 2 && rows[0].cell == cell && rows[0].label == label && rows[0].count == label && rows[1].cell == kFace;
 }
 
+// The rounds of queries so far, of all threads.
+std::atomic<int> rounds;
+
 // How many of some queries are answered otherwise than they should be, or throw. (No copy() is among them: the library, which has no
 // instrumentation, counts the users of what copies share by atomics that the sanitizer of threads doesn't see.)
 int WrongQueries(const s2ix::Index& index) {
   int wrong = 0;
   std::vector<s2ix::Row> rows;
-  for (int round = 0; round < kRounds; round++) {
+  for (int round = 0; round < kRounds; round++, rounds++) {
     try {
       index.at(kFirst + 1, rows);
       wrong += !IsPair(rows, kFirst, 1);
@@ -80,6 +83,8 @@ void QueriedWhileEdited() {
   std::atomic<bool> ended{false};
   std::thread editor([&] {
     for (std::uint32_t label = 4; !ended; label++) {
+      // (a lock may go to the same thread again and again, so it waits for a round of queries)
+      for (const int before = rounds; rounds == before && !ended;) std::this_thread::yield();
       EXPECT(index.add(kOther, label) == 1);
       if (label % 3 != 0) EXPECT(index.undo() == 1);
       if (label % 1000 == 0) index.forget();

@@ -1,5 +1,5 @@
 -- What is found of a cell, told of its number.
-use Rattle.std.proofs.Common.{◌≡◌, ◌↔◌, ◌<◌, ℕ, Bool, IsTrue, List, refl, subst, inl, Any, AllPairs}
+use Rattle.std.proofs.Common.{◌≡◌, ◌↔◌, ◌<◌, ◌≤◌, ℕ, Bool, IsTrue, List, length, refl, subst, inl, Any, AllPairs}
 use Rattle.std.specs.Prelude.{Contains as HasElement}
 use Rattle.s2id_core.specs.declared.cell_id.CellId.{CellId}
 use Rattle.s2id_core.specs.Cell.{IsCellNumber}
@@ -18,9 +18,12 @@ pub bordered :
     → AllPairs (λ x y. raw_of x < raw_of y) cells
     → ((x : CellId) → HasElement cells x ↔ IsOnBorder (path_of c) level (path_of x))
     → ((q : Path) → IsOnBorder (path_of c) level q → Any (λ x. path_of x ≡ q) cells)
+    → length cells ≤ 1024
     → IsBorder (path_at id) level cells
-bordered c id level cells number rising each complete =
-    subst (λ (n : ℕ). IsBorder (path_at n) level cells) number (record { rising = rising; each = each; complete = complete })
+bordered c id level cells number rising each complete at_most = subst
+    (λ (n : ℕ). IsBorder (path_at n) level cells)
+    number
+    (record { rising = rising; each = each; complete = complete; at_most = at_most })
 
 pub decided :
     (P : List CellId → Path → Type 0) (ids : List ℕ) (id : ℕ) (union : List CellId) (c : CellId) (answer : Bool)

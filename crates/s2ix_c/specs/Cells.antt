@@ -71,11 +71,12 @@ pub record HasSquare (face i j level n : ℕ) : Type 0 where
   pub row_is : (square_of (path_at n)).j ≡ j
   pub level_is : (square_of (path_at n)).level ≡ level
 
--- the cells of a level round a cell: each once, in rising order
+-- the cells of a level round a cell, at most 1,024: each once, in rising order
 pub record IsBorder (p : Path) (level : ℕ) (cells : List CellId) : Type 0 where
   pub rising : AllPairs (λ x y. raw_of x < raw_of y) cells
   pub each : (x : CellId) → HasElement cells x ↔ IsOnBorder p level (path_of x)
   pub complete : (q : Path) → IsOnBorder p level q → Any (λ x. path_of x ≡ q) cells
+  pub at_most : length cells ≤ 1024
 
 -- why there is no border of a level
 abbrev pub IsCoarser : ℕ → ℕ → Type 0

@@ -264,7 +264,7 @@ fn border_of(alloc: Global, cell: u64, level: u8) -> Result<Vec<CellId>, u32>
     }
 }
 
-/// The cells of a level outside a cell that share an edge with a cell of that level inside it: each once, in rising order.
+/// The cells of a level outside a cell that share an edge with a cell of that level inside it: each once, in rising order, at most 1024.
 #[unsafe(no_mangle)]
 pub extern "C" fn s2ix_cell_border(
     alloc: Global,
