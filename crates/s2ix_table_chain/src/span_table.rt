@@ -66,8 +66,8 @@ impl SpanTable {
     }
 
     /// The table of these pairs over the same span, as [`over`](SpanTable::over) makes it, but quicker if most pairs are this table's: if
-    /// all pairs that differ lie in one cell that both hold, it sweeps only that cell and copies the rest. O(n) for n pairs in both.
-    /// `OutOfMemory` if a growth is refused.
+    /// all pairs that differ lie in one cell that both hold, it sweeps only that cell and copies the rest. No clause says so, only the
+    /// bench shows it. O(n) for n pairs in both. `OutOfMemory` if a growth is refused.
     pub fn after(&self, alloc: Global, held: HeldList) -> Result<SpanTable, OutOfMemory>
         requires rises { IsCollection held }
         requires few { length held ≤ 1000000 }

@@ -68,7 +68,7 @@ pub trait RangeTable: Sized {
     }
 
     /// Consecutive ranges over a face, 0 to 5, with a list of where each begins; by default none, for a table that keeps no such list.
-    /// O(1).
+    /// A walk is quicker over them. No clause says which ranges these are: only the bench shows if they are few. O(1).
     fn stretch(&self, face: u8) -> Stretch<'_>
         requires { face < 6 }
         ensures stretch { IsStretch (ranges self.now) result.first result.count result.starts.now }
