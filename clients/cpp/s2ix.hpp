@@ -4,8 +4,8 @@
 // names of S2's own class over such a store (s2ix_cell_index.hpp): a program for S2 changes one include and one type, and gains edits and undo.
 //
 // Cells are S2's 64-bit ids, or what has id(), as S2CellId. A call that is refused leaves the store as it was and throws: std::bad_alloc if
-// memory is refused, std::logic_error if a visitor changes the index that it visits, else Error, which has the number that is no cell's or
-// no label's.
+// memory is refused, std::logic_error if an S2CellIndex is to change while it is visited, else Error, which has the number that is no
+// cell's or no label's.
 //
 // Threads may share an Index, and a const one as any const object of C++: each call takes the lock of its Index, so calls on one Index take
 // turns. Calls on different ones run side by side, on an Index and its copies too: give each thread a copy() if it must not wait for others.

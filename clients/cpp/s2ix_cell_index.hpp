@@ -147,8 +147,8 @@ class BasicS2CellIndex {
   using CellVisitor = std::function<bool(Id cell_id, Label label)>;
 
   // Visits the pairs that share a leaf with a union, each copy of each, until the visitor returns false. Returns false if it did, else true.
-  // The visitor may query the index, or visit it again, but not change it: until the visit ends, Add, Clear and Forget throw
-  // std::logic_error and change nothing, and through index() each edit, undo, redo, forget, clear and line does so too.
+  // The visitor may query the index, or visit it again, but not change it. Until the visit ends, Add, Clear and Forget throw
+  // std::logic_error and change nothing, and so does each edit, undo, redo, forget, clear and line through index(), on any thread.
   template <class Union>
   bool VisitIntersectingCells(const Union& target, const CellVisitor& visitor) const {
     const detail::Given cells(target);

@@ -358,7 +358,7 @@ class Handle {
 
   // Throws during a visit.
   void check_unvisited() const {
-    if (visits_ > 0) throw std::logic_error("s2ix: a visitor can't change the index that it visits");
+    if (visits_ > 0) throw std::logic_error("s2ix: an index can't change while it is visited");
   }
 
   // A visit of the store by several calls, which lasts as long as this lives.

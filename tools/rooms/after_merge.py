@@ -1,3 +1,4 @@
+"""What the pages, and some names, become when merge.py has moved the crates: after_merge.py TOP."""
 import sys, re, os
 os.chdir(sys.argv[1])
 def sub(path, pairs):

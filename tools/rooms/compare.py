@@ -1,3 +1,4 @@
+"""Compares the contracts, the definitions and the names of wrong bodies of two clones: compare.py OLD NEW."""
 import sys,re,glob,collections,os
 def fns(top):
     out=collections.Counter()

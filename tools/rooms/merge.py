@@ -1,13 +1,5 @@
 #!/usr/bin/env python3
-"""merge.py TOP: moves rooms together in a clone (TOP), by the tables below; then run after_merge.py TOP, rt fmt in each changed crate, tools/make_pages.
-
-It is here for one change and goes with it. The product crates that it makes are proved: see the end of this text for what is by hand.
-By hand: crates/s2ix_c_calls/proofs/Steps.antt becomes AddressSteps.antt (its name and that of a module differ only in case); of wrong bodies,
-faced_sample_is_of_first_face names FacedTableRangeTable::stretch, and in s2ix_text those of room_for name dump::room_for or group::room_for,
-journal_reader_takes_loose_text_end change_line::is_end_of, and .._unsorted entry_line::comes_behind; tests/printed --write. Then
-reference_pages.py TOP moves the made pages to docs/reference; pages.patch is what a reader mended in the pages behind that.
-comments.patch, behind rt fmt, is what the reader mended in comments of the crates.
-compare.py OLD NEW compares contracts and definitions. tests_to_drop.txt says which tests of calls a clause or a program outside has."""
+"""Moves crates together in a clone, by the tables below: merge.py TOP. README.md beside it says how it goes on."""
 import os, re, sys, shutil, subprocess, collections, glob
 TOP, HERE = sys.argv[1], os.path.dirname(os.path.realpath(__file__))
 os.chdir(TOP)
