@@ -1,4 +1,4 @@
-/* The S2 cell index that can be edited: stores behind handles, cells and unions of cells. FROM_C.md says how to build the library; FORMATS.md
+/* The S2 cell index that can be edited: stores in handles, cells and unions of cells. FROM_C.md says how to build the library; FORMATS.md
    has the texts. Both lie in docs of the repository, and in share/doc/s2ix where ./install put this file.
 
    Cells are S2's 64-bit ids, labels are 0 to 2147483647. Each call returns a status, except that s2ix_close returns nothing and some calls
@@ -19,7 +19,7 @@
    - in s2ix_add_all and s2ix_add_union, S2IX_JOURNAL_FULL too;
    - in s2ix_load, s2ix_replay and s2ix_rewind, whatever is wrong after the dump's first line.
 
-   A call that is asked for nothing wants no memory: no rows, no cells, a label that is not held, equal bounds, a page with no room. The
+   A call wants no memory if it is given no rows or cells, a label that is not held, equal bounds, or a page with no room. The
    exception is s2ix_line, which may want memory for any query.
 
    You must ensure this, since no call can check it:
@@ -266,8 +266,8 @@ uint32_t s2ix_journal(s2ix_handle *handle, uint8_t *text, size_t room, size_t *n
 uint32_t s2ix_export(s2ix_handle *handle, uint8_t *text, size_t room, size_t *number);
 
 /* Carries out one line of a script (FORMATS.md), given without its line feed, and puts its answer to the front of the buffer, as
-   bytes: `ok N`, `no NAME`, or the lines of a query, each with its line feed. A blank line or a comment has no answer. A line that is
-   refused answers `no NAME`, and its status is S2IX_DONE all the same. An edit, an undo, a redo and a forget want room for 32 bytes; any
+   bytes: `ok N`, `no NAME`, or the lines of a query, each with its line feed. A blank line or a comment has no answer. The answer of
+   a refused line is `no NAME`, and its status is S2IX_DONE too. An edit, an undo, a redo and a forget want room for 32 bytes; any
    other line changes nothing, and wants room for its answer. With less room nothing is done: the status is S2IX_NO_ROOM, and *number is the
    room that the line wants. It costs what the line's own call does, and O(m) for m bytes of line and answer. S2IX_CLOSED, S2IX_NO_ROOM,
    S2IX_OUT_OF_MEMORY. */

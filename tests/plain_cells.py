@@ -33,7 +33,7 @@ def last_leaf(cell):
 
 
 def end_of(cell):
-    """The first leaf behind a cell: where no leaf is, the number that follows the last one's in steps of 2."""
+    """The first leaf after a cell: where no leaf is, the number that follows the last one's in steps of 2."""
     return last_leaf(cell) + 2
 
 

@@ -1,9 +1,10 @@
 """What pages of docs/ repeat of the sources, made from them.
 
-Of ADDING where the sources name its examples; of ARCHITECTURE the crates and the ways of two lines; of CALLS all behind its introduction, from
+Of ADDING where the sources name its examples; of ARCHITECTURE the crates and the ways of two lines; of CALLS all after its introduction, from
 the public items of the eight doors and their rooms; of DEFINITIONS the index, from the comments above the definitions; of FORMATS the
-instructions, the examples and when each refusal comes; of FROM_S2 the names that docs give; of PROMISES the column of wrong bodies and the list of contracts. Each page is made of the page that
-is there, since a part of it is written by hand."""
+instructions, the examples and when each refusal comes; of FROM_S2 the names that docs give; of PROMISES the column of wrong bodies; of
+CONTRACTS all after its introduction, from the clauses, the laws and the wrong bodies. Each page is made of the page that is there, since a
+part of it is written by hand."""
 import fnmatch
 import functools
 import os
@@ -19,29 +20,29 @@ HOUSES = ("s2id_core", "s2id_cube", "s2id_union", "s2ix_bag", "s2ix_table", "s2i
 # Public modules of doors whose items are called by the module's name.
 MODULES = {"s2id_cube": ("curve",)}
 QUIET_TRAITS = ("Drop", "Model")
-# Behind these lines all of a page is made.
+# After these lines all of a page is made.
 CALLS_MADE = "*All below this line is made by `tools/make_pages` from the sources of the doors and their rooms.*"
 INDEX_MADE = "*All below this line is made by `tools/make_pages` from the comments above the definitions in `crates/*/specs`.*"
 CONTRACTS_MADE = "*All below this line is made by `tools/make_pages` from the contracts, the docs of laws, and the wrong bodies of all crates.*"
 # The functions that two lines of a script come to, in their order: the crate, and the function with its type.
 WAY = {
-    "Both lines come in:": """s2ix/main s2ix_cli_words/command_of s2ix/run s2ix_cli_run/run s2ix_text_io/FromRead::piece s2ix_cli_run/carry_piece
-        s2ix_cli_step/carry_out s2ix_cli_script/meaning s2ix_cli_fields/Fields::next s2ix_cli_script/asked_by""",
-    "`relabel 9 3` changes the store:": """s2ix_cli_script/relabel_named s2ix_cli_step/carry_instruction s2ix_edit/Store::edit s2ix_edit_plan/plan
-        s2ix_edit/apply_planned s2ix_bag/Bag::applied s2ix_bag_lists/FaceLists::after s2ix_table_faces/FacedTable::rebuilt
-        s2ix_table_reading/read_list s2ix_table_chain/SpanTable::over s2ix_table_faces/Seat::after s2ix_cli_step/tell_step
-        s2ix_cli_answers/write_ok s2ix_text_io/put_together""",
-    "`meet 1c 04` reads it:": """s2ix_cli_script/union_named s2id_core/CellId::from_token s2id_union/CellUnion::normalise s2ix_cli_step/print_meeting
-        s2ix_cli_answers/write_meeting s2ix_table_walk/Meeting::advance s2ix_table_queries/Meter::node s2ix_table_faces/FacedTable::read_near
-        s2ix_text_write/Block::write_line s2ix_text_write/Block::write_end s2ix_text_io/put_all""",
-    "Both go out:": "s2ix_text_io/ToWrite::put s2ix_text_io/ToWrite::flush",
+    "Both lines come in:": """s2ix/main s2ix_cli_words/command_of s2ix/run s2ix_cli/run s2ix_text_parts/FromRead::piece s2ix_cli/run_piece
+        s2ix_cli/run_line s2ix_cli_script/meaning s2ix_cli_words/Fields::next s2ix_cli_script/asked_by""",
+    "`relabel 9 3` changes the store:": """s2ix_cli_script/relabel_named s2ix_cli/run_instruction s2ix_edit/Store::edit s2ix_edit_plan/plan
+        s2ix_edit/apply_planned s2ix_bag_changes/Bag::applied s2ix_bag_lists/FaceLists::after s2ix_table/FacedTable::rebuilt
+        s2ix_table/read_list s2ix_table_spans/SpanTable::after s2ix_table/Offset::after s2ix_cli/print_step
+        s2ix_cli_answers/write_ok s2ix_text_parts/put_together""",
+    "`meet 1c 04` reads it:": """s2ix_cli_script/union_named s2id_core/CellId::from_token s2id_union/CellUnion::normalise s2ix_cli/print_meeting
+        s2ix_cli_answers/write_meeting s2ix_table_walk/Meeting::advance s2ix_table_queries/Meter::node s2ix_table/FacedTable::read_near
+        s2ix_text_write/Block::write_line s2ix_text_write/Block::write_end s2ix_text_parts/put_all""",
+    "Both go out:": "s2ix_text_parts/ToWrite::put s2ix_text_parts/ToWrite::flush",
 }
 # The words by which the sources name the examples of docs/ADDING.md.
 EXAMPLES = {
     "an edit": r"\bGrow\b|\bgrow_named\b|grow_adds_a_copy_each|[\"']grow\b|\bgrow [A-Z0-9]",
     "a refusal": r"\bTooFine\b|\basks_too_fine\b",
-    "a query": r"\b(region_of|label_cells|print_region|region_is_the_labels)\b|\bRegion\b(?! *[.])|[\"']region[ \"']|\bregion [A-Z0-9]",
-    "a step": r"\b(Forget|after_forget)\b|[\"']forget\b|^ *forget  |fn forget",
+    "a query": r"^(?:\w+ )*region_of :|\bfn region(?:_of)?\b|\bRegion\b(?! *[.])|[\"']region[ \"']|\bregion [A-Z0-9]|c\.region_of",
+    "a step": r"\b(Forget|after_forget)\b|[\"']forget\b|fn forget",
 }
 # How many words of its contract a function has on the way.
 MOST_CITED = 4
@@ -60,7 +61,7 @@ def quoted(names):
     return ", ".join(f"`{name}`" for name in names)
 
 
-# ---- docs/CALLS.md
+# ---- docs/reference/CALLS.md
 
 
 def words_of_condition(item, text):
@@ -97,7 +98,7 @@ def traits_of(item):
 
 
 def part_lines(item):
-    """The public fields of a struct or the variants of an enum, with their docs; those of a variant's own fields come behind its own."""
+    """The public fields of a struct or the variants of an enum, with their docs; those of a variant's own fields come after its own."""
     for part in item.members:
         lines = [line.strip() for line in part.lines]
         shown = " ".join(line for line in lines if not line.startswith("//")).strip(" ,").removeprefix("pub ").replace(", }", " }")
@@ -203,7 +204,7 @@ def contents_lines():
 
 
 def calls_page(page):
-    """docs/CALLS.md: the introduction that is written by hand, the doors, and what is between the crates."""
+    """docs/reference/CALLS.md: the introduction that is written by hand, the doors, and what is between the crates."""
     seen, lines = {}, [page.split(CALLS_MADE)[0].rstrip("\n"), "", CALLS_MADE, "", *contents_lines()]
     for door in HOUSES:
         lines += door_lines(door, seen)
@@ -211,7 +212,7 @@ def calls_page(page):
     return re.sub(r"\n{3,}", "\n\n", "\n".join(lines)).rstrip("\n") + "\n"
 
 
-# ---- docs/DEFINITIONS.md
+# ---- docs/reference/DEFINITIONS.md
 
 
 def index_lines(crate):
@@ -228,7 +229,7 @@ def index_lines(crate):
 
 
 def definitions_page(page):
-    """docs/DEFINITIONS.md: the words, which are written by hand, and the index of definitions."""
+    """docs/reference/DEFINITIONS.md: the index of definitions."""
     lines = [page.split(INDEX_MADE)[0].rstrip("\n"), "", INDEX_MADE]
     for crate in workspace.CRATES:
         made = [] if re.search("_(samples|tests)$", crate) else [*index_lines(crate)]
@@ -255,7 +256,7 @@ def from_s2_page(page):
     return with_made(page, "names", name_lines())
 
 
-# ---- docs/PROMISES.md
+# ---- docs/PROMISES.md and docs/reference/CONTRACTS.md
 
 
 @functools.cache
@@ -409,7 +410,7 @@ def bodies_of(cells, named):
 def column_of(cells, named):
     """What the column of wrong bodies has in a row."""
     names = bodies_of(cells, named)
-    return quoted(names) if len(names) <= MOST_NAMED else f"{len(names)}, listed below"
+    return quoted(names) if len(names) <= MOST_NAMED else str(len(names))
 
 
 def is_offered(item):
@@ -448,7 +449,7 @@ def contract_lines(crate):
 
 def rows_of(page):
     """The rows of the table of promises by the line that each is on: promise, calls, wrong bodies."""
-    lines = enumerate(page.split(CONTRACTS_MADE)[0].split("\n"))
+    lines = enumerate(page.split("\n"))
     return {at: [cell.strip() for cell in line[1:-1].split("|")] for at, line in lines if re.match(r"\| (?!Promise)", line)}
 
 
@@ -459,13 +460,17 @@ def unnamed(page):
 
 
 def promises_page(page):
-    """docs/PROMISES.md: the table, with the wrong bodies of each row in their column, and the contracts by crate."""
-    page = page.split(CONTRACTS_MADE)[0].rstrip("\n")
+    """docs/PROMISES.md: the table, with the wrong bodies of each row in their column."""
     lines, rows = page.split("\n"), rows_of(page)
     named = calls_by_name(rows)
     for at, cells in rows.items():
         lines[at] = f"| {' | '.join([*cells[:2], column_of(cells, named)])} |".replace("|  |", "| |")
-    lines += ["", CONTRACTS_MADE]
+    return "\n".join(lines)
+
+
+def contracts_page(page):
+    """docs/reference/CONTRACTS.md: the contracts by crate."""
+    lines = [page.split(CONTRACTS_MADE)[0].rstrip("\n"), "", CONTRACTS_MADE]
     for crate in product_crates():
         made = [*contract_lines(crate)]
         lines += ["", f"### {crate}", "", *made] if made else []
@@ -559,8 +564,8 @@ def adding_page(page):
 
 def instruction_lines():
     """The instructions of a script, as the help of `run` lists them."""
-    text = re.search(r'AFTER_RUN: &str = "(.*?)\n\n', sources.read("crates/s2ix_cli_words/src/help.rt"), re.S)[1]
-    return ["```", *[line.strip() for line in text.split("\n")[1:]], "```"]
+    rows = re.findall(r'^            \w+ +"(\w+)" "(.*?)" "(.*?)",$', sources.read("crates/s2ix_cli_words/src/instructions.rt"), re.M)
+    return ["```", *["".join(row) for row in rows], "```"]
 
 
 def reason_lines(types, example):
@@ -593,7 +598,11 @@ def formats_page(page):
 
 # ---- all of them
 
-PAGES = {"docs/ADDING.md": adding_page, "docs/ARCHITECTURE.md": map_page, "docs/CALLS.md": calls_page, "docs/DEFINITIONS.md": definitions_page, "docs/FORMATS.md": formats_page, "docs/FROM_S2.md": from_s2_page, "docs/PROMISES.md": promises_page}
+PAGES = {
+    "docs/ADDING.md": adding_page, "docs/ARCHITECTURE.md": map_page, "docs/FORMATS.md": formats_page, "docs/FROM_S2.md": from_s2_page,
+    "docs/PROMISES.md": promises_page, "docs/reference/CALLS.md": calls_page, "docs/reference/CONTRACTS.md": contracts_page,
+    "docs/reference/DEFINITIONS.md": definitions_page,
+}
 
 
 def by_hand(path):

@@ -9,7 +9,7 @@ import workspace
 # What begins a definition or a lemma, a function or a type, a function of Python.
 BEGINS = {
     ".antt": re.compile(r"(?:(?:abbrev|unfoldable|pub|record|private) )*([^\s(:]+)"),
-    ".rt": re.compile(r"\s*(?:pub(?:\([^)]*\))? |const |final |unsafe )*(?:fn|enum|struct|const|static|trait) (\w+)"),
+    ".rt": re.compile(r"\s*(?:pub(?:\([^)]*\))? |const |final |unsafe )*(?:fn|enum|struct|const|static|trait|macro_rules!) (\w+)"),
     "": re.compile(r"\s*(?:def |class )?(\w+)(?:\(| =|:)"),
 }
 SILENT = re.compile(r"\s*(//|--|#|use |ghost use |pub use |mod |pub mod |import |from |\"\"\")")

@@ -6,7 +6,7 @@ sys.path.insert(0, f"{os.path.dirname(os.path.dirname(os.path.realpath(__file__)
 import plain_readers  # noqa: E402
 from plain_model import Model  # noqa: E402
 
-# The scripts of an example, by its name: what comes before it, and its lines, each with a remark behind ';'. A line of its own begins anew.
+# The scripts of an example, by its name: what comes before it, and its lines, each with a remark after ';'. A line of its own begins anew.
 SESSIONS = {
     "edits": ((), """
         add 1 7

@@ -1,96 +1,22 @@
-// An S2 cell index that can be edited, for C++17: the class Index, and calls on cells and on unions of cells. Include s2ix.hpp, which says more.
+// An S2 cell index that can be edited, for C++17: the class Index. Include s2ix.hpp, which says more.
 #ifndef S2IX_INDEX_HPP
 #define S2IX_INDEX_HPP
 
-#include "s2ix.h"
+#include "s2ix_cells.hpp"
 
 #include <algorithm>
-#include <array>
 #include <atomic>
-#include <cinttypes>
 #include <cstddef>
 #include <cstdint>
-#include <cstdio>
-#include <initializer_list>
-#include <iterator>
 #include <limits>
 #include <mutex>
-#include <new>
-#include <optional>
 #include <stdexcept>
 #include <string>
 #include <string_view>
-#include <type_traits>
 #include <utility>
 #include <vector>
 
 namespace s2ix {
-
-// A pair of a cell and a label that a store holds, with its count: row.cell, row.label, row.count.
-using Row = ::s2ix_row;
-
-// A pair in a change: entry.cell, entry.label, and its counts entry.before and entry.after. 0 is the count of a pair that is not held.
-using Entry = ::s2ix_entry;
-
-// What a status says, in words.
-[[nodiscard]] inline std::string status_text(std::uint32_t status) {
-  std::uint8_t bytes[128] = {};
-  std::size_t number = 0;
-  const bool has_room = s2ix_status_text(status, bytes, sizeof bytes, &number) == S2IX_DONE;
-  return std::string(bytes, bytes + (has_room ? number : 0));
-}
-
-// What a refusal tells beside its status: the methods of Error of the same names say what each is.
-struct Where {
-  std::size_t line = 0;
-  std::size_t change = 0;
-  std::size_t entry = 0;
-  std::optional<std::uint64_t> value = {};
-  std::optional<std::size_t> place = {};
-};
-
-// Why a call was refused. It left the store as it was.
-class Error : public std::runtime_error {
- public:
-  explicit Error(std::uint32_t status, const Where& where = Where())
-      : std::runtime_error(text(status, where)), status_(status), where_(where) {}
-
-  // The status that s2ix.h has for the reason, as S2IX_NOT_HELD.
-  [[nodiscard]] std::uint32_t status() const noexcept { return status_; }
-
-  // The first line of a dump or a journal that has a fault, from 1; 0 if the call was refused for another reason.
-  [[nodiscard]] std::size_t line() const noexcept { return where_.line; }
-
-  // The change of a journal that is refused, from 1, and its entry with another count than is held, from 1; each is 0 if there is none.
-  [[nodiscard]] std::size_t change() const noexcept { return where_.change; }
-  [[nodiscard]] std::size_t entry() const noexcept { return where_.entry; }
-
-  // The number that is no cell's or no leaf's, for S2IX_NO_CELL, or no label's, for S2IX_NO_LABEL. None if no number is wrong by itself, as
-  // when a cell has no parent of a level.
-  [[nodiscard]] std::optional<std::uint64_t> value() const noexcept { return where_.value; }
-
-  // The place of that number among the cells or rows of the call, counted from 0; if several are wrong, the place of the first. If a call
-  // takes two lists, the places count on through the second. None if the number was not in a list.
-  [[nodiscard]] std::optional<std::size_t> place() const noexcept { return where_.place; }
-
- private:
-  static std::string text(std::uint32_t status, const Where& where) {
-    std::string words = "s2ix: " + status_text(status);
-    if (where.line != 0) words += ": line " + std::to_string(where.line);
-    if (where.change != 0) words += ": change " + std::to_string(where.change);
-    if (where.entry != 0) words += ", entry " + std::to_string(where.entry);
-    if (where.value) {
-      char number[24] = {};
-      std::snprintf(number, sizeof number, status == S2IX_NO_CELL ? "%#" PRIx64 : "%" PRIu64, *where.value);
-      words += std::string(": ") + number;
-    }
-    if (where.place) words += " at place " + std::to_string(*where.place);
-    return words;
-  }
-
-  std::uint32_t status_;
-  Where where_;
-};
 
 // What a store may hold. Limits{} has the widest limits.
 struct Limits {
@@ -107,225 +33,6 @@ struct Range {
 };
 
 namespace detail {
-
-// Whether a type has id(), as S2CellId has.
-template <class Item, class = void>
-struct HasId : std::false_type {};
-template <class Item>
-struct HasId<Item, std::enable_if_t<std::is_convertible_v<decltype(std::declval<const Item&>().id()), std::uint64_t>>> : std::true_type {};
-
-// Whether a type is a range of cells: of numbers of 64 bits, or of what has id().
-template <class Items, class = void>
-struct HasCells : std::false_type {};
-template <class Items>
-struct HasCells<Items, std::void_t<decltype(std::begin(std::declval<const Items&>()) != std::end(std::declval<const Items&>()))>> {
-  using Item = std::decay_t<decltype(*std::begin(std::declval<const Items&>()))>;
-  static constexpr bool value = HasId<Item>::value || (std::is_unsigned_v<Item> && sizeof(Item) == sizeof(std::uint64_t));
-};
-
-}  // namespace detail
-
-// A cell of the caller: its number, or what returns it from id(), as S2CellId does.
-class Cell {
- public:
-  constexpr Cell(std::uint64_t number) noexcept : number_(number) {}
-  template <class Id, class = std::enable_if_t<detail::HasId<Id>::value>>
-  constexpr Cell(const Id& id) : number_(id.id()) {}
-
-  [[nodiscard]] constexpr std::uint64_t number() const noexcept { return number_; }
-
- private:
-  std::uint64_t number_;
-};
-
-// Some cells of the caller, in any order and repeated or not: a list in braces, a pointer with a length, or any range of numbers or of what
-// has id(), as a vector or an S2CellUnion. Calls take all of these too. Numbers behind a pointer aren't copied: they must live, and stay as
-// they are, as long as the Cells. Of all else a Cells has its own copy; but a call copies no numbers in braces or in a vector.
-class Cells {
- public:
-  Cells() noexcept = default;
-  Cells(const std::uint64_t* data, std::size_t size) noexcept : data_(size == 0 ? &none : data), size_(size) {}
-  Cells(std::vector<std::uint64_t>&& cells) noexcept : own_(std::move(cells)) {}
-  Cells(std::initializer_list<Cell> cells) { copy(cells); }
-  template <class Items, class = std::enable_if_t<detail::HasCells<Items>::value>>
-  Cells(const Items& cells) {
-    copy(cells);
-  }
-
-  // Never a null pointer, even for no cells.
-  [[nodiscard]] const std::uint64_t* data() const noexcept { return own_.empty() ? data_ : own_.data(); }
-  [[nodiscard]] std::size_t size() const noexcept { return own_.empty() ? size_ : own_.size(); }
-
- private:
-  static constexpr std::uint64_t none = 0;
-
-  template <class Items>
-  void copy(const Items& cells) {
-    own_.reserve(static_cast<std::size_t>(std::distance(std::begin(cells), std::end(cells))));
-    for (const auto& cell : cells) own_.push_back(Cell(cell).number());
-  }
-
-  std::vector<std::uint64_t> own_;
-  const std::uint64_t* data_ = &none;
-  std::size_t size_ = 0;
-};
-
-namespace detail {
-
-// The Cells that a call takes. It has no copy of numbers in braces, in a vector or in other Cells, since these live as long as the call.
-// So it is for parameters alone.
-class Given : public Cells {
- public:
-  using Cells::Cells;
-  Given() noexcept = default;
-  Given(const Cells& cells) noexcept : Cells(cells.data(), cells.size()) {}
-  Given(const std::vector<std::uint64_t>& cells) noexcept : Cells(cells.data(), cells.size()) {}
-  Given(std::initializer_list<std::uint64_t> cells) noexcept : Cells(cells.begin(), cells.size()) {}
-  Given(const Given&) = delete;
-  Given& operator=(const Given&) = delete;
-};
-
-// The bytes of a text: never a null pointer, even for none.
-inline const std::uint8_t* bytes(std::string_view text) noexcept {
-  return reinterpret_cast<const std::uint8_t*>(text.empty() ? "" : text.data());
-}
-
-// Which number a refused call speaks of: none.
-struct NoneWrong {
-  [[nodiscard]] Where operator()(std::uint32_t) const noexcept { return {}; }
-};
-
-// The first of some numbers that is no cell's; they weren't in a list.
-[[nodiscard]] inline Where wrong_cell(std::uint32_t status, std::initializer_list<std::uint64_t> cells) {
-  Where where;
-  if (status != S2IX_NO_CELL) return where;
-  const auto wrong = std::find_if_not(cells.begin(), cells.end(), s2ix_cell_is_valid);
-  if (wrong != cells.end()) where.value = *wrong;
-  return where;
-}
-
-// The number that a call took for a leaf.
-[[nodiscard]] inline Where wrong_leaf(std::uint32_t status, std::uint64_t leaf) noexcept {
-  Where where;
-  if (status == S2IX_NO_CELL) where.value = leaf;
-  return where;
-}
-
-inline constexpr std::uint32_t highest_label = 2147483647;
-
-// The first of some numbers that is no label's.
-[[nodiscard]] inline Where wrong_label(std::uint32_t status, std::initializer_list<std::uint32_t> labels) {
-  Where where;
-  if (status != S2IX_NO_LABEL) return where;
-  const auto wrong = std::find_if(labels.begin(), labels.end(), [](std::uint32_t label) { return label > highest_label; });
-  if (wrong != labels.end()) where.value = *wrong;
-  return where;
-}
-
-// The cell or label of a row, whichever the status speaks of, and the row's place.
-[[nodiscard]] inline Where wrong_row(std::uint32_t status, const Row* rows, std::size_t place) {
-  Where where;
-  if (status != S2IX_NO_CELL && status != S2IX_NO_LABEL) return where;
-  where.value = status == S2IX_NO_CELL ? rows[place].cell : rows[place].label;
-  where.place = place;
-  return where;
-}
-
-// The cell or the label, whichever the status speaks of.
-[[nodiscard]] inline Where wrong_pair(std::uint32_t status, std::uint64_t cell, std::uint32_t label) {
-  return status == S2IX_NO_LABEL ? wrong_label(status, {label}) : wrong_cell(status, {cell});
-}
-
-// The first number of a list that is no cell's, or if there is none, the first of a second list, and its place.
-[[nodiscard]] inline Where wrong_in(std::uint32_t status, const Cells& first, const Cells& second = Cells()) {
-  Where where;
-  if (status != S2IX_NO_CELL) return where;
-  std::size_t place = 0;
-  for (const Cells* cells : {&first, &second}) {
-    const std::uint64_t* const end = cells->data() + cells->size();
-    const std::uint64_t* const wrong = std::find_if_not(cells->data(), end, s2ix_cell_is_valid);
-    place += static_cast<std::size_t>(wrong - cells->data());
-    if (wrong == end) continue;
-    where.value = *wrong;
-    where.place = place;
-    break;
-  }
-  return where;
-}
-
-// The first number of a list that is no cell's, and its place, or if there is none, a single cell that is none.
-[[nodiscard]] inline Where wrong_in_or(std::uint32_t status, const Cells& cells, std::uint64_t cell) {
-  const Where where = wrong_in(status, cells);
-  return where.value ? where : wrong_cell(status, {cell});
-}
-
-[[noreturn]] inline void refuse(std::uint32_t status, const Where& where) {
-  if (status == S2IX_OUT_OF_MEMORY) throw std::bad_alloc();
-  throw Error(status, where);
-}
-
-// Throws if a call was refused; only then `wrong` is asked which number the status speaks of.
-template <class Wrong = NoneWrong>
-void check(std::uint32_t status, Wrong wrong = Wrong()) {
-  if (status != S2IX_DONE) refuse(status, wrong(status));
-}
-
-// What a call writes to the pointer it is given, if it is not refused.
-template <class Answer, class Call, class Wrong = NoneWrong>
-Answer answer(Call call, Wrong wrong = Wrong()) {
-  Answer given{};
-  check(call(&given), wrong);
-  return given;
-}
-
-// The same of a call on one cell.
-template <class Answer, class Call>
-Answer answer_of(std::uint64_t cell, Call call) {
-  return answer<Answer>(call, [&](std::uint32_t status) { return wrong_cell(status, {cell}); });
-}
-
-// Puts a list in place of what `items` held, and returns the status of the call. If the call is refused, `items` is empty. The first call has
-// room for as many items as `items` held, or for `room` if that is more; if the list is longer, a second call has room for all. A call takes
-// only initialised room. So `items` doesn't grow to its capacity, which would write to all of it: this costs what the list does.
-template <class Items, class Call>
-std::uint32_t fill(Items& items, Call call, std::size_t room = 0) {
-  room = std::max(room, 256 / sizeof(typename Items::value_type));
-  if (items.capacity() < room) items.clear();
-  if (items.size() < room) items.resize(room);
-  std::size_t number = 0;
-  std::uint32_t status = call(items.data(), items.size(), &number);
-  if (status == S2IX_NO_ROOM) {
-    items.clear();
-    items.resize(number);
-    status = call(items.data(), items.size(), &number);
-  }
-  items.resize(status == S2IX_DONE ? number : 0);
-  return status;
-}
-
-// Frees the room that a list doesn't need, if that is much.
-template <class Items>
-void trim(Items& items) {
-  if (items.capacity() * sizeof(typename Items::value_type) > 1024 && items.capacity() / 2 > items.size()) items.shrink_to_fit();
-}
-
-// A new list, as a call puts it.
-template <class Items, class Call, class Wrong>
-Items filled(Call call, Wrong wrong, std::size_t room = 0) {
-  Items items;
-  check(fill(items, call, room), wrong);
-  trim(items);
-  return items;
-}
-
-// The new union that a call makes of two.
-inline std::vector<std::uint64_t> of_two(decltype(s2ix_union_union)* call, const Cells& first, const Cells& second) {
-  return filled<std::vector<std::uint64_t>>(
-      [&](std::uint64_t* to, std::size_t room, std::size_t* number) {
-        return call(first.data(), first.size(), second.data(), second.size(), to, room, number);
-      },
-      [&](std::uint32_t status) { return wrong_in(status, first, second); }, first.size() + second.size());
-}
 
 // A handle. One call at a time takes it, from any thread. Move it only while no call runs.
 class Handle {
@@ -385,163 +92,6 @@ class Handle {
 
 }  // namespace detail
 
-// Single cells. Each call takes O(1), if nothing else is said. If a number is no cell's, a call that returns a bool returns false, and each
-// other call throws with S2IX_NO_CELL. A call also throws for the reasons that are named.
-namespace cell {
-
-// A cell as a square of the grid of its level on its face: square.i, square.j, square.face, square.level, square.orientation.
-using Square = ::s2ix_square;
-
-// Whether a number is a cell's.
-[[nodiscard]] inline bool is_valid(std::uint64_t cell) noexcept { return s2ix_cell_is_valid(cell); }
-
-// Whether a cell is of level 30.
-[[nodiscard]] inline bool is_leaf(std::uint64_t cell) noexcept { return s2ix_cell_is_leaf(cell); }
-
-// Whether each leaf of the other cell is one of the cell's.
-[[nodiscard]] inline bool contains(std::uint64_t cell, std::uint64_t other) noexcept { return s2ix_cell_contains(cell, other); }
-
-// Whether two cells share a leaf: then one contains the other.
-[[nodiscard]] inline bool intersects(std::uint64_t cell, std::uint64_t other) noexcept { return s2ix_cell_intersects(cell, other); }
-
-// The cell that a text spells: 1 to 16 hexadecimal digits of either case; those missing on the right are zeros.
-[[nodiscard]] inline std::uint64_t from_token(std::string_view token) {
-  return detail::answer<std::uint64_t>([&](std::uint64_t* cell) { return s2ix_cell_from_token(detail::bytes(token), token.size(), cell); });
-}
-
-// A cell's token, of 1 to 16 digits.
-[[nodiscard]] inline std::string to_token(std::uint64_t cell) {
-  std::uint8_t text[16] = {};
-  const std::size_t length = detail::answer_of<std::size_t>(cell, [&](std::size_t* to) { return s2ix_cell_to_token(cell, text, to); });
-  return std::string(text, text + length);
-}
-
-// A cell's path for people, as 0/32: the face, a slash, and the child positions from level 1 down.
-[[nodiscard]] inline std::string path(std::uint64_t cell) {
-  std::uint8_t text[32] = {};
-  const std::size_t length = detail::answer_of<std::size_t>(cell, [&](std::size_t* to) { return s2ix_cell_path(cell, text, to); });
-  return std::string(text, text + length);
-}
-
-// The cell of a level that a cell lies in, itself at its own level. S2IX_NO_CELL, for a finer level too.
-[[nodiscard]] inline std::uint64_t parent(std::uint64_t cell, std::uint8_t level) {
-  return detail::answer_of<std::uint64_t>(cell, [&](std::uint64_t* to) { return s2ix_cell_parent(cell, level, to); });
-}
-
-// The child at a position, 0 to 3 along the curve. S2IX_NO_CELL, for a leaf and for another position too.
-[[nodiscard]] inline std::uint64_t child(std::uint64_t cell, std::uint8_t position) {
-  return detail::answer_of<std::uint64_t>(cell, [&](std::uint64_t* to) { return s2ix_cell_child(cell, position, to); });
-}
-
-// The level, 0 for a whole face to 30 for a leaf.
-[[nodiscard]] inline std::uint8_t level(std::uint64_t cell) {
-  return detail::answer_of<std::uint8_t>(cell, [&](std::uint8_t* to) { return s2ix_cell_level(cell, to); });
-}
-
-// The face, 0 to 5.
-[[nodiscard]] inline std::uint8_t face(std::uint64_t cell) {
-  return detail::answer_of<std::uint8_t>(cell, [&](std::uint8_t* to) { return s2ix_cell_face(cell, to); });
-}
-
-// The cell's first leaf along the curve, and its last.
-[[nodiscard]] inline std::uint64_t range_min(std::uint64_t cell) {
-  return detail::answer_of<std::uint64_t>(cell, [&](std::uint64_t* to) { return s2ix_cell_range_min(cell, to); });
-}
-[[nodiscard]] inline std::uint64_t range_max(std::uint64_t cell) {
-  return detail::answer_of<std::uint64_t>(cell, [&](std::uint64_t* to) { return s2ix_cell_range_max(cell, to); });
-}
-
-// The level of the smallest cell that contains both. S2IX_NO_CELL, for cells of two faces too.
-[[nodiscard]] inline std::uint8_t common_level(std::uint64_t cell, std::uint64_t other) {
-  return detail::answer<std::uint8_t>([&](std::uint8_t* to) { return s2ix_cell_common_level(cell, other, to); },
-                                      [&](std::uint32_t status) { return detail::wrong_cell(status, {cell, other}); });
-}
-
-// The next cell of its level along the curve; the first of face 0 comes after the last of face 5.
-[[nodiscard]] inline std::uint64_t next(std::uint64_t cell) {
-  return detail::answer_of<std::uint64_t>(cell, [&](std::uint64_t* to) { return s2ix_cell_next(cell, to); });
-}
-
-// The four cells of its level that share an edge with a cell: down, right, up, left.
-[[nodiscard]] inline std::array<std::uint64_t, 4> edge_neighbors(std::uint64_t cell) {
-  return detail::answer_of<std::array<std::uint64_t, 4>>(cell, [&](auto* to) { return s2ix_cell_edge_neighbors(cell, to->data()); });
-}
-
-// The cells of a level outside a cell that share an edge with a cell of that level inside it: each once, rising, at most 1024.
-// O(n log n) for n cells. S2IX_COARSER, S2IX_TOO_FINE.
-[[nodiscard]] inline std::vector<std::uint64_t> border(std::uint64_t cell, std::uint8_t level) {
-  return detail::filled<std::vector<std::uint64_t>>(
-      [&](std::uint64_t* to, std::size_t room, std::size_t* number) { return s2ix_cell_border(cell, level, to, room, number); },
-      [&](std::uint32_t status) { return detail::wrong_cell(status, {cell}); });
-}
-
-// The square of a cell.
-[[nodiscard]] inline Square to_face_ij(std::uint64_t cell) {
-  return detail::answer_of<Square>(cell, [&](Square* to) { return s2ix_cell_to_face_ij(cell, to); });
-}
-
-// The cell of a square. S2IX_NO_CELL, for a face above 5, a level above 30, or a column or row of 2^level or more.
-[[nodiscard]] inline std::uint64_t from_face_ij(std::uint8_t face, std::uint32_t i, std::uint32_t j, std::uint8_t level) {
-  return detail::answer<std::uint64_t>([&](std::uint64_t* to) { return s2ix_cell_from_face_ij(face, i, j, level, to); });
-}
-
-}  // namespace cell
-
-// Unions of cells: sets of leaves. A list that a call returns is normal: it rises, no cell lies within another, and no four are all the
-// children of one. Each call first normalises its lists, in O(n log n) for n cells, and throws with S2IX_NO_CELL if a number is no cell's.
-namespace cell_union {
-
-// The normal list of the same leaves: never longer than the list.
-[[nodiscard]] inline std::vector<std::uint64_t> normalise(const detail::Given& cells) {
-  return detail::filled<std::vector<std::uint64_t>>(
-      [&](std::uint64_t* to, std::size_t room, std::size_t* number) {
-        return s2ix_union_normalise(cells.data(), cells.size(), to, room, number);
-      },
-      [&](std::uint32_t status) { return detail::wrong_in(status, cells); }, cells.size());
-}
-
-// The leaves with numbers from `start` to below `limit`: at most 184 cells. Bounds are odd; equal ones give no cells. S2IX_NO_SPAN.
-[[nodiscard]] inline std::vector<std::uint64_t> from_leaves(std::uint64_t start, std::uint64_t limit) {
-  return detail::filled<std::vector<std::uint64_t>>(
-      [&](std::uint64_t* to, std::size_t room, std::size_t* number) { return s2ix_union_from_leaves(start, limit, to, room, number); },
-      detail::NoneWrong(), 184);
-}
-
-// The leaves of either union.
-[[nodiscard]] inline std::vector<std::uint64_t> union_of(const detail::Given& first, const detail::Given& second) {
-  return detail::of_two(s2ix_union_union, first, second);
-}
-
-// The leaves of both unions.
-[[nodiscard]] inline std::vector<std::uint64_t> intersection(const detail::Given& first, const detail::Given& second) {
-  return detail::of_two(s2ix_union_intersection, first, second);
-}
-
-// The leaves of the first union without those of the second.
-[[nodiscard]] inline std::vector<std::uint64_t> difference(const detail::Given& first, const detail::Given& second) {
-  return detail::of_two(s2ix_union_difference, first, second);
-}
-
-// Whether each leaf of a cell is one of the union's.
-[[nodiscard]] inline bool contains(const detail::Given& cells, std::uint64_t cell) {
-  return detail::answer<bool>([&](bool* to) { return s2ix_union_contains(cells.data(), cells.size(), cell, to); },
-                              [&](std::uint32_t status) { return detail::wrong_in_or(status, cells, cell); });
-}
-
-// Whether some leaf of a cell is one of the union's.
-[[nodiscard]] inline bool intersects(const detail::Given& cells, std::uint64_t cell) {
-  return detail::answer<bool>([&](bool* to) { return s2ix_union_intersects(cells.data(), cells.size(), cell, to); },
-                              [&](std::uint32_t status) { return detail::wrong_in_or(status, cells, cell); });
-}
-
-// How many leaves the union has.
-[[nodiscard]] inline std::uint64_t leaf_count(const detail::Given& cells) {
-  return detail::answer<std::uint64_t>([&](std::uint64_t* to) { return s2ix_union_leaf_count(cells.data(), cells.size(), to); },
-                                       [&](std::uint32_t status) { return detail::wrong_in(status, cells); });
-}
-
-}  // namespace cell_union
-
 template <class Id>
 class BasicS2CellIndex;
 
@@ -549,8 +99,8 @@ class BasicS2CellIndex;
 // S2IX_CLOSED.
 //
 // Threads may share an Index, and a const Index& as any const object of C++: each call takes the lock of the Index, so it waits while another
-// runs. Only handle() takes no lock. No call may run while the Index is moved or destroyed. Calls on one Index never run side by side: for
-// that, each thread has a copy().
+// runs. Only handle() takes no lock. No call may run while the Index is moved or destroyed. Calls on one Index never run side by side: to
+// read side by side, give each thread a copy().
 class Index {
  public:
   // An index of no pairs. S2IX_NO_LIMITS.
@@ -691,8 +241,8 @@ class Index {
   // Drops all pairs and all changes, and keeps the limits: nothing is left to undo or redo. O(n). S2IX_CLOSED.
   void clear() { detail::check(handle_.edit(s2ix_clear)); }
 
-  // Lists. One form of each call puts the list in place of what a vector of the caller held, and uses its memory again; if the call throws,
-  // the vector is empty. The other form returns a new vector. Each costs what its list does, whatever the capacity of the vector. The library
+  // Lists. Each call has two forms. One puts the list into a vector of the caller and uses its memory again; if it throws, the vector is
+  // empty. The other returns a new vector. The cost is that of the list, whatever the capacity of the vector. The library
   // makes a list once if the vector held as many items, or if the list is short: at most 16 rows, 64 rows of meet, 256 labels, and for region
   // and of_label a sixteenth of all pairs held. It makes any other list twice. So keep a vector for each kind of call.
 
@@ -947,7 +497,7 @@ class Index {
     detail::check(status, [&](std::uint32_t why) { return detail::wrong_label(why, {label}); });
   }
 
-  // The pairs that a call puts from a place on: at most `most`, and at most as many as are held behind the place.
+  // The pairs that a call puts from a place on: at most `most`, and at most as many as are held after the place.
   template <class Call, class Wrong = detail::NoneWrong>
   std::vector<Row> page(std::size_t from, std::size_t most, Call call, Wrong wrong = Wrong()) const {
     std::vector<Row> rows;

@@ -463,7 +463,6 @@ static void lines(void) {
     EXPECT(s2ix_done_count(&handle, &number), S2IX_DONE);
     EXPECT(number, 1);
     carried_out(&handle, "redo", 31, S2IX_NO_ROOM, 32, "");
-    carried_out(&handle, "addunion 3 04 0c", 31, S2IX_NO_ROOM, 32, "");
     carried_out(&handle, "meet 1", 0, S2IX_NO_ROOM, 12, "");
     carried_out(&handle, "region 3", 0, S2IX_NO_ROOM, 8, "");
     carried_out(&handle, "dump", 0, S2IX_NO_ROOM, 21, "");
@@ -480,6 +479,29 @@ static void lines(void) {
     carried_out(&handle, "forget", 32, S2IX_DONE, 5, "ok 0\n");
     EXPECT(s2ix_done_count(&handle, &number), S2IX_DONE);
     EXPECT(number, 0);
+    s2ix_close(&handle);
+}
+
+/* Further kinds of lines, with one byte too little and with exactly enough. */
+static void further_lines(void) {
+    s2ix_handle handle = {0};
+    size_t number;
+    EXPECT(s2ix_open(&handle, 10, 10, 10), S2IX_DONE);
+    carried_out(&handle, "addunion 3 04 0c", 31, S2IX_NO_ROOM, 32, "");
+    carried_out(&handle, "addunion 3 04 0c", 32, S2IX_DONE, 5, "ok 2\n");
+    carried_out(&handle, "region 3", 11, S2IX_NO_ROOM, 12, "");
+    carried_out(&handle, "region 3", 12, S2IX_DONE, 12, "04\n0c\nend 2\n");
+    carried_out(&handle, "at 1", 10, S2IX_NO_ROOM, 11, "");
+    carried_out(&handle, "at 1", 11, S2IX_DONE, 11, "no NotLeaf\n");
+    carried_out(&handle, "at 0000000000000001", 12, S2IX_NO_ROOM, 13, "");
+    carried_out(&handle, "at 0000000000000001", 13, S2IX_DONE, 13, "04:3:1\nend 1\n");
+    carried_out(&handle, "path 0c", 3, S2IX_NO_ROOM, 4, "");
+    carried_out(&handle, "path 0c", 4, S2IX_DONE, 4, "0/1\n");
+    carried_out(&handle, "forget", 31, S2IX_NO_ROOM, 32, "");
+    EXPECT(s2ix_done_count(&handle, &number), S2IX_DONE);
+    EXPECT(number, 1);
+    carried_out(&handle, "forget", 32, S2IX_DONE, 5, "ok 0\n");
+    carried_out(&handle, "undo", 32, S2IX_DONE, 17, "no NothingToUndo\n");
     s2ix_close(&handle);
 }
 
@@ -669,6 +691,7 @@ int main(void) {
     told();
     copied();
     lines();
+    further_lines();
     written_and_read();
     journalled();
     changed();

@@ -56,7 +56,7 @@ class Range(NamedTuple):
     is_empty: bool
 
 
-# The memory that one call at a time writes to: the length of a list goes into the first word, the list behind the second. The parts are its
+# The memory that one call at a time writes to: the length of a list goes into the first word, the list after the second. The parts are its
 # words, the list's bytes, the arguments of s2ix_at, and the addresses of the length and of the list.
 _Buffer = Tuple[memoryview, memoryview, Tuple[Any, ...], int, int]
 

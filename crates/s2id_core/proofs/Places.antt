@@ -5,7 +5,7 @@ use Rattle.std.proofs.lemmas.Nat.{mod-mul-add, div-mul-add}
 use Rattle.s2id_core.specs.Path.{Path, digits_from, number_of, base_four, place_of, last_digits}
 use Rattle.s2id_core.proofs.Powers.{four_step, four_pow_odd, four_pos, four_add, four_split, digit_below, mod_more}
 
--- the digits' part of the sum, from 2 ^ (2 * n - 1) down where n is at least the number of digits
+-- the digits' part of the sum, from 2 ^ (2 * n - 1) down if n is at least the number of digits
 pub digits_from_is : (ds : List ℕ) (r k : ℕ) → k ≡ 2 * (length ds + r) - 1 → digits_from k ds ≡ 2 * base_four ds * 4 ^ r
 unfolding digits_from base_four
 digits_from_is [] r k e = omega arith

@@ -35,7 +35,7 @@ four_add j k = pow-add 4 j k
 pub four_split : (n k : ℕ) → k ≤ n → 4 ^ k * 4 ^ (n - k) ≡ 4 ^ n
 four_split n k h = sym (pow-add 4 k (n - k)) ∙ ap (λ x. 4 ^ x) (omega arith)
 
--- a number below 4 times b, where it is d times b and less than b
+-- a number below 4 times b, if it is d times b and less than b
 pub digit_below : (d v b : ℕ) → d < 4 → v < b → d * b + v < 4 * b
 digit_below d v b h s = grind arith
 
@@ -75,7 +75,7 @@ four_below i j h =
     let at_j = four_pow j in
     omega arith
 
--- a level is the finer where its width is the smaller
+-- a level is the finer if its width is the smaller
 pub level_from_width : (j k : ℕ) → j ≤ 30 → k ≤ 30 → 4 ^ (30 - k) ≤ 4 ^ (30 - j) → j ≤ k
 level_from_width j k hj hk h = elim (cases_lt k j) [ inl lt ↦ absurd (let less = four_below (30 - j) (30 - k) (omega arith) in omega arith) | inr le ↦ le ]
 

@@ -1,4 +1,4 @@
--- Cells as spans of leaves: nested where one lies within the other, and apart where neither does.
+-- Cells as spans of leaves: nested if one lies within the other, and apart if neither does.
 use Rattle.std.proofs.Common.{◌≡◌, ◌↔◌, ℕ, ◌+◌, ◌-◌, ◌*◌, ◌^◌, ◌<◌, ◌≤◌, ◌⊎◌, inl, inr, ◌++◌, length, replicate, sym, ◌∙◌, ap, ap₂, refl, arith}
 use Rattle.std.proofs.lemmas.Bool.{cases_lt}
 use Rattle.std.proofs.lemmas.List.{length-append, length-replicate, take_at}

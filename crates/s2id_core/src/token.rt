@@ -44,7 +44,7 @@ impl Token {
     }
 }
 
-// What each byte is worth as a hexadecimal digit of either case; 16 where it is none.
+// What each byte is worth as a hexadecimal digit of either case; 16 if it is none.
 const DIGIT_VALUES: [u8; 256] = [
     16, 16, 16, 16, 16, 16, 16, 16, 16, 16, 16, 16, 16, 16, 16, 16, 16, 16, 16, 16, 16, 16, 16, 16,
     16, 16, 16, 16, 16, 16, 16, 16, 16, 16, 16, 16, 16, 16, 16, 16, 16, 16, 16, 16, 16, 16, 16, 16,
@@ -122,7 +122,7 @@ fn spelled_number(text: &[u8]) -> Result<u64, usize>
     Ok(number << (64 - 4 * text.len()))
 }
 
-// What a byte is worth as a hexadecimal digit of either case; 16 where it is none.
+// What a byte is worth as a hexadecimal digit of either case; 16 if it is none.
 #[inline]
 fn worth(byte: u8) -> u8
     ensures { result ≡ min 16 (digit_value byte) }

@@ -59,7 +59,7 @@ strictly n u v hu hu' hv hv' f hf a ha =
     )
     f hf a ha
 
--- the other two coordinates are odd where the column or the row is
+-- the other two coordinates are odd if the column or the row is
 pub record Parities (n f u v : ℕ) : Type 0 where
   pub u_below : u_axis f < 3
   pub v_below : v_axis f < 3

@@ -64,7 +64,7 @@ above_ancestor k q path h =
     let below : place_of q < 6 * 4 ^ (d + k) = subst (λ x. place_of q < 6 * 4 ^ x) (sym deep) (place_below q path) in
     subst (λ t. IsAbove d t (square_of q)) (sym top) (subst (λ s. IsAbove d (square_at k (place_of q / 4 ^ d)) s) here (above_at d k (place_of q) below))
 
--- a cell lies within another just where its square lies in the other's
+-- a cell lies within another exactly if its square lies in the other's
 pub nested_path : (p q : Path) (d : ℕ) → IsPath q → length q.digits ≡ length p.digits + d → IsWithin q p
     → IsAbove d (square_of p) (square_of q)
 nested_path p q d path long within =

@@ -106,7 +106,7 @@ share_edge-decides p q hp hq =
 
 -- ---- the search
 
--- where one number passes, it is found
+-- if one number passes, it is found
 pub passing_below-only : (test : ℕ → Bool) (n m : ℕ) → m < n → test m ≡ true → ((k : ℕ) → k < n → test k ≡ true → k ≡ m)
     → passing_below test n ≡ m
 unfolding passing_below

@@ -26,7 +26,7 @@ side_end (suc (suc (suc _))) s = corner s s.i (s.j + 1)
 abbrev pub AreOneSide : Point → Point → Point → Point → Type 0
 AreOneSide a b c d = ((a ≡ c) × (b ≡ d)) ⊎ ((a ≡ d) × (b ≡ c))
 
--- two distinct cells of one level, where side m of the first is a side of the second
+-- two distinct cells of one level, if side m of the first is a side of the second
 pub record SharesSide (m : ℕ) (p q : Path) : Type 0 where
   pub apart : p ≢ q
   pub one_level : length p.digits ≡ length q.digits

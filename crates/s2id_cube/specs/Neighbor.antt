@@ -36,7 +36,7 @@ share_edge p q =
 abbrev pub number_at : ℕ → ℕ → ℕ
 number_at k place = (2 * place + 1) * 4 ^ (30 - k)
 
--- the number below the bound that passes a test: the last where several do, 0 where none does
+-- the number below the bound that passes a test: the last if several do, 0 if none does
 unfoldable pub passing_below : (ℕ → Bool) → ℕ → ℕ
 passing_below test zero = 0
 passing_below test (suc n) = if test n then n else passing_below test n

@@ -21,7 +21,7 @@ const SIDES_OVER: [u8; 24] = [
     2, 3, 3, 2, 1, 0, 0, 1, 2, 3, 3, 2, 1, 0, 0, 1, 2, 3, 3, 2, 1, 0, 0, 1,
 ];
 
-// 1 where the places along the two sides run against each other, else 0.
+// 1 if the places along the two sides run against each other, else 0.
 const REVERSALS: [u8; 24] = [
     0, 0, 1, 1, 1, 1, 0, 0, 0, 0, 1, 1, 1, 1, 0, 0, 0, 0, 1, 1, 1, 1, 0, 0,
 ];
@@ -191,7 +191,7 @@ fn beside(face: u8, i: u32, j: u32, last: u32, side: u8) -> (u8, u32, u32)
 }
 
 // The square on the other face over an edge of the cube, from a place along that edge: its face, column and row. The place counts from
-// the far end where the two sides run against each other.
+// the far end if the two sides run against each other.
 fn over_edge(face: u8, side: u8, along: u32, last: u32) -> (u8, u32, u32)
     requires face { face < 6 }
     requires side { side < 4 }

@@ -6,7 +6,7 @@ pub fn cell_of(token: &str) -> Option<CellId> {
     CellId::from_token(token.as_bytes()).ok()
 }
 
-/// The cells that some tokens name, with white space between them. `None` where one names no cell, or memory was wanted.
+/// The cells that some tokens name, with white space between them. `None` if one names no cell, or memory was wanted.
 pub fn cells_of(alloc: Global, tokens: &str) -> Option<Vec<CellId>> {
     let mut cells = Vec::new(alloc);
     for token in tokens.split_ascii_whitespace() {

@@ -1,190 +1,77 @@
-//! Cells: their numbers, their leaves, and their relatives.
-use crate::samples::{is_cell, is_cell_or_none};
-use s2id_core::{CellId, LEAF_END};
-use s2id_samples::cell_of;
+//! Cells: each call once, by the values of the cell 0/32, whose token is 1d.
+use s2id_core::{CellId, TokenError, sixteen_digits};
+use s2id_samples::{are_cells, cell_of};
 
-// Numbers, and whether they are those of cells.
-const NUMBERS: [(u64, bool); 6] = [
-    (0, false),
-    (0x2000000000000000, false),
-    (LEAF_END, false),
-    (0x1000000000000000, true),
-    (1, true),
-    (0xbfffffffffffffff, true),
-];
+// Whether a cell has the texts, the face, the level and the lowest bit of 1d.
+fn has_texts_and_numbers(cell: CellId) -> bool {
+    cell.token().as_bytes() == "1d".as_bytes()
+        && cell.path().as_bytes() == "0/32".as_bytes()
+        && cell.raw() == 0x1d00000000000000
+        && cell.face() == 0
+        && cell.level() == 2
+        && cell.lsb() == 0x0100000000000000
+        && !cell.is_leaf()
+}
 
-// Whether a number gives the cell that has it, or no cell.
-fn is_told(raw: u64, is_cell: bool) -> bool {
-    match CellId::from_raw(raw) {
-        Some(cell) => is_cell && cell.raw() == raw,
-        None => !is_cell,
-    }
+// Whether a cell has the leaves of 1d, and its places on the curve.
+fn has_leaves_and_places(cell: CellId) -> bool {
+    cell.range_min().raw() == 0x1c00000000000001
+        && cell.range_max().raw() == 0x1dffffffffffffff
+        && cell.span_start() == 0x1c00000000000001
+        && cell.span_end() == 0x1e00000000000001
+        && cell.level() == 2
+        && cell.place_at(2) == 14
+        && cell.place_at(1) == 3
 }
 
 #[test]
-fn from_raw_takes_cells_alone(rt: HostRuntime) {
-    for &(raw, is_cell) in &NUMBERS {
-        assert!(rt; is_told(raw, is_cell), "wrong at {raw:x}");
-    }
-}
-
-// Tokens of cells, with faces, levels and lowest bits.
-const PLACES: [(&str, u8, u8, u64); 2] = [
-    ("1d", 0, 2, 0x0100000000000000),
-    ("bfffffffffffffff", 5, 30, 1),
-];
-
-// Whether a cell is on a face, at a level, and has this lowest bit.
-fn is_at(cell: CellId, face: u8, level: u8, lsb: u64) -> bool {
-    cell.face() == face
-        && cell.level() == level
-        && cell.lsb() == lsb
-        && cell.is_leaf() == (level == 30)
-}
-
-#[test]
-fn face_level_and_lowest_bit(rt: HostRuntime) {
-    for &(token, face, level, lsb) in &PLACES {
-        let cell = cell_of(token).expect(&rt, token);
-        assert!(rt; is_at(cell, face, level, lsb), "wrong at {token}");
-    }
-}
-
-// Tokens of cells, of their first and their last leaves, and the ends of their spans.
-const LEAVES: [(&str, &str, &str, u64); 2] = [
-    (
-        "04",
-        "0000000000000001",
-        "07ffffffffffffff",
-        0x0800000000000001,
-    ),
-    (
-        "bfffffffffffffff",
-        "bfffffffffffffff",
-        "bfffffffffffffff",
-        LEAF_END,
-    ),
-];
-
-// Whether a cell has these leaves.
-fn has_leaves(cell: CellId, first: &str, last: &str, end: u64) -> bool {
-    is_cell(cell.range_min(), first)
-        && is_cell(cell.range_max(), last)
-        && cell.span_start() == cell.range_min().raw()
-        && cell.span_end() == end
-}
-
-#[test]
-fn leaves_of_cells(rt: HostRuntime) {
-    for &(token, first, last, end) in &LEAVES {
-        let cell = cell_of(token).expect(&rt, token);
-        assert!(rt; has_leaves(cell, first, last, end), "wrong at {token}");
-    }
-}
-
-// Whether the cell 1d has its places at its level and above it.
-fn has_places(cell: CellId) -> bool {
-    cell.level() == 2 && cell.place_at(2) == 14 && cell.place_at(1) == 3
-}
-
-#[test]
-fn places_along_the_curve(rt: HostRuntime) {
-    let cell = CellId::at_place(2, 14);
-    assert!(rt; is_cell(cell, "1d") && has_places(cell));
-    assert!(rt; is_cell(CellId::at_place(0, 5), "b"));
-}
-
-// Tokens of two cells, whether the first contains the second, and whether it intersects it.
-const PAIRS: [(&str, &str, bool, bool); 4] = [
-    ("1", "04", true, true),
-    ("1", "1", true, true),
-    ("04", "1", false, true),
-    ("04", "1d", false, false),
-];
-
-// Whether a cell contains another one, and whether it intersects it.
-fn relation_of(token: &str, other: &str) -> Option<(bool, bool)> {
-    let cell = cell_of(token)?;
-    let other = cell_of(other)?;
-    Some((cell.contains(other), cell.intersects(other)))
-}
-
-#[test]
-fn faces_contain_their_cells(rt: HostRuntime) {
-    for &(token, other, contains, intersects) in &PAIRS {
-        let relation = relation_of(token, other);
-        assert!(rt;
-            relation == Some((contains, intersects)),
-            "wrong at {token}"
-        );
-    }
-}
-
-// Levels, and the ancestors of the cell 1d there.
-const PARENTS: [(u8, &str); 3] = [(1, "1c"), (2, "1d"), (3, "")];
-
-#[test]
-fn parents(rt: HostRuntime) {
+fn a_cell_has_its_texts_numbers_and_leaves(rt: HostRuntime) {
     let cell = cell_of("1d").expect(&rt, "a cell");
-    for &(level, parent) in &PARENTS {
-        assert!(rt;
-            is_cell_or_none(cell.parent(level), parent),
-            "wrong at {level}"
-        );
-    }
+    assert!(rt; has_texts_and_numbers(cell));
+    assert!(rt; has_leaves_and_places(cell));
 }
 
-// Tokens of cells, positions of children, and their tokens.
-const CHILDREN: [(&str, u8, &str); 3] = [("1", 3, "1c"), ("1", 4, ""), ("0000000000000001", 0, "")];
-
-#[test]
-fn children(rt: HostRuntime) {
-    for &(token, position, child) in &CHILDREN {
-        let cell = cell_of(token).expect(&rt, token);
-        assert!(rt;
-            is_cell_or_none(cell.child(position), child),
-            "wrong at {token}"
-        );
-    }
+// A cell by its number, by its path and by its place; then its parent, its last child, and the next cell.
+fn found_from(cell: CellId) -> Option<[CellId; 6]> {
+    Some([
+        CellId::from_raw(0x1d00000000000000)?,
+        CellId::from_path(0, &[3, 2])?,
+        CellId::at_place(2, 14),
+        cell.parent(1)?,
+        cell.child(3)?,
+        cell.next_wrap(),
+    ])
 }
 
-// Levels, and the positions of the cell 1d's ancestors there.
-const POSITIONS: [(u8, Option<u8>); 4] = [(0, None), (1, Some(3)), (2, Some(2)), (3, None)];
+// Whether a cell lies in another one as 1d does in 1c.
+fn lies_in(cell: CellId, parent: CellId) -> bool {
+    parent.contains(cell)
+        && !cell.contains(parent)
+        && cell.intersects(parent)
+        && cell.common_level(parent) == Some(1)
+        && cell.child_position(1) == Some(3)
+        && cell.child_position(2) == Some(2)
+}
 
 #[test]
-fn child_positions(rt: HostRuntime) {
+fn a_cell_leads_to_its_relatives(rt: HostRuntime) {
     let cell = cell_of("1d").expect(&rt, "a cell");
-    for &(level, position) in &POSITIONS {
-        assert!(rt; cell.child_position(level) == position, "wrong at {level}");
-    }
-}
-
-// Tokens of cells and of the next ones.
-const NEXT: [(&str, &str); 3] = [
-    ("1", "3"),
-    ("b", "1"),
-    ("bfffffffffffffff", "0000000000000001"),
-];
-
-#[test]
-fn next_cells(rt: HostRuntime) {
-    for &(token, next) in &NEXT {
-        let cell = cell_of(token).expect(&rt, token);
-        assert!(rt; is_cell(cell.next_wrap(), next), "wrong at {token}");
-    }
-}
-
-// Whether this is the finest level at which two cells have one ancestor.
-fn have_common_level(token: &str, other: &str, level: Option<u8>) -> bool {
-    match (cell_of(token), cell_of(other)) {
-        (Some(cell), Some(other)) => cell.common_level(other) == level,
-        _ => false,
-    }
+    let parent = cell_of("1c").expect(&rt, "a cell");
+    let found = found_from(cell).expect(&rt, "cells");
+    assert!(rt; are_cells(&found, "1d 1d 1d 1c 1dc 1f"));
+    assert!(rt; lies_in(cell, parent));
 }
 
 #[test]
-fn common_levels(rt: HostRuntime) {
-    assert!(rt; have_common_level("04", "1d", Some(0)));
-    assert!(rt; have_common_level("1d", "1c", Some(1)));
-    assert!(rt; have_common_level("1", "3", None));
+fn cells_and_faults_print(rt: HostRuntime) {
+    let cell = cell_of("1d").expect(&rt, "a cell");
+    let text = format!(in rt.alloc(); "{cell}|{cell:>4}|{cell:?}").expect(&rt, "memory");
+    assert!(rt; text.as_str() == "1d|  1d|CellId(1d)");
+    let fault = format!(in rt.alloc(); "{}", TokenError::NotHex(1)).expect(&rt, "memory");
+    assert!(rt; fault.as_str() == "byte 1 of the token is no hexadecimal digit");
+}
+
+#[test]
+fn digits_of_bounds(rt: HostRuntime) {
+    assert!(rt; &sixteen_digits(0x0123456789abcdef) == b"0123456789abcdef");
 }

@@ -110,17 +110,17 @@ adding_step old cells start limit at h from to c g =
               (let a = r.from in let b = r.to in
               elim (cases_lt q at) [
                 | inl before ↦ covers_push_left cells c q ((h.covers q).1 (inr (record { from = a; to = before })))
-                | inr behind ↦ covers_push_right cells c q (omega arith) b
+                | inr after ↦ covers_push_right cells c q (omega arith) b
               ])
         ],
       );
     }
 
 -- what the loop does with one cell
-pub adding_next : (old cells next : List CellId) (start limit at behind : ℕ) → IsBeingAdded old cells start limit at → start ≤ at
-    → at < limit → (c : CellId) → IsGreatest (raw_of c) at limit → next ≡ cells ++ c ∷ [] → behind ≡ end_of c
-    → IsBeingAdded old next start limit behind × (start ≤ behind) × (behind ≤ limit) × (behind % 2 ≡ 1)
-adding_next old cells next start limit at behind h from to c g list place =
+pub adding_next : (old cells next : List CellId) (start limit at after : ℕ) → IsBeingAdded old cells start limit at → start ≤ at
+    → at < limit → (c : CellId) → IsGreatest (raw_of c) at limit → next ≡ cells ++ c ∷ [] → after ≡ end_of c
+    → IsBeingAdded old next start limit after × (start ≤ after) × (after ≤ limit) × (after % 2 ≡ 1)
+adding_next old cells next start limit at after h from to c g list place =
     let s = span (raw_of c) c.valid in
     let s1 = s.from in
     let s2 = s.to in

@@ -69,8 +69,8 @@ few_joined a b c m n low high h k = record {
           | inl before ↦
               (let v = (h.covers q).1 (record { from = f; to = before }) in
               record { cell = v.cell; held = Contains-append_left h.cells k.cells v.cell v.held; from = v.from; to = v.to })
-          | inr behind ↦
-              (let v = (k.covers q).1 (record { from = behind; to = t }) in
+          | inr after ↦
+              (let v = (k.covers q).1 (record { from = after; to = t }) in
               record { cell = v.cell; held = Contains-append_right h.cells k.cells v.cell v.held; from = v.from; to = v.to })
         ],
   );
@@ -126,7 +126,7 @@ few_row h m (suc k) a b le ea eb most =
     let rises = mul-le-mul_right (4 ^ h) (let e : m ≤ m + k = omega arith in e) in
     few_moved a b (k + 1) a b (suc k) (few_joined a c b k 1 (omega arith) (omega arith) (few_row h m k a c le ea refl (omega arith)) (few_one h (m + k) c b le refl end most)) refl refl (omega arith)
 
--- ---- the last border at or before a place, and the first at or behind it
+-- ---- the last border at or before a place, and the first at or after it
 
 record IsFloor (w a q : ℕ) : Type 0 where
   from : q * w ≤ a

@@ -57,7 +57,7 @@ operation_form o xs ys cells normal h =
     form_by_test cells (λ q. keeps_both o (is_covered xs q) (is_covered ys q)) normal (λ q.
     (λ c. test_from_keeps o xs ys q ((h q).0 c), λ e. (h q).1 (keeps_from_test o xs ys q e)))
 
--- the same where the two lists are known under other names
+-- the same if the two lists are known under other names
 pub swept_form : (o : Operation) (as_first as_second xs ys cells : List CellId) → xs ≡ as_first → ys ≡ as_second → IsNormal cells
     → ((q : ℕ) → Covers cells q ↔ Keeps o (Covers xs q) (Covers ys q))
     → cells ≡ cells_where (λ q. keeps_both o (is_covered as_first q) (is_covered as_second q))

@@ -62,10 +62,10 @@ joined_gap sorted old cells k start at rises h added x l is gap = record {
       omega arith;
 }
 
-pub joined_no_gap : (sorted cells : List CellId) (k start at behind : ℕ) → IsJoined sorted cells k start at → start ≤ at → (x : CellId)
-    → k < length sorted → x ≡ get_or sorted k x → first_of x ≤ at → at ≤ behind → end_of x ≤ behind → ((at ≡ behind) ⊎ (end_of x ≡ behind))
-    → IsJoined sorted cells (k + 1) start behind
-joined_no_gap sorted cells k start at behind h rise x l is near longer whole which =
+pub joined_no_gap : (sorted cells : List CellId) (k start at after : ℕ) → IsJoined sorted cells k start at → start ≤ at → (x : CellId)
+    → k < length sorted → x ≡ get_or sorted k x → first_of x ≤ at → at ≤ after → end_of x ≤ after → ((at ≡ after) ⊎ (end_of x ≡ after))
+    → IsJoined sorted cells (k + 1) start after
+joined_no_gap sorted cells k start at after h rise x l is near longer whole which =
     let begins = h.ahead k x (omega arith) l in
     let first = ap (λ (c : CellId). first_of c) is in
     record {

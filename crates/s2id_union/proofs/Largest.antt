@@ -264,7 +264,7 @@ where_normal passes = normal_from_maximal (cells_where passes) leaf_end (where_m
 
 -- ---- its leaves
 
--- a leaf is in the region exactly where both numbers of its span pass
+-- a leaf is in the region exactly if both numbers of its span pass
 pub where_region : (passes : ℕ → Bool) (leaf : Path) → IsLeafPath leaf
     → InRegion (cells_where passes) leaf ↔ ((passes (number_of leaf) ≡ true) × (passes (number_of leaf + 1) ≡ true))
 where_region passes leaf deep =

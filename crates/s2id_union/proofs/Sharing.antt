@@ -42,8 +42,8 @@ covers_head x xs q h = record { cell = x; held = at_head x xs; from = h.from; to
 covers_tail : (x : CellId) (xs : List CellId) (q : ℕ) → Covers xs q → Covers (x ∷ xs) q
 covers_tail x xs q h = record { cell = h.cell; held = in_tail x xs h.cell h.held; from = h.from; to = h.to }
 
-behind : (x : CellId) (xs : List CellId) → FollowOneAnother (x ∷ xs) → (q : ℕ) → Covers xs q → end_of x ≤ q
-behind x xs follow q h =
+after : (x : CellId) (xs : List CellId) → FollowOneAnother (x ∷ xs) → (q : ℕ) → Covers xs q → end_of x ≤ q
+after x xs follow q h =
     let f = head_pairs (λ a b. end_of a ≤ first_of b) x xs follow h.cell h.held in
     let from = h.from in
     omega arith
@@ -52,7 +52,7 @@ behind x xs follow q h =
 in_first : (x : CellId) (xs : List CellId) → FollowOneAnother (x ∷ xs) → (q end : ℕ) → q < end → end ≤ end_of x → Covers (x ∷ xs) q
     → InCell x q
 in_first x xs follow q end lt le h =
-    elim (covers_cases x xs q h) [ inl here ↦ here | inr later ↦ absurd (let b = behind x xs follow q later in omega arith) ]
+    elim (covers_cases x xs q h) [ inl here ↦ here | inr later ↦ absurd (let b = after x xs follow q later in omega arith) ]
 
 -- ---- what is left of a list once its first cell is passed where it ends by a limit
 
@@ -65,7 +65,7 @@ all_passed : (x : CellId) (xs : List CellId) (limit : ℕ) → FollowOneAnother 
 all_passed x xs limit follow le = record {
   within = covers_tail x xs;
   rest = λ q h. elim (covers_cases x xs q h) [ inl here ↦ inr (here, le) | inr later ↦ inl later ];
-  past = λ _. behind x xs follow;
+  past = λ _. after x xs follow;
 }
 
 none_passed : (x : CellId) (xs : List CellId) (limit : ℕ) → limit < end_of x → IsLeft x xs (x ∷ xs) limit
@@ -112,7 +112,7 @@ none_shared xs ys = record {
   covers = λ q. (λ v. elim v [ inl c ↦ absurd (none_in_nil c.cell c.held) | inr both ↦ both ], λ both. inr both);
 }
 
--- the same where what the two first cells share is added, and neither is passed yet
+-- the same if what the two first cells share is added, and neither is passed yet
 record IsJoined (xs ys : List CellId) (x y : CellId) (left_x left_y cells : List CellId) : Type 0 where
   follow : FollowOneAnother cells
   of : (c : CellId) → Contains cells c → Contains xs c ⊎ Contains ys c

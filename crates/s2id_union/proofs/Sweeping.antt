@@ -89,8 +89,8 @@ before_first cells follow k at end h x l is here rises =
               | inl before ↦ absurd (let p = h.passed w.at w.cell before l2 in omega arith)
               | inr ge ↦
                   elim (cases_lt k w.at) [
-                    | inl behind ↦
-                        absurd (let e = ap (λ (c : CellId). end_of c) (is ∙ get_or_default cells k x w.cell l) in let c = follow k w.at w.cell behind l2 in omega arith)
+                    | inl after ↦
+                        absurd (let e = ap (λ (c : CellId). end_of c) (is ∙ get_or_default cells k x w.cell l) in let c = follow k w.at w.cell after l2 in omega arith)
                     | inr le ↦
                         absurd (let m = ap (λ i. first_of (get_or cells i w.cell)) (let n : w.at ≡ k = omega arith in n) in omega arith)
                   ]

@@ -52,7 +52,7 @@ pub record IsShared (one other cell : CellId) : Type 0 where
   pub in_one : IsNested (raw_of cell) (raw_of one)
   pub in_other : IsNested (raw_of cell) (raw_of other)
 
--- what two cells share is added: the one that lies within both, or nothing where they share no leaf
+-- what two cells share is added: the one that lies within both, or nothing if they share no leaf
 abbrev pub AreShared : CellId → CellId → List CellId → List CellId → Type 0
 AreShared one other old cells =
     ((cells ≡ old) × ((q : ℕ) → InSpan (first_of one) (end_of one) q → InSpan (first_of other) (end_of other) q → ⊥))

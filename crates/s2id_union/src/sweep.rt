@@ -36,7 +36,7 @@ struct Stretch {
     end: u64,
 }
 
-// The stretch from a place on, where the first k cells are passed.
+// The stretch from a place on, if the first k cells are passed.
 fn stretch_at(cells: &[CellId], k: usize, at: u64) -> Stretch
     requires follow { FollowOneAnother cells.now }
     requires ahead { IsAhead cells.now k at }

@@ -21,7 +21,7 @@ pub(crate) fn asked(rt: &HostRuntime) -> Result<Command, WordsFault> {
     command_of(rt.alloc(), words.as_slice())
 }
 
-// What is told of the first word that is no UTF-8, the program's own name among them.
+// What is printed of the first word that is no UTF-8, the program's own name among them.
 fn strange_word(rt: &HostRuntime) -> Result<WordsFault, AllocError> {
     let mut room = vec![in rt.alloc(); 0; LONGEST_WORD]?;
     for i in 0..usize::MAX {

@@ -3,10 +3,10 @@
 #![tactic(auto)]
 
 mod asked;
-mod carry;
+mod commands;
 
 use asked::asked;
-use carry::carry_command;
+use commands::run_command;
 use s2ix_cli::{Ending, WordsFault, status};
 use s2ix_text::RunFault;
 use std::process::ExitCode;
@@ -14,7 +14,7 @@ use std::process::ExitCode;
 // Does what the words ask for. Help and the version go to standard output, and usage to standard error.
 fn end(rt: &HostRuntime) -> Ending {
     match asked(rt) {
-        Ok(command) => match carry_command(rt, &command) {
+        Ok(command) => match run_command(rt, &command) {
             Ok(true) => Ending::Accepted,
             Ok(false) => Ending::Refused,
             Err(fault) => Ending::Fault(fault),

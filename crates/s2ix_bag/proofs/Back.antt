@@ -12,7 +12,7 @@ use Rattle.s2ix_bag_pairs.proofs.Inverse.{inverse-inverse, inverse_keeps}
 use Rattle.s2ix_bag_lists.proofs.Refusals.{inverse_taken, made_is_bag, refusal_of_taken, taken_from_none}
 use Rattle.s2ix_bag.specs.declared.replay_error.ReplayError.{ReplayError}
 use Rattle.s2ix_bag.specs.Replay.{IsReplayError, Numbered, after_change, after_changes, back_of, first_refusal, with_numbers, numbered_from, refusal_numbered, replay_refusal, replayed, rewind_refusal, rewound, way_back}
-use Rattle.s2ix_bag.proofs.Forth.{after_changes-append, first_refusal-append, first_taken, refusal_behind, refused_here, rest_taken}
+use Rattle.s2ix_bag.proofs.Forth.{after_changes-append, first_refusal-append, first_taken, refusal_after, refused_here, rest_taken}
 
 -- ---- the way back
 
@@ -99,7 +99,7 @@ pub taken_back : (bag next : LimitedCollection) (changes : List (List Entry)) (p
     → rewind_refusal bag (take place changes) ≡ rewind_refusal next (take (place - 1) changes)
 taken_back bag next changes place back b taken is =
     ap (first_refusal bag) (way_back_here changes place back b)
-    ∙ refusal_behind bag (change_at (place - 1) back) (way_back (with_numbers (take (place - 1) changes))) taken
+    ∙ refusal_after bag (change_at (place - 1) back) (way_back (with_numbers (take (place - 1) changes))) taken
     ∙ ap (λ x. rewind_refusal x (take (place - 1) changes)) (sym is)
 
 -- and so is the bag
@@ -143,17 +143,17 @@ there_and_back bag (c ∷ rest) is_bag cs_are none =
     let next = after_change bag es in
     let end = after_changes next rest in
     let taken = taken_from_none bag es (first_taken bag c rest none) in
-    let behind = there_and_back next rest (made_is_bag bag es is_bag cs_are.0 taken) cs_are.1 (rest_taken bag c rest none) in
+    let after = there_and_back next rest (made_is_bag bag es is_bag cs_are.0 taken) cs_are.1 (rest_taken bag c rest none) in
     let here : apply_refusal next (inverse_of es) ≡ None =
     refusal_of_taken next (inverse_of es) (inverse_taken bag es is_bag cs_are.0 taken) in
     let home : after_change next (inverse_of es) ≡ bag =
     ap (λ (hs : Collection). let b : LimitedCollection = record { limits = bag.limits; held = hs } in b)
     (changed_inverse bag.held es is_bag.rises cs_are.0 taken.before) in
     record {
-      taken = ap (first_refusal end) (way_back-cons c rest) ∙ first_refusal-append end (way_back rest) (back_of c ∷ []) behind.taken
-          ∙ ap (λ b. first_refusal b (back_of c ∷ [])) behind.back ∙ refusal_behind next (back_of c) [] here;
+      taken = ap (first_refusal end) (way_back-cons c rest) ∙ first_refusal-append end (way_back rest) (back_of c ∷ []) after.taken
+          ∙ ap (λ b. first_refusal b (back_of c ∷ [])) after.back ∙ refusal_after next (back_of c) [] here;
       back = ap (after_changes end) (way_back-cons c rest) ∙ after_changes-append end (way_back rest) (back_of c ∷ [])
-          ∙ ap (λ b. after_changes b (back_of c ∷ [])) behind.back ∙ home;
+          ∙ ap (λ b. after_changes b (back_of c ∷ [])) after.back ∙ home;
     }
 
 pub rewind_of_replay : (bag : LimitedCollection) (changes : List (List Entry)) → IsBag bag → All IsChangeList changes

@@ -79,7 +79,7 @@ count_with cmp order hs (c ∷ cs) p hs_is =
     (ap is_eq (order p c.0) ∙ is_apart (rank_of p) (rank_of c.0) (λ e. ne (sym e))))))
     (cases_eq (rank_of c.0) (rank_of p))
 
--- the count that is found, and the bag's where none is
+-- the count that is found, and the bag's if none is
 pub count_found : (cmp : Pair → Pair → Ordering) → ComparesRanks cmp → (hs : Collection) (cs : List (Pair × ℕ)) (p : Pair) (found : Option ℕ)
     → IsCollection hs → found ≡ lookup (is_at (cmp p)) cs → unwrap_or found (count_in hs p) ≡ count_in (with_counts hs cs) p
 count_found cmp order hs cs p found hs_is is =
@@ -169,7 +169,7 @@ counts_of_entries n hs (c ∷ cs) k hs_is cs_rise =
     let rest_is = entries_are_change (rank_of c.0 + 1) hs cs cs_rise.1 in
     let ks = with_counts hs cs in
     let e : Entry = record { pair = c.0; before = before; after = c.1 } in
-    let behind = counts_of_entries (rank_of c.0 + 1) hs cs k hs_is cs_rise.1 in
+    let past = counts_of_entries (rank_of c.0 + 1) hs cs k hs_is cs_rise.1 in
     ⊎_elim
     (λ here.
     let counted : difference_of before c.1 ≡ difference_of (count_at hs k) (count_at (set_count c.0 c.1 ks) k) =
@@ -185,8 +185,8 @@ counts_of_entries n hs (c ∷ cs) k hs_is cs_rise =
     (λ other.
     let counted = ap (λ a. difference_of (count_at hs k) a) (sym (count_set_other c.0 c.1 ks k other)) in
     ⊎_elim
-    (λ same. ap (λ es. counts_at es k) (entry_none c.0 before c.1 rest same) ∙ behind ∙ counted)
-    (λ ne. ap (λ es. counts_at es k) (entry_some c.0 before c.1 rest ne) ∙ counts_tail e rest k other ∙ behind ∙ counted)
+    (λ same. ap (λ es. counts_at es k) (entry_none c.0 before c.1 rest same) ∙ past ∙ counted)
+    (λ ne. ap (λ es. counts_at es k) (entry_some c.0 before c.1 rest ne) ∙ counts_tail e rest k other ∙ past ∙ counted)
     (cases_eq before c.1))
     (cases_eq (rank_of c.0) k)
 

@@ -28,9 +28,9 @@ after_changes-append bag (c ∷ rest) ds = after_changes-append (after_change ba
 -- ---- the first refusal
 
 -- a change that is taken leaves it to those after
-pub refusal_behind : (bag : LimitedCollection) (c : Numbered) (rest : List Numbered) → apply_refusal bag c.change ≡ None
+pub refusal_after : (bag : LimitedCollection) (c : Numbered) (rest : List Numbered) → apply_refusal bag c.change ≡ None
     → first_refusal bag (c ∷ rest) ≡ first_refusal (after_change bag c.change) rest
-refusal_behind bag c rest taken =
+refusal_after bag c rest taken =
     ap (λ (r : Option ApplyError). option_or (option_map (refusal_numbered c.number) r) (first_refusal (after_change bag c.change) rest))
     taken
 
@@ -57,7 +57,7 @@ taken_at bag c rest (Some e) is none =
     cc
 taken_at bag c rest None is none = is
 
--- where none is refused, the first is taken
+-- if none is refused, the first is taken
 pub first_taken : (bag : LimitedCollection) (c : Numbered) (rest : List Numbered) → first_refusal bag (c ∷ rest) ≡ None
     → apply_refusal bag c.change ≡ None
 first_taken bag c rest none = taken_at bag c rest (apply_refusal bag c.change) refl none
@@ -65,14 +65,14 @@ first_taken bag c rest none = taken_at bag c rest (apply_refusal bag c.change) r
 -- and so are those after
 pub rest_taken : (bag : LimitedCollection) (c : Numbered) (rest : List Numbered) → first_refusal bag (c ∷ rest) ≡ None
     → first_refusal (after_change bag c.change) rest ≡ None
-rest_taken bag c rest none = sym (refusal_behind bag c rest (first_taken bag c rest none)) ∙ none
+rest_taken bag c rest none = sym (refusal_after bag c rest (first_taken bag c rest none)) ∙ none
 
 -- changes that are taken leave it to more after them
 pub first_refusal-append : (bag : LimitedCollection) (cs ds : List Numbered) → first_refusal bag cs ≡ None
     → first_refusal bag (cs ++ ds) ≡ first_refusal (after_changes bag cs) ds
 first_refusal-append bag [] ds none = refl
 first_refusal-append bag (c ∷ rest) ds none =
-    refusal_behind bag c (rest ++ ds) (first_taken bag c rest none)
+    refusal_after bag c (rest ++ ds) (first_taken bag c rest none)
     ∙ first_refusal-append (after_change bag c.change) rest ds (rest_taken bag c rest none)
 
 -- ---- no refusal is want of memory
@@ -98,17 +98,17 @@ never_told bag es None is =
 never_here : (bag : LimitedCollection) (c : Numbered) (rest : List Numbered) (refusal : Option ApplyError)
     → apply_refusal bag c.change ≡ refusal → (first_refusal (after_change bag c.change) rest ≡ Some told.OutOfMemory → ⊥)
     → first_refusal bag (c ∷ rest) ≡ Some told.OutOfMemory → ⊥
-never_here bag c rest None is behind so = behind (sym (refusal_behind bag c rest is) ∙ so)
-never_here bag c rest (Some (Mismatch place)) is behind so =
+never_here bag c rest None is past so = past (sym (refusal_after bag c rest is) ∙ so)
+never_here bag c rest (Some (Mismatch place)) is past so =
     let here = refusal_here bag c rest (told.Mismatch c.number (place + 1)) (ap (option_map (refusal_numbered c.number)) is) in
     let clash : Some (told.Mismatch c.number (place + 1)) ≡ Some told.OutOfMemory = sym here ∙ so in cc
-never_here bag c rest (Some TooManyCopies) is behind so =
+never_here bag c rest (Some TooManyCopies) is past so =
     let here = refusal_here bag c rest (told.TooManyCopies c.number) (ap (option_map (refusal_numbered c.number)) is) in
     let clash : Some (told.TooManyCopies c.number) ≡ Some told.OutOfMemory = sym here ∙ so in cc
-never_here bag c rest (Some TooManyPairs) is behind so =
+never_here bag c rest (Some TooManyPairs) is past so =
     let here = refusal_here bag c rest (told.TooManyPairs c.number) (ap (option_map (refusal_numbered c.number)) is) in
     let clash : Some (told.TooManyPairs c.number) ≡ Some told.OutOfMemory = sym here ∙ so in cc
-never_here bag c rest (Some OutOfMemory) is behind so = absurd (never_told bag c.change (first_mismatch bag c.change) is)
+never_here bag c rest (Some OutOfMemory) is past so = absurd (never_told bag c.change (first_mismatch bag c.change) is)
 
 pub never_memory : (bag : LimitedCollection) (cs : List Numbered) → first_refusal bag cs ≡ Some told.OutOfMemory → ⊥
 never_memory bag [] is = cc

@@ -22,10 +22,10 @@ length_push : (rest : List (List Entry)) (es : List Entry) → length (rest ++ e
 length_push rest es = length-append rest (es ∷ [])
 
 -- it is refused
-refused_behind : (bag : LimitedCollection) (rest : List (List Entry)) (es : List Entry) (error : ApplyError)
+refused_after : (bag : LimitedCollection) (rest : List (List Entry)) (es : List Entry) (error : ApplyError)
     → apply_refusal bag (inverse_of es) ≡ Some error
     → first_refusal bag (take 1 (way_back (with_numbers (rest ++ es ∷ [])))) ≡ Some (refusal_numbered (length (rest ++ es ∷ [])) error)
-refused_behind bag rest es error refused =
+refused_after bag rest es error refused =
     ap (first_refusal bag) (last_back rest es)
     ∙ refusal_here bag (change_at (length rest) (inverse_of es)) [] (refusal_numbered (length rest + 1) error)
     (ap (option_map (refusal_numbered (length rest + 1))) refused)
@@ -37,7 +37,7 @@ pub last_refused : (bag : LimitedCollection) (changes rest : List (List Entry)) 
 last_refused bag changes rest es error is refused =
     let Refused : List (List Entry) → Type 0 =
     λ cs. first_refusal bag (take 1 (way_back (with_numbers cs))) ≡ Some (refusal_numbered (length cs) error) in
-    subst Refused (sym is) (refused_behind bag rest es error refused)
+    subst Refused (sym is) (refused_after bag rest es error refused)
 
 -- it is taken
 pub last_taken : (bag : LimitedCollection) (changes rest : List (List Entry)) (es : List Entry) → changes ≡ rest ++ es ∷ []

@@ -1,5 +1,3 @@
-mod Equal
-mod Reverted
 pub mod Back
 pub mod Forth
 pub mod Inverted

@@ -62,7 +62,7 @@ refusal_numbered number apply.TooManyCopies = TooManyCopies number
 refusal_numbered number apply.TooManyPairs = TooManyPairs number
 refusal_numbered number apply.OutOfMemory = OutOfMemory
 
--- the refusal of the first change that the bag before it refuses; `None` where each is taken
+-- the refusal of the first change that the bag before it refuses; `None` if each is taken
 abbrev pub first_refusal : LimitedCollection → List Numbered → Option ReplayError
 first_refusal bag [] = None
 first_refusal bag (c ∷ rest) =

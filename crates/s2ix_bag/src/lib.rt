@@ -11,21 +11,14 @@
 //! [`ReplayError`] has the number of the one that doesn't fit. A bag has no history: `s2ix_edit` keeps one.
 #![tactic(auto)]
 
-mod bag;
-mod change;
-mod label_iter;
 pub mod laws;
 mod reached;
 mod replay_error;
 mod replay_refusal;
 mod replaying;
-mod revert;
-mod same;
 
-pub use bag::Bag;
-pub use change::Change;
-pub use label_iter::LabelIter;
 pub use replay_error::ReplayError;
 pub use replaying::{replay, rewind};
+pub use s2ix_bag_changes::{Bag, Change, LabelIter};
 pub use s2ix_bag_lists::{ApplyError, ChangeError, FlatHeld, HeldIter, HeldList, RevertError};
 pub use s2ix_bag_pairs::{Entry, Held, Label, Limits, Pair};

@@ -6,9 +6,8 @@ ghost use Rattle.s2ix_bag_pairs.specs.Collection.{Collection, IsCollection, coun
 ghost use Rattle.s2ix_bag.specs.Reached.{with_counts};
 ghost use Rattle.s2ix_bag.specs.Replay.{after_change};
 
-use crate::bag::Bag;
-use crate::change::Change;
 use s2id_core::OutOfMemory;
+use s2ix_bag_changes::{Bag, Change};
 use s2ix_bag_lists::{ApplyError, gains, has_count_above, losses};
 use s2ix_bag_pairs::{Entry, Pair};
 use std::alloc::Global;
@@ -85,7 +84,7 @@ impl Reached {
         }
     }
 
-    // The bag itself. O(n + k log n) for k counts that were set. `OutOfMemory` where a growth is refused.
+    // The bag itself. O(n + k log n) for k counts that were set. `OutOfMemory` if a growth is refused.
     pub(crate) fn bag(&self, alloc: Global) -> Result<Bag, OutOfMemory>
         ensures { IfOk result (λ bag. bag ≡ self.now) }
     {
@@ -96,7 +95,7 @@ impl Reached {
         }
     }
 
-    // The count of a pair: 0 where it is not held. O(log n).
+    // The count of a pair: 0 if it is not held. O(log n).
     fn count_so_far(&self, pair: Pair) -> u32
         ensures { result ≡ count_in self.now.held pair }
     {
@@ -142,7 +141,7 @@ impl Reached {
         None
     }
 
-    // The bag after a change that isn't refused. O(m log n). `OutOfMemory` where a growth is refused.
+    // The bag after a change that isn't refused. O(m log n). `OutOfMemory` if a growth is refused.
     pub(crate) fn led_on(self, change: &Change) -> Result<Reached, OutOfMemory>
         requires { apply_refusal self change.now ≡ None }
         ensures { IfOk result (λ next. next ≡ after_change self change.now) }

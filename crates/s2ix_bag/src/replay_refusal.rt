@@ -5,8 +5,7 @@ ghost use Rattle.s2ix_bag_lists.specs.Apply.{AreBefore, apply_refusal};
 ghost use Rattle.s2ix_bag_pairs.specs.Change.{IsChangeList, changed, inverse_of};
 ghost use Rattle.s2ix_bag_pairs.specs.Collection.{count_in};
 
-use crate::bag::Bag;
-use crate::change::Change;
+use s2ix_bag_changes::{Bag, Change};
 use s2ix_bag_lists::{ApplyError, gains, losses};
 use s2ix_bag_pairs::Entry;
 

@@ -4,11 +4,10 @@ ghost use Rattle.s2ix_bag_lists.specs.Apply.{apply_refusal};
 ghost use Rattle.s2ix_bag.specs.declared.replay_error.ReplayError.TheVariants.{OutOfMemory};
 ghost use Rattle.s2ix_bag.specs.Replay.{IsReplayError, after_change, first_refusal, with_numbers, refusal_numbered, replay_refusal, replayed, rewind_refusal, rewound, way_back};
 
-use crate::bag::Bag;
-use crate::change::Change;
 use crate::reached::Reached;
 use crate::replay_error::ReplayError;
 use crate::replay_refusal::refusal_back;
+use s2ix_bag_changes::{Bag, Change};
 use s2ix_bag_lists::ApplyError;
 use std::alloc::Global;
 

@@ -12,7 +12,7 @@ use Rattle.s2ix_bag_pairs.proofs.Changes.{counts_head, counts_tail, counts_diffe
 use Rattle.s2ix_bag_pairs.proofs.Differences.{no_difference, some_difference, only_change}
 use Rattle.s2ix_bag_pairs.proofs.Inverse.{changed_inverse_between}
 
--- counts before stay right where no count of their pairs differs
+-- counts before stay right if no count of their pairs differs
 pub before_moves : (n : ℕ) (hs ks : Collection) (es : List Entry) → IsChangeListFrom n es
     → ((k : ℕ) → n ≤ k → count_at hs k ≡ count_at ks k) → AreBefore hs es → AreBefore ks es
 before_moves n hs ks [] es_is same before = tt

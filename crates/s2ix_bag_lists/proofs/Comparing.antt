@@ -13,7 +13,7 @@ use Rattle.s2ix_bag_pairs.proofs.Changes.{counts_head, counts_tail, counts_below
 use Rattle.s2ix_bag_pairs.proofs.Differences.{no_difference, some_difference, between_is_change_from, counts_between_at, only_change}
 use Rattle.s2ix_bag_pairs.proofs.CutAtRank.{past_rises, count_past, collection_drop}
 
--- the pair of an entry may be left out where its counts are the same
+-- the pair of an entry may be left out if its counts are the same
 pub entry_none : (p : Pair) (before after : ℕ) (es : List Entry) → before ≡ after → entry_with p before after es ≡ es
 entry_none p before after es same = cond-true _ _ _ (eq-eqb _ _ same)
 

@@ -7,7 +7,7 @@ use Rattle.s2ix_bag_pairs.specs.Pair.{rank_of}
 use Rattle.s2ix_bag_pairs.specs.declared.pair.Entry.{Entry}
 use Rattle.s2ix_bag_lists.specs.Faces.{AreEntriesBelow, face_start}
 
--- a number is of a face or of one before it exactly where its rank, with any label, is below the next face
+-- a number is of a face or of one before it exactly if its rank, with any label, is below the next face
 pub rank_by_face : (raw label face q : ℕ) → label < 2147483648 → q ≡ raw / face_numbers
     → (q ≤ face) ↔ (raw * 2147483648 + label < face_start (face + 1))
 rank_by_face raw label face q small is =

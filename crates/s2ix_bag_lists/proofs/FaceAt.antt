@@ -30,7 +30,7 @@ face_found ls place i before own within is apart was lt =
     let front = all_of (take i ls) in
     let back = all_of (drop (suc i) ls) in
     let all : all_of ls ≡ front ++ (own ++ back) = all_is ls i within ∙ ap (λ (x : Collection). front ++ (x ++ back)) (sym is) in
-    let behind : drop before (all_of ls) ≡ own ++ back =
+    let after : drop before (all_of ls) ≡ own ++ back =
     ap (λ (n : ℕ). drop n (all_of ls)) was.counted
     ∙ ap (λ (x : Collection). drop (length front) x) all
     ∙ drop_front front (own ++ back) in
@@ -46,7 +46,7 @@ face_found ls place i before own within is apart was lt =
       on_face = subst (λ (x : Collection). IsOnFace i x) (sym is) (own_is 0 i i ls (omega arith) within apart);
       begins = was.begins;
       ends = omega (arith, was.begins, lt);
-      part = ap (λ (x : Collection). take (length own) x) behind ∙ take_front own back;
+      part = ap (λ (x : Collection). take (length own) x) after ∙ take_front own back;
       below = subst (λ (x : Collection). AreBelow (face_start i) x) (sym ahead) (front_below 0 i i ls (omega arith) apart);
       rest = subst (λ (x : Collection). IsCollectionFrom (face_start (i + 1)) x) (sym rest)
           (back_from 0 (suc i) (i + 1) ls (omega arith) apart);

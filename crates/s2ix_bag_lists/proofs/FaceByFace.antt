@@ -18,16 +18,16 @@ use Rattle.s2ix_bag_lists.proofs.Joined.{below_more, before_in_front, before_lat
 -- ---- the last face
 
 -- no pair is after the last face
-pub no_entry_behind : (es : List Entry) → IsChangeListFrom (face_start 6) es → es ≡ []
-no_entry_behind [] es_is = refl
-no_entry_behind (e ∷ es) es_is =
+pub no_entry_after : (es : List Entry) → IsChangeListFrom (face_start 6) es → es ≡ []
+no_entry_after [] es_is = refl
+no_entry_after (e ∷ es) es_is =
     let number = e.pair.cell.valid.0 in
     let small = e.pair.label.in_range in
     absurd (omega (arith, es_is.0, number, small))
 
-pub no_pair_behind : (hs : Collection) → IsCollectionFrom (face_start 6) hs → hs ≡ []
-no_pair_behind [] hs_is = refl
-no_pair_behind (h ∷ hs) hs_is =
+pub no_pair_after : (hs : Collection) → IsCollectionFrom (face_start 6) hs → hs ≡ []
+no_pair_after [] hs_is = refl
+no_pair_after (h ∷ hs) hs_is =
     let number = h.pair.cell.valid.0 in
     let small = h.pair.label.in_range in
     absurd (omega (arith, hs_is.0, number, small))
@@ -55,16 +55,16 @@ same_mismatch ls i n (e ∷ es) within apart le es_is below =
 
 -- ---- the first mismatch, face by face
 
-position_behind : (hs : Collection) (es fs : List Entry) → length es ≤ position_or_len (is_mismatch hs) es
+position_after : (hs : Collection) (es fs : List Entry) → length es ≤ position_or_len (is_mismatch hs) es
     → position_or_len (is_mismatch hs) (es ++ fs) ≡ length es + position_or_len (is_mismatch hs) fs
-position_behind hs [] fs le = omega arith
-position_behind hs (e ∷ es) fs le =
+position_after hs [] fs le = omega arith
+position_after hs (e ∷ es) fs le =
     ⊎_elim
     (λ same.
     let fits = cond-true (not (is_mismatch hs e)) (1 + position_or_len (is_mismatch hs) es) 0 (ap (λ t. not (not t)) (eq-eqb _ _ same)) in
     let fits_both =
     cond-true (not (is_mismatch hs e)) (1 + position_or_len (is_mismatch hs) (es ++ fs)) 0 (ap (λ t. not (not t)) (eq-eqb _ _ same)) in
-    omega (arith, fits_both, position_behind hs es fs (omega (arith, le, fits))))
+    omega (arith, fits_both, position_after hs es fs (omega (arith, le, fits))))
     (λ ne.
     let differs = cond-false (not (is_mismatch hs e)) (1 + position_or_len (is_mismatch hs) es) 0 (ap (λ t. not (not t)) (ne_eqb _ _ ne)) in
     absurd (omega (arith, le, differs)))
@@ -139,20 +139,20 @@ compared_step ls es face rest passed k within apart was below later none =
     let own = take k rest in
     let same = same_mismatch ls face (face_start face) own within apart (omega arith) (own_of_face face k rest was.rises) below in
     let absent = position_absent (get_or ls face []) own none in
-    let behind = position_behind (all_of ls) own (drop k rest) (omega (arith, same, absent)) in
+    let after = position_after (all_of ls) own (drop k rest) (omega (arith, same, absent)) in
     let split = ap (λ xs. position_or_len (is_mismatch (all_of ls)) xs) (take-append-drop k rest) in
     let lengths : length own + length (drop k rest) ≡ length rest =
     sym (length-append own (drop k rest)) ∙ ap (λ (xs : List Entry). length xs) (take-append-drop k rest) in
     record {
       rises = later;
-      none = omega (arith, was.none, split, behind);
+      none = omega (arith, was.none, split, after);
       long = omega (arith, was.long, lengths);
     }
 
 pub compared_end : (ls : List Collection) (es : List Entry) (face : ℕ) (rest : List Entry) (passed : ℕ) → face ≡ 6
     → Compared ls es face rest passed → position (is_mismatch (all_of ls)) es ≡ None
 compared_end ls es face rest passed last was =
-    let none = no_entry_behind rest (subst (λ (f : ℕ). IsChangeListFrom (face_start f) rest) last was.rises) in
+    let none = no_entry_after rest (subst (λ (f : ℕ). IsChangeListFrom (face_start f) rest) last was.rises) in
     let nothing = ap (λ xs. position_or_len (is_mismatch (all_of ls)) xs) none in
     let empty = ap (λ (xs : List Entry). length xs) none in
     position_none (all_of ls) es (omega (arith, was.none, was.long, nothing, empty))
@@ -221,7 +221,7 @@ changing_step first es face ls rest k within was below later =
 pub changing_end : (first : Collection) (es : List Entry) (face : ℕ) (ls : List Collection) (rest : List Entry) → face ≡ 6
     → Changing first es face ls rest → all_of ls ≡ changed first es
 changing_end first es face ls rest last was =
-    let none = no_entry_behind rest (subst (λ (f : ℕ). IsChangeListFrom (face_start f) rest) last was.rises) in
+    let none = no_entry_after rest (subst (λ (f : ℕ). IsChangeListFrom (face_start f) rest) last was.rises) in
     ap (λ xs. changed (all_of ls) xs) (sym none) ∙ was.made
 
 -- ---- held pairs, face by face
@@ -247,27 +247,27 @@ pub putting_start : (hs : Collection) (ls : List Collection) → ls ≡ [] ∷ [
     → Putting hs 0 ls hs
 putting_start hs ls is hs_is = subst (λ (xs : List Collection). Putting hs 0 xs hs) (sym is) (putting_into hs hs_is)
 
-behind_is : (ls : List Collection) (i : ℕ) → i < length ls → all_of (drop i ls) ≡ get_or ls i [] ++ all_of (drop (suc i) ls)
-behind_is [] i within = absurd (omega arith)
-behind_is (l ∷ ls) zero within = refl
-behind_is (l ∷ ls) (suc i) within = behind_is ls i (omega arith)
+after_is : (ls : List Collection) (i : ℕ) → i < length ls → all_of (drop i ls) ≡ get_or ls i [] ++ all_of (drop (suc i) ls)
+after_is [] i within = absurd (omega arith)
+after_is (l ∷ ls) zero within = refl
+after_is (l ∷ ls) (suc i) within = after_is ls i (omega arith)
 
-below_behind : (n : ℕ) (fs hs : Collection) → AreBelow n (fs ++ hs) → AreBelow n hs
-below_behind n [] hs below = below
-below_behind n (f ∷ fs) hs below = below_behind n fs hs below.1
+below_after : (n : ℕ) (fs hs : Collection) → AreBelow n (fs ++ hs) → AreBelow n hs
+below_after n [] hs below = below
+below_after n (f ∷ fs) hs below = below_after n fs hs below.1
 
--- where all that is held is below a face, it is all before that face's list
+-- if all that is held is below a face, it is all before that face's list
 all_in_front : (ls : List Collection) (face : ℕ) → face < length ls → AreFacesFrom 0 ls → AreBelow (face_start face) (all_of ls)
     → all_of ls ≡ all_of (take face ls)
 all_in_front ls face within apart below =
     let front = all_of (take face ls) in
-    let behind = get_or ls face [] ++ all_of (drop (suc face) ls) in
+    let after = get_or ls face [] ++ all_of (drop (suc face) ls) in
     let is = all_is ls face within in
-    let later = below_behind (face_start face) front behind (subst (λ (xs : Collection). AreBelow (face_start face) xs) is below) in
+    let later = below_after (face_start face) front after (subst (λ (xs : Collection). AreBelow (face_start face) xs) is below) in
     let rises =
-    subst (λ (xs : Collection). IsCollectionFrom (face_start face) xs) (behind_is ls face within)
+    subst (λ (xs : Collection). IsCollectionFrom (face_start face) xs) (after_is ls face within)
     (back_from 0 face face ls (omega arith) apart) in
-    is ∙ ap (λ xs. front ++ xs) (none_between (face_start face) behind rises later) ∙ append-nil front
+    is ∙ ap (λ xs. front ++ xs) (none_between (face_start face) after rises later) ∙ append-nil front
 
 rises_in_front : (n : ℕ) (hs ks : Collection) → IsCollectionFrom n (hs ++ ks) → IsCollectionFrom n hs
 rises_in_front n [] ks all_is = tt
@@ -287,10 +287,10 @@ putting_step hs face ls rest k within was below later =
     let front = all_in_front ls face short was.apart was.below in
     let ends : all_of (drop (suc face) ls) ≡ [] =
     none_between (face_start (face + 1)) (all_of (drop (suc face) ls)) (back_from 0 (suc face) (face + 1) ls (omega arith) was.apart)
-    (below_behind (face_start (face + 1)) (get_or ls face []) (all_of (drop (suc face) ls))
+    (below_after (face_start (face + 1)) (get_or ls face []) (all_of (drop (suc face) ls))
     (below_more (face_start face) (face_start (face + 1)) (get_or ls face [] ++ all_of (drop (suc face) ls))
     (start_more face (face + 1) (omega arith))
-    (below_behind (face_start face) (all_of (take face ls)) (get_or ls face [] ++ all_of (drop (suc face) ls))
+    (below_after (face_start face) (all_of (take face ls)) (get_or ls face [] ++ all_of (drop (suc face) ls))
     (subst (λ (xs : Collection). AreBelow (face_start face) xs) (all_is ls face short) was.below)))) in
     let all : all_of (set ls face own) ≡ all_of ls ++ own =
     all_put ls face own short
@@ -310,5 +310,5 @@ putting_step hs face ls rest k within was below later =
 pub putting_end : (hs : Collection) (face : ℕ) (ls : List Collection) (rest : Collection) → face ≡ 6 → Putting hs face ls rest
     → all_of ls ≡ hs
 putting_end hs face ls rest last was =
-    let none = no_pair_behind rest (subst (λ (f : ℕ). IsCollectionFrom (face_start f) rest) last was.rises) in
+    let none = no_pair_after rest (subst (λ (f : ℕ). IsCollectionFrom (face_start f) rest) last was.rises) in
     sym (append-nil (all_of ls)) ∙ ap (λ xs. all_of ls ++ xs) (sym none) ∙ was.made

@@ -14,7 +14,7 @@ use Rattle.s2ix_bag_pairs.proofs.Counts.{count_head, count_tail, count_below, se
 use Rattle.s2ix_bag_pairs.proofs.Collections.{set_keeps}
 use Rattle.s2ix_bag_lists.proofs.Applied.{before_rest}
 
--- 1 where a count is above 0, so that its pair is held
+-- 1 if a count is above 0, so that its pair is held
 abbrev pub one_if_held : ℕ → ℕ
 one_if_held zero = 0
 one_if_held (suc n) = 1

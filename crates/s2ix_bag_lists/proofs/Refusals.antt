@@ -60,7 +60,7 @@ pub position_none : (hs : Collection) (es : List Entry) → length es ≤ positi
     → position (is_mismatch hs) es ≡ None
 position_none hs es le = cond-false _ _ _ (le-ltb _ _ le)
 
--- no entry mismatches exactly where each count before is right
+-- no entry mismatches exactly if each count before is right
 pub before_from_no_mismatch : (hs : Collection) (es : List Entry) → position (is_mismatch hs) es ≡ None → AreBefore hs es
 before_from_no_mismatch hs es none =
     ⊎_elim
@@ -86,7 +86,7 @@ none_from_within c (e ∷ es) within =
 
 -- ---- a change that is taken
 
--- where neither limit refuses, no count is above the one, and no more pairs are held than the other
+-- if neither limit refuses, no count is above the one, and no more pairs are held than the other
 pub within_both : {E : Type 0} (is_above : Bool) (limit pairs : ℕ) (copies_error pairs_error : E)
     → cond is_above (Some copies_error) (cond (nat_lt limit pairs) (Some pairs_error) None) ≡ None → (is_above ≡ false) × (pairs ≤ limit)
 within_both true limit pairs copies_error pairs_error none = cc

@@ -11,7 +11,7 @@ use Rattle.s2ix_bag_pairs.specs.declared.pair.Pair.{Pair}
 use Rattle.s2ix_bag_pairs.specs.declared.pair.Entry.{Entry}
 use Rattle.s2ix_bag_lists.specs.declared.errors.ChangeError.TheVariants.{Unsorted, NoDifference}
 
--- the first rank after a pair, where there is one
+-- the first rank after a pair, if there is one
 abbrev pub rank_past : Option Pair → ℕ
 rank_past None = 0
 rank_past (Some p) = rank_of p + 1

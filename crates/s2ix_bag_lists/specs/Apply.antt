@@ -1,4 +1,4 @@
--- Where a change is refused by a bag.
+-- When a change is refused by a bag.
 use Rattle.std.specs.Prelude.{◌≡◌, ℕ, ◌==◌, nat_lt, not, if◌then◌else◌, Option, Some, None, List, [], ◌∷◌, length, position}
 use Rattle.std.specs.List.{list_any}
 use Rattle.s2ix_bag_pairs.specs.declared.pair.Entry.{Entry}
@@ -18,7 +18,7 @@ AreBefore hs [] = Unit {0}
 AreBefore hs (e ∷ es) = (e.before ≡ count_in hs e.pair) × AreBefore hs es
 
 -- why a bag refuses a change, memory aside: a count before that is not the bag's, else a count after above the
--- limit, else more distinct pairs than the limit; `None` where it takes it
+-- limit, else more distinct pairs than the limit; `None` if it takes it
 abbrev pub apply_refusal : LimitedCollection → List Entry → Option ApplyError
 apply_refusal bag es =
     elim (first_mismatch bag es) [

@@ -1,4 +1,4 @@
--- Where a list of entries is no change.
+-- When a list of entries is no change.
 use Rattle.std.specs.Prelude.{◌≡◌, ℕ, ◌+◌, ◌==◌, nat_lt, if◌then◌else◌, Option, Some, None, List, [], ◌∷◌, position}
 use Rattle.std.specs.Option.{option_map, option_or}
 use Rattle.s2ix_bag_pairs.specs.declared.pair.Entry.{Entry}
@@ -19,12 +19,12 @@ first_unsorted es = first_unsorted_from 0 0 es
 abbrev pub first_without_difference : List Entry → Option ℕ
 first_without_difference es = position (λ e. e.before == e.after) es
 
--- why a list of entries is no change: an entry that is not above the one before it, else one whose counts are equal; `None` where it is
+-- why a list of entries is no change: an entry that is not above the one before it, else one whose counts are equal; `None` if it is
 -- one
 abbrev pub change_fault : List Entry → Option ChangeError
 change_fault es = option_or (option_map Unsorted (first_unsorted es)) (option_map NoDifference (first_without_difference es))
 
--- the error is the fault that is due, or memory was wanted where none is due
+-- the error is the fault that is due, or memory was wanted if none is due
 abbrev pub IsChangeError : ChangeError → Option ChangeError → Type 0
 IsChangeError (Unsorted place) fault = fault ≡ Some (Unsorted place)
 IsChangeError (NoDifference place) fault = fault ≡ Some (NoDifference place)

@@ -1,4 +1,4 @@
--- Where a bag refuses to take a change back.
+-- When a bag refuses to take a change back.
 use Rattle.std.specs.Prelude.{◌≡◌, nat_lt, if◌then◌else◌, Option, Some, None, List, length}
 use Rattle.std.specs.List.{list_any}
 use Rattle.s2ix_bag_pairs.specs.declared.pair.Entry.{Entry}
@@ -9,7 +9,7 @@ use Rattle.s2ix_bag_pairs.specs.Collection.{LimitedCollection}
 use Rattle.s2ix_bag_pairs.specs.TakenBack.{count_back, first_below_zero, taken_back}
 
 -- why a bag refuses to take a change back, memory aside: a count that would be below 0, else one above the limit, else more distinct
--- pairs than the limit; `None` where it takes it back
+-- pairs than the limit; `None` if it takes it back
 abbrev pub revert_refusal : LimitedCollection → List Entry → Option RevertError
 revert_refusal bag es =
     elim (first_below_zero bag.held es) [

@@ -58,7 +58,7 @@ pub fn has_count_above(entries: &[Entry], limit: u32) -> bool
     entries.iter().any(|e| limit < e.after)
 }
 
-// Appends a pair that is held where its count is above 0.
+// Appends a pair that is held if its count is above 0.
 fn push_held(out: &mut Vec<FlatHeld>, pair: Pair, count: u32) -> Result<(), OutOfMemory>
     ensures { OnOk result (out.new.items ≡ out.old.items ++ held_with pair count []) }
 {

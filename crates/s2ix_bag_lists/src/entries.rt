@@ -1,4 +1,4 @@
-//! Where a list of entries is no change.
+//! When a list of entries is no change.
 ghost use Rattle.std.specs.Prelude.{◌≡◌};
 ghost use Rattle.s2ix_bag_lists.specs.Entries.{change_fault, first_unsorted, first_without_difference};
 

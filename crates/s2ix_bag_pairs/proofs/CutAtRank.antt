@@ -66,7 +66,7 @@ count_past_below rank (suc n) k [] below le = refl
 count_past_below rank (suc n) k (h ∷ hs) below le =
     count_tail h hs k (λ e. omega (arith, e, below.0, le)) ∙ count_past_below rank n k hs below.1 le
 
--- the pair of an entry is not held where the first pair is past it
+-- the pair of an entry is not held if the first pair is past it
 pub count_first_none : (k : ℕ) (hs : Collection) → IsCollectionFrom k hs → ((h : Held) → slice_get hs 0 ≡ Some h → rank_of h.pair ≡ k → ⊥)
     → count_at hs k ≡ 0
 count_first_none k [] hs_is other = refl

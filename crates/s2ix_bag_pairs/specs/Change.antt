@@ -35,7 +35,7 @@ abbrev pub counts_at : List Entry → ℕ → Option (ℕ × ℕ)
 counts_at [] rank = None
 counts_at (e ∷ es) rank = if rank_of e.pair == rank then Some (e.before, e.after) else counts_at es rank
 
--- the counts of one pair in two collections where they differ, or `None`
+-- the counts of one pair in two collections if they differ, or `None`
 abbrev pub difference_of : ℕ → ℕ → Option (ℕ × ℕ)
 difference_of before after = if before == after then None else Some (before, after)
 

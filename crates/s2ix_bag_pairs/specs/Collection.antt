@@ -22,12 +22,12 @@ abbrev pub AreBelow : ℕ → Collection → Type 0
 AreBelow n [] = Unit {0}
 AreBelow n (h ∷ hs) = (rank_of h.pair < n) × AreBelow n hs
 
--- the count of the pair with this rank: 0 where it is not held
+-- the count of the pair with this rank: 0 if it is not held
 abbrev pub count_at : Collection → ℕ → ℕ
 count_at [] rank = 0
 count_at (h ∷ hs) rank = if rank_of h.pair == rank then h.count else count_at hs rank
 
--- the count of a pair: 0 where it is not held
+-- the count of a pair: 0 if it is not held
 abbrev pub count_in : Collection → Pair → ℕ
 count_in hs pair = count_at hs (rank_of pair)
 
@@ -40,7 +40,7 @@ past (h ∷ hs) rank = if rank_of h.pair == rank then hs else h ∷ hs
 abbrev pub copies_in : Collection → ℕ
 copies_in hs = sum_by (λ h. h.count) hs
 
--- a pair that is held where its count is above 0, before what is held already
+-- a pair that is held if its count is above 0, before what is held already
 abbrev pub held_with : Pair → ℕ → Collection → Collection
 held_with pair zero hs = hs
 held_with pair (suc n) hs = record { pair = pair; count = suc n } ∷ hs

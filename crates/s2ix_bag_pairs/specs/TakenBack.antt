@@ -24,7 +24,7 @@ entry_back hs e = record { pair = e.pair; before = count_in hs e.pair; after = c
 abbrev pub change_back : Collection → List Entry → List Entry
 change_back hs es = map (entry_back hs) es
 
--- the collection with a change taken back; it has a meaning where no entry is below 0
+-- the collection with a change taken back; it has a meaning if no entry is below 0
 abbrev pub taken_back : Collection → List Entry → Collection
 taken_back hs es = changed hs (change_back hs es)
 

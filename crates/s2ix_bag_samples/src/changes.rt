@@ -7,8 +7,8 @@ pub(crate) fn change_by(alloc: Global, entry: Entry) -> Option<Change> {
     Change::from_entries(alloc, &[entry]).ok()
 }
 
-/// The entries that a text lists, in the order given.
-pub fn entries_of(alloc: Global, entries: &str) -> Option<Vec<Entry>> {
+// The entries that a text lists, in the order given.
+fn entries_of(alloc: Global, entries: &str) -> Option<Vec<Entry>> {
     let mut all = Vec::new(alloc);
     for text in entries.split_ascii_whitespace() {
         all.push(entry_of(text)?).ok()?;
@@ -20,15 +20,6 @@ pub fn entries_of(alloc: Global, entries: &str) -> Option<Vec<Entry>> {
 pub fn change_of(alloc: Global, entries: &str) -> Option<Change> {
     let all = entries_of(alloc, entries)?;
     Change::from_entries(alloc, &all).ok()
-}
-
-/// The changes of a text, each with its entries on a line of its own.
-pub fn changes_of(alloc: Global, lines: &str) -> Option<Vec<Change>> {
-    let mut all = Vec::new(alloc);
-    for line in lines.lines() {
-        all.push(change_of(alloc, line)?).ok()?;
-    }
-    Some(all)
 }
 
 /// Whether a change has these entries and no others.

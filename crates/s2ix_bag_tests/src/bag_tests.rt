@@ -1,99 +1,27 @@
-//! Bags, and the pairs of a label.
-use s2ix_bag::{ApplyError, Bag};
+//! What a bag is asked.
+use s2ix_bag::Bag;
 use s2ix_bag_samples::{
-    WIDEST, bag_of, change_of, held_of, holds_pairs, label_of, limits_of, pair_of,
+    LimitRow, are_flat_pairs, bag_of, held_of, holds_pairs, label_of, limits_of, pair_of,
 };
-use std::alloc::Global;
-use std::process::Abort;
 
-// A cell in a face, each with copies.
-const NESTED: &str = "04:9:2 1:7:3";
+const LIMITS: LimitRow = (3, u32::MAX, 1);
 
-#[test]
-fn a_bag_counts_its_pairs(rt: HostRuntime) {
-    let bag = bag_of(rt.alloc(), (2, 3, 1), NESTED).expect(&rt, NESTED);
-    let other = pair_of("04:7").expect(&rt, "a pair");
-    assert!(rt; !bag.is_empty());
-    assert_eq!(rt; Some(bag.limits()), limits_of((2, 3, 1)));
-    assert_eq!(rt; bag.copies(), 5);
-    assert_eq!(rt; bag.count(other), 0);
-    assert!(rt; holds_pairs(&bag, NESTED));
-}
+// Two pairs on one face, and one on another; the sum of their counts has 33 bits.
+const PAIRS: &str = "04:9:2 1:7:3 b:7:4294967295";
 
-// The greatest counts, whose sum has 33 bits.
-const GREATEST: &str = "04:9:4294967295 1:7:4294967295";
-
-#[test]
-fn the_greatest_counts_are_summed(rt: HostRuntime) {
-    let bag = bag_of(rt.alloc(), (2, u32::MAX, 1), GREATEST).expect(&rt, GREATEST);
-    assert!(rt; holds_pairs(&bag, GREATEST));
-    assert_eq!(rt; bag.copies(), 8_589_934_590);
-}
-
-#[test]
-fn an_empty_bag_holds_nothing(rt: HostRuntime) {
-    let bag = Bag::empty(rt.alloc(), limits_of(WIDEST).expect(&rt, "limits"));
-    let other = pair_of("04:9").expect(&rt, "a pair");
-    assert!(rt; bag.is_empty());
-    assert_eq!(rt; bag.copies(), 0);
-    assert_eq!(rt; bag.count(other), 0);
-    assert!(rt; holds_pairs(&bag, ""));
-}
-
-#[test]
-fn a_bag_is_copied_whole(rt: HostRuntime) {
-    let bag = bag_of(rt.alloc(), (2, 3, 1), "1:7:3 04:9:2").expect(&rt, "a bag");
-    let copy = bag.copied(rt.alloc()).expect(&rt, "memory");
-    assert!(rt; holds_pairs(&copy, NESTED));
-}
-
-// Whether a pair comes before another.
-fn comes_before(one: &str, other: &str) -> Option<bool> {
-    Some(pair_of(one)?.is_before(pair_of(other)?))
-}
-
-// Two pairs, and whether the first comes before the second.
-const ORDER: [(&str, &str, bool); 4] = [
-    ("04:9", "1:7", true),
-    ("04:7", "04:9", true),
-    ("04:9", "04:9", false),
-    ("1:7", "04:9", false),
-];
-
-#[test]
-fn pairs_come_by_cell_and_then_by_label(rt: HostRuntime) {
-    for &(one, other, before) in &ORDER {
-        assert_eq!(rt; comes_before(one, other), Some(before), "wrong at {one}");
+// Whether the pairs of a bag come one by one as these.
+fn gives_pairs(bag: &Bag, pairs: &str) -> bool {
+    let mut left = bag.iter();
+    for text in pairs.split_ascii_whitespace() {
+        if left.next() != held_of(text) {
+            return false;
+        }
     }
-}
-
-// The answer of a bag of two copies, within limits of one pair and of copies, that refuses a change.
-fn refusal(alloc: Global, copies: u32, entry: &str) -> Option<ApplyError> {
-    let bag = bag_of(alloc, (1, copies, 1), "04:9:2")?;
-    let change = change_of(alloc, entry)?;
-    bag.applied(alloc, &change).err()
-}
-
-// Limits of copies and entries, each with its reason.
-const REFUSED: [(u32, &str, ApplyError); 6] = [
-    (3, "04:9:1:4", ApplyError::Mismatch(0)),
-    (3, "1:7:0:4", ApplyError::TooManyCopies),
-    (3, "1:7:0:3", ApplyError::TooManyPairs),
-    (65_535, "04:9:2:65536", ApplyError::TooManyCopies),
-    (65_535, "1:7:0:65535", ApplyError::TooManyPairs),
-    (u32::MAX - 1, "04:9:2:4294967295", ApplyError::TooManyCopies),
-];
-
-#[test]
-fn a_change_is_refused_with_its_reason(rt: HostRuntime) {
-    for &(copies, entry, reason) in &REFUSED {
-        let told = refusal(rt.alloc(), copies, entry);
-        assert_eq!(rt; told, Some(reason), "wrong at {entry}");
-    }
+    left.next().is_none()
 }
 
 // Whether a label has these pairs.
-fn has_pairs(bag: &Bag, label: &str, pairs: &str) -> bool {
+fn has_label(bag: &Bag, label: &str, pairs: &str) -> bool {
     let Some(label) = label_of(label) else {
         return false;
     };
@@ -103,12 +31,30 @@ fn has_pairs(bag: &Bag, label: &str, pairs: &str) -> bool {
             return false;
         }
     }
-    left.next().is_none() && left.next().is_none()
+    left.next().is_none()
+}
+
+// Whether these pairs are those of the face at a place, and so many stand before them.
+fn stand_on_face(bag: &Bag, place: usize, before: usize, pairs: &str) -> bool {
+    if bag.len() <= place {
+        return false;
+    }
+    let (first, own) = bag.face_at(place);
+    let (same, list) = bag.list_at(place);
+    let is_before = first == before && same == before;
+    is_before && are_flat_pairs(own, pairs) && are_flat_pairs(list.as_slice(), pairs)
 }
 
 #[test]
-fn a_label_lists_its_own_pairs(rt: HostRuntime) {
-    let bag = bag_of(rt.alloc(), (3, 3, 1), "1:9:3 04:7:2 04:9:1").expect(&rt, "a bag");
-    assert!(rt; has_pairs(&bag, "9", "04:9:1 1:9:3"));
-    assert!(rt; has_pairs(&bag, "8", ""));
+fn a_bag_is_asked(rt: HostRuntime) {
+    let bag = bag_of(rt.alloc(), LIMITS, PAIRS).expect(&rt, PAIRS);
+    let flat = bag.flat(rt.alloc()).expect(&rt, "memory");
+    let other = pair_of("04:7").expect(&rt, "a pair");
+    assert!(rt; Some(bag.limits()) == limits_of(LIMITS) && !bag.is_empty());
+    assert!(rt; bag.copies() == 4_294_967_300 && bag.count(other) == 0);
+    assert!(rt; holds_pairs(&bag, PAIRS) && gives_pairs(&bag, PAIRS));
+    assert!(rt; are_flat_pairs(flat.as_slice(), PAIRS));
+    assert!(rt; has_label(&bag, "7", "1:7:3 b:7:4294967295") && has_label(&bag, "8", ""));
+    assert!(rt; stand_on_face(&bag, 1, 0, "04:9:2 1:7:3"));
+    assert!(rt; stand_on_face(&bag, 2, 2, "b:7:4294967295"));
 }

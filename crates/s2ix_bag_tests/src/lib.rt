@@ -1,4 +1,4 @@
-//! Tests of bags: counts, limits, labels, faces, and what changes make of them.
+//! Tests of bags and of the changes between them: what a bag is asked, lists that are shared, clones, and growths.
 //!
 //! In `refused_tests` each growth of a call is refused in turn: `tests/hostile` runs each test there once for each growth that it asks for.
 //! The call tells so and has changed nothing, and made again it answers as it does with memory. The growths of the tests in
@@ -8,9 +8,7 @@
 #[cfg(test)]
 mod bag_tests;
 #[cfg(test)]
-mod face_tests;
-#[cfg(test)]
-mod limit_tests;
+mod list_tests;
 #[cfg(test)]
 mod refused_growths;
 #[cfg(test)]

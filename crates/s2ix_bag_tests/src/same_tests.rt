@@ -1,30 +1,14 @@
-//! Bags that are the same, and their clones.
-use s2ix_bag_samples::{LimitRow, bag_of};
-
-const LIMITS: LimitRow = (2, 3, 1);
-
-const TWO: &str = "04:9:2";
-
-// Limits and pairs, and whether their bag is that of the two copies.
-const BAGS: [(LimitRow, &str, bool); 4] = [
-    (LIMITS, TWO, true),
-    (LIMITS, "04:9:3", false),
-    (LIMITS, "", false),
-    ((2, 3, 2), TWO, false),
-];
+//! The clones of bags and of changes.
+use s2ix_bag_samples::{WIDEST, bag_of, change_of};
 
 #[test]
-fn bags_are_the_same_where_limits_and_pairs_are(rt: HostRuntime) {
-    let bag = bag_of(rt.alloc(), LIMITS, TWO).expect(&rt, "a bag");
-    for &(limits, pairs, same) in &BAGS {
-        let other = bag_of(rt.alloc(), limits, pairs).expect(&rt, pairs);
-        assert_eq!(rt; bag == other, same, "wrong at {pairs}");
-    }
-}
-
-#[test]
-fn the_clone_of_a_bag_is_the_same(rt: HostRuntime) {
-    let bag = bag_of(rt.alloc(), LIMITS, TWO).expect(&rt, "a bag");
-    let copy = bag.clone().expect(&rt, "memory");
-    assert_eq!(rt; copy, bag);
+fn clones_are_the_same(rt: HostRuntime) {
+    let bag = bag_of(rt.alloc(), WIDEST, "04:9:2").expect(&rt, "a bag");
+    let other_bag = bag_of(rt.alloc(), WIDEST, "04:9:3").expect(&rt, "a bag");
+    let bag_copy = bag.clone().expect(&rt, "memory");
+    assert!(rt; bag_copy == bag && bag_copy != other_bag);
+    let change = change_of(rt.alloc(), "04:9:0:2").expect(&rt, "a change");
+    let other_change = change_of(rt.alloc(), "04:9:0:3").expect(&rt, "a change");
+    let change_copy = change.clone().expect(&rt, "memory");
+    assert!(rt; change_copy == change && change_copy != other_change);
 }

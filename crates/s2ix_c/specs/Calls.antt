@@ -6,9 +6,9 @@ use Rattle.s2ix_edit_plan.specs.declared.edit.Edit.{Edit}
 use Rattle.s2ix_edit_plan.specs.State.{State, starting_at}
 use Rattle.s2ix_bag_pairs.specs.Collection.{Collection}
 use Rattle.s2ix_text_write.specs.Dump.{IsDump}
-use Rattle.s2ix_text_read_dump.specs.declared.errors.DumpError.TheVariants.{OutOfMemory}
-use Rattle.s2ix_text_read_dump.specs.declared.errors.DumpFault.{DumpFault}
-use Rattle.s2ix_text_read_dump.specs.DumpFaults.{IsDumpError, dump_fault}
+use Rattle.s2ix_text.specs.declared.dump_error.DumpError.TheVariants.{OutOfMemory}
+use Rattle.s2ix_text.specs.declared.dump_error.DumpFault.{DumpFault}
+use Rattle.s2ix_text.specs.DumpFaults.{IsDumpError, dump_fault}
 use Rattle.s2ix_c_calls.specs.declared.rows.Row.{Row}
 use Rattle.s2ix_c_calls.specs.Replaying.{OfLimits}
 use Rattle.s2ix_c_calls.specs.Status.{done, closed, out_of_memory}

@@ -27,7 +27,7 @@ abbrev pub TellsCell : Option CellId → ℕ → ℕ → Type 0
 TellsCell (Some cell) status told = (status ≡ done) × (told ≡ raw_of cell)
 TellsCell None status told = (status ≡ no_cell) × (told ≡ 0)
 
--- the text of a cell, put to the front of a buffer, which stays as it was after it; if the number is no cell's, all of it does
+-- the text of a cell, put to the front of a buffer, which stays as it was past the text; if the number is no cell's, all of it does
 pub record PutsText (id : ℕ) (text : List ℕ) (status number : ℕ) (old new : List ℕ) : Type 0 where
   pub put : status ≡ done → IsCellNumber id × (number ≡ length text) × (take number new ≡ text) × (drop number new ≡ drop number old)
   pub none : status ≢ done → (status ≡ no_cell) × (number ≡ 0) × (new ≡ old) × (IsCellNumber id → ⊥)

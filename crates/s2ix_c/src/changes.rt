@@ -1,14 +1,13 @@
 //! The changes that a store can undo, entry by entry.
 
 ghost use Rattle.std.specs.Prelude.{◌≡◌, Some};
-ghost use Rattle.s2ix_handle.specs.Handle.{held_of};
+ghost use Rattle.s2ix_c_calls.specs.Handle.{held_of};
 ghost use Rattle.s2ix_c.specs.Calls.{Through};
 ghost use Rattle.s2ix_c_calls.specs.Changes.{ListsChange};
 ghost use Rattle.s2ix_c_calls.specs.Status.{closed};
 
 use s2ix_c_calls::status::CLOSED;
-use s2ix_c_calls::{EntryRow, change_store};
-use s2ix_handle::Handle;
+use s2ix_c_calls::{EntryRow, Handle, change_store};
 use std::alloc::Global;
 
 /// The entries of the change with a number, counted from 1 among those that can be undone: by rising cell, then label.

@@ -2,16 +2,15 @@
 
 ghost use Rattle.std.specs.Prelude.{◌≡◌, length};
 ghost use Rattle.s2ix_bag_pairs.specs.Collection.{copies_in};
-ghost use Rattle.s2ix_handle.specs.Handle.{held_of};
-ghost use Rattle.s2ix_table_ranges.specs.RangeList.{range_table};
+ghost use Rattle.s2ix_c_calls.specs.Handle.{held_of};
+ghost use Rattle.s2ix_table_walk.specs.RangeList.{range_table};
 ghost use Rattle.s2ix_c_calls.specs.Asked.{pair_numbered};
 ghost use Rattle.s2ix_c.specs.Calls.{Tells, Through};
 ghost use Rattle.s2ix_c_calls.specs.Lists.{Counts};
 ghost use Rattle.s2ix_c_calls.specs.Status.{closed};
 
 use s2ix_c_calls::status::{CLOSED, DONE};
-use s2ix_c_calls::{count_store, ranges_of};
-use s2ix_handle::Handle;
+use s2ix_c_calls::{Handle, count_store, ranges_of};
 use std::alloc::Global;
 
 /// How many copies of a cell are held under a label: 0 if the pair is not held.

@@ -2,7 +2,7 @@
 
 ghost use Rattle.std.specs.Prelude.{◌≡◌, Result};
 ghost use Rattle.s2ix_edit_plan.specs.declared.edit.Edit.TheVariants.{Revert};
-ghost use Rattle.s2ix_handle.specs.Handle.{held_of};
+ghost use Rattle.s2ix_c_calls.specs.Handle.{held_of};
 ghost use Rattle.s2ix_c_calls.specs.Asked.{asked_add, asked_drop, asked_grow, asked_normalise, asked_relabel, asked_remove};
 ghost use Rattle.s2ix_c.specs.Calls.{DoesEdit, DoesRows, DoesUnion, Through};
 ghost use Rattle.s2ix_c_calls.specs.Stores.{IsEdited};
@@ -10,11 +10,10 @@ ghost use Rattle.s2ix_c_calls.specs.Status.{closed};
 
 use s2ix_c_calls::status::CLOSED;
 use s2ix_c_calls::{
-    Row, add_of, add_rows, add_union, drop_of, edit_store, grow_of, normalise_of, refuse_rows,
-    refuse_union, relabel_of, remove_of,
+    Handle, Row, add_of, add_rows, add_union, drop_of, edit_store, grow_of, normalise_of,
+    refuse_rows, refuse_union, relabel_of, remove_of,
 };
 use s2ix_edit_plan::Edit;
-use s2ix_handle::Handle;
 use std::alloc::Global;
 
 // Carries an edit out over a handle.

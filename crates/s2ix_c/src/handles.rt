@@ -4,17 +4,16 @@ ghost use Rattle.std.specs.Prelude.{◌≡◌, ◌↔◌, ◌≢◌, ◌⊎◌, 
 ghost use Rattle.s2ix_bag_pairs.specs.declared.limits.Limits.{Limits};
 ghost use Rattle.s2ix_bag_pairs.specs.Ranges.{AreLimits};
 ghost use Rattle.s2ix_edit_plan.specs.State.{starting_at};
-ghost use Rattle.s2ix_handle.specs.Handle.{held_of};
+ghost use Rattle.s2ix_c_calls.specs.Handle.{held_of};
 ghost use Rattle.s2ix_c.specs.Calls.{HasFaultIn, IsCopied, Loads, MayWantMemory, Opens, Through};
 ghost use Rattle.s2ix_c_calls.specs.Stores.{IsCleared};
 ghost use Rattle.s2ix_c_calls.specs.Status.{closed, done, no_dump, no_limits, out_of_memory};
 
 use s2ix_bag_pairs::Limits;
-use s2ix_c_calls::clear_store;
 use s2ix_c_calls::status::{CLOSED, DONE, NO_DUMP, NO_LIMITS, OUT_OF_MEMORY};
+use s2ix_c_calls::{Handle, clear_store};
 use s2ix_edit::Store;
-use s2ix_handle::Handle;
-use s2ix_text_read_dump::{DumpError, read_dump};
+use s2ix_text::{DumpError, read_dump};
 use std::alloc::Global;
 
 // Puts a store into a handle.

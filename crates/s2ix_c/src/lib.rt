@@ -1,4 +1,4 @@
-//! The index for C, and for what calls C: stores behind handles, and cells and unions of cells by their numbers. `include/s2ix.h` declares
+//! The index for C, and for what calls C: stores in handles, and cells and unions of cells by their numbers. `include/s2ix.h` declares
 //! what is exported, and says what C must see to.
 //!
 //! An export carries out one call of a store, and its contract restates that call's. A refused call leaves the store as it was, and its

@@ -1,14 +1,13 @@
 //! A line of a script, carried out on a store, with its answer in a buffer.
 
 ghost use Rattle.std.specs.Prelude.{◌≡◌};
-ghost use Rattle.s2ix_handle.specs.Handle.{held_of};
+ghost use Rattle.s2ix_c_calls.specs.Handle.{held_of};
 ghost use Rattle.s2ix_c.specs.Calls.{Through};
 ghost use Rattle.s2ix_c_calls.specs.Line.{IsCarriedOut};
 ghost use Rattle.s2ix_c_calls.specs.Status.{closed};
 
-use s2ix_c_calls::line_store;
 use s2ix_c_calls::status::CLOSED;
-use s2ix_handle::Handle;
+use s2ix_c_calls::{Handle, line_store};
 use std::alloc::Global;
 
 /// Carries a line of a script out, and puts its answer to the front of `out`; `number` is how many bytes it has. With too little room

@@ -2,14 +2,13 @@
 
 ghost use Rattle.std.specs.Prelude.{◌≡◌};
 ghost use Rattle.s2ix_bag_pairs.specs.Label.{label_numbered};
-ghost use Rattle.s2ix_handle.specs.Handle.{held_of};
+ghost use Rattle.s2ix_c_calls.specs.Handle.{held_of};
 ghost use Rattle.s2ix_c.specs.Calls.{Through};
 ghost use Rattle.s2ix_c_calls.specs.Lists.{Puts, PutsPage, rows_with};
 ghost use Rattle.s2ix_c_calls.specs.Status.{closed};
 
 use s2ix_c_calls::status::CLOSED;
-use s2ix_c_calls::{Row, label_store, pairs_store};
-use s2ix_handle::Handle;
+use s2ix_c_calls::{Handle, Row, label_store, pairs_store};
 use std::alloc::Global;
 
 /// The pairs from a place on, counted from 0 in rising order: as many as the buffer has room for. `number` is how many are put.

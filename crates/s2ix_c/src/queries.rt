@@ -2,14 +2,15 @@
 
 ghost use Rattle.std.specs.Prelude.{◌≡◌, ◌≢◌, [], length, take};
 ghost use Rattle.s2ix_bag_pairs.specs.Label.{label_numbered};
-ghost use Rattle.s2ix_handle.specs.Handle.{held_of};
+ghost use Rattle.s2ix_c_calls.specs.Handle.{held_of};
 ghost use Rattle.s2ix_c.specs.Calls.{Through};
 ghost use Rattle.s2ix_c_calls.specs.Lists.{leaf_numbered, labels_met, ListsOf, Puts, PutsGathered, region_cells, rows_met, rows_met_from, rows_over};
 ghost use Rattle.s2ix_c_calls.specs.Status.{closed, no_room, out_of_memory};
 
 use s2ix_c_calls::status::CLOSED;
-use s2ix_c_calls::{Row, at_store, labels_store, meet_store, meet_store_from, region_store};
-use s2ix_handle::Handle;
+use s2ix_c_calls::{
+    Handle, Row, at_store, labels_store, meet_store, meet_store_from, region_store,
+};
 use std::alloc::Global;
 
 /// The pairs over a leaf, the innermost cell first, the labels of one cell rising. It does not allocate.

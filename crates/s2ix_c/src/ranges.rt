@@ -1,16 +1,17 @@
 //! The ranges of leaves of the store of a handle. No call here changes it.
 
 ghost use Rattle.std.specs.Prelude.{◌≡◌, IsTrue};
-ghost use Rattle.s2ix_handle.specs.Handle.{held_of};
-ghost use Rattle.s2ix_table_ranges.specs.RangeList.{range_table};
+ghost use Rattle.s2ix_c_calls.specs.Handle.{held_of};
+ghost use Rattle.s2ix_table_walk.specs.RangeList.{range_table};
 ghost use Rattle.s2ix_c.specs.Calls.{Through};
 ghost use Rattle.s2ix_c_calls.specs.Lists.{leaf_numbered, Puts};
 ghost use Rattle.s2ix_c_calls.specs.Ranges.{FindsFull, FindsFullBefore, FindsRange, ReadsRange, rows_of_range};
 ghost use Rattle.s2ix_c_calls.specs.Status.{closed};
 
 use s2ix_c_calls::status::CLOSED;
-use s2ix_c_calls::{Row, contents_store, find_store, full_store, full_store_before, read_store};
-use s2ix_handle::Handle;
+use s2ix_c_calls::{
+    Handle, Row, contents_store, find_store, full_store, full_store_before, read_store,
+};
 use std::alloc::Global;
 
 /// The range that has a leaf: its place, counted from 0, its first leaf number, and the one with which it ends.

@@ -3,18 +3,17 @@
 ghost use Rattle.std.specs.Prelude.{◌≡◌, ◌↔◌, ◌≢◌, ◌⊎◌, Some};
 ghost use Rattle.s2ix_bag_pairs.specs.Ranges.{AreLimits};
 ghost use Rattle.s2ix_edit_plan.specs.State.{starting_at};
-ghost use Rattle.s2ix_handle.specs.Handle.{held_of};
+ghost use Rattle.s2ix_c_calls.specs.Handle.{held_of};
 ghost use Rattle.s2ix_c_calls.specs.declared.replaying.Direction.TheVariants.{Back, Forward};
 ghost use Rattle.s2ix_c_calls.specs.Replaying.{OpensLed, RefusesIn, refused_at};
 ghost use Rattle.s2ix_c_calls.specs.Status.{done, no_limits, out_of_memory};
 
 use crate::handles::keep;
-use s2ix_bag::Bag;
+use s2ix_bag_changes::Bag;
 use s2ix_bag_pairs::Limits;
 use s2ix_c_calls::status::{NO_LIMITS, OUT_OF_MEMORY};
-use s2ix_c_calls::{Direction, refused_of, texts_led};
+use s2ix_c_calls::{Direction, Handle, refused_of, texts_led};
 use s2ix_edit::Store;
-use s2ix_handle::Handle;
 use std::alloc::Global;
 
 // Puts a store that starts from a bag into a handle.

@@ -2,14 +2,13 @@
 
 ghost use Rattle.std.specs.Prelude.{◌≡◌};
 ghost use Rattle.s2ix_edit.specs.Steps.{after_forget};
-ghost use Rattle.s2ix_handle.specs.Handle.{held_of};
+ghost use Rattle.s2ix_c_calls.specs.Handle.{held_of};
 ghost use Rattle.s2ix_c.specs.Calls.{Through};
 ghost use Rattle.s2ix_c_calls.specs.Stores.{IsRedone, IsUndone};
 ghost use Rattle.s2ix_c_calls.specs.Status.{closed, done};
 
 use s2ix_c_calls::status::{CLOSED, DONE};
-use s2ix_c_calls::{redo_store, undo_store};
-use s2ix_handle::Handle;
+use s2ix_c_calls::{Handle, redo_store, undo_store};
 use std::alloc::Global;
 
 /// Takes the last change back; `number` is how many pairs it had.

@@ -1,8 +1,8 @@
 //! What a store holds as a dump or as JSON, and its changes as a journal.
 
 ghost use Rattle.std.specs.Prelude.{◌≡◌, Ok};
-ghost use Rattle.s2ix_handle.specs.Handle.{held_of};
-ghost use Rattle.s2ix_text_export.specs.Export.{export_text};
+ghost use Rattle.s2ix_c_calls.specs.Handle.{held_of};
+ghost use Rattle.s2ix_text_write.specs.Export.{export_text};
 ghost use Rattle.s2ix_text_write.specs.Dump.{dump_text};
 ghost use Rattle.s2ix_text_write.specs.Journal.{journal_text};
 ghost use Rattle.s2ix_c.specs.Calls.{Through};
@@ -10,8 +10,7 @@ ghost use Rattle.s2ix_c_calls.specs.Lists.{Lists};
 ghost use Rattle.s2ix_c_calls.specs.Status.{closed};
 
 use s2ix_c_calls::status::CLOSED;
-use s2ix_c_calls::{dump_store, export_store, journal_store};
-use s2ix_handle::Handle;
+use s2ix_c_calls::{Handle, dump_store, export_store, journal_store};
 use std::alloc::Global;
 
 /// The dump of what is held, of the second version.

@@ -9,10 +9,10 @@ use Rattle.s2ix_bag_pairs.specs.Label.{value_of}
 use Rattle.s2ix_bag_pairs.specs.OfLabel.{held_of}
 use Rattle.s2ix_bag_pairs.specs.declared.label.Label.{Label}
 use Rattle.std.specs.Prelude.{◌==◌}
-use Rattle.s2ix_table_ranges.specs.InOrder.{Rises}
-use Rattle.s2ix_table_ranges.specs.Contents.{contents_at, depth_key}
-use Rattle.s2ix_table_ranges.specs.Table.{Range, range_at, IsRangeTable}
-use Rattle.s2ix_table_ranges.proofs.Over.{IsOver, every_content, contents_rise, length_contents, nested_over}
+use Rattle.s2ix_table_walk.specs.InOrder.{Rises}
+use Rattle.s2ix_table_walk.specs.Contents.{contents_at, depth_key}
+use Rattle.s2ix_table_walk.specs.Table.{Range, range_at, IsRangeTable}
+use Rattle.s2ix_table_walk.proofs.Over.{IsOver, every_content, contents_rise, length_contents, nested_over}
 use Rattle.s2ix_table_walk.specs.Walking.{front_from}
 use Rattle.s2ix_table_walk.proofs.Meetings.{front_here, front_stops}
 use Rattle.std.proofs.lemmas.List.{length-map}
@@ -111,11 +111,11 @@ front_is_taken from (h ∷ hs) =
 pub puts_begun : (from many : ℕ) (chain contents : Collection) (old new : List Row) → many ≡ length (front_from from chain)
     → front_from from chain ≡ begun_from from contents → take many new ≡ map row_of (take many chain) → drop many new ≡ drop many old
     → IsPut (map row_of (begun_from from contents)) done many old new
-puts_begun from many chain contents old new counted begun front behind =
+puts_begun from many chain contents old new counted begun front after =
     let taken : take many chain ≡ begun_from from contents =
     ap (λ n. take n chain) counted ∙ sym (front_is_taken from chain) ∙ begun in record {
       long = counted ∙ ap length begun ∙ sym (length-map (begun_from from contents) row_of);
       put = λ _. front ∙ ap (map row_of) taken;
-      behind = λ _. behind;
+      after = λ _. after;
       short = λ refused. absurd (refused refl);
     }

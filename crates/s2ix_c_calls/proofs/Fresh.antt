@@ -7,12 +7,12 @@ use Rattle.s2id_core.specs.CellId.{first_of, end_of}
 use Rattle.s2id_union.proofs.Largest.{kept}
 use Rattle.s2ix_bag_pairs.specs.Collection.{Collection}
 use Rattle.s2ix_bag_pairs.specs.declared.pair.Held.{Held}
-use Rattle.s2ix_table_ranges.specs.Contents.{contents_at}
-use Rattle.s2ix_table_ranges.specs.RangeList.{range_table}
-use Rattle.s2ix_table_ranges.specs.Table.{IsFound, IsRangeTable, Range, leaf_end, range_at}
-use Rattle.s2ix_table_ranges.proofs.Over.{IsOver, contents_has, in_contents, span_of}
-use Rattle.s2ix_table_ranges.proofs.RangeList.{range_table_is}
-use Rattle.s2ix_table_ranges.proofs.Tables.{limits_rise}
+use Rattle.s2ix_table_walk.specs.Contents.{contents_at}
+use Rattle.s2ix_table_walk.specs.RangeList.{range_table}
+use Rattle.s2ix_table_walk.specs.Table.{IsFound, IsRangeTable, Range, leaf_end, range_at}
+use Rattle.s2ix_table_walk.proofs.Over.{IsOver, contents_has, in_contents, span_of}
+use Rattle.s2ix_table_walk.proofs.RangeList.{range_table_is}
+use Rattle.s2ix_table_walk.proofs.Tables.{limits_rise}
 use Rattle.s2ix_c_calls.specs.Laws.{BeginsOver, EachPairBeginsOnce, LiesOver, NewFromALimit}
 use Rattle.s2ix_c_calls.specs.Ranges.{begun_from}
 

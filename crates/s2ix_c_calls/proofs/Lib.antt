@@ -1,8 +1,11 @@
+mod AddressSteps
+mod Dropped
+mod Answered
 mod Numbers
-pub mod OfRows
 mod Paging
 mod Begun
-pub mod OfNumbers
-pub mod NoCells
 mod Fresh
 mod StatusTexts
+pub mod OfRows
+pub mod OfNumbers
+pub mod NoCells

@@ -16,9 +16,9 @@ use Rattle.s2ix_bag_pairs.specs.Label.{value_of}
 use Rattle.s2ix_bag_pairs.specs.OfLabel.{held_of}
 use Rattle.s2ix_bag_pairs.specs.declared.label.Label.{Label}
 use Rattle.s2ix_bag_pairs.specs.declared.pair.Held.{Held}
-use Rattle.s2ix_table_ranges.specs.InOrder.{choice}
-use Rattle.s2ix_table_ranges.specs.LabelList.{label_list}
-use Rattle.s2ix_table_ranges.specs.Meeting.{first_shared, is_met_from, meeting_from, meeting_key, meeting_of}
+use Rattle.s2ix_table_walk.specs.InOrder.{choice}
+use Rattle.s2ix_table_walk.specs.LabelList.{label_list}
+use Rattle.s2ix_table_walk.specs.Meeting.{first_shared, is_met_from, meeting_from, meeting_key, meeting_of}
 use Rattle.s2ix_edit_plan.specs.Region.{cell_of, region_of}
 use Rattle.s2ix_edit_plan.specs.State.{State}
 use Rattle.s2ix_c_calls.specs.Asked.{AreAllCells, IsFirstNoCell}
@@ -116,7 +116,7 @@ module _ {A : Type 0} (old : List A) where
   put_nothing list none = record {
     long = sym (ap length none);
     put = λ _. sym none;
-    behind = λ _. refl;
+    after = λ _. refl;
     short = λ refused. absurd (refused refl);
   }
 

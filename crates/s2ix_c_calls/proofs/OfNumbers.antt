@@ -13,7 +13,7 @@ use Rattle.s2ix_c_calls.specs.Asked.{AreAllCells, AreCells, IsFirstNoCell, Lacks
 pub no_numbers : (ids : List ℕ) → AreAllCells (take 0 ids)
 no_numbers ids = ([], refl)
 
--- behind numbers that are all cells', one more that is a cell's, and the first that is not
+-- after numbers that are all cells', one more that is a cell's, and the first that is not
 module _ (ids : List ℕ) (place id : ℕ) (within : place < length ids) (is : id ≡ get_or ids place 0) where
   pub one_more : AreAllCells (take place ids) → IsCellNumber id → AreAllCells (take (place + 1) ids)
   one_more before valid =
@@ -31,7 +31,7 @@ module _ (ids : List ℕ) (place id : ℕ) (within : place < length ids) (is : i
     wrong = wrong;
   }
 
--- all of them are behind the last
+-- all of them are after the last
 pub all_taken : (ids : List ℕ) (place : ℕ) → length ids ≤ place → AreAllCells (take place ids) → AreAllCells ids
 all_taken ids place long before = (before.0, before.1 ∙ take_all place ids long)
 

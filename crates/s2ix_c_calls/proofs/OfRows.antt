@@ -15,7 +15,7 @@ module _ (rows : List Row) (place : ℕ) (row : Row) (within : place < length ro
       let Right : Result Held ℕ → Type 0 = λ r. IsOk r in
       record { each = All-more (λ r. IsOk (held_asked r)) rows place row within before.each (subst Right (sym right ∙ ap held_asked is) refl) }
 
-  -- a row that names none, behind rows that do, is the first that is wrong
+  -- a row that names none, after rows that do, is the first that is wrong
   pub first_wrong : (why : ℕ) → AreRight (take place rows) → held_asked row ≡ Err why → IsFirstWrong rows place why
   first_wrong why right wrong = record {
     before = right;
@@ -24,6 +24,6 @@ module _ (rows : List Row) (place : ℕ) (row : Row) (within : place < length ro
     wrong = wrong;
   }
 
--- behind the last row all are right
+-- after the last row all are right
 pub all_right : (rows : List Row) (place : ℕ) → AreRight (take place rows) → length rows ≤ place → AreRight rows
 all_right rows place right long = subst (λ (l : List Row). AreRight l) (take_all place rows long) right

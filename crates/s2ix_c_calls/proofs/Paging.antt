@@ -30,8 +30,8 @@ next_of xs k x rest is =
     let within : k < length xs = omega (arith, ap length is, length-drop k xs) in
     let left = sym is ∙ drop_more xs k x within in
     let here : x ≡ get_or xs k x = cc in
-    let behind : rest ≡ drop (k + 1) xs = cc in
-    (slice_get_read xs (length xs) k x refl within here, sym behind)
+    let after : rest ≡ drop (k + 1) xs = cc in
+    (slice_get_read xs (length xs) k x refl within here, sym after)
 
 -- ---- what is still to come of a page: some of the list are passed over before it
 
@@ -74,11 +74,11 @@ page_is_full page left whole most n none all = sym (ap (λ k. page ++ take k (dr
 -- the rows at the front of a buffer are a page
 pub puts_page : {A B : Type 0} (f : A → B) (old new : List B) (count from : ℕ) (xs : List A) → count ≤ length new → drop count new ≡ drop count old
     → take count new ≡ take (length old) (drop from (map f xs)) → IsPut (map f (take (length old) (drop from xs))) done count old new
-puts_page f old new count from xs within behind front =
+puts_page f old new count from xs within after front =
     let same : take count new ≡ map f (take (length old) (drop from xs)) =
     front ∙ ap (take (length old)) (drop-map f from xs) ∙ take-map f (length old) (drop from xs) in record {
       long = sym (length-take-le count new within) ∙ ap length same;
       put = λ _. same;
-      behind = λ _. behind;
+      after = λ _. after;
       short = λ refused. absurd (refused refl);
     }

@@ -2,8 +2,8 @@
 use Rattle.std.specs.Prelude.{◌≡◌, ◌↔◌, ℕ, ◌<◌, List, length, Contains}
 use Rattle.s2ix_bag_pairs.specs.Collection.{Collection}
 use Rattle.s2ix_bag_pairs.specs.declared.pair.Held.{Held}
-use Rattle.s2ix_table_ranges.specs.RangeList.{range_table}
-use Rattle.s2ix_table_ranges.specs.Table.{Range, range_at}
+use Rattle.s2ix_table_walk.specs.RangeList.{range_table}
+use Rattle.s2ix_table_walk.specs.Table.{Range, range_at}
 use Rattle.s2ix_c_calls.specs.Ranges.{begun_from}
 
 -- a pair lies over the range at a place

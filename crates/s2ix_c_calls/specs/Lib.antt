@@ -1,3 +1,6 @@
+pub mod Address
+pub mod Handle
+pub mod InBuffer
 pub mod Status
 pub mod Stores
 pub mod Asked

@@ -10,9 +10,9 @@ use Rattle.s2ix_bag_pairs.specs.declared.pair.Pair.{Pair}
 use Rattle.s2ix_bag_pairs.specs.Collection.{count_in}
 use Rattle.s2ix_bag_pairs.specs.Label.{value_of}
 use Rattle.s2ix_bag_pairs.specs.OfLabel.{held_of}
-use Rattle.s2ix_table_ranges.specs.Contents.{contents_at}
-use Rattle.s2ix_table_ranges.specs.LabelList.{label_list}
-use Rattle.s2ix_table_ranges.specs.Meeting.{meeting_of}
+use Rattle.s2ix_table_walk.specs.Contents.{contents_at}
+use Rattle.s2ix_table_walk.specs.LabelList.{label_list}
+use Rattle.s2ix_table_walk.specs.Meeting.{meeting_of}
 use Rattle.s2ix_edit_plan.specs.Region.{region_of}
 use Rattle.s2ix_edit_plan.specs.State.{State}
 use Rattle.s2ix_c_calls.specs.Asked.{AreCells, LacksUnion}
@@ -23,12 +23,12 @@ use Rattle.s2ix_c_calls.specs.Status.{done, no_cell, no_label, no_room, out_of_m
 abbrev pub row_of : Held → Row
 row_of h = record { cell = raw_of h.pair.cell; label = value_of h.pair.label; count = h.count }
 
--- a list, put to the front of a buffer, which stays as it was after it; if the buffer is too short, it is as it was, and the number says
+-- a list, put to the front of a buffer, which stays as it was past the list; if the buffer is too short, it is as it was, and the number says
 -- how long the list is
 pub record IsPut {A : Type 0} (list : List A) (status number : ℕ) (old new : List A) : Type 0 where
   pub long : number ≡ length list
   pub put : status ≡ done → take number new ≡ list
-  pub behind : status ≡ done → drop number new ≡ drop number old
+  pub after : status ≡ done → drop number new ≡ drop number old
   pub short : status ≢ done → (status ≡ no_room) × (length old < number) × (new ≡ old)
 
 -- a list that is refused

@@ -4,8 +4,8 @@ use Rattle.std.specs.List.{filter}
 use Rattle.s2id_core.specs.declared.cell_id.CellId.{CellId}
 use Rattle.s2id_core.specs.CellId.{raw_of, first_of}
 use Rattle.s2ix_bag_pairs.specs.Collection.{Collection}
-use Rattle.s2ix_table_ranges.specs.RangeList.{range_table}
-use Rattle.s2ix_table_ranges.specs.Table.{Range, range_at}
+use Rattle.s2ix_table_walk.specs.RangeList.{range_table}
+use Rattle.s2ix_table_walk.specs.Table.{Range, range_at}
 use Rattle.s2ix_edit_plan.specs.State.{State}
 use Rattle.s2ix_c_calls.specs.declared.rows.Row.{Row}
 use Rattle.s2ix_c_calls.specs.Lists.{row_of}
@@ -45,9 +45,9 @@ rows_of_range place from ranges =
     if nat_lt place (length ranges) then Ok (map row_of (begun_from from (range_at ranges place).contents)) else Err no_range
 
 -- the place of a range that a call tells, if there is one; else 0
-abbrev pub TellsPlace : Option ℕ → ℕ → ℕ → Type 0
-TellsPlace (Some place) status told = (status ≡ done) × (told ≡ place)
-TellsPlace None status told = (status ≡ no_range) × (told ≡ 0)
+abbrev pub GivesPlace : Option ℕ → ℕ → ℕ → Type 0
+GivesPlace (Some place) status answered = (status ≡ done) × (answered ≡ place)
+GivesPlace None status answered = (status ≡ no_range) × (answered ≡ 0)
 
 -- the first range from a place on that has a pair over it; or there is none
 pub record FindsFull (from : ℕ) (ranges : List Range) (status place : ℕ) : Type 0 where

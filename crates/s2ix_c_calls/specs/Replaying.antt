@@ -8,10 +8,10 @@ use Rattle.s2ix_bag_pairs.specs.declared.limits.Limits.{Limits}
 use Rattle.s2ix_bag_pairs.specs.declared.pair.Entry.{Entry}
 use Rattle.s2ix_bag_pairs.specs.Limits.{pairs_limit, count_limit, changes_limit}
 use Rattle.s2ix_edit_plan.specs.State.{State, starting_at}
-use Rattle.s2ix_text_read_dump.specs.declared.errors.DumpError.TheVariants as dump_error
-use Rattle.s2ix_text_read_dump.specs.DumpFaults.{IsDumpError, dump_fault}
-use Rattle.s2ix_text_read_journal.specs.declared.errors.JournalError.TheVariants as journal_error
-use Rattle.s2ix_text_read_journal.specs.JournalFaults.{IsJournalError, journal_fault}
+use Rattle.s2ix_text.specs.declared.dump_error.DumpError.TheVariants as dump_error
+use Rattle.s2ix_text.specs.DumpFaults.{IsDumpError, dump_fault}
+use Rattle.s2ix_text.specs.declared.journal_error.JournalError.TheVariants as journal_error
+use Rattle.s2ix_text.specs.JournalFaults.{IsJournalError, journal_fault}
 use Rattle.s2ix_text_write.specs.Dump.{IsDump}
 use Rattle.s2ix_text_write.specs.Journal.{IsJournalText}
 use Rattle.s2ix_c_calls.specs.declared.replaying.Direction.{Direction}

@@ -15,13 +15,13 @@ use Rattle.s2ix_edit_plan.specs.Rows.{rows_change, rows_refusal}
 use Rattle.s2ix_edit_plan.specs.State.{State, change_of, starting_at}
 use Rattle.s2ix_edit.specs.Steps.{after_edit, after_rows, after_undo, after_redo, undo_size, redo_size}
 use Rattle.s2ix_edit.specs.Store.{HasRoom}
-use Rattle.s2ix_cli_step.specs.Wants.{EditWants}
+use Rattle.s2ix_cli.specs.LineWants.{EditWants}
 use Rattle.s2ix_c_calls.specs.Asked.{AreAllCells, AreCells, AreRight, IsFirstNoCell, IsFirstWrong, LacksUnion, NameHeld}
 use Rattle.s2ix_c_calls.specs.declared.rows.Row.{Row}
 use Rattle.s2ix_c_calls.specs.Status.{done, closed, no_cell, no_label, out_of_memory, nothing_to_undo, nothing_to_redo, edit_status, IsRefusal}
 
 -- an edit of a store: if it is done, the store is the one after it; else it is as it was, and the status says why; memory may be wanted
--- where the edit itself may want it
+-- if the edit itself may want it
 pub record IsEdited (edit : Edit) (status number : ℕ) (s t : State) : Type 0 where
   pub accepted : status ≡ done → (t ≡ after_edit s edit) × (number ≡ length (change_of s edit)) × (edit_refusal s edit ≡ None)
   pub refused : status ≢ done → (t ≡ s) × (number ≡ 0) × IsRefusal status (edit_refusal s edit)

@@ -2,8 +2,8 @@
 
 ghost use Rattle.std.specs.Prelude.{◌≡◌, ◌<◌, ◌≤◌, ℕ, Some, length, map, take, drop};
 ghost use Rattle.s2id_core.specs.CellId.{level_of, raw_of};
-ghost use Rattle.s2ix_table_ranges.specs.Contents.{contents_at};
-ghost use Rattle.s2ix_table_ranges.specs.Table.{range_at};
+ghost use Rattle.s2ix_table_walk.specs.Contents.{contents_at};
+ghost use Rattle.s2ix_table_walk.specs.Table.{range_at};
 ghost use Rattle.s2ix_table_walk.specs.Places.{IsPlace, from_place};
 ghost use Rattle.s2ix_table_walk.specs.Walking.{front_from};
 ghost use Rattle.s2ix_c_calls.specs.Lists.{IsPut, row_of};
@@ -46,7 +46,7 @@ fn write_from<T: RangeTable>(table: &T, first: Option<T::Place>, many: usize, ou
     requires some { many ≤ length (from_place (T.chain table.now) first) }
     requires room { many ≤ length out.old }
     ensures front { take many out.new ≡ map row_of (take many (from_place (T.chain table.now) first)) }
-    ensures behind { drop many out.new ≡ drop many out.old }
+    ensures after { drop many out.new ≡ drop many out.old }
 {
     let mut count = 0;
     let mut next = first;

@@ -6,7 +6,7 @@ ghost use Rattle.s2ix_c_calls.specs.Changes.{ListsChange, entry_row_of};
 ghost use Rattle.s2ix_c_calls.specs.Lists.{IsPut};
 
 use crate::status::{DONE, NO_ROOM, NO_SUCH_CHANGE};
-use s2ix_bag::Change;
+use s2ix_bag_changes::Change;
 use s2ix_bag_pairs::Entry;
 use s2ix_edit::Store;
 

@@ -1,7 +1,7 @@
 //! What a store holds, in numbers.
 
 ghost use Rattle.std.specs.Prelude.{◌≡◌, length};
-ghost use Rattle.s2ix_table_ranges.specs.RangeList.{range_table};
+ghost use Rattle.s2ix_table_walk.specs.RangeList.{range_table};
 ghost use Rattle.s2ix_c_calls.specs.Asked.{pair_numbered};
 ghost use Rattle.s2ix_c_calls.specs.Lists.{Counts};
 

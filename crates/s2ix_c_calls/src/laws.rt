@@ -1,9 +1,6 @@
 //! Laws: functions that do nothing; their contracts state facts about definitions.
-ghost use Rattle.std.specs.Prelude.{◌≡◌, ◌↔◌, ℕ, ◌<◌, ◌≤◌, Contains, length};
-ghost use Rattle.s2ix_bag_pairs.specs.declared.pair.Held.{Held};
-ghost use Rattle.s2ix_bag_pairs.specs.Collection.{Collection};
-ghost use Rattle.s2ix_table_ranges.specs.RangeList.{range_table};
-ghost use Rattle.s2ix_table_ranges.specs.Table.{range_at};
+ghost use Rattle.std.specs.Prelude.{◌≡◌, ◌↔◌, IsTrue, ℕ, ◌<◌, ◌≤◌, length};
+ghost use Rattle.s2ix_c_calls.specs.declared.no_answer.NoAnswer.{NoAnswer};
 ghost use Rattle.s2ix_c_calls.specs.Laws.{EachPairBeginsOnce, NewFromALimit};
 ghost use Rattle.s2ix_c_calls.specs.Texts.{status_text};
 ghost use Rattle.s2ix_c_calls.specs.declared.changes.EntryRow.{EntryRow};
@@ -12,8 +9,19 @@ ghost use Rattle.s2ix_c_calls.specs.declared.replaying.Refused.{Refused};
 ghost use Rattle.s2ix_c_calls.specs.declared.rows.Row.{Row};
 
 use crate::changes::EntryRow;
+use crate::no_answer::NoAnswer;
 use crate::replaying::{Direction, Refused};
 use crate::rows::Row;
+
+/// Two reasons for no answer are equal exactly if they are the same.
+pub fn equal_reasons_for_no_answer_are_one()
+    ensures { (a b : NoAnswer) → IsTrue (⟦<NoAnswer as PartialEq>⟧.eq a b) ↔ (a ≡ b) }
+{}
+
+/// A clone of a reason for no answer is the same.
+pub fn cloned_reasons_for_no_answer_are_the_same()
+    ensures { (a copy : NoAnswer) → ⟦<NoAnswer as Clone>⟧.is_clone a copy ↔ (copy ≡ a) }
+{}
 
 /// A clone of a row is the same.
 pub fn cloned_rows_are_the_same()

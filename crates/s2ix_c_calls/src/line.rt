@@ -2,8 +2,9 @@
 
 ghost use Rattle.s2ix_c_calls.specs.Line.{IsCarriedOut};
 
+use crate::answer::answer_line;
+use crate::no_answer::NoAnswer;
 use crate::status::{DONE, NO_ROOM, OUT_OF_MEMORY};
-use s2ix_cli_line::{NoAnswer, answer_line};
 use s2ix_edit::Store;
 use std::alloc::Global;
 

@@ -39,7 +39,7 @@ fn count_labelled(store: &Store, label: Label) -> usize
 fn write_labelled(store: &Store, label: Label, out: &mut [Row])
     requires { length (held_with label store.now.bag.held) ≤ length out.old }
     ensures front { take (length (held_with label store.now.bag.held)) out.new ≡ map row_of (held_with label store.now.bag.held) }
-    ensures behind { drop (length (held_with label store.now.bag.held)) out.new
+    ensures after { drop (length (held_with label store.now.bag.held)) out.new
         ≡ drop (length (held_with label store.now.bag.held)) out.old }
 {
     let mut count = 0;

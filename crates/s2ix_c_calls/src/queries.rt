@@ -4,7 +4,7 @@ ghost use Rattle.std.specs.Prelude.{◌≡◌, ◌≢◌, ◌↔◌, [], Some, I
 ghost use Rattle.s2id_core.specs.CellId.{level_of};
 ghost use Rattle.s2ix_bag_pairs.specs.Label.{label_numbered};
 ghost use Rattle.s2ix_bag_pairs.specs.OfLabel.{held_of as held_with};
-ghost use Rattle.s2ix_table_ranges.specs.Meeting.{meeting_of};
+ghost use Rattle.s2ix_table_walk.specs.Meeting.{meeting_of};
 ghost use Rattle.s2ix_c_calls.specs.Lists.{leaf_numbered, labels_met, IsPut, ListsOf, Puts, PutsGathered, region_cells, rows_met, rows_met_from, rows_over, row_of};
 ghost use Rattle.s2ix_c_calls.specs.Status.{done, no_room, out_of_memory};
 

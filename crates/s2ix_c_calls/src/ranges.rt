@@ -2,10 +2,10 @@
 
 ghost use Rattle.std.specs.Prelude.{◌≡◌, ◌≢◌, ◌<◌, ◌≤◌, ℕ, None, [], IfSome, length};
 ghost use Rattle.s2id_core.specs.CellId.{level_of};
-ghost use Rattle.s2ix_table_ranges.specs.RangeList.{range_table};
-ghost use Rattle.s2ix_table_ranges.specs.Table.{range_at};
+ghost use Rattle.s2ix_table_walk.specs.RangeList.{range_table};
+ghost use Rattle.s2ix_table_walk.specs.Table.{range_at};
 ghost use Rattle.s2ix_c_calls.specs.Lists.{leaf_numbered, Puts};
-ghost use Rattle.s2ix_c_calls.specs.Ranges.{FindsFull, FindsFullBefore, FindsRange, IsEmptyAt, IsRangeOf, ReadsRange, rows_of_range, TellsPlace};
+ghost use Rattle.s2ix_c_calls.specs.Ranges.{FindsFull, FindsFullBefore, FindsRange, IsEmptyAt, IsRangeOf, ReadsRange, rows_of_range, GivesPlace};
 
 use crate::chains::put_begun;
 use crate::queries::leaf_of;
@@ -14,8 +14,8 @@ use crate::status::{DONE, NO_CELL, NO_RANGE};
 use s2id_core::CellId;
 use s2ix_edit::{Store, StoreTable};
 use s2ix_table_queries::RangeTable;
-use s2ix_table_ranges::RangeRow;
-use s2ix_table_ranges::laws::range_table_is_the_collections;
+use s2ix_table_walk::RangeRow;
+use s2ix_table_walk::laws::range_table_is_the_collections;
 
 // The table of a store: its ranges are those of what the store holds.
 pub(crate) fn table_of(store: &Store) -> &StoreTable
@@ -123,8 +123,8 @@ fn full_from<T: RangeTable>(table: &T, from: usize) -> Option<usize>
 }
 
 // Tells the place of a range, if there is one.
-fn tell_place(found: Option<usize>, place: &mut usize) -> u32
-    ensures { TellsPlace found result place.new }
+fn give_place(found: Option<usize>, place: &mut usize) -> u32
+    ensures { GivesPlace found result place.new }
 {
     match found {
         Some(found) => {
@@ -142,7 +142,7 @@ fn tell_place(found: Option<usize>, place: &mut usize) -> u32
 pub fn full_store(store: &Store, from: usize, place: &mut usize) -> u32
     ensures { FindsFull from (range_table store.now.bag.held) result place.new }
 {
-    tell_place(full_from(table_of(store), from), place)
+    give_place(full_from(table_of(store), from), place)
 }
 
 // The last range before a place that has a pair over it. No two neighbours are both empty, so it looks at two at most.
@@ -167,5 +167,5 @@ fn full_before<T: RangeTable>(table: &T, before: usize) -> Option<usize>
 pub fn full_store_before(store: &Store, before: usize, place: &mut usize) -> u32
     ensures { FindsFullBefore before (range_table store.now.bag.held) result place.new }
 {
-    tell_place(full_before(table_of(store), before), place)
+    give_place(full_before(table_of(store), before), place)
 }

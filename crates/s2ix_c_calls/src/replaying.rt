@@ -8,10 +8,10 @@ ghost use Rattle.s2ix_c_calls.specs.Replaying.{IsLedError, IsOfTexts, LeadTo, fi
 use crate::status::{
     MISMATCH, NO_DUMP, NO_JOURNAL, OUT_OF_MEMORY, TOO_MANY_COPIES, TOO_MANY_PAIRS,
 };
-use s2ix_bag::{Bag, Change, ReplayError, replay, rewind};
+use s2ix_bag::{ReplayError, replay, rewind};
+use s2ix_bag_changes::{Bag, Change};
 use s2ix_bag_pairs::Limits;
-use s2ix_text_read_dump::{DumpError, read_dump};
-use s2ix_text_read_journal::{JournalError, read_journal};
+use s2ix_text::{DumpError, JournalError, read_dump, read_journal};
 use std::alloc::Global;
 
 /// Which way a journal's changes lead from a dump's collection.

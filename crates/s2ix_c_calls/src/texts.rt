@@ -4,14 +4,13 @@ ghost use Rattle.std.specs.Prelude.{Ok};
 ghost use Rattle.s2ix_text_write.specs.Dump.{dump_text};
 ghost use Rattle.s2ix_text_write.specs.Journal.{journal_text};
 ghost use Rattle.s2ix_c_calls.specs.Lists.{Lists};
-ghost use Rattle.s2ix_text_export.specs.Export.{export_text};
+ghost use Rattle.s2ix_text_write.specs.Export.{export_text};
 
 use crate::rows::put_bytes;
 use crate::status::OUT_OF_MEMORY;
 use s2ix_edit::Store;
-use s2ix_text_export::export;
-use s2ix_text_io::KeepingSink;
-use s2ix_text_write::{write_dump, write_journal};
+use s2ix_text_parts::VecSink;
+use s2ix_text_write::{export, write_dump, write_journal};
 use std::alloc::Global;
 
 /// The dump of what is held, of the second version.
@@ -19,7 +18,7 @@ pub fn dump_store(alloc: Global, store: &Store, out: &mut [u8], number: &mut usi
     ensures { Lists (Ok (dump_text store.now.bag.held)) result number.new out.old out.new }
 {
     *number = 0;
-    let mut sink = KeepingSink::new(alloc, usize::MAX, 0, false);
+    let mut sink = VecSink::new(alloc);
     match write_dump(store.bag(), &mut sink) {
         Ok(()) => put_bytes(sink.kept(), out, number),
         Err(_) => OUT_OF_MEMORY,
@@ -31,7 +30,7 @@ pub fn journal_store(alloc: Global, store: &Store, out: &mut [u8], number: &mut 
     ensures { Lists (Ok (journal_text store.now.done)) result number.new out.old out.new }
 {
     *number = 0;
-    let mut sink = KeepingSink::new(alloc, usize::MAX, 0, false);
+    let mut sink = VecSink::new(alloc);
     match write_journal(store.done(), &mut sink) {
         Ok(()) => put_bytes(sink.kept(), out, number),
         Err(_) => OUT_OF_MEMORY,

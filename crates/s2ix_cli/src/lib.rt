@@ -1,9 +1,10 @@
 //! Scripts and the program: lines of text in, edits and queries carried out over a store, lines of text out.
 //!
-//! [`run`] reads a script from a source piece by piece, carries out one line after the other over a store, and writes the answers. What it
-//! writes follows from the store and from what it reads. A refused line prints `no` with its reason and changes nothing. After a fault the
-//! store keeps the effects of the lines already carried out. [`command_of`] reads the program's words; `check_text`, `load_text`,
-//! `replay_texts` and `rewind_texts` work on whole texts.
+//! [`run`] reads a script from a source piece by piece, carries out each line as soon as its line feed has come, and writes the answers.
+//! What it writes follows from the store and from what it reads. A refused line prints `no` with its reason and changes nothing. After a
+//! fault the store keeps the effects of the lines already carried out. A [`RunEnd`] says how many lines there were and how many were
+//! refused; [`RunOptions`] say whether the first refused line ends the run, and how many pieces it may read. [`command_of`] reads the
+//! program's words; `check_text`, `load_text`, `replay_texts` and `rewind_texts` work on whole texts.
 //!
 //! ```
 //! let Some(mut store) = load_text(alloc, dump_bytes, limits, &mut sink)? else { return Ok(()) };
@@ -16,37 +17,48 @@
 //! ```
 //!
 //! `docs/FORMATS.md` lists the instructions and their answers. A line has at most [`LONGEST_LINE`] bytes; a run asks its source for at
-//! most `turns` pieces. [`RunFault`] says what ended a run early: a read, a write, a lack of memory, or a source that did not end within
-//! `turns` pieces.
+//! most `turns` pieces. It holds one piece and one line at a time, both on the stack, some 96 KiB, and allocates only for what its lines
+//! ask for. [`RunFault`] says what ended a run early: a read, a write, want of memory, or a source that did not end within `turns`
+//! pieces.
 //!
-//! The crates behind this one: `s2ix_cli_fields` cuts a line into fields; `s2ix_cli_script` says what a line asks for; `s2ix_cli_answers`
-//! writes what queries find; `s2ix_cli_step` carries out one line; `s2ix_cli_line` answers one in a buffer; `s2ix_cli_run` runs a script;
-//! `s2ix_cli_files` checks, loads, replays and rewinds whole texts; `s2ix_cli_words` reads the program's words and tells its status.
+//! The crates below this one: `s2ix_cli_words` reads the program's words and cuts a line into fields; `s2ix_cli_script` says what a line
+//! asks for; `s2ix_cli_answers` writes what queries find; `s2ix_cli_files` checks, loads, replays and rewinds whole texts. Here is what
+//! carries lines out: one definition says what a line comes to, as a step, and a run is such steps, one after the other.
 #![tactic(auto)]
 
+mod asking;
+mod coming;
+mod held_line;
 pub mod laws;
+mod line;
+mod outcome;
+mod queries;
+mod regions;
+mod run_end;
+mod script;
+mod steps;
 
+pub use asking::is_question;
+pub use line::{run_instruction, run_line};
+pub use outcome::LineOutcome;
+pub use run_end::{RunEnd, RunOptions};
 pub use s2ix_cli_answers::{
     write_contents, write_meeting, write_neighbors, write_no, write_ok, write_path, write_ranges,
     write_square,
-};
-pub use s2ix_cli_fields::{
-    Fields, change_number_spelled, copies_spelled, label_spelled, level_spelled,
 };
 pub use s2ix_cli_files::{
     Refusal, TextsError, check_text, dump_fault_name, journal_fault_name, load_text, replay_texts,
     rewind_texts,
 };
-pub use s2ix_cli_line::{NoAnswer, answer_line};
-pub use s2ix_cli_run::{RunEnd, RunOptions, run};
 pub use s2ix_cli_script::{
     Instruction, LONGEST_LINE, LineError, LineFault, add_union_named, cell_named, drop_named,
     edit_error_name, grow_named, label_named, labels_named, meaning, normal_named, not_leaf_name,
     pair_named, redo_error_name, relabel_named, revert_named, undo_error_name, union_named,
 };
-pub use s2ix_cli_step::{LineOutcome, carry_instruction, carry_out};
 pub use s2ix_cli_words::{
-    Command, Ending, LimitHelp, WordsFault, command_of, first_fault, limit_error, not_utf8,
-    program, range_text, status, turns,
+    Command, Ending, Fields, LimitHelp, WordsFault, change_number_spelled, command_of,
+    copies_spelled, first_fault, label_spelled, level_spelled, limit_error, not_utf8, program,
+    range_text, status, turns,
 };
-pub use s2ix_text_io::{RunFault, read_whole};
+pub use s2ix_text_parts::{RunFault, read_whole};
+pub use script::run;

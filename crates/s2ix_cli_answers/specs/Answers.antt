@@ -12,7 +12,7 @@ use Rattle.s2id_cube.specs.Neighbor.{neighbor_number}
 abbrev pub no_line : List ℕ → List ℕ
 no_line name = concat (codes "no " ∷ name ∷ codes "\n" ∷ [])
 
--- what an accepted line prints, where it changes the counts of n pairs
+-- what an accepted line prints, if it changes the counts of n pairs
 abbrev pub ok_line : ℕ → List ℕ
 ok_line n = concat (codes "ok " ∷ decimal n ∷ codes "\n" ∷ [])
 

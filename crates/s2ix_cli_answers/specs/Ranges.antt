@@ -3,7 +3,7 @@ use Rattle.std.specs.Prelude.{ℕ, codes, List, [], ◌∷◌, ◌++◌, flat_ma
 use Rattle.std.specs.List.{concat}
 use Rattle.s2id_core.specs.Token.{sixteen_digits}
 use Rattle.s2ix_bag_pairs.specs.declared.pair.Held.{Held}
-use Rattle.s2ix_table_ranges.specs.Table.{Range}
+use Rattle.s2ix_table_walk.specs.Table.{Range}
 use Rattle.s2ix_text_write.specs.Lists.{pair_text}
 
 -- a held pair after a space

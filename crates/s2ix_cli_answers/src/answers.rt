@@ -1,11 +1,11 @@
-ghost use Rattle.s2ix_text_io.specs.Faults.{CanCount};
-ghost use Rattle.s2ix_text_io.specs.Puts.{Writes};
+ghost use Rattle.s2ix_text_parts.specs.DeviceFaults.{CanCount};
+ghost use Rattle.s2ix_text_parts.specs.Puts.{Writes};
 ghost use Rattle.s2ix_cli_answers.specs.Answers.{neighbors_line, no_line, ok_line, path_line, square_line};
 
 use itoa::Buffer;
 use s2id_core::CellId;
 use s2id_cube::{FaceIj, edge_neighbors};
-use s2ix_text_io::{Sink, WriteFault, put_together};
+use s2ix_text_parts::{Sink, WriteFault, put_together};
 
 /// Writes the line `no` with a name, which says why something was refused.
 pub fn write_no<K: Sink>(name: &str, sink: &mut K) -> Result<(), WriteFault>

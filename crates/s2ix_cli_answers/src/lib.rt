@@ -1,7 +1,7 @@
 //! What answers a line of a script, but for plain lists: what lies over a leaf, what meets a target, a table's ranges, and answers of one
 //! line.
 //!
-//! A call that writes does not allocate and does not flush. It ends at the first fault of the sink; then a prefix of its text went out.
+//! A call that writes does not allocate and does not flush. It ends at the first fault of the sink; then a front of its text went out.
 #![tactic(auto)]
 
 mod answers;

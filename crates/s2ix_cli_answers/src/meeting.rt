@@ -1,12 +1,12 @@
-ghost use Rattle.s2ix_text_io.specs.Faults.{CanCount};
-ghost use Rattle.s2ix_text_io.specs.Puts.{Writes};
-ghost use Rattle.s2ix_table_ranges.specs.Meeting.{meeting_of};
+ghost use Rattle.s2ix_text_parts.specs.DeviceFaults.{CanCount};
+ghost use Rattle.s2ix_text_parts.specs.Puts.{Writes};
+ghost use Rattle.s2ix_table_walk.specs.Meeting.{meeting_of};
 ghost use Rattle.s2ix_text_write.specs.Lists.{held_line, list_text};
 
 use s2id_union::CellUnion;
 use s2ix_table_queries::{Meter, RangeTable};
 use s2ix_table_walk::Meeting;
-use s2ix_text_io::{Sink, WriteFault};
+use s2ix_text_parts::{Sink, WriteFault};
 use s2ix_text_write::Block;
 
 /// Writes the pairs that meet a target as a list, each as it is found: by the first leaf that it shares with the target, then falling

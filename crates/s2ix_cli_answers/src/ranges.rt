@@ -1,16 +1,16 @@
 ghost use Rattle.std.specs.Prelude.{◌≡◌, ◌<◌, flat_map, length};
 ghost use Rattle.s2id_core.specs.CellId.{level_of, raw_of};
-ghost use Rattle.s2ix_table_ranges.specs.Contents.{contents_at};
-ghost use Rattle.s2ix_table_ranges.specs.Table.{range_at};
-ghost use Rattle.s2ix_text_io.specs.Faults.{CanCount};
-ghost use Rattle.s2ix_text_io.specs.Puts.{Writes};
+ghost use Rattle.s2ix_table_walk.specs.Contents.{contents_at};
+ghost use Rattle.s2ix_table_walk.specs.Table.{range_at};
+ghost use Rattle.s2ix_text_parts.specs.DeviceFaults.{CanCount};
+ghost use Rattle.s2ix_text_parts.specs.Puts.{Writes};
 ghost use Rattle.s2ix_cli_answers.specs.Ranges.{bounds_text, range_line, spaced_pair};
 ghost use Rattle.s2ix_text_write.specs.Lists.{held_line, list_text};
 
 use s2id_core::{CellId, sixteen_digits};
 use s2ix_table_queries::{RangeTable, chain_at, contents};
-use s2ix_table_ranges::RangeRow;
-use s2ix_text_io::{Sink, WriteFault, put_all, put_together};
+use s2ix_table_walk::RangeRow;
+use s2ix_text_parts::{Sink, WriteFault, put_all, put_together};
 use s2ix_text_write::{Block, write_end_of_list, write_pair_between};
 
 /// Writes what lies over a leaf as a list of pairs, innermost cell first, the labels of one cell rising. O(log n + m) for

@@ -9,7 +9,7 @@ use Rattle.s2ix_bag_pairs.specs.Collection.{Collection, LimitedCollection}
 use Rattle.s2ix_edit_plan.specs.State.{State, earlier, history_of, later}
 use Rattle.s2ix_bag.specs.Replay.{Numbered, after_changes, back_of, first_refusal, with_numbers, numbered_from, replay_refusal, replayed, rewind_refusal, rewound, way_back}
 use Rattle.s2ix_bag.proofs.Back.{AreChanges, back_are_changes, push_change, there_and_back, way_back-way_back}
-use Rattle.s2ix_bag.proofs.Forth.{limits_stay, refusal_behind}
+use Rattle.s2ix_bag.proofs.Forth.{limits_stay, refusal_after}
 use Rattle.s2ix_edit.specs.Steps.{with_held}
 use Rattle.s2ix_edit.specs.Store.{CanGoBack, IsStore}
 
@@ -21,7 +21,7 @@ changes_in cs = map (λ (c : Numbered). c.change) cs
 goes_back : (bag : LimitedCollection) (cs : List Numbered) → CanGoBack bag (changes_in cs) → first_refusal bag (map back_of cs) ≡ None
 goes_back bag [] back = refl
 goes_back bag (c ∷ rest) back =
-    refusal_behind bag (back_of c) (map back_of rest) back.2
+    refusal_after bag (back_of c) (map back_of rest) back.2
     ∙ goes_back (with_held bag (changed bag.held (inverse_of c.change))) rest back.3
 
 -- each of them is a change

@@ -19,7 +19,7 @@ pub refused_first : {A B : Type 0} (First : Result A Refusal → Type 0) (Next :
 refused_first First Next (texts.Refused refusal) first = inr (refusal, first, refl)
 refused_first First Next texts.OutOfMemory first = tt
 
--- an error of the next, where the first came to a value
+-- an error of the next, if the first came to a value
 pub refused_next : {A B : Type 0} (First : Result A Refusal → Type 0) (Next : A → Result B Refusal → Type 0) (a : A) (error : TextsError)
     → First (Ok a) → IsRefusedBy (Next a) error → IsRefusedBy (Then First Next) error
 refused_next First Next a (texts.Refused refusal) first next = inl (a, first, next)
@@ -34,7 +34,7 @@ refused_changes ComesTo found (TooManyCopies change) comes is = comes _ (ap (opt
 refused_changes ComesTo found (TooManyPairs change) comes is = comes _ (ap (option_map error_of_replay) is)
 refused_changes ComesTo found OutOfMemory comes is = tt
 
--- an error of the journal, where the dump was read
+-- an error of the journal, if the dump was read
 pub refused_journal : (Leads : Leading) (limits : Limits) (dump journal : List ℕ) (bag : LimitedCollection) (error : TextsError)
     → DumpReads limits dump (Ok bag) → IsRefusedBy (JournalReads limits journal) error
     → IsRefusedBy (TextsLead Leads limits dump journal) error
@@ -47,7 +47,7 @@ pub read_as_slice : (limits : Limits) (journal : List ℕ) (changes slice : List
     → JournalReads limits journal (Ok changes) → JournalReads limits journal (Ok slice)
 read_as_slice limits journal changes slice same read = subst (λ (x : List (List Entry)). JournalReads limits journal (Ok x)) (sym same) read
 
--- an error of the journal's changes, where both were read
+-- an error of the journal's changes, if both were read
 pub refused_leading : (Leads : Leading) (limits : Limits) (dump journal : List ℕ) (bag : LimitedCollection) (changes : List (List Entry))
     (found : Option ReplayError) (error : ReplayError)
     → ((refusal : Refusal) → option_map error_of_replay found ≡ Some (texts.Refused refusal) → Leads bag changes (Err refusal))
@@ -58,7 +58,7 @@ refused_leading Leads limits dump journal bag changes found error comes read the
     (refused_next (JournalReads limits journal) (Leads bag) changes
     (error_of_replay error) then (refused_changes (Leads bag changes) found error comes is))
 
--- what the changes lead to, where both were read
+-- what the changes lead to, if both were read
 pub texts_lead : (Leads : Leading) (limits : Limits) (dump journal : List ℕ) (bag : LimitedCollection) (changes : List (List Entry))
     (reached : LimitedCollection)
     → DumpReads limits dump (Ok bag) → JournalReads limits journal (Ok changes) → Leads bag changes (Ok reached)

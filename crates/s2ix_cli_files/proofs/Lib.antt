@@ -5,6 +5,6 @@ pub mod Outcomes
 pub mod Recorded
 pub mod Replayed
 pub mod There
-pub mod Told
+pub mod Printed
 pub mod Widened
 pub mod Widest

@@ -4,12 +4,12 @@ use Rattle.std.specs.Option.{option_map}
 use Rattle.s2ix_bag_pairs.specs.declared.limits.Limits.{Limits}
 use Rattle.s2ix_bag_pairs.specs.declared.pair.Entry.{Entry}
 use Rattle.s2ix_bag_pairs.specs.Collection.{Collection, LimitedCollection, IsBag}
-use Rattle.s2ix_text_read_dump.specs.DumpFaults.{dump_fault}
-use Rattle.s2ix_text_read_dump.proofs.Whole.{dumps_have_no_fault}
-use Rattle.s2ix_text_read_journal.specs.JournalFaults.{journal_fault}
-use Rattle.s2ix_text_read_journal.proofs.Answered.{journals_have_no_fault}
+use Rattle.s2ix_text.specs.DumpFaults.{dump_fault}
+use Rattle.s2ix_text.proofs.WholeDumps.{dumps_have_no_fault}
+use Rattle.s2ix_text.specs.JournalFaults.{journal_fault}
+use Rattle.s2ix_text.proofs.Answered.{journals_have_no_fault}
 use Rattle.s2ix_bag.specs.declared.replay_error.ReplayError.{ReplayError}
-use Rattle.s2ix_bag.specs.declared.replay_error.ReplayError.TheVariants as told
+use Rattle.s2ix_bag.specs.declared.replay_error.ReplayError.TheVariants as answered
 use Rattle.s2ix_bag.specs.Replay.{with_numbers, replay_refusal, replayed, rewind_refusal, rewound, way_back}
 use Rattle.s2ix_bag.proofs.Forth.{never_memory}
 use Rattle.s2ix_text_write.proofs.Dumps.{one_dump as one_collection}
@@ -42,7 +42,7 @@ one_read_at : {A : Type 0} (IsTextOf : A → Type 0) (refusal at : Option Refusa
 one_read_at IsTextOf refusal None is one sound = let o = one is in (Ok o.0, o.1, no_other_value IsTextOf refusal o.0 is o.2)
 one_read_at IsTextOf refusal (Some found) is one sound = (Err found, is, no_other_refusal IsTextOf refusal found is sound)
 
--- where a text is sound exactly where it is one thing's, it comes to one thing
+-- if a text is sound exactly if it is one thing's, it comes to one thing
 one_read : {A : Type 0} (IsTextOf : A → Type 0) (refusal : Option Refusal) → (refusal ≡ None → HasOne IsTextOf)
     → ((a : A) → IsTextOf a → refusal ≡ None)
     → HasOne (ReadsAs IsTextOf refusal)
@@ -138,31 +138,31 @@ no_other_bag refusal bag none (Ok reached) leads = ap Ok leads.1
 no_other_bag refusal bag none (Err found) leads =
     let clash : Some (Refused found) ≡ None = sym leads ∙ ap (option_map error_of_replay) none in cc
 
-no_other_told : (refusal : Option ReplayError) (bag : LimitedCollection) (error : ReplayError) (found : Refusal) → refusal ≡ Some error
+no_other_printed : (refusal : Option ReplayError) (bag : LimitedCollection) (error : ReplayError) (found : Refusal) → refusal ≡ Some error
     → error_of_replay error ≡ Refused found
     → (other : Result LimitedCollection Refusal) → EndsIn refusal bag other → other ≡ Err found
-no_other_told refusal bag error found is told (Ok reached) leads = let clash : Some error ≡ None = sym is ∙ leads.0 in cc
-no_other_told refusal bag error found is told (Err other) leads =
-    let same : Some (Refused other) ≡ Some (Refused found) = sym leads ∙ ap (option_map error_of_replay) is ∙ ap Some told in cc
+no_other_printed refusal bag error found is answered (Ok reached) leads = let clash : Some error ≡ None = sym is ∙ leads.0 in cc
+no_other_printed refusal bag error found is answered (Err other) leads =
+    let same : Some (Refused other) ≡ Some (Refused found) = sym leads ∙ ap (option_map error_of_replay) is ∙ ap Some answered in cc
 
-leads_told : (refusal : Option ReplayError) (bag : LimitedCollection) (error : ReplayError) (found : Refusal) → refusal ≡ Some error
+leads_printed : (refusal : Option ReplayError) (bag : LimitedCollection) (error : ReplayError) (found : Refusal) → refusal ≡ Some error
     → error_of_replay error ≡ Refused found → HasOne (EndsIn refusal bag)
-leads_told refusal bag error found is told = (
+leads_printed refusal bag error found is answered = (
   Err found,
-  ap (option_map error_of_replay) is ∙ ap Some told,
-  no_other_told refusal bag error found is told,
+  ap (option_map error_of_replay) is ∙ ap Some answered,
+  no_other_printed refusal bag error found is answered,
 )
 
-leads_at : (refusal at : Option ReplayError) (bag : LimitedCollection) → refusal ≡ at → (refusal ≡ Some told.OutOfMemory → ⊥)
+leads_at : (refusal at : Option ReplayError) (bag : LimitedCollection) → refusal ≡ at → (refusal ≡ Some answered.OutOfMemory → ⊥)
     → HasOne (EndsIn refusal bag)
 leads_at refusal None bag is never = (Ok bag, (is, refl), no_other_bag refusal bag is)
-leads_at refusal (Some (told.Mismatch change entry)) bag is never =
-    leads_told refusal bag (told.Mismatch change entry) (Mismatch change entry) is refl
-leads_at refusal (Some (told.TooManyCopies change)) bag is never =
-    leads_told refusal bag (told.TooManyCopies change) (TooManyCopies change) is refl
-leads_at refusal (Some (told.TooManyPairs change)) bag is never =
-    leads_told refusal bag (told.TooManyPairs change) (TooManyPairs change) is refl
-leads_at refusal (Some told.OutOfMemory) bag is never = absurd (never is)
+leads_at refusal (Some (answered.Mismatch change entry)) bag is never =
+    leads_printed refusal bag (answered.Mismatch change entry) (Mismatch change entry) is refl
+leads_at refusal (Some (answered.TooManyCopies change)) bag is never =
+    leads_printed refusal bag (answered.TooManyCopies change) (TooManyCopies change) is refl
+leads_at refusal (Some (answered.TooManyPairs change)) bag is never =
+    leads_printed refusal bag (answered.TooManyPairs change) (TooManyPairs change) is refl
+leads_at refusal (Some answered.OutOfMemory) bag is never = absurd (never is)
 
 one_replay : (bag : LimitedCollection) (changes : List (List Entry)) → HasOne (ReplayLeads bag changes)
 one_replay bag changes =

@@ -3,13 +3,13 @@ use Rattle.std.proofs.Common.{◌≡◌, ℕ, ◌<◌, Bool, false, List, length
 use Rattle.std.specs.Prelude.{IfErr, IfOk}
 use Rattle.s2ix_bag_pairs.specs.Collection.{LimitedCollection}
 use Rattle.s2ix_text_write.specs.Dump.{dump_in}
-use Rattle.s2ix_text_io.specs.declared.run_fault.RunFault.{RunFault}
-use Rattle.s2ix_text_io.specs.declared.sink.Sink.{Ghosts as Sink}
-use Rattle.s2ix_text_io.specs.Faults.{IsWantOnlyIf}
+use Rattle.s2ix_text_parts.specs.declared.run_fault.RunFault.{RunFault}
+use Rattle.s2ix_text_parts.specs.declared.sink.Sink.{Ghosts as Sink}
+use Rattle.s2ix_text_parts.specs.DeviceFaults.{IsWantOnlyIf}
 use Rattle.s2ix_cli_files.specs.declared.refusal.Refusal.{Refusal}
 use Rattle.s2ix_cli_files.specs.declared.refusal.TextsError.{TextsError}
 use Rattle.s2ix_cli_files.specs.declared.refusal.TextsError.TheVariants.{Refused, OutOfMemory}
-use Rattle.s2ix_cli_files.specs.Answers.{Answer, IsAnswerTo, IsDumpAnswer, IsRefusalAnswer, Tells, answer_of, counts_line, dump_of}
+use Rattle.s2ix_cli_files.specs.Answers.{Answer, IsAnswerTo, IsDumpAnswer, IsRefusalAnswer, Prints, answer_of, counts_line, dump_of}
 use Rattle.s2ix_cli_files.specs.Refusals.{IsRefusedBy, IsWantOf}
 
 -- the answer of a bag that the texts come to
@@ -24,12 +24,12 @@ refusal_answer printed ComesTo (Refused refusal) comes answer is = (Err refusal,
 refusal_answer printed ComesTo OutOfMemory comes answer is = absurd is
 
 -- what accepts nothing tells so
-pub told_refused : {K : Type 0} (sink : Sink K) (error : TextsError) (old new : K) (accepted : Bool)
-    → Tells sink (IsRefusalAnswer error) old new (Ok accepted) → Tells sink (IsRefusalAnswer error) old new (Ok false)
-told_refused sink (Refused refusal) old new accepted told = (told.0, told.1, told.2, ap (λ (a : Answer). a.accepted) (sym told.1))
-told_refused sink OutOfMemory old new accepted told = absurd told.1
+pub printed_refused : {K : Type 0} (sink : Sink K) (error : TextsError) (old new : K) (accepted : Bool)
+    → Prints sink (IsRefusalAnswer error) old new (Ok accepted) → Prints sink (IsRefusalAnswer error) old new (Ok false)
+printed_refused sink (Refused refusal) old new accepted answered = (answered.0, answered.1, answered.2, ap (λ (a : Answer). a.accepted) (sym answered.1))
+printed_refused sink OutOfMemory old new accepted answered = absurd answered.1
 
--- memory is wanted only where this holds, and so only where that holds
+-- memory is wanted only if this holds, and so only if that holds
 pub want_as : {A : Type 0} (result : Result A RunFault) (Wants Others : Type 0) → (Wants → Others) → IfErr result (IsWantOnlyIf Wants)
     → IfErr result (IsWantOnlyIf Others)
 want_as (Ok x) Wants Others as_others wants = tt
@@ -45,7 +45,7 @@ some_counts bag = omega arith
 pub dumped_so : (outcome : Result LimitedCollection TextsError) (bag : LimitedCollection) → outcome ≡ Ok bag
     → IsDumpAnswer outcome (answer_of dump_of (Ok bag))
 dumped_so outcome bag is =
-    let Told : Result LimitedCollection TextsError → Type 0 = λ o. IsDumpAnswer o (answer_of dump_of (Ok bag)) in subst Told (sym is) refl
+    let Printed : Result LimitedCollection TextsError → Type 0 = λ o. IsDumpAnswer o (answer_of dump_of (Ok bag)) in subst Printed (sym is) refl
 
 -- a dump is not empty
 pub some_dump : (bag : LimitedCollection) → 0 < length (dump_of bag)

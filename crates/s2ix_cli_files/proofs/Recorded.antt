@@ -8,9 +8,9 @@ use Rattle.s2ix_edit.specs.Store.{IsStore}
 use Rattle.s2ix_edit.proofs.Recorded.{done_recorded, recorded_within_widest}
 use Rattle.s2ix_text_write.specs.Journal.{IsJournalText, IsWritable, journal_text}
 use Rattle.s2ix_text_write.proofs.Journals.{one_journal, written_journal}
-use Rattle.s2ix_text_read_journal.specs.JournalFaults.{journal_fault}
-use Rattle.s2ix_text_read_journal.specs.Journals.{IsJournal}
-use Rattle.s2ix_text_read_journal.proofs.Answered.{no_fault}
+use Rattle.s2ix_text.specs.JournalFaults.{journal_fault}
+use Rattle.s2ix_text.specs.Journals.{IsJournal}
+use Rattle.s2ix_text.proofs.Answered.{no_fault}
 
 writable : (limits : Limits) (es : List Entry) → IsRecorded limits es → IsWritable es
 writable limits es recorded =

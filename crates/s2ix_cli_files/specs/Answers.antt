@@ -4,10 +4,10 @@ use Rattle.std.specs.Io.KnownBytes.{Appends, Keeps}
 use Rattle.std.specs.List.{concat}
 use Rattle.s2ix_bag_pairs.specs.Collection.{LimitedCollection, copies_in}
 use Rattle.s2ix_bag_pairs.specs.declared.limits.Limits.{Limits}
-use Rattle.s2ix_text_io.specs.declared.run_fault.RunFault.{RunFault}
-use Rattle.s2ix_text_io.specs.declared.run_fault.RunFault.TheVariants as fault
-use Rattle.s2ix_text_io.specs.declared.sink.Sink.{Ghosts as Sink}
-use Rattle.s2ix_text_io.specs.Puts.{AppendsFront}
+use Rattle.s2ix_text_parts.specs.declared.run_fault.RunFault.{RunFault}
+use Rattle.s2ix_text_parts.specs.declared.run_fault.RunFault.TheVariants as fault
+use Rattle.s2ix_text_parts.specs.declared.sink.Sink.{Ghosts as Sink}
+use Rattle.s2ix_text_parts.specs.Puts.{AppendsFront}
 use Rattle.s2ix_text_write.specs.Dump.{dump_text}
 use Rattle.s2ix_cli_files.specs.declared.refusal.Refusal.{Refusal}
 use Rattle.s2ix_cli_files.specs.declared.refusal.TextsError.{TextsError}
@@ -22,7 +22,7 @@ pub record Answer : Type 0 where
   pub text : List ℕ
   pub accepted : Bool
 
--- what is answered where texts come to a bag, which is printed so, or to a refusal, which prints its line
+-- what is answered if texts come to a bag, which is printed so, or to a refusal, which prints its line
 abbrev pub answer_of : (LimitedCollection → List ℕ) → Result LimitedCollection Refusal → Answer
 answer_of printed (Ok bag) = record { text = printed bag; accepted = true }
 answer_of printed (Err refusal) = record { text = refusal_line refusal; accepted = false }
@@ -78,16 +78,16 @@ Sends {K} sink old new (byte ∷ bytes) =
     (written : K) × Appends (sink.taken old) (sink.taken written) (byte ∷ bytes) × sink.flushes written new
     × Keeps (sink.taken written) (sink.taken new)
 
--- a call tells the answer: it sends its text, and its own answer is whether all was accepted. Where the sink failed, a front of the text
--- went out; where memory was wanted, nothing did
-abbrev pub Tells : {K : Type 0} → Sink K → (Answer → Type 0) → K → K → Result Bool RunFault → Type 0
-Tells sink IsAnswer old new (Ok accepted) =
+-- a call tells the answer: it sends its text, and its own answer is whether all was accepted. If the sink failed, a front of the text
+-- went out; if memory was wanted, nothing did
+abbrev pub Prints : {K : Type 0} → Sink K → (Answer → Type 0) → K → K → Result Bool RunFault → Type 0
+Prints sink IsAnswer old new (Ok accepted) =
     (answer : Answer) × IsAnswer answer × Sends sink old new answer.text × (accepted ≡ answer.accepted)
-Tells sink IsAnswer old new (Err fault.Write) =
+Prints sink IsAnswer old new (Err fault.Write) =
     (answer : Answer) × IsAnswer answer × AppendsFront (sink.taken old) (sink.taken new) answer.text
-Tells sink IsAnswer old new (Err fault.OutOfMemory) = new ≡ old
-Tells sink IsAnswer old new (Err fault.Read) = ⊥
-Tells sink IsAnswer old new (Err fault.ReaderTooLong) = ⊥
+Prints sink IsAnswer old new (Err fault.OutOfMemory) = new ≡ old
+Prints sink IsAnswer old new (Err fault.Read) = ⊥
+Prints sink IsAnswer old new (Err fault.ReaderTooLong) = ⊥
 
 -- the answer of a call that loads: whether there is a store
 abbrev pub is_loaded : {A : Type 0} → Result (Option A) RunFault → Result Bool RunFault

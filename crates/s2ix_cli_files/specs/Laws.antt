@@ -17,7 +17,7 @@ ComesBack There Back =
     → (bag : LimitedCollection) × DumpReads limits dump (Ok bag)
     × Back limits answer.text journal (record { text = dump_text bag.held; accepted = true })
 
--- and where the first dump is one that is written, it comes back byte for byte
+-- and if the first dump is one that is written, it comes back byte for byte
 abbrev pub BytesComeBack : (Limits → List ℕ → List ℕ → Answer → Type 0) → (Limits → List ℕ → List ℕ → Answer → Type 0) → Type 0
 BytesComeBack There Back =
     (limits : Limits) (hs : Collection) (journal : List ℕ) (answer : Answer) → There limits (dump_text hs) journal answer

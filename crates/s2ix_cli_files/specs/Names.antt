@@ -1,9 +1,9 @@
 -- The names by which faults of texts are printed.
 use Rattle.std.specs.Prelude.{ℕ, List, codes}
-use Rattle.s2ix_text_read_dump.specs.declared.errors.DumpFault.{DumpFault}
-use Rattle.s2ix_text_read_dump.specs.declared.errors.DumpFault.TheVariants as dump
-use Rattle.s2ix_text_read_journal.specs.declared.errors.JournalFault.{JournalFault}
-use Rattle.s2ix_text_read_journal.specs.declared.errors.JournalFault.TheVariants as journal
+use Rattle.s2ix_text.specs.declared.dump_error.DumpFault.{DumpFault}
+use Rattle.s2ix_text.specs.declared.dump_error.DumpFault.TheVariants as dump
+use Rattle.s2ix_text.specs.declared.journal_error.JournalFault.{JournalFault}
+use Rattle.s2ix_text.specs.declared.journal_error.JournalFault.TheVariants as journal
 
 -- the name of a dump's fault
 abbrev pub dump_fault_name : DumpFault → List ℕ

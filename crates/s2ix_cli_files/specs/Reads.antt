@@ -4,11 +4,11 @@ use Rattle.std.specs.Option.{option_map}
 use Rattle.s2ix_bag_pairs.specs.Collection.{LimitedCollection, IsBag}
 use Rattle.s2ix_bag_pairs.specs.declared.limits.Limits.{Limits}
 use Rattle.s2ix_bag_pairs.specs.declared.pair.Entry.{Entry}
-use Rattle.s2ix_text_read_dump.specs.declared.errors.DumpFault.{DumpFault}
-use Rattle.s2ix_text_read_dump.specs.DumpFaults.{dump_fault}
-use Rattle.s2ix_text_read_journal.specs.declared.errors.JournalFault.{JournalFault}
-use Rattle.s2ix_text_read_journal.specs.JournalFaults.{journal_fault}
-use Rattle.s2ix_text_read_journal.specs.Journals.{IsJournal}
+use Rattle.s2ix_text.specs.declared.dump_error.DumpFault.{DumpFault}
+use Rattle.s2ix_text.specs.DumpFaults.{dump_fault}
+use Rattle.s2ix_text.specs.declared.journal_error.JournalFault.{JournalFault}
+use Rattle.s2ix_text.specs.JournalFaults.{journal_fault}
+use Rattle.s2ix_text.specs.Journals.{IsJournal}
 use Rattle.s2ix_bag.specs.declared.replay_error.ReplayError.{ReplayError}
 use Rattle.s2ix_bag.specs.Replay.{replay_refusal, replayed, rewind_refusal, rewound}
 use Rattle.s2ix_text_write.specs.Dump.{IsDump}

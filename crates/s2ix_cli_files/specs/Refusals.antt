@@ -1,10 +1,10 @@
 -- Why texts are refused, and the line that says so.
 use Rattle.std.specs.Prelude.{◌≡◌, ℕ, codes, decimal, List, [], ◌∷◌, Result, Err}
 use Rattle.std.specs.List.{concat}
-use Rattle.s2ix_text_read_dump.specs.declared.errors.DumpError.{DumpError}
-use Rattle.s2ix_text_read_dump.specs.declared.errors.DumpError.TheVariants as dump
-use Rattle.s2ix_text_read_journal.specs.declared.errors.JournalError.{JournalError}
-use Rattle.s2ix_text_read_journal.specs.declared.errors.JournalError.TheVariants as journal
+use Rattle.s2ix_text.specs.declared.dump_error.DumpError.{DumpError}
+use Rattle.s2ix_text.specs.declared.dump_error.DumpError.TheVariants as dump
+use Rattle.s2ix_text.specs.declared.journal_error.JournalError.{JournalError}
+use Rattle.s2ix_text.specs.declared.journal_error.JournalError.TheVariants as journal
 use Rattle.s2ix_bag.specs.declared.replay_error.ReplayError.{ReplayError}
 use Rattle.s2ix_bag.specs.declared.replay_error.ReplayError.TheVariants as replay
 use Rattle.s2ix_cli_files.specs.declared.refusal.Refusal.{Refusal}
@@ -52,6 +52,6 @@ abbrev pub IsRefusedBy : {A : Type 0} → (Result A Refusal → Type 0) → Text
 IsRefusedBy ComesTo (Refused refusal) = ComesTo (Err refusal)
 IsRefusedBy ComesTo OutOfMemory = Unit {0}
 
--- an error is want of memory only where this holds
+-- an error is want of memory only if this holds
 abbrev pub IsWantOf : Type 0 → TextsError → Type 0
 IsWantOf wants error = error ≡ OutOfMemory → wants

@@ -9,15 +9,15 @@ ghost use Rattle.s2ix_edit.specs.Steps.{after_edit, after_undo};
 ghost use Rattle.s2ix_edit.specs.Store.{IsStore};
 ghost use Rattle.s2ix_text_write.specs.Dump.{dump_text};
 ghost use Rattle.s2ix_text_write.specs.Journal.{IsJournalText, journal_text};
-ghost use Rattle.s2ix_text_read_journal.specs.JournalFaults.{journal_fault};
-ghost use Rattle.s2ix_text_read_journal.specs.Journals.{IsJournal};
+ghost use Rattle.s2ix_text.specs.JournalFaults.{journal_fault};
+ghost use Rattle.s2ix_text.specs.Journals.{IsJournal};
 ghost use Rattle.s2ix_cli_files.specs.declared.refusal.Refusal.{Refusal};
 ghost use Rattle.s2ix_cli_files.specs.declared.refusal.TextsError.{TextsError};
 ghost use Rattle.s2ix_cli_files.specs.Answers.{CheckAnswers, LoadAnswers, ReplayAnswers, RewindAnswers};
 ghost use Rattle.s2ix_cli_files.specs.Laws.{BytesComeBack, ComesBack, DoneLeadsBackToFirst, DoneLeadsFromFirst, HasOne};
 ghost use Rattle.s2ix_cli_files.specs.Widest.{widest};
 
-use crate::{Refusal, TextsError};
+use crate::refusal::{Refusal, TextsError};
 
 /// Each call has exactly one answer to the texts that it is given.
 pub fn texts_have_one_answer()

@@ -4,17 +4,17 @@
 //! of the refusal and its numbers. A call reads the texts and does the changes before it puts the first byte, and flushes after the last.
 //!
 //! Each call returns `OutOfMemory` if a growth was refused; then nothing went out. It never does so if line 1 of the dump is faulty. It
-//! returns `Write` if the sink failed, in a call of `put` or of `flush`; then a prefix of the text went out.
+//! returns `Write` if the sink failed, in a call of `put` or of `flush`; then a front of the text went out.
 #![tactic(auto)]
 
 mod check;
 pub mod laws;
 mod load;
 mod names;
+mod printing;
 mod reads;
 mod refusal;
 mod replay;
-mod telling;
 
 pub use check::check_text;
 pub use load::load_text;

@@ -1,17 +1,17 @@
 ghost use Rattle.std.specs.Prelude.{◌≡◌, ◌+◌, IfErr, IfOk, IfSome};
 ghost use Rattle.s2ix_bag_pairs.specs.Collection.{LimitedCollection};
 ghost use Rattle.s2ix_edit_plan.specs.State.{starting_at};
-ghost use Rattle.s2ix_text_io.specs.Faults.{CanCount, IsWantOnlyIf, sink_faults};
-ghost use Rattle.s2ix_text_parts.specs.Faults.{IsFromLine};
-ghost use Rattle.s2ix_text_read_dump.specs.DumpFaults.{dump_fault};
-ghost use Rattle.s2ix_cli_files.specs.Answers.{LoadAnswers, Tells, is_loaded};
+ghost use Rattle.s2ix_text_parts.specs.DeviceFaults.{CanCount, IsWantOnlyIf, sink_faults};
+ghost use Rattle.s2ix_text_parts.specs.LineFaults.{IsFromLine};
+ghost use Rattle.s2ix_text.specs.DumpFaults.{dump_fault};
+ghost use Rattle.s2ix_cli_files.specs.Answers.{LoadAnswers, Prints, is_loaded};
 ghost use Rattle.s2ix_cli_files.specs.Reads.{DumpReads};
 
+use crate::printing::print_refusal;
 use crate::reads::dump_read;
-use crate::telling::tell_refusal;
 use s2ix_bag_pairs::Limits;
 use s2ix_edit::Store;
-use s2ix_text_io::{RunFault, Sink};
+use s2ix_text_parts::{RunFault, Sink};
 use std::alloc::Global;
 
 /// Reads a dump under limits, and gives the store that starts from its bag. If the dump is refused, it prints `no NAME LINE` for the first
@@ -24,7 +24,7 @@ pub fn load_text<K: Sink>(
     sink: &mut K,
 ) -> Result<Option<Store>, RunFault>
     requires { CanCount (K.fault_count sink.old) }
-    ensures told { Tells K.Sink (LoadAnswers limits text.now) sink.old sink.new (is_loaded result) }
+    ensures answered { Prints K.Sink (LoadAnswers limits text.now) sink.old sink.new (is_loaded result) }
     ensures store { IfOk result (λ loaded. IfSome loaded (λ store.
         (bag : LimitedCollection) × DumpReads limits text.now (Ok bag) × (store ≡ starting_at bag))) }
     ensures memory { IfErr result (IsWantOnlyIf (IsFromLine 2 (dump_fault limits text.now))) }
@@ -36,7 +36,7 @@ pub fn load_text<K: Sink>(
             Ok(Some(store))
         }
         Err(error) => {
-            tell_refusal(error, sink)?;
+            print_refusal(error, sink)?;
             Ok(None)
         }
     }

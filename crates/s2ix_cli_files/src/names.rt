@@ -2,8 +2,7 @@
 ghost use Rattle.std.specs.Prelude.{◌≡◌};
 ghost use Rattle.s2ix_cli_files.specs.Names.{dump_fault_name, journal_fault_name};
 
-use s2ix_text_read_dump::DumpFault;
-use s2ix_text_read_journal::JournalFault;
+use s2ix_text::{DumpFault, JournalFault};
 
 /// The name by which a dump with this fault is answered, as `no NAME LINE`.
 pub fn dump_fault_name(fault: DumpFault) -> &'static str

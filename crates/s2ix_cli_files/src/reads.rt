@@ -1,15 +1,15 @@
 //! What texts come to.
 ghost use Rattle.std.specs.Prelude.{◌≡◌, None, IfErr, IfOk, OnOk};
-ghost use Rattle.s2ix_text_read_dump.specs.DumpFaults.{dump_fault};
-ghost use Rattle.s2ix_text_parts.specs.Faults.{IsFromLine};
+ghost use Rattle.s2ix_text.specs.DumpFaults.{dump_fault};
+ghost use Rattle.s2ix_text_parts.specs.LineFaults.{IsFromLine};
 ghost use Rattle.s2ix_cli_files.specs.Reads.{DumpReads, JournalReads, TextsReplay, TextsRewind};
 ghost use Rattle.s2ix_cli_files.specs.Refusals.{IsRefusedBy, IsWantOf};
 
 use crate::refusal::TextsError;
-use s2ix_bag::{Bag, Change, replay, rewind};
+use s2ix_bag::{replay, rewind};
+use s2ix_bag_changes::{Bag, Change};
 use s2ix_bag_pairs::Limits;
-use s2ix_text_read_dump::read_dump;
-use s2ix_text_read_journal::read_journal;
+use s2ix_text::{read_dump, read_journal};
 use std::alloc::Global;
 
 // The bag of a dump.

@@ -1,15 +1,14 @@
 //! Why texts are refused, and the line that says so.
 ghost use Rattle.std.specs.Prelude.{◌≡◌};
-ghost use Rattle.s2ix_text_io.specs.Faults.{CanCount};
-ghost use Rattle.s2ix_text_io.specs.Puts.{Writes};
+ghost use Rattle.s2ix_text_parts.specs.DeviceFaults.{CanCount};
+ghost use Rattle.s2ix_text_parts.specs.Puts.{Writes};
 ghost use Rattle.s2ix_cli_files.specs.Refusals.{error_of_dump, error_of_journal, error_of_replay, line_numbered_twice, numbered_line, refusal_line};
 
 use crate::names::{dump_fault_name, journal_fault_name};
 use itoa::Buffer;
 use s2ix_bag::ReplayError;
-use s2ix_text_io::{Sink, WriteFault, put_parts};
-use s2ix_text_read_dump::{DumpError, DumpFault};
-use s2ix_text_read_journal::{JournalError, JournalFault};
+use s2ix_text::{DumpError, DumpFault, JournalError, JournalFault};
+use s2ix_text_parts::{Sink, WriteFault, put_parts};
 
 /// What is refused first in the texts. A call prints it as a line.
 #[derive(Clone, Copy, Debug, PartialEq, Eq)]

@@ -1,14 +1,14 @@
 ghost use Rattle.std.specs.Prelude.{◌≡◌, ◌+◌, IfErr};
-ghost use Rattle.s2ix_text_io.specs.Faults.{CanCount, IsWantOnlyIf, sink_faults};
-ghost use Rattle.s2ix_text_parts.specs.Faults.{IsFromLine};
-ghost use Rattle.s2ix_text_read_dump.specs.DumpFaults.{dump_fault};
-ghost use Rattle.s2ix_cli_files.specs.Answers.{ReplayAnswers, RewindAnswers, Tells};
+ghost use Rattle.s2ix_text_parts.specs.DeviceFaults.{CanCount, IsWantOnlyIf, sink_faults};
+ghost use Rattle.s2ix_text_parts.specs.LineFaults.{IsFromLine};
+ghost use Rattle.s2ix_text.specs.DumpFaults.{dump_fault};
+ghost use Rattle.s2ix_cli_files.specs.Answers.{ReplayAnswers, RewindAnswers, Prints};
 ghost use Rattle.s2ix_cli_files.specs.Widest.{widest};
 
+use crate::printing::print_dump;
 use crate::reads::{texts_replayed, texts_rewound};
-use crate::telling::tell_dump;
 use s2ix_bag_pairs::Limits;
-use s2ix_text_io::{RunFault, Sink};
+use s2ix_text_parts::{RunFault, Sink};
 use std::alloc::Global;
 
 /// Reads a dump and then a journal under the widest limits, applies the journal's changes to the dump's bag, and prints the dump of what
@@ -23,11 +23,11 @@ pub fn replay_texts<K: Sink>(
     sink: &mut K,
 ) -> Result<bool, RunFault>
     requires { CanCount (K.fault_count sink.old) }
-    ensures told { Tells K.Sink (ReplayAnswers widest dump.now journal.now) sink.old sink.new result }
+    ensures answered { Prints K.Sink (ReplayAnswers widest dump.now journal.now) sink.old sink.new result }
     ensures memory { IfErr result (IsWantOnlyIf (IsFromLine 2 (dump_fault widest dump.now))) }
     ensures faults { K.fault_count sink.new ≡ K.fault_count sink.old + sink_faults result }
 {
-    tell_dump(
+    print_dump(
         texts_replayed(alloc, dump, journal, Limits::default()),
         sink,
     )
@@ -44,9 +44,9 @@ pub fn rewind_texts<K: Sink>(
     sink: &mut K,
 ) -> Result<bool, RunFault>
     requires { CanCount (K.fault_count sink.old) }
-    ensures told { Tells K.Sink (RewindAnswers widest dump.now journal.now) sink.old sink.new result }
+    ensures answered { Prints K.Sink (RewindAnswers widest dump.now journal.now) sink.old sink.new result }
     ensures memory { IfErr result (IsWantOnlyIf (IsFromLine 2 (dump_fault widest dump.now))) }
     ensures faults { K.fault_count sink.new ≡ K.fault_count sink.old + sink_faults result }
 {
-    tell_dump(texts_rewound(alloc, dump, journal, Limits::default()), sink)
+    print_dump(texts_rewound(alloc, dump, journal, Limits::default()), sink)
 }

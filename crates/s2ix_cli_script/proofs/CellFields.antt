@@ -4,6 +4,6 @@ use Rattle.s2id_core.specs.declared.cell_id.CellId.{CellId}
 use Rattle.s2ix_cli_script.specs.declared.line_fault.LineFault.{LineFault}
 
 -- cells that were gathered, and then what the fields that are left name
-abbrev pub behind : List CellId → Result (List CellId) LineFault → Result (List CellId) LineFault
-behind cells (Ok rest) = Ok (cells ++ rest)
-behind cells (Err fault) = Err fault
+abbrev pub after : List CellId → Result (List CellId) LineFault → Result (List CellId) LineFault
+after cells (Ok rest) = Ok (cells ++ rest)
+after cells (Err fault) = Err fault

@@ -2,8 +2,8 @@
 use Rattle.std.proofs.Common.{◌≡◌, ℕ, ◌==◌, true≢false, true, if◌then◌else◌, Ok, Some, None, List, [], ◌∷◌, sym, ap, ◌∙◌}
 use Rattle.std.specs.Prelude.{slice_index}
 use Rattle.std.proofs.lemmas.Bool.{eqb-true}
-use Rattle.s2ix_cli_fields.specs.Fields.{fields_of, is_plain}
-use Rattle.s2ix_cli_fields.proofs.FieldStart.{fields_of-begins}
+use Rattle.s2ix_cli_words.specs.Fields.{fields_of, is_plain}
+use Rattle.s2ix_cli_words.proofs.FieldStart.{fields_of-begins}
 use Rattle.s2ix_cli_script.specs.Named.{map_ok}
 use Rattle.s2ix_cli_script.specs.Meaning.{asked_by, meaning_of_fields}
 

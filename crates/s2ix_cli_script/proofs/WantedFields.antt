@@ -1,4 +1,4 @@
--- Where memory was wanted for a part of what fields name, it was for the whole.
+-- If memory was wanted for a part of what fields name, it was for the whole.
 use Rattle.std.proofs.Common.{◌≡◌, Bool, true, Result, Ok, Err, None, refl}
 use Rattle.std.specs.Result.{result_err}
 use Rattle.s2ix_cli_script.specs.declared.line_fault.LineFault.{LineFault}

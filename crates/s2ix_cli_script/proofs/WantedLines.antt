@@ -1,4 +1,4 @@
--- Where memory was wanted for a part of a line, it was for the whole line.
+-- If memory was wanted for a part of a line, it was for the whole line.
 use Rattle.std.proofs.Common.{◌≡◌, Bool, true, false, if◌then◌else◌, Result, Ok, Err, Some, None, ap}
 use Rattle.s2ix_cli_script.specs.declared.instruction.Instruction.{Instruction}
 use Rattle.s2ix_cli_script.specs.declared.line_fault.LineError.{LineError}

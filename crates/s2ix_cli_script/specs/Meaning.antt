@@ -1,13 +1,14 @@
 -- What a line of a script asks for.
-use Rattle.std.specs.Prelude.{ℕ, ◌==◌, nat_lt, if◌then◌else◌, Bool, true, false, codes, Option, Some, None, Result, Ok, Err, List, [], ◌∷◌, ◌++◌, length, slice_index}
+use Rattle.std.specs.Prelude.{ℕ, ◌==◌, nat_lt, if◌then◌else◌, Bool, true, false, codes, Option, Some, None, Result, Ok, Err, List, [], ◌∷◌, length, slice_index}
 use Rattle.std.specs.Str.{bytes_eq}
-use Rattle.s2ix_edit_plan.specs.declared.edit.Edit.TheVariants.{Add, Remove}
-use Rattle.s2ix_cli_fields.specs.Fields.{fields_of}
+use Rattle.s2ix_cli_words.specs.Fields.{fields_of}
 use Rattle.s2ix_cli_script.specs.declared.line_fault.LineFault.{LineFault}
 use Rattle.s2ix_cli_script.specs.declared.line_fault.LineFault.TheVariants.{LineTooLong, BadCommand, BadArguments}
-use Rattle.s2ix_cli_script.specs.Named.{add_union_named, cell_named, drop_named, grow_named, is_add_union, label_named, labels_named, map_ok, normal_named, pair_named, relabel_named, revert_named, union_named}
+use Rattle.s2ix_cli_script.specs.Named.{add_named, add_union_named, cell_named, drop_named, grow_named, is_add_union, label_named, labels_named, map_ok, normal_named, relabel_named, remove_named, revert_named, union_named}
 use Rattle.s2ix_cli_script.specs.declared.instruction.Instruction.{Instruction}
 use Rattle.s2ix_cli_script.specs.declared.instruction.Instruction.TheVariants as asks
+use Rattle.s2ix_cli_script.specs.declared.words.Word.{Word}
+use Rattle.s2ix_cli_script.specs.declared.words.Word.TheVariants as word
 
 -- the longest line that is read, in bytes
 abbrev pub LONGEST : ℕ
@@ -29,73 +30,77 @@ only_named fields = map_ok (λ named. asks.Only named.0 named.1) (labels_named f
 
 -- ---- the words
 
--- words, and what the fields after each ask for
-abbrev pub Words : Type 0
-Words = List (List ℕ × (List (List ℕ) → Result Instruction LineFault))
-
--- the words that ask for something on a union of cells
-abbrev pub union_words : Words
-union_words =
-    (codes "addunion", λ fields. map_ok asks.Edit (add_union_named fields))
-    ∷ (codes "meet", λ fields. map_ok asks.Meet (union_named fields))
-    ∷ (codes "labels", λ fields. map_ok asks.Labels (union_named fields))
-    ∷ []
-
--- the other words that ask for an edit
-abbrev pub edit_words : Words
-edit_words =
-    (codes "add", λ fields. map_ok (λ named. asks.Edit (Add named.0 named.1)) (pair_named fields))
-    ∷ (codes "remove", λ fields. map_ok (λ named. asks.Edit (Remove named.0 named.1)) (pair_named fields))
-    ∷ (codes "drop", λ fields. map_ok asks.Edit (drop_named fields))
-    ∷ (codes "relabel", λ fields. map_ok asks.Edit (relabel_named fields))
-    ∷ (codes "grow", λ fields. map_ok asks.Edit (grow_named fields))
-    ∷ (codes "normal", λ fields. map_ok asks.Edit (normal_named fields))
-    ∷ (codes "revert", λ fields. map_ok asks.Edit (revert_named fields))
-    ∷ []
-
--- the words that go along the history
-abbrev pub history_words : Words
-history_words =
-    (codes "undo", bare asks.Undo)
-    ∷ (codes "redo", bare asks.Redo)
-    ∷ (codes "forget", bare asks.Forget)
-    ∷ []
-
--- the other words that ask for what is held
-abbrev pub query_words : Words
-query_words =
-    (codes "at", λ fields. map_ok asks.At (cell_named fields))
-    ∷ (codes "region", λ fields. map_ok asks.Region (label_named fields))
-    ∷ (codes "common", common_named)
-    ∷ (codes "only", only_named)
-    ∷ (codes "ranges", bare asks.Ranges)
-    ∷ (codes "dump", bare asks.Dump)
-    ∷ (codes "journal", bare asks.Journal)
-    ∷ (codes "export", bare asks.Export)
-    ∷ []
-
--- the words that ask for a cell alone
-abbrev pub cell_words : Words
-cell_words =
-    (codes "path", λ fields. map_ok asks.Path (cell_named fields))
-    ∷ (codes "neighbors", λ fields. map_ok asks.Neighbors (cell_named fields))
-    ∷ (codes "face", λ fields. map_ok asks.Face (cell_named fields))
-    ∷ []
-
 -- the words of a script
-abbrev pub words : Words
-words = union_words ++ cell_words ++ query_words ++ history_words ++ edit_words
+abbrev pub words : List (List ℕ × Word)
+words =
+    (codes "add", word.Add)
+    ∷ (codes "remove", word.Remove)
+    ∷ (codes "addunion", word.AddUnion)
+    ∷ (codes "drop", word.Drop)
+    ∷ (codes "relabel", word.Relabel)
+    ∷ (codes "grow", word.Grow)
+    ∷ (codes "normal", word.Normal)
+    ∷ (codes "revert", word.Revert)
+    ∷ (codes "undo", word.Undo)
+    ∷ (codes "redo", word.Redo)
+    ∷ (codes "forget", word.Forget)
+    ∷ (codes "at", word.At)
+    ∷ (codes "meet", word.Meet)
+    ∷ (codes "labels", word.Labels)
+    ∷ (codes "ranges", word.Ranges)
+    ∷ (codes "region", word.Region)
+    ∷ (codes "common", word.Common)
+    ∷ (codes "only", word.Only)
+    ∷ (codes "path", word.Path)
+    ∷ (codes "neighbors", word.Neighbors)
+    ∷ (codes "face", word.Face)
+    ∷ (codes "dump", word.Dump)
+    ∷ (codes "journal", word.Journal)
+    ∷ (codes "export", word.Export)
+    ∷ []
 
--- what a word of these and the fields after it ask for: the first entry with that word decides
-abbrev pub asked_in : Words → List ℕ → List (List ℕ) → Result Instruction LineFault
-asked_in [] word fields = Err BadCommand
-asked_in (entry ∷ entries) word fields = if bytes_eq word entry.0 then entry.1 fields else asked_in entries word fields
+-- the word of these that a text is: the first entry with that text decides
+abbrev pub word_in : List (List ℕ × Word) → List ℕ → Option Word
+word_in [] text = None
+word_in (entry ∷ entries) text = if bytes_eq text entry.0 then Some entry.1 else word_in entries text
 
 -- what a word and the fields after it ask for
-abbrev pub asked_by : List ℕ → List (List ℕ) → Result Instruction LineFault
-asked_by = asked_in words
+abbrev pub asked_for : Word → List (List ℕ) → Result Instruction LineFault
+asked_for word.Add fields = map_ok asks.Edit (add_named fields)
+asked_for word.Remove fields = map_ok asks.Edit (remove_named fields)
+asked_for word.AddUnion fields = map_ok asks.Edit (add_union_named fields)
+asked_for word.Drop fields = map_ok asks.Edit (drop_named fields)
+asked_for word.Relabel fields = map_ok asks.Edit (relabel_named fields)
+asked_for word.Grow fields = map_ok asks.Edit (grow_named fields)
+asked_for word.Normal fields = map_ok asks.Edit (normal_named fields)
+asked_for word.Revert fields = map_ok asks.Edit (revert_named fields)
+asked_for word.Undo fields = bare asks.Undo fields
+asked_for word.Redo fields = bare asks.Redo fields
+asked_for word.Forget fields = bare asks.Forget fields
+asked_for word.At fields = map_ok asks.At (cell_named fields)
+asked_for word.Meet fields = map_ok asks.Meet (union_named fields)
+asked_for word.Labels fields = map_ok asks.Labels (union_named fields)
+asked_for word.Ranges fields = bare asks.Ranges fields
+asked_for word.Region fields = map_ok asks.Region (label_named fields)
+asked_for word.Common fields = common_named fields
+asked_for word.Only fields = only_named fields
+asked_for word.Path fields = map_ok asks.Path (cell_named fields)
+asked_for word.Neighbors fields = map_ok asks.Neighbors (cell_named fields)
+asked_for word.Face fields = map_ok asks.Face (cell_named fields)
+asked_for word.Dump fields = bare asks.Dump fields
+asked_for word.Journal fields = bare asks.Journal fields
+asked_for word.Export fields = bare asks.Export fields
 
--- what the fields of a line ask for: nothing where there are none, or the first begins with `#`
+-- the same, if a text is a word
+abbrev pub asked_where : Option Word → List (List ℕ) → Result Instruction LineFault
+asked_where None fields = Err BadCommand
+asked_where (Some named) fields = asked_for named fields
+
+-- what a text and the fields after it ask for
+abbrev pub asked_by : List ℕ → List (List ℕ) → Result Instruction LineFault
+asked_by text fields = asked_where (word_in words text) fields
+
+-- what the fields of a line ask for: nothing if there are none, or the first begins with `#`
 abbrev pub meaning_of_fields : List (List ℕ) → Result (Option Instruction) LineFault
 meaning_of_fields [] = Ok None
 meaning_of_fields (word ∷ fields) = if slice_index word 0 == 35 then Ok None else map_ok Some (asked_by word fields)

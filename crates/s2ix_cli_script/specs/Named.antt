@@ -6,19 +6,19 @@ use Rattle.s2id_union.specs.NormalForm.{normal_form}
 use Rattle.s2ix_bag_pairs.specs.declared.label.Label.{Label}
 use Rattle.s2ix_bag_pairs.specs.declared.pair.Pair.{Pair}
 use Rattle.s2ix_edit_plan.specs.declared.edit.Edit.{Edit}
-use Rattle.s2ix_edit_plan.specs.declared.edit.Edit.TheVariants.{AddUnion, DropLabel, Relabel, Grow, Normalise, Revert}
-use Rattle.s2ix_cli_fields.specs.Fields.{change_number_spelled, label_spelled, copies_spelled, level_spelled}
+use Rattle.s2ix_edit_plan.specs.declared.edit.Edit.TheVariants.{Add, AddUnion, DropLabel, Relabel, Grow, Normalise, Remove, Revert}
+use Rattle.s2ix_cli_words.specs.Fields.{change_number_spelled, label_spelled, copies_spelled, level_spelled}
 use Rattle.s2ix_cli_script.specs.declared.line_fault.LineError.{LineError}
 use Rattle.s2ix_cli_script.specs.declared.line_fault.LineError.TheVariants.{Fault, OutOfMemory}
 use Rattle.s2ix_cli_script.specs.declared.line_fault.LineFault.{LineFault}
 use Rattle.s2ix_cli_script.specs.declared.line_fault.LineFault.TheVariants.{BadArguments, BadToken, BadLabel, BadCount, BadLevel, BadNumber}
 
--- what is made of a meaning, where there is one
+-- what is made of a meaning, if there is one
 abbrev pub map_ok : {A B : Type 0} → (A → B) → Result A LineFault → Result B LineFault
 map_ok f (Ok a) = Ok (f a)
 map_ok f (Err fault) = Err fault
 
--- what follows from a meaning, where there is one
+-- what follows from a meaning, if there is one
 abbrev pub then_ok : {A B : Type 0} → (A → Result B LineFault) → Result A LineFault → Result B LineFault
 then_ok f (Ok a) = f a
 then_ok f (Err fault) = Err fault
@@ -45,7 +45,7 @@ abbrev pub label_with : Option Label → Result Label LineFault
 label_with None = Err BadLabel
 label_with (Some label) = Ok label
 
--- a pair and a number of copies, where fields name its cell, its label and the copies; the first that does not decides
+-- a pair and a number of copies, if fields name its cell, its label and the copies; the first that does not decides
 abbrev pub pair_with : Option CellId → Option Label → Option ℕ → Result (Pair × ℕ) LineFault
 pair_with None label copies = Err BadToken
 pair_with (Some cell) None copies = Err BadLabel
@@ -66,7 +66,7 @@ cell_named fields = then_ok (λ token. cell_with (cell_spelled token)) (one_fiel
 abbrev pub label_named : List (List ℕ) → Result Label LineFault
 label_named fields = then_ok (λ label. label_with (label_spelled label)) (one_field fields)
 
--- two labels, where fields name both; the first that does not decides
+-- two labels, if fields name both; the first that does not decides
 abbrev pub labels_with : Option Label → Option Label → Result (Label × Label) LineFault
 labels_with None second = Err BadLabel
 labels_with (Some first) None = Err BadLabel
@@ -76,7 +76,13 @@ labels_with (Some first) (Some second) = Ok (first, second)
 abbrev pub labels_named : List (List ℕ) → Result (Label × Label) LineFault
 labels_named fields = then_ok (λ both. labels_with (label_spelled both.0) (label_spelled both.1)) (two_fields fields)
 
--- the edits of `drop`, `relabel` and `normal`
+-- the edits of `add`, `remove`, `drop`, `relabel` and `normal`
+abbrev pub add_named : List (List ℕ) → Result Edit LineFault
+add_named fields = map_ok (λ named. Add named.0 named.1) (pair_named fields)
+
+abbrev pub remove_named : List (List ℕ) → Result Edit LineFault
+remove_named fields = map_ok (λ named. Remove named.0 named.1) (pair_named fields)
+
 abbrev pub drop_named : List (List ℕ) → Result Edit LineFault
 drop_named fields = map_ok DropLabel (label_named fields)
 
@@ -86,7 +92,7 @@ relabel_named fields = map_ok (λ named. Relabel named.0 named.1) (labels_named 
 abbrev pub normal_named : List (List ℕ) → Result Edit LineFault
 normal_named fields = map_ok Normalise (label_named fields)
 
--- the edit of `grow`, where fields name its label and its level; the first that does not decides
+-- the edit of `grow`, if fields name its label and its level; the first that does not decides
 abbrev pub grow_with : Option Label → Option ℕ → Result Edit LineFault
 grow_with None level = Err BadLabel
 grow_with (Some label) None = Err BadLevel
@@ -96,7 +102,7 @@ grow_with (Some label) (Some level) = Ok (Grow label level)
 abbrev pub grow_named : List (List ℕ) → Result Edit LineFault
 grow_named fields = then_ok (λ both. grow_with (label_spelled both.0) (level_spelled both.1)) (two_fields fields)
 
--- the edit of `revert`, where a field names the number of a change
+-- the edit of `revert`, if a field names the number of a change
 abbrev pub revert_with : Option ℕ → Result Edit LineFault
 revert_with None = Err BadNumber
 revert_with (Some number) = Ok (Revert number)

@@ -7,7 +7,7 @@ use Rattle.s2ix_edit_plan.specs.declared.errors.RedoError.TheVariants as redo
 use Rattle.s2ix_edit_plan.specs.declared.errors.UndoError.{UndoError}
 use Rattle.s2ix_edit_plan.specs.declared.errors.UndoError.TheVariants as undo
 
--- the name by which `at` is refused where its cell is no leaf
+-- the name by which `at` is refused if its cell is no leaf
 unfoldable pub not_leaf_name : List ℕ
 not_leaf_name = codes "NotLeaf"
 

@@ -7,7 +7,7 @@ use crate::fields::{cell_from_field, label_from_field};
 use crate::line_fault::{LineError, LineFault};
 use s2id_core::CellId;
 use s2id_union::CellUnion;
-use s2ix_cli_fields::Fields;
+use s2ix_cli_words::Fields;
 use s2ix_edit_plan::Edit;
 use std::alloc::Global;
 

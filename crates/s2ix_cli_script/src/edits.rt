@@ -1,11 +1,29 @@
 //! The edits that fields name, but for that of a union of cells.
 ghost use Rattle.std.specs.Prelude.{◌≡◌};
-ghost use Rattle.s2ix_cli_script.specs.Named.{drop_named, grow_named, normal_named, relabel_named, revert_named};
+ghost use Rattle.s2ix_cli_script.specs.Named.{add_named, drop_named, grow_named, normal_named, relabel_named, remove_named, revert_named};
 
-use crate::fields::{label_from_field, label_named, labels_named, one_field, two_fields};
+use crate::fields::{
+    label_from_field, label_named, labels_named, one_field, pair_named, two_fields,
+};
 use crate::line_fault::LineFault;
-use s2ix_cli_fields::{Fields, change_number_spelled, level_spelled};
+use s2ix_cli_words::{Fields, change_number_spelled, level_spelled};
 use s2ix_edit_plan::Edit;
+
+// The edit of `add`, whose pair and copies the fields TOKEN LABEL or TOKEN LABEL COPIES name.
+pub(crate) fn add_named(fields: &mut Fields<'_>) -> Result<Edit, LineFault>
+    ensures { result ≡ add_named fields.old }
+{
+    let (pair, copies) = pair_named(fields)?;
+    Ok(Edit::Add { pair, copies })
+}
+
+// The edit of `remove`, whose pair and copies the same fields name.
+pub(crate) fn remove_named(fields: &mut Fields<'_>) -> Result<Edit, LineFault>
+    ensures { result ≡ remove_named fields.old }
+{
+    let (pair, copies) = pair_named(fields)?;
+    Ok(Edit::Remove { pair, copies })
+}
 
 /// The edit of `drop`, whose label the one field LABEL names.
 ///

@@ -1,13 +1,13 @@
 //! What the fields after a word name.
 ghost use Rattle.std.specs.Prelude.{◌≡◌, Ok, Err, MatchResult};
 ghost use Rattle.s2id_core.specs.Spelled.{cell_spelled};
-ghost use Rattle.s2ix_cli_fields.specs.Fields.{label_spelled};
+ghost use Rattle.s2ix_cli_words.specs.Fields.{label_spelled};
 ghost use Rattle.s2ix_cli_script.specs.Named.{cell_named, cell_with, label_named, label_with, labels_named, one_field, pair_named, two_fields};
 
 use crate::line_fault::LineFault;
 use s2id_core::CellId;
 use s2ix_bag_pairs::{Label, Pair};
-use s2ix_cli_fields::{Fields, copies_spelled, label_spelled};
+use s2ix_cli_words::{Fields, copies_spelled, label_spelled};
 
 // The one field that there is.
 pub(crate) fn one_field<'a>(fields: &mut Fields<'a>) -> Result<&'a [u8], LineFault>

@@ -6,7 +6,7 @@ ghost use Rattle.s2ix_cli_script.specs.Meaning.{asks_on_union, meaning_of, meani
 use crate::instruction::Instruction;
 use crate::line_fault::{LineError, LineFault};
 use crate::words::asked_by;
-use s2ix_cli_fields::Fields;
+use s2ix_cli_words::Fields;
 use std::alloc::Global;
 
 /// The most bytes that a line of a script may have, its line feed not counted.

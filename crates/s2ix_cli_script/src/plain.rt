@@ -5,7 +5,7 @@ ghost use Rattle.s2ix_cli_script.specs.Meaning.{bare, common_named, only_named};
 use crate::fields::labels_named;
 use crate::instruction::Instruction;
 use crate::line_fault::LineFault;
-use s2ix_cli_fields::Fields;
+use s2ix_cli_words::Fields;
 
 // An instruction that takes no field.
 pub(crate) fn bare(

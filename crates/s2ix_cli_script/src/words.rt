@@ -1,127 +1,117 @@
-//! The words of a script.
-//!
-//! A word is looked for among those that ask for something on a union of cells, which alone may want memory, then among those of a cell
-//! alone, then among the other queries, then among those that go along the history, and last among the other edits: a word that is none of
-//! the first is left to the next. The quick lines come first: what an edit does takes longer than to find its word.
-ghost use Rattle.std.specs.Prelude.{◌≡◌, ◌++◌};
+//! The words of a script, and what the fields after each ask for.
+ghost use Rattle.std.specs.Prelude.{◌≡◌};
 ghost use Rattle.std.specs.Str.{bytes_eq};
 ghost use Rattle.s2ix_cli_script.specs.Named.{Means};
-ghost use Rattle.s2ix_cli_script.specs.Meaning.{asked_by, asked_in, cell_words, edit_words, history_words, is_on_union, query_words};
+ghost use Rattle.s2ix_cli_script.specs.Meaning.{asked_by, asked_for, is_on_union, word_in, words};
 
 use crate::cells::{add_union_named, union_named};
-use crate::edits::{drop_named, grow_named, normal_named, relabel_named, revert_named};
-use crate::fields::{cell_named, label_named, pair_named};
+use crate::edits::{
+    add_named, drop_named, grow_named, normal_named, relabel_named, remove_named, revert_named,
+};
+use crate::fields::{cell_named, label_named};
 use crate::instruction::Instruction;
 use crate::line_fault::{LineError, LineFault};
 use crate::plain::{bare, common_named, only_named};
-use s2ix_cli_fields::Fields;
-use s2ix_edit_plan::Edit;
+use s2ix_cli_words::{Fields, each_instruction};
 use std::alloc::Global;
 
+/// The first field of a line that asks for something.
+#[derive(Clone, Copy)]
+pub(crate) enum Word {
+    Add,
+    Remove,
+    AddUnion,
+    Drop,
+    Relabel,
+    Grow,
+    Normal,
+    Revert,
+    Undo,
+    Redo,
+    Forget,
+    At,
+    Meet,
+    Labels,
+    Ranges,
+    Region,
+    Common,
+    Only,
+    Path,
+    Neighbors,
+    Face,
+    Dump,
+    Journal,
+    Export,
+}
+
 // What a word and the fields after it ask for.
-#[tactic(auto, using(crate::proofs::WantedFields::wanting))]
 pub(crate) fn asked_by(
     alloc: Global,
     word: &[u8],
-    mut fields: Fields<'_>,
+    fields: Fields<'_>,
 ) -> Result<Instruction, LineError>
     ensures { Means is_on_union result (asked_by word.now fields.entry) }
 {
-    if is(word, "addunion") {
-        Ok(Instruction::Edit(add_union_named(alloc, fields)?))
-    } else if is(word, "meet") {
-        Ok(Instruction::Meet(union_named(alloc, fields)?))
-    } else if is(word, "labels") {
-        Ok(Instruction::Labels(union_named(alloc, fields)?))
-    } else {
-        Ok(by_cell(word, &mut fields)?)
+    match word_named(word) {
+        Some(word) => asked_for(alloc, word, fields),
+        None => Err(LineError::Fault(LineFault::BadCommand)),
     }
 }
 
-// What a word asks for that is none on a union of cells.
-fn by_cell(word: &[u8], fields: &mut Fields<'_>) -> Result<Instruction, LineFault>
-    ensures { result ≡ asked_in (cell_words ++ query_words ++ history_words ++ edit_words) word.now fields.old }
+// Returns the `Word` of the first row whose word has the text's bytes.
+macro_rules! return_named {
+    ($text:ident; $($name:ident $word:literal $fields:literal $meaning:literal,)*) => {
+        $(if is($text, $word) {
+            return Some(Word::$name);
+        })*
+    };
+}
+
+// The `Word` that a text spells, or `None`.
+fn word_named(text: &[u8]) -> Option<Word>
+    ensures { result ≡ word_in words text.now }
 {
-    if is(word, "path") {
-        Ok(Instruction::Path(cell_named(fields)?))
-    } else if is(word, "neighbors") {
-        Ok(Instruction::Neighbors(cell_named(fields)?))
-    } else if is(word, "face") {
-        Ok(Instruction::Face(cell_named(fields)?))
-    } else {
-        by_query(word, fields)
-    }
+    each_instruction!(return_named text;);
+    None
 }
 
-// What a word asks for that is none of those, nor on a cell alone.
-fn by_query(word: &[u8], fields: &mut Fields<'_>) -> Result<Instruction, LineFault>
-    ensures { result ≡ asked_in (query_words ++ history_words ++ edit_words) word.now fields.old }
-{
-    if is(word, "at") {
-        Ok(Instruction::At(cell_named(fields)?))
-    } else if is(word, "region") {
-        Ok(Instruction::Region(label_named(fields)?))
-    } else if is(word, "common") {
-        common_named(fields)
-    } else if is(word, "only") {
-        only_named(fields)
-    } else if is(word, "ranges") {
-        bare(Instruction::Ranges, fields)
-    } else if is(word, "dump") {
-        bare(Instruction::Dump, fields)
-    } else if is(word, "journal") {
-        bare(Instruction::Journal, fields)
-    } else if is(word, "export") {
-        bare(Instruction::Export, fields)
-    } else {
-        by_history(word, fields)
-    }
-}
-
-// What a word asks for that is no query.
-fn by_history(word: &[u8], fields: &mut Fields<'_>) -> Result<Instruction, LineFault>
-    ensures { result ≡ asked_in (history_words ++ edit_words) word.now fields.old }
-{
-    if is(word, "undo") {
-        bare(Instruction::Undo, fields)
-    } else if is(word, "redo") {
-        bare(Instruction::Redo, fields)
-    } else if is(word, "forget") {
-        bare(Instruction::Forget, fields)
-    } else {
-        by_edit(word, fields)
-    }
-}
-
-// What a word asks for that is an edit's or no word of a script.
-fn by_edit(word: &[u8], fields: &mut Fields<'_>) -> Result<Instruction, LineFault>
-    ensures { result ≡ asked_in edit_words word.now fields.old }
-{
-    if is(word, "add") {
-        let (pair, copies) = pair_named(fields)?;
-        Ok(Instruction::Edit(Edit::Add { pair, copies }))
-    } else if is(word, "remove") {
-        let (pair, copies) = pair_named(fields)?;
-        Ok(Instruction::Edit(Edit::Remove { pair, copies }))
-    } else if is(word, "drop") {
-        Ok(Instruction::Edit(drop_named(fields)?))
-    } else if is(word, "relabel") {
-        Ok(Instruction::Edit(relabel_named(fields)?))
-    } else if is(word, "grow") {
-        Ok(Instruction::Edit(grow_named(fields)?))
-    } else if is(word, "normal") {
-        Ok(Instruction::Edit(normal_named(fields)?))
-    } else if is(word, "revert") {
-        Ok(Instruction::Edit(revert_named(fields)?))
-    } else {
-        Err(LineFault::BadCommand)
-    }
-}
-
-// Whether a word is this name, by their bytes.
+// Whether a text has exactly a word's bytes.
 #[inline(always)]
-fn is(word: &[u8], name: &str) -> bool
-    ensures { result ≡ bytes_eq word.now name.now }
+fn is(text: &[u8], word: &str) -> bool
+    ensures { result ≡ bytes_eq text.now word.now }
 {
-    word == name.as_bytes()
+    text == word.as_bytes()
+}
+
+// What the fields after a word ask for.
+#[tactic(auto, using(crate::proofs::WantedFields::wanting))]
+fn asked_for(alloc: Global, word: Word, mut fields: Fields<'_>) -> Result<Instruction, LineError>
+    ensures { Means is_on_union result (asked_for word fields.entry) }
+{
+    match word {
+        Word::Add => Ok(Instruction::Edit(add_named(&mut fields)?)),
+        Word::Remove => Ok(Instruction::Edit(remove_named(&mut fields)?)),
+        Word::AddUnion => Ok(Instruction::Edit(add_union_named(alloc, fields)?)),
+        Word::Drop => Ok(Instruction::Edit(drop_named(&mut fields)?)),
+        Word::Relabel => Ok(Instruction::Edit(relabel_named(&mut fields)?)),
+        Word::Grow => Ok(Instruction::Edit(grow_named(&mut fields)?)),
+        Word::Normal => Ok(Instruction::Edit(normal_named(&mut fields)?)),
+        Word::Revert => Ok(Instruction::Edit(revert_named(&mut fields)?)),
+        Word::Undo => Ok(bare(Instruction::Undo, &mut fields)?),
+        Word::Redo => Ok(bare(Instruction::Redo, &mut fields)?),
+        Word::Forget => Ok(bare(Instruction::Forget, &mut fields)?),
+        Word::At => Ok(Instruction::At(cell_named(&mut fields)?)),
+        Word::Meet => Ok(Instruction::Meet(union_named(alloc, fields)?)),
+        Word::Labels => Ok(Instruction::Labels(union_named(alloc, fields)?)),
+        Word::Ranges => Ok(bare(Instruction::Ranges, &mut fields)?),
+        Word::Region => Ok(Instruction::Region(label_named(&mut fields)?)),
+        Word::Common => Ok(common_named(&mut fields)?),
+        Word::Only => Ok(only_named(&mut fields)?),
+        Word::Path => Ok(Instruction::Path(cell_named(&mut fields)?)),
+        Word::Neighbors => Ok(Instruction::Neighbors(cell_named(&mut fields)?)),
+        Word::Face => Ok(Instruction::Face(cell_named(&mut fields)?)),
+        Word::Dump => Ok(bare(Instruction::Dump, &mut fields)?),
+        Word::Journal => Ok(bare(Instruction::Journal, &mut fields)?),
+        Word::Export => Ok(bare(Instruction::Export, &mut fields)?),
+    }
 }

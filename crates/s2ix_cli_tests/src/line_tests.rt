@@ -1,119 +1,73 @@
-//! Lines carried out with their answers in a buffer.
+//! Fields, what they name, and lines carried out with no run.
+use s2id_core::CellId;
 use s2ix_bag::Limits;
-use s2ix_cli::{NoAnswer, answer_line};
-use s2ix_edit::Store;
+use s2ix_cli::{
+    Fields, LineOutcome, add_union_named, meaning, run_instruction, run_line, union_named,
+};
+use s2ix_edit::{Edit, Store};
+use s2ix_text::{KeepingSink, Sink};
 use std::alloc::Global;
-use std::process::Abort;
 
-// How many bytes the longest buffer of these tests has.
-const ROOM: usize = 64;
-
-// Carries a line out with some room, and compares its answer; what is behind it in the buffer must stay as it was.
-fn check_answer(
-    rt: &impl Abort,
-    alloc: Global,
-    store: &mut Store,
-    line: &[u8],
-    room: usize,
-    answer: &[u8],
-) {
-    let mut buffer = [b'.'; ROOM];
-    let told = answer_line(alloc, store, line, &mut buffer[..room.min(ROOM)]);
-    let is_kept = buffer.iter().skip(answer.len()).all(|byte| *byte == b'.');
-    assert!(rt;
-        told == Ok(answer.len()) && buffer.starts_with(answer) && is_kept,
-        "{told:?}, {buffer:?}"
-    );
-}
-
-// A line has too little room: it tells how much it wants, and neither the buffer nor the changes of the store are others.
-fn check_no_room(
-    rt: &impl Abort,
-    alloc: Global,
-    store: &mut Store,
-    line: &[u8],
-    room: usize,
-    needed: usize,
-) {
-    let mut buffer = [b'.'; ROOM];
-    let (done, undone) = (store.done().len(), store.undone().len());
-    let told = answer_line(alloc, store, line, &mut buffer[..room.min(ROOM)]);
-    let is_kept = buffer.iter().all(|byte| *byte == b'.');
-    assert!(rt;
-        told == Err(NoAnswer::NoRoom { needed }) && is_kept,
-        "{told:?}, {buffer:?}"
-    );
-    assert!(rt; store.done().len() == done && store.undone().len() == undone);
-}
-
-fn fresh(rt: &impl Abort, alloc: Global) -> Store {
-    Store::new(alloc, Limits::default()).expect(rt, "a store")
+// Whether the first field of a line is read as the cell with this token, and this field is next.
+fn reads_cell(line: &[u8], token: &[u8], after: &[u8]) -> bool {
+    let mut fields = Fields::new(line);
+    let Some(cell) = fields.next_cell() else {
+        return false;
+    };
+    cell.token().as_bytes() == token && fields.next() == Some(after)
 }
 
 #[test]
-fn each_kind_of_line_is_answered(rt: HostRuntime) {
-    let mut store = fresh(&rt, rt.alloc());
-    let rows: [(&[u8], &[u8]); 14] = [
-        (b"add 1 7", b"ok 1\n"),
-        (b"addunion 3 04 0c", b"ok 2\n"),
-        (b"remove 1 8", b"no NotHeld\n"),
-        (b"undo", b"ok 2\n"),
-        (b"redo", b"ok 2\n"),
-        (b"redo", b"no NothingToRedo\n"),
-        (b"forget", b"ok 0\n"),
-        (b"undo", b"no NothingToUndo\n"),
-        (b"region 7", b"1\nend 1\n"),
-        (b"at 1", b"no NotLeaf\n"),
-        (b"path 0c", b"0/1\n"),
-        (b"", b""),
-        (b"  # a comment", b""),
-        (b"fly 1", b"no BadCommand\n"),
-    ];
-    for (line, answer) in rows {
-        check_answer(&rt, rt.alloc(), &mut store, line, ROOM, answer);
+fn canonical_tokens_are_read_as_cells(rt: HostRuntime) {
+    assert!(rt; reads_cell(b"1 89c25 89c259c4b", b"1", b"89c25"));
+    assert!(rt; reads_cell(b" \t89c259c44  7 123456", b"89c259c44", b"7"));
+    assert!(rt; reads_cell(b"0000000000000001 \xc2\x857", b"0000000000000001", b"7"));
+}
+
+// Whether the face 0 is the one cell of a union.
+fn is_face(cells: &[CellId]) -> bool {
+    cells.len() == 1 && cells[0].token().as_bytes() == b"1".as_slice()
+}
+
+// Whether fields name a union.
+fn names_a_union(alloc: Global) -> bool {
+    match &union_named(alloc, Fields::new(b"1c 04 14 0C")) {
+        Ok(union) => is_face(union.cells()),
+        Err(_) => false,
+    }
+}
+
+// Whether fields name an edit of a union.
+fn names_an_edit_of_a_union(alloc: Global) -> bool {
+    match &add_union_named(alloc, Fields::new(b"9 1c 04 14 0C")) {
+        Ok(Edit::AddUnion { union, label }) => is_face(union.cells()) && label.get() == 9,
+        _ => false,
     }
 }
 
 #[test]
-fn a_step_wants_room_for_the_longest_answer(rt: HostRuntime) {
-    let mut store = fresh(&rt, rt.alloc());
-    check_no_room(&rt, rt.alloc(), &mut store, b"add 1 7", 31, 32);
-    check_answer(&rt, rt.alloc(), &mut store, b"add 1 7", 32, b"ok 1\n");
-    for line in [b"undo".as_slice(), b"redo", b"forget", b"remove 1 7"] {
-        check_no_room(&rt, rt.alloc(), &mut store, line, 31, 32);
-    }
-    check_answer(&rt, rt.alloc(), &mut store, b"undo", 32, b"ok 1\n");
-    check_no_room(&rt, rt.alloc(), &mut store, b"redo", 31, 32);
-    check_answer(&rt, rt.alloc(), &mut store, b"redo", 32, b"ok 1\n");
+fn fields_name_a_union(rt: HostRuntime) {
+    assert!(rt; names_a_union(rt.alloc()));
+    assert!(rt; names_an_edit_of_a_union(rt.alloc()));
 }
 
 #[test]
-fn a_question_wants_room_for_its_answer(rt: HostRuntime) {
-    let mut store = fresh(&rt, rt.alloc());
-    check_answer(&rt, rt.alloc(), &mut store, b"add 1 7", ROOM, b"ok 1\n");
-    check_answer(
-        &rt,
-        rt.alloc(),
-        &mut store,
-        b"meet 0c",
-        12,
-        b"1:7:1\nend 1\n",
-    );
-    check_no_room(&rt, rt.alloc(), &mut store, b"meet 0c", 11, 12);
-    check_no_room(&rt, rt.alloc(), &mut store, b"dump", 0, 21);
+fn the_clone_of_an_instruction_is_the_same(rt: HostRuntime) {
+    let line = meaning(rt.alloc(), b"meet 04 14").expect(&rt, "a meaning");
+    let instruction = line.expect(&rt, "an instruction");
+    let copy = instruction.clone().expect(&rt, "memory");
+    assert!(rt; copy == instruction);
 }
 
 #[test]
-fn a_refused_line_wants_room_for_its_name(rt: HostRuntime) {
-    let mut store = fresh(&rt, rt.alloc());
-    check_answer(
-        &rt,
-        rt.alloc(),
-        &mut store,
-        b"fly 1",
-        14,
-        b"no BadCommand\n",
-    );
-    check_no_room(&rt, rt.alloc(), &mut store, b"fly 1", 13, 14);
-    check_answer(&rt, rt.alloc(), &mut store, b"", 0, b"");
+fn a_line_and_an_instruction_are_carried_out(rt: HostRuntime) {
+    let mut store = Store::new(rt.alloc(), Limits::default()).expect(&rt, "a store");
+    let mut sink = KeepingSink::new(rt.alloc(), 100, 0, false);
+    let line = run_line(rt.alloc(), &mut store, &mut sink, b"add 1 7");
+    assert!(rt; line == Ok(LineOutcome::Accepted) && sink.kept() == b"ok 1\n".as_slice());
+    let labels = meaning(rt.alloc(), b"labels 0c").expect(&rt, "a meaning");
+    let labels = labels.expect(&rt, "an instruction");
+    let mut sink = KeepingSink::new(rt.alloc(), 100, 0, false);
+    let step = run_instruction(rt.alloc(), &mut store, &mut sink, labels);
+    assert!(rt; step == Ok(LineOutcome::Accepted) && sink.kept() == b"7\nend 1\n".as_slice());
 }

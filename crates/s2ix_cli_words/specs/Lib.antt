@@ -1,3 +1,4 @@
+pub mod Fields
 pub mod Tree
 pub mod Help
 pub mod Words

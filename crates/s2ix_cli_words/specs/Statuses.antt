@@ -1,7 +1,7 @@
 -- The program's statuses.
 use Rattle.std.specs.Prelude.{ℕ}
-use Rattle.s2ix_text_io.specs.declared.run_fault.RunFault.{RunFault}
-use Rattle.s2ix_text_io.specs.declared.run_fault.RunFault.TheVariants.{OutOfMemory}
+use Rattle.s2ix_text_parts.specs.declared.run_fault.RunFault.{RunFault}
+use Rattle.s2ix_text_parts.specs.declared.run_fault.RunFault.TheVariants.{OutOfMemory}
 use Rattle.s2ix_cli_words.specs.declared.ending.Ending.{Ending}
 use Rattle.s2ix_cli_words.specs.declared.ending.Ending.TheVariants.{Accepted, Refused, Usage, Fault}
 

@@ -19,7 +19,7 @@ use Rattle.s2ix_cli_words.specs.declared.words_fault.WordsFault.TheVariants.{Usa
 abbrev pub IsNumber : Text → ℕ → Type 0
 IsNumber text n = IsNumeral 10 (without_leading_plus text) × (n ≡ digits_value 10 (without_leading_plus text)) × (n < 2 ^ 32)
 
--- the number is the one given, or the default where none is
+-- the number is the one given, or the default if none is
 abbrev pub IsGiven : ℕ → Option Text → ℕ → Type 0
 IsGiven default None n = n ≡ default
 IsGiven default (Some text) n = IsNumber text n
@@ -56,12 +56,12 @@ Has given (Rewind dump journal) = IsFile (codes "DUMP") given dump × IsFile (co
 abbrev pub IsOf : Text → List Row → Command → Type 0
 IsOf word given command = (word ≡ word_of command) × Has given command
 
--- what was met, where there is no fault
+-- what was met, if there is no fault
 abbrev pub without_fault : {X : Type 0} → Kinds → Option X → Option X
 without_fault [] met = met
 without_fault (fault ∷ faults) met = None
 
--- the subcommand that the words name, with what they give it; none where clap refuses the words or is asked for help or the version
+-- the subcommand that the words name, with what they give it; none if clap refuses the words or is asked for help or the version
 abbrev pub asked : List Text → Option (Text × List Row)
 asked words = without_fault (fault_of program words) (subcommand_of program words)
 
@@ -75,14 +75,14 @@ AskFor words command = IsMet (asked words) command
 
 -- ---- refusals
 
--- the fault is usage only where no command is asked for, and never help or the version; it may always be want of memory
+-- the fault is usage only if no command is asked for, and never help or the version; it may always be want of memory
 abbrev pub Refuses : (Command → Type 0) → WordsFault → Type 0
 Refuses Asks (Usage text) = (command : Command) → Asks command → ⊥
 Refuses Asks (HelpAsked text) = ⊥
 Refuses Asks (VersionAsked text) = ⊥
 Refuses Asks OutOfMemory = ⊤
 
--- the fault is usage only where no file of this name was given, and never help or the version; it may always be want of memory
+-- the fault is usage only if no file of this name was given, and never help or the version; it may always be want of memory
 abbrev pub Lacks : Text → List Row → WordsFault → Type 0
 Lacks name given (Usage text) = first_of name given ≡ None
 Lacks name given (HelpAsked text) = ⊥
@@ -102,7 +102,7 @@ IsToldAs why (HelpAsked text) = why ≡ kind.DisplayHelp
 IsToldAs why (VersionAsked text) = why ≡ kind.DisplayVersion
 IsToldAs why OutOfMemory = ⊤
 
--- the fault is usage only where the words ask for no command and not for help or the version alone, and help or the version only where
+-- the fault is usage only if the words ask for no command and not for help or the version alone, and help or the version only if
 -- they ask for it; it may always be want of memory
 abbrev pub AreRefused : List Text → WordsFault → Type 0
 AreRefused words (Usage text) = ((command : Command) → AskFor words command → ⊥)

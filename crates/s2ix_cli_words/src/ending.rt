@@ -2,7 +2,7 @@ ghost use Rattle.std.specs.Prelude.{◌≡◌};
 ghost use Rattle.std.specs.Process.{exit_status};
 ghost use Rattle.s2ix_cli_words.specs.Statuses.{status_of};
 
-use s2ix_text_io::RunFault;
+use s2ix_text_parts::RunFault;
 use std::process::ExitCode;
 
 /// What the program came to.

@@ -5,17 +5,18 @@ ghost use Rattle.s2ix_bag_pairs.specs.declared.limits.Limits.{Limits as OfLimits
 ghost use Rattle.s2ix_cli_words.specs.Shown.{ArePlain, Says};
 ghost use Rattle.s2ix_cli_words.specs.Words.{AreGiven, IsFile, IsGiven, IsMet, IsOf, IsUsage, Lacks, Refuses};
 
+use crate::command::Command;
 use crate::usage::{limit_usage, usage};
-use crate::{Command, WordsFault};
+use crate::words_fault::WordsFault;
 use clap::ArgMatches;
 use s2ix_bag_pairs::Limits;
 use std::alloc::{AllocError, Global};
 
-// What is told where the name of a file is missing.
+// What is printed if the name of a file is missing.
 const NO_FILE: &str =
     "error: the name of a file is missing\n\nFor more information, try '--help'.\n";
 
-// What is told where no command is named.
+// What is printed if no command is named.
 const NO_COMMAND: &str = "error: a command is wanted\n\nFor more information, try '--help'.\n";
 
 // The command that was met, of those that clap matched.
@@ -70,7 +71,7 @@ fn run_given(alloc: Global, given: &ArgMatches<'_>) -> Result<Command, WordsFaul
     Ok(Command::Run { load, limits, stop })
 }
 
-// The limits that were given, or `None` where one is no number or out of its range.
+// The limits that were given, or `None` if one is no number or out of its range.
 fn limits_given(given: &ArgMatches<'_>) -> Option<Limits>
     ensures given { IfSome result (AreGiven (rows_of (found_of given.now))) }
     ensures refused { IfNone result ((limits : OfLimits) → AreGiven (rows_of (found_of given.now)) limits → ⊥) }
@@ -82,7 +83,7 @@ fn limits_given(given: &ArgMatches<'_>) -> Option<Limits>
     Limits::new(pairs, count, changes)
 }
 
-// What is told of the first limit that is no number in its range.
+// What is printed of the first limit that is no number in its range.
 fn limits_fault(alloc: Global, given: &ArgMatches<'_>) -> WordsFault
     ensures usage { IsUsage result }
     ensures plain { Says ArePlain result }
@@ -96,12 +97,12 @@ fn limits_fault(alloc: Global, given: &ArgMatches<'_>) -> WordsFault
     }
     match limit_fault(alloc, given, "max-changes", widest.changes()) {
         Some(fault) => fault,
-        // (not reached: limits that are all in their ranges are not told of)
+        // (not reached: nothing is printed of limits that are all in their ranges)
         None => usage(alloc, NO_COMMAND),
     }
 }
 
-// What is told of the limit given to an option, or `None` where it is a number from 1 to `greatest`, or none was given.
+// What is printed of the limit given to an option, or `None` if it is a number from 1 to `greatest`, or none was given.
 fn limit_fault(
     alloc: Global,
     given: &ArgMatches<'_>,
@@ -118,7 +119,7 @@ fn limit_fault(
     }
 }
 
-// The number given to an option, `default` where none was, or `None` where it is no number.
+// The number given to an option, `default` if none was, or `None` if it is no number.
 fn number_given(given: &ArgMatches<'_>, option: &str, default: u32) -> Option<u32>
     ensures given { IfSome result (IsGiven default (first_of option.now (rows_of (found_of given.now)))) }
     ensures refused { IfNone result ((n : ℕ) → IsGiven default (first_of option.now (rows_of (found_of given.now))) n → ⊥) }

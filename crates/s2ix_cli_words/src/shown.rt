@@ -1,4 +1,4 @@
-//! Words as they are told on a terminal: with escapes for their control characters.
+//! Words as they are printed on a terminal: with escapes for their control characters.
 ghost use Rattle.std.specs.Prelude.{◌≡◌, IfOk, OnOk, string_bytes};
 ghost use Rattle.s2ix_cli_words.specs.Shown.{ArePlain, escaped};
 

@@ -50,7 +50,7 @@ fn name<'a>(alloc: Global) -> Result<Command<'a>, AllocError>
         .bin_name("s2ix")
 }
 
-// A command with one subcommand more, where that could be made.
+// A command with one subcommand more, if that could be made.
 fn with<'a>(
     command: Command<'a>,
     added: Result<Command<'a>, AllocError>,

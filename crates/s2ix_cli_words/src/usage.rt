@@ -1,11 +1,11 @@
-//! What is told where the words ask for no command.
+//! What is told if the words ask for no command.
 ghost use Rattle.std.specs.Prelude.{◌≡◌, IfOk, string_bytes};
 ghost use Rattle.s2ix_cli_words.specs.Shown.{ArePlain, Says, as_usage, not_utf8_text};
 ghost use Rattle.s2ix_cli_words.specs.Words.{IsUsage};
 
-use crate::WordsFault;
 use crate::shown::{error_text, escaped_word, on_one_line, plain_text};
 use crate::tree::limit_error;
+use crate::words_fault::WordsFault;
 use std::alloc::{AllocError, Global};
 
 /// Usage with this text.
@@ -54,7 +54,7 @@ fn strange_text(alloc: Global, word: &[u8]) -> Result<String, AllocError>
     )
 }
 
-// Usage with this text, where there was room for it.
+// Usage with this text, if there was room for it.
 fn told(text: Result<String, AllocError>) -> WordsFault
     ensures usage { IsUsage result }
     ensures text { result ≡ as_usage text }

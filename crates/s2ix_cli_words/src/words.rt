@@ -3,11 +3,12 @@ ghost use Rattle.clap.specs.Words.{kind_of};
 ghost use Rattle.s2ix_cli_words.specs.Shown.{ArePlain, Says};
 ghost use Rattle.s2ix_cli_words.specs.Words.{AreRefused, AskFor, IsToldAs};
 
+use crate::command::Command;
 use crate::given::command_met;
 use crate::limits::LimitHelp;
 use crate::shown::words_text;
 use crate::tree::program;
-use crate::{Command, WordsFault};
+use crate::words_fault::WordsFault;
 use clap::Error;
 use clap::error::ErrorKind;
 use std::alloc::Global;

@@ -38,7 +38,7 @@ same_error TooManyCopies e never is = cc
 same_error TooManyPairs e never is = cc
 same_error OutOfMemory e never is = absurd (never is)
 
--- an error that says its own refusal is answered only where that is the edit's
+-- an error that says its own refusal is answered only if that is the edit's
 pub only_where : (r : Result ℕ EditError) (refusal : Option EditError) (e : EditError)
     → ((o : Option EditError) → IsEditRefusal e o → o ≡ Some e) → OnOk r (refusal ≡ None) → IfErr r (λ error. IsEditRefusal error refusal)
     → r ≡ Err e → refusal ≡ Some e
@@ -66,7 +66,7 @@ answered_where (Err x) refusal e own never accepted refused = (
 both_ways : {A B C : Type 0} → A ↔ B → B ↔ C → A ↔ C
 both_ways first second = (λ a. second.0 (first.0 a), λ c. first.1 (second.1 c))
 
--- where a store answers so to an edit
+-- if a store answers so to an edit
 pub record Answers (s : State) (edit : Edit) (r : Result ℕ EditError) : Type 0 where
   pub full : (r ≡ Err JournalFull) ↔ (length s.done ≡ changes_limit s.bag.limits)
   pub no_such_label : (r ≡ Err NoSuchLabel) ↔ (HasRoom s × (lacks_label edit s.bag.held ≡ true))
@@ -101,14 +101,14 @@ answers s edit r st accepted refused =
       too_many_pairs = λ is. many_from_refusal s edit (only_where r refusal TooManyPairs (λ o own. own) accepted refused is);
     }
 
--- where the edit was refused before its entries were carried out
+-- if the edit was refused before its entries were carried out
 pub answers_refused : (s : State) (edit : Edit) (r : Result ℕ EditError) (error : EditError) → IsStore s → r ≡ Err error
     → IsEditRefusal error (edit_refusal s edit) → Answers s edit r
 answers_refused s edit r error st is refused =
     let Told : Result ℕ EditError → Type 0 = λ x. Answers s edit x in
     subst Told (sym is) (answers s edit (Err error) st tt refused)
 
--- and where they were
+-- and if they were
 pub answers_recorded : (s : State) (edit : Edit) (es : List Entry) (r : Result ℕ EditError) → IsStore s → HasRoom s
     → Plans s.bag s.done edit es → OnOk r (entries_refusal s.bag es ≡ None)
     → IfErr r (λ error. IsEditRefusal error (entries_refusal s.bag es)) → Answers s edit r

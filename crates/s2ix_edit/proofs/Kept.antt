@@ -27,7 +27,7 @@ use Rattle.s2ix_edit.proofs.Undone.{undo_of_last}
 
 -- ---- an edit that is accepted
 
--- none of the first six refusals stands where there is none
+-- none of the first six refusals stands if there is none
 none_of_six : (full label copies level change below : Bool) (rest : Option EditError)
     → cond full (Some JournalFull)
     (cond label (Some NoSuchLabel)

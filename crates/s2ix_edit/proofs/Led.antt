@@ -15,8 +15,8 @@ use Rattle.s2ix_edit.specs.Steps.{after_edit, after_redo, after_redo_of, after_u
 use Rattle.s2ix_edit.proofs.AtCursor.{Redoes, Undoes}
 use Rattle.s2ix_edit.proofs.Redone.{redo_of_last, redo_of_undo}
 use Rattle.s2ix_edit.proofs.Undone.{front_of, undo_of_edit, undo_of_last, with_faces}
-use Rattle.s2ix_table_ranges.specs.Table.{Range, IsRangeTable, leaf_end}
-use Rattle.s2ix_table_ranges.proofs.Tables.{same_table, table_from_places}
+use Rattle.s2ix_table_walk.specs.Table.{Range, IsRangeTable, leaf_end}
+use Rattle.s2ix_table_walk.proofs.Tables.{same_table, table_from_places}
 
 -- the counts that an edit records are those of the two collections
 pub counts_recorded : (before after : State) (edit : Edit) → IsStore before → after ≡ after_edit before edit → (pair : Pair)

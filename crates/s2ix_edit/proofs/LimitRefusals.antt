@@ -57,7 +57,7 @@ grow_passes_no_count s label level st = never_high s (Grow label level) st (grow
 
 -- ---- a label that is dropped is held, and its pairs go
 
--- a refusal but that of a full journal or of a label comes where the label is held
+-- a refusal but that of a full journal or of a label comes if the label is held
 label_is_held : (s : State) (edit : Edit) (e : EditError) → e ≢ JournalFull → e ≢ NoSuchLabel → edit_refusal s edit ≡ Some e
     → lacks_label edit s.bag.held ≡ true → ⊥
 label_is_held s edit e not_full not_label is lacks =

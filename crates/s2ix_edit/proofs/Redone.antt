@@ -77,7 +77,7 @@ undo_of_redo s st some =
 
 -- ---- the limits
 
--- a step that goes by a change, where there is one, keeps the limits if each such step does
+-- a step that goes by a change, if there is one, keeps the limits if each such step does
 step_keeps_limits : (s : State) (step : List Entry → State) (o : Option (List Entry))
     → ((es : List Entry) → (step es).bag.limits ≡ s.bag.limits) → let next : State =
     elim o [ Some es ↦ step es | None ↦ s ] in

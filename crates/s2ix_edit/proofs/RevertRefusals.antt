@@ -37,7 +37,7 @@ changes_some s number st there stays =
 pub reverts_refused : (s : State) (number : ℕ) → IsStore s → IsOfRevert (edit_refusal s (Revert number))
 reverts_refused s number st = revert_refused s number (changes_some s number st)
 
--- and is accepted exactly where none of these is due
+-- and is accepted exactly if none of these is due
 pub taken_back_where : (s : State) (number : ℕ) → IsStore s
     → (edit_refusal s (Revert number) ≡ None)
     ↔ ((length s.done < changes_limit s.bag.limits) × (lacks_change s.done (Revert number) ≡ false)

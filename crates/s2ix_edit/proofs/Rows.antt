@@ -69,7 +69,7 @@ same_later : (full : Bool) (rest : Option EditError) → cond full (Some Journal
 same_later true rest is = cc
 same_later false rest is = (refl, is)
 
--- rows are refused because nothing would change where the journal has room and no row has copies
+-- rows are refused because nothing would change if the journal has room and no row has copies
 pub nothing_where : (s : State) (rows : List Held) → IsStore s
     → (rows_refusal s rows ≡ Some NoChange) ↔ (HasRoom s × (copies_in rows ≡ 0))
 nothing_where s rows st = (
@@ -77,7 +77,7 @@ nothing_where s rows st = (
   λ parts. with_room s rows parts.0 ∙ refused_for_nothing s.bag rows st.bag parts.1,
 )
 
--- and where memory is not wanted in its place, that is answered
+-- and if memory is not wanted in its place, that is answered
 pub nothing_answered_where : (s : State) (rows : List Held) (r : Result ℕ EditError) → IsStore s → OnOk r (rows_refusal s rows ≡ None)
     → IfErr r (λ error. IsEditRefusal error (rows_refusal s rows)) → (r ≡ Err OutOfMemory → rows_refusal s rows ≡ None)
     → (r ≡ Err NoChange) ↔ (HasRoom s × (copies_in rows ≡ 0))

@@ -14,4 +14,4 @@ pub use Rattle.s2ix_edit_plan.specs.Refusals
 pub use Rattle.s2ix_edit_plan.specs.Region
 pub use Rattle.s2ix_edit_plan.specs.Rows
 pub use Rattle.s2ix_edit_plan.specs.State
-pub use Rattle.s2ix_table_ranges.specs.Table
+pub use Rattle.s2ix_table_walk.specs.Table

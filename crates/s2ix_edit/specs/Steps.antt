@@ -4,7 +4,7 @@ use Rattle.s2ix_bag_pairs.specs.declared.pair.Entry.{Entry}
 use Rattle.s2ix_bag_pairs.specs.declared.pair.Held.{Held}
 use Rattle.s2ix_bag_pairs.specs.Change.{changed, inverse_of}
 use Rattle.s2ix_bag_pairs.specs.Collection.{Collection, LimitedCollection}
-use Rattle.s2ix_table_reading.specs.Faces.{faces, has_entry_on}
+use Rattle.s2ix_table.specs.Faces.{faces, has_entry_on}
 use Rattle.s2ix_edit_plan.specs.declared.edit.Edit.{Edit}
 use Rattle.s2ix_edit_plan.specs.Edit.{edited}
 use Rattle.s2ix_edit_plan.specs.Rows.{rows_change, with_rows}

@@ -22,7 +22,7 @@ ghost use Rattle.s2ix_edit.specs.Recorded.{IsRecorded};
 ghost use Rattle.s2ix_edit.specs.Standing.{first_collection, gain_along, without_numbered};
 ghost use Rattle.s2ix_edit.specs.Steps.{after_edit, after_forget, after_redo, after_rows, after_undo, with_held};
 ghost use Rattle.s2ix_edit.specs.Store.{IsStore};
-ghost use Rattle.s2ix_table_ranges.specs.Table.{Range, IsRangeTable};
+ghost use Rattle.s2ix_table_walk.specs.Table.{Range, IsRangeTable};
 
 /// The change that an edit records has the two counts of exactly the pairs whose counts the edit changes.
 pub fn edit_records_differences()

@@ -8,16 +8,16 @@ ghost use Rattle.s2ix_bag_pairs.specs.Change.{changed};
 ghost use Rattle.s2ix_bag_pairs.specs.Collection.{IsBag};
 ghost use Rattle.s2ix_edit_plan.specs.Errors.{IsEditRefusal};
 ghost use Rattle.s2ix_edit_plan.specs.Plan.{entries_refusal};
-ghost use Rattle.s2ix_table_reading.specs.Faces.{changed_count};
+ghost use Rattle.s2ix_table.specs.Faces.{changed_count};
 ghost use Rattle.s2ix_edit.specs.Steps.{IsShifted, with_held};
 
 use crate::store_table::StoreTable;
 use s2id_core::OutOfMemory;
-use s2ix_bag::{Bag, Change};
+use s2ix_bag_changes::{Bag, Change};
 use s2ix_bag_lists::ApplyError;
 use s2ix_edit_plan::EditError;
+use s2ix_table::{BagReader, PairReader};
 use s2ix_table_queries::RangeTable;
-use s2ix_table_reading::{BagReader, PairReader};
 use std::alloc::Global;
 
 // The table of a bag that a change has led to from the bag of this table, and how many pairs were read to make it. With p pairs on the faces

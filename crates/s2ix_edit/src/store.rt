@@ -17,17 +17,17 @@ ghost use Rattle.s2ix_edit_plan.specs.State.{State, change_of, history_of, start
 ghost use Rattle.s2ix_edit.specs.Recorded.{IsRecorded};
 ghost use Rattle.s2ix_edit.specs.Steps.{after_edit, after_forget, after_record, after_redo, after_rows, after_undo, redo_size, undo_size};
 ghost use Rattle.s2ix_edit.specs.Store.{CanGoBack, CanGoOn, HasRoom, IsStore};
-ghost use Rattle.s2ix_table_ranges.specs.Table.{IsRangeTable};
+ghost use Rattle.s2ix_table_walk.specs.Table.{IsRangeTable};
 
 use crate::steps::{apply_planned, apply_recorded, push_change, shift_last};
 use crate::store_table::StoreTable;
 use s2id_core::OutOfMemory;
 use s2id_union::CellUnion;
-use s2ix_bag::{Bag, Change};
+use s2ix_bag_changes::{Bag, Change};
 use s2ix_bag_pairs::{Held, Label, Limits};
 use s2ix_edit_plan::{Edit, EditError, RedoError, UndoError, plan, plan_rows, region_of};
+use s2ix_table::changed_face_count;
 use s2ix_table_queries::RangeTable;
-use s2ix_table_reading::changed_face_count;
 use std::alloc::Global;
 use std::marker::Model;
 
@@ -93,7 +93,7 @@ impl Store {
     /// empties `undone`; a refused one changes nothing. [`EditError`] says when each refusal is due. If the journal has room, an `Add` or a
     /// `Remove` of no copies, or an `AddUnion` of no cells, is `NoChange` and does not allocate. It costs what [`plan`] does, the
     /// freeing of the undone changes, and O(m + p + log n) for a change of m entries, if p of the n pairs that are held lie on the faces of
-    /// these entries. Only those faces are rebuilt.
+    /// these entries. Only those faces are rebuilt. Besides the plan, the new bag, its table and the slot in `done` want memory.
     pub fn edit(&mut self, edit: &Edit) -> Result<usize, EditError>
         ensures state { OnOk result (self.new ≡ after_edit self.old edit.now) }
         ensures history { OnOk result (history_of self.new

@@ -1,4 +1,4 @@
--- A count above a limit, and where a change makes one.
+-- A count above a limit, and when a change makes one.
 use Rattle.std.proofs.Common.{◌≡◌, ℕ, ◌+◌, ◌≤◌, ◌||◌, ◌<◌, ltb, true, false, List, [], ◌∷◌, Some, All, refl, sym, ap, ◌∙◌, ⊎_elim, arith, le-ltb, ltb-false}
 use Rattle.std.specs.List.{list_any}
 use Rattle.std.proofs.lemmas.Bool.{cases_Bool, cases_eq, or_parts}
@@ -38,7 +38,7 @@ count_within c (h ∷ hs) k none =
     (λ other. let rest = count_within c hs k parts.1 in omega (arith, rest, count_tail h hs k other))
     (cases_eq (rank_of h.pair) k)
 
--- where no count of a collection passes the limit, the test finds none
+-- if no count of a collection passes the limit, the test finds none
 pub none_above : (c : ℕ) (hs : Collection) → All (λ (h : Held). h.count ≤ c) hs → has_count_above c hs ≡ false
 none_above c [] small = refl
 none_above c (h ∷ hs) small =
@@ -83,7 +83,7 @@ within_from_changed c hs es is rises none =
     let counted = count_changed 0 hs es k is rises ∙ ap (λ o. count_after o (count_at hs k)) found in
     omega (arith, small, counted))
 
--- where the counts were within a limit, one passes it where a count after does
+-- if the counts were within a limit, one passes it if a count after does
 pub any_above_changed : (limit : ℕ) (hs : Collection) (es : List Entry) → IsCollection hs → IsChangeList es → All (λ h. h.count ≤ limit) hs
     → has_count_above limit (changed hs es) ≡ list_any (λ e. ltb limit e.after) es
 any_above_changed limit hs es is rises small =

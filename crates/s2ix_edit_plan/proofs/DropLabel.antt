@@ -33,7 +33,7 @@ filter_keeps test n (h ∷ hs) is =
     (from_lower n (rank_of h.pair + 1) (filter test hs) (omega (arith, is.0)) rest))
     (cases_Bool (test h))
 
--- a pair that is held has its count in the part exactly where it passes the test
+-- a pair that is held has its count in the part exactly if it passes the test
 pub filter_counts : (test : Held → Bool) (n : ℕ) (hs : Collection) (k : ℕ) → IsCollectionFrom n hs
     → ((h : Held) → rank_of h.pair ≡ k → test h ≡ true) → count_at (filter test hs) k ≡ count_at hs k
 filter_counts test n [] k is passes = refl

@@ -1,4 +1,4 @@
--- Where an edit is refused for each reason, and which refusal stands first.
+-- If an edit is refused for each reason, and which refusal stands first.
 use Rattle.std.proofs.Common.{◌≡◌, ◌≢◌, ◌↔◌, ℕ, ◌<◌, ◌≤◌, ◌==◌, nat_le, nat_lt, Bool, true, false, cond, List, [], ◌∷◌, length, find, is_some, Option, Some, None, ◌⊎◌, inl, inr, refl, sym, ap, ◌∙◌, ⊎_elim}
 use Rattle.std.proofs.lemmas.Bool.{cases_Bool, cond-false, cond-true, le-leb, leb-false, leb-true, lt-leb, ltb-true}
 use Rattle.s2ix_bag_pairs.specs.declared.pair.Entry.{Entry}
@@ -167,8 +167,8 @@ unfolding tests
 fine_where s edit = (
   λ found.
       let past = with_room_left s edit TooFine (λ is. cc) found in
-      let behind = NotHeld ∷ TooFine ∷ NoSuchChange ∷ BelowZero ∷ NoChange ∷ TooManyCopies ∷ TooManyPairs ∷ [] in
-      (past.0, (another_fails (tests s edit) NoSuchLabel TooFine behind (λ is. cc) past.1).0, it_is_due s edit TooFine found),
+      let after = NotHeld ∷ TooFine ∷ NoSuchChange ∷ BelowZero ∷ NoChange ∷ TooManyCopies ∷ TooManyPairs ∷ [] in
+      (past.0, (another_fails (tests s edit) NoSuchLabel TooFine after (λ is. cc) past.1).0, it_is_due s edit TooFine found),
   λ parts.
       cond-false _ _ _ (lt-leb _ _ parts.0) ∙ cond-false _ _ _ parts.1
       ∙ cond-false _ _ _ (fine_only s.done edit s.bag.held parts.2) ∙ cond-true _ _ _ parts.2,
@@ -264,7 +264,7 @@ accepted_by false false false false true many none = cc
 accepted_by false false false false false true none = cc
 accepted_by false false false false false false none = (refl, refl, refl, refl, refl)
 
--- where one is accepted, none of these is due
+-- if one is accepted, none of these is due
 pub revert_accepted : (s : State) (number : ℕ) → edit_refusal s (Revert number) ≡ None
     → (nat_le (changes_limit s.bag.limits) (length s.done) ≡ false) × (lacks_change s.done (Revert number) ≡ false)
     × (goes_below_zero s.done (Revert number) s.bag.held ≡ false)
@@ -278,7 +278,7 @@ revert_accepted s number none =
     (length (change_of s (Revert number)) == 0) (has_count_above (count_limit s.bag.limits) new)
     (nat_lt (pairs_limit s.bag.limits) (length new)) none
 
--- and where none is due, and something would change, it is accepted
+-- and if none is due, and something would change, it is accepted
 pub revert_taken : (s : State) (number : ℕ) → nat_le (changes_limit s.bag.limits) (length s.done) ≡ false
     → lacks_change s.done (Revert number) ≡ false → goes_below_zero s.done (Revert number) s.bag.held ≡ false
     → (length (change_of s (Revert number)) == 0) ≡ false

@@ -18,7 +18,7 @@ use Rattle.s2id_union.proofs.Unique.{Rises, around_from_all, in_region_of}
 
 -- ---- lists of which one has a cell of its own for each of the other
 
--- a part of a list is no longer, and shorter where one is left out
+-- a part of a list is no longer, and shorter if one is left out
 few_kept : (test : CellId → Bool) (xs : List CellId) → length (filter test xs) ≤ length xs
 few_kept test xs = omega (arith, length-filter_both test (λ x. not (test x)) (λ x. refl) xs)
 

@@ -246,7 +246,7 @@ any_of_cells : (test : CellId → Bool) (ks : Collection) → list_any test (map
 any_of_cells test [] = refl
 any_of_cells test (k ∷ ks) = ap (λ b. test (cell_of k) || b) (any_of_cells test ks)
 
--- a level up to 30 is too fine where it is more than 8 above that of a cell held with the label
+-- a level up to 30 is too fine if it is more than 8 above that of a cell held with the label
 pub too_fine_for_held : (level : ℕ) (label : Label) (hs : Collection) (fine : Bool) → level ≤ 30
     → fine ≡ list_any (λ h. nat_lt (level_of (cell_of h) + 8) level) (held_of label hs) → fine ≡ is_too_fine level (cells_of label hs)
 too_fine_for_held level label hs fine most is =

@@ -86,21 +86,21 @@ two_parts label hs = length-filter_both (is_of label) (λ h. not (is_of label h)
 
 -- ---- a removal
 
--- a count that is set makes no pair more where the pair is held, or stays unheld
+-- a count that is set makes no pair more if the pair is held, or stays unheld
 no_more_set : (m : ℕ) (p : Pair) (n : ℕ) (hs : Collection) → IsCollectionFrom m hs → (count_in hs p ≡ 0 → n ≡ 0)
     → length (set_count p n hs) ≤ length hs
 no_more_set m p n [] is none = let zero = ap (λ k. length (held_with p k [])) (none refl) in omega (arith, zero)
 no_more_set m p n (h ∷ hs) is none =
     let at_front = held_with p n (h ∷ hs) in
-    let behind : Collection = if rank_of p == rank_of h.pair then held_with p n hs else h ∷ set_count p n hs in
+    let after : Collection = if rank_of p == rank_of h.pair then held_with p n hs else h ∷ set_count p n hs in
     ⊎_elim
     (λ lt.
     let absent = count_tail h hs (rank_of p) (λ e. omega (arith, e, lt))
     ∙ count_below (rank_of h.pair + 1) hs (rank_of p) is.2 (omega (arith, lt)) in
-    let before = ap length (cond-true (nat_lt (rank_of p) (rank_of h.pair)) at_front behind (lt-ltb (rank_of p) (rank_of h.pair) lt)) in
+    let before = ap length (cond-true (nat_lt (rank_of p) (rank_of h.pair)) at_front after (lt-ltb (rank_of p) (rank_of h.pair) lt)) in
     omega (arith, before, ap (λ k. length (held_with p k (h ∷ hs))) (none absent)))
     (λ le.
-    let past = ap length (cond-false (nat_lt (rank_of p) (rank_of h.pair)) at_front behind (le-ltb (rank_of p) (rank_of h.pair) le)) in
+    let past = ap length (cond-false (nat_lt (rank_of p) (rank_of h.pair)) at_front after (le-ltb (rank_of p) (rank_of h.pair) le)) in
     ⊎_elim
     (λ same.
     let here = ap length
@@ -139,7 +139,7 @@ drop_small bag label b =
 pub drop_few : (bag : LimitedCollection) (label : Label) → length (without label bag.held) ≤ length bag.held
 drop_few bag label = omega (arith, two_parts label bag.held)
 
--- where that leaves the collection as it is, no pair of the label is held
+-- if that leaves the collection as it is, no pair of the label is held
 pub drop_changes : (label : Label) (hs : Collection) → without label hs ≡ hs → holds_none label hs ≡ true
 drop_changes label hs same =
     let parts = two_parts label hs in
@@ -148,18 +148,18 @@ drop_changes label hs same =
 
 -- ---- one that is moved to another
 
--- a pair that is held goes where its count is set to 0
+-- a pair that is held goes if its count is set to 0
 one_gone : (m : ℕ) (p : Pair) (hs : Collection) → IsCollectionFrom m hs → count_in hs p ≢ 0 → length (set_count p 0 hs) + 1 ≤ length hs
 one_gone m p [] is some = absurd (some refl)
 one_gone m p (h ∷ hs) is some =
-    let behind : Collection = if rank_of p == rank_of h.pair then hs else h ∷ set_count p 0 hs in
+    let after : Collection = if rank_of p == rank_of h.pair then hs else h ∷ set_count p 0 hs in
     ⊎_elim
     (λ lt.
     let absent = count_tail h hs (rank_of p) (λ e. omega (arith, e, lt))
     ∙ count_below (rank_of h.pair + 1) hs (rank_of p) is.2 (omega (arith, lt)) in
     absurd (some absent))
     (λ le.
-    let past = ap length (cond-false (nat_lt (rank_of p) (rank_of h.pair)) (h ∷ hs) behind (le-ltb (rank_of p) (rank_of h.pair) le)) in
+    let past = ap length (cond-false (nat_lt (rank_of p) (rank_of h.pair)) (h ∷ hs) after (le-ltb (rank_of p) (rank_of h.pair) le)) in
     ⊎_elim
     (λ same.
     let here = ap length (cond-true (rank_of p == rank_of h.pair) hs (h ∷ set_count p 0 hs) (eq-eqb (rank_of p) (rank_of h.pair) same)) in

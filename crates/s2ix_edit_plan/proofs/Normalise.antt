@@ -51,7 +51,7 @@ ones_other label (c ∷ cs) p other =
     count_tail (one_copy label c) (ones label cs) (rank_of p) (λ e. other (sym (same_label_at (pair_of c label) p e)))
     ∙ ones_other label cs p other
 
--- one copy more for each cell, where none was: what the pairs are held with
+-- one copy more for each cell, if none was: what the pairs are held with
 each_from_none : (n : ℕ) (label : Label) (cs : List CellId) (ks : Collection) (k : ℕ) → IsCollection ks → RiseFrom n cs → count_at ks k ≡ 0
     → count_at (with_each label cs ks) k ≡ count_at (ones label cs) k
 each_from_none n label [] ks k is rise none = none

@@ -101,7 +101,7 @@ pub same_where_none : (bag : LimitedCollection) (new : Collection) → IsBag bag
 same_where_none bag new b is none =
     sym (ap (λ es. changed bag.held es) (no_entries (change_between bag.held new) none)) ∙ changed_between bag.held new b.rises is
 
--- where a count of the edited collection passes the limit, the edit changes the collection
+-- if a count of the edited collection passes the limit, the edit changes the collection
 pub changes_some : (bag : LimitedCollection) (new : Collection) → IsBag bag → IsCollection new
     → has_count_above (count_limit bag.limits) new ≡ true → (length (change_between bag.held new) == 0) ≡ false
 changes_some bag new b is high =
@@ -114,7 +114,7 @@ changes_some bag new b is high =
     (λ some. some)
     (cases_Bool (length (change_between bag.held new) == 0))
 
--- so it does where the collection has more pairs than the limit
+-- so it does if the collection has more pairs than the limit
 longer_differs : (bag : LimitedCollection) (new : Collection) → IsBag bag → IsCollection new → pairs_limit bag.limits < length new
     → (length (change_between bag.held new) == 0) ≡ false
 longer_differs bag new b is many =

@@ -1,4 +1,4 @@
--- Taking a change back: what carries it out, and where it is refused.
+-- Taking a change back: what carries it out, and when it is refused.
 use Rattle.std.proofs.Common.{◌≡◌, ◌≢◌, ℕ, ◌==◌, ◌||◌, Bool, true, false, cond, ltb, nat_lt, is_some, ◌⊎◌, inl, inr, List, [], ◌∷◌, length, Option, Some, None, pos, ◌-ℤ◌, refl, sym, ap, ◌∙◌, subst}
 use Rattle.std.proofs.lemmas.Bool.{cond-false, cond-true}
 use Rattle.std.specs.List.{list_any}
@@ -199,7 +199,7 @@ refused_back bag changes number es revert.OutOfMemory b rises found is =
     wanting bag changes number es b rises found
     (none_by (is_high_back bag es) (is_many_back bag es) (first_below_zero bag.held es) (refused_is bag es ∙ is))
 
--- one that a bag takes back is refused where it changes nothing, or not at all
+-- one that a bag takes back is refused if it changes nothing, or not at all
 fits_or_same : (same : Bool) → (cond same (Some NoChange) None ≡ None) ⊎ (cond same (Some NoChange) None ≡ Some NoChange)
 fits_or_same true = inr refl
 fits_or_same false = inl refl

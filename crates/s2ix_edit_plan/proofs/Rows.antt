@@ -241,15 +241,15 @@ walks_other hs rows es pending next left differs least walks = (
   (let own = own_copies next left (rank_of next.pair) refl in omega (arith, own, least)),
 )
 
--- the rows behind the first have no more copies than all
+-- the rows after the first have no more copies than all
 pub rest_copies : (rows rest : List Held) (first : Held) (i : ℕ) (k : ℕ) → rows ≡ first ∷ rest
     → copies_at (drop i rest) k ≤ copies_at rows k
 rest_copies rows rest first i k is =
     let dropped = copies_dropped i rest k in
-    let behind = copies_dropped 1 (first ∷ rest) k in
-    omega (arith, dropped, behind, ap (λ rs. copies_at rs k) is)
+    let past = copies_dropped 1 (first ∷ rest) k in
+    omega (arith, dropped, past, ap (λ rs. copies_at rs k) is)
 
--- where no entry of a pending row can be made, none of all rows can
+-- if no entry of a pending row can be made, none of all rows can
 pub pending_error : (hs : Collection) (pending : Held) (rows : List Held) (error : EditError)
     → pending.count ≤ copies_at rows (rank_of pending.pair) → IsRowsError hs (pending ∷ []) error → IsRowsError hs rows error
 pending_error hs pending rows error least either =
@@ -408,7 +408,7 @@ error_refused bag rows sorted error b same either =
 
 -- ---- rows of no copies
 
--- where no pair gains copies, no row has any
+-- if no pair gains copies, no row has any
 copies_none : (rows : List Held) → ((k : ℕ) → copies_at rows k ≡ 0) → copies_in rows ≡ 0
 copies_none [] none = refl
 copies_none (row ∷ rows) none =

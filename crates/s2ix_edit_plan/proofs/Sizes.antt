@@ -1,4 +1,4 @@
--- How many pairs a collection holds where counts are set, and how many entries a change has.
+-- How many pairs a collection holds if counts are set, and how many entries a change has.
 use Rattle.std.proofs.Common.{ℕ, zero, suc, ◌+◌, ◌≤◌, ◌==◌, nat_lt, if◌then◌else◌, Bool, true, false, List, [], ◌∷◌, length, arith}
 use Rattle.s2id_core.specs.declared.cell_id.CellId.{CellId}
 use Rattle.s2ix_bag_pairs.specs.declared.label.Label.{Label}

@@ -51,7 +51,7 @@ abbrev pub numbered : ℕ → List (List Entry) → Option (List Entry)
 numbered zero changes = None
 numbered (suc place) changes = slice_get changes place
 
--- the collection with a change taken back from it; it stays where there is no such change
+-- the collection with a change taken back from it; it stays if there is no such change
 abbrev pub without_change : Option (List Entry) → Collection → Collection
 without_change (Some es) hs = taken_back hs es
 without_change None hs = hs

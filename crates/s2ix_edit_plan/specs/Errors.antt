@@ -5,7 +5,7 @@ use Rattle.s2ix_bag_lists.specs.declared.errors.RevertError.TheVariants as rever
 use Rattle.s2ix_edit_plan.specs.declared.errors.EditError.{EditError}
 use Rattle.s2ix_edit_plan.specs.declared.errors.EditError.TheVariants.{JournalFull, NoSuchLabel, NotHeld, TooFine, NoSuchChange, BelowZero, NoChange, TooManyCopies, TooManyPairs, OutOfMemory}
 
--- want of memory may come where the edit is accepted, and in place of what is found while the change is made
+-- want of memory may come if the edit is accepted, and in place of what is found while the change is made
 abbrev pub MayWantMemory : Option EditError → Type 0
 MayWantMemory None = Unit {0}
 MayWantMemory (Some JournalFull) = ⊥
@@ -19,7 +19,7 @@ MayWantMemory (Some TooManyCopies) = Unit {0}
 MayWantMemory (Some TooManyPairs) = Unit {0}
 MayWantMemory (Some OutOfMemory) = ⊥
 
--- the error is the refusal, or memory was wanted where it may be
+-- the error is the refusal, or memory was wanted if it may be
 abbrev pub IsEditRefusal : EditError → Option EditError → Type 0
 IsEditRefusal JournalFull refusal = refusal ≡ Some JournalFull
 IsEditRefusal NoSuchLabel refusal = refusal ≡ Some NoSuchLabel
@@ -32,7 +32,7 @@ IsEditRefusal TooManyCopies refusal = refusal ≡ Some TooManyCopies
 IsEditRefusal TooManyPairs refusal = refusal ≡ Some TooManyPairs
 IsEditRefusal OutOfMemory refusal = MayWantMemory refusal
 
--- why an edit has no plan where a bag refuses to take the change back
+-- why an edit has no plan if a bag refuses to take the change back
 abbrev pub revert_error : RevertError → EditError
 revert_error (revert.BelowZero place) = BelowZero
 revert_error revert.TooManyCopies = TooManyCopies

@@ -1,4 +1,4 @@
--- Carrying an edit out: the entries that it plans, and where a store refuses them.
+-- Carrying an edit out: the entries that it plans, and when a store refuses them.
 use Rattle.std.specs.Prelude.{◌≡◌, ◌⊎◌, ℕ, ◌==◌, nat_lt, if◌then◌else◌, false, Option, Some, None, Result, IfOk, IfErr, List, [], ◌∷◌, length}
 use Rattle.std.specs.List.{list_any}
 use Rattle.s2id_core.specs.declared.cell_id.CellId.{CellId}
@@ -18,7 +18,7 @@ use Rattle.s2ix_edit_plan.specs.declared.edit.Edit.{Edit}
 use Rattle.s2ix_edit_plan.specs.Edit.{edited_by, pair_of}
 use Rattle.s2ix_edit_plan.specs.Refusals.{lacks_label, takes_too_many, asks_too_fine, lacks_change, goes_below_zero, plan_refusal}
 
--- the entries that change the count of one pair: none where it stays
+-- the entries that change the count of one pair: none if it stays
 abbrev pub one_entry : Pair → ℕ → ℕ → List Entry
 one_entry pair before after =
     if before == after then [] else record { pair = pair; before = before; after = after } ∷ []
@@ -36,7 +36,7 @@ pub record Plans (bag : LimitedCollection) (changes : List (List Entry)) (edit :
   pub matches : first_mismatch bag es ≡ None
   pub result : changed bag.held es ≡ edited_by changes edit bag.held
 
--- the error says why there is no plan of the edit: it is the refusal where the journal has room, or memory was wanted where it
+-- the error says why there is no plan of the edit: it is the refusal if the journal has room, or memory was wanted if it
 -- may be
 abbrev pub IsPlanRefusal : LimitedCollection → List (List Entry) → Edit → EditError → Type 0
 IsPlanRefusal bag changes edit error = IsEditRefusal error (plan_refusal bag changes edit)
@@ -53,7 +53,7 @@ abbrev pub IsUnrefused : LimitedCollection → List (List Entry) → Edit → Ty
 IsUnrefused bag changes edit = (plan_refusal bag changes edit ≡ None) ⊎ (plan_refusal bag changes edit ≡ Some NoChange)
 
 -- why a store refuses planned entries, memory aside: none of them, else a count after above the limit, else more
--- distinct pairs than the limit; `None` where it takes them
+-- distinct pairs than the limit; `None` if it takes them
 abbrev pub entries_refusal : LimitedCollection → List Entry → Option EditError
 entries_refusal bag es =
     if length es == 0 then Some NoChange

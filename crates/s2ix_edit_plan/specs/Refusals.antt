@@ -1,4 +1,4 @@
--- Where an edit is refused.
+-- When an edit is refused.
 use Rattle.std.specs.Prelude.{ℕ, ◌==◌, nat_lt, nat_le, Bool, true, false, Option, Some, None, List, [], ◌∷◌, length, find, is_some}
 use Rattle.std.specs.List.{list_any}
 use Rattle.s2ix_bag_pairs.specs.declared.label.Label.{Label}
@@ -82,14 +82,14 @@ is_due bag changes edit new TooManyCopies = has_count_above (count_limit bag.lim
 is_due bag changes edit new TooManyPairs = nat_lt (pairs_limit bag.limits) (length new)
 is_due bag changes edit new OutOfMemory = false
 
--- the refusals that may be due where the journal has room, memory aside, in the order in which they decide
+-- the refusals that may be due if the journal has room, memory aside, in the order in which they decide
 abbrev pub refusals_with_room : List EditError
 refusals_with_room = NoSuchLabel ∷ NotHeld ∷ TooFine ∷ NoSuchChange ∷ BelowZero ∷ NoChange ∷ TooManyCopies ∷ TooManyPairs ∷ []
 
--- the refusal of an edit: a full journal, else the first that is due; `None` where the edit is accepted, memory aside
+-- the refusal of an edit: a full journal, else the first that is due; `None` if the edit is accepted, memory aside
 abbrev pub edit_refusal : State → Edit → Option EditError
 edit_refusal s edit = find (is_due s.bag s.done edit (edited (history_of s) edit)) (JournalFull ∷ refusals_with_room)
 
--- why an edit of a bag that these changes led to is refused where the journal has room, memory aside
+-- why an edit of a bag that these changes led to is refused if the journal has room, memory aside
 abbrev pub plan_refusal : LimitedCollection → List (List Entry) → Edit → Option EditError
 plan_refusal bag changes edit = find (is_due bag changes edit (edited_by changes edit bag.held)) refusals_with_room

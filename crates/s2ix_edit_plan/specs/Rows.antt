@@ -27,8 +27,8 @@ copies_at rows rank = sum_by (λ row. if rank_of row.pair == rank then row.count
 abbrev pub rows_change : Collection → List Held → List Entry
 rows_change hs rows = change_between hs (with_rows rows hs)
 
--- why rows are refused where the journal has room, memory aside: no count would change, else one would pass the limit, else the number
--- of distinct pairs would; `None` where they are accepted
+-- why rows are refused if the journal has room, memory aside: no count would change, else one would pass the limit, else the number
+-- of distinct pairs would; `None` if they are accepted
 abbrev pub rows_plan_refusal : LimitedCollection → List Held → Option EditError
 rows_plan_refusal bag rows =
     if length (rows_change bag.held rows) == 0 then Some NoChange
@@ -48,7 +48,7 @@ pub record PlansRows (bag : LimitedCollection) (rows : List Held) (es : List Ent
 
 -- ---- how the entries are found
 
--- the entry of one row: none where it has no copies
+-- the entry of one row: none if it has no copies
 abbrev pub gain_of : Collection → Held → List Entry
 gain_of hs row = one_entry row.pair (count_in hs row.pair) (count_in hs row.pair + row.count)
 

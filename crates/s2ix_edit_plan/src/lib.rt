@@ -1,7 +1,7 @@
 //! Edits of a collection: what each makes of it, when it is refused, and the change that carries it out.
 //!
 //! An [`Edit`] makes the next collection of one. [`plan`] says which counts it changes in a bag, and changes nothing itself: the bag
-//! applies the planned change, and the store, in the crate above this one, records it with its history. So edits, and the reasons why steps
+//! applies the planned change, and the store of `s2ix_edit` records it with its history. So edits, and the reasons why steps
 //! are refused, can be named without a store: [`EditError`] for a plan or an edit, [`UndoError`] and [`RedoError`] for an undo and a redo.
 #![tactic(auto)]
 

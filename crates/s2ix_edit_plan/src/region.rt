@@ -6,7 +6,7 @@ ghost use Rattle.s2ix_edit_plan.specs.Region.{cell_of, cells_of, region_of as re
 
 use s2id_core::{CellId, OutOfMemory};
 use s2id_union::CellUnion;
-use s2ix_bag::Bag;
+use s2ix_bag_changes::Bag;
 use s2ix_bag_pairs::{Held, Label};
 use std::alloc::Global;
 

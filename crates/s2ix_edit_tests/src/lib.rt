@@ -1,17 +1,19 @@
-//! Tests of stores: what each edit does, its limits and its refusals, undo, redo and forget, and what a store is asked.
+//! Tests of stores: each edit done, undone and done again, what a store is asked, and what may go to another thread.
+//!
+//! In `refused_tests` and `refused_large_tests` each growth of a step is refused in turn: `tests/hostile` runs each
+//! test there once for each growth that it asks for. The step tells so and has changed nothing, and made again it
+//! answers as it does with memory.
 #![tactic(auto)]
 
 #[cfg(test)]
-mod checks;
-#[cfg(test)]
 mod edit_tests;
 #[cfg(test)]
-mod limit_tests;
+mod refused_growths;
 #[cfg(test)]
-mod revert_tests;
+mod refused_large_tests;
 #[cfg(test)]
-mod row_tests;
-#[cfg(test)]
-mod step_tests;
+mod refused_tests;
 #[cfg(test)]
 mod store_tests;
+#[cfg(test)]
+mod thread_tests;

@@ -1,7 +1,58 @@
-//! What is true of all tables, by the room that proves it.
-pub use s2ix_table_chain::laws as chain;
-pub use s2ix_table_faces::laws as faces;
-pub use s2ix_table_queries::laws as queries;
-pub use s2ix_table_ranges::laws as ranges;
-pub use s2ix_table_reading::laws as reading;
+//! Laws: functions that do nothing; their contracts state facts about definitions.
+ghost use Rattle.s2ix_table.specs.ReadingLaws.{ChangedFacesTakeFewReads, UnchangedFacesStay};
+ghost use Rattle.std.specs.Prelude.{◌≡◌, ◌↔◌, IsTrue, ◌+◌, ◌*◌, ◌≤◌, length};
+ghost use Rattle.s2ix_table_spans.specs.Once.{KeepsOnce};
+ghost use Rattle.s2ix_table.specs.declared.face_place.FacePlace.{FacePlace};
+
+use crate::chain_table::ChainTable;
+use crate::face_place::FacePlace;
+use crate::faced_table::FacedTable;
+use crate::shares_chains::SharesChains;
+use s2ix_table_queries::RangeTable;
+pub use s2ix_table_queries::laws::{
+    cloned_copied_places_are_the_same, cloned_range_iterators_are_the_same,
+    cloned_stretches_are_the_same, cloned_visits_are_the_same, equal_copied_places_are_one,
+    equal_visits_are_one,
+};
+pub use s2ix_table_spans::laws as spans;
+use s2ix_table_spans::laws::ranges_are_those_of_the_span;
 pub use s2ix_table_walk::laws as walk;
+
+/// If a change has no entry on a face, the pairs held there before and after it are the same, with the same counts.
+pub fn unchanged_faces_stay()
+    ensures { UnchangedFacesStay }
+{}
+
+/// If none was read before, the reads of all faces that a change has entries on are at least the p pairs held there, and at most p + 12 *
+/// digits(n + 1) for n pairs held in all, so that their count didn't stop.
+pub fn changed_faces_take_few_reads()
+    ensures { ChangedFacesTakeFewReads }
+{}
+
+/// A pair has one place in a table with shared chains: each chain that holds it holds it at a place, and two chains hold it at the same
+/// one.
+pub fn keeps_a_pair_once<T: SharesChains>(table: &T)
+    ensures { KeepsOnce (T.chain table.now) }
+{}
+
+/// A `ChainTable` of n pairs has at most 2 * n + 1 ranges.
+pub fn chain_table_has_few_ranges(table: &ChainTable)
+    ensures { length (⟦<ChainTable as RangeTable>⟧.ranges table.now) ≤ 2 * length (⟦<ChainTable as RangeTable>⟧.pairs table.now) + 1 }
+{
+    ranges_are_those_of_the_span(&table.span);
+}
+
+/// Two places in a `FacedTable` are equal exactly if they are the same.
+pub fn equal_face_places_are_one()
+    ensures { (a b : FacePlace) → IsTrue (⟦<FacePlace as PartialEq>⟧.eq a b) ↔ (a ≡ b) }
+{}
+
+/// A clone of a place in a `FacedTable` is the same.
+pub fn cloned_face_places_are_the_same()
+    ensures { (a copy : FacePlace) → ⟦<FacePlace as Clone>⟧.is_clone a copy ↔ (copy ≡ a) }
+{}
+
+/// A `FacedTable` of n pairs has at most 2 * n + 1 ranges.
+pub fn faced_table_has_few_ranges(table: &FacedTable)
+    ensures { length (⟦<FacedTable as RangeTable>⟧.ranges table.now) ≤ 2 * length (⟦<FacedTable as RangeTable>⟧.pairs table.now) + 1 }
+{}

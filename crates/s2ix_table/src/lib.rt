@@ -27,21 +27,36 @@
 //! [`FacedTable`] has one such table for each face and rebuilds only the faces of a change ([`FacedTable::rebuilt`], over a [`BagReader`]):
 //! a store keeps one. [`CopiedTable`] has a list for each range, and is slow to build: tests compare the others with it.
 //!
-//! The crates behind this one: `s2ix_table_ranges` defines the ranges of a bag and what meets a target; `s2ix_table_walk` finds what meets a
-//! target and counts what it reads; `s2ix_table_queries` has the trait and its queries; `s2ix_table_chain` builds shared chains;
-//! `s2ix_table_reading` reads a bag and counts its reads; `s2ix_table_faces` joins the tables of six faces.
+//! The crates below this one: `s2ix_table_walk` defines the ranges of a bag and what meets a target, finds it, and counts what it reads;
+//! `s2ix_table_queries` has the trait with its queries, and `CopiedTable`; `s2ix_table_spans` builds the shared chains over a span of
+//! leaves. Here are the readers of a bag, and the tables that share chains.
 #![tactic(auto)]
 
+mod bag_reader;
+mod chain_table;
+mod changes;
+mod face_place;
+mod faced_table;
 pub mod laws;
+mod offset;
+mod pair_reader;
+mod read_faces;
+mod shares_chains;
+mod tables;
 
-pub use s2ix_table_chain::{ChainTable, SharesChains, SpanTable};
-pub use s2ix_table_faces::{FacePlace, FacedTable};
+pub use bag_reader::BagReader;
+pub use chain_table::ChainTable;
+pub use changes::{changed_face_count, changed_faces};
+pub use face_place::FacePlace;
+pub use faced_table::FacedTable;
+pub use pair_reader::PairReader;
+pub use read_faces::{read_changed, read_face, read_list};
 pub use s2ix_table_queries::{
     ChainIter, CopiedPlace, CopiedTable, Meter, RangeIter, RangeTable, Stretch, Visit, chain_at,
     contents, ranges,
 };
-pub use s2ix_table_ranges::RangeRow;
-pub use s2ix_table_reading::{
-    BagReader, PairReader, changed_face_count, changed_faces, read_changed, read_face, read_list,
+pub use s2ix_table_spans::SpanTable;
+pub use s2ix_table_walk::{
+    Cost, MANY_RANGES, Meeting, RangeRow, Reader, SAMPLE_STEP, Window, walk,
 };
-pub use s2ix_table_walk::{Cost, MANY_RANGES, Meeting, Reader, SAMPLE_STEP, Window, walk};
+pub use shares_chains::SharesChains;

@@ -8,12 +8,12 @@ use Rattle.s2id_core.specs.CellId.{first_of, end_of}
 use Rattle.s2ix_bag_pairs.specs.declared.pair.Held.{Held}
 use Rattle.s2ix_bag_pairs.specs.Collection.{Collection}
 use Rattle.s2ix_table_queries.specs.declared.copied_range.CopiedRange.{CopiedRange}
-use Rattle.s2ix_table_ranges.specs.Contents.{contents_at}
+use Rattle.s2ix_table_walk.specs.Contents.{contents_at}
 use Rattle.s2ix_table_queries.specs.Copied.{range_of, ranges_of}
-use Rattle.s2ix_table_ranges.specs.Table.{Range, range_at, leaf_end, IsRangeTable, IsFound}
-use Rattle.s2ix_table_ranges.specs.Bounds.{IsNextBound, IsBound}
-use Rattle.s2ix_table_ranges.proofs.Over.{span_of}
-use Rattle.s2ix_table_ranges.proofs.Tables.{IsTable, IsRangeFrom, changes_at, stays_between, table_push, places_from_table, limits_rise}
+use Rattle.s2ix_table_walk.specs.Table.{Range, range_at, leaf_end, IsRangeTable, IsFound}
+use Rattle.s2ix_table_walk.specs.Bounds.{IsNextBound, IsBound}
+use Rattle.s2ix_table_walk.proofs.Over.{span_of}
+use Rattle.s2ix_table_walk.proofs.Tables.{IsTable, IsRangeFrom, changes_at, stays_between, table_push, places_from_table, limits_rise}
 
 -- ---- the next bound
 

@@ -10,7 +10,7 @@ use Rattle.s2ix_bag_pairs.specs.Collection.{Collection}
 use Rattle.s2ix_bag_pairs.specs.Label.{value_of}
 use Rattle.s2ix_bag_pairs.specs.declared.label.Label.{Label}
 use Rattle.s2ix_bag_pairs.specs.declared.pair.Held.{Held}
-use Rattle.s2ix_table_ranges.specs.Meeting.{IsLabelList}
+use Rattle.s2ix_table_walk.specs.Meeting.{IsLabelList}
 
 -- one of the pairs has the label
 abbrev pub IsLabelOf : Collection → Label → Type 0

@@ -1,9 +1,9 @@
--- Ranges read by where they begin.
+-- Ranges of any table, read by where they begin.
 use Rattle.std.proofs.Common.{◌≡◌, ℕ, ◌+◌, ◌-◌, ◌*◌, ◌/◌, ◌%◌, ◌<◌, List, length, slice_index_or, sym, ◌∙◌, ap, arith}
 use Rattle.s2ix_bag_pairs.specs.Collection.{Collection}
-use Rattle.s2ix_table_ranges.specs.Table.{Range, range_at, IsRangeTable}
+use Rattle.s2ix_table_walk.specs.Table.{Range, range_at, IsRangeTable}
 use Rattle.s2ix_table_walk.proofs.WalkSteps.{range_fits}
-use Rattle.s2ix_table_queries.specs.Stretches.{IsSample, IsStretch}
+use Rattle.s2ix_table_walk.specs.Stretches.{IsSample, IsStretch}
 
 -- what a wrapped difference below a count tells, where nothing wraps at the end
 unwrapped : (first k count own : ℕ) → k < 18446744073709551616 → first + count < 18446744073709551616

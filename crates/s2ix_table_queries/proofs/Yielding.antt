@@ -4,9 +4,9 @@ use Rattle.std.specs.Iterator.{AlwaysYields, Yields, YieldsFirst}
 use Rattle.std.proofs.lemmas.Iterator.{YieldsList}
 use Rattle.std.proofs.lemmas.Iterator.Consumers.{YieldsList-from_first, YieldsList-from_shown, YieldsList-turn, YieldsList-end, YieldsList-at}
 use Rattle.s2ix_table_queries.specs.declared.iter.RangeIter.{RangeIter}
-use Rattle.s2ix_table_ranges.specs.declared.row.RangeRow.{RangeRow}
+use Rattle.s2ix_table_walk.specs.declared.row.RangeRow.{RangeRow}
 use Rattle.s2ix_table_queries.specs.Iterators.{StepsOn, ranges_left}
-use Rattle.s2ix_table_ranges.specs.Table.{Range}
+use Rattle.s2ix_table_walk.specs.Table.{Range}
 
 pub yields_rest : {S A : Type 0} (rest : S → List A) (s : S) (xs : List A) → rest s ≡ xs → AlwaysYields (YieldsFirst rest) (λ x. x) s xs
 yields_rest {S} {A} rest s xs e = (YieldsList-from_first (λ (x : A). x) rest {s = s} xs e).runs

@@ -2,8 +2,8 @@
 use Rattle.std.specs.Prelude.{◌≡◌, ℕ, ◌+◌, Option, List, [], ◌∷◌, drop}
 use Rattle.std.specs.Iterator.{YieldsFirst}
 use Rattle.s2ix_table_queries.specs.declared.iter.RangeIter.{RangeIter}
-use Rattle.s2ix_table_ranges.specs.declared.row.RangeRow.{RangeRow}
-use Rattle.s2ix_table_ranges.specs.Table.{Range}
+use Rattle.s2ix_table_walk.specs.declared.row.RangeRow.{RangeRow}
+use Rattle.s2ix_table_walk.specs.Table.{Range}
 
 -- the bounds of ranges with their places, counted from k
 abbrev pub numbered_rows : ℕ → List Range → List (ℕ × RangeRow)
@@ -23,7 +23,7 @@ pub record IsAtRange {T : Type 0} (ranges : T → List Range) (table : T) (it : 
   pub same : it.table.now ≡ table
   pub left : ranges_left ranges it ≡ numbered_rows k (drop k (ranges table))
 
--- a call gave the first of the bounds that were left and left the others, or `None` where none were left; the table stays the same
+-- a call gave the first of the bounds that were left and left the others, or `None` if none were left; the table stays the same
 pub record StepsOn {T : Type 0} (ranges : T → List Range) (old : RangeIter T) (answer : Option (ℕ × RangeRow))
     (new : RangeIter T) : Type 0 where
   pub yields : YieldsFirst (ranges_left ranges) old answer new

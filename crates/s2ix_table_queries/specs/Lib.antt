@@ -1,3 +1,11 @@
+pub use Rattle.s2ix_table_walk.specs.Contents
+pub use Rattle.s2ix_table_walk.specs.LabelList
+pub use Rattle.s2ix_table_walk.specs.Meeting
+pub use Rattle.s2ix_table_walk.specs.RangeList
+pub use Rattle.s2ix_table_walk.specs.Table
+pub use Rattle.s2ix_table_walk.specs.Calls
+pub use Rattle.s2ix_table_walk.specs.Costs
+pub use Rattle.s2ix_table_walk.specs.Places
+pub use Rattle.s2ix_table_walk.specs.Stretches
 pub mod Iterators
-pub mod Stretches
 pub mod Copied

@@ -1,8 +1,8 @@
 ghost use Rattle.std.specs.Prelude.{◌≡◌, ◌≢◌, ℕ, ◌%◌, ◌<◌, ◌≤◌, IfOk, drop, length};
 ghost use Rattle.s2ix_bag_pairs.specs.Collection.{IsCollection};
 ghost use Rattle.s2ix_bag_pairs.specs.OneProof.{IsCollection-prop};
-ghost use Rattle.s2ix_table_ranges.specs.Contents.{contents_at};
-ghost use Rattle.s2ix_table_ranges.specs.Table.{range_at, leaf_end, IsRangeTable};
+ghost use Rattle.s2ix_table_walk.specs.Contents.{contents_at};
+ghost use Rattle.s2ix_table_walk.specs.Table.{range_at, leaf_end, IsRangeTable};
 ghost use Rattle.s2ix_table_queries.specs.Copied.{ranges_of};
 
 use crate::copied_filter::{contents_over, next_bound};
@@ -10,9 +10,9 @@ use crate::copied_pairs::held_pairs;
 use crate::copied_range::CopiedRange;
 use crate::table::RangeTable;
 use s2id_core::{CellId, LEAF_END, OutOfMemory};
-use s2ix_bag::Bag;
+use s2ix_bag_changes::Bag;
 use s2ix_bag_pairs::Held;
-use s2ix_table_ranges::RangeRow;
+use s2ix_table_walk::RangeRow;
 use std::alloc::Global;
 use std::snapshot::Snapshot;
 

@@ -2,7 +2,7 @@ ghost use Rattle.std.specs.Prelude.{◌≡◌, ◌≤◌, IfOk, length};
 ghost use Rattle.s2ix_bag_pairs.specs.Collection.{IsCollection};
 
 use s2id_core::OutOfMemory;
-use s2ix_bag::Bag;
+use s2ix_bag_changes::Bag;
 use s2ix_bag_pairs::Held;
 use std::alloc::Global;
 

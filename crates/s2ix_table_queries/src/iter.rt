@@ -1,15 +1,15 @@
 ghost use Rattle.std.specs.Prelude.{◌≡◌, ◌<◌, ℕ, Some, length};
 ghost use Rattle.std.specs.Iterator.{AlwaysYields, YieldsFirst, item_count};
 ghost use Rattle.s2id_core.specs.CellId.{raw_of, level_of};
-ghost use Rattle.s2ix_table_ranges.specs.Contents.{contents_at};
+ghost use Rattle.s2ix_table_walk.specs.Contents.{contents_at};
 ghost use Rattle.s2ix_table_walk.specs.Places.{IsPlace, from_place};
 ghost use Rattle.s2ix_table_queries.specs.Iterators.{numbered_rows, IsAtRange};
-ghost use Rattle.s2ix_table_ranges.specs.Table.{range_at, IsFound};
+ghost use Rattle.s2ix_table_walk.specs.Table.{range_at, IsFound};
 
 use crate::table::RangeTable;
 use s2id_core::CellId;
 use s2ix_bag_pairs::Held;
-use s2ix_table_ranges::RangeRow;
+use s2ix_table_walk::RangeRow;
 
 /// The ranges of a table with their places, in order (S2's `RangeIterator`). O(1) for each.
 #[derive(Debug, Drop)]
@@ -71,8 +71,8 @@ pub fn ranges<T: RangeTable>(table: &T) -> RangeIter<'_, T>
     RangeIter::new(table)
 }
 
-/// The pairs of a chain, innermost cell first, the labels of one cell rising (S2's `ContentsIterator`, without its memory of what it
-/// gave). O(1) for each.
+/// The pairs of a chain, innermost cell first, the labels of one cell rising (S2's `ContentsIterator`, which also leaves out pairs
+/// that it gave before). O(1) for each.
 #[derive(Drop)]
 #[derive_where(Debug; T, T::Place)]
 pub struct ChainIter<'a, T: RangeTable> {

@@ -2,7 +2,7 @@
 ghost use Rattle.std.specs.Prelude.{◌≡◌, ◌↔◌, ◌⊎◌, ◌<◌, IfOk, OnOk, Contains};
 ghost use Rattle.s2ix_bag_pairs.specs.declared.label.Label.{Label as LabelHeld};
 ghost use Rattle.s2ix_bag_pairs.specs.declared.pair.Held.{Held};
-ghost use Rattle.s2ix_table_ranges.specs.Meeting.{meeting_of};
+ghost use Rattle.s2ix_table_walk.specs.Meeting.{meeting_of};
 
 use crate::meter::Meter;
 use crate::table::RangeTable;

@@ -1,5 +1,5 @@
 //! Laws: functions that do nothing; their contracts state facts about definitions.
-ghost use Rattle.std.specs.Prelude.{◌≡◌, ◌↔◌, IsTrue};
+ghost use Rattle.std.specs.Prelude.{◌≡◌, ◌↔◌, IsTrue, ◌+◌};
 ghost use Rattle.s2ix_table_queries.specs.declared.visit.Visit.{Visit};
 ghost use Rattle.s2ix_table_queries.specs.declared.copied.CopiedPlace.{CopiedPlace};
 
@@ -29,12 +29,12 @@ pub fn cloned_stretches_are_the_same<'a>()
     ensures { (stretch copy : _) → ⟦<Stretch<'a> as Clone>⟧.is_clone stretch copy ↔ (copy ≡ stretch) }
 {}
 
-/// Two places are equal exactly if they are the same.
-pub fn equal_places_are_one()
+/// Two places in a `CopiedTable` are equal exactly if they are the same.
+pub fn equal_copied_places_are_one()
     ensures { (a b : CopiedPlace) → IsTrue (⟦<CopiedPlace as PartialEq>⟧.eq a b) ↔ (a ≡ b) }
 {}
 
-/// A clone of a place is the same.
-pub fn cloned_places_are_the_same()
+/// A clone of a place in a `CopiedTable` is the same.
+pub fn cloned_copied_places_are_the_same()
     ensures { (a copy : CopiedPlace) → ⟦<CopiedPlace as Clone>⟧.is_clone a copy ↔ (copy ≡ a) }
 {}

@@ -1,12 +1,9 @@
-//! Range tables of labelled cells, and what they answer (S2's `S2CellIndex`).
+//! The trait of range tables, and what is asked of any of them: what meets a union, what lies over a leaf, and range by range.
 //!
-//! The leaves of the curve fall into maximal spans over which the same pairs lie. A [`RangeTable`] keeps these ranges in
-//! order, and with each of them its contents: the pairs whose cells have its leaves, the innermost cell first. One walk, over
-//! what a [`Meter`] reads of a table, finds what meets a target.
-//!
-//! A table is built of a bag and never changed: another bag has another table. `visit`, `meeting` and `labels` answer what meets a union;
-//! [`chain_at`] what lies over a leaf; [`ranges`] and [`contents`] go along the table, as S2's iterators do. [`CopiedTable`] has a list for
-//! each range: plain, and slow to build, for comparison with the others. `StoreTable` of `s2ix_edit` names the table that a store keeps.
+//! A [`RangeTable`] keeps the ranges of a bag in order, and a chain of pairs for each. What meets a union is found by the `Meeting` of
+//! `s2ix_table_walk`, through a [`Meter`], which counts what is read; `find`, [`chain_at`] and [`ranges`] read the table itself.
+//! [`CopiedTable`] keeps a list for each range: it is slow to build, and tests compare the tables of
+//! `s2ix_table` with it.
 #![tactic(auto)]
 
 mod copied;

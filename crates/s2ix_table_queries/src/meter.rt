@@ -1,12 +1,11 @@
 ghost use Rattle.std.specs.Prelude.{◌≡◌};
 ghost use Rattle.s2ix_table_walk.specs.Costs.{no_cost};
-ghost use Rattle.s2ix_table_queries.specs.Stretches.{IsSample, IsStretch};
+ghost use Rattle.s2ix_table_walk.specs.Stretches.{IsSample, IsStretch};
 
 use crate::stretch::Stretch;
 use crate::table::RangeTable;
 use s2ix_bag_pairs::Held;
-use s2ix_table_ranges::RangeRow;
-use s2ix_table_walk::{Cost, Reader, SAMPLE_STEP, Window};
+use s2ix_table_walk::{Cost, RangeRow, Reader, SAMPLE_STEP, Window};
 
 /// A reader of a table that counts what is read of it. It keeps three things at hand: the stretch of the face that was last asked for, in
 /// which a search reads where ranges begin, the first range of that face's window, and the note that makes the next read of a range nearby

@@ -1,6 +1,6 @@
 ghost use Rattle.std.specs.Prelude.{List};
-ghost use Rattle.s2ix_table_ranges.specs.Table.{Range};
-ghost use Rattle.s2ix_table_queries.specs.Stretches.{IsSample, IsStretch};
+ghost use Rattle.s2ix_table_walk.specs.Table.{Range};
+ghost use Rattle.s2ix_table_walk.specs.Stretches.{IsSample, IsStretch};
 
 /// Consecutive ranges of a table, which can be read by where they begin: `count` of them, from `first` on. Each begins at one of the
 /// `starts` and ends at the next.

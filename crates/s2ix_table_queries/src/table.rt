@@ -1,12 +1,12 @@
 ghost use Rattle.std.specs.Prelude.{◌≡◌, ◌<◌, ◌≤◌, ◌∷◌, ℕ, IfOk, IsTrue, List, length, drop};
 ghost use Rattle.s2id_core.specs.CellId.{raw_of, level_of};
 ghost use Rattle.s2ix_bag_pairs.specs.Collection.{Collection, IsCollection};
-ghost use Rattle.s2ix_table_ranges.specs.LabelList.{label_list};
-ghost use Rattle.s2ix_table_ranges.specs.Table.{Range, range_at, IsRangeTable};
+ghost use Rattle.s2ix_table_walk.specs.LabelList.{label_list};
+ghost use Rattle.s2ix_table_walk.specs.Table.{Range, range_at, IsRangeTable};
 ghost use Rattle.s2ix_table_walk.specs.Places.{IsPlace, LeadsTo};
 ghost use Rattle.s2ix_table_walk.specs.FaceWindows.{HaveFace};
-ghost use Rattle.s2ix_table_queries.specs.Stretches.{IsSample, IsStretch};
-ghost use Rattle.s2ix_table_ranges.specs.Meeting.{IsMeetingList, IsLabelList, meeting_of};
+ghost use Rattle.s2ix_table_walk.specs.Stretches.{IsSample, IsStretch};
+ghost use Rattle.s2ix_table_walk.specs.Meeting.{IsMeetingList, IsLabelList, meeting_of};
 ghost use Rattle.s2ix_table_walk.specs.Calls.{MayVisit, CallsOn, Visits};
 ghost use Rattle.s2ix_table_walk.specs.Costs.{ranges_met, IsWalkCost};
 
@@ -16,10 +16,9 @@ use crate::stretch::Stretch;
 use crate::visit::Visit;
 use s2id_core::{CellId, OutOfMemory};
 use s2id_union::CellUnion;
-use s2ix_bag::Bag;
+use s2ix_bag_changes::Bag;
 use s2ix_bag_pairs::{Held, Label};
-use s2ix_table_ranges::RangeRow;
-use s2ix_table_walk::{Meeting, Reader, Window, walk};
+use s2ix_table_walk::{Meeting, RangeRow, Reader, Window, walk};
 use std::alloc::Global;
 
 /// The range table of a collection: the maximal spans of leaves over which the same pairs lie, in order, each with a

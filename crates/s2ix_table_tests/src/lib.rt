@@ -1,12 +1,21 @@
-//! Tests of range tables of all kinds: worked ones, random ones beside a plain filter of their pairs, tables over
-//! one face, and tables of very many ranges.
+//! Tests of range tables of all kinds: worked ones, a table over one face, tables of very many ranges, and what is read of a bag for them.
+//!
+//! In `refused_tests` each growth of a call is refused in turn: `tests/hostile` runs each test there once for each growth that it asks for.
+//! The call tells so and has changed nothing, and made again it answers as it does with memory. The growths of the tests in
+//! `refused_growths` are counted.
 #![tactic(auto)]
 
 #[cfg(test)]
-mod filter_tests;
-#[cfg(test)]
 mod many_tests;
+#[cfg(test)]
+mod reading_tests;
+#[cfg(test)]
+mod refused_growths;
+#[cfg(test)]
+mod refused_tests;
+#[cfg(test)]
+mod samples;
 #[cfg(test)]
 mod span_tests;
 #[cfg(test)]
-mod worked_tests;
+mod table_tests;

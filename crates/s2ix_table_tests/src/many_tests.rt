@@ -1,30 +1,85 @@
 //! Tables of so many ranges on a face that a search begins with a sample of their starts.
-use s2id_samples::Random;
-use s2ix_bag_samples::wide_bag;
-use s2ix_table::{ChainTable, FacedTable, RangeTable};
-use s2ix_table_samples::{answer_all_the_same, answers_for_faces};
+use s2id_core::CellId;
+use s2id_union::CellUnion;
+use s2ix_bag::{Bag, Change, Entry, Held, Label, Limits, Pair};
+use s2ix_table::{ChainTable, FacedTable, MANY_RANGES, RangeTable, SAMPLE_STEP, Stretch};
 use std::alloc::Global;
 
-// Whether a table with a sample answers as the table without one.
-fn is_the_same_sampled(alloc: Global, face: u8) -> Option<bool> {
-    let bag = wide_bag(alloc, face)?;
-    let chains = ChainTable::build(alloc, &bag).ok()?;
-    let faced = FacedTable::build(alloc, &bag).ok()?;
-    let mut random = Random::new(3);
-    let is_sampled = face < 6 && !faced.stretch(face).sample.is_empty();
-    Some(
-        is_sampled
-            && answers_for_faces(&faced)
-            && answer_all_the_same(alloc, &mut random, &chains, &faced),
-    )
+// The number of the first cell of level 9 on face 5.
+const FIRST: u64 = 0xa000040000000000;
+
+// The k-th of the cells of level 9 on face 5 that are 13 apart.
+fn cell_at(k: u64) -> Option<CellId> {
+    CellId::from_raw(FIRST.wrapping_add(k.wrapping_mul(13 << 43)))
+}
+
+// The pair of the k-th cell, under the label 7.
+fn pair_at(k: u64) -> Option<Pair> {
+    Some(Pair {
+        cell: cell_at(k)?,
+        label: Label::new(7)?,
+    })
+}
+
+// The bag of 20,000 such pairs: there are more than 40,000 ranges.
+fn wide_bag(alloc: Global) -> Option<Bag> {
+    let mut entries = Vec::new(alloc);
+    for k in 0..20_000u64 {
+        let entry = Entry {
+            pair: pair_at(k)?,
+            before: 0,
+            after: 1,
+        };
+        entries.push(entry).ok()?;
+    }
+    let change = Change::from_entries(alloc, &entries).ok()?;
+    Bag::empty(alloc, Limits::default())
+        .applied(alloc, &change)
+        .ok()
+}
+
+// Whether a table lists the k-th pair alone for its cell.
+fn lists_pair<T: RangeTable>(alloc: Global, table: &T, k: u64) -> Option<bool> {
+    let pair = pair_at(k)?;
+    let target = CellUnion::normalise(alloc, &[pair.cell]).ok()?;
+    let met = table.meeting(alloc, &target).ok()?;
+    Some(met.as_slice() == [Held { pair, count: 1 }].as_slice())
+}
+
+// Whether a kind of table of a bag finds the first cell, the last and some between them.
+fn finds_cells<T: RangeTable + Drop>(alloc: Global, bag: &Bag) -> Option<bool> {
+    let table = T::build(alloc, bag).ok()?;
+    for k in [0, 1, 7, 8, 9_999, 12_345, 19_998, 19_999] {
+        if !lists_pair(alloc, &table, k)? {
+            return Some(false);
+        }
+    }
+    Some(true)
 }
 
 #[test]
-fn samples_lead_to_the_same_pairs(rt: HostRuntime) {
-    for face in [0, 5] {
-        assert!(rt;
-            is_the_same_sampled(rt.alloc(), face) == Some(true),
-            "wrong on face {face}"
-        );
+fn a_cell_is_found_among_many_ranges(rt: HostRuntime) {
+    let bag = wide_bag(rt.alloc()).expect(&rt, "a bag");
+    assert!(rt; finds_cells::<ChainTable>(rt.alloc(), &bag) == Some(true));
+    assert!(rt; finds_cells::<FacedTable>(rt.alloc(), &bag) == Some(true));
+}
+
+// Whether a stretch has every 16th of its starts in its sample, from the 16th on, and no others.
+fn has_sample(stretch: Stretch<'_>) -> bool {
+    let mut place = SAMPLE_STEP - 1;
+    for start in stretch.sample {
+        if place >= stretch.count || stretch.starts.get(place) != Some(start) {
+            return false;
+        }
+        place = place.wrapping_add(SAMPLE_STEP);
     }
+    stretch.sample.len() == stretch.count / SAMPLE_STEP
+}
+
+#[test]
+fn a_table_of_many_ranges_has_a_sample(rt: HostRuntime) {
+    let bag = wide_bag(rt.alloc()).expect(&rt, "a bag");
+    let table = FacedTable::build(rt.alloc(), &bag).expect(&rt, "memory");
+    let stretch = table.stretch(5);
+    assert!(rt; stretch.count > MANY_RANGES && has_sample(stretch));
 }

@@ -5,10 +5,9 @@ ghost use Rattle.s2id_core.specs.CellId.{first_of, end_of};
 
 use s2id_core::CellId;
 use s2ix_bag::{FlatHeld, Held, HeldList};
-use s2ix_bag_samples::{WIDEST, bag_of};
-use s2ix_table::laws::chain::ranges_are_those_of_the_span;
+use s2ix_bag_samples::{WIDEST, bag_of, held_of};
+use s2ix_table::laws::spans::ranges_are_those_of_the_span;
 use s2ix_table::{RangeRow, SpanTable};
-use s2ix_table_samples::{Pairs, Row};
 use std::alloc::Global;
 
 // The leaf numbers at which face 2 begins and ends.
@@ -16,10 +15,11 @@ const FROM: u64 = 0x4000000000000001;
 
 const TO: u64 = 0x6000000000000001;
 
-const RANGES: [Row; 3] = [
-    (0x4800000000000001, "44:6:1 5:3:1"),
-    (0x5000000000000001, "4c:1:1 5:3:1"),
-    (TO, "5:3:1"),
+// Where each range ends, the innermost pair over it, and the next one outwards.
+const RANGES: [(u64, &str, &str); 3] = [
+    (0x4800000000000001, "44:6:1", "5:3:1"),
+    (0x5000000000000001, "4c:1:1", "5:3:1"),
+    (TO, "5:3:1", ""),
 ];
 
 // Whether a held cell begins before a leaf number.
@@ -30,7 +30,7 @@ fn begins_before(held: &[FlatHeld], from: u64) -> bool
 }
 
 // Whether a held cell ends after a leaf number.
-fn ends_behind(held: &[FlatHeld], to: u64) -> bool
+fn ends_past(held: &[FlatHeld], to: u64) -> bool
     ensures { result ≡ list_any (λ h. nat_lt to (end_of h.pair.cell)) held.now }
 {
     held.iter().any(|h| to < h.cell().span_end())
@@ -42,7 +42,7 @@ fn face_table(alloc: Global, pairs: &str) -> Option<SpanTable>
     ensures ends { IfSome result (λ table. table.to ≡ 6917529027641081857) }
 {
     let held = bag_of(alloc, WIDEST, pairs)?.flat(alloc).ok()?;
-    if begins_before(held.as_slice(), FROM) || ends_behind(held.as_slice(), TO) {
+    if begins_before(held.as_slice(), FROM) || ends_past(held.as_slice(), TO) {
         return None;
     }
     let list = HeldList::new(alloc, held).ok()?;
@@ -64,12 +64,12 @@ fn first_two(table: &SpanTable, k: usize) -> (Option<Held>, Option<Held>, bool)
     (Some(inner), Some(table.held_at(next)), has_more)
 }
 
-// Whether the range at a place is this one, and these pairs, at most two, lie over it.
-fn has_range(table: &SpanTable, k: usize, range: RangeRow, pairs: &'static str) -> bool {
+// Whether the range at a place is this one, and these pairs alone lie over it.
+fn has_range(table: &SpanTable, k: usize, range: RangeRow, inner: &str, outer: &str) -> bool {
     k < table.range_count()
         && table.range(k) == range
         && table.start(k) == range.start
-        && first_two(table, k) == (pairs.at(0), pairs.at(1), false)
+        && first_two(table, k) == (held_of(inner), held_of(outer), false)
 }
 
 // Whether a leaf of the face is found in its range.
@@ -89,9 +89,9 @@ fn has_rows(table: &SpanTable) -> bool
     requires ends { table.now.to ≡ 6917529027641081857 }
 {
     let mut start = FROM;
-    for (k, &(limit, pairs)) in RANGES.iter().enumerate() {
+    for (k, &(limit, inner, outer)) in RANGES.iter().enumerate() {
         let is_found = finds(table, start, k) && finds(table, limit.wrapping_sub(2), k);
-        if !is_found || !has_range(table, k, RangeRow { start, limit }, pairs) {
+        if !is_found || !has_range(table, k, RangeRow { start, limit }, inner, outer) {
             return false;
         }
         start = limit;

@@ -38,7 +38,7 @@ pub count_grows : {X : Type 0} (p q : X → Bool) (xs : List X) → ((x : X) →
 count_grows p q [] h = omega arith
 count_grows p q (x ∷ xs) h = grows_at x p q (x ∷ xs) (λ j lt. h (get_or (x ∷ xs) j x))
 
--- and one more at most where it is weaker at one place alone
+-- and one more at most if it is weaker at one place alone
 pub count_grows_once : {X : Type 0} (d : X) (p q : X → Bool) (xs : List X) (k : ℕ)
     → ((j : ℕ) → j < length xs → (j ≡ k → ⊥) → p (get_or xs j d) ≡ true → q (get_or xs j d) ≡ true) → count_by p xs ≤ count_by q xs + 1
 count_grows_once d p q [] k h = omega arith
@@ -59,14 +59,14 @@ count_grows_once d p q (x ∷ xs) (suc k) h =
       count_grows_once d p q xs k (λ j lt other. h (suc j) (omega arith) (λ e. other (omega arith))),
     )
 
--- nothing is counted where nothing passes
+-- nothing is counted if nothing passes
 pub count_none : {X : Type 0} (d : X) (p : X → Bool) (xs : List X) → ((j : ℕ) → j < length xs → p (get_or xs j d) ≡ true → ⊥)
     → count_by p xs ≡ 0
 count_none d p [] h = refl
 count_none d p (x ∷ xs) h =
     omega (arith, count_cons p x xs, none_at (p x) (h 0 (omega arith)), count_none d p xs (λ j lt. h (suc j) (omega arith)))
 
--- and more where an element passes it alone
+-- and more if an element passes it alone
 pub count_gains : {X : Type 0} (p q : X → Bool) (xs : List X) (x : X) → ((y : X) → p y ≡ true → q y ≡ true) → Contains xs x → p x ≡ false
     → q x ≡ true → count_by p xs + 1 ≤ count_by q xs
 count_gains p q [] x h c off on = absurd (none_in_nil x c)

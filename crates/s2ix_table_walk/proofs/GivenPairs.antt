@@ -8,10 +8,10 @@ use Rattle.std.proofs.lemmas.Option.{get_or_from_slice_get}
 use Rattle.s2id_core.specs.declared.cell_id.CellId.{CellId}
 use Rattle.s2ix_bag_pairs.specs.Collection.{Collection}
 use Rattle.s2ix_bag_pairs.specs.declared.pair.Held.{Held}
-use Rattle.s2ix_table_ranges.specs.InOrder.{insertion, choice}
-use Rattle.s2ix_table_ranges.specs.Meeting.{first_shared, meeting_key, is_met_from, meeting_from, meeting_of}
-use Rattle.s2ix_table_ranges.specs.Table.{Range, leaf_end}
-use Rattle.s2ix_table_ranges.proofs.InOrder.{choice_in, choice_out, in_choice}
+use Rattle.s2ix_table_walk.specs.InOrder.{insertion, choice}
+use Rattle.s2ix_table_walk.specs.Meeting.{first_shared, meeting_key, is_met_from, meeting_from, meeting_of}
+use Rattle.s2ix_table_walk.specs.Table.{Range, leaf_end}
+use Rattle.s2ix_table_walk.proofs.InOrder.{choice_in, choice_out, in_choice}
 use Rattle.s2ix_table_walk.specs.Costs.{is_met, ranges_met_by}
 use Rattle.s2ix_table_walk.specs.Places.{from_place}
 use Rattle.s2ix_table_walk.specs.Shown.{Shown}

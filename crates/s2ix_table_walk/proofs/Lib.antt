@@ -1,3 +1,13 @@
+pub mod InOrder
+pub mod Over
+pub mod Tables
+pub mod FirstShared
+pub mod Rising
+pub mod Lists
+pub mod Once
+pub mod RangeList
+pub mod LabelList
+pub mod SameMeeting
 pub mod Leads
 pub mod Visits
 pub mod Meetings
@@ -7,7 +17,7 @@ pub mod OnFaces
 pub mod WalkSteps
 pub mod Left
 pub mod GivenPairs
-pub mod Leaps
+pub mod Gallops
 pub mod Paying
 pub mod Calling
 pub mod Meets

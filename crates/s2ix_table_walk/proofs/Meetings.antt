@@ -9,14 +9,14 @@ use Rattle.s2id_union.specs.Covers.{Covers}
 use Rattle.s2id_core.proofs.Lists.{at_head, in_tail}
 use Rattle.s2ix_bag_pairs.specs.declared.pair.Held.{Held}
 use Rattle.s2ix_bag_pairs.specs.Collection.{Collection}
-use Rattle.s2ix_table_ranges.specs.InOrder.{insertion, choice}
-use Rattle.s2ix_table_ranges.specs.Contents.{covers, depth_key, contents_at}
-use Rattle.s2ix_table_ranges.specs.Table.{leaf_end}
-use Rattle.s2ix_table_ranges.specs.Meeting.{first_shared, meeting_key, is_met_from, meeting_from}
+use Rattle.s2ix_table_walk.specs.InOrder.{insertion, choice}
+use Rattle.s2ix_table_walk.specs.Contents.{covers, depth_key, contents_at}
+use Rattle.s2ix_table_walk.specs.Table.{leaf_end}
+use Rattle.s2ix_table_walk.specs.Meeting.{first_shared, meeting_key, is_met_from, meeting_from}
 use Rattle.s2ix_table_walk.specs.Walking.{front_from}
-use Rattle.s2ix_table_ranges.proofs.InOrder.{insertion_before_all, every_choice, every_weaker, choice_in, choice_out, choice_none}
-use Rattle.s2ix_table_ranges.proofs.Over.{IsOver, span_of, over-true, covers-from, every_content, contents_in, contents_out, nested_over, depth_bound}
-use Rattle.s2ix_table_ranges.proofs.FirstShared.{shared_le, shared_is}
+use Rattle.s2ix_table_walk.proofs.InOrder.{insertion_before_all, every_choice, every_weaker, choice_in, choice_out, choice_none}
+use Rattle.s2ix_table_walk.proofs.Over.{IsOver, span_of, over-true, covers-from, every_content, contents_in, contents_out, nested_over, depth_bound}
+use Rattle.s2ix_table_walk.proofs.FirstShared.{shared_le, shared_is}
 
 -- ---- the front of a chain
 
@@ -42,9 +42,9 @@ before : (x y : Held) (ys : Collection) → depth_key x < depth_key y → insert
 unfolding insertion
 before x y ys lt = cond-true _ _ _ (lt-ltb _ _ lt)
 
-behind : (x y : Held) (ys : Collection) → depth_key y ≤ depth_key x → insertion depth_key x (y ∷ ys) ≡ y ∷ insertion depth_key x ys
+beyond : (x y : Held) (ys : Collection) → depth_key y ≤ depth_key x → insertion depth_key x (y ∷ ys) ≡ y ∷ insertion depth_key x ys
 unfolding insertion
-behind x y ys le = cond-false _ _ _ (le-ltb _ _ le)
+beyond x y ys le = cond-false _ _ _ (le-ltb _ _ le)
 
 -- a pair that begins late enough goes into the front
 front_new : (q from : ℕ) (h : Held) (hs : Collection) → IsOver h q → from ≤ first_of h.pair.cell → AllByRecursion (λ a. IsOver a q) hs
@@ -65,8 +65,8 @@ front_new q from h (y ∷ ys) over le all =
       | inr ge ↦
           (let order = (nested_over q y h all.0 over ge).from in
           let late : from ≤ first_of y.pair.cell = omega arith in
-          ap (front_from from) (behind h y ys ge) ∙ front_here from y (insertion depth_key h ys) late
-          ∙ ap (λ zs. y ∷ zs) (front_new q from h ys over le all.1) ∙ sym (behind h y (front_from from ys) ge)
+          ap (front_from from) (beyond h y ys ge) ∙ front_here from y (insertion depth_key h ys) late
+          ∙ ap (λ zs. y ∷ zs) (front_new q from h ys over le all.1) ∙ sym (beyond h y (front_from from ys) ge)
           ∙ ap (insertion depth_key h) (sym (front_here from y ys late)))
     ]
 
@@ -84,10 +84,10 @@ front_old q from h (y ∷ ys) over early all =
       | inr ge ↦
           elim (cases_lt (first_of y.pair.cell) from) [
             | inl too ↦
-                ap (front_from from) (behind h y ys ge) ∙ front_stops from y (insertion depth_key h ys) too
+                ap (front_from from) (beyond h y ys ge) ∙ front_stops from y (insertion depth_key h ys) too
                 ∙ sym (front_stops from y ys too)
             | inr late ↦
-                ap (front_from from) (behind h y ys ge) ∙ front_here from y (insertion depth_key h ys) late
+                ap (front_from from) (beyond h y ys ge) ∙ front_here from y (insertion depth_key h ys) late
                 ∙ ap (λ zs. y ∷ zs) (front_old q from h ys over early all.1) ∙ sym (front_here from y ys late)
           ]
     ]
@@ -339,7 +339,7 @@ pub step_meets : (target : List CellId) (held : Collection) (seen at next : ℕ)
 step_meets target held seen at next step =
     met_here target seen at next held step.on_curve step.reached step.after (λ h in_held. kind_of target held seen at next h step in_held)
 
--- where no leaf of the target is left, nothing more is met
+-- if no leaf of the target is left, nothing more is met
 pub none_meets : (target : List CellId) (held : Collection) (seen : ℕ) → ((q : ℕ) → Covers target q → q < seen)
     → meeting_from target seen held ≡ []
 unfolding meeting_from

@@ -7,9 +7,9 @@ use Rattle.s2id_core.specs.declared.cell_id.CellId.{CellId}
 use Rattle.s2id_core.specs.CellId.{raw_of, first_of, end_of}
 use Rattle.s2id_core.proofs.Nested.{span}
 use Rattle.s2ix_bag_pairs.specs.Collection.{Collection}
-use Rattle.s2ix_table_ranges.specs.Table.{Range, range_at, IsRangeTable}
+use Rattle.s2ix_table_walk.specs.Table.{Range, range_at, IsRangeTable}
 use Rattle.s2ix_table_walk.specs.Costs.{is_met}
-use Rattle.s2ix_table_walk.specs.Laws.{SharesLeaf}
+use Rattle.s2ix_table_walk.specs.WalkLaws.{SharesLeaf}
 
 pub met_from : (target : List CellId) (x : CellId) (r : Range) → Contains target x → r.start < end_of x → first_of x < r.limit
     → is_met target r ≡ true

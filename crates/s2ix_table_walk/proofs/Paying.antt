@@ -11,10 +11,10 @@ use Rattle.s2id_core.proofs.Nested.{span}
 use Rattle.s2id_union.specs.Covers.{Covers}
 use Rattle.s2ix_bag_pairs.specs.Collection.{Collection}
 use Rattle.s2ix_bag_pairs.specs.declared.pair.Held.{Held}
-use Rattle.s2ix_table_ranges.specs.Meeting.{meeting_key, is_met_from, meeting_from, meeting_of}
-use Rattle.s2ix_table_ranges.specs.Table.{Range, range_at, leaf_end, IsRangeTable}
-use Rattle.s2ix_table_ranges.proofs.InOrder.{length_choice}
-use Rattle.s2ix_table_ranges.proofs.Tables.{places_fit}
+use Rattle.s2ix_table_walk.specs.Meeting.{meeting_key, is_met_from, meeting_from, meeting_of}
+use Rattle.s2ix_table_walk.specs.Table.{Range, range_at, leaf_end, IsRangeTable}
+use Rattle.s2ix_table_walk.proofs.InOrder.{length_choice}
+use Rattle.s2ix_table_walk.proofs.Tables.{places_fit}
 use Rattle.s2ix_table_walk.specs.Costs.{no_cost, with_look, is_met, ranges_met, IsWalkCost}
 use Rattle.s2id_core.specs.BinaryDigits.{binary_digits}
 use Rattle.s2ix_table_walk.specs.Shown.{Shown, IsShown}
@@ -134,7 +134,7 @@ begun_fits held target ranges seen t =
     let fit = range_fits held ranges t (length ranges - 1) (omega arith) in
     omega arith
 
--- where the whole target is passed, each range that meets it has begun
+-- if the whole target is passed, each range that meets it has begun
 met_begun : (target : List CellId) (r : Range) (seen : ℕ) → ArePassed target (length target) seen → is_met target r ≡ true
     → ltb r.start seen ≡ true
 met_begun target r seen passed met =
@@ -228,7 +228,7 @@ closed_by : {P : Type 0} (place : Option P) (old : Cost)
 closed_by None old = (omega arith, refl, omega arith)
 closed_by (Some p) old = (omega arith, refl, omega arith)
 
--- a look that gave none, or no look where no place was left
+-- a look that gave none, or no look if no place was left
 pub close_pays : {P : Type 0} (shown : Shown P) (target : List CellId) (walk : WalkState P) (calls : ℕ) (old new : Cost) → calls ≤ 1000000
     → new ≡ looked_at walk.place old → IsPaid shown target walk calls old
     → IsPaid shown target
@@ -300,9 +300,9 @@ next_pays shown target walk next old new (Some held) is ends gives pays has =
     let fits = has.fits in
     let calls : ℕ = all - length (left_of shown target walk) in
     let same : calls + 1 ≡ all - length (left_of shown target next) = omega arith in
-    let behind = (left_first (meeting_of target shown.pairs) (left_of shown target walk) (left_of shown target next) calls held has.rest
+    let after = (left_first (meeting_of target shown.pairs) (left_of shown target walk) (left_of shown target next) calls held has.rest
     gives).2 in
-    let rest = subst (λ (k : ℕ). left_of shown target next ≡ drop k (meeting_of target shown.pairs)) same behind in
+    let rest = subst (λ (k : ℕ). left_of shown target next ≡ drop k (meeting_of target shown.pairs)) same after in
     record {
       fits = omega arith;
       rest = rest;

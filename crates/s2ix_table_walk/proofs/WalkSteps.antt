@@ -9,19 +9,19 @@ use Rattle.s2id_union.specs.Covers.{Covers, FollowOneAnother}
 use Rattle.s2id_union.proofs.NormalForm.{test_from_covers}
 use Rattle.s2ix_bag_pairs.specs.Collection.{Collection}
 use Rattle.s2ix_bag_pairs.specs.declared.pair.Held.{Held}
-use Rattle.s2ix_table_ranges.specs.Meeting.{meeting_from}
+use Rattle.s2ix_table_walk.specs.Meeting.{meeting_from}
 use Rattle.s2ix_table_walk.specs.Places.{from_place, LeadsTo}
-use Rattle.s2ix_table_ranges.specs.Table.{Range, range_at, leaf_end, IsRangeTable, IsFound}
+use Rattle.s2ix_table_walk.specs.Table.{Range, range_at, leaf_end, IsRangeTable, IsFound}
 use Rattle.s2ix_table_walk.specs.Shown.{Shown}
 use Rattle.s2ix_table_walk.specs.Walking.{left_of, left_with, ArePassed, IsKnown, IsWalk, front_from}
 use Rattle.s2ix_table_walk.specs.declared.walk_state.WalkState.{WalkState}
-use Rattle.s2ix_table_ranges.proofs.Over.{IsOver, in_contents, contents_has}
-use Rattle.s2ix_table_ranges.proofs.Tables.{places_fit, limits_rise}
+use Rattle.s2ix_table_walk.proofs.Over.{IsOver, in_contents, contents_has}
+use Rattle.s2ix_table_walk.proofs.Tables.{places_fit, limits_rise}
 use Rattle.s2ix_table_walk.proofs.Meetings.{IsStep, step_meets, front_here, front_stops}
 
 -- ---- the cells of the target
 
--- where all cells are passed, no leaf of the target is left
+-- if all cells are passed, no leaf of the target is left
 pub passed_all : (target : List CellId) (k seen : ℕ) → ArePassed target k seen → length target ≤ k → (q : ℕ) → Covers target q → q < seen
 passed_all target k seen passed le q v =
     let j = v.held.0 in
@@ -127,7 +127,7 @@ pub record IsBegun (target : List CellId) (k limit last : ℕ) (y : CellId) : Ty
   pub within : last < length target
   pub is : y ≡ get_or target last y
   pub begins : first_of y < limit
-  pub behind : (d : CellId) → last + 1 < length target → limit ≤ first_of (get_or target (last + 1) d)
+  pub after : (d : CellId) → last + 1 < length target → limit ≤ first_of (get_or target (last + 1) d)
 
 -- cells of a target that are not the same follow one another
 pub begun_after : (target : List CellId) (k limit last : ℕ) (x y : CellId) → FollowOneAnother target → x ≡ get_or target k x
@@ -150,9 +150,9 @@ begun_after target k limit last x y follow is b =
     ]
 
 -- after such a cell the target has no leaf before that limit
-behind_last : (target : List CellId) (k limit last : ℕ) (y : CellId) → FollowOneAnother target → IsBegun target k limit last y → (q : ℕ)
+after_last : (target : List CellId) (k limit last : ℕ) (y : CellId) → FollowOneAnother target → IsBegun target k limit last y → (q : ℕ)
     → Covers target q → end_of y ≤ q → limit ≤ q
-behind_last target k limit last y follow b q v le =
+after_last target k limit last y follow b q v le =
     let j = v.held.0 in
     let within = v.held.1 in
     let from = v.from in
@@ -172,7 +172,7 @@ behind_last target k limit last y follow b q v le =
             | inl less ↦ absurd (let f = follow j last v.cell less w in omega arith)
             | inr more ↦
                 (let next : CellId = get_or target (last + 1) v.cell in
-                let l = b.behind v.cell (omega arith) in
+                let l = b.after v.cell (omega arith) in
                 let n = span (raw_of next) next.valid in
                 let n1 = n.from in
                 let n2 = n.to in
@@ -185,9 +185,9 @@ behind_last target k limit last y follow b q v le =
     ]
 
 -- a range with a leaf after another range begins after it
-behind_range : (hs : Collection) (ranges : List Range) → IsRangeTable hs ranges → (k i q : ℕ) → k < length ranges
+after_range : (hs : Collection) (ranges : List Range) → IsRangeTable hs ranges → (k i q : ℕ) → k < length ranges
     → (range_at ranges k).limit ≤ q → IsFound ranges i q → (range_at ranges k).limit ≤ (range_at ranges i).start
-behind_range hs ranges t k i q within le found =
+after_range hs ranges t k i q within le found =
     let w = found.within in
     let a = found.start in
     let b = found.limit in
@@ -292,9 +292,9 @@ walk_past {P} shown target k range limit end x y walk a begun leads is_limit is_
         fresh = λ i q v le found.
             let late : limit ≤ q = elim on [
               | inl o ↦ omega (arith, ap (λ to. to.1) o.1)
-              | inr o ↦ behind_last target k limit walk.cell y a.follow begun q v (omega (arith, ap (λ to. to.1) o.1))
+              | inr o ↦ after_last target k limit walk.cell y a.follow begun q v (omega (arith, ap (λ to. to.1) o.1))
             ] in
-            let f = behind_range hs ranges a.table range i q a.found.within (omega arith) found in
+            let f = after_range hs ranges a.table range i q a.found.within (omega arith) found in
             omega arith;
       };
     }

@@ -3,8 +3,8 @@ use Rattle.std.proofs.Common.{◌≡◌, ℕ, zero, suc, ◌+◌, ◌-◌, ◌*�
 use Rattle.std.proofs.Math.Nat.{pow-suc, max-eq_left, max-eq_right}
 use Rattle.std.proofs.lemmas.Bool.{cases_lt}
 use Rattle.s2ix_bag_pairs.specs.Collection.{Collection}
-use Rattle.s2ix_table_ranges.specs.Table.{Range, range_at, leaf_end, IsRangeTable, IsFound}
-use Rattle.s2ix_table_ranges.proofs.Tables.{limits_rise}
+use Rattle.s2ix_table_walk.specs.Table.{Range, range_at, leaf_end, IsRangeTable, IsFound}
+use Rattle.s2ix_table_walk.proofs.Tables.{limits_rise}
 use Rattle.s2id_core.specs.BinaryDigits.{binary_digits}
 use Rattle.s2ix_table_walk.specs.Costs.{NoFewerProbes, with_probe}
 use Rattle.s2ix_table_walk.specs.FaceWindows.{face_begin, HaveFace}
@@ -104,7 +104,7 @@ jumped {P} shown now after leaf first size among start entry spent paid is jump 
     → IsJump shown leaf next (size - size / 2) among entry after paid =
     λ next window. record { window = window; same = same ∙ jump.same; looks = looks; kept = omega arith; probes = omega arith } in (
       λ by. left (first + size / 2) (upper_left shown.ranges leaf first size jump.window many (omega arith)),
-      λ behind. left first (lower_left shown.pairs shown.ranges leaf first size is.is_table jump.window many (omega arith)),
+      λ beyond. left first (lower_left shown.pairs shown.ranges leaf first size is.is_table jump.window many (omega arith)),
     )
 
 -- the one range that is left has the leaf
@@ -128,10 +128,10 @@ found_alone hs ranges leaf first size t w one within =
 pub half_left : (hs : Collection) (ranges : List Range) (leaf first half one : ℕ) → IsRangeTable hs ranges
     → IsWindow ranges leaf first (half * 2) → 0 < half → ((range_at ranges (first + half)).start ≤ leaf → one ≡ 1)
     → (leaf < (range_at ranges (first + half)).start → one ≡ 0) → IsWindow ranges leaf (first + half * one) half
-half_left hs ranges leaf first half one t w some by behind =
+half_left hs ranges leaf first half one t w some by beyond =
     elim (cases_lt leaf (range_at ranges (first + half)).start) [
       | inl lt ↦
-          (let is : first + half * one ≡ first = ap (λ (k : ℕ). first + half * k) (behind lt) ∙ (omega arith) in
+          (let is : first + half * one ≡ first = ap (λ (k : ℕ). first + half * k) (beyond lt) ∙ (omega arith) in
           subst (λ (k : ℕ). IsWindow ranges leaf k half) (sym is) (first_half ranges leaf first half w some lt))
       | inr le ↦
           (let is : first + half * one ≡ first + half = ap (λ (k : ℕ). first + half * k) (by le) ∙ (omega arith) in
@@ -148,8 +148,8 @@ pub record IsHalved (ranges : List Range) (leaf first half k : ℕ) : Type 0 whe
 pub halved : (hs : Collection) (ranges : List Range) (leaf first half one k : ℕ) → IsRangeTable hs ranges
     → IsWindow ranges leaf first (2 ^ k) → half ≡ 2 ^ k / 2 → 0 < half → ((range_at ranges (first + half)).start ≤ leaf → one ≡ 1)
     → (leaf < (range_at ranges (first + half)).start → one ≡ 0) → IsHalved ranges leaf (first + half * one) half k
-halved hs ranges leaf first half one zero t w is some by behind = absurd (omega arith)
-halved hs ranges leaf first half one (suc j) t w is some by behind =
+halved hs ranges leaf first half one zero t w is some by beyond = absurd (omega arith)
+halved hs ranges leaf first half one (suc j) t w is some by beyond =
     let twice = pow-suc 2 j in
     let same : half ≡ 2 ^ j = omega arith in
     let all : 2 ^ suc j ≡ half * 2 = omega arith in
@@ -159,19 +159,19 @@ halved hs ranges leaf first half one (suc j) t w is some by behind =
       is = same;
       window =
           subst (λ (size : ℕ). IsWindow ranges leaf (first + half * one) size) same
-          (half_left hs ranges leaf first half one t (subst (λ (size : ℕ). IsWindow ranges leaf first size) all w) some by behind);
+          (half_left hs ranges leaf first half one t (subst (λ (size : ℕ). IsWindow ranges leaf first size) all w) some by beyond);
     }
 
 -- as many ranges as there is room for, at the end of some or at their beginning
 pub room_left : (hs : Collection) (ranges : List Range) (leaf from size over one : ℕ) → IsRangeTable hs ranges
     → IsWindow ranges leaf from (over + size) → over < size → ((range_at ranges (from + over)).start ≤ leaf → one ≡ 1)
     → (leaf < (range_at ranges (from + over)).start → one ≡ 0) → IsWindow ranges leaf (from + over * one) size
-room_left hs ranges leaf from size over one t w less by behind =
+room_left hs ranges leaf from size over one t w less by beyond =
     let all = w.within in
     let begins = w.start in
     elim (cases_lt leaf (range_at ranges (from + over)).start) [
       | inl lt ↦
-          (let is : from + over * one ≡ from = ap (λ (k : ℕ). from + over * k) (behind lt) ∙ (omega arith) in
+          (let is : from + over * one ≡ from = ap (λ (k : ℕ). from + over * k) (beyond lt) ∙ (omega arith) in
           subst (λ (k : ℕ). IsWindow ranges leaf k size) (sym is) (record {
             some = omega arith;
             within = omega arith;

@@ -6,8 +6,8 @@ use Rattle.s2id_core.specs.declared.cell_id.CellId.{CellId}
 use Rattle.s2id_core.specs.CellId.{first_of, end_of}
 use Rattle.s2ix_bag_pairs.specs.Collection.{Collection}
 use Rattle.s2ix_bag_pairs.specs.declared.pair.Held.{Held}
-use Rattle.s2ix_table_ranges.specs.Meeting.{first_shared, meeting_of}
-use Rattle.s2ix_table_ranges.specs.Table.{Range}
+use Rattle.s2ix_table_walk.specs.Meeting.{first_shared, meeting_of}
+use Rattle.s2ix_table_walk.specs.Table.{Range}
 use Rattle.s2ix_table_walk.specs.declared.cost.Cost.{Cost}
 
 -- nothing was read

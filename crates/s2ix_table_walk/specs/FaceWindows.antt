@@ -1,7 +1,7 @@
 -- The ranges over a face.
 use Rattle.std.specs.Prelude.{◌≡◌, ℕ, ◌+◌, ◌*◌, ◌≤◌, List, length}
 use Rattle.s2id_core.specs.Span.{face_numbers}
-use Rattle.s2ix_table_ranges.specs.Table.{Range, range_at}
+use Rattle.s2ix_table_walk.specs.Table.{Range, range_at}
 
 -- the number of a face's first leaf; after the last face that of the end of the leaves
 abbrev pub face_begin : ℕ → ℕ

@@ -1,3 +1,12 @@
+pub mod InOrder
+pub mod Contents
+pub mod Table
+pub mod Bounds
+pub mod Meeting
+pub mod Once
+pub mod RangeList
+pub mod LabelList
+pub mod RangeLaws
 pub mod Places
 pub mod Calls
 pub mod Shown
@@ -5,5 +14,6 @@ pub mod Searching
 pub mod Costs
 pub mod Walking
 pub mod Meetings
-pub mod Laws
+pub mod WalkLaws
 pub mod FaceWindows
+pub mod Stretches

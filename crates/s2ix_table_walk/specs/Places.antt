@@ -11,7 +11,7 @@ abbrev pub from_place : {P : Type 0} → (P → Collection) → Option P → Col
 from_place chain None = []
 from_place chain (Some place) = chain place
 
--- an answer leads to these pairs: it is a place whose chain they are, or `None` where there are none
+-- an answer leads to these pairs: it is a place whose chain they are, or `None` if there are none
 pub record LeadsTo {P : Type 0} (chain : P → Collection) (answer : Option P) (pairs : Collection) : Type 0 where
   pub pairs_are : from_place chain answer ≡ pairs
   pub place : (p : P) → answer ≡ Some p → IsPlace chain p

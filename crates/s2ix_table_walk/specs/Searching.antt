@@ -1,6 +1,6 @@
 -- Where a search for a range stands: private words of the walk.
 use Rattle.std.specs.Prelude.{ℕ, ◌+◌, ◌<◌, ◌≤◌, List, length}
-use Rattle.s2ix_table_ranges.specs.Table.{Range, range_at}
+use Rattle.s2ix_table_walk.specs.Table.{Range, range_at}
 
 -- the range with a leaf is one of `size` from `first` on
 pub record IsWindow (ranges : List Range) (leaf first size : ℕ) : Type 0 where

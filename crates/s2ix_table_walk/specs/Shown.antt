@@ -1,7 +1,7 @@
 -- The table that a reader reads.
 use Rattle.std.specs.Prelude.{◌≤◌, List, length}
 use Rattle.s2ix_bag_pairs.specs.Collection.{Collection, IsCollection}
-use Rattle.s2ix_table_ranges.specs.Table.{Range, IsRangeTable}
+use Rattle.s2ix_table_walk.specs.Table.{Range, IsRangeTable}
 
 -- held pairs, ranges, and the pairs from a place on, outwards
 pub record Shown (P : Type 0) : Type 0 where

@@ -7,10 +7,10 @@ use Rattle.s2id_core.specs.CellId.{first_of, end_of}
 use Rattle.s2id_union.specs.Covers.{Covers}
 use Rattle.s2id_union.specs.NormalForm.{is_covered}
 use Rattle.s2ix_bag_pairs.specs.Collection.{Collection}
-use Rattle.s2ix_table_ranges.specs.Meeting.{meeting_from, meeting_of}
+use Rattle.s2ix_table_walk.specs.Meeting.{meeting_from, meeting_of}
 use Rattle.s2ix_table_walk.specs.FaceWindows.{HaveFace}
 use Rattle.s2ix_table_walk.specs.Places.{IsPlace, from_place}
-use Rattle.s2ix_table_ranges.specs.Table.{Range, range_at, IsFound, leaf_end}
+use Rattle.s2ix_table_walk.specs.Table.{Range, range_at, IsFound, leaf_end}
 use Rattle.s2ix_table_walk.specs.declared.cost.Cost.{Cost}
 use Rattle.s2ix_table_walk.specs.declared.walk_state.KnownFace.{KnownFace}
 use Rattle.s2ix_table_walk.specs.declared.walk_state.WalkState.{WalkState}
@@ -35,7 +35,7 @@ left_with shown target walk = front_from walk.from (from_place shown.chain walk.
 abbrev pub ArePassed : List CellId → ℕ → ℕ → Type 0
 ArePassed target k seen = (j : ℕ) (d : CellId) → j < k → j < length target → end_of (slice_index_or target j d) ≤ seen
 
--- where the ranges over a face end, where one is known
+-- where the ranges over a face end, if one is known
 abbrev pub IsKnown : List Range → KnownFace → Type 0
 IsKnown ranges known = known.face < 6 → HaveFace ranges known.face 0 known.end
 
@@ -58,7 +58,7 @@ abbrev pub one_if_some : {X : Type 0} → Option X → ℕ
 one_if_some None = 0
 one_if_some (Some x) = 1
 
--- one look where there is a place
+-- one look if there is a place
 abbrev pub looked_at : {P : Type 0} → Option P → Cost → Cost
 looked_at None cost = cost
 looked_at (Some p) cost = with_look cost

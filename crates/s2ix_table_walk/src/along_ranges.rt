@@ -3,7 +3,7 @@ ghost use Rattle.std.specs.Prelude.{◌≡◌, ◌<◌, ◌≤◌, ◌+◌, ◌�
 ghost use Rattle.s2id_core.specs.declared.cell_id.CellId.{CellId};
 ghost use Rattle.s2id_core.specs.CellId.{raw_of, first_of, end_of};
 ghost use Rattle.s2id_union.specs.Covers.{FollowOneAnother};
-ghost use Rattle.s2ix_table_ranges.specs.Meeting.{meeting_from};
+ghost use Rattle.s2ix_table_walk.specs.Meeting.{meeting_from};
 ghost use Rattle.s2ix_table_walk.specs.Places.{IsPlace, LeadsTo, from_place};
 ghost use Rattle.s2ix_table_walk.specs.Walking.{front_from, left_of, left_with, ArePassed, IsWalk, IsPaid, looked_at, one_if_some};
 
@@ -23,7 +23,7 @@ fn next_place<R: Reader>(reader: &R, given: Option<R::Place>) -> Option<R::Place
     reader.outer(given?)
 }
 
-// The pair at a place, where its cell begins at a leaf or after it.
+// The pair at a place, if its cell begins at a leaf or after it.
 #[inline(always)]
 fn new_pair<R: Reader>(reader: &mut R, from: u64, place: Option<R::Place>) -> Option<Held>
     requires { (p : R.Place) → place ≡ Some p → IsPlace (R.shown reader.old).chain p }
@@ -59,6 +59,7 @@ pub(crate) fn next_met<R: Reader>(
     ensures walk { IsWalk (R.shown reader.old) cells.now walk.new }
     ensures passed { result ≡ None → ArePassed cells.now (length cells.now) walk.new.seen }
     ensures same { R.shown reader.new ≡ R.shown reader.old }
+    // (a collection has at most 1,000,000 pairs, so a visit makes at most as many calls)
     ensures paid { (calls : ℕ)
         → calls ≤ 1000000
         → IsPaid (R.shown reader.old) cells.now walk.old calls (R.spent reader.old)
@@ -78,7 +79,7 @@ pub(crate) fn next_met<R: Reader>(
     }
 }
 
-// The walk at the next range that the target meets, with the chain of that range at hand, or `None` where the target
+// The walk at the next range that the target meets, with the chain of that range at hand, or `None` if the target
 // has no leaf left. All cells that end in the range are passed at once.
 #[inline(always)]
 fn advance<R: Reader>(
@@ -184,7 +185,7 @@ fn is_before(cells: &[CellId], k: usize, step: usize, limit: u64) -> bool
     requires { k < length cells.now }
     ensures within { IsTrue result → k + step < length cells.now }
     ensures begins { (d : CellId) → IsTrue result → first_of (slice_index_or cells.now (k + step) d) < limit }
-    ensures behind { (d : CellId) → IsFalse result → k + step < length cells.now → limit ≤ raw_of (slice_index_or cells.now (k + step) d) }
+    ensures after { (d : CellId) → IsFalse result → k + step < length cells.now → limit ≤ raw_of (slice_index_or cells.now (k + step) d) }
 {
     step < cells.len() - k && cells[k + step].raw() < limit
 }

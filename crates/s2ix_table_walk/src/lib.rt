@@ -1,4 +1,7 @@
-//! The one walk that finds what meets a target, over anything that reads a range table, and what it costs.
+//! The ranges of leaves over which the same pairs lie, and the one walk that finds what meets a target, with what it costs.
+//!
+//! The leaves of the curve fall into maximal spans over which the same pairs lie, the ranges; the pairs over one of them are its contents,
+//! the innermost cell first. The [`laws`] say of these definitions that each is the only one of its kind.
 //!
 //! A [`Reader`] gives the ranges of a table and the pairs over them, and counts both. [`walk`] finds a target's meeting list only through a
 //! reader; [`Meeting`] is the same loop as an iterator.
@@ -12,6 +15,7 @@ mod cost;
 pub mod laws;
 mod meeting;
 mod reader;
+mod row;
 mod sample;
 mod search;
 mod visit;
@@ -21,6 +25,7 @@ mod window;
 pub use cost::Cost;
 pub use meeting::Meeting;
 pub use reader::Reader;
+pub use row::RangeRow;
 pub use sample::{MANY_RANGES, SAMPLE_STEP};
 pub use visit::walk;
 pub use window::Window;

@@ -1,8 +1,8 @@
 ghost use Rattle.std.specs.Prelude.{◌≡◌, ◌≤◌, None, IfSome};
 ghost use Rattle.std.specs.Iterator.{YieldsFirst, item_count};
 ghost use Rattle.s2id_union.specs.Covers.{FollowOneAnother};
-ghost use Rattle.s2ix_table_ranges.specs.Meeting.{first_shared, meeting_of};
-ghost use Rattle.s2ix_table_walk.specs.Costs.{no_cost, ranges_met, ranges_met_by};
+ghost use Rattle.s2ix_table_walk.specs.Meeting.{first_shared, meeting_of};
+ghost use Rattle.s2ix_table_walk.specs.Costs.{no_cost, ranges_met, ranges_met_by, IsWalkCost};
 ghost use Rattle.s2ix_table_walk.specs.Walking.{IsWalk, HasPaid};
 
 use crate::along_ranges::next_met;
@@ -12,8 +12,9 @@ use s2id_core::CellId;
 use s2id_union::CellUnion;
 use s2ix_bag_pairs::Held;
 
-/// The meeting list of a target, pair by pair in order, read as it is asked for. It does not allocate. All k pairs take O(k + r + t log n),
-/// if the t cells of the target meet r of the n ranges.
+/// An iterator over the meeting list of a target. It reads on only when the next pair is asked for. Every call that asks what meets a union
+/// uses it, over every kind of table. It does not allocate. All k pairs take O(k + r + t log n), if the t cells of the target meet r of the
+/// n ranges.
 pub struct Meeting<'a, R: Reader> {
     reader: &'a mut R,
     cells: &'a [CellId],
@@ -24,7 +25,7 @@ pub struct Meeting<'a, R: Reader> {
 }
 
 impl<'a, R: Reader> Meeting<'a, R> {
-    ghost use Rattle.s2ix_table_walk.specs.Meetings.{reader_in, target_in, left_in};
+    ghost use Rattle.s2ix_table_walk.specs.Meetings.{reader_in, target_in, left_in, given_in};
 
     /// The meeting list of a target, over a reader that has read nothing.
     pub fn new(reader: &'a mut R, target: &'a CellUnion) -> Meeting<'a, R>
@@ -50,14 +51,23 @@ impl<'a, R: Reader> Meeting<'a, R> {
         }
     }
 
-    /// The next pair, or `None` after the last one. With a pair, the reader has counted at least a probe for each range that the target
-    /// meets up to the first leaf that it shares with the pair; with `None`, at least one for each range that it meets.
+    /// The next pair, or `None` after the last one. After each call the reader has counted at most as much as a [`walk`] that has given as
+    /// many pairs. If there is a pair, it has counted at least one probe for each range that the target meets up to the first leaf that it
+    /// shares with the pair; after `None`, one for each range that it meets.
+    ///
+    /// [`walk`]: crate::walk
     #[inline(always)]
     pub fn advance(&mut self) -> Option<Held>
         ensures reference { (reader_in self.new).ghost_name ≡ (reader_in self.old).ghost_name }
         ensures shown { R.shown (reader_in self.new).now ≡ R.shown (reader_in self.old).now }
         ensures cells { target_in self.new ≡ target_in self.old }
         ensures yields { YieldsFirst left_in self.old result self.new }
+        ensures cost { IsWalkCost
+            (target_in self.new)
+            (R.shown (reader_in self.new).now).pairs
+            (R.shown (reader_in self.new).now).ranges
+            (given_in self.new)
+            (R.spent (reader_in self.new).now) }
         ensures least_probes { IfSome result (λ held. ranges_met_by (target_in self.new) (R.shown (reader_in self.new).now).ranges
             (first_shared (target_in self.new) held.pair.cell) ≤ (R.spent (reader_in self.new).now).probes) }
         ensures whole_probes { result ≡ None

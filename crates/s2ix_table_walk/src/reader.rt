@@ -1,15 +1,15 @@
 ghost use Rattle.std.specs.Prelude.{◌≡◌, ◌<◌, ◌≤◌, ◌+◌, ◌-◌, ◌%◌, ◌∷◌, ℕ, length, drop};
 ghost use Rattle.s2ix_table_walk.specs.Places.{IsPlace, LeadsTo};
-ghost use Rattle.s2ix_table_ranges.specs.Table.{range_at};
+ghost use Rattle.s2ix_table_walk.specs.Table.{range_at};
 ghost use Rattle.s2ix_table_walk.specs.Costs.{with_look, with_probe};
 ghost use Rattle.s2ix_table_walk.specs.FaceWindows.{HaveFace};
 ghost use Rattle.s2ix_table_walk.specs.Shown.{Shown, IsShown};
 ghost use Rattle.s2ix_table_walk.specs.declared.cost.Cost.{Cost as CostSpent};
 
 use crate::cost::Cost;
+use crate::row::RangeRow;
 use crate::window::Window;
 use s2ix_bag_pairs::Held;
-use s2ix_table_ranges::RangeRow;
 
 /// Something that reads a range table and counts what it reads. [`node`](Reader::node) gives a pair, and is one look. [`row`](Reader::row),
 /// [`start`](Reader::start), [`sampled_start`](Reader::sampled_start), [`row_and_first`](Reader::row_and_first) and
@@ -25,7 +25,7 @@ pub trait Reader {
     // what was read so far
     ghost spent: { Self → CostSpent };
 
-    // the first range of the window that was told last: samples are counted from it
+    // the first range of the window that was returned last: samples are counted from it
     ghost sampled_from: { Self → ℕ };
 
     /// How many ranges there are.
@@ -71,7 +71,7 @@ pub trait Reader {
     }
 
     /// A range at most 15 places before the given one, or that one itself: the last one by it that lies a multiple of 16 places after the
-    /// first range of the window that was told last. [`sampled_start`](Reader::sampled_start) is quickest at it and at every 16th range
+    /// first range of the window that was returned last. [`sampled_start`](Reader::sampled_start) is quickest at it and at every 16th range
     /// after it.
     fn sampled_by(&self, k: usize) -> usize
         ensures by { result ≤ k }

@@ -1,7 +1,7 @@
 //! The range that has a leaf, found by reading few ranges.
 ghost use Rattle.std.specs.Prelude.{◌≡◌, ℕ, ◌+◌, ◌-◌, ◌*◌, ◌^◌, ◌%◌, ◌<◌, ◌≤◌, length, max};
 ghost use Rattle.s2id_core.specs.CellId.{first_of, end_of};
-ghost use Rattle.s2ix_table_ranges.specs.Table.{range_at, IsFound, leaf_end};
+ghost use Rattle.s2ix_table_walk.specs.Table.{range_at, IsFound, leaf_end};
 ghost use Rattle.s2id_core.specs.BinaryDigits.{binary_digits};
 ghost use Rattle.s2ix_table_walk.specs.Costs.{NoFewerProbes};
 ghost use Rattle.s2ix_table_walk.specs.Searching.{IsWindow};
@@ -27,7 +27,7 @@ fn search<R: Reader>(reader: &mut R, leaf: u64, among: Window) -> usize
         ≤ (R.spent reader.old).probes + binary_digits (length (R.shown reader.old).ranges + 1) }
 {
     if among.size > FAR {
-        let among = leap(reader, leaf, among);
+        let among = gallop(reader, leaf, among);
         return jump(reader, leaf, among);
     }
     let window = narrow(reader, leaf, among);
@@ -88,7 +88,7 @@ fn jump<R: Reader>(reader: &mut R, leaf: u64, among: Window) -> usize
 
 // Of very many ranges at most 16, and fewer ranges as they are: groups of 16 are halved, by the start of the first range of each.
 #[inline(always)]
-fn leap<R: Reader>(reader: &mut R, leaf: u64, among: Window) -> Window
+fn gallop<R: Reader>(reader: &mut R, leaf: u64, among: Window) -> Window
     requires { IsWindow (R.shown reader.old).ranges leaf among.first among.size }
     ensures window { IsWindow (R.shown reader.old).ranges leaf result.first result.size }
     ensures same { R.shown reader.new ≡ R.shown reader.old }
@@ -160,7 +160,7 @@ fn ahead<R: Reader>(reader: &mut R, cell: CellId, from: usize, known: KnownFace)
 // How many ranges ahead a search probes before it takes all of those over a face.
 const NEAR: usize = 16;
 
-// Of some ranges the first few, where the one with a leaf is among these, and else the rest.
+// Of some ranges the first few, if the one with a leaf is among these, and else the rest.
 #[inline(always)]
 fn near<R: Reader>(reader: &mut R, leaf: u64, among: Window) -> Window
     requires among { IsWindow (R.shown reader.old).ranges leaf among.first among.size }
@@ -202,10 +202,10 @@ fn begun(start: u64, leaf: u64) -> usize
     requires odd { start % 2 ≡ 1 }
     requires leaf { leaf < leaf_end }
     ensures by { start ≤ leaf → result ≡ 1 }
-    ensures behind { leaf < start → result ≡ 0 }
+    ensures after { leaf < start → result ≡ 0 }
 {
-    let behind = leaf - leaf / 2;
-    ((start / 2).wrapping_sub(behind) >> 63) as usize
+    let after = leaf - leaf / 2;
+    ((start / 2).wrapping_sub(after) >> 63) as usize
 }
 
 // A range that a walk has come to, and the face that is known there.

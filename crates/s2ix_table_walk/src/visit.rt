@@ -1,5 +1,5 @@
 ghost use Rattle.std.specs.Prelude.{◌≡◌, ◌≤◌, ℕ, IsTrue};
-ghost use Rattle.s2ix_table_ranges.specs.Meeting.{meeting_of};
+ghost use Rattle.s2ix_table_walk.specs.Meeting.{meeting_of};
 ghost use Rattle.s2ix_table_walk.specs.Calls.{MayVisit, CallsOn};
 ghost use Rattle.s2ix_table_walk.specs.Costs.{no_cost, ranges_met, IsWalkCost};
 

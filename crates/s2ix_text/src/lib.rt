@@ -15,30 +15,39 @@
 //! ```
 //!
 //! A [`Source`] gives bytes piece by piece, a [`Sink`] takes them, and each counts its faults; [`FromRead`] and [`ToWrite`] make them of
-//! std's readers and writers. Writing doesn't allocate and doesn't flush, and ends at the sink's first fault. Reading returns the first
-//! faulty line and its fault ([`DumpError`], [`JournalError`]). Each call that reads or writes takes O(n) for n bytes; [`replay`] and
-//! [`rewind`] take O(n + m log n) for n pairs and m entries in all changes.
+//! std's readers and writers. Writing doesn't allocate and doesn't flush, and ends at the sink's first fault. A text is read when it is
+//! whole in memory, and reading returns the first faulty line and its fault ([`DumpError`], [`JournalError`]), in the order of
+//! `docs/FORMATS.md`. Each call that reads or writes takes O(n) for n bytes; [`replay`] and [`rewind`] take O(n + m log n) for n pairs and m
+//! entries in all changes.
 //!
-//! The crates behind this one: `s2ix_text_io` has sources and sinks; `s2ix_text_write` writes dumps, journals and lists; `s2ix_text_parts`
-//! cuts lines and reads cells and numbers; `s2ix_text_read_dump` and `s2ix_text_read_journal` read the two texts; `s2ix_text_export` writes
-//! JSON. [`replay`] and [`rewind`] are of `s2ix_bag`.
+//! The crates below this one: `s2ix_text_parts` has sources and sinks, and cuts lines into parts; `s2ix_text_write` writes dumps, journals,
+//! lists and JSON. Here are the two readers. [`replay`] and [`rewind`] are of `s2ix_bag`.
 #![tactic(auto)]
 
+mod change_line;
+mod dump;
+mod dump_error;
+mod entry_line;
+mod group;
+mod journal;
+mod journal_error;
 pub mod laws;
+mod numbers;
+mod pair_line;
+mod parts;
 
+pub use dump::read_dump;
+pub use dump_error::{DumpError, DumpFault};
+pub use journal::read_journal;
+pub use journal_error::{JournalError, JournalFault};
 pub use s2ix_bag::{ReplayError, replay, rewind};
-pub use s2ix_text_export::export;
-pub use s2ix_text_io::{
-    FromRead, KeepingSink, ReadFault, RunFault, Sink, SliceSource, Source, ToWrite, WriteFault,
-    put_all, put_parts, put_together, read_whole,
-};
 pub use s2ix_text_parts::{
-    cell_written, count_written, cut_line, cut_part, first_part, label_written, number_in_front,
-    number_written, three_parts, token_in_front,
+    ArraySink, FromRead, KeepingSink, ReadFault, RunFault, Sink, SliceSource, Source, ToWrite,
+    VecSink, WriteFault, cell_written, count_written, cut_line, cut_part, first_part,
+    label_written, number_in_front, number_written, put_all, put_parts, put_together, read_whole,
+    three_parts, token_in_front,
 };
-pub use s2ix_text_read_dump::{DumpError, DumpFault, read_dump};
-pub use s2ix_text_read_journal::{JournalError, JournalFault, read_journal};
 pub use s2ix_text_write::{
-    Block, ListItem, Version, write_dump, write_end_of_list, write_journal, write_list,
+    Block, ListItem, Version, export, write_dump, write_end_of_list, write_journal, write_list,
     write_pair_between,
 };

@@ -3,7 +3,7 @@ use Rattle.std.proofs.Common.{◌≡◌, ◌≢◌, ◌↔◌, ℕ, ◌<◌, ◌
 use Rattle.std.specs.Prelude.{slice_index_or}
 use Rattle.std.proofs.lemmas.Bool.{cases_lt, not-false}
 use Rattle.s2ix_bag_pairs.specs.declared.limits.Limits.{Limits}
-use Rattle.s2ix_text_parts.specs.Faults.{IsFromLine, LineAt, fault_below}
+use Rattle.s2ix_text_parts.specs.LineFaults.{IsFromLine, LineAt, fault_below}
 use Rattle.s2ix_text_parts.specs.Lines.{is_nil, lines_of}
 use Rattle.s2ix_text_parts.specs.NumberedLines.{line_at, place_at}
 use Rattle.s2ix_text_parts.proofs.FirstFault.{found_here, place}
@@ -48,7 +48,7 @@ module _ {F E : Type 0} {at : ℕ → F → E} {memory : E} {IsError : E → Opt
       let same : error ≡ at line fault = cc in
       errors.at_is line fault found (subst (λ (e : E). IsError e found) same refused)
 
-  -- memory isn't wanted where the first line has a fault
+  -- memory isn't wanted if the first line has a fault
   not_memory : (fault : F) → IsError memory found → found ≡ Some (1, fault) → ⊥
   not_memory fault refused is =
       let late : 2 ≤ 1 = subst (λ (o : Option (ℕ × F)). IsFromLine 2 o) is (errors.memory_is found refused) in
@@ -99,7 +99,7 @@ module _ {F V : Type 0} {fault_of : LineAt → Option F} {truncated bad_header :
   found_bad_header limits (line ∷ (next ∷ lines)) more none =
       found_here fault_of limits [] line (next ∷ lines) bad_header (faults.no_header limits line none)
 
-  -- a header is bad only where its line feed has come
+  -- a header is bad only if its line feed has come
   ended_first : (p : LineAt) (ended : Bool) → p.ended ≡ ended → p.above ≡ [] → fault_of p ≡ Some bad_header → ended ≡ true
   ended_first p true own first is = refl
   ended_first p false own first is =

@@ -3,7 +3,7 @@ use Rattle.std.proofs.Common.{◌≡◌, ℕ, ◌+◌, ◌≤◌, Bool, false, n
 use Rattle.std.specs.Option.{option_map, option_or}
 use Rattle.std.proofs.lemmas.List.{length_push}
 use Rattle.s2ix_bag_pairs.specs.declared.limits.Limits.{Limits}
-use Rattle.s2ix_text_parts.specs.Faults.{IsFromLine, LineAt, fault_below}
+use Rattle.s2ix_text_parts.specs.LineFaults.{IsFromLine, LineAt, fault_below}
 use Rattle.s2ix_text_parts.specs.Lines.{is_nil}
 
 -- where a line among others stands
@@ -50,6 +50,6 @@ pub ended : (limits : Limits) (above : List (List ℕ)) (line : List ℕ) (lines
 ended limits above line lines some =
     ap (λ (b : Bool). let made : LineAt = record { limits = limits; above = above; line = line; ended = not b } in made) some
 
--- a test that is made where another one holds
+-- a test that is made if another one holds
 pub applies : (b x y : Bool) → b ≡ true → x ≡ y → (b && x) ≡ y
 applies b x y is same = ap (λ t. t && x) is ∙ same

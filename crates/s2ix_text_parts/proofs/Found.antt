@@ -3,7 +3,7 @@ use Rattle.std.proofs.Common.{◌≡◌, ℕ, suc, ◌+◌, ◌-◌, ◌<◌, Bo
 use Rattle.std.specs.Prelude.{find, slice_index_or}
 use Rattle.std.proofs.lemmas.List.{append-nil, length_push}
 use Rattle.s2ix_bag_pairs.specs.declared.limits.Limits.{Limits}
-use Rattle.s2ix_text_parts.specs.Faults.{LineAt, fault_below}
+use Rattle.s2ix_text_parts.specs.LineFaults.{LineAt, fault_below}
 use Rattle.s2ix_text_parts.specs.Lines.{is_nil, lines_of}
 use Rattle.s2ix_text_parts.specs.NumberedLines.{place_at}
 use Rattle.s2ix_text_parts.proofs.FirstFault.{found_here, found_later, found_nowhere, place}

@@ -68,8 +68,8 @@ decimal_when c digit value other small = ⊎_elim value (λ none. absurd (omega 
 
 -- ---- a text cut after some bytes
 
-pub cut_behind : (text : List ℕ) (len x d : ℕ) → len < length text → get_or text len d ≡ x → text ≡ take len text ++ x ∷ drop (len + 1) text
-cut_behind text len x d inside is =
+pub cut_after : (text : List ℕ) (len x d : ℕ) → len < length text → get_or text len d ≡ x → text ≡ take len text ++ x ∷ drop (len + 1) text
+cut_after text len x d inside is =
     sym (take-append-drop len text)
     ∙ ap (λ rest. take len text ++ rest) (drop_more text len d inside ∙ ap (λ byte. byte ∷ drop (len + 1) text) is)
 
@@ -142,7 +142,7 @@ number_of_front text len number end some few inside all is no_zero here =
     decimal-digits_value decimals (take len text) all (omega arith)
     (λ zero. long ∙ no_zero (sym (get_or-take len text 0 0 some) ∙ zero))
     (omega (arith, fits, is)) in
-    cut_behind text len end 0 inside here
+    cut_after text len end 0 inside here
     ∙ ap (λ front. front ++ end ∷ drop (len + 1) text) (sym digits ∙ ap decimal (sym is))
 
 pub token_of_front : (text : List ℕ) (len number raw : ℕ) → 0 < len → len ≤ 16 → len < length text → All IsLowerHex (take len text)
@@ -164,5 +164,5 @@ token_of_front text len number raw some few inside lower is shifted cell last he
       no_last_zero =
           λ zero. last (sym (get_or-take len text (len - 1) 0 (omega arith)) ∙ ap (λ k. get_or front (k - 1) 0) (sym long) ∙ zero);
     } in
-    cut_behind text len 32 0 inside here
+    cut_after text len 32 0 inside here
     ∙ ap (λ x. x ++ 32 ∷ drop (len + 1) text) ((one_canonical front raw cell spelled).0 canonical)

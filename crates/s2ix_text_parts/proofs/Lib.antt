@@ -1,3 +1,5 @@
+pub mod Prefixes
+pub mod Writing
 pub mod Pieces
 pub mod PartCounts
 pub mod Fronts
@@ -9,3 +11,4 @@ pub mod Found
 pub mod NumberedLines
 pub mod NoFronts
 pub mod FaultsTold
+pub mod Full

@@ -2,7 +2,7 @@
 use Rattle.std.proofs.Common.{◌≡◌, ℕ, ◌+◌, Option, Some, None, List, [], ◌∷◌, ◌++◌, length, refl, sym, ◌∙◌, subst, append_assoc}
 use Rattle.std.proofs.lemmas.List.{append-nil}
 use Rattle.s2ix_bag_pairs.specs.declared.limits.Limits.{Limits}
-use Rattle.s2ix_text_parts.specs.Faults.{LineAt, fault_below}
+use Rattle.s2ix_text_parts.specs.LineFaults.{LineAt, fault_below}
 use Rattle.s2ix_text_parts.proofs.FirstFault.{found_here, found_later, place}
 
 none_at : {F : Type 0} (fault : LineAt → Option F) (limits : Limits) (above : List (List ℕ)) (line : List ℕ) (lines : List (List ℕ))

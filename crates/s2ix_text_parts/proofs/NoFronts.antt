@@ -14,22 +14,22 @@ use Rattle.s2id_core.proofs.Digits.{shifted_value}
 
 -- ---- where a pass stops
 
-pub behind_front : (xs ys : List ℕ) (x : ℕ) → get_or (xs ++ x ∷ ys) (length xs) 0 ≡ x
-behind_front [] ys x = refl
-behind_front (y ∷ xs) ys x = behind_front xs ys x
+pub after_front : (xs ys : List ℕ) (x : ℕ) → get_or (xs ++ x ∷ ys) (length xs) 0 ≡ x
+after_front [] ys x = refl
+after_front (y ∷ xs) ys x = after_front xs ys x
 
--- a pass over what fulfils P, `most` steps at the most, stops after `front`, where the next byte doesn't
-stops_behind : (P : ℕ → Type 0) (front rest : List ℕ) (end len most : ℕ) → All P front → length front ≤ most → ¬ P end → len ≤ most
+-- a pass over what fulfils P, `most` steps at the most, stops after `front`, if the next byte doesn't
+stops_after : (P : ℕ → Type 0) (front rest : List ℕ) (end len most : ℕ) → All P front → length front ≤ most → ¬ P end → len ≤ most
     → len < length (front ++ end ∷ rest) → All P (take len (front ++ end ∷ rest))
     → (len < most → ¬ P (get_or (front ++ end ∷ rest) len 0)) → len ≡ length front
-stops_behind P front rest end len most own short other few inside all stop =
+stops_after P front rest end len most own short other few inside all stop =
     let text = front ++ end ∷ rest in
     ⊎_elim
     (λ early. absurd (stop (omega arith) (subst P (sym (get_or_append_left front (end ∷ rest) 0 len early)) (own len 0 early))))
     (λ late. ⊎_elim
     (λ beyond.
     let long : length (take len text) ≡ len = length-take-le len text (omega arith) in
-    let here : get_or (take len text) (length front) 0 ≡ end = get_or-take len text (length front) 0 beyond ∙ behind_front front rest end in
+    let here : get_or (take len text) (length front) 0 ≡ end = get_or-take len text (length front) 0 beyond ∙ after_front front rest end in
     absurd (other (subst P here (all (length front) 0 (omega arith)))))
     (λ same. omega arith)
     (cases_lt (length front) len))
@@ -56,7 +56,7 @@ token_is_read text rest len number raw is cell few inside lower value stop =
     let spells = canonical_spells raw cell in
     let own = lower-canonical_token raw in
     let long : len ≡ length token =
-    stops_behind IsLowerHex token rest 32 len 16 own spells.at_most no_space_in_hex few (subst (λ t. len < length t) is inside)
+    stops_after IsLowerHex token rest 32 len 16 own spells.at_most no_space_in_hex few (subst (λ t. len < length t) is inside)
     (subst (λ t. All IsLowerHex (take len t)) is lower)
     (λ early. subst (λ t. ¬ IsLowerHex (get_or t len 0)) is (stop early)) in
     let front : take len text ≡ token = ap (take len) is ∙ take_at token (32 ∷ rest) len (sym long) in
@@ -65,7 +65,7 @@ token_is_read text rest len number raw is cell few inside lower value stop =
     let at_most = spells.at_most in
     record {
       some = omega arith;
-      space = ap (λ t. get_or t len 0) is ∙ ap (λ k. get_or whole k 0) long ∙ behind_front token rest 32;
+      space = ap (λ t. get_or t len 0) is ∙ ap (λ k. get_or whole k 0) long ∙ after_front token rest 32;
       last =
           λ zero. canonical.no_last_zero
           (ap (λ k. get_or token (k - 1) 0) (sym long) ∙ sym (get_or_append_left token (32 ∷ rest) 0 (len - 1) (omega arith))
@@ -98,12 +98,12 @@ number_is_read text rest len end n is small other few inside all stop =
     let short : length digits ≤ 9 = length-decimal-le 9 n (omega arith) small (omega arith) in
     let some = decimal_nonempty n (omega arith) in
     let long : len ≡ length digits =
-    stops_behind Digit digits rest end len 9 (all_from_digits digits own) short (λ digit. omega (arith, digit, other)) few
+    stops_after Digit digits rest end len 9 (all_from_digits digits own) short (λ digit. omega (arith, digit, other)) few
     (subst (λ t. len < length t) is inside) (subst (λ t. All Digit (take len t)) is (all_from_digits (take len text) all))
     (λ early. subst (λ t. ¬ Digit (get_or t len 0)) is (λ digit. omega (arith, digit, stop early))) in
     record {
       some = omega arith;
-      end_byte = ap (λ t. get_or t len 0) is ∙ ap (λ k. get_or (digits ++ end ∷ rest) k 0) long ∙ behind_front digits rest end;
+      end_byte = ap (λ t. get_or t len 0) is ∙ ap (λ k. get_or (digits ++ end ∷ rest) k 0) long ∙ after_front digits rest end;
       first =
           λ several zero.
           let here : get_or digits 0 0 ≡ 48 =

@@ -36,12 +36,12 @@ pub lines_split : (lines : List (List ℕ)) → is_nil lines ≡ false → (last
 lines_split [] some = cc
 lines_split (last ∷ more) some = (last, more, refl)
 
--- what is left, where it has bytes
-pub some_behind : (below last : List ℕ) (lines : List (List ℕ)) → is_nil below ≡ false → lines_of below ≡ last ∷ lines
+-- what is left, if it has bytes
+pub some_after : (below last : List ℕ) (lines : List (List ℕ)) → is_nil below ≡ false → lines_of below ≡ last ∷ lines
     → (not (is_nil lines) || not (is_nil last)) ≡ true
-some_behind below last (line ∷ lines) some is = refl
-some_behind below (byte ∷ last) [] some is = refl
-some_behind below [] [] some is =
+some_after below last (line ∷ lines) some is = refl
+some_after below (byte ∷ last) [] some is = refl
+some_after below [] [] some is =
     let joined : below ≡ [] = sym (lines_joined below) ∙ ap (join_with_byte 10) is in
     let clash : false ≡ true = sym some ∙ ap is_nil joined in
     cc

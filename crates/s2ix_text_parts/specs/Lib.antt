@@ -1,4 +1,9 @@
-pub mod Faults
+pub mod Adapters
+pub mod Devices
+pub mod DeviceFaults
+pub mod Pieces
+pub mod Puts
+pub mod LineFaults
 pub mod Fronts
 pub mod Lines
 pub mod NumberedLines

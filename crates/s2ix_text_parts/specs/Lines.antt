@@ -25,7 +25,7 @@ lines_of text = pieces_at 10 text
 unfoldable pub parts_of : List ℕ → List (List ℕ)
 parts_of line = pieces_at 32 line
 
--- the part of a line at this place, counted from 0; nothing where there is none
+-- the part of a line at this place, counted from 0; nothing if there is none
 abbrev pub part : ℕ → List ℕ → List ℕ
 part k line = slice_index_or (parts_of line) k []
 

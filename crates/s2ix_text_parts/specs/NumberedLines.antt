@@ -1,10 +1,10 @@
 -- Where the line of a text with a number stands.
 use Rattle.std.specs.Prelude.{ℕ, ◌-◌, not, List, [], drop, slice_index_or, take}
 use Rattle.s2ix_bag_pairs.specs.declared.limits.Limits.{Limits}
-use Rattle.s2ix_text_parts.specs.Faults.{LineAt}
+use Rattle.s2ix_text_parts.specs.LineFaults.{LineAt}
 use Rattle.s2ix_text_parts.specs.Lines.{is_nil, lines_of}
 
--- the line with a number, counted from 1, without its line feed; nothing where the text has none
+-- the line with a number, counted from 1, without its line feed; nothing if the text has none
 abbrev pub line_at : ℕ → List ℕ → List ℕ
 line_at number text = slice_index_or (lines_of text) (number - 1) []
 

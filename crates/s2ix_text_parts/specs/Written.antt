@@ -13,7 +13,7 @@ use Rattle.s2ix_bag_pairs.specs.Label.{label_numbered}
 use Rattle.s2ix_bag_pairs.specs.Pair.{rank_of}
 use Rattle.s2ix_text_parts.specs.Lines.{part}
 
--- a cell, where the text is its canonical token
+-- a cell, if the text is its canonical token
 abbrev pub cell_if_canonical : List ℕ → CellId → Option CellId
 cell_if_canonical text cell = if bytes_eq text (canonical_token (raw_of cell)) then Some cell else None
 
@@ -37,7 +37,7 @@ count_from most n = if nat_le 1 n && nat_le n most then Some n else None
 unfoldable pub count_written : ℕ → List ℕ → Option ℕ
 count_written most text = option_and_then (count_from most) (number_written text)
 
--- the pair of a cell and a label, where there are both
+-- the pair of a cell and a label, if there are both
 abbrev pub pair_of_both : Option CellId → Option Label → Option Pair
 pair_of_both (Some cell) (Some label) = Some (record { cell = cell; label = label })
 pair_of_both (Some cell) None = None
@@ -47,11 +47,11 @@ pair_of_both None label = None
 unfoldable pub pair_written : List ℕ → Option Pair
 pair_written line = pair_of_both (cell_written (part 0 line)) (label_written (part 1 line))
 
--- the count that the third part of a line writes; 0 where it writes none
+-- the count that the third part of a line writes; 0 if it writes none
 unfoldable pub count_of_line : ℕ → List ℕ → ℕ
 count_of_line most line = unwrap_or (count_written most (part 2 line)) 0
 
--- a pair comes before another, where there are both
+-- a pair comes before another, if there are both
 abbrev pub comes_before : Option Pair → Option Pair → Bool
 comes_before (Some p) (Some q) = nat_lt (rank_of p) (rank_of q)
 comes_before (Some p) None = true

@@ -4,7 +4,7 @@ ghost use Rattle.s2ix_text_parts.specs.Lines.{has_parts, lines_of, part, parts_o
 
 use memchr::memchr;
 
-// A text up to the first byte `end`, and what is after that; `None` where it has none.
+// A text up to the first byte `end`, and what is after that; `None` if it has none.
 fn cut_at(text: &[u8], end: u8) -> Option<(&[u8], &[u8])>
     ensures none { IfNone result (pieces_at end text.now ≡ text.now ∷ []) }
     ensures cut { IfSome result (λ cut. text.now ≡ cut.0.now ++ end ∷ cut.1.now) }

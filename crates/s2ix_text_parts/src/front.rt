@@ -11,7 +11,7 @@ ghost use Rattle.s2ix_text_parts.specs.Fronts.{HasNoCellInFront, HasNoNumberInFr
 
 use s2id_core::CellId;
 
-// What each byte is worth as a hexadecimal digit, of lower case alone; 16 where it is none.
+// What each byte is worth as a hexadecimal digit, of lower case alone; 16 if it is none.
 const LOWER_VALUES: [u8; 256] = [
     16, 16, 16, 16, 16, 16, 16, 16, 16, 16, 16, 16, 16, 16, 16, 16, 16, 16, 16, 16, 16, 16, 16, 16,
     16, 16, 16, 16, 16, 16, 16, 16, 16, 16, 16, 16, 16, 16, 16, 16, 16, 16, 16, 16, 16, 16, 16, 16,
@@ -108,7 +108,7 @@ fn decimal_digits(text: &[u8]) -> (u32, usize)
     (number, 9)
 }
 
-// What a byte is worth as a decimal digit; above 9 where it is none.
+// What a byte is worth as a decimal digit; above 9 if it is none.
 #[inline]
 fn decimal_worth(byte: u8) -> u8
     ensures digit { digit_value byte < 10 → result ≡ digit_value byte }
@@ -117,7 +117,7 @@ fn decimal_worth(byte: u8) -> u8
     byte.wrapping_sub(b'0')
 }
 
-// What a byte is worth as a hexadecimal digit of lower case; 16 where it is none.
+// What a byte is worth as a hexadecimal digit of lower case; 16 if it is none.
 #[inline]
 fn lower_worth(byte: u8) -> u8
     ensures digit { IsLowerHex byte → result ≡ digit_value byte }

@@ -1,27 +1,18 @@
-//! Tests of sources and sinks, and of the texts that go out: dumps, journals, lists, answers of one line, and bags as one line of JSON.
+//! Tests of sources and sinks, of the readers of dumps and of journals, and of bags as one line of JSON.
+//!
+//! In `refused_reading_tests` each growth is refused in turn: `tests/hostile` runs each test there once for each growth
+//! that it asks for. The call tells so, and made again it answers as it does with memory.
 #![tactic(auto)]
 
 #[cfg(test)]
 mod adapter_tests;
 #[cfg(test)]
-mod answer_tests;
-#[cfg(test)]
-mod calls;
-#[cfg(test)]
-mod device_tests;
-#[cfg(test)]
-mod dump_tests;
-#[cfg(test)]
 mod export_tests;
 #[cfg(test)]
-mod journal_tests;
+mod reader_tests;
 #[cfg(test)]
-mod list_tests;
+mod refused_growths;
 #[cfg(test)]
-mod reading_tests;
+mod refused_reading_tests;
 #[cfg(test)]
-mod samples;
-#[cfg(test)]
-mod text_tests;
-#[cfg(test)]
-mod texts;
+mod sink_tests;

@@ -1,15 +1,15 @@
 -- Lines that are gathered before they are put.
 use Rattle.std.proofs.Common.{◌≡◌, ℕ, ◌+◌, List, [], ◌++◌, take, drop, Some, Result, Ok, Err, sym, ap, ap₂, ◌∙◌, refl, subst, append_assoc, ◌≤◌, append-nil, length, arith}
 use Rattle.std.specs.Prelude.{flat_map, IsErr, slice_get}
-use Rattle.s2ix_text_io.specs.Puts.{Writes}
-use Rattle.s2ix_text_io.specs.declared.sink.Sink.{Ghosts as Sink}
-use Rattle.s2ix_text_io.specs.declared.sink.WriteFault.{WriteFault}
+use Rattle.s2ix_text_parts.specs.Puts.{Writes}
+use Rattle.s2ix_text_parts.specs.declared.sink.Sink.{Ghosts as Sink}
+use Rattle.s2ix_text_parts.specs.declared.sink.WriteFault.{WriteFault}
 use Rattle.std.proofs.KnownBytes.{Appends-nil}
 use Rattle.std.proofs.lemmas.Bool.{false≢true}
 use Rattle.std.proofs.lemmas.List.{take-append-drop, take_all}
 use Rattle.std.proofs.lemmas.List.Concat.{flat_map-append}
-use Rattle.s2ix_text_io.proofs.Fronts.{flat_map-take_more}
-use Rattle.s2ix_text_io.proofs.Writing.{Writes-cut, Writes-then}
+use Rattle.s2ix_text_parts.proofs.Prefixes.{flat_map-take_more}
+use Rattle.s2ix_text_parts.proofs.Writing.{Writes-cut, Writes-then}
 use Rattle.s2ix_text_write.specs.Gathered.{Gathers, IsGathered}
 use Rattle.s2ix_text_write.specs.Lists.{end_of_list, list_text}
 
@@ -27,9 +27,9 @@ module _ {K : Type 0} {sink : Sink K} where
   all_put {old} {new} {text} put = record { front = text; whole = sym (append-nil text); wrote = put }
 
   -- a text comes after what is gathered, and stays there
-  pub gathered_behind : {old new : K} {before mid after : List ℕ} (text : List ℕ) → IsGathered sink old new before mid → after ≡ mid ++ text
+  pub gathered_after : {old new : K} {before mid after : List ℕ} (text : List ℕ) → IsGathered sink old new before mid → after ≡ mid ++ text
       → IsGathered sink old new (before ++ text) after
-  gathered_behind {old} {new} {before} {mid} {after} text was is = record {
+  gathered_after {old} {new} {before} {mid} {after} text was is = record {
     front = was.front;
     whole = ap (λ t. t ++ text) was.whole ∙ append_assoc was.front mid text ∙ ap (λ t. was.front ++ t) (sym is);
     wrote = was.wrote;
@@ -120,38 +120,38 @@ module _ {K : Type 0} {sink : Sink K} where
   -- ---- items after what was gathered before them
 
   -- none of them
-  pub behind_none : {old : K} (before : List ℕ) → IsGathered sink old old (before ++ []) before
-  behind_none {old} before = record {
+  pub after_none : {old : K} (before : List ℕ) → IsGathered sink old old (before ++ []) before
+  after_none {old} before = record {
     front = [];
     whole = append-nil before;
     wrote = record { puts = Appends-nil (sink.taken old); unflushed = refl; faults = omega arith };
   }
 
   -- one more
-  pub behind_item : {X : Type 0} (before : List ℕ) (f : X → List ℕ) (xs : List X) (place : ℕ) (x : X) {old mid new : K}
+  pub after_item : {X : Type 0} (before : List ℕ) (f : X → List ℕ) (xs : List X) (place : ℕ) (x : X) {old mid new : K}
       {rest after : List ℕ} → slice_get xs place ≡ Some x
       → IsGathered sink old mid (before ++ flat_map f (take place xs)) rest → IsGathered sink mid new (rest ++ f x) after
       → IsGathered sink old new (before ++ flat_map f (take (place + 1) xs)) after
-  behind_item before f xs place x {old} {mid} {new} {rest} {after} at was more =
+  after_item before f xs place x {old} {mid} {new} {rest} {after} at was more =
       subst (λ (t : List ℕ). IsGathered sink old new t after)
       (append_assoc before (flat_map f (take place xs)) (f x) ∙ ap (λ t. before ++ t) (sym (flat_map-take_more f xs place x at)))
       (gathered_then (f x) was more)
 
   -- all of them
-  pub behind_all : {X : Type 0} (before : List ℕ) (f : X → List ℕ) (xs : List X) (place : ℕ) {old new : K} {rest : List ℕ}
+  pub after_all : {X : Type 0} (before : List ℕ) (f : X → List ℕ) (xs : List X) (place : ℕ) {old new : K} {rest : List ℕ}
       → length xs ≤ place → IsGathered sink old new (before ++ flat_map f (take place xs)) rest
       → IsGathered sink old new (before ++ flat_map f xs) rest
-  behind_all before f xs place {old} {new} {rest} end was =
+  after_all before f xs place {old} {new} {rest} end was =
       subst (λ (t : List ℕ). IsGathered sink old new t rest) (ap (λ t. before ++ flat_map f t) (take_all place xs end)) was
 
   -- the sink failed in one or before it
-  pub behind_fault : {X A B : Type 0} (before after : List ℕ) (f : X → List ℕ) (xs : List X) (place : ℕ) (x : X) {old mid new : K}
+  pub after_fault : {X A B : Type 0} (before after : List ℕ) (f : X → List ℕ) (xs : List X) (place : ℕ) (x : X) {old mid new : K}
       {rest : List ℕ} {fault : WriteFault} (r : Result B WriteFault)
       → IsErr r → slice_get xs place ≡ Some x
       → IsGathered sink old mid (before ++ flat_map f (take place xs)) rest → Writes {A = A} sink mid new (Err fault) (rest ++ f x)
       → Gathers sink old new r before after (flat_map f xs)
-  behind_fault before after f xs place x (Ok y) is at was put = absurd (false≢true is)
-  behind_fault {X} {A} {B} before after f xs place x {old} {mid} {new} {rest} {fault} (Err e) is at was put =
+  after_fault before after f xs place x (Ok y) is at was put = absurd (false≢true is)
+  after_fault {X} {A} {B} before after f xs place x {old} {mid} {new} {rest} {fault} (Err e) is at was put =
       let more = flat_map f (take (place + 1) xs) in
       let to_here : (before ++ flat_map f (take place xs)) ++ f x ≡ before ++ more =
       append_assoc before (flat_map f (take place xs)) (f x) ∙ ap (λ t. before ++ t) (sym (flat_map-take_more f xs place x at)) in

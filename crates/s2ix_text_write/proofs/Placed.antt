@@ -26,10 +26,10 @@ use Rattle.s2ix_text_write.specs.Lists.{end_of_list, held_line, label_line, line
 pub placed : (place start end : ℕ) (text old new : List ℕ) → start + length text ≡ end → end ≡ place + length text
     → drop start new ≡ text ++ drop end old → take start new ≡ take start old
     → take end new ≡ take place old ++ text
-placed place start end text old new ends is behind before =
+placed place start end text old new ends is past before =
     let same : start ≡ place = omega (arith, ends, is) in
     let front : take place new ≡ take place old = subst (λ n. take n new ≡ take n old) same before in
-    let rest : drop place new ≡ text ++ drop end old = subst (λ n. drop n new ≡ text ++ drop end old) same behind in
+    let rest : drop place new ≡ text ++ drop end old = subst (λ n. drop n new ≡ text ++ drop end old) same past in
     ap (λ n. take n new) is ∙ take-add place (length text) new
     ∙ ap₂ (λ (a b : List ℕ). a ++ b) front (ap (take (length text)) rest ∙ take-append_seam text (drop end old))
 

@@ -53,7 +53,7 @@ header_named : (header : Version → List ℕ) (line : List ℕ) (version : Vers
 header_named header line version is =
     found_header header line version (bytes_eq line (header First)) (bytes_eq line (header Second)) refl refl is
 
--- and a header names its version, where no header is that of two
+-- and a header names its version, if no header is that of two
 named_by_header : (header : Version → List ℕ) → bytes_eq (header Second) (header First) ≡ false → (version : Version)
     → version_of header (header version) ≡ Some version
 named_by_header header apart First = cond-true _ _ _ ((bytes_eq-Decides (header First) (header First)).1 refl)

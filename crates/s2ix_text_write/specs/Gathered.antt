@@ -1,8 +1,8 @@
 -- Lines that are gathered before they are put.
 use Rattle.std.specs.Prelude.{◌≡◌, ℕ, List, ◌++◌, take, Result, Ok, Err}
-use Rattle.s2ix_text_io.specs.Puts.{Writes}
-use Rattle.s2ix_text_io.specs.declared.sink.Sink.{Ghosts as Sink}
-use Rattle.s2ix_text_io.specs.declared.sink.WriteFault.{WriteFault}
+use Rattle.s2ix_text_parts.specs.Puts.{Writes}
+use Rattle.s2ix_text_parts.specs.declared.sink.Sink.{Ghosts as Sink}
+use Rattle.s2ix_text_parts.specs.declared.sink.WriteFault.{WriteFault}
 use Rattle.s2ix_text_write.specs.declared.block.Block.{Block}
 
 -- what a block holds that is not put yet

@@ -1,6 +1,9 @@
 pub mod Version
 pub mod Dump
 pub mod Journal
-pub mod Laws
+pub mod WritingLaws
 pub mod Lists
 pub mod Gathered
+pub mod Export
+pub mod ExportLaws
+pub mod Values

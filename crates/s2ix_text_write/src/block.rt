@@ -1,13 +1,13 @@
 //! Lines that are gathered before they are put.
 ghost use Rattle.std.specs.Prelude.{◌≡◌, ◌+◌, ◌≤◌, ◌++◌, [], OnErr, OnOk};
-ghost use Rattle.s2ix_text_io.specs.Faults.{CanCount};
-ghost use Rattle.s2ix_text_io.specs.Puts.{Writes};
+ghost use Rattle.s2ix_text_parts.specs.DeviceFaults.{CanCount};
+ghost use Rattle.s2ix_text_parts.specs.Puts.{Writes};
 ghost use Rattle.s2ix_text_write.specs.Lists.{end_of_list, line_between};
 
 use crate::list::ListItem;
 use crate::places::{LONGEST_LINE, end_at, pair_at};
 use s2ix_bag_pairs::Held;
-use s2ix_text_io::{Sink, WriteFault, put_all};
+use s2ix_text_parts::{Sink, WriteFault, put_all};
 
 // How many bytes are gathered at most.
 const ROOM: usize = 512;
@@ -35,7 +35,7 @@ impl Block {
     }
 
     /// Gathers the line of an item. If it may not fit, what is gathered is put first. O(1) beside that. `WriteFault` if the sink fails;
-    /// then a prefix of what was gathered went out.
+    /// then a front of what was gathered went out.
     pub fn write_line<A: ListItem, K: Sink>(
         &mut self,
         item: A,
@@ -65,7 +65,7 @@ impl Block {
     }
 
     /// Puts what is gathered and, after it, the last line of a list of `count` items: `end` with their number. Nothing is gathered then.
-    /// `WriteFault` if the sink fails; then a prefix of all that went out.
+    /// `WriteFault` if the sink fails; then a front of all that went out.
     pub fn write_end<K: Sink>(&mut self, count: usize, sink: &mut K) -> Result<(), WriteFault>
         requires { CanCount (K.fault_count sink.old) }
         ensures text { Writes K.Sink sink.old sink.new result (gathered_in self.old ++ end_of_list count) }

@@ -1,12 +1,12 @@
 ghost use Rattle.std.specs.Prelude.{flat_map};
 ghost use Rattle.s2ix_text_write.specs.Dump.{dump_text, end_line, pair_line};
-ghost use Rattle.s2ix_text_io.specs.Faults.{CanCount};
-ghost use Rattle.s2ix_text_io.specs.Puts.{Writes};
+ghost use Rattle.s2ix_text_parts.specs.DeviceFaults.{CanCount};
+ghost use Rattle.s2ix_text_parts.specs.Puts.{Writes};
 
 use crate::block::Block;
 use itoa::Buffer;
-use s2ix_bag::Bag;
-use s2ix_text_io::{Sink, WriteFault, put_all, put_together};
+use s2ix_bag_changes::Bag;
+use s2ix_text_parts::{Sink, WriteFault, put_all, put_together};
 
 // Writes the lines of all held pairs, in rising order, gathered in blocks.
 fn write_pairs<K: Sink>(bag: &Bag, sink: &mut K) -> Result<(), WriteFault>

@@ -1,14 +1,14 @@
 ghost use Rattle.std.specs.Prelude.{flat_map};
-ghost use Rattle.s2ix_text_io.specs.Faults.{CanCount};
+ghost use Rattle.s2ix_text_parts.specs.DeviceFaults.{CanCount};
 ghost use Rattle.s2ix_text_write.specs.Journal.{change_line, entry_line, group_text, journal_text};
-ghost use Rattle.s2ix_text_io.specs.Puts.{Writes};
+ghost use Rattle.s2ix_text_parts.specs.Puts.{Writes};
 
 use crate::list::{ListItem, write_end_of_list, write_lines};
 use crate::places::{byte_at, number_at, token_at};
 use itoa::Buffer;
-use s2ix_bag::Change;
+use s2ix_bag_changes::Change;
 use s2ix_bag_pairs::Entry;
-use s2ix_text_io::{Sink, WriteFault, put_all, put_together};
+use s2ix_text_parts::{Sink, WriteFault, put_all, put_together};
 
 impl ListItem for Entry {
     ghost line = { entry_line };

@@ -1,9 +1,10 @@
 //! Laws: functions that do nothing; their contracts state facts about definitions.
 ghost use Rattle.std.specs.Prelude.{◌≡◌, ◌↔◌, IsTrue};
 ghost use Rattle.s2ix_text_write.specs.declared.version.Version.{Version};
-ghost use Rattle.s2ix_text_write.specs.Laws.{BagsHaveDumps, DumpsTellBagsApart, DumpsTellCollectionsApart, DumpsTellVersionsApart, JournalsTellListsApart, JournalsTellVersionsApart, WritableChangesHaveJournals};
+ghost use Rattle.s2ix_text_write.specs.WritingLaws.{BagsHaveDumps, DumpsTellBagsApart, DumpsTellCollectionsApart, DumpsTellVersionsApart, JournalsTellListsApart, JournalsTellVersionsApart, WritableChangesHaveJournals};
+ghost use Rattle.s2ix_text_write.specs.ExportLaws.{ExportsTellBagsApart};
 
-use crate::Version;
+use crate::version::Version;
 
 /// A text is a dump of one collection alone, in whichever version; so two bags with one dump hold the same.
 pub fn dumps_tell_collections_apart()
@@ -44,4 +45,9 @@ pub fn equal_versions_are_one()
 /// A clone of a version is the same.
 pub fn cloned_versions_are_the_same()
     ensures { (a copy : Version) → ⟦<Version as Clone>⟧.is_clone a copy ↔ (copy ≡ a) }
+{}
+
+/// Two bags with one export hold the same.
+pub fn exports_tell_bags_apart()
+    ensures { ExportsTellBagsApart }
 {}

@@ -1,6 +1,6 @@
 ghost use Rattle.std.specs.Prelude.{◌≡◌, ℕ, ◌+◌, ◌≤◌, ◌++◌, List, flat_map, length, take};
-ghost use Rattle.s2ix_text_io.specs.Faults.{CanCount};
-ghost use Rattle.s2ix_text_io.specs.Puts.{Writes};
+ghost use Rattle.s2ix_text_parts.specs.DeviceFaults.{CanCount};
+ghost use Rattle.s2ix_text_parts.specs.Puts.{Writes};
 ghost use Rattle.s2ix_text_write.specs.Gathered.{Gathers, gathered_in};
 ghost use Rattle.s2ix_text_write.specs.Lists.{end_of_list, held_line, label_line, list_text, token_line};
 
@@ -8,7 +8,7 @@ use crate::block::Block;
 use crate::places::{LONGEST_LINE, byte_at, end_at, number_at, pair_at, token_at};
 use s2id_core::CellId;
 use s2ix_bag_pairs::{Held, Label};
-use s2ix_text_io::{Sink, WriteFault, put_all};
+use s2ix_text_parts::{Sink, WriteFault, put_all};
 
 /// An item of a list, on a line of its own.
 pub trait ListItem: Copy {
@@ -85,7 +85,7 @@ pub(crate) fn write_lines<A: ListItem, K: Sink>(items: &[A], sink: &mut K) -> Re
     block.put(sink)
 }
 
-/// Writes the last line of a list of `count` items: `end` with their number. `WriteFault` if the sink fails; then a prefix of the line went
+/// Writes the last line of a list of `count` items: `end` with their number. `WriteFault` if the sink fails; then a front of the line went
 /// out.
 pub fn write_end_of_list<K: Sink>(count: usize, sink: &mut K) -> Result<(), WriteFault>
     requires { CanCount (K.fault_count sink.old) }

@@ -7,7 +7,7 @@ use crate::edit::Edit;
 use crate::edits::entries::push_entry;
 use crate::errors::EditError;
 use s2id_union::CellUnion;
-use s2ix_bag::{Bag, Change};
+use s2ix_bag_changes::{Bag, Change};
 use s2ix_bag_pairs::{Label, Pair};
 use std::alloc::Global;
 

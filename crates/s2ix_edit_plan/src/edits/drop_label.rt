@@ -7,7 +7,7 @@ use crate::edit::Edit;
 use crate::edits::entries::{lacks_label, removal};
 use crate::errors::EditError;
 use s2id_core::OutOfMemory;
-use s2ix_bag::{Bag, Change};
+use s2ix_bag_changes::{Bag, Change};
 use s2ix_bag_pairs::{Entry, Label};
 use std::alloc::Global;
 

@@ -7,11 +7,11 @@ ghost use Rattle.s2ix_edit_plan.specs.Plan.{one_entry};
 ghost use Rattle.s2ix_edit_plan.specs.Refusals.{holds_none};
 
 use s2id_core::OutOfMemory;
-use s2ix_bag::{Bag, Change};
+use s2ix_bag_changes::{Bag, Change};
 use s2ix_bag_pairs::{Entry, Held, Label, Pair};
 use std::alloc::Global;
 
-// The change of one pair's count: no entry, and no growth, where the count stays.
+// The change of one pair's count: no entry, and no growth, if the count stays.
 pub(crate) fn one_pair(
     alloc: Global,
     pair: Pair,

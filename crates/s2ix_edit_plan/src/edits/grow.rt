@@ -12,11 +12,12 @@ use crate::region::label_cells;
 use s2id_core::{CellId, OutOfMemory};
 use s2id_cube::{BorderError, border, edge_neighbors};
 use s2id_union::CellUnion;
-use s2ix_bag::{Bag, Change};
+use s2ix_bag_changes::{Bag, Change};
 use s2ix_bag_pairs::{Entry, Label, Pair};
 use std::alloc::Global;
 
-// The change that gives one copy under the label to each cell that the label grows by at a level.
+// The change that gives one copy under the label to each cell that the label grows by at a level. It wants memory for the label's cells,
+// their normal union, the cells beside them, each border, and the entries.
 // O(n + b log b) for n pairs held and b cells beside those of the label: four for each cell of the level or finer,
 // and up to 1024 for a coarser one.
 pub(crate) fn plan(alloc: Global, bag: &Bag, label: Label, level: u8) -> Result<Change, EditError>
@@ -87,8 +88,8 @@ fn cells_beside(alloc: Global, cells: &[CellId], level: u8) -> Result<Vec<CellId
     Ok(beside)
 }
 
-// Appends the cells of the level that share an edge with a cell of that level inside the cell, where it is coarser;
-// else with its parent at the level.
+// Appends the cells of the level that share an edge with a cell of the level inside this cell or, if this cell is not coarser than the
+// level, with its ancestor at the level.
 fn add_beside(
     alloc: Global,
     beside: &mut Vec<CellId>,

@@ -19,7 +19,7 @@ ghost use Rattle.s2ix_edit_plan.specs.Refusals.{asks_no_copies, has_count_above_
 
 use crate::edit::Edit;
 use crate::errors::EditError;
-use s2ix_bag::{Bag, Change};
+use s2ix_bag_changes::{Bag, Change};
 use std::alloc::Global;
 
 /// The change that carries an edit out on a bag: an entry for each pair whose count the edit changes, and none if nothing would change. The

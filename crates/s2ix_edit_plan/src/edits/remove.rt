@@ -4,7 +4,7 @@ ghost use Rattle.s2ix_edit_plan.specs.Plan.{AlwaysPlans, AlwaysRefuses};
 use crate::edit::Edit;
 use crate::edits::entries::one_pair;
 use crate::errors::EditError;
-use s2ix_bag::{Bag, Change};
+use s2ix_bag_changes::{Bag, Change};
 use s2ix_bag_pairs::Pair;
 use std::alloc::Global;
 

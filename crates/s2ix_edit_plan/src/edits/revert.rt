@@ -4,7 +4,7 @@ ghost use Rattle.s2ix_edit_plan.specs.Plan.{IsPlanRefusal, IsUnrefused, Plans};
 
 use crate::edit::Edit;
 use crate::errors::EditError;
-use s2ix_bag::{Bag, Change};
+use s2ix_bag_changes::{Bag, Change};
 use std::alloc::Global;
 
 // The change that takes back the one with the number. It is found at once, however many stand. O(m log n) for its m

@@ -11,7 +11,7 @@ ghost use Rattle.s2ix_edit_plan.specs.Rows.{IsRowsError, PlansRows, gain_of, gai
 use crate::edits::entries::push_entry;
 use crate::errors::EditError;
 use s2id_core::OutOfMemory;
-use s2ix_bag::{Bag, Change};
+use s2ix_bag_changes::{Bag, Change};
 use s2ix_bag_pairs::laws::pairs_compare_by_rank;
 use s2ix_bag_pairs::{Entry, Held, Pair};
 use std::alloc::Global;

@@ -2,9 +2,9 @@
 use Rattle.std.proofs.Common.{◌∙◌, ℕ, ap, sym, subst, Some}
 use Rattle.s2ix_bag_pairs.specs.declared.limits.Limits.{Limits}
 use Rattle.s2ix_edit_plan.specs.State.{State, starting_at}
-use Rattle.s2ix_text_read_dump.specs.declared.errors.DumpError.{DumpError}
-use Rattle.s2ix_text_read_dump.specs.declared.errors.DumpError.TheVariants.{OutOfMemory}
-use Rattle.s2ix_text_read_dump.specs.DumpFaults.{IsDumpError, dump_fault}
+use Rattle.s2ix_text.specs.declared.dump_error.DumpError.{DumpError}
+use Rattle.s2ix_text.specs.declared.dump_error.DumpError.TheVariants.{OutOfMemory}
+use Rattle.s2ix_text.specs.DumpFaults.{IsDumpError, dump_fault}
 use Rattle.s2ix_c.proofs.handles.s2ix_load.Goals as goal
 
 pub returns-clause-loaded : goal.returns-clause-loaded

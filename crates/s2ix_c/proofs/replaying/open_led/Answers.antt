@@ -1,7 +1,7 @@
 -- The limits are those that the three numbers made, and where the texts lead or what is refused in them is told of the texts.
 use Rattle.std.proofs.Common.{ap, rules, sym, subst}
-use Rattle.s2ix_text_read_dump.specs.declared.errors.DumpError.TheVariants.{OutOfMemory}
-use Rattle.s2ix_text_read_dump.specs.DumpFaults.{IsDumpError}
+use Rattle.s2ix_text.specs.declared.dump_error.DumpError.TheVariants.{OutOfMemory}
+use Rattle.s2ix_text.specs.DumpFaults.{IsDumpError}
 use Rattle.s2ix_c_calls.specs.declared.replaying.LedError.TheVariants.{Dump}
 use Rattle.s2ix_c_calls.specs.Replaying.{refused_at}
 use Rattle.s2ix_c.proofs.replaying.open_led.Goals as goal

@@ -3,8 +3,8 @@ use Rattle.std.proofs.Common.{◌≡◌, ◌%◌, sym, subst, ◌≤◌, List, l
 use Rattle.s2id_core.specs.CellId.{raw_of}
 use Rattle.s2id_core.proofs.Nested.{leaf_span, span}
 use Rattle.s2ix_bag_pairs.specs.declared.pair.Held.{Held}
-use Rattle.s2ix_table_ranges.specs.Contents.{contents_at}
-use Rattle.s2ix_table_ranges.proofs.Over.{length_contents}
+use Rattle.s2ix_table_walk.specs.Contents.{contents_at}
+use Rattle.s2ix_table_walk.proofs.Over.{length_contents}
 use Rattle.s2ix_c_calls.proofs.chains.first_over.Goals as goal
 
 pub returns-clause-pairs : goal.returns-clause-pairs

@@ -1,4 +1,4 @@
--- A pair is counted, or begins before, and so do those behind it, or none is left.
+-- A pair is counted, or begins before, and so do those after it, or none is left.
 use Rattle.std.proofs.Common.{◌∙◌, ◌<◌, ◌≤◌, ap, arith}
 use Rattle.s2id_core.specs.CellId.{first_of}
 use Rattle.s2ix_table_walk.specs.Places.{from_place}

@@ -1,6 +1,6 @@
 -- The pairs that begin late enough are the front of the chain.
 use Rattle.std.proofs.Common.{◌≤◌, arith, length}
-use Rattle.s2ix_table_ranges.specs.Table.{range_at}
+use Rattle.s2ix_table_walk.specs.Table.{range_at}
 use Rattle.s2ix_table_walk.specs.Places.{from_place}
 use Rattle.s2ix_c_calls.proofs.Begun.{front_short, puts_begun}
 use Rattle.s2ix_c_calls.proofs.chains.put_begun.Goals as goal
@@ -14,4 +14,4 @@ pub returns : goal.returns
 returns g c =
     puts_begun c.args.from c.length_begun-many.result _ (range_at (g.T.RangeTable.ranges c.args.table.now) c.args.place).contents
     c.args.out.now c.write_from.new.out c.length_begun-many.ensures (c.first_in-first.ensures.begun c.args.from) c.write_from.ensures.front
-    c.write_from.ensures.behind
+    c.write_from.ensures.after

@@ -20,13 +20,13 @@ loop-next-preserved g c =
     let here = subst (λ n. slice_get all n ≡ Some c.held_at.result) at next.0 in
     let more : count < c.args.many = omega arith in
     let less : count < length out = search rules in
-    let behind : drop (count + 1) (slice_set out count c.row_for.result) ≡ drop (count + 1) c.args.out.now = search (rules, drop-set-lt, drop_more_same) in
+    let after : drop (count + 1) (slice_set out count c.row_for.result) ≡ drop (count + 1) c.args.out.now = search (rules, drop-set-lt, drop_more_same) in
     let long : length (slice_set out count c.row_for.result) ≡ length c.args.out.now = search rules in (
       c.outer-next.ensures.place,
       next.1 ∙ sym c.outer-next.ensures.pairs_are,
       omega arith,
       put_next row_of out all 0 count c.held_at.result c.row_for.result less here c.row_for.ensures c.loop-next.invariant.3,
-      behind,
+      after,
       long,
     )
 
@@ -38,8 +38,8 @@ returns-clause-front g c =
     let whole : c.loop-next.count ≡ c.args.many = omega (arith, none, length-drop c.loop-next.count all, c.requires.some, c.loop-next.invariant.2) in
     ap (λ n. take n c.loop-next.out) (sym whole) ∙ c.loop-next.invariant.3 ∙ ap (λ n. map row_of (take n all)) whole
 
-pub returns-clause-behind : goal.returns-clause-behind
-returns-clause-behind g c =
+pub returns-clause-after : goal.returns-clause-after
+returns-clause-after g c =
     let chain = g.T.RangeTable.chain c.args.table.now in
     let all = from_place chain c.args.first in
     let none = ap length (c.loop-next.invariant.1 ∙ ap (from_place chain) c.in_default.is) in

@@ -2,7 +2,7 @@
 use Rattle.std.proofs.Common.{◌∙◌, ap, drop, length, map, sym, take}
 use Rattle.std.proofs.lemmas.Bool.{eqb-true}
 use Rattle.s2id_union.specs.NormalForm.{normal_form}
-use Rattle.s2ix_table_ranges.specs.Meeting.{meeting_of}
+use Rattle.s2ix_table_walk.specs.Meeting.{meeting_of}
 use Rattle.s2ix_c_calls.specs.Lists.{row_of, rows_met_from}
 use Rattle.s2ix_c_calls.proofs.NoCells.{lists_checked, lists_nothing, no_rows_met_from}
 use Rattle.s2ix_c_calls.proofs.queries.meet_store_from.Goals as goal

@@ -29,13 +29,13 @@ loop-count-preserved g c =
     let l = c.loop-count in
     let at_least : c.args.from ≤ l.passed = omega arith in
     let less : l.count < length l.out = omega arith in
-    let behind : drop (l.count + 1) (slice_set l.out l.count c.row_for.result) ≡ drop (l.count + 1) c.args.out.now = search (rules, drop-set-lt, drop_more_same) in
+    let after : drop (l.count + 1) (slice_set l.out l.count c.row_for.result) ≡ drop (l.count + 1) c.args.out.now = search (rules, drop-set-lt, drop_more_same) in
     let long : length (slice_set l.out l.count c.row_for.result) ≡ length c.args.out.now = search rules in (
       page_grows l.out c.row_for.result l.count c.args.from l.passed _ _ _ less l.invariant.1 at_least
           (ap (map row_of) c.in-Some.ensures.yields) c.row_for.ensures l.invariant.0,
       l.invariant.1,
       search rules,
-      behind,
+      after,
       long,
     )
 

@@ -1,6 +1,6 @@
 -- The rows that are written, with those of the pairs that are still to be put, are the page.
 use Rattle.std.proofs.Common.{◌≡◌, ◌++◌, ◌-◌, ◌≤◌, length, map, take, drop}
-use Rattle.s2ix_table_ranges.specs.Meeting.{meeting_of}
+use Rattle.s2ix_table_walk.specs.Meeting.{meeting_of}
 use Rattle.s2ix_table_walk.specs.Meetings.{left_in}
 use Rattle.s2ix_c_calls.specs.Lists.{row_of}
 use Rattle.s2ix_c_calls.proofs.queries.put_met_from.Given as goal

@@ -1,7 +1,7 @@
 -- A range table of the collection is the one that it has.
 use Rattle.std.proofs.Common.{◌≤◌, ◌<◌, ℕ, List, sym, subst}
 use Rattle.s2id_core.specs.CellId.{raw_of}
-use Rattle.s2ix_table_ranges.specs.Table.{Range}
+use Rattle.s2ix_table_walk.specs.Table.{Range}
 use Rattle.s2ix_c_calls.specs.Ranges.{IsRangeOf}
 use Rattle.s2ix_c_calls.proofs.ranges.range_of.Goals as goal
 

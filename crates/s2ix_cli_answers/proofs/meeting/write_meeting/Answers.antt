@@ -1,6 +1,6 @@
 -- The line of this pair is gathered after those before it, or the sink fails; then the end line.
 use Rattle.std.proofs.Common.{◌≡◌, ℕ, length, arith, rules}
-use Rattle.s2ix_table_ranges.specs.Meeting.{meeting_of}
+use Rattle.s2ix_table_walk.specs.Meeting.{meeting_of}
 use Rattle.s2ix_table_walk.specs.Shown.{Shown}
 use Rattle.s2ix_table_walk.proofs.Paying.{few_meet}
 use Rattle.s2ix_text_write.specs.Lists.{held_line}

@@ -1,6 +1,6 @@
 -- Of the lines of the pairs so far a front was put and the rest is gathered, and the other pairs of the meeting list are left.
 use Rattle.std.proofs.Common.{◌≡◌, ◌≤◌, take, drop, length, flat_map}
-use Rattle.s2ix_table_ranges.specs.Meeting.{meeting_of}
+use Rattle.s2ix_table_walk.specs.Meeting.{meeting_of}
 use Rattle.s2ix_table_walk.specs.Meetings.{left_in}
 use Rattle.s2ix_text_write.specs.Gathered.{IsGathered, gathered_in}
 use Rattle.s2ix_text_write.specs.Lists.{held_line}

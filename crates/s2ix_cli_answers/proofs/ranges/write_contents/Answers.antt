@@ -4,10 +4,10 @@ use Rattle.std.specs.Prelude.{slice_get}
 use Rattle.std.proofs.lemmas.Option.{slice_get_read}
 use Rattle.std.proofs.lemmas.List.{length_push}
 use Rattle.s2id_core.specs.CellId.{raw_of}
-use Rattle.s2ix_table_ranges.specs.Contents.{contents_at}
+use Rattle.s2ix_table_walk.specs.Contents.{contents_at}
 use Rattle.s2ix_table_walk.specs.Places.{from_place}
 use Rattle.s2ix_table_queries.specs.declared.iter.ChainIter.{ChainIter}
-use Rattle.s2ix_table_ranges.proofs.Over.{length_contents}
+use Rattle.s2ix_table_walk.proofs.Over.{length_contents}
 use Rattle.s2ix_table_queries.proofs.Yielding.{yields_turn, yields_end}
 use Rattle.s2ix_text_write.specs.Lists.{held_line}
 use Rattle.s2ix_bag_pairs.specs.declared.pair.Held.{Held}

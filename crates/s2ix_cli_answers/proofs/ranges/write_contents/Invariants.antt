@@ -1,7 +1,7 @@
 -- The pairs so far are counted; of their lines a front was put and the rest is gathered.
 use Rattle.std.proofs.Common.{◌≡◌, take, length, flat_map}
 use Rattle.s2id_core.specs.CellId.{raw_of}
-use Rattle.s2ix_table_ranges.specs.Contents.{contents_at}
+use Rattle.s2ix_table_walk.specs.Contents.{contents_at}
 use Rattle.s2ix_text_write.specs.Gathered.{IsGathered, gathered_in}
 use Rattle.s2ix_text_write.specs.Lists.{held_line}
 use Rattle.s2ix_cli_answers.proofs.ranges.write_contents.Given as goal

@@ -1,9 +1,9 @@
 -- The bounds, the pairs and the line feed are written one after the other.
 use Rattle.std.proofs.Common.{ℕ, List, ◌++◌, Ok, codes, flat_map, ap₂, subst}
-use Rattle.s2ix_text_io.specs.Puts.{Writes}
-use Rattle.s2ix_table_ranges.specs.Table.{range_at}
+use Rattle.s2ix_text_parts.specs.Puts.{Writes}
+use Rattle.s2ix_table_walk.specs.Table.{range_at}
 use Rattle.s2ix_cli_answers.specs.Ranges.{bounds_text, range_line, spaced_pair}
-use Rattle.s2ix_text_io.proofs.Writing.{Writes-cut, Writes-then}
+use Rattle.s2ix_text_parts.proofs.Writing.{Writes-cut, Writes-then}
 use Rattle.s2ix_cli_answers.proofs.ranges.write_range.Goals as goal
 
 pub returns-in_err-write_bounds : goal.returns-in_err-write_bounds

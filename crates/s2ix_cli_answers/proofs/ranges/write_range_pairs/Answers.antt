@@ -1,13 +1,13 @@
 -- The pair of this turn is written after those before it, or a fault ends it.
 use Rattle.std.proofs.Common.{List, ℕ, length, ◌∷◌, Ok, Err, subst, append-nil}
 use Rattle.s2ix_table_walk.specs.Places.{from_place}
-use Rattle.s2ix_table_ranges.specs.Table.{range_at}
+use Rattle.s2ix_table_walk.specs.Table.{range_at}
 use Rattle.s2ix_table_queries.specs.declared.iter.ChainIter.{ChainIter}
 use Rattle.s2ix_table_queries.proofs.Yielding.{yields_turn, yields_end}
-use Rattle.s2ix_text_io.specs.Puts.{Writes}
+use Rattle.s2ix_text_parts.specs.Puts.{Writes}
 use Rattle.s2ix_text_write.specs.Lists.{pair_text}
 use Rattle.s2ix_cli_answers.specs.Ranges.{spaced_pair}
-use Rattle.s2ix_text_io.proofs.Writing.{Writes-all, Writes-fault, Writes-turn, Writes-turn_fault}
+use Rattle.s2ix_text_parts.proofs.Writing.{Writes-all, Writes-fault, Writes-turn, Writes-turn_fault}
 use Rattle.s2ix_cli_answers.proofs.ranges.write_range_pairs.Goals as goal
 
 pub loop-held-preserved : goal.loop-held-preserved

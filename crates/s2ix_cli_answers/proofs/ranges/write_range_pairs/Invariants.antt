@@ -1,7 +1,7 @@
 -- The pairs so far were written whole.
 use Rattle.std.proofs.Common.{Ok, take, length, flat_map}
-use Rattle.s2ix_text_io.specs.Puts.{Writes}
-use Rattle.s2ix_table_ranges.specs.Table.{range_at}
+use Rattle.s2ix_text_parts.specs.Puts.{Writes}
+use Rattle.s2ix_table_walk.specs.Table.{range_at}
 use Rattle.s2ix_cli_answers.specs.Ranges.{spaced_pair}
 use Rattle.s2ix_cli_answers.proofs.ranges.write_range_pairs.Given as goal
 

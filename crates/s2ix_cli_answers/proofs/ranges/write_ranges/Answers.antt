@@ -1,11 +1,11 @@
 -- The line of this range is written after those before it, or a fault ends it; then the end line.
 use Rattle.std.proofs.Common.{◌≡◌, ◌<◌, ℕ, length, subst, arith}
 use Rattle.std.proofs.lemmas.Option.{slice_get-get_or}
-use Rattle.s2ix_table_ranges.specs.Table.{range_at}
-use Rattle.s2ix_text_io.specs.Puts.{Writes}
+use Rattle.s2ix_table_walk.specs.Table.{range_at}
+use Rattle.s2ix_text_parts.specs.Puts.{Writes}
 use Rattle.s2ix_text_write.specs.Lists.{end_of_list, list_text}
 use Rattle.s2ix_cli_answers.specs.Ranges.{range_line}
-use Rattle.s2ix_text_io.proofs.Writing.{Writes-all, Writes-cut, Writes-item, Writes-item_fault, Writes-then}
+use Rattle.s2ix_text_parts.proofs.Writing.{Writes-all, Writes-cut, Writes-item, Writes-item_fault, Writes-then}
 use Rattle.s2ix_cli_answers.proofs.ranges.write_ranges.Goals as goal
 
 pub loop-k-preserved : goal.loop-k-preserved

@@ -1,6 +1,6 @@
 -- The lines of the ranges before this one were written whole.
 use Rattle.std.proofs.Common.{Ok, take, flat_map}
-use Rattle.s2ix_text_io.specs.Puts.{Writes}
+use Rattle.s2ix_text_parts.specs.Puts.{Writes}
 use Rattle.s2ix_cli_answers.specs.Ranges.{range_line}
 use Rattle.s2ix_cli_answers.proofs.ranges.write_ranges.Given as goal
 

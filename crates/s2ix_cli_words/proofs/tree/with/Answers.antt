@@ -1,4 +1,4 @@
--- Where the subcommand could be made, clap adds it.
+-- If the subcommand could be made, clap adds it.
 use Rattle.std.proofs.lemmas.Result.{IfOk-weaker}
 use Rattle.s2ix_cli_words.specs.Tree.{IsSubcommand}
 use Rattle.s2ix_cli_words.proofs.Trees.{told_of, with_command}

@@ -1,6 +1,6 @@
 use Rattle.std.proofs.Common.{◌∙◌, sym, arith}
 use Rattle.s2ix_table_queries.proofs.Building.{bound_changes}
-use Rattle.s2ix_table_ranges.proofs.Tables.{stays_between}
+use Rattle.s2ix_table_walk.proofs.Tables.{stays_between}
 use Rattle.s2ix_table_queries.proofs.copied.range_above.Goals as goal
 
 pub returns-clause-shared : goal.returns-clause-shared

@@ -1,5 +1,5 @@
 use Rattle.std.proofs.Common.{◌-◌}
-use Rattle.s2ix_table_ranges.specs.Table.{leaf_end}
+use Rattle.s2ix_table_walk.specs.Table.{leaf_end}
 use Rattle.s2ix_table_queries.proofs.Building.{IsBuilt}
 use Rattle.s2ix_table_queries.proofs.copied.ranges_over.Given as goal
 

@@ -4,7 +4,7 @@ use Rattle.s2id_core.specs.CellId.{raw_of, first_of, end_of}
 use Rattle.s2id_core.proofs.Nested.{span}
 use Rattle.s2id_union.proofs.NormalForm.{covers_from_test}
 use Rattle.s2ix_table_walk.specs.Places.{LeadsTo}
-use Rattle.s2ix_table_ranges.specs.Table.{range_at}
+use Rattle.s2ix_table_walk.specs.Table.{range_at}
 use Rattle.s2ix_table_walk.proofs.Meetings.{none_meets}
 use Rattle.s2ix_table_walk.proofs.WalkSteps.{IsPast, IsBegun, begun_after, passed_all, gap_from, range_fits, walk_past}
 use Rattle.s2ix_table_walk.specs.Shown.{Shown}
@@ -48,7 +48,7 @@ last_is g c = record {
   is = c.index-cells-last.is;
   begins = let b = c.last_begun-last.ensures.begins c.index-cells-last.result in
       let e = ap (λ (y : CellId). first_of y) c.index-cells-last.is in omega arith;
-  behind = c.last_begun-last.ensures.last;
+  after = c.last_begun-last.ensures.last;
 }
 
 -- the walk after the range at hand

@@ -40,7 +40,7 @@ pub loop-step-preserved : goal.loop-step-preserved
 loop-step-preserved c =
     let i = c.loop-step.invariant in
     let h = half i.0.0 c.loop-step.step i.0.1 c.loop-step-test.true in
-    ((h.0, h.1), i.1, i.2, i.3, λ d within. c.if-is_before.ensures.behind d refl within)
+    ((h.0, h.1), i.1, i.2, i.3, λ d within. c.if-is_before.ensures.after d refl within)
 
 pub returns-then-span_start-limit-clause-last : goal.returns-then-span_start-limit-clause-last
 returns-then-span_start-limit-clause-last c d within =
@@ -52,7 +52,7 @@ returns-then-span_start-limit-clause-last c d within =
     let s1 = s.from in
     let s2 = s.to in
     let e : c.loop-step.last + c.loop-step.step ≡ c.loop-step.last + 1 = omega arith in
-    let behind = i.4 d (omega arith) in
+    let after = i.4 d (omega arith) in
     let at = ap (λ (k : ℕ). raw_of (slice_index_or c.args.cells.now k d)) e in
     let raw = ap (λ (y : CellId). raw_of y) is in
     let end = ap (λ (y : CellId). end_of y) is in

@@ -1,7 +1,7 @@
 use Rattle.std.proofs.Common.{◌≡◌, ℕ, ◌+◌, [], ◌∷◌, Option, None, ◌++◌, ◌∙◌, drop, refl, sym, ap, subst, rules, arith}
 use Rattle.s2ix_bag_pairs.specs.Collection.{Collection}
 use Rattle.s2ix_bag_pairs.specs.declared.pair.Held.{Held}
-use Rattle.s2ix_table_ranges.specs.Meeting.{meeting_from}
+use Rattle.s2ix_table_walk.specs.Meeting.{meeting_from}
 use Rattle.s2ix_table_walk.specs.Places.{from_place}
 use Rattle.s2ix_table_walk.specs.Walking.{front_from, left_with, IsWalk, IsPaid, one_if_some}
 use Rattle.s2ix_table_walk.specs.Shown.{Shown}
@@ -54,7 +54,7 @@ loop-walk-init g c =
       refl,
     )
 
--- ---- the ranges behind it
+-- ---- the ranges after it
 
 pub advance-requires-clause-walk : goal.advance-requires-clause-walk
 advance-requires-clause-walk g c =

@@ -1,6 +1,6 @@
 use Rattle.std.proofs.Common.{◌≡◌, ◌-◌, ◌≤◌, ℕ, None}
-use Rattle.s2ix_table_ranges.specs.Meeting.{meeting_from}
-use Rattle.s2ix_table_ranges.specs.Table.{leaf_end}
+use Rattle.s2ix_table_walk.specs.Meeting.{meeting_from}
+use Rattle.s2ix_table_walk.specs.Table.{leaf_end}
 use Rattle.s2ix_table_walk.specs.Walking.{left_of, IsWalk, IsPaid}
 use Rattle.s2ix_table_walk.proofs.along_ranges.next_met.Given as goal
 

@@ -2,7 +2,7 @@ use Rattle.std.proofs.Common.{◌≡◌, ℕ, ◌+◌, ◌-◌, ◌<◌, ◌≤�
 use Rattle.s2id_core.specs.declared.cell_id.CellId.{CellId}
 use Rattle.s2id_core.specs.CellId.{face_of, first_of}
 use Rattle.s2ix_bag_pairs.specs.Collection.{Collection}
-use Rattle.s2ix_table_ranges.specs.Table.{Range, range_at, IsRangeTable}
+use Rattle.s2ix_table_walk.specs.Table.{Range, range_at, IsRangeTable}
 use Rattle.s2ix_table_walk.specs.FaceWindows.{HaveFace}
 use Rattle.s2ix_table_walk.specs.Searching.{IsWindow}
 use Rattle.s2ix_table_walk.proofs.OnFaces.{begins_on_face, six_faces}

@@ -19,7 +19,7 @@ returns-clause-window g c =
     let all : c.args.among.size ≡ over + c.power_within-size.result = omega arith in
     room_left s.pairs s.ranges c.args.leaf c.args.among.first c.power_within-size.result over c.begun.result
     (g.met.R.Reader.is_shown r).is_table (subst (λ (n : ℕ). IsWindow s.ranges c.args.leaf c.args.among.first n) all c.requires.among)
-    (omega arith) (λ by. c.begun.ensures.by (omega arith)) (λ lt. c.begun.ensures.behind (omega arith))
+    (omega arith) (λ by. c.begun.ensures.by (omega arith)) (λ lt. c.begun.ensures.after (omega arith))
 
 pub returns-clause-probes : goal.returns-clause-probes
 returns-clause-probes g c =

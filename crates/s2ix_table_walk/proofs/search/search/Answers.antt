@@ -1,5 +1,5 @@
 use Rattle.std.proofs.Common.{◌+◌, ◌-◌, ◌*◌, ◌/◌, ℕ, length, ◌∙◌, ap, subst, rules, arith}
-use Rattle.s2ix_table_ranges.specs.Table.{range_at}
+use Rattle.s2ix_table_walk.specs.Table.{range_at}
 use Rattle.s2ix_table_walk.proofs.WalkSteps.{range_fits}
 use Rattle.s2id_core.specs.BinaryDigits.{binary_digits}
 use Rattle.s2ix_table_walk.specs.Searching.{IsWindow}
@@ -47,7 +47,7 @@ half_is g c =
     let at : ℕ = c.loop-half.first + c.loop-half.half in
     let start = c.start.ensures.start ∙ ap (λ (z : Shown g.row.R-Place.Denot). (range_at z.ranges at).start) i.1 in
     halved s.pairs s.ranges c.args.leaf c.loop-half.first c.loop-half.half c.begun.result i.0.0 (g.met.R.Reader.is_shown r).is_table i.0.2
-    i.0.1 c.loop-half-test.true (λ by. c.begun.ensures.by (omega arith)) (λ lt. c.begun.ensures.behind (omega arith))
+    i.0.1 c.loop-half-test.true (λ by. c.begun.ensures.by (omega arith)) (λ lt. c.begun.ensures.after (omega arith))
 
 pub loop-half-preserved : goal.loop-half-preserved
 loop-half-preserved g c =

@@ -1,5 +1,5 @@
 use Rattle.std.proofs.Common.{rules, ◌+◌, ◌-◌, ℕ, length, true, false, refl, sym, ◌∙◌, ap, arith}
-use Rattle.s2ix_table_ranges.specs.Meeting.{meeting_of}
+use Rattle.s2ix_table_walk.specs.Meeting.{meeting_of}
 use Rattle.s2ix_table_walk.proofs.Visits.{may_same, no_call, last_call, one_call}
 use Rattle.s2ix_table_walk.specs.Walking.{left_of}
 use Rattle.s2ix_table_walk.proofs.Calling.{calls_same, meeting_same, paid_same, read_same}

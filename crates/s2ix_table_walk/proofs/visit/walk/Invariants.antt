@@ -1,6 +1,6 @@
 use Rattle.std.proofs.Common.{◌≡◌, ◌+◌, ◌-◌, length, ℕ, Bool}
 use Rattle.s2ix_table_walk.specs.Calls.{MayVisit, CallsOn}
-use Rattle.s2ix_table_ranges.specs.Meeting.{meeting_of}
+use Rattle.s2ix_table_walk.specs.Meeting.{meeting_of}
 use Rattle.s2ix_table_walk.specs.Walking.{left_of}
 use Rattle.s2ix_table_walk.proofs.visit.walk.Given as goal
 

@@ -1,4 +1,4 @@
--- The digits have no leading zero; where they have one, no number stands there.
+-- The digits have no leading zero; if they have one, no number stands there.
 use Rattle.std.proofs.Common.{◌+◌, arith}
 use Rattle.std.proofs.lemmas.List.{take_rest}
 use Rattle.s2ix_text_parts.proofs.Fronts.{decimal_fits, number_of_front}

@@ -1,4 +1,4 @@
--- The digits spell the cell, they are of lower case, and the last is no zero; where they don't, no token stands there.
+-- The digits spell the cell, they are of lower case, and the last is no zero; if they don't, no token stands there.
 use Rattle.std.proofs.Common.{◌+◌, arith, subst, sym}
 use Rattle.std.proofs.lemmas.Bool.{false≢true}
 use Rattle.std.proofs.lemmas.List.{take_rest}

@@ -1,4 +1,4 @@
--- A token is canonical where printing its cell gives it back.
+-- A token is canonical when printing its cell gives it back.
 use Rattle.std.proofs.Common.{None, sym, ◌∙◌}
 use Rattle.s2ix_text_parts.proofs.Numerals.{cell_from_spelled, cell_when}
 use Rattle.s2ix_text_parts.proofs.written.cell_written.Goals as goal

@@ -1,4 +1,4 @@
--- A number is a count where it is neither 0 nor too large.
+-- A number is a count when it is neither 0 nor too large.
 use Rattle.std.proofs.Common.{arith, sym, ◌∙◌}
 use Rattle.s2ix_text_parts.proofs.Numerals.{count_from_number, count_outside, count_within, no_count}
 use Rattle.s2ix_text_parts.proofs.written.count_written.Goals as goal

@@ -1,4 +1,4 @@
--- A number is canonical where printing it gives the text back.
+-- A number is canonical when printing it gives the text back.
 use Rattle.std.proofs.Common.{arith, sym, ◌∙◌}
 use Rattle.s2ix_text_parts.proofs.Numerals.{at_no_ok, at_ok, not_from_digits, not_parsed, not_utf8, number_from_digits}
 use Rattle.s2ix_text_parts.proofs.written.number_written.Goals as goal

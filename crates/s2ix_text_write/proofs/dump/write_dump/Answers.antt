@@ -1,7 +1,7 @@
 -- The header, the lines of the pairs and the end line are written one after the other.
 use Rattle.std.proofs.Common.{◌++◌, flat_map}
 use Rattle.s2ix_text_write.specs.Dump.{dump_in, end_line, pair_line}
-use Rattle.s2ix_text_io.proofs.Writing.{Writes-cut, Writes-then}
+use Rattle.s2ix_text_parts.proofs.Writing.{Writes-cut, Writes-then}
 use Rattle.s2ix_text_write.proofs.dump.write_dump.Goals as goal
 
 pub returns-in_err-put_all : goal.returns-in_err-put_all

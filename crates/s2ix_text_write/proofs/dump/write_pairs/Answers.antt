@@ -1,6 +1,6 @@
 -- One line more is gathered, or the sink failed; what is gathered at the end is put.
 use Rattle.std.proofs.Common.{List, ℕ, ◌++◌, Err, subst, arith}
-use Rattle.s2ix_text_io.specs.Puts.{Writes}
+use Rattle.s2ix_text_parts.specs.Puts.{Writes}
 use Rattle.s2ix_text_write.specs.Dump.{pair_line}
 use Rattle.s2ix_text_write.specs.Gathered.{IsGathered, gathered_in}
 use Rattle.s2ix_text_write.proofs.Gathered.{gathered_fault, gathered_item, last_put}

@@ -2,8 +2,8 @@
 use Rattle.std.proofs.Common.{List, flat_map, subst}
 use Rattle.s2ix_bag_pairs.specs.declared.pair.Entry.{Entry}
 use Rattle.s2ix_text_write.specs.Journal.{entry_line, group_text}
-use Rattle.s2ix_text_io.specs.Puts.{Writes}
-use Rattle.s2ix_text_io.proofs.Writing.{Writes-cut, Writes-then}
+use Rattle.s2ix_text_parts.specs.Puts.{Writes}
+use Rattle.s2ix_text_parts.proofs.Writing.{Writes-cut, Writes-then}
 use Rattle.s2ix_text_write.proofs.journal.write_group.Goals as goal
 
 pub returns-in_err-write_change_line : goal.returns-in_err-write_change_line

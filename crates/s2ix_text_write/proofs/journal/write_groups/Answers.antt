@@ -2,7 +2,7 @@
 use Rattle.std.proofs.Common.{length, refl, arith}
 use Rattle.std.proofs.lemmas.Option.{slice_get_read}
 use Rattle.s2ix_text_write.specs.Journal.{group_text}
-use Rattle.s2ix_text_io.proofs.Writing.{Writes-fault, Writes-item_fault}
+use Rattle.s2ix_text_parts.proofs.Writing.{Writes-fault, Writes-item_fault}
 use Rattle.s2ix_text_write.proofs.journal.write_groups.Goals as goal
 
 pub returns-in_err-write_group : goal.returns-in_err-write_group

@@ -1,6 +1,6 @@
 -- The groups of the changes before this one were written whole.
 use Rattle.std.proofs.Common.{Ok, take, flat_map}
-use Rattle.s2ix_text_io.specs.Puts.{Writes}
+use Rattle.s2ix_text_parts.specs.Puts.{Writes}
 use Rattle.s2ix_text_write.specs.Journal.{group_text}
 use Rattle.s2ix_text_write.proofs.journal.write_groups.Given as goal
 

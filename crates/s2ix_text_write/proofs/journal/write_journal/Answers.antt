@@ -2,7 +2,7 @@
 use Rattle.std.proofs.Common.{◌++◌, flat_map}
 use Rattle.s2ix_text_write.specs.Journal.{group_text, journal_in, last_line}
 use Rattle.s2ix_text_write.specs.Lists.{end_of_list}
-use Rattle.s2ix_text_io.proofs.Writing.{Writes-cut, Writes-then}
+use Rattle.s2ix_text_parts.proofs.Writing.{Writes-cut, Writes-then}
 use Rattle.s2ix_text_write.proofs.journal.write_journal.Goals as goal
 
 pub returns-in_err-put_all : goal.returns-in_err-put_all

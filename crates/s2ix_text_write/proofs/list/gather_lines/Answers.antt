@@ -2,25 +2,25 @@
 use Rattle.std.proofs.Common.{length, refl, arith}
 use Rattle.std.proofs.lemmas.Option.{slice_get_read}
 use Rattle.s2ix_text_write.specs.Gathered.{gathered_in}
-use Rattle.s2ix_text_write.proofs.Gathered.{behind_all, behind_fault, behind_item, behind_none}
+use Rattle.s2ix_text_write.proofs.Gathered.{after_all, after_fault, after_item, after_none}
 use Rattle.s2ix_text_write.proofs.list.gather_lines.Goals as goal
 
 pub loop-item-init : goal.loop-item-init
-loop-item-init g c = behind_none (gathered_in c.args.block.now)
+loop-item-init g c = after_none (gathered_in c.args.block.now)
 
 pub loop-item-preserved : goal.loop-item-preserved
 loop-item-preserved g c =
-    behind_item (gathered_in c.args.block.now) g.A.ListItem.line c.args.items.now c.loop-item.item-index c.item-item.result
+    after_item (gathered_in c.args.block.now) g.A.ListItem.line c.args.items.now c.loop-item.item-index c.item-item.result
     (slice_get_read c.args.items.now (length c.args.items.now) c.loop-item.item-index c.item-item.result refl (omega arith) c.item-item.is)
     c.loop-item.invariant c.in_ok-write_line.ensures
 
 pub returns-in_err-write_line : goal.returns-in_err-write_line
 returns-in_err-write_line g c =
-    behind_fault (gathered_in c.args.block.now) _ g.A.ListItem.line c.args.items.now c.loop-item.item-index c.item-item.result
+    after_fault (gathered_in c.args.block.now) _ g.A.ListItem.line c.args.items.now c.loop-item.item-index c.item-item.result
     c.from_residual.result c.from_residual.ensures.0
     (slice_get_read c.args.items.now (length c.args.items.now) c.loop-item.item-index c.item-item.result refl (omega arith) c.item-item.is)
     c.loop-item.invariant c.in_err-write_line.ensures
 
 pub returns : goal.returns
 returns g c =
-    behind_all (gathered_in c.args.block.now) g.A.ListItem.line c.args.items.now c.loop-item.item-index (omega arith) c.loop-item.invariant
+    after_all (gathered_in c.args.block.now) g.A.ListItem.line c.args.items.now c.loop-item.item-index (omega arith) c.loop-item.invariant

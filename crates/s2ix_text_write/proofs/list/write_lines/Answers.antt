@@ -1,5 +1,5 @@
 -- All lines are gathered, and what is left of them is put.
-use Rattle.s2ix_text_io.proofs.Writing.{Writes-fault}
+use Rattle.s2ix_text_parts.proofs.Writing.{Writes-fault}
 use Rattle.s2ix_text_write.proofs.Gathered.{put_out}
 use Rattle.s2ix_text_write.proofs.list.write_lines.Goals as goal
 

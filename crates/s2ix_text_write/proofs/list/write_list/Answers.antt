@@ -1,7 +1,7 @@
 -- All lines are gathered, and put with the end line.
 use Rattle.std.proofs.Common.{length}
 use Rattle.s2ix_text_write.specs.Lists.{end_of_list, list_text}
-use Rattle.s2ix_text_io.proofs.Writing.{Writes-cut}
+use Rattle.s2ix_text_parts.proofs.Writing.{Writes-cut}
 use Rattle.s2ix_text_write.proofs.Gathered.{gathered_last}
 use Rattle.s2ix_text_write.proofs.list.write_list.Goals as goal
 

@@ -5,7 +5,7 @@ use Rattle.s2id_core.specs.CellId.{raw_of}
 use Rattle.s2id_core.proofs.Nested.{leaf_span, span}
 use Rattle.s2ix_table_queries.specs.declared.copied_range.CopiedRange.{CopiedRange}
 use Rattle.s2ix_table_queries.specs.Copied.{ranges_of}
-use Rattle.s2ix_table_ranges.specs.Table.{IsFound}
+use Rattle.s2ix_table_walk.specs.Table.{IsFound}
 use Rattle.s2ix_table_queries.proofs.Building.{found_range, ranges_rise}
 use Rattle.s2ix_table_queries.proofs.copied.CopiedTableRangeTable.find.Goals as goal
 

@@ -1,7 +1,7 @@
 use Rattle.std.proofs.Common.{◌≡◌, ◌+◌, length, drop, sym, ap, ◌∙◌, rules, arith}
 use Rattle.std.proofs.lemmas.List.{drop-drop, drop_all, length-drop}
 use Rattle.s2ix_table_queries.specs.declared.copied.CopiedPlace.{CopiedPlace}
-use Rattle.s2ix_table_ranges.specs.Table.{range_at}
+use Rattle.s2ix_table_walk.specs.Table.{range_at}
 use Rattle.s2ix_table_queries.specs.Copied.{ranges_of}
 use Rattle.s2ix_table_queries.proofs.Building.{contents_of_place, place_in_ranges}
 use Rattle.s2ix_table_walk.proofs.Leads.{leads_some, leads_none}

@@ -1,5 +1,5 @@
-use Rattle.s2ix_table_ranges.specs.Meeting.{meeting_of}
-use Rattle.s2ix_table_ranges.proofs.LabelList.{is_label_list}
+use Rattle.s2ix_table_walk.specs.Meeting.{meeting_of}
+use Rattle.s2ix_table_walk.proofs.LabelList.{is_label_list}
 use Rattle.s2ix_table_queries.proofs.Labelling.{label_list_from_sorted}
 use Rattle.s2ix_table_queries.proofs.table.RangeTable.labels.Goals as goal
 

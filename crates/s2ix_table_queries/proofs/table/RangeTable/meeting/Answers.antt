@@ -1,6 +1,6 @@
 use Rattle.std.proofs.Common.{◌≡◌, sym, subst, rules}
-use Rattle.s2ix_table_ranges.specs.Meeting.{IsMeetingList, meeting_of}
-use Rattle.s2ix_table_ranges.proofs.Lists.{meeting_list}
+use Rattle.s2ix_table_walk.specs.Meeting.{IsMeetingList, meeting_of}
+use Rattle.s2ix_table_walk.proofs.Lists.{meeting_list}
 use Rattle.s2ix_table_queries.proofs.table.RangeTable.meeting.Goals as goal
 
 pub returns-clause-met : goal.returns-clause-met

@@ -1,5 +1,5 @@
 use Rattle.std.proofs.Common.{sym, ap}
-use Rattle.s2ix_table_ranges.specs.Meeting.{meeting_of}
+use Rattle.s2ix_table_walk.specs.Meeting.{meeting_of}
 use Rattle.s2ix_table_walk.proofs.Visits.{may_same}
 use Rattle.s2ix_table_walk.specs.Shown.{Shown}
 use Rattle.s2ix_table_queries.proofs.table.RangeTable.visit_counted.Goals as goal

@@ -1,10 +1,10 @@
 use Rattle.std.proofs.Common.{◌≤◌, IfSome, sym, subst, rules}
-use Rattle.s2ix_table_ranges.specs.Meeting.{first_shared}
+use Rattle.s2ix_table_walk.specs.Meeting.{first_shared}
 use Rattle.s2ix_table_walk.specs.Costs.{ranges_met_by}
 use Rattle.s2ix_table_walk.specs.Shown.{Shown}
 use Rattle.s2ix_table_walk.specs.Walking.{IsWalk, HasPaid}
 use Rattle.s2ix_table_walk.proofs.GivenPairs.{next_reads}
-use Rattle.s2ix_table_walk.proofs.Paying.{next_pays, passed_costs}
+use Rattle.s2ix_table_walk.proofs.Paying.{next_pays, paid_costs, passed_costs}
 use Rattle.s2ix_table_walk.proofs.meeting.Meeting.advance.Goals as goal
 
 pub invariant_of-self-clause-walks : goal.invariant_of-self-clause-walks
@@ -41,3 +41,11 @@ returns-clause-whole_probes g c none =
     let next = c.next_met.new in
     let paid : HasPaid (g.R.Reader.shown next.reader) cells next.walk (g.R.Reader.spent next.reader) = search rules in
     passed_costs (g.R.Reader.shown next.reader) cells next.walk _ _ (c.next_met.ensures.passed none) paid.paid
+
+pub returns-clause-cost : goal.returns-clause-cost
+returns-clause-cost g c =
+    let cells = c.args.self.now.cells.now in
+    let next = c.next_met.new in
+    let walks : IsWalk (g.R.Reader.shown next.reader) cells next.walk = search rules in
+    let paid : HasPaid (g.R.Reader.shown next.reader) cells next.walk (g.R.Reader.spent next.reader) = search rules in
+    paid_costs (g.R.Reader.shown next.reader) cells next.walk _ walks paid

@@ -1,8 +1,8 @@
 -- The last line comes after what is gathered once there is room, and all of it is put.
 use Rattle.std.proofs.Common.{List, ℕ, Ok, Err, subst}
-use Rattle.s2ix_text_io.specs.Puts.{Writes}
+use Rattle.s2ix_text_parts.specs.Puts.{Writes}
 use Rattle.s2ix_text_write.specs.Lists.{end_of_list}
-use Rattle.s2ix_text_io.proofs.Writing.{Writes-cut, Writes-fault}
+use Rattle.s2ix_text_parts.proofs.Writing.{Writes-cut, Writes-fault}
 use Rattle.s2ix_text_write.proofs.Gathered.{gathered_last}
 use Rattle.s2ix_text_write.proofs.block.Block.write_end.Goals as goal
 

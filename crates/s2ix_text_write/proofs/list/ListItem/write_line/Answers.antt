@@ -1,6 +1,6 @@
 -- The line is written in an array, and put.
 use Rattle.std.proofs.Common.{List, ℕ, subst}
-use Rattle.s2ix_text_io.specs.Puts.{Writes}
+use Rattle.s2ix_text_parts.specs.Puts.{Writes}
 use Rattle.s2ix_text_write.proofs.list.ListItem.write_line.Goals as goal
 
 pub returns : goal.returns

@@ -1,5 +1,0 @@
-use Rattle.s2ix_bag.proofs.Equal.{changes_decided}
-use Rattle.s2ix_bag.proofs.laws.equal_changes_are_one.Goals as goal
-
-pub returns : goal.returns
-returns c = changes_decided

@@ -1,0 +1,12 @@
+pub use Rattle.s2id_core.specs.CellId
+pub use Rattle.s2ix_bag_lists.specs.Apply
+pub use Rattle.s2ix_bag_lists.specs.Entries
+pub use Rattle.s2ix_bag_lists.specs.Revert
+pub use Rattle.s2ix_bag_pairs.specs.Change
+pub use Rattle.s2ix_bag_pairs.specs.Collection
+pub use Rattle.s2ix_bag_pairs.specs.Label
+pub use Rattle.s2ix_bag_pairs.specs.Limits
+pub use Rattle.s2ix_bag_pairs.specs.OfLabel
+pub use Rattle.s2ix_bag_pairs.specs.Pair
+pub use Rattle.s2ix_bag_pairs.specs.Ranges
+pub use Rattle.s2ix_bag_pairs.specs.TakenBack

@@ -1,5 +1,0 @@
-use Rattle.s2ix_cli_fields.proofs.FieldLaws.{apart, stand}
-use Rattle.s2ix_cli_fields.proofs.laws.fields_stand_in_order.Goals as goal
-
-pub returns : goal.returns
-returns c = λ line. apart 0 _ line (stand line)

@@ -1,5 +1,0 @@
-use Rattle.s2ix_cli_fields.proofs.FieldLaws.{no_white_space, stand}
-use Rattle.s2ix_cli_fields.proofs.laws.no_field_has_white_space.Goals as goal
-
-pub returns : goal.returns
-returns c = λ line. no_white_space 0 _ line (stand line)

@@ -1,5 +1,0 @@
-use Rattle.s2ix_cli_fields.proofs.FieldLaws.{no_empty, stand}
-use Rattle.s2ix_cli_fields.proofs.laws.no_field_is_empty.Goals as goal
-
-pub returns : goal.returns
-returns c = λ line. no_empty 0 _ line (stand line)

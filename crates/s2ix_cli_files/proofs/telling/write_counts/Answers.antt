@@ -1,5 +1,0 @@
-use Rattle.std.proofs.Common.{rules}
-use Rattle.s2ix_cli_files.proofs.telling.write_counts.Goals as goal
-
-pub returns : goal.returns
-returns g c = search rules

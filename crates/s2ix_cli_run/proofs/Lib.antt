@@ -1,6 +1,0 @@
-mod Among
-mod Between
-mod Feeds
-mod Holding
-mod Replayed
-mod Steps

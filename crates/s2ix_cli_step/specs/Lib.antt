@@ -1,4 +1,0 @@
-pub mod Asking
-pub mod Carry
-pub mod Step
-pub mod Wants

@@ -1,0 +1,268 @@
+//! Stores, step by step.
+use s2id_samples::{SET_UP, TOLD, answer, tell};
+use s2ix_bag::{Bag, Label, Limits, Pair};
+use s2ix_bag_samples::{WIDEST, are_changes, bag_of, holds_pairs, label_of, pair_of};
+use s2ix_edit::{Edit, EditError, Store};
+use s2ix_table::RangeTable;
+use std::alloc::Global;
+use std::process::Abort;
+
+// All that can be asked of a store: its pairs, the entries of the changes that can be undone and redone, how many faces its last step
+// built again, and how many ranges its table has.
+#[derive(Clone, Copy)]
+struct Seen {
+    pairs: &'static str,
+    done: &'static [&'static str],
+    undone: &'static [&'static str],
+    faces: u8,
+    ranges: usize,
+}
+
+const ALL_FACES: &str = "1:4:1 3:4:1 5:4:1 7:4:1 9:4:1 b:4:1";
+
+const BACK_PAIRS: &str = "1:4:1 3:4:1 5:4:1 9:4:1 b:4:1";
+
+const FIRST_ENTRIES: &str = "1:4:0:1";
+
+const SECOND_ENTRIES: &str = "3:4:0:1 5:4:0:1 9:4:0:1 b:4:0:1";
+
+const LAST_ENTRIES: &str = "7:4:0:1";
+
+// What is seen of a store without a pair.
+static EMPTY: Seen = Seen {
+    pairs: "",
+    done: &[],
+    undone: &[],
+    faces: 0,
+    ranges: 1,
+};
+
+// A face that grew over all faces.
+static GROWN: Seen = Seen {
+    pairs: ALL_FACES,
+    done: &[FIRST_ENTRIES, SECOND_ENTRIES, LAST_ENTRIES],
+    undone: &[],
+    faces: 1,
+    ranges: 6,
+};
+
+// The same before it reached the last face.
+static BACK: Seen = Seen {
+    pairs: BACK_PAIRS,
+    done: &[FIRST_ENTRIES, SECOND_ENTRIES],
+    undone: &[LAST_ENTRIES],
+    faces: 1,
+    ranges: 6,
+};
+
+// The same before it grew.
+static FIRST: Seen = Seen {
+    pairs: "1:4:1",
+    done: &[FIRST_ENTRIES],
+    undone: &[LAST_ENTRIES, SECOND_ENTRIES],
+    faces: 4,
+    ranges: 2,
+};
+
+// Grown once more, by a step that is made again.
+static GROWN_ONCE: Seen = Seen {
+    pairs: BACK_PAIRS,
+    done: &[FIRST_ENTRIES, SECOND_ENTRIES],
+    undone: &[LAST_ENTRIES],
+    faces: 4,
+    ranges: 6,
+};
+
+// Not grown, by a change that takes the growth back.
+static REVERTED: Seen = Seen {
+    pairs: "1:4:1",
+    done: &[
+        FIRST_ENTRIES,
+        SECOND_ENTRIES,
+        "3:4:1:0 5:4:1:0 9:4:1:0 b:4:1:0",
+    ],
+    undone: &[],
+    faces: 4,
+    ranges: 2,
+};
+
+// The grown store without its changes.
+static FORGOTTEN: Seen = Seen {
+    pairs: ALL_FACES,
+    done: &[],
+    undone: &[],
+    faces: 1,
+    ranges: 6,
+};
+
+// A store that starts with all faces.
+static STARTED: Seen = Seen {
+    pairs: ALL_FACES,
+    done: &[],
+    undone: &[],
+    faces: 0,
+    ranges: 6,
+};
+
+// Whether a store has its changes done and undone, and its last step built so many faces again.
+fn has_history(store: &Store, seen: &Seen) -> bool {
+    are_changes(store.done(), seen.done)
+        && are_changes(store.undone(), seen.undone)
+        && store.faces_rebuilt() == seen.faces
+}
+
+// Whether a table of six ranges, which are the faces here, has a pair over face 3 exactly if the bag holds one there.
+fn has_face_3(store: &Store, pair: Pair) -> bool {
+    let table = store.table();
+    if table.range_count() != 6 {
+        return true;
+    }
+    table.first(3).is_some() == (store.bag().count(pair) > 0)
+}
+
+fn check_seen(rt: &impl Abort, store: &Store, seen: &Seen) {
+    assert!(rt; holds_pairs(store.bag(), seen.pairs));
+    assert!(rt; has_history(store, seen));
+    assert!(rt; store.table().range_count() == seen.ranges);
+    assert!(rt; has_face_3(store, pair_of("7:4").expect(rt, "a pair")));
+}
+
+fn label(rt: &impl Abort) -> Label {
+    label_of("4").expect(rt, "a label")
+}
+
+// To grow by whole faces.
+fn growing(rt: &impl Abort) -> Edit {
+    let label = label(rt);
+    Edit::Grow { label, level: 0 }
+}
+
+// The store of a face that grew over all faces.
+fn grown(rt: &impl Abort, alloc: Global) -> Store {
+    let mut store = Store::new(alloc, Limits::default()).expect(rt, SET_UP);
+    let pair = pair_of("1:4").expect(rt, "a pair");
+    let grow = growing(rt);
+    store
+        .edit(&Edit::Add { pair, copies: 1 })
+        .expect(rt, SET_UP);
+    store.edit(&grow).expect(rt, SET_UP);
+    store.edit(&grow).expect(rt, SET_UP);
+    store
+}
+
+// Looks at what a step left: each entry of its change lies on a face of its own.
+fn check_after(rt: &impl Abort, store: &Store, number: usize, after: &Seen) {
+    assert!(rt; number == usize::from(store.faces_rebuilt()));
+    check_seen(rt, store, after);
+}
+
+fn check_undo(rt: &(impl Abort + Print), store: &mut Store, before: &Seen, after: &Seen) {
+    let number = answer!(rt, store.undo(), check_seen(rt, store, before));
+    check_after(rt, store, number, after);
+}
+
+fn check_redo(rt: &(impl Abort + Print), store: &mut Store, before: &Seen, after: &Seen) {
+    let number = answer!(rt, store.redo(), check_seen(rt, store, before));
+    check_after(rt, store, number, after);
+}
+
+fn check_edit(
+    rt: &(impl Abort + Print),
+    store: &mut Store,
+    edit: &Edit,
+    before: &Seen,
+    after: &Seen,
+) {
+    let number = answer!(rt, store.edit(edit), check_seen(rt, store, before));
+    check_after(rt, store, number, after);
+}
+
+#[test]
+fn refused_steps(rt: HostRuntime) {
+    let mut store = grown(&rt, rt.alloc());
+    check_undo(&rt, &mut store, &GROWN, &BACK);
+    check_undo(&rt, &mut store, &BACK, &FIRST);
+    check_redo(&rt, &mut store, &FIRST, &GROWN_ONCE);
+    check_redo(&rt, &mut store, &GROWN_ONCE, &GROWN);
+    check_undo(&rt, &mut store, &GROWN, &BACK);
+    check_edit(&rt, &mut store, &growing(&rt), &BACK, &GROWN);
+}
+
+// Takes the growth back that is left of an undone one.
+fn check_revert(rt: &(impl Abort + Print), store: &mut Store) {
+    let revert = Edit::Revert { number: 2 };
+    check_edit(rt, store, &revert, &BACK, &REVERTED);
+}
+
+// Looks that a change is not taken back for this reason, and that all stays.
+fn check_no_revert(
+    rt: &impl Abort,
+    store: &mut Store,
+    number: u32,
+    error: EditError,
+    state: &Seen,
+) {
+    let told = store.edit(&Edit::Revert { number }).err();
+    assert!(rt; told == Some(error));
+    check_seen(rt, store, state);
+}
+
+// Want of memory never comes in place of a number that no change has, or of a count below zero.
+#[test]
+fn refused_reverts(rt: HostRuntime) {
+    let mut store = grown(&rt, rt.alloc());
+    check_undo(&rt, &mut store, &GROWN, &BACK);
+    check_no_revert(&rt, &mut store, 3, EditError::NoSuchChange, &BACK);
+    check_revert(&rt, &mut store);
+    check_no_revert(&rt, &mut store, 2, EditError::BelowZero, &REVERTED);
+}
+
+fn check_region(rt: &(impl Abort + Print), store: &Store, seen: &Seen) {
+    let label = label(rt);
+    let region = answer!(rt, store.region(label));
+    assert!(rt; region.cells().len() == 6);
+    check_seen(rt, store, seen);
+}
+
+#[test]
+fn refused_regions(rt: HostRuntime) {
+    let store = grown(&rt, rt.alloc());
+    check_region(&rt, &store, &GROWN);
+}
+
+// A forget before it takes no memory: `tests/hostile` looks that this test asks for as many growths as the one above.
+#[test]
+fn refused_regions_after_a_forget(rt: HostRuntime) {
+    let mut store = grown(&rt, rt.alloc());
+    store.forget();
+    check_region(&rt, &store, &FORGOTTEN);
+}
+
+fn check_new(rt: &(impl Abort + Print), alloc: Global) {
+    let store = answer!(rt, Store::new(alloc, Limits::default()));
+    check_seen(rt, &store, &EMPTY);
+}
+
+fn all_faces(rt: &impl Abort, alloc: Global) -> Bag {
+    bag_of(alloc, WIDEST, ALL_FACES).expect(rt, SET_UP)
+}
+
+// The store that starts from a bag; if it gave up and let the bag go, from an equal one.
+fn started(rt: &(impl Abort + Print), alloc: Global, bag: Bag, equal: Bag) -> Store {
+    match Store::from_bag(alloc, bag) {
+        Ok(store) => store,
+        Err(error) => {
+            tell(rt, &error).expect(rt, TOLD);
+            Store::from_bag(alloc, equal).expect(rt, "the call made again")
+        }
+    }
+}
+
+#[test]
+fn refused_stores(rt: HostRuntime) {
+    check_new(&rt, rt.alloc());
+    let bag = all_faces(&rt, rt.alloc());
+    let equal = all_faces(&rt, rt.alloc());
+    let store = started(&rt, rt.alloc(), bag, equal);
+    check_seen(&rt, &store, &STARTED);
+}

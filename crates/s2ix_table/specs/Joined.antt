@@ -1,0 +1,36 @@
+-- Tables over neighbouring spans of leaves, put together.
+use Rattle.std.specs.Prelude.{◌≡◌, ◌&&◌, if◌then◌else◌, ℕ, Bool, true, false, List, [], ◌∷◌, flat_map}
+use Rattle.s2ix_bag_pairs.specs.Collection.{Collection}
+use Rattle.s2ix_table_walk.specs.Table.{Range}
+use Rattle.s2ix_table_spans.specs.SpanTable.{SpanRanges, IsSpanTable}
+
+-- whether nothing is held
+abbrev pub is_nil : Collection → Bool
+is_nil [] = true
+is_nil (h ∷ hs) = false
+
+-- a range before others: if nothing lies over it and the next one, the two are one
+abbrev pub put_first : Range → List Range → List Range
+put_first r [] = r ∷ []
+put_first r (s ∷ ss) =
+    if is_nil r.contents && is_nil s.contents then record { start = r.start; limit = s.limit; contents = r.contents } ∷ ss else r ∷ s ∷ ss
+
+-- ranges before others: if nothing lies over the last and the first of them, the two are one
+abbrev pub put_before : List Range → List Range → List Range
+put_before [] ss = ss
+put_before (r ∷ []) ss = put_first r ss
+put_before (r ∷ t ∷ rs) ss = r ∷ put_before (t ∷ rs) ss
+
+-- what some tables hold, one after the other
+abbrev pub held_in : List SpanRanges → Collection
+held_in tables = flat_map (λ t. t.held) tables
+
+-- the ranges of some tables, one after the other
+unfoldable pub joined_ranges : List SpanRanges → List Range
+joined_ranges [] = []
+joined_ranges (t ∷ ts) = put_before t.ranges (joined_ranges ts)
+
+-- tables over spans that follow one another, from one leaf number up to another
+abbrev pub AreNeighbours : ℕ → List SpanRanges → ℕ → Type 0
+AreNeighbours from [] to = from ≡ to
+AreNeighbours from (t ∷ ts) to = (t.from ≡ from) × IsSpanTable t × AreNeighbours t.to ts to

@@ -1,0 +1,114 @@
+ghost use Rattle.std.specs.Prelude.{◌≡◌, ◌≤◌, ◌-◌, length, take, drop, IfOk};
+ghost use Rattle.s2ix_bag_pairs.specs.Collection.{IsCollection};
+ghost use Rattle.s2ix_bag_pairs.specs.OneProof.{IsCollection-prop};
+
+use crate::pair_reader::PairReader;
+use s2id_core::OutOfMemory;
+use s2ix_bag_changes::Bag;
+use s2ix_bag_lists::{FlatHeld, HeldList};
+use s2ix_bag_pairs::Held;
+use std::alloc::Global;
+
+/// A reader of a bag that counts what is read of it.
+#[derive(Debug, Drop)]
+pub struct BagReader<'a> {
+    bag: &'a Bag,
+    len: usize,
+    // how many pairs stand before those of the face that was read last
+    before: usize,
+    // the pairs of that face; none before the first read
+    own: &'a [FlatHeld],
+    reads: u64,
+    ghost counted: { len ≡ length bag.now.held },
+    ghost rises: { IsCollection bag.now.held } by { IsCollection-prop 0 bag.now.held },
+    ghost few: { length bag.now.held ≤ 1000000 },
+    ghost near: { before ≤ 1000000 },
+    ghost part: { take (length own.now) (drop before bag.now.held) ≡ own.now },
+}
+
+impl<'a> BagReader<'a> {
+    /// A reader of a bag that has read nothing. O(1).
+    pub fn new(bag: &'a Bag) -> BagReader<'a>
+        ensures shown { ⟦<BagReader<'a> as PairReader>⟧.shown result ≡ bag.now.held }
+        ensures unread { ⟦<BagReader<'a> as PairReader>⟧.spent result ≡ 0 }
+    {
+        BagReader {
+            bag,
+            len: bag.len(),
+            before: 0,
+            own: &[],
+            reads: 0,
+        }
+    }
+
+    // The pairs from one place to before another: the bag's own list if they are all those of a face, else a copy.
+    fn listed(&self, alloc: Global, from: usize, to: usize) -> Result<HeldList, OutOfMemory>
+        requires rises { from ≤ to }
+        requires within { to ≤ length self.now.bag.now.held }
+        ensures { IfOk result (λ held. held ≡ take (to - from) (drop from self.now.bag.now.held)) }
+    {
+        if from < to {
+            let (before, list) = self.bag.list_at(from);
+            if before == from && list.as_slice().len() == to - from {
+                return Ok(list.clone()?);
+            }
+        }
+        HeldList::new(alloc, self.copied(alloc, from, to)?)
+    }
+
+    // A copy of the pairs from one place to before another: a block of each face between them, in one growth.
+    fn copied(&self, alloc: Global, from: usize, to: usize) -> Result<Vec<FlatHeld>, OutOfMemory>
+        requires rises { from ≤ to }
+        requires within { to ≤ length self.now.bag.now.held }
+        ensures { IfOk result (λ held. held.items ≡ take (to - from) (drop from self.now.bag.now.held)) }
+    {
+        let mut held = Vec::with_capacity(alloc, to - from)?;
+        let mut place = from;
+        while place < to {
+            let (before, own) = self.bag.face_at(place);
+            let part = &own[place - before..own.len().min(to - before)];
+            held.extend_from_slice(part)?;
+            place += part.len();
+        }
+        Ok(held)
+    }
+}
+
+impl PairReader for BagReader<'_> {
+    ghost shown = { λ reader. reader.bag.now.held };
+
+    ghost spent = { λ reader. reader.reads };
+
+    ghost is_read = { λ reader. record { is_collection = reader.rises; few = reader.few } };
+
+    fn len(&self) -> usize {
+        self.len
+    }
+
+    fn read(&mut self, k: usize) -> Held {
+        self.reads = self.reads.saturating_add(1);
+        // a place before the face at hand is far after it too
+        if let Some(held) = self.own.get(k.wrapping_sub(self.before)) {
+            return held.held();
+        }
+        let (before, own) = self.bag.face_at(k);
+        self.before = before;
+        self.own = own;
+        own[k - before].held()
+    }
+
+    fn read_between(
+        &mut self,
+        alloc: Global,
+        from: usize,
+        to: usize,
+    ) -> Result<HeldList, OutOfMemory> {
+        let held = self.listed(alloc, from, to)?;
+        self.reads = self.reads.saturating_add((to - from) as u64);
+        Ok(held)
+    }
+
+    fn reads(&self) -> u64 {
+        self.reads
+    }
+}

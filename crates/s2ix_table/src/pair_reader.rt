@@ -1,0 +1,61 @@
+ghost use Rattle.std.specs.Prelude.{◌≡◌, ℕ, ◌<◌, ◌≤◌, ◌-◌, Some, length, take, drop, slice_get, IfOk, OnOk};
+ghost use Rattle.s2ix_bag_pairs.specs.Collection.{Collection};
+ghost use Rattle.s2ix_table.specs.Reading.{HasRead, IsRead, with_read, with_reads};
+
+use s2id_core::OutOfMemory;
+use s2ix_bag_lists::{FlatHeld, HeldList};
+use s2ix_bag_pairs::Held;
+use std::alloc::Global;
+
+/// Something that reads the held pairs of a bag, in rising order, and counts each that it reads. No call gives a pair that it doesn't
+/// count.
+pub trait PairReader {
+    // the held pairs that it reads
+    ghost shown: { Self → Collection };
+
+    // how many pairs were read so far
+    ghost spent: { Self → ℕ };
+
+    /// How many pairs are held, at most 1,000,000.
+    fn len(&self) -> usize
+        ensures { result ≡ length (shown self.now) };
+
+    /// The pair at a place in rising order, counted from 0, with its count: one read.
+    fn read(&mut self, k: usize) -> Held
+        requires { k < length (shown self.old) }
+        ensures held { slice_get (shown self.old) k ≡ Some result }
+        ensures same { shown self.new ≡ shown self.old }
+        ensures counts { spent self.new ≡ with_read (spent self.old) };
+
+    /// The pairs from one place to before another, in rising order, with their counts: a read for each. The list may be one that others
+    /// keep too; that of the default body, which reads pair by pair, is a new one. `OutOfMemory` if a growth is refused or the list is
+    /// shared too often; then at most `to - from` reads were counted.
+    fn read_between(
+        &mut self,
+        alloc: Global,
+        from: usize,
+        to: usize,
+    ) -> Result<HeldList, OutOfMemory>
+        requires rises { from ≤ to }
+        requires within { to ≤ length (shown self.old) }
+        ensures pairs { IfOk result (λ held. held ≡ take (to - from) (drop from (shown self.old))) }
+        ensures same { shown self.new ≡ shown self.old }
+        ensures counts { OnOk result (spent self.new ≡ with_reads (to - from) (spent self.old)) }
+        ensures refused { HasRead 0 (to - from) (spent self.old) (spent self.new) }
+    {
+        let mut held = Vec::with_capacity(alloc, to - from)?;
+        let mut place = from;
+        while place < to {
+            held.push(FlatHeld::new(self.read(place)))?;
+            place += 1;
+        }
+        HeldList::new(alloc, held)
+    }
+
+    /// How many pairs were read so far, in a count that stops at 2^64 - 1.
+    fn reads(&self) -> u64
+        ensures { result ≡ spent self.now };
+
+    // what it reads is what a bag holds
+    ghost is_read: { (reader : Self) → IsRead (shown reader) };
+}

@@ -1,0 +1,105 @@
+ghost use Rattle.std.specs.Prelude.{◌≡◌, ◌<◌, ◌≤◌, ◌↔◌, ◌+◌, ◌*◌, IsTrue, length, take, drop, map, option_map, IfOk, OnOk};
+ghost use Rattle.s2ix_bag_lists.specs.Faces.{face_start};
+ghost use Rattle.s2ix_bag_pairs.specs.Collection.{IsCollectionFrom, AreBelow};
+ghost use Rattle.s2ix_bag_pairs.specs.Pair.{rank_of};
+ghost use Rattle.s2id_core.specs.BinaryDigits.{binary_digits};
+ghost use Rattle.s2ix_table.specs.Faces.{faces, held_on, changed_on, changed_count};
+ghost use Rattle.s2ix_table.specs.Reading.{HasRead, IsFaceRead, AreChangedRead, two_searches};
+
+use crate::changes::changed_faces;
+use crate::pair_reader::PairReader;
+use s2id_core::OutOfMemory;
+use s2ix_bag_changes::Change;
+use s2ix_bag_lists::{FlatHeld, HeldList};
+use s2ix_bag_pairs::Pair;
+use std::alloc::Global;
+
+// Whether a pair lies on a face before this one.
+fn is_before_face(pair: Pair, face: usize) -> bool
+    ensures { IsTrue result ↔ (rank_of pair < face_start face) }
+{
+    usize::from(pair.cell.face()) < face
+}
+
+// How many pairs lie on faces before this one: half of those that are left at each read.
+fn first_from<B: PairReader>(reader: &mut B, face: usize) -> usize
+    ensures within { result ≤ length (B.shown reader.old) }
+    ensures below { AreBelow (face_start face) (take result (B.shown reader.old)) }
+    ensures rest { IsCollectionFrom (face_start face) (drop result (B.shown reader.old)) }
+    ensures same { B.shown reader.new ≡ B.shown reader.old }
+    ensures reads { HasRead 0 (binary_digits (length (B.shown reader.old) + 1)) (B.spent reader.old) (B.spent reader.new) }
+{
+    let mut from = 0;
+    let mut to = reader.len();
+    while from < to {
+        let middle = from + (to - from) / 2;
+        if is_before_face(reader.read(middle).pair, face) {
+            from = middle + 1;
+        } else {
+            to = middle;
+        }
+    }
+    from
+}
+
+/// The pairs held on a face, 0 to 5, in rising order; none on a face above 5. With p pairs there and n in all it reads each of them once
+/// and O(log n) more: at most p + 2 * digits(n + 1) reads, for the binary digits of n + 1. `OutOfMemory` if a growth is refused; then too
+/// it has read at most so many.
+pub fn read_face<B: PairReader>(
+    alloc: Global,
+    reader: &mut B,
+    face: u8,
+) -> Result<Vec<FlatHeld>, OutOfMemory>
+    ensures pairs { IfOk result (λ held. held.items ≡ held_on face (B.shown reader.old)) }
+    ensures same { B.shown reader.new ≡ B.shown reader.old }
+    ensures reads { OnOk result (IsFaceRead face (B.shown reader.old) (B.spent reader.old) (B.spent reader.new)) }
+    ensures refused { HasRead 0
+        (length (held_on face (B.shown reader.old)) + two_searches (B.shown reader.old)) (B.spent reader.old) (B.spent reader.new) }
+{
+    let list = read_list(alloc, reader, face)?;
+    Ok(Vec::from_slice(alloc, list.as_slice())?)
+}
+
+/// The pairs held on a face, as `read_face` gives them and by as many reads, in a list that others may keep too: of a bag it is the bag's
+/// own. `OutOfMemory` if a growth is refused, or the list is shared too often, after no more reads than that.
+pub fn read_list<B: PairReader>(
+    alloc: Global,
+    reader: &mut B,
+    face: u8,
+) -> Result<HeldList, OutOfMemory>
+    ensures pairs { IfOk result (λ held. held ≡ held_on face (B.shown reader.old)) }
+    ensures same { B.shown reader.new ≡ B.shown reader.old }
+    ensures reads { OnOk result (IsFaceRead face (B.shown reader.old) (B.spent reader.old) (B.spent reader.new)) }
+    ensures refused { HasRead 0
+        (length (held_on face (B.shown reader.old)) + two_searches (B.shown reader.old)) (B.spent reader.old) (B.spent reader.new) }
+{
+    let face = usize::from(face);
+    let first = first_from(reader, face);
+    let after = first_from(reader, face + 1);
+    reader.read_between(alloc, first, after)
+}
+
+/// For each face, 0 to 5, on which a change has an entry: the pairs held there, in rising order. `None` for the other faces. With p pairs
+/// on those faces and n in all it reads each of the p once and O(log n) more: at most p + 12 * digits(n + 1) reads, for the binary digits
+/// of n + 1. O(m) besides, for m entries. `OutOfMemory` if a growth is refused, after no more reads than that.
+pub fn read_changed<B: PairReader>(
+    alloc: Global,
+    reader: &mut B,
+    change: &Change,
+) -> Result<[Option<Vec<FlatHeld>>; 6], OutOfMemory>
+    ensures pairs { IfOk result (λ read.
+        map (option_map (λ held. held.items)) read ≡ map (changed_on change.now (B.shown reader.old)) faces) }
+    ensures same { B.shown reader.new ≡ B.shown reader.old }
+    ensures reads { OnOk result (AreChangedRead change.now (B.shown reader.old) (B.spent reader.old) (B.spent reader.new)) }
+    ensures refused { HasRead 0
+        (changed_count change.now (B.shown reader.old) + 6 * two_searches (B.shown reader.old)) (B.spent reader.old) (B.spent reader.new) }
+{
+    let changed = changed_faces(change);
+    let mut read = [None, None, None, None, None, None];
+    for face in 0..6u8 {
+        if changed[usize::from(face)] {
+            read[usize::from(face)] = Some(read_face(alloc, reader, face)?);
+        }
+    }
+    Ok(read)
+}

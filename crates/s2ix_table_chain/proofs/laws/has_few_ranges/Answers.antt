@@ -1,4 +1,0 @@
-use Rattle.s2ix_table_chain.proofs.laws.has_few_ranges.Goals as goal
-
-pub returns : goal.returns
-returns c = c.ranges_are_those_of_the_span.ensures.ranges_few

@@ -1,5 +1,0 @@
-use Rattle.s2ix_table_ranges.proofs.Lists.{same_labels}
-use Rattle.s2ix_table_ranges.proofs.laws.one_label_list.Goals as goal
-
-pub returns : goal.returns
-returns c = same_labels

@@ -1,5 +1,0 @@
-use Rattle.s2ix_table_ranges.proofs.Lists.{same_meeting}
-use Rattle.s2ix_table_ranges.proofs.laws.one_meeting_list.Goals as goal
-
-pub returns : goal.returns
-returns c = same_meeting

@@ -1,9 +1,0 @@
-pub mod InOrder
-pub mod Contents
-pub mod Table
-pub mod Bounds
-pub mod Meeting
-pub mod Once
-pub mod RangeList
-pub mod LabelList
-pub mod Laws

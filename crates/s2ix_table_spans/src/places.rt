@@ -1,0 +1,106 @@
+//! Places of ranges in a table.
+ghost use Rattle.std.specs.Prelude.{◌≡◌, ℕ, ◌-◌, ◌%◌, ◌<◌, ◌≤◌, drop, length, slice_index_or, AllPairs};
+ghost use Rattle.s2ix_table_walk.specs.Stretches.{IsSample};
+ghost use Rattle.s2ix_table_spans.specs.Starts.{IsAmong, IsLastStart};
+
+use s2ix_table_walk::{SAMPLE_STEP, Window};
+
+// Of more starts than this, most that a search reads are out of the processor's near cache.
+const FAR: usize = 4096;
+
+// The last of rising starts that is not after a leaf. O(log n). Of few starts, no branch depends on a start; of more, each does, so
+// that the processor asks for the next start before it knows this one. It is not inlined, so that a caller's iterator is.
+#[inline(never)]
+pub(crate) fn last_start(starts: &[u64], sample: &[u64], leaf: u64) -> usize
+    requires some { 0 < length starts.now }
+    requires rises { AllPairs (λ a b. a < b) starts.now }
+    requires odd { (k : ℕ) → k < length starts.now → slice_index_or starts.now k 0 % 2 ≡ 1 }
+    requires first { slice_index_or starts.now 0 0 ≤ leaf }
+    requires sample { IsSample (length starts.now - 2) (drop 1 starts.now) sample.now }
+    ensures { IsLastStart starts.now leaf result }
+{
+    if starts.len() > FAR {
+        let among = sampled(starts, sample, leaf);
+        far_last(starts, leaf, among)
+    } else {
+        near_last(starts, leaf)
+    }
+}
+
+// The starts among which it is: a group of 16 if there is a sample, else all.
+#[inline(always)]
+fn sampled(starts: &[u64], sample: &[u64], leaf: u64) -> Window
+    requires some { 0 < length starts.now }
+    requires rises { AllPairs (λ a b. a < b) starts.now }
+    requires first { slice_index_or starts.now 0 0 ≤ leaf }
+    requires sample { IsSample (length starts.now - 2) (drop 1 starts.now) sample.now }
+    ensures { IsAmong starts.now leaf result.first result.size }
+{
+    if sample.len() == 0 || leaf < sample[0] {
+        let size = starts.len();
+        return Window { first: 0, size };
+    }
+    let all = Window {
+        first: 0,
+        size: sample.len(),
+    };
+    let group = far_last(sample, leaf, all);
+    let first = SAMPLE_STEP * (group + 1);
+    if group + 1 < sample.len() {
+        let size = SAMPLE_STEP;
+        Window { first, size }
+    } else {
+        let size = starts.len() - first;
+        Window { first, size }
+    }
+}
+
+// The last of rising starts that is not after a leaf, if it is among some of them.
+#[inline(always)]
+fn far_last(starts: &[u64], leaf: u64, among: Window) -> usize
+    requires rises { AllPairs (λ a b. a < b) starts.now }
+    requires among { IsAmong starts.now leaf among.first among.size }
+    ensures { IsLastStart starts.now leaf result }
+{
+    let mut first = among.first;
+    let mut size = among.size;
+    while size > 1 {
+        let half = size / 2;
+        if starts[first + half] <= leaf {
+            first += half;
+        }
+        size -= half;
+    }
+    first
+}
+
+// The last of few rising starts that is not after a leaf.
+#[inline(always)]
+fn near_last(starts: &[u64], leaf: u64) -> usize
+    requires some { 0 < length starts.now }
+    requires rises { AllPairs (λ a b. a < b) starts.now }
+    requires odd { (k : ℕ) → k < length starts.now → slice_index_or starts.now k 0 % 2 ≡ 1 }
+    requires first { slice_index_or starts.now 0 0 ≤ leaf }
+    ensures { IsLastStart starts.now leaf result }
+{
+    let mut first = 0;
+    let mut size = starts.len();
+    while size > 1 {
+        let half = size / 2;
+        first += half * reached(starts[first + half], leaf);
+        size -= half;
+    }
+    first
+}
+
+// 1 if an odd start is not after a leaf, else 0, as the sign of what lies between them.
+#[inline(always)]
+fn reached(start: u64, leaf: u64) -> usize
+    requires { start % 2 ≡ 1 }
+    ensures by { start ≤ leaf → result ≡ 1 }
+    ensures after { leaf < start → result ≡ 0 }
+{
+    let above = leaf - leaf / 2;
+    let between = (start / 2).wrapping_sub(above);
+    (between >> 63) as usize
+}

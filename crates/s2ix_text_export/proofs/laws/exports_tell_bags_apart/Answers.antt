@@ -1,5 +1,0 @@
-use Rattle.s2ix_text_export.proofs.Apart.{one_export_of_bags}
-use Rattle.s2ix_text_export.proofs.laws.exports_tell_bags_apart.Goals as goal
-
-pub returns : goal.returns
-returns c = one_export_of_bags

@@ -1,3 +1,0 @@
-pub mod Export
-pub mod Laws
-pub mod Values

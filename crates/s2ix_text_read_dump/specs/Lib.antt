@@ -1,4 +1,0 @@
-pub mod DumpFaults
-pub mod Feeds
-pub mod Laws
-pub mod PairLines
