@@ -124,15 +124,13 @@ def make_library():
         return
     started = time.time()
     say(f"proving {len(crates)} crates and the bench's own, and building a static library; from nothing this takes 10 to 30 minutes")
-    with tempfile.TemporaryDirectory(prefix="s2ix-bench-") as folder:
-        workspace.copy_crates(crates, folder)
-        try:
-            workspace.prove(folder, crates, say)
+    try:
+        with workspace.proved(USED, say) as folder:
             lay_ours(folder)
             say("proving the bench's own crate")
             workspace.build_static("ours", USED, folder, f"{OUT}/incremental", f"{OUT}/libours.new")
-        except workspace.NotProved as error:
-            sys.exit(f"{error}\nbench: a crate is not proved, so nothing was run")
+    except workspace.NotProved as error:
+        sys.exit(f"{error}\nbench: a crate is not proved, so nothing was run")
     # (as old as the sources that were proved: what changed meanwhile is newer)
     os.utime(f"{OUT}/libours.new", (started, started))
     os.replace(f"{OUT}/libours.new", library)

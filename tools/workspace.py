@@ -163,10 +163,25 @@ def prove(folder, names, tell):
         raise NotProved("".join(refused or said).replace(folder, TOP))
 
 
+def keep_program(folder, started):
+    """Makes the program that was built in a workspace this repository's own, as old as the sources that were proved: what has changed since is newer."""
+    program = f"{TOP}/crates/s2ix/out/s2ix"
+    os.makedirs(os.path.dirname(program), exist_ok=True)
+    shutil.copy(f"{folder}/crates/s2ix/out/s2ix", f"{program}.new")
+    with open(f"{program}.sources", "w", encoding="utf-8") as file:
+        file.writelines(f"{path}\n" for path in ["crates.txt", *sources(with_below(["s2ix"]))])
+    os.utime(f"{program}.new", (started, started))
+    os.replace(f"{program}.new", program)
+
+
 @contextlib.contextmanager
 def proved(names, tell):
-    """Proves and builds these crates and those below them in a workspace, which lasts as long as the context."""
+    """Proves and builds these crates and those below them in a workspace, which lasts as long as the context. While ./test runs, it is the workspace
+    that S2IX_PROVED names, in which rt ci has just proved all crates."""
     wanted = with_below(names)
+    if "S2IX_PROVED" in os.environ:
+        yield os.environ["S2IX_PROVED"]
+        return
     with tempfile.TemporaryDirectory(prefix="s2ix-workspace-") as folder:
         copy_crates(wanted, folder)
         if wanted:
